@@ -1,0 +1,12 @@
+-- What a reader must believe of types, values and the store, in the order in which the files stand on one another.
+pub mod Nesting
+pub mod DataType
+pub mod Text
+pub mod Layout
+pub mod Cause
+pub mod Outcome
+pub mod Actor
+pub mod Value
+pub mod Store
+pub mod Task
+pub mod ActorOrder
