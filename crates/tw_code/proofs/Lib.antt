@@ -1,0 +1,10 @@
+pub mod Joined
+pub mod Loop
+pub mod Formats
+pub mod Breaks
+pub mod Bytes
+pub mod Numbers
+pub mod Types
+pub mod Instructions
+pub mod Programs
+pub mod FirstFault

@@ -1,0 +1,15 @@
+pub mod Program
+pub mod Spelling
+pub mod Reading
+pub mod Fault
+pub mod Flow
+pub mod Position
+pub mod Context
+pub mod Machine
+pub mod Opening
+pub mod Ending
+pub mod History
+pub mod Bounds
+pub mod Typing
+pub mod WellTyped
+pub mod Growth

@@ -1,0 +1,129 @@
+//! Why bytes are no program.
+
+ghost use Rattle.std.specs.Prelude.{◌≡◌, length};
+ghost use Rattle.tw_code.specs.Fault.{number_of};
+ghost use Rattle.tw_code.specs.declared.fault.FaultNo.TheVariants.{Missing};
+ghost use Rattle.tw_code.specs.declared.fault.Stop.TheVariants.{OutOfMemory, At};
+
+use std::alloc::{AllocError, AllocFailed};
+use thiserror::Error;
+
+/// What is wrong, F01 to F09 in this order.
+#[derive(Clone, Copy, Debug, PartialEq, Eq, Error)]
+pub enum FaultNo {
+    /// A magic byte differs.
+    #[error("F01: the bytes don't begin as a program")]
+    Magic,
+    /// The version isn't 1.
+    #[error("F02: another version of the format")]
+    Version,
+    /// The input ends too early.
+    #[error("F03: bytes are missing")]
+    Missing,
+    /// A count or a register is out of its limits.
+    #[error("F04: a number is out of its limits")]
+    Limit,
+    /// A kind, mode, type or opcode isn't known, or the type can't stand there.
+    #[error("F05: a byte that isn't known here")]
+    Unknown,
+    /// A container in three containers.
+    #[error("F06: a fourth container")]
+    Nesting,
+    /// A text isn't UTF-8.
+    #[error("F07: a text isn't UTF-8")]
+    Utf8,
+    /// Bytes stand after the end of the program.
+    #[error("F08: bytes after the end")]
+    Trailing,
+    /// Memory ran out, so nothing is known of the bytes.
+    #[error("F09: memory ran out")]
+    Memory,
+}
+
+impl FaultNo {
+    /// The number behind the letter F, from 1.
+    pub fn number(self) -> u8
+        ensures { result ≡ number_of self }
+    {
+        self as u8 + 1
+    }
+}
+
+/// The first fault from the left, and where its item begins.
+///
+/// Where bytes are missing the offset is the input's length, and where memory ran out it is 0.
+#[derive(Clone, Copy, Debug, PartialEq, Eq, Error)]
+#[error("{no}, at byte {offset}")]
+pub struct Fault {
+    pub no: FaultNo,
+    pub offset: usize,
+}
+
+/// A fault, by how many bytes of the input are left where its item begins.
+#[derive(Clone, Copy, Debug, PartialEq, Eq)]
+pub struct Broken {
+    pub no: FaultNo,
+    pub left: usize,
+}
+
+/// Why reading stopped.
+#[derive(Debug, Drop)]
+pub enum Stop {
+    OutOfMemory,
+    At(Broken),
+}
+
+impl Stop {
+    /// The input ends before the item is whole.
+    pub fn missing() -> Stop
+        ensures { result ≡ At (record { no = Missing; left = 0 }) }
+    {
+        Stop::At(Broken {
+            no: FaultNo::Missing,
+            left: 0,
+        })
+    }
+
+    /// The item at the front of these bytes is wrong.
+    pub fn wrong(no: FaultNo, bytes: &[u8]) -> Stop
+        ensures { result ≡ At (record { no = no; left = length bytes.now }) }
+    {
+        Stop::At(Broken {
+            no,
+            left: bytes.len(),
+        })
+    }
+}
+
+impl From<AllocError> for Stop {
+    ghost from_gives = { λ _ e. e ≡ OutOfMemory };
+
+    fn from(_e: AllocError) -> Stop {
+        Stop::OutOfMemory
+    }
+}
+
+impl<T: Drop> From<AllocFailed<T>> for Stop {
+    ghost from_gives = { λ _ e. e ≡ OutOfMemory };
+
+    fn from(_e: AllocFailed<T>) -> Stop {
+        Stop::OutOfMemory
+    }
+}
+
+/// Memory ran out.
+#[derive(Clone, Copy, Debug, PartialEq, Eq, Error)]
+#[error("memory ran out")]
+pub struct NoMemory;
+
+impl From<AllocError> for NoMemory {
+    fn from(_e: AllocError) -> NoMemory {
+        NoMemory
+    }
+}
+
+impl<T: Drop> From<AllocFailed<T>> for NoMemory {
+    fn from(_e: AllocFailed<T>) -> NoMemory {
+        NoMemory
+    }
+}

@@ -1,0 +1,26 @@
+//! Programs, and their bytes.
+//!
+//! Each program has one spelling. `decode` reads it, or says which fault stands first; `encode` writes it.
+#![tactic(auto)]
+
+mod fault;
+mod flow;
+mod instr;
+mod items;
+mod operands;
+mod parts;
+mod procedure;
+mod program;
+mod reading;
+mod writing;
+
+pub use fault::{Fault, FaultNo, NoMemory};
+pub use flow::{Flow, Way};
+pub use instr::Instr;
+pub use procedure::Procedure;
+pub use program::Program;
+pub use reading::decode;
+pub use writing::encode;
+
+#[cfg(test)]
+mod tests;
