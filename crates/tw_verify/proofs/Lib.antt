@@ -1,0 +1,5 @@
+pub mod OneMore
+pub mod Lowest
+pub mod Lists
+pub mod Typings
+pub mod Programs

@@ -1,0 +1,7 @@
+use Rattle.std.proofs.Common.{◌≡◌, ℕ, ◌<◌, None}
+use Rattle.tw_code.specs.WellTyped.{structure_refusal_at}
+use Rattle.tw_verify.proofs.structure.ask_structure.Given as goal
+
+-- no place so far is refused
+abbrev pub invariant-loop-place : goal.invariant-loop-place
+invariant-loop-place l = (k : ℕ) → k < l.place → structure_refusal_at l.code k ≡ None

@@ -1,0 +1,14 @@
+use Rattle.std.proofs.Common.{List, subst}
+use Rattle.tw_code.specs.declared.procedure.Procedure.{Procedure}
+use Rattle.tw_code.specs.WellTyped.{IsAccepted}
+use Rattle.tw_verify.specs.Passes.{IsRefusal}
+use Rattle.tw_verify.proofs.Programs.{accepted, refused_memory}
+use Rattle.tw_verify.proofs.verifier.verify.Goals as goal
+
+pub returns-in-Ok-clause-sound : goal.returns-in-Ok-clause-sound
+returns-in-Ok-clause-sound c = subst IsAccepted c.procedures.ensures.is (accepted c.procedures.result.now c.in-Ok.typings c.in-Ok.ensures.accepted)
+
+pub returns-in-Err-clause-complete : goal.returns-in-Err-clause-complete
+returns-in-Err-clause-complete c = λ a.
+    let r = c.in-Err.refusal in
+    refused_memory c.args.program r.no r.procedure r.place (subst (λ (program : List Procedure). IsRefusal program r.no r.procedure r.place) c.procedures.ensures.is c.in-Err.ensures.refused) a

@@ -1,0 +1,67 @@
+//! Where a pass stops.
+
+ghost use Rattle.std.specs.Prelude.{◌≡◌, [], ◌∷◌, ◌++◌, OnOk};
+ghost use Rattle.tw_verify.specs.Passes.{refusal_of};
+ghost use Rattle.tw_verify.specs.declared.fault.Fault.TheVariants.{Memory as NoMemory};
+
+use crate::refusal::VerifyRefusal;
+use std::alloc::AllocError;
+
+/// Why a pass over one procedure stops.
+#[derive(Clone, Copy, Debug)]
+pub(crate) enum Fault {
+    At { no: VerifyRefusal, place: usize },
+    Memory,
+}
+
+impl From<AllocError> for Fault {
+    ghost from_gives = { λ _ fault. fault ≡ NoMemory };
+
+    fn from(_error: AllocError) -> Fault {
+        Fault::Memory
+    }
+}
+
+/// Why a program is refused, and where.
+#[derive(Clone, Copy, Debug)]
+pub(crate) struct Refusal {
+    pub(crate) no: VerifyRefusal,
+    pub(crate) procedure: usize,
+    pub(crate) place: usize,
+}
+
+impl From<AllocError> for Refusal {
+    ghost from_gives = { λ _ refusal. refusal ≡ refusal_of 0 NoMemory };
+
+    fn from(_error: AllocError) -> Refusal {
+        Refusal::new(0, Fault::Memory)
+    }
+}
+
+impl Refusal {
+    /// The refusal by the fault of a procedure.
+    pub(crate) fn new(procedure: usize, fault: Fault) -> Refusal
+        ensures { result ≡ refusal_of procedure fault }
+    {
+        match fault {
+            Fault::At { no, place } => Refusal {
+                no,
+                procedure,
+                place,
+            },
+            Fault::Memory => Refusal {
+                no: VerifyRefusal::Memory,
+                procedure: 0,
+                place: 0,
+            },
+        }
+    }
+}
+
+/// Adds an item at the end; where memory runs out the item is let go.
+pub(crate) fn keep<T: Drop>(list: &mut Vec<T>, item: T) -> Result<(), AllocError>
+    ensures { OnOk result (list.new.items ≡ list.old.items ++ item ∷ []) }
+{
+    list.push(item)?;
+    Ok(())
+}

@@ -1,0 +1,143 @@
+//! What the instructions ask of a typing and of the declared value registers: of all that isn't met, the lowest
+//! refusal.
+
+ghost use Rattle.std.specs.Prelude.{◌≡◌, Bool, true, slice_get};
+ghost use Rattle.std.specs.Option.{option_map, option_map_or};
+ghost use Rattle.tw_types.specs.Value.{same_scalar};
+ghost use Rattle.tw_code.specs.Program.{IsInstr};
+ghost use Rattle.tw_code.specs.Typing.{Right, passes, refusal_in, asks_value, asks_value_of, asks, asks_params, asks_at, writes_scalar};
+ghost use Rattle.tw_verify.specs.Passes.{lowest_of};
+ghost use Rattle.tw_verify.specs.Refusal.{number_of};
+
+use crate::params::is_value;
+use crate::refusal::VerifyRefusal;
+use crate::typing::{Right, Typing};
+use tw_code::{Instr, Procedure};
+use tw_types::Scalar;
+
+fn lowest(first: Option<VerifyRefusal>, second: Option<VerifyRefusal>) -> Option<VerifyRefusal>
+    ensures { option_map number_of result
+        ≡ lowest_of (option_map number_of first) (option_map number_of second) }
+{
+    match (first, second) {
+        (Some(a), Some(b)) => Some(if b.number() < a.number() { b } else { a }),
+        (None, other) => other,
+        (Some(a), None) => Some(a),
+    }
+}
+
+/// A value register must be declared, and be of this type.
+fn value_refusal(registers: &[Scalar], register: u8, ty: Scalar) -> Option<VerifyRefusal>
+    ensures { option_map number_of result ≡ refusal_in (asks_value registers.now register ty) }
+{
+    match registers.get(register as usize) {
+        None => Some(VerifyRefusal::UndeclaredValue),
+        Some(declared) => (*declared != ty).then_some(VerifyRefusal::WrongValueType),
+    }
+}
+
+/// A right register must have a right of the kind that is asked, and a value register be of the type of its datum.
+/// Whether the right is of that kind, the caller says.
+fn value_of_refusal(
+    registers: &[Scalar],
+    register: u8,
+    right: &Option<Right>,
+    fits: bool,
+) -> Option<VerifyRefusal>
+    ensures { (test : Right → Bool) → fits ≡ passes test right.now
+        → option_map number_of result
+        ≡ refusal_in (asks_value_of registers.now register test right.now) }
+{
+    let Some(declared) = registers.get(register as usize) else {
+        return Some(VerifyRefusal::UndeclaredValue);
+    };
+    match right {
+        Some(right) if fits => (*declared != right.ty().scalar()).then_some(
+            VerifyRefusal::WrongValueType,
+        ),
+        _ => Some(VerifyRefusal::WrongRight),
+    }
+}
+
+fn is_scalar_write(right: &Option<Right>) -> bool
+    ensures { result ≡ passes writes_scalar right.now }
+{
+    match right {
+        None => false,
+        Some(right) => right.writes_scalar(),
+    }
+}
+
+/// What an instruction asks at a typing, a line an instruction.
+fn instr_refusal(
+    procedures: &[Procedure],
+    procedure: &Procedure,
+    instr: &Instr,
+    typing: &Typing,
+) -> Option<VerifyRefusal>
+    requires { IsInstr instr.now }
+    ensures { option_map number_of result
+        ≡ refusal_in (asks procedures.now procedure.now instr.now typing.now) }
+{
+    let registers = procedure.registers.as_slice();
+    match instr {
+        Instr::Int { to, .. } => value_refusal(registers, *to, Scalar::Int),
+        Instr::Store { datum, from } => {
+            let right = typing.right_in(*datum);
+            let fits = is_scalar_write(&right);
+            value_of_refusal(registers, *from, &right, fits)
+        }
+        Instr::Ret => (!typing.is_empty()).then_some(VerifyRefusal::RightLeft),
+    }
+}
+
+/// Whether a register is of this type, if it is declared.
+fn is_open_or_of(registers: &[Scalar], register: usize, ty: Scalar) -> bool
+    ensures { result ≡ option_map_or (λ declared. same_scalar declared ty)
+        (slice_get registers.now register) true }
+{
+    match registers.get(register) {
+        None => true,
+        Some(declared) => *declared == ty,
+    }
+}
+
+/// The value parameters must have registers, of their types.
+fn params_refusal(procedure: &Procedure) -> Option<VerifyRefusal>
+    ensures { option_map number_of result ≡ refusal_in (asks_params procedure.now) }
+{
+    let registers = procedure.registers.as_slice();
+    let mut given = 0;
+    let mut fits = true;
+    for param in procedure.params.as_slice() {
+        if is_value(param) {
+            fits &= is_open_or_of(registers, given, param.ty.scalar());
+            given += 1;
+        }
+    }
+    if given > registers.len() {
+        Some(VerifyRefusal::UndeclaredValue)
+    } else {
+        (!fits).then_some(VerifyRefusal::WrongValueType)
+    }
+}
+
+/// What is asked at a place: at the first one also that the parameters have their registers.
+pub(crate) fn place_refusal(
+    procedures: &[Procedure],
+    procedure: &Procedure,
+    place: usize,
+    instr: &Instr,
+    typing: &Typing,
+) -> Option<VerifyRefusal>
+    requires { IsInstr instr.now }
+    ensures { option_map number_of result
+        ≡ refusal_in (asks_at procedures.now procedure.now place instr.now typing.now) }
+{
+    let own = instr_refusal(procedures, procedure, instr, typing);
+    if place == 0 {
+        lowest(params_refusal(procedure), own)
+    } else {
+        own
+    }
+}

@@ -1,0 +1,122 @@
+//! What the right registers hold.
+
+ghost use Rattle.std.specs.Prelude.{◌≡◌, ◌≤◌, ◌<◌, length, None, is_none, slice_set};
+ghost use Rattle.std.specs.List.{list_all};
+ghost use Rattle.tw_code.specs.Program.{IsInstr};
+ghost use Rattle.tw_code.specs.Typing.{right_in, start_typing, writes_scalar, after};
+
+use crate::params::is_value;
+use std::marker::Model;
+use tw_code::{Instr, Procedure, Way};
+use tw_types::{DataType, Mode, Param};
+
+/// A right on a datum of a type.
+#[derive(Clone, Copy, Debug, PartialEq, Eq)]
+pub struct Right {
+    mode: Mode,
+    ty: DataType,
+}
+
+impl Model for Right {
+    ghost use Rattle.tw_code.specs.Typing.{Right as RightOn};
+
+    ghost Value = { RightOn };
+
+    ghost view = { λ r. record { mode = r.mode; ty = r.ty } };
+
+    ghost inverse = { λ r. record { mode = r.mode; ty = r.ty } };
+}
+
+impl Right {
+    /// How it is held; never `Val`.
+    pub fn mode(self) -> Mode
+        ensures { result ≡ self.mode }
+    {
+        self.mode
+    }
+
+    /// The type of its datum.
+    pub fn ty(self) -> DataType
+        ensures { result ≡ self.ty }
+    {
+        self.ty
+    }
+
+    pub(crate) fn writes_scalar(self) -> bool
+        ensures { result ≡ writes_scalar self }
+    {
+        self.mode == Mode::Write && self.ty.depth() == 0
+    }
+}
+
+/// What the 16 right registers hold at a place: each is empty or has a right.
+#[derive(Clone, Copy, Debug, PartialEq, Eq)]
+pub struct Typing {
+    rights: [Option<Right>; 16],
+}
+
+impl Model for Typing {
+    ghost use Rattle.std.specs.Prelude.{List, Option};
+    ghost use Rattle.tw_code.specs.Typing.{Right as RightOn};
+
+    ghost Value = { List (Option RightOn) };
+
+    ghost view = { λ t. t.rights };
+
+    ghost inverse = { λ rights. record { rights = rights } };
+}
+
+impl Typing {
+    /// The typing with which a procedure of these parameters starts.
+    pub(crate) fn start(params: &[Param]) -> Typing
+        requires { length params.now ≤ 16 }
+        ensures { result ≡ start_typing params.now }
+    {
+        let mut rights = [None; 16];
+        let mut given = 0;
+        for param in params {
+            if !is_value(param) {
+                rights[given] = Some(Right {
+                    mode: param.mode,
+                    ty: param.ty,
+                });
+                given += 1;
+            }
+        }
+        Typing { rights }
+    }
+
+    /// What a register holds.
+    pub fn right_in(&self, register: u8) -> Option<Right>
+        requires { register < 16 }
+        ensures { result ≡ right_in self.now register }
+    {
+        self.rights[register as usize]
+    }
+
+    /// Whether every register is empty.
+    pub fn is_empty(&self) -> bool
+        ensures { result ≡ list_all is_none self.now }
+    {
+        self.rights.iter().all(|right| right.is_none())
+    }
+
+    fn without(mut self, register: u8) -> Typing
+        requires { register < 16 }
+        ensures { result ≡ slice_set self register None }
+    {
+        self.rights[register as usize] = None;
+        self
+    }
+
+    /// The typing after an instruction that goes on by this outcome, a line an instruction.
+    pub(crate) fn after(self, procedures: &[Procedure], way: Way, instr: &Instr) -> Typing
+        requires { IsInstr instr.now }
+        ensures { result ≡ after procedures.now way instr.now self }
+    {
+        match instr {
+            Instr::Int { .. } | Instr::Ret => self,
+            Instr::Store { datum, .. } => self.without(*datum),
+        }
+    }
+}

@@ -1,0 +1,73 @@
+//! Verifying.
+
+ghost use Rattle.std.specs.Prelude.{◌≡◌, ◌≢◌, IfOk, IfErr, OnOk};
+ghost use Rattle.tw_code.specs.Program.{IsProgram};
+ghost use Rattle.tw_code.specs.WellTyped.{IsAccepted, IsFirstRefusal};
+ghost use Rattle.tw_verify.specs.Refusal.{number_of};
+ghost use Rattle.tw_verify.specs.Passes.{IsRefusal};
+ghost use Rattle.tw_verify.specs.Verified.{IsTyped};
+ghost use Rattle.tw_verify.specs.declared.refusal.VerifyRefusal.TheVariants.{Memory};
+
+use crate::fault::{Refusal, keep};
+use crate::pass::procedure_typings;
+use crate::refusal::{Refused, VerifyRefusal};
+use crate::shape::starts_with_main;
+use crate::typing::Typing;
+use crate::verified::Verified;
+use std::alloc::Global;
+use tw_code::{Procedure, Program};
+use tw_types::Items;
+
+/// The typings of each procedure of an accepted program.
+fn all_typings(alloc: Global, procedures: &[Procedure]) -> Result<Items<Items<Typing>>, Refusal>
+    requires { IsProgram procedures.now }
+    ensures accepted { IfOk result (IsTyped procedures.now) }
+    ensures refused { IfErr result (λ r. IsRefusal procedures.now r.no r.procedure r.place) }
+{
+    if !starts_with_main(procedures) {
+        return Err(Refusal {
+            no: VerifyRefusal::MainShape,
+            procedure: 0,
+            place: 0,
+        });
+    }
+    let mut all = Vec::new(alloc);
+    for (number, procedure) in procedures.iter().enumerate() {
+        let typings = match procedure_typings(alloc, procedures, procedure) {
+            Ok(typings) => typings,
+            Err(fault) => return Err(Refusal::new(number, fault)),
+        };
+        keep(&mut all, Items::from(typings))?;
+    }
+    Ok(Items::from(all))
+}
+
+/// Accepts a program, or gives it back with its first refusal: main's shape is asked first, then in each procedure
+/// in order its structure and then its typings.
+pub fn verify(alloc: Global, program: Program) -> Result<Verified, Refused>
+    // An accepted program is answered `Ok`, unless memory runs out.
+    ensures complete { IsAccepted program → IfErr result (λ refused. refused.no ≡ Memory) }
+    // No other program is.
+    ensures sound { OnOk result (IsAccepted program) }
+    // What is accepted is the program that was given.
+    ensures kept { IfOk result (λ verified. verified ≡ program) }
+
+    // A refusal is the program's first one, unless memory ran out.
+    ensures first { IfErr result (λ refused. refused.no ≢ Memory
+        → IsFirstRefusal program (number_of refused.no) refused.procedure refused.place) }
+    // Where memory ran out, no place is told.
+    ensures memory { IfErr result (λ refused. refused.no ≡ Memory
+        → (refused.procedure ≡ 0) × (refused.place ≡ 0)) }
+    // The program comes back.
+    ensures back { IfErr result (λ refused. refused.program ≡ program) }
+{
+    match all_typings(alloc, program.procedures()) {
+        Ok(typings) => Ok(Verified::new(program, typings)),
+        Err(refusal) => Err(Refused {
+            program,
+            no: refusal.no,
+            procedure: refusal.procedure,
+            place: refusal.place,
+        }),
+    }
+}
