@@ -1,0 +1,74 @@
+-- From the event of one frame to all frames.
+use Rattle.std.proofs.Common.{◌≡◌, ◌<◌, ℕ, Bool, true, false, nat_eq, List, refl, sym, ap, subst, ◌∙◌, IfSome}
+use Rattle.std.specs.declared.option.Option.{Option}
+use Rattle.std.specs.declared.option.Option.TheVariants.{None, Some}
+use Rattle.std.specs.declared.result.Result.{Result}
+use Rattle.std.specs.declared.result.Result.TheVariants.{Ok, Err}
+use Rattle.std.specs.FinMap.{get, insert}
+use Rattle.std.specs.BTreeMap.{BTreeMap, get_by, WritesThrough}
+use Rattle.tw_types.specs.declared.actor.Actor.{Actor}
+use Rattle.tw_types.specs.Actor.{actor_cmp}
+use Rattle.tw_types.specs.Outcome.{Outcome, Went, NotEnabled}
+use Rattle.tw_types.specs.Store.{Store}
+use Rattle.tw_code.specs.declared.procedure.Procedure.{Procedure}
+use Rattle.tw_code.specs.Bounds.{AreBelow}
+use Rattle.tw_code.specs.Machine.{Frame, State, call_event, end_event, local_event}
+use Rattle.tw_machine.specs.declared.refused.Refused.{Refused}
+use Rattle.tw_machine.specs.Attempts.{Changes}
+use Rattle.tw_machine.specs.Events.{ContextComes, FrameComes, FramesCome}
+use Rattle.tw_machine.specs.Parts.{frames_of, with_frames, with_store}
+use Rattle.tw_types.specs.ActorOrder.{actor_cmp_total, actor_cmp-IsAntisymmetric}
+use Rattle.tw_machine.proofs.Maps.{found_view, insert_same, written_view}
+
+pub is_few : (o : Option Frame) (f : Frame) (bound : ℕ) → o ≡ Some f → IfSome o (λ g. g.spent < bound) → f.spent < bound
+is_few o f bound e h = subst (λ p. IfSome p (λ (g : Frame). g.spent < bound)) e h
+
+pub few_at : (bound : ℕ) (s : State) (actor : Actor) → AreBelow bound s → IfSome (get s.frames actor) (λ f. f.spent < bound)
+few_at bound s actor below = by (get s.frames actor) (below.spent actor)
+  where
+    by : (o : Option Frame) → ((f : Frame) → o ≡ Some f → f.spent < bound) → IfSome o (λ f. f.spent < bound)
+    by None h = tt
+    by (Some f) h = h f refl
+
+-- ---- an actor without a frame
+
+module _ (program : List Procedure) (actor : Actor) (s : State) (free : get s.frames actor ≡ None) where
+  pub local_idle : (n : ℕ) → local_event program actor n s ≡ NotEnabled
+  local_idle n = by (nat_eq n 0) refl
+    where
+      by : (b : Bool) → nat_eq n 0 ≡ b → local_event program actor n s ≡ NotEnabled
+      by true e = rw e refl
+      by false e = rw (e, free) refl
+
+  pub call_idle : call_event program actor s ≡ NotEnabled
+  call_idle = rw free refl
+
+  pub end_idle : end_event program actor s ≡ NotEnabled
+  end_idle = rw free refl
+
+-- ---- an actor with this frame
+
+module _ (m n : BTreeMap Actor Frame) (actor : Actor) (f g : Frame) (here : Some f ≡ get_by (actor_cmp actor) m) (wrote : WritesThrough actor_cmp (actor_cmp actor) m g n) where
+  there : get (frames_of m.entries) actor ≡ Some f
+  there = found_view actor_cmp_total actor_cmp-IsAntisymmetric m actor (Some f) here
+
+  written : frames_of n.entries ≡ insert (frames_of m.entries) actor g
+  written = written_view actor_cmp_total actor_cmp-IsAntisymmetric m n actor f g here wrote
+
+  unchanged : g ≡ f → frames_of n.entries ≡ frames_of m.entries
+  unchanged e = written ∙ ap (insert (frames_of m.entries) actor) e ∙ insert_same actor_cmp_total actor_cmp-IsAntisymmetric (frames_of m.entries) actor f there
+
+  pub frames_come : (event : Actor → State → Outcome State) (result : Result (Unit {0}) Refused) → FrameComes event f result g → FramesCome (event actor) (frames_of m.entries) result (frames_of n.entries)
+  frames_come event (Ok x) h = λ s. h (with_frames s (frames_of m.entries)) actor there ∙ ap (λ fs. Went (with_frames s fs)) (sym written)
+  frames_come event (Err why) h = λ s. (h.0 (with_frames s (frames_of m.entries)) actor there, ap (with_frames s) (unchanged h.1))
+
+  abbrev state : State → Store → State
+  state s store = with_frames (with_store s store) (frames_of m.entries)
+
+  pub context_comes : (event : Actor → State → Outcome State) (store left : Store) (result : Result (Unit {0}) Refused) (s : State) → ContextComes event store f result left g
+      → Changes (event actor (state s store)) (state s store) result (with_frames (with_store s left) (frames_of n.entries))
+  context_comes event store left (Ok x) s h = h (with_frames s (frames_of m.entries)) actor there ∙ ap (λ fs. Went (with_frames (with_store s left) fs)) (sym written)
+  context_comes event store left (Err why) s h = (
+    h.0 (with_frames s (frames_of m.entries)) actor there,
+    ap (λ x. with_frames (with_store s x) (frames_of n.entries)) h.1 ∙ ap (with_frames (with_store s store)) (unchanged h.2),
+  )

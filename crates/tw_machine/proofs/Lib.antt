@@ -1,0 +1,11 @@
+pub mod Maps
+pub mod Setting
+pub mod Filling
+pub mod Refusals
+pub mod Steps
+pub mod Frames
+pub mod Bests
+pub mod Takes
+pub mod Quiet
+pub mod Opened
+pub mod Growth

@@ -1,0 +1,52 @@
+-- What comes of a take.
+use Rattle.std.proofs.Common.{◌≡◌, ℕ, true, false, List, refl, sym, ap, subst, ◌∙◌, is_some}
+use Rattle.std.specs.declared.option.Option.{Option}
+use Rattle.std.specs.declared.option.Option.TheVariants.{None, Some}
+use Rattle.std.specs.FinMap.{get, remove}
+use Rattle.tw_types.specs.declared.actor.Actor.{Actor}
+use Rattle.tw_types.specs.Actor.{is_in}
+use Rattle.tw_types.specs.Layout.{ActorCounts}
+use Rattle.tw_types.specs.Outcome.{Went, NotEnabled, ◌>>=◌}
+use Rattle.tw_types.specs.Task.{Task, best}
+use Rattle.tw_code.specs.declared.procedure.Procedure.{Procedure}
+use Rattle.tw_code.specs.Machine.{Frame, State, frame_of, take_event, with_frame}
+use Rattle.tw_machine.specs.declared.refused.Refused.{Refused}
+use Rattle.tw_machine.specs.Attempts.{IsRefused}
+use Rattle.tw_machine.specs.Parts.{with_tasks}
+use Rattle.tw_machine.proofs.Refusals.{refused_then}
+
+module _ (program : List Procedure) (layout : ActorCounts) (actor : Actor) (s : State) where
+  pub take_outside : is_in layout actor ≡ false → take_event program layout actor s ≡ NotEnabled
+  take_outside out = rw out refl
+
+  module _ (inside : is_in layout actor ≡ true) where
+    pub take_busy : is_some (get s.frames actor) ≡ true → take_event program layout actor s ≡ NotEnabled
+    take_busy busy = by (get s.frames actor) refl busy
+      where
+        by : (o : Option Frame) → get s.frames actor ≡ o → is_some o ≡ true → take_event program layout actor s ≡ NotEnabled
+        by None e b = cc
+        by (Some f) e b = rw (inside, e) refl
+
+    module _ (free : is_some (get s.frames actor) ≡ false) where
+      begins : (e : ℕ × Task) → best actor s.tasks ≡ Some e
+          → take_event program layout actor s ≡ (frame_of program e.0 e.1 >>= λ frame. Went (with_frame (with_tasks s (remove s.tasks e.0)) actor frame))
+      begins e first = by (get s.frames actor) refl free
+        where
+          by : (o : Option Frame) → get s.frames actor ≡ o → is_some o ≡ false
+              → take_event program layout actor s ≡ (frame_of program e.0 e.1 >>= λ frame. Went (with_frame (with_tasks s (remove s.tasks e.0)) actor frame))
+          by None is b = rw (inside, is, first) refl
+          by (Some f) is b = cc
+
+      pub take_none : best actor s.tasks ≡ None → take_event program layout actor s ≡ NotEnabled
+      take_none empty = by (get s.frames actor) refl free
+        where
+          by : (o : Option Frame) → get s.frames actor ≡ o → is_some o ≡ false → take_event program layout actor s ≡ NotEnabled
+          by None is b = rw (inside, is, empty) refl
+          by (Some f) is b = cc
+
+      pub take_refused : (e : ℕ × Task) (why : Refused) → best actor s.tasks ≡ Some e → IsRefused (frame_of program e.0 e.1) why → IsRefused (take_event program layout actor s) why
+      take_refused e why first refusal = subst (λ o. IsRefused o why) (sym (begins e first)) (refused_then _ _ why refusal)
+
+      pub take_goes : (e : ℕ × Task) (frame : Frame) → best actor s.tasks ≡ Some e → frame_of program e.0 e.1 ≡ Went frame
+          → take_event program layout actor s ≡ Went (with_frame (with_tasks s (remove s.tasks e.0)) actor frame)
+      take_goes e frame first goes = begins e first ∙ ap (λ o. o >>= λ f. Went (with_frame (with_tasks s (remove s.tasks e.0)) actor f)) goes

@@ -1,0 +1,22 @@
+use Rattle.std.proofs.Common.{ap}
+use Rattle.std.specs.declared.option.Option.TheVariants.{None, Some}
+use Rattle.tw_code.specs.Machine.{local_event}
+use Rattle.tw_machine.specs.Parts.{frames_of, with_frames}
+use Rattle.tw_types.specs.ActorOrder.{actor_cmp_total, actor_cmp-IsAntisymmetric}
+use Rattle.tw_machine.proofs.Maps.{found_view}
+use Rattle.tw_machine.proofs.Frames.{is_few, local_idle, frames_come}
+use Rattle.tw_machine.proofs.events.local.Goals as goal
+
+pub returns-in_default : goal.returns-in_default
+returns-in_default c = λ s.
+    let free = found_view actor_cmp_total actor_cmp-IsAntisymmetric c.args.frames.now c.args.actor None c.in_default.ensures.value in (
+      local_idle c.args.program.now c.args.actor (with_frames s (frames_of c.args.frames.now.entries)) free c.args.steps,
+      ap (λ m. with_frames s (frames_of m.entries)) c.get_mut.follows.holds-at-none,
+    )
+
+pub local_of-requires-clause-spent : goal.local_of-requires-clause-spent
+local_of-requires-clause-spent c = is_few _ _ _ (found_view actor_cmp_total actor_cmp-IsAntisymmetric c.args.frames.now c.args.actor (Some c.in-Some.frame.now) c.in-Some.ensures.value) c.requires.spent
+
+pub returns : goal.returns
+returns c = frames_come c.args.frames.now (c.get_mut.follows.lender c.local_of.new.frame) c.args.actor c.in-Some.frame.now c.local_of.new.frame c.in-Some.ensures.value (c.get_mut.follows.holds c.local_of.new.frame)
+    (λ actor. local_event c.args.program.now actor c.args.steps) c.local_of.result c.local_of.ensures

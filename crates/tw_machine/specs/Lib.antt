@@ -1,0 +1,11 @@
+pub mod Attempts
+pub mod Data
+pub mod Content
+pub mod Parts
+pub mod Args
+pub mod Contexts
+pub mod Events
+pub mod Best
+pub mod Opening
+pub mod PlainView
+pub mod Answers

@@ -1,0 +1,28 @@
+//! Procedures and instructions, where there are such.
+
+ghost use Rattle.std.specs.Prelude.{◌≡◌, ◌<◌, ◌^◌, MatchResult, OnOk};
+ghost use Rattle.tw_types.specs.Outcome.{Went};
+ghost use Rattle.tw_code.specs.Machine.{procedure_of};
+ghost use Rattle.tw_code.specs.Position.{instr_at};
+ghost use Rattle.tw_machine.specs.Attempts.{IsRefused};
+
+use crate::refused::Refused;
+use tw_code::{Instr, Procedure};
+use tw_types::Cause;
+
+/// The procedure of the number.
+pub fn procedure_of(program: &[Procedure], number: u8) -> Result<&Procedure, Refused>
+    ensures { MatchResult result (λ procedure. procedure_of program.now number ≡ Went procedure.now) (IsRefused (procedure_of program.now number)) }
+{
+    program
+        .get(usize::from(number))
+        .ok_or(Refused::Trap(Cause::WrongCall))
+}
+
+/// The instruction at a place.
+pub fn instr_at(code: &[Instr], place: usize) -> Result<&Instr, Refused>
+    ensures gives { MatchResult result (λ instr. instr_at code.now place ≡ Went instr.now) (IsRefused (instr_at code.now place)) }
+    ensures inside { OnOk result (place < 2 ^ 63) }
+{
+    code.get(place).ok_or(Refused::Trap(Cause::OutsideCode))
+}

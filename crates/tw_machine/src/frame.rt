@@ -1,0 +1,147 @@
+//! Tasks that run.
+
+ghost use Rattle.std.specs.Prelude.{◌≡◌, ◌<◌, ◌^◌, ◌+◌, MatchResult, None, Some, is_none, slice_set};
+ghost use Rattle.std.specs.Option.{option_copied};
+ghost use Rattle.std.specs.List.{list_all};
+ghost use Rattle.tw_code.specs.Context.{right_at};
+ghost use Rattle.tw_code.specs.Machine.{frame_of};
+ghost use Rattle.tw_code.specs.Position.{at_next_place};
+ghost use Rattle.tw_machine.specs.Attempts.{Gives};
+
+use crate::code::procedure_of;
+use crate::position::Position;
+use crate::refused::Refused;
+use crate::task::Task;
+use std::alloc::Global;
+use std::marker::Model;
+use tw_code::Procedure;
+use tw_types::{DatumId, TaskNo, Value};
+
+/// A task that runs: where it stands, its right registers, and how many instructions it has done.
+#[derive(Drop)]
+pub struct Frame {
+    task: TaskNo,
+    procedure: u8,
+    position: Position,
+    rights: [Option<DatumId>; 16],
+    spent: u64,
+}
+
+impl Model for Frame {
+    ghost use Rattle.tw_code.specs.Machine.{Frame as Meaning};
+
+    ghost Value = { Meaning };
+
+    ghost view = { λ f. record { task = f.task; procedure = f.procedure; position = f.position; rights = f.rights; spent = f.spent } };
+}
+
+impl Frame {
+    /// The task of the number, at its start.
+    pub(crate) fn start(
+        alloc: Global,
+        program: &[Procedure],
+        number: u64,
+        task: &Task,
+    ) -> Result<Frame, Refused>
+        ensures { Gives (frame_of program.now number task.now) result }
+    {
+        let procedure = procedure_of(program, task.procedure())?;
+        let values = task.values(alloc, procedure.registers.as_slice())?;
+        Ok(Frame {
+            task: TaskNo::new(number),
+            procedure: task.procedure(),
+            position: Position::first(values),
+            rights: task.rights(),
+            spent: 0,
+        })
+    }
+
+    pub fn task(&self) -> TaskNo
+        ensures { result ≡ self.now.task }
+    {
+        self.task
+    }
+
+    /// The number of its procedure in the program.
+    pub fn procedure(&self) -> u8
+        ensures { result ≡ self.now.procedure }
+    {
+        self.procedure
+    }
+
+    /// The place of the instruction that comes next.
+    pub fn place(&self) -> usize
+        ensures { result ≡ self.now.position.place }
+    {
+        self.position.place()
+    }
+
+    /// How many instructions it has done.
+    pub fn spent(&self) -> u64
+        ensures { result ≡ self.now.spent }
+    {
+        self.spent
+    }
+
+    pub(crate) fn position(&self) -> &Position
+        ensures { result.now ≡ self.now.position }
+    {
+        &self.position
+    }
+
+    /// The id in a right register, if it has one.
+    pub(crate) fn right(&self, register: u8) -> Option<DatumId>
+        ensures { result ≡ right_at self.now.rights register }
+    {
+        self.rights.get(usize::from(register)).copied().flatten()
+    }
+
+    /// Whether every right register is empty.
+    pub(crate) fn is_clear(&self) -> bool
+        ensures { result ≡ list_all is_none self.now.rights }
+    {
+        self.rights.iter().all(|right| right.is_none())
+    }
+
+    /// Empties a right register.
+    pub(crate) fn empty(&mut self, register: u8)
+        ensures { self.new ≡ record self.old { rights = slice_set self.old.rights register None } }
+    {
+        empty_in(&mut self.rights, register);
+    }
+
+    /// Goes on to the next place.
+    pub(crate) fn go_on(&mut self)
+        requires { self.old.position.place < 2 ^ 63 }
+        ensures { self.new ≡ record self.old { position = at_next_place self.old.position } }
+    {
+        self.position.go_on();
+    }
+
+    /// Counts one instruction more.
+    pub(crate) fn count(&mut self)
+        requires { self.old.spent < 2 ^ 63 }
+        ensures { self.new ≡ record self.old { spent = self.old.spent + 1 } }
+    {
+        self.spent += 1;
+    }
+
+    /// Moves it there by so many instructions.
+    pub(crate) fn move_to(&mut self, position: Position, steps: u64)
+        requires steps { steps < 2 ^ 63 }
+        requires spent { self.old.spent < 2 ^ 63 }
+        ensures { self.new ≡ record self.old { position = position; spent = self.old.spent + steps } }
+    {
+        self.position = position;
+        self.spent += steps;
+    }
+}
+
+fn empty_in(rights: &mut [Option<DatumId>], register: u8)
+    ensures { rights.new ≡ slice_set rights.old register None }
+{
+    let register = usize::from(register);
+    if register < rights.len() {
+        rights[register] = None;
+    }
+}

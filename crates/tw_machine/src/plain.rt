@@ -1,0 +1,119 @@
+//! The plain machine.
+
+ghost use Rattle.std.specs.Prelude.{◌≡◌, ℕ, ◌<◌, ◌+◌, ◌^◌, IfErr, IfOk, MatchResult, None};
+ghost use Rattle.tw_code.specs.Bounds.{AreBelow, size_of};
+ghost use Rattle.tw_code.specs.Ending.{ending};
+ghost use Rattle.tw_code.specs.Opening.{opening};
+ghost use Rattle.tw_machine.specs.Opening.{IsTold, refusal_of};
+ghost use Rattle.tw_machine.specs.PlainView.{Steps};
+
+use crate::opening::{main_params, refusal_of};
+use crate::refusal::{OpenRefusal, OpenRefused};
+use crate::state::State;
+use crate::stepped::Stepped;
+use std::alloc::Global;
+use std::marker::Model;
+use tw_code::Program;
+use tw_types::{Ending, Event, Input, Layout};
+
+/// A program that runs on the actors of a layout, one event at a time.
+#[derive(Drop)]
+pub struct Plain {
+    program: Program,
+    layout: Layout,
+    state: State,
+}
+
+impl Model for Plain {
+    ghost use Rattle.tw_types.specs.declared.actor.Actor.{Actor as AnActor};
+    ghost use Rattle.tw_types.specs.Actor.{actor_cmp};
+    ghost use Rattle.tw_types.specs.Store.{Datum as DatumMeaning};
+    ghost use Rattle.tw_types.specs.Task.{Task as TaskMeaning};
+    ghost use Rattle.tw_code.specs.Machine.{Frame as FrameMeaning};
+    ghost use Rattle.std.specs.FinMap.{code};
+    ghost use Rattle.std.specs.Ordering.{int_cmp, nat_cmp};
+    ghost use Rattle.std.specs.Coded.{codes, coded_ℕ, coded_ℤ};
+    ghost use Rattle.tw_machine.specs.PlainView.{PlainView};
+
+    ghost Value = { PlainView };
+
+    ghost coded = { Prim.hlevel (
+      codes,
+      code {X = DatumMeaning} {R = nat_cmp} coded_ℕ (Prim.hlevel (codes, code {R = int_cmp} coded_ℤ coded_ℕ)),
+      code {X = TaskMeaning} {R = nat_cmp} coded_ℕ (Prim.hlevel codes),
+      code {X = FrameMeaning} {R = actor_cmp} (Prim.hlevel codes) (Prim.hlevel codes),
+    ) };
+
+    ghost view = { λ p. record { program = p.program; layout = p.layout; state = p.state } };
+}
+
+impl Plain {
+    /// A machine in which main waits. Main's shape is asked first, then whether there are inputs; a refusal hands the
+    /// program back.
+    pub fn open(
+        alloc: Global,
+        program: Program,
+        inputs: &[Input],
+        layout: Layout,
+    ) -> Result<Plain, OpenRefused>
+        ensures opened { IfOk result (λ plain. plain ≡ record { program = program; layout = layout; state = opening program inputs.now }) }
+        ensures asked { MatchResult result (λ _. refusal_of program inputs.now ≡ None) (λ refused. IsTold (refusal_of program inputs.now) refused.no) }
+        ensures back { IfErr result (λ refused. refused.program ≡ program) }
+        ensures below { IfOk result (λ plain. AreBelow 64 plain.state) }
+    {
+        if let Some(no) = refusal_of(program.procedures(), inputs) {
+            return Err(OpenRefused { program, no });
+        }
+        match State::open(alloc, main_params(program.procedures())) {
+            Ok(state) => Ok(Plain {
+                program,
+                layout,
+                state,
+            }),
+            Err(_) => Err(OpenRefused {
+                program,
+                no: OpenRefusal::Memory,
+            }),
+        }
+    }
+
+    /// Makes one event, if it is enabled and breaks no rule and memory is there; else nothing changes.
+    pub fn step(&mut self, alloc: Global, event: Event) -> Stepped
+        requires small { AreBelow (2 ^ 63) self.old.state }
+        requires size { size_of event < 2 ^ 63 }
+        ensures steps { Steps self.old.program self.old.layout event self.old.state result self.new.state }
+        ensures program { self.new.program ≡ self.old.program }
+        ensures layout { self.new.layout ≡ self.old.layout }
+        ensures below { (bound : ℕ) → AreBelow bound self.old.state → AreBelow (bound + size_of event) self.new.state }
+    {
+        let made = self
+            .state
+            .step(alloc, self.program.procedures(), self.layout, event);
+        Stepped::from(made)
+    }
+
+    pub fn state(&self) -> &State
+        ensures { result.now ≡ self.now.state }
+    {
+        &self.state
+    }
+
+    pub fn program(&self) -> &Program
+        ensures { result.now ≡ self.now.program }
+    {
+        &self.program
+    }
+
+    pub fn layout(&self) -> Layout
+        ensures { result ≡ self.now.layout }
+    {
+        self.layout
+    }
+
+    /// How the run has ended, if it has.
+    pub fn ending(&self) -> Option<Ending>
+        ensures { result ≡ ending self.now.state }
+    {
+        self.state.ending()
+    }
+}

@@ -1,0 +1,33 @@
+//! Answers to events.
+
+use crate::refused::Refused;
+use tw_types::Cause;
+
+/// What an event came to.
+#[derive(Clone, Copy, Debug, PartialEq, Eq)]
+pub enum Stepped {
+    /// It was made.
+    Went,
+    /// It can't be made now; nothing has changed.
+    NotEnabled,
+    /// The task breaks a rule of data or rights; nothing has changed.
+    Trap(Cause),
+    /// Memory is refused; nothing has changed.
+    NoMemory,
+}
+
+impl From<Result<(), Refused>> for Stepped {
+    ghost use Rattle.std.specs.Prelude.{◌≡◌};
+    ghost use Rattle.tw_machine.specs.Answers.{stepped_of};
+
+    ghost from_gives = { λ made stepped. stepped ≡ stepped_of made };
+
+    fn from(made: Result<(), Refused>) -> Stepped {
+        match made {
+            Ok(()) => Stepped::Went,
+            Err(Refused::NotEnabled) => Stepped::NotEnabled,
+            Err(Refused::Trap(cause)) => Stepped::Trap(cause),
+            Err(Refused::NoMemory) => Stepped::NoMemory,
+        }
+    }
+}

@@ -1,0 +1,177 @@
+//! Tasks that wait.
+
+ghost use Rattle.std.specs.Prelude.{◌≡◌, ◌<◌, ◌≤◌, ◌++◌, length, drop, map, MatchResult, IfOk, OnOk};
+ghost use Rattle.std.specs.Option.{option_copied};
+ghost use Rattle.tw_types.specs.Outcome.{Went};
+ghost use Rattle.tw_types.specs.Task.{is_eligible, is_for};
+ghost use Rattle.tw_types.specs.Actor.{may_take};
+ghost use Rattle.tw_code.specs.Machine.{filled, ids_in, sixteen, values_in};
+ghost use Rattle.tw_code.specs.Opening.{main_task};
+ghost use Rattle.tw_types.specs.Value.{blank_of};
+ghost use Rattle.tw_machine.specs.Args.{arg_of};
+ghost use Rattle.tw_machine.specs.Attempts.{IsRefused};
+
+use crate::refused::Refused;
+use crate::value::{blank_of, copy_of, scalar_of};
+use std::alloc::{AllocError, Global};
+use std::marker::Model;
+use tw_types::{Actor, Cause, DatumId, Kind, Scalar, Value};
+
+/// An argument: a value, or a right on a datum.
+#[derive(Drop)]
+pub enum Arg {
+    Value(Value),
+    Right(DatumId),
+}
+
+/// A task: its procedure with the kind of that, the target if it has one, and at most eight arguments.
+#[derive(Drop)]
+pub struct Task {
+    kind: Kind,
+    procedure: u8,
+    priority: i64,
+    target: Option<u8>,
+    args: Vec<Arg>,
+}
+
+impl Model for Task {
+    ghost use Rattle.std.specs.Prelude.{◌≤◌, map, length};
+    ghost use Rattle.tw_types.specs.Task.{Task as Meaning};
+
+    ghost Value = { Meaning };
+
+    ghost use Rattle.tw_machine.specs.Args.{arg_of};
+
+    ghost view = { λ t. record { kind = t.kind; procedure = t.procedure; priority = t.priority; target = t.target; args = map arg_of t.args.items } };
+
+    ghost invariant = { λ t. length t.args.items ≤ 8 };
+}
+
+impl Task {
+    /// Main, for any engine, with the ids of its rights.
+    pub fn main(alloc: Global, rights: &[DatumId]) -> Result<Task, AllocError>
+        requires { length rights.now ≤ 8 }
+        ensures { IfOk result (λ task. task ≡ main_task rights.now) }
+    {
+        let mut args = Vec::new(alloc);
+        for id in rights {
+            args.push(Arg::Right(*id))?;
+        }
+        Ok(Task {
+            kind: Kind::Control,
+            procedure: 0,
+            priority: 0,
+            target: None,
+            args,
+        })
+    }
+
+    pub fn procedure(&self) -> u8
+        ensures { result ≡ self.now.procedure }
+    {
+        self.procedure
+    }
+
+    pub fn priority(&self) -> i64
+        ensures { result ≡ self.now.priority }
+    {
+        self.priority
+    }
+
+    /// Whether the actor may take it.
+    pub fn is_eligible(&self, actor: Actor) -> bool
+        ensures { result ≡ is_eligible actor self.now }
+    {
+        may_take(actor, self.kind) && is_for(self.target, actor.number())
+    }
+
+    /// The value registers at its start: its values in their order fill the first ones, which must be of their types, and
+    /// the others are blank.
+    pub fn values(&self, alloc: Global, registers: &[Scalar]) -> Result<Vec<Value>, Refused>
+        ensures { MatchResult result (λ values. filled (values_in self.now.args) registers.now ≡ Went values.items) (IsRefused (filled (values_in self.now.args) registers.now)) }
+    {
+        filled(alloc, &self.args, registers)
+    }
+
+    /// The right registers at its start: the ids of its rights in their order, and then empty ones.
+    pub fn rights(&self) -> [Option<DatumId>; 16]
+        ensures { result ≡ sixteen (ids_in self.now.args) }
+    {
+        first_rights(&self.args)
+    }
+}
+
+fn filled(alloc: Global, args: &[Arg], registers: &[Scalar]) -> Result<Vec<Value>, Refused>
+    ensures { MatchResult result (λ values. filled (values_in (map arg_of args.now)) registers.now ≡ Went values.items) (IsRefused (filled (values_in (map arg_of args.now)) registers.now)) }
+{
+    let mut values = first_values(alloc, args, registers)?;
+    let others = &registers[values.len()..];
+    add_blanks(alloc, &mut values, others)?;
+    Ok(values)
+}
+
+fn first_values(alloc: Global, args: &[Arg], registers: &[Scalar]) -> Result<Vec<Value>, Refused>
+    ensures filled { MatchResult result (λ values. filled (values_in (map arg_of args.now)) registers.now ≡ Went (values.items ++ map blank_of (drop (length values.items) registers.now))) (IsRefused (filled (values_in (map arg_of args.now)) registers.now)) }
+    ensures short { IfOk result (λ values. length values.items ≤ length registers.now) }
+{
+    let mut values = Vec::new(alloc);
+    for arg in args {
+        if let Arg::Value(value) = arg {
+            let declared = registers.get(values.len()).copied();
+            if declared != Some(scalar_of(value)) {
+                return Err(Refused::Trap(Cause::WrongRegister));
+            }
+            values.push(copy_of(alloc, value)?)?;
+        }
+    }
+    Ok(values)
+}
+
+fn add_blanks(
+    alloc: Global,
+    values: &mut Vec<Value>,
+    registers: &[Scalar],
+) -> Result<(), AllocError>
+    ensures { OnOk result (values.new.items ≡ values.old.items ++ map blank_of registers.now) }
+{
+    for ty in registers {
+        values.push(blank_of(alloc, *ty))?;
+    }
+    Ok(())
+}
+
+fn first_rights(args: &[Arg]) -> [Option<DatumId>; 16]
+    requires { length args.now ≤ 8 }
+    ensures { result ≡ sixteen (ids_in (map arg_of args.now)) }
+{
+    let mut rights = [None; 16];
+    let mut count = 0;
+    for arg in args {
+        if let Arg::Right(id) = arg {
+            rights[count] = Some(*id);
+            count += 1;
+        }
+    }
+    rights
+}
+
+/// Engines take control tasks, workers leaf tasks, servers none.
+fn may_take(actor: Actor, kind: Kind) -> bool
+    ensures { result ≡ may_take actor kind }
+{
+    match (actor, kind) {
+        (Actor::Engine(_), Kind::Control) | (Actor::Worker(_), Kind::Leaf) => true,
+        (Actor::Engine(_), Kind::Leaf)
+        | (Actor::Worker(_), Kind::Control)
+        | (Actor::Server(_), _) => false,
+    }
+}
+
+fn is_for(target: Option<u8>, number: u8) -> bool
+    ensures { result ≡ is_for target number }
+{
+    match target {
+        Some(target) => target == number,
+        None => true,
+    }
+}
