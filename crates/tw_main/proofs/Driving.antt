@@ -1,0 +1,254 @@
+-- One engine runs main alone: which of its events are enabled, and what they leave.
+use Rattle.std.proofs.Common.{◌≡◌, ◌≢◌, ◌<◌, ◌≤◌, ◌+◌, ◌-◌, ℕ, zero, suc, Bool, true, false, not, eqb, cond, List, [], ◌∷◌, ◌++◌, length, refl, sym, ap, subst, ◌∙◌, ◌⊎◌, inl, inr, arith, is_some, is_none, Option, Some, None, map, slice_get}
+use Rattle.std.proofs.lemmas.Bool.Decides.{nat_tests}
+use Rattle.std.specs.Ordering.{nat_cmp, on, then_cmp}
+use Rattle.std.specs.Cmp.{IsTotalOrder, nat_cmp_total, on_total, then_total}
+use Rattle.std.specs.FinMap as fin
+use Rattle.std.specs.FinMap.{FinMap, get-empty, get-insert, len-empty, len-insert, len-remove, entries-insert, put, len-entries}
+use Rattle.tw_types.specs.declared.actor.Actor.{Actor}
+use Rattle.tw_types.specs.declared.actor.Actor.TheVariants.{Engine}
+use Rattle.tw_types.specs.declared.event.Event.{Event}
+use Rattle.tw_types.specs.declared.event.Event.TheVariants.{Take, Local, Call, End}
+use Rattle.tw_types.specs.Outcome.{Outcome, Went, NotEnabled, Trap, ◌>>=◌, ◌>>◌, there, must, only_if}
+use Rattle.tw_types.specs.Actor.{actor_cmp, rank_of, number_of}
+use Rattle.tw_types.specs.Task.{Arg, RightArg, Task, Tasks, best, best_of}
+use Rattle.tw_code.specs.declared.procedure.Procedure.{Procedure}
+use Rattle.tw_code.specs.declared.instr.Instr.{Instr}
+use Rattle.tw_code.specs.declared.instr.Instr.TheVariants as instr
+use Rattle.tw_code.specs.Position.{Position, value_at, must_have_type, instr_at, local_instr, local_step, local_steps}
+use Rattle.tw_types.specs.Store.{Store, is_scalar}
+use Rattle.tw_types.specs.declared.cause.Cause.TheVariants.{RightLeft, OutsideCode, WrongRegister, WrongType, AlreadySet, NoWriteCount}
+use Rattle.tw_code.specs.Flow.{flow_of}
+use Rattle.tw_code.specs.Context.{Context, datum_at, right_at, held, live, suits, is_unset, data_instr}
+use Rattle.tw_main.specs.Driving.{engine, IsAlone, IsDone, is_local, AreLocal, IsStretch, IsEnd, IsCall, IsNext}
+use Rattle.tw_types.specs.Store.{empty_store}
+use Rattle.tw_types.specs.Value.{blank_of}
+use Rattle.tw_code.specs.Machine.{State, Frame, step, run, values_in, ids_in, sixteen, with_frame, is_stop, Standing, standing_of, procedure_of, frame_of, context_of, after_context}
+use Rattle.tw_code.specs.Opening.{opening, opened, main_params, main_task}
+use Rattle.tw_code.specs.Ending.{ending}
+use Rattle.tw_types.specs.declared.ending.Ending.TheVariants.{Quiet}
+use Rattle.std.specs.List.{list_all}
+use Rattle.tw_main.specs.Run.{run_layout}
+use Rattle.tw_main.proofs.Never.{IsEnabled, enabled-bind, enabled-then, enabled-there, enabled-must, went-bind, went-then, went-there, went-must, went-only_if}
+
+actors_total : IsTotalOrder actor_cmp
+actors_total = then_total (on_total rank_of nat_cmp_total) (on_total number_of nat_cmp_total)
+
+-- ---- what inserting and removing at the engine leaves
+
+got : (frames : FinMap actor_cmp Frame) (f : Frame) → fin.get (fin.insert frames engine f) engine ≡ Some f
+got frames f = get-insert actors_total frames engine f engine
+
+len_again : (frames : FinMap actor_cmp Frame) (f g : Frame) → fin.get frames engine ≡ Some f → fin.len (fin.insert frames engine g) ≡ fin.len frames
+len_again frames f g here = len-insert actors_total frames engine g ∙ ap (λ (o : Option Frame). cond (is_some o) (fin.len frames) (fin.len frames + 1)) here
+
+len_less : (frames : FinMap actor_cmp Frame) (f : Frame) → fin.get frames engine ≡ Some f → fin.len (fin.remove frames engine) ≡ fin.len frames - 1
+len_less frames f here = len-remove actors_total frames engine ∙ ap (λ (o : Option Frame). cond (is_some o) (fin.len frames - 1) (fin.len frames)) here
+
+len_first : (f : Frame) → fin.len (fin.insert {R = actor_cmp} fin.empty engine f) ≡ 1
+len_first f =
+    len-insert actors_total fin.empty engine f
+    ∙ ap (λ (o : Option Frame). cond (is_some o) (fin.len {X = Frame} {R = actor_cmp} fin.empty) (fin.len {X = Frame} {R = actor_cmp} fin.empty + 1)) (get-empty actor_cmp engine)
+    ∙ ap (λ (n : ℕ). n + 1) (len-empty actor_cmp Frame)
+
+-- ---- the opening
+
+only_entry : (t : Task) → fin.entries (fin.insert {R = nat_cmp} fin.empty 1 t) ≡ (1, t) ∷ []
+only_entry t = entries-insert nat_cmp_total fin.empty 1 t ∙ ap (put nat_cmp 1 t) (no_entries (fin.entries (fin.empty {X = Task} {R = nat_cmp})) (sym (len-entries (fin.empty {X = Task} {R = nat_cmp})) ∙ len-empty nat_cmp Task))
+  where
+    no_entries : (es : List (ℕ × Task)) → length es ≡ 0 → es ≡ []
+    no_entries [] e = refl
+    no_entries (e ∷ es) h = absurd (omega arith)
+
+left_none : (t : Task) → fin.len (fin.remove (fin.insert {R = nat_cmp} fin.empty 1 t) 1) ≡ 0
+left_none t =
+    let there : fin.get (fin.insert {R = nat_cmp} fin.empty 1 t) 1 ≡ Some t = get-insert nat_cmp_total fin.empty 1 t 1 in
+    let one : fin.len (fin.insert {R = nat_cmp} fin.empty 1 t) ≡ 1 =
+    len-insert nat_cmp_total fin.empty 1 t
+    ∙ ap (λ (o : Option Task). cond (is_some o) (fin.len {X = Task} {R = nat_cmp} fin.empty) (fin.len {X = Task} {R = nat_cmp} fin.empty + 1)) (get-empty nat_cmp 1)
+    ∙ ap (λ (n : ℕ). n + 1) (len-empty nat_cmp Task) in
+    let less = len-remove nat_cmp_total (fin.insert {R = nat_cmp} fin.empty 1 t) 1
+    ∙ ap (λ (o : Option Task). cond (is_some o) (fin.len (fin.insert {R = nat_cmp} fin.empty 1 t) - 1) (fin.len (fin.insert {R = nat_cmp} fin.empty 1 t))) there in
+    less ∙ ap (λ (n : ℕ). n - 1) one
+
+no_values : (ids : List ℕ) → values_in (map RightArg ids) ≡ []
+no_values [] = refl
+no_values (id ∷ ids) = no_values ids
+
+same_ids : (ids : List ℕ) → ids_in (map RightArg ids) ≡ ids
+same_ids [] = refl
+same_ids (id ∷ ids) = ap (λ (rest : List ℕ). id ∷ rest) (same_ids ids)
+
+-- ---- the first event
+
+-- main's first frame
+abbrev first_frame : Procedure → List ℕ → Frame
+first_frame main ids = record { task = 1; procedure = 0; position = record { place = 0; values = map blank_of main.registers }; rights = sixteen ids; spent = 0 }
+
+abbrev main_ids : List Procedure → List ℕ
+main_ids program = (opened (record { store = empty_store; rights = []; outputs = [] }) (main_params program) []).rights
+
+-- the state in which the engine runs main
+abbrev main_taken : Procedure → State → List ℕ → State
+main_taken main s ids = with_frame (record s { tasks = fin.remove s.tasks 1 }) engine (first_frame main ids)
+
+take_is : (main : Procedure) (others : List Procedure) → step (main ∷ others) run_layout (Take engine) (opening (main ∷ others) []) ≡ Went (main_taken main (opening (main ∷ others) []) (main_ids (main ∷ others)))
+unfolding step opening best
+take_is main others = rw (get-empty actor_cmp engine, only_entry (main_task (main_ids (main ∷ others))), no_values (main_ids (main ∷ others)), same_ids (main_ids (main ∷ others))) refl
+
+-- where the program has a first procedure, the engine may take main
+pub take_enabled : (main : Procedure) (others : List Procedure) → IsEnabled (step (main ∷ others) run_layout (Take engine) (opening (main ∷ others) []))
+take_enabled main others = rw (take_is main others) tt
+
+went_is : {A : Type 0} {x y : A} → Went x ≡ Went y → x ≡ y
+went_is h = cc
+
+taken_alone : (main : Procedure) (others : List Procedure) → IsAlone (main_taken main (opening (main ∷ others) []) (main_ids (main ∷ others))) (first_frame main (main_ids (main ∷ others)))
+unfolding opening
+taken_alone main others = record {
+  no_task = left_none (main_task (main_ids (main ∷ others)));
+  one_frame = len_first (first_frame main (main_ids (main ∷ others)));
+  frame = got fin.empty (first_frame main (main_ids (main ∷ others)));
+}
+
+-- and runs it alone
+pub take_leaves : (main : Procedure) (others : List Procedure) (t : State) → step (main ∷ others) run_layout (Take engine) (opening (main ∷ others) []) ≡ Went t → (f : Frame) × IsAlone t f
+take_leaves main others t e = subst (λ (s : State). (f : Frame) × IsAlone s f) (went_is (sym (take_is main others) ∙ e)) (first_frame main (main_ids (main ∷ others)), taken_alone main others)
+
+-- ---- the events of main's frame
+
+local_one : (i : Instr) (at : Position) → is_local i ≡ true → IsEnabled (local_instr i at)
+local_one (instr.Int to n) at e = enabled-then (must_have_type at to _) _ (enabled-bind (value_at at to) _ (enabled-there (slice_get at.values to) _) (λ x _. enabled-must _ _)) tt
+local_one (instr.Store datum from) at e = absurd cc
+local_one instr.Ret at e = absurd cc
+
+local_on : (i : Instr) (at next : Position) → is_local i ≡ true → local_instr i at ≡ Went next → next.place ≡ at.place + 1
+local_on (instr.Int to n) at next e h = let went = went-then (must_have_type at to _) _ next h in ap (λ (p : Position). p.place) (sym (went_is went.1))
+local_on (instr.Store datum from) at next e h = absurd cc
+local_on instr.Ret at next e h = absurd cc
+
+steps_enabled : (n : ℕ) (code : List Instr) (at : Position) → AreLocal code at.place n → IsEnabled (local_steps n code at)
+steps_enabled zero code at h = tt
+steps_enabled (suc n) code at h =
+    let place : at.place + 0 ≡ at.place = omega arith in
+    let first = h 0 (omega arith) in
+    let here : slice_get code at.place ≡ Some first.0 = subst (λ (k : ℕ). slice_get code k ≡ Some first.0) place first.1 in
+    let one : local_step code at ≡ local_instr first.0 at = ap (λ (o : Option Instr). there o OutsideCode >>= λ i. local_instr i at) here in
+    enabled-bind (local_step code at) (λ next. local_steps n code next) (subst IsEnabled (sym one) (local_one first.0 at first.2))
+    (λ next went. steps_enabled n code next (subst (λ (k : ℕ). AreLocal code k n) (sym (local_on first.0 at next first.2 (sym one ∙ went))) (rest code at.place n h)))
+  where
+    rest : (code : List Instr) (place n : ℕ) → AreLocal code place (suc n) → AreLocal code (place + 1) n
+    rest code place n h k lt =
+        let P : ℕ → Type 0 = λ m. (i : Instr) × (slice_get code m ≡ Some i) × (is_local i ≡ true) in
+        let index : place + suc k ≡ place + 1 + k = omega arith in
+        subst P index (h (suc k) (omega arith))
+
+store_enabled : (datum from : ℕ) (c : Context) → IsEnabled (data_instr (instr.Store datum from) c)
+store_enabled datum from c =
+    enabled-bind (value_at c.position from) _ (enabled-there (slice_get c.position.values from) _) (λ x _.
+    enabled-then (must (suits x (datum_at c datum)) WrongRegister) _ (enabled-must _ _) (
+    enabled-bind (held c.rights datum) _ (enabled-there (right_at c.rights datum) _) (λ id _.
+    enabled-bind (live c.store id) _ (enabled-there (fin.get c.store.live id) _) (λ d _.
+    enabled-then (must (is_scalar d.ty) WrongType) _ (enabled-must _ _) (
+    enabled-then (must (is_unset d.content) AlreadySet) _ (enabled-must _ _) (
+    enabled-then (must (not (eqb d.writes 0)) NoWriteCount) _ (enabled-must _ _) tt))))))
+
+data_enabled : (i : Instr) (c : Context) → is_local i ≡ false → is_stop (flow_of i) ≡ false → IsEnabled (data_instr i c)
+data_enabled (instr.Int to n) c local stop = absurd cc
+data_enabled (instr.Store datum from) c local stop = store_enabled datum from c
+data_enabled instr.Ret c local stop = absurd cc
+
+not_zero : (n : ℕ) → 0 < n → not (eqb n 0) ≡ true
+not_zero n h = grind (arith, nat_tests)
+
+-- what a written frame leaves
+alone_again : (s : State) (f g : Frame) (store : Store) → IsAlone s f → IsAlone (with_frame (record s { store = store }) engine g) g
+alone_again s f g store a = record { no_task = a.no_task; one_frame = len_again s.frames f g a.frame ∙ a.one_frame; frame = got s.frames g }
+
+-- ---- a stretch of local instructions
+
+module _ (program : List Procedure) (s : State) (f : Frame) (n : ℕ) (a : IsAlone s f) (h : IsStretch program f n) where
+  local_is : step program run_layout (Local engine n) s ≡ (local_steps n h.p.code f.position >>= λ at. Went (with_frame s engine (record f { position = at; spent = f.spent + n })))
+  unfolding step
+  local_is = rw (not_zero n h.some, a.frame, h.here) refl
+
+  local_enabled : IsEnabled (step program run_layout (Local engine n) s)
+  local_enabled = subst IsEnabled (sym local_is) (enabled-bind (local_steps n h.p.code f.position) _ (steps_enabled n h.p.code f.position h.are_local) (λ at _. tt))
+
+  local_leaves : (t : State) → step program run_layout (Local engine n) s ≡ Went t → (g : Frame) × IsAlone t g
+  local_leaves t e =
+      let went = went-bind (local_steps n h.p.code f.position) (λ at. Went (with_frame s engine (record f { position = at; spent = f.spent + n }))) t (sym local_is ∙ e) in
+      subst (λ (u : State). (g : Frame) × IsAlone u g) (went_is went.2) (record f { position = went.0; spent = f.spent + n }, alone_again s f (record f { position = went.0; spent = f.spent + n }) s.store a)
+
+-- ---- a call
+
+module _ (program : List Procedure) (s : State) (f : Frame) (a : IsAlone s f) where
+  standing_is : standing_of program engine s ≡ (procedure_of program f.procedure >>= λ p. instr_at p.code f.position.place >>= λ i. Went (record { frame = f; instr = i }))
+  standing_is = rw a.frame refl
+
+  call_enabled : IsCall program f → IsEnabled (step program run_layout (Call engine) s)
+  unfolding step
+  call_enabled h = enabled-bind (standing_of program engine s) (λ at. data_instr at.instr (context_of s at.frame) >>= λ c. Went (after_context s engine at.frame c)) stands (λ at went.
+      let is = stood at went in
+      enabled-bind (data_instr at.instr (context_of s at.frame)) (λ c. Went (after_context s engine at.frame c)) (data_enabled at.instr _ is.0 is.1) (λ c _. tt))
+    where
+      stands : IsEnabled (standing_of program engine s)
+      stands = subst IsEnabled (sym standing_is) (enabled-bind (procedure_of program f.procedure) _ (enabled-there (slice_get program f.procedure) _) (λ p _.
+          enabled-bind (instr_at p.code f.position.place) _ (enabled-there (slice_get p.code f.position.place) _) (λ i _. tt)))
+
+      stood : (at : Standing) → standing_of program engine s ≡ Went at → (is_local at.instr ≡ false) × (is_stop (flow_of at.instr) ≡ false)
+      stood at went =
+          let one = went-bind (procedure_of program f.procedure) (λ p. instr_at p.code f.position.place >>= λ i. Went (record { frame = f; instr = i })) at (sym standing_is ∙ went) in
+          let two = went-bind (instr_at one.0.code f.position.place) (λ i. Went (record { frame = f; instr = i })) at one.2 in
+          let is = h one.0 two.0 (went-there (slice_get program f.procedure) _ one.0 one.1) (went-there (slice_get one.0.code f.position.place) _ two.0 two.1) in
+          let instr_is : two.0 ≡ at.instr = ap (λ (k : Standing). k.instr) (went_is two.2) in
+          (ap is_local (sym instr_is) ∙ is.0, ap (λ i. is_stop (flow_of i)) (sym instr_is) ∙ is.1)
+
+  stands_at : (at : Standing) → standing_of program engine s ≡ Went at → at.frame ≡ f
+  stands_at at went =
+      let one = went-bind (procedure_of program f.procedure) (λ p. instr_at p.code f.position.place >>= λ i. Went (record { frame = f; instr = i })) at (sym standing_is ∙ went) in
+      let two = went-bind (instr_at one.0.code f.position.place) (λ i. Went (record { frame = f; instr = i })) at one.2 in
+      sym (ap (λ (k : Standing). k.frame) (went_is two.2))
+
+  call_leaves : (t : State) → step program run_layout (Call engine) s ≡ Went t → (g : Frame) × IsAlone t g
+  unfolding step
+  call_leaves t e =
+      let one = went-bind (standing_of program engine s) (λ at. data_instr at.instr (context_of s at.frame) >>= λ c. Went (after_context s engine at.frame c)) t e in
+      let two = went-bind (data_instr one.0.instr (context_of s one.0.frame)) (λ c. Went (after_context s engine one.0.frame c)) t one.2 in
+      let g : Frame = record one.0.frame { position = two.0.position; rights = two.0.rights; spent = one.0.frame.spent + 1 } in
+      subst (λ (u : State). (g : Frame) × IsAlone u g) (went_is two.2) (g, alone_again s f g two.0.store a)
+
+  -- ---- the end
+
+  end_is : (h : IsEnd program f) → step program run_layout (End engine) s ≡ (only_if (is_stop (flow_of h.i)) >> (must (list_all is_none f.rights) RightLeft >> Went (record s { frames = fin.remove s.frames engine })))
+  unfolding step
+  end_is h = rw (a.frame, h.here, h.at) refl
+
+  end_enabled : IsEnd program f → IsEnabled (step program run_layout (End engine) s)
+  end_enabled h = subst IsEnabled (sym (end_is h)) (rw h.stops (enabled-then (must (list_all is_none f.rights) RightLeft) _ (enabled-must _ _) tt))
+
+  end_leaves : IsEnd program f → (t : State) → step program run_layout (End engine) s ≡ Went t → IsDone t
+  end_leaves h t e =
+      let one = went-then (only_if (is_stop (flow_of h.i))) _ t (sym (end_is h) ∙ e) in
+      let two = went-then (must (list_all is_none f.rights) RightLeft) _ t one.1 in
+      subst IsDone (went_is two.1) (record { no_task = a.no_task; no_frame = len_less s.frames f a.frame ∙ ap (λ (n : ℕ). n - 1) a.one_frame })
+
+-- ---- whichever event comes next
+
+pub next_enabled : (program : List Procedure) (s : State) (f : Frame) (event : Event) → IsAlone s f → IsNext program f event → IsEnabled (step program run_layout event s)
+next_enabled program s f event a (inl h) = subst (λ (e : Event). IsEnabled (step program run_layout e s)) (sym h.1) (local_enabled program s f h.0 a h.2)
+next_enabled program s f event a (inr (inl h)) = subst (λ (e : Event). IsEnabled (step program run_layout e s)) (sym h.0) (call_enabled program s f a h.1)
+next_enabled program s f event a (inr (inr h)) = subst (λ (e : Event). IsEnabled (step program run_layout e s)) (sym h.0) (end_enabled program s f a h.1)
+
+pub next_leaves : (program : List Procedure) (s t : State) (f : Frame) (event : Event) → IsAlone s f → IsNext program f event → step program run_layout event s ≡ Went t → ((g : Frame) × IsAlone t g) ⊎ IsDone t
+next_leaves program s t f event a (inl h) e = inl (local_leaves program s f h.0 a h.2 t (ap (λ (v : Event). step program run_layout v s) (sym h.1) ∙ e))
+next_leaves program s t f event a (inr (inl h)) e = inl (call_leaves program s f a t (ap (λ (v : Event). step program run_layout v s) (sym h.0) ∙ e))
+next_leaves program s t f event a (inr (inr h)) e = inr (end_leaves program s f a h.1 t (ap (λ (v : Event). step program run_layout v s) (sym h.0) ∙ e))
+
+-- ---- the ending
+
+pub alone_goes_on : (s : State) (f : Frame) → IsAlone s f → ending s ≡ None
+alone_goes_on s f a = rw a.one_frame refl
+
+pub done_is_quiet : (s : State) → IsDone s → ending s ≡ Some Quiet
+done_is_quiet s d = rw (d.no_frame, d.no_task) refl

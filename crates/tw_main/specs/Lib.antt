@@ -1,0 +1,9 @@
+pub mod CommandLine
+pub mod Order
+pub mod Input
+pub mod Status
+pub mod Lines
+pub mod Report
+pub mod Run
+pub mod Driving
+pub mod Session
