@@ -128,11 +128,11 @@ module _ (c : Context) (datum from : ℕ) where
       let counted = must (not (x.0.writes == 0)) NoWriteCount >> last in
       let unset = must (is_unset x.0.content) AlreadySet >> counted in
       let left = same_went (stored value.0 id.0 x.0) e
-          (went_after (must (not (x.0.writes == 0)) NoWriteCount) last e (went_after (must (is_unset x.0.content) AlreadySet) counted e (went_after (must (is_scalar x.0.ty) WrongType) unset e x.2))) in
+      (went_after (must (not (x.0.writes == 0)) NoWriteCount) last e (went_after (must (is_unset x.0.content) AlreadySet) counted e (went_after (must (is_scalar x.0.ty) WrongType) unset e x.2))) in
       let all : Holds (HasCounts (bound + 1)) c.store.live = λ q y there. more_counts bound y (small.counts q y there) in
       let here = more_counts bound x.0 (small.counts id.0 x.0 (is_live (get c.store.live id.0) FreedDatum x.0 x.1)) in
       subst (λ (d : Context). IsSmall (bound + 1) d.store) {x = stored value.0 id.0 x.0} left
-        (record { next = let h = small.next in omega arith; counts = settled_small bound c.store.live id.0 x.0 value.0 all here })
+      (record { next = let h = small.next in omega arith; counts = settled_small bound c.store.live id.0 x.0 value.0 all here })
 
 -- one instruction on data
 data_small : (bound : ℕ) (i : Instr) (c e : Context) → IsSmall bound c.store → data_instr i c ≡ Went e → IsSmall (bound + 1) e.store
@@ -312,7 +312,7 @@ pub opening_is_small : (program : List Procedure) → length (main_params progra
 unfolding opening
 opening_is_small program few =
     let h = fresh_opened (main_params program) 0 (record { store = empty_store; rights = []; outputs = [] })
-      (record { next = refl; counts = λ id x e. let none = get-empty {X = Datum} nat_cmp id in cc }) in
+    (record { next = refl; counts = λ id x e. let none = get-empty {X = Datum} nat_cmp id in cc }) in
     record {
       next_datum = let e = h.2.next in omega arith;
       next_task = omega arith;
