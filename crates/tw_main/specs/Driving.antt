@@ -39,7 +39,7 @@ is_local instr.Ret = false
 abbrev pub AreLocal : List Instr → ℕ → ℕ → Type 0
 AreLocal code place n = (k : ℕ) → k < n → (i : Instr) × (slice_get code (place + k) ≡ Some i) × (is_local i ≡ true)
 
--- a whole stretch of local instructions; a call, where neither a local instruction nor RET comes; or the end
+-- local instructions one after the other; a call, where neither a local instruction nor RET comes; or the end
 pub record IsStretch (program : List Procedure) (f : Frame) (n : ℕ) : Type 0 where
   pub p : Procedure
   pub here : slice_get program f.procedure ≡ Some p
