@@ -1,20 +1,23 @@
 -- Instructions: each is read as it was written, and where it is wrong or cut off the reading says so.
-use Rattle.std.proofs.Common.{◌≡◌, ℕ, ℤ, suc, ◌⊎◌, true, false, eqb, List, [], ◌∷◌, ◌++◌, length, Ok, Err, refl, sym, ap, subst, ◌∙◌, drop, inl, inr}
+use Rattle.std.proofs.Common.{◌≡◌, ℕ, ℤ, suc, ◌⊎◌, true, false, eqb, List, [], ◌∷◌, ◌++◌, length, Ok, Err, refl, sym, ap, subst, ◌∙◌, drop, arith, inl, inr}
 use Rattle.std.specs.Prelude.{FitsSigned}
 use Rattle.std.specs.Int.{w64}
 use Rattle.std.specs.List.{concat}
 use Rattle.std.proofs.lemmas.Bool.{eqb-true}
 use Rattle.tw_code.specs.declared.fault.Broken.{Broken}
 use Rattle.tw_code.specs.declared.fault.FaultNo.TheVariants.{Unknown}
+use Rattle.tw_code.specs.declared.instr.Arithmetic.TheVariants.{Add, Subtract, Multiply, Divide, Remainder}
 use Rattle.tw_code.specs.declared.instr.Instr.{Instr}
 use Rattle.tw_code.specs.declared.instr.Instr.TheVariants as instr
-use Rattle.tw_code.specs.Program.{IsInstr, IsRegister}
-use Rattle.tw_code.specs.Spelling.{Item, byte, instr_items}
-use Rattle.tw_code.specs.Reading.{Reading, as_is, both, on, register_at, number_at, nothing_at, no_other, operands_at, instr_at}
+use Rattle.tw_types.specs.Text.{IsText}
+use Rattle.tw_code.specs.Program.{IsInstr, IsRegister, IsSkip, IsWithin}
+use Rattle.tw_code.specs.Spelling.{Item, byte, text_items, instr_items}
+use Rattle.tw_code.specs.Reading.{Reading, as_is, both, on, register_at, number_at, wide_at, skip_at, text_at, two_registers_at, two_registers_and_skip_at, three_registers_and_skip_at, nothing_at, no_other, operands_at, instr_at}
 use Rattle.tw_code.proofs.Formats.{IsBytes, IsBytes-rest, chosen, ok_is, Takes, as_is_takes, as_is_again}
 use Rattle.tw_code.proofs.Breaks.{IsStrict, FailsAt, GoesOn, carried, due_after, no_err, err_is, both_strict, as_is_fails}
 use Rattle.tw_code.proofs.Bytes.{a_byte, AnyOf, nothing_left, wrong_byte, register_strict}
-use Rattle.tw_code.proofs.Numbers.{a_number, number_strict}
+use Rattle.tw_code.proofs.Numbers.{a_number, a_wide, number_strict, wide_strict}
+use Rattle.tw_code.proofs.TextFormat.{text_strict}
 
 nothing_strict : IsStrict AnyOf (λ (x : Unit {0}). []) nothing_at
 nothing_strict = record {
@@ -92,24 +95,71 @@ module _ {A : Type 0} {F : A → Type 0} {w : A → List Item} {r : Reading A} {
 
 -- the operands, by their shape
 
-two_registers : IsStrict (λ (x : ℕ × ℕ). IsRegister x.0 × IsRegister x.1) (λ x. a_byte x.0 ++ a_byte x.1) (both register_at register_at)
+two_registers : IsStrict (λ (x : ℕ × ℕ). IsRegister x.0 × IsRegister x.1) (λ x. a_byte x.0 ++ a_byte x.1) two_registers_at
 two_registers = both_strict register_strict register_strict
 
 register_and_number : IsStrict (λ (x : ℕ × ℤ). IsRegister x.0 × FitsSigned w64 x.1) (λ x. a_byte x.0 ++ a_number x.1) (both register_at number_at)
 register_and_number = both_strict register_strict number_strict
 
+register_and_text : IsStrict (λ (x : ℕ × List ℕ). IsRegister x.0 × IsText x.1) (λ x. a_byte x.0 ++ text_items x.1) (both register_at text_at)
+register_and_text = both_strict register_strict text_strict
+
+skip_strict : IsStrict IsSkip a_wide skip_at
+skip_strict = wide_strict 0 65535 (omega arith) (omega arith)
+
+turns_strict : IsStrict (IsWithin 1 1000) a_wide (wide_at 1 1000)
+turns_strict = wide_strict 1 1000 (omega arith) (omega arith)
+
+two_registers_and_skip : IsStrict (λ (x : ℕ × (ℕ × ℕ)). IsRegister x.0 × (IsRegister x.1.0 × IsSkip x.1.1)) (λ x. a_byte x.0 ++ (a_byte x.1.0 ++ a_wide x.1.1)) two_registers_and_skip_at
+two_registers_and_skip = both_strict register_strict (both_strict register_strict skip_strict)
+
+three_registers_and_skip : IsStrict (λ (x : ℕ × (ℕ × (ℕ × ℕ))). IsRegister x.0 × (IsRegister x.1.0 × (IsRegister x.1.1.0 × IsSkip x.1.1.1))) (λ x. a_byte x.0 ++ (a_byte x.1.0 ++ (a_byte x.1.1.0 ++ a_wide x.1.1.1))) three_registers_and_skip_at
+three_registers_and_skip = both_strict register_strict two_registers_and_skip
+
 -- a line an instruction
 operands : AreOperands operands_at
 operands =
     on_operands 0x01 register_and_number (λ x. instr.Int x.0 x.1) (λ _. refl) (λ _ h. h) (
+    on_operands 0x02 register_and_text (λ x. instr.Text x.0 x.1) (λ _. refl) (λ _ h. h) (
+    on_operands 0x03 two_registers (λ x. instr.Copy x.0 x.1) (λ _. refl) (λ _ h. h) (
+    on_operands 0x10 three_registers_and_skip (λ x. instr.Compute Add x.0 x.1.0 x.1.1.0 x.1.1.1) (λ _. refl) (λ _ h. (h.0, h.1.0, h.1.1.0, h.1.1.1)) (
+    on_operands 0x11 three_registers_and_skip (λ x. instr.Compute Subtract x.0 x.1.0 x.1.1.0 x.1.1.1) (λ _. refl) (λ _ h. (h.0, h.1.0, h.1.1.0, h.1.1.1)) (
+    on_operands 0x12 three_registers_and_skip (λ x. instr.Compute Multiply x.0 x.1.0 x.1.1.0 x.1.1.1) (λ _. refl) (λ _ h. (h.0, h.1.0, h.1.1.0, h.1.1.1)) (
+    on_operands 0x13 three_registers_and_skip (λ x. instr.Compute Divide x.0 x.1.0 x.1.1.0 x.1.1.1) (λ _. refl) (λ _ h. (h.0, h.1.0, h.1.1.0, h.1.1.1)) (
+    on_operands 0x14 three_registers_and_skip (λ x. instr.Compute Remainder x.0 x.1.0 x.1.1.0 x.1.1.1) (λ _. refl) (λ _ h. (h.0, h.1.0, h.1.1.0, h.1.1.1)) (
+    on_operands 0x18 three_registers_and_skip (λ x. instr.Concatenate x.0 x.1.0 x.1.1.0 x.1.1.1) (λ _. refl) (λ _ h. (h.0, h.1.0, h.1.1.0, h.1.1.1)) (
+    on_operands 0x19 two_registers (λ x. instr.Length x.0 x.1) (λ _. refl) (λ _ h. h) (
+    on_operands 0x1a two_registers (λ x. instr.Show x.0 x.1) (λ _. refl) (λ _ h. h) (
+    on_operands 0x1b two_registers_and_skip (λ x. instr.ReadInt x.0 x.1.0 x.1.1) (λ _. refl) (λ _ h. (h.0, h.1.0, h.1.1)) (
+    on_operands 0x20 skip_strict (λ x. instr.Jump x) (λ _. refl) (λ _ h. h) (
+    on_operands 0x21 two_registers_and_skip (λ x. instr.JumpEqual x.0 x.1.0 x.1.1) (λ _. refl) (λ _ h. (h.0, h.1.0, h.1.1)) (
+    on_operands 0x22 two_registers_and_skip (λ x. instr.JumpLess x.0 x.1.0 x.1.1) (λ _. refl) (λ _ h. (h.0, h.1.0, h.1.1)) (
+    on_operands 0x23 turns_strict (λ x. instr.Repeat x) (λ _. refl) (λ _ h. h) (
+    on_operands 0x24 nothing_strict (λ _. instr.End) (λ _. refl) (λ _ h. h) (
     on_operands 0x31 two_registers (λ x. instr.Store x.0 x.1) (λ _. refl) (λ _ h. h) (
     on_operands 0x42 nothing_strict (λ _. instr.Ret) (λ _. refl) (λ _ h. h) (
-    no_others)))
+    no_others)))))))))))))))))))
 
 -- a line an instruction
 instr_again : (x : Instr) (rest : List ℕ) → IsInstr x → instr_at (concat (instr_items x) ++ rest) ≡ Ok (x, rest)
 unfolding instr_at
 instr_again (instr.Int to value) rest h = as_is_again register_and_number.format (λ x. instr.Int x.0 x.1) (to, value) rest h
+instr_again (instr.Text to text) rest h = as_is_again register_and_text.format (λ x. instr.Text x.0 x.1) (to, text) rest h
+instr_again (instr.Copy to from) rest h = as_is_again two_registers.format (λ x. instr.Copy x.0 x.1) (to, from) rest h
+instr_again (instr.Compute Add to left right skip) rest h = as_is_again three_registers_and_skip.format (λ x. instr.Compute Add x.0 x.1.0 x.1.1.0 x.1.1.1) (to, (left, (right, skip))) rest (h.0, (h.1, (h.2, h.3)))
+instr_again (instr.Compute Subtract to left right skip) rest h = as_is_again three_registers_and_skip.format (λ x. instr.Compute Subtract x.0 x.1.0 x.1.1.0 x.1.1.1) (to, (left, (right, skip))) rest (h.0, (h.1, (h.2, h.3)))
+instr_again (instr.Compute Multiply to left right skip) rest h = as_is_again three_registers_and_skip.format (λ x. instr.Compute Multiply x.0 x.1.0 x.1.1.0 x.1.1.1) (to, (left, (right, skip))) rest (h.0, (h.1, (h.2, h.3)))
+instr_again (instr.Compute Divide to left right skip) rest h = as_is_again three_registers_and_skip.format (λ x. instr.Compute Divide x.0 x.1.0 x.1.1.0 x.1.1.1) (to, (left, (right, skip))) rest (h.0, (h.1, (h.2, h.3)))
+instr_again (instr.Compute Remainder to left right skip) rest h = as_is_again three_registers_and_skip.format (λ x. instr.Compute Remainder x.0 x.1.0 x.1.1.0 x.1.1.1) (to, (left, (right, skip))) rest (h.0, (h.1, (h.2, h.3)))
+instr_again (instr.Concatenate to left right skip) rest h = as_is_again three_registers_and_skip.format (λ x. instr.Concatenate x.0 x.1.0 x.1.1.0 x.1.1.1) (to, (left, (right, skip))) rest (h.0, (h.1, (h.2, h.3)))
+instr_again (instr.Length to from) rest h = as_is_again two_registers.format (λ x. instr.Length x.0 x.1) (to, from) rest h
+instr_again (instr.Show to from) rest h = as_is_again two_registers.format (λ x. instr.Show x.0 x.1) (to, from) rest h
+instr_again (instr.ReadInt to from skip) rest h = as_is_again two_registers_and_skip.format (λ x. instr.ReadInt x.0 x.1.0 x.1.1) (to, (from, skip)) rest (h.0, (h.1, h.2))
+instr_again (instr.Jump skip) rest h = as_is_again skip_strict.format (λ x. instr.Jump x) skip rest h
+instr_again (instr.JumpEqual left right skip) rest h = as_is_again two_registers_and_skip.format (λ x. instr.JumpEqual x.0 x.1.0 x.1.1) (left, (right, skip)) rest (h.0, (h.1, h.2))
+instr_again (instr.JumpLess left right skip) rest h = as_is_again two_registers_and_skip.format (λ x. instr.JumpLess x.0 x.1.0 x.1.1) (left, (right, skip)) rest (h.0, (h.1, h.2))
+instr_again (instr.Repeat turns) rest h = as_is_again turns_strict.format (λ x. instr.Repeat x) turns rest h
+instr_again instr.End rest h = refl
 instr_again (instr.Store datum from) rest h = as_is_again two_registers.format (λ x. instr.Store x.0 x.1) (datum, from) rest h
 instr_again instr.Ret rest h = refl
 

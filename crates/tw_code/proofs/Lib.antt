@@ -4,6 +4,7 @@ pub mod Formats
 pub mod Breaks
 pub mod Bytes
 pub mod Numbers
+pub mod TextFormat
 pub mod Types
 pub mod Instructions
 pub mod Programs

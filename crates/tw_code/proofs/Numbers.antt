@@ -27,24 +27,24 @@ abbrev pub a_number : ℤ → List Item
 a_number n = number n ∷ []
 
 -- a step that a test let through
-unless : {Z : Type 0} (b : Bool) (d : Broken) (z : Result Z Broken) (y : Z) → cond b (Err d) z ≡ Ok y → (b ≡ false) × (z ≡ Ok y)
+pub unless : {Z : Type 0} (b : Bool) (d : Broken) (z : Result Z Broken) (y : Z) → cond b (Err d) z ≡ Ok y → (b ≡ false) × (z ≡ Ok y)
 unless true d z y e = absurd cc
 unless false d z y e = (refl, e)
 
 -- the input ended, or another fault
-until : {Z : Type 0} (b : Bool) (d : Broken) (z : Result Z Broken) (f : Broken) → cond b (Err d) z ≡ Err f → ((b ≡ true) × (d ≡ f)) ⊎ ((b ≡ false) × (z ≡ Err f))
+pub until : {Z : Type 0} (b : Bool) (d : Broken) (z : Result Z Broken) (f : Broken) → cond b (Err d) z ≡ Err f → ((b ≡ true) × (d ≡ f)) ⊎ ((b ≡ false) × (z ≡ Err f))
 until true d z f e = inl (refl, cc)
 until false d z f e = inr (refl, e)
 
 -- so many bytes at the front are taken
-front_of : (k : ℕ) (bytes : List ℕ) (text : Item) → IsBytes bytes → text ≡ take k bytes → Takes bytes (concat (text ∷ [])) (drop k bytes)
+pub front_of : (k : ℕ) (bytes : List ℕ) (text : Item) → IsBytes bytes → text ≡ take k bytes → Takes bytes (concat (text ∷ [])) (drop k bytes)
 front_of k bytes text fits e = record {
   parts = sym (take-append-drop k bytes) ∙ ap (λ (t : List ℕ). t ++ drop k bytes) (sym e ∙ sym (append-nil text));
   rest_fits = IsBytes-drop k bytes fits;
 }
 
 -- fewer bytes are left than the item that is due has
-cut_off : {A : Type 0} {F : A → Type 0} {w : A → List Item} (bytes : List ℕ) (size : ℕ) (f : Broken) (some : A) → F some → (item : Item) → w some ≡ item ∷ [] → length item ≡ size → ltb (length bytes) size ≡ true → ended ≡ f → Lacks F w bytes f
+pub cut_off : {A : Type 0} {F : A → Type 0} {w : A → List Item} (bytes : List ℕ) (size : ℕ) (f : Broken) (some : A) → F some → (item : Item) → w some ≡ item ∷ [] → length item ≡ size → ltb (length bytes) size ≡ true → ended ≡ f → Lacks F w bytes f
 cut_off bytes size f some fits item spelled len test is = record {
   before = [];
   part = bytes;

@@ -3,7 +3,7 @@
 -- The lines of an instruction stand in the order of the causes: register types (C13), empty registers (C1), freed
 -- data (C2), types of data (C6), unset or open data (C3, C4), set data (C5), counts (C7, C8), closed containers (C9);
 -- each is asked of all operands before the next.
-use Rattle.std.specs.Prelude.{ℕ, ◌+◌, ◌-◌, ◌==◌, Bool, true, false, not, if◌then◌else◌, List, Option, Some, None, slice_get, slice_set}
+use Rattle.std.specs.Prelude.{ℕ, ◌-◌, ◌==◌, Bool, true, false, not, if◌then◌else◌, List, Option, Some, None, slice_get, slice_set}
 use Rattle.std.specs.Option.{option_and_then, option_flatten}
 use Rattle.std.specs.FinMap as map
 use Rattle.tw_types.specs.declared.cause.Cause.TheVariants.{EmptyRegister, FreedDatum, AlreadySet, WrongType, NoWriteCount, WrongRegister}
@@ -78,4 +78,16 @@ data_instr (instr.Store datum from) c = do
   must (not (d.writes == 0)) NoWriteCount
   Went (gone_on (with_right (record c { store = with_datum c.store id (set_to x d) }) datum None))
 data_instr (instr.Int to n) c = NotEnabled
+data_instr (instr.Text to text) c = NotEnabled
+data_instr (instr.Copy to from) c = NotEnabled
+data_instr (instr.Compute operation to left right skip) c = NotEnabled
+data_instr (instr.Concatenate to left right skip) c = NotEnabled
+data_instr (instr.Length to from) c = NotEnabled
+data_instr (instr.Show to from) c = NotEnabled
+data_instr (instr.ReadInt to from skip) c = NotEnabled
+data_instr (instr.Jump skip) c = NotEnabled
+data_instr (instr.JumpEqual left right skip) c = NotEnabled
+data_instr (instr.JumpLess left right skip) c = NotEnabled
+data_instr (instr.Repeat turns) c = NotEnabled
+data_instr instr.End c = NotEnabled
 data_instr instr.Ret c = NotEnabled

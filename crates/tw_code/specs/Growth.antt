@@ -30,7 +30,8 @@ use Rattle.tw_code.specs.Bounds.{AreBelow, size_of}
 use Rattle.tw_code.specs.Context.{Context, data_instr, datum_at, gone_on, held, is_unset, live, set_to, suits, with_right}
 use Rattle.tw_code.specs.Flow.{flow_of}
 use Rattle.tw_code.specs.Position.{Position, instr_at, local_steps, value_at}
-use Rattle.tw_code.specs.Machine.{Frame, State, step, take_event, local_event, call_event, end_event, filled, frame_of, ids_in, procedure_of, is_stop, sixteen, standing_of, values_in, with_frame, after_context, context_of, Standing}
+use Rattle.tw_code.specs.Machine.{Frame, State, step, take_event, local_event, call_event, end_event, filled, frame_of, ids_in, procedure_of, sixteen, standing_of, values_in, with_frame, after_context, context_of, Standing}
+use Rattle.tw_code.specs.Structure.{is_stop}
 use Rattle.tw_code.specs.Opening.{Opened, is_write, main_params, opened, opening, with_output}
 
 -- ---- what went
@@ -138,6 +139,18 @@ module _ (c : Context) (datum from : ℕ) where
 data_small : (bound : ℕ) (i : Instr) (c e : Context) → IsSmall bound c.store → data_instr i c ≡ Went e → IsSmall (bound + 1) e.store
 data_small bound (instr.Store datum from) c e small went = store_small c datum from bound e small went
 data_small bound (instr.Int to n) c e small went = cc
+data_small bound (instr.Text to text) c e small went = cc
+data_small bound (instr.Copy to from) c e small went = cc
+data_small bound (instr.Compute operation to left right skip) c e small went = cc
+data_small bound (instr.Concatenate to left right skip) c e small went = cc
+data_small bound (instr.Length to from) c e small went = cc
+data_small bound (instr.Show to from) c e small went = cc
+data_small bound (instr.ReadInt to from skip) c e small went = cc
+data_small bound (instr.Jump skip) c e small went = cc
+data_small bound (instr.JumpEqual left right skip) c e small went = cc
+data_small bound (instr.JumpLess left right skip) c e small went = cc
+data_small bound (instr.Repeat turns) c e small went = cc
+data_small bound instr.End c e small went = cc
 data_small bound instr.Ret c e small went = cc
 
 -- ---- events
@@ -149,7 +162,7 @@ frame_begins program number task frame went =
     ap (λ (f : Frame). f.spent) (sym (same_went (begun values.0) frame values.2))
   where
     begun : List Value → Frame
-    begun values = record { task = number; procedure = task.procedure; position = record { place = 0; values = values }; rights = sixteen (ids_in task.args); spent = 0 }
+    begun values = record { task = number; procedure = task.procedure; position = record { place = 0; values = values; loops = [] }; rights = sixteen (ids_in task.args); spent = 0 }
 
 abbrev HasSpent : ℕ → Frame → Type 0
 HasSpent bound frame = frame.spent < bound

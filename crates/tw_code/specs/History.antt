@@ -2,7 +2,7 @@
 use Rattle.std.specs.Prelude.{List, filter}
 use Rattle.std.specs.Ordering.{is_eq}
 use Rattle.tw_types.specs.declared.actor.Actor.{Actor}
-use Rattle.tw_types.specs.declared.actor.Actor.TheVariants.{Engine, Server, Worker}
+use Rattle.tw_types.specs.declared.actor.Actor.TheVariants.{Engine, Server}
 use Rattle.tw_types.specs.declared.event.Event.{Event}
 use Rattle.tw_types.specs.declared.event.Event.TheVariants.{Take, Local, Call, End, Ask, Deliver, Release}
 use Rattle.tw_types.specs.Actor.{actor_cmp}

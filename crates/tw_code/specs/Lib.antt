@@ -3,6 +3,9 @@ pub mod Spelling
 pub mod Reading
 pub mod Fault
 pub mod Flow
+pub mod Walk
+pub mod Question
+pub mod Structure
 pub mod Position
 pub mod Context
 pub mod Machine
@@ -12,4 +15,6 @@ pub mod History
 pub mod Bounds
 pub mod Typing
 pub mod WellTyped
+pub mod Range
+pub mod Shown
 pub mod Growth

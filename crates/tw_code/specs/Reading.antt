@@ -1,6 +1,7 @@
 -- Reading from left to right, with the first fault that is met.
 use Rattle.std.specs.Prelude.{◌≡◌, ◌⊎◌, ℕ, zero, suc, ◌-◌, ℤ, Bool, true, false, List, [], ◌∷◌, length, take, drop, Result, Ok, Err, nat_lt, ◌==◌, if◌then◌else◌}
 use Rattle.std.specs.Int.{w16, w64, from_be_bytes, cast_signed}
+use Rattle.std.specs.Str.{is_utf8}
 use Rattle.tw_types.specs.Nesting.{NestedScalar}
 use Rattle.tw_types.specs.DataType.{container_of, scalar_type}
 use Rattle.tw_types.specs.declared.actor.Kind.{Kind}
@@ -13,9 +14,10 @@ use Rattle.tw_types.specs.declared.param.Param.{Param}
 use Rattle.tw_code.specs.declared.fault.Broken.{Broken}
 use Rattle.tw_code.specs.declared.fault.Fault.{Fault}
 use Rattle.tw_code.specs.declared.fault.FaultNo.{FaultNo}
-use Rattle.tw_code.specs.declared.fault.FaultNo.TheVariants.{Magic, Version, Missing, Limit, Unknown, Nesting, Trailing, Memory}
+use Rattle.tw_code.specs.declared.fault.FaultNo.TheVariants.{Magic, Version, Missing, Limit, Unknown, Nesting, Utf8, Trailing, Memory}
 use Rattle.tw_code.specs.declared.fault.Stop.{Stop}
 use Rattle.tw_code.specs.declared.fault.Stop.TheVariants as stop
+use Rattle.tw_code.specs.declared.instr.Arithmetic.TheVariants.{Add, Subtract, Multiply, Divide, Remainder}
 use Rattle.tw_code.specs.declared.instr.Instr.{Instr}
 use Rattle.tw_code.specs.declared.instr.Instr.TheVariants as instr
 use Rattle.tw_code.specs.declared.procedure.Procedure.{Procedure}
@@ -72,6 +74,10 @@ wide_at low high bytes = if nat_lt (length bytes) 2 then missing else if is_with
 unfoldable pub number_at : Reading ℤ
 number_at bytes = if nat_lt (length bytes) 8 then missing else Ok (cast_signed w64 (from_be_bytes w64 (take 8 bytes)), drop 8 bytes)
 
+-- so many bytes, which are UTF-8
+unfoldable pub utf8_at : ℕ → Reading (List ℕ)
+utf8_at size bytes = if nat_lt (length bytes) size then missing else if is_utf8 (take size bytes) then Ok (take size bytes, drop size bytes) else wrong Utf8 bytes
+
 -- just this byte
 unfoldable pub exactly_at : ℕ → FaultNo → Reading ℕ
 exactly_at wanted which [] = missing
@@ -113,6 +119,23 @@ param_at bytes = mode_at bytes >>= λ m. type_under m.0 m.1 >>= λ t. Ok (record
 abbrev pub register_at : Reading ℕ
 register_at = byte_at 0 15
 
+-- how many instructions to skip
+abbrev pub skip_at : Reading ℕ
+skip_at = wide_at 0 65535
+
+-- how many bytes, and all of them
+abbrev pub text_at : Reading (List ℕ)
+text_at bytes = wide_at 0 4096 bytes >>= λ size. utf8_at size.0 size.1
+
+abbrev pub two_registers_at : Reading (ℕ × ℕ)
+two_registers_at = both register_at register_at
+
+abbrev pub two_registers_and_skip_at : Reading (ℕ × (ℕ × ℕ))
+two_registers_and_skip_at = both register_at (both register_at skip_at)
+
+abbrev pub three_registers_and_skip_at : Reading (ℕ × (ℕ × (ℕ × ℕ)))
+three_registers_and_skip_at = both register_at two_registers_and_skip_at
+
 abbrev pub nothing_at : Reading (Unit {0})
 nothing_at bytes = Ok (tt, bytes)
 
@@ -128,9 +151,25 @@ no_other c bytes = wrong Unknown (c ∷ bytes)
 abbrev pub operands_at : ℕ → Reading Instr
 operands_at =
     on 0x01 (both register_at number_at) (λ x. instr.Int x.0 x.1) (
-    on 0x31 (both register_at register_at) (λ x. instr.Store x.0 x.1) (
+    on 0x02 (both register_at text_at) (λ x. instr.Text x.0 x.1) (
+    on 0x03 two_registers_at (λ x. instr.Copy x.0 x.1) (
+    on 0x10 three_registers_and_skip_at (λ x. instr.Compute Add x.0 x.1.0 x.1.1.0 x.1.1.1) (
+    on 0x11 three_registers_and_skip_at (λ x. instr.Compute Subtract x.0 x.1.0 x.1.1.0 x.1.1.1) (
+    on 0x12 three_registers_and_skip_at (λ x. instr.Compute Multiply x.0 x.1.0 x.1.1.0 x.1.1.1) (
+    on 0x13 three_registers_and_skip_at (λ x. instr.Compute Divide x.0 x.1.0 x.1.1.0 x.1.1.1) (
+    on 0x14 three_registers_and_skip_at (λ x. instr.Compute Remainder x.0 x.1.0 x.1.1.0 x.1.1.1) (
+    on 0x18 three_registers_and_skip_at (λ x. instr.Concatenate x.0 x.1.0 x.1.1.0 x.1.1.1) (
+    on 0x19 two_registers_at (λ x. instr.Length x.0 x.1) (
+    on 0x1a two_registers_at (λ x. instr.Show x.0 x.1) (
+    on 0x1b two_registers_and_skip_at (λ x. instr.ReadInt x.0 x.1.0 x.1.1) (
+    on 0x20 skip_at (λ x. instr.Jump x) (
+    on 0x21 two_registers_and_skip_at (λ x. instr.JumpEqual x.0 x.1.0 x.1.1) (
+    on 0x22 two_registers_and_skip_at (λ x. instr.JumpLess x.0 x.1.0 x.1.1) (
+    on 0x23 (wide_at 1 1000) (λ x. instr.Repeat x) (
+    on 0x24 nothing_at (λ _. instr.End) (
+    on 0x31 two_registers_at (λ x. instr.Store x.0 x.1) (
     on 0x42 nothing_at (λ _. instr.Ret) (
-    no_other)))
+    no_other)))))))))))))))))))
 
 unfoldable pub instr_at : Reading Instr
 instr_at [] = missing

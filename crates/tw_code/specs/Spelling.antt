@@ -2,6 +2,8 @@
 use Rattle.std.specs.Prelude.{ℕ, zero, suc, ℤ, List, [], ◌∷◌, ◌++◌, length}
 use Rattle.std.specs.List.{concat, flat_map}
 use Rattle.std.specs.Int.{w16, w64, to_be_bytes, cast_unsigned}
+use Rattle.tw_code.specs.declared.instr.Arithmetic.{Arithmetic}
+use Rattle.tw_code.specs.declared.instr.Arithmetic.TheVariants.{Add, Subtract, Multiply, Divide, Remainder}
 use Rattle.tw_code.specs.declared.instr.Instr.{Instr}
 use Rattle.tw_code.specs.declared.instr.Instr.TheVariants as instr
 use Rattle.tw_code.specs.declared.procedure.Procedure.{Procedure}
@@ -14,7 +16,7 @@ use Rattle.tw_types.specs.declared.param.Mode.{Mode}
 use Rattle.tw_types.specs.declared.param.Mode.TheVariants.{Val, Closed, Ref, Write}
 use Rattle.tw_types.specs.declared.param.Param.{Param}
 
--- the bytes that are read, or refused, as one: a byte, or a number of several bytes
+-- the bytes that are read, or refused, as one: a byte, a number of several bytes, or the bytes of a text
 abbrev pub Item : Type 0
 Item = List ℕ
 
@@ -58,9 +60,32 @@ type_items ty = nested_items ty.depth ty.scalar
 abbrev pub param_items : Param → List Item
 param_items p = byte (mode_code p.mode) ∷ type_items p.ty
 
+abbrev pub operation_code : Arithmetic → ℕ
+operation_code Add = 0x10
+operation_code Subtract = 0x11
+operation_code Multiply = 0x12
+operation_code Divide = 0x13
+operation_code Remainder = 0x14
+
+-- how many bytes there are, and all of them
+abbrev pub text_items : List ℕ → List Item
+text_items text = wide (length text) ∷ text ∷ []
+
 -- a line an instruction: its code and its operands
 abbrev pub instr_items : Instr → List Item
 instr_items (instr.Int to value) = byte 0x01 ∷ byte to ∷ number value ∷ []
+instr_items (instr.Text to text) = byte 0x02 ∷ byte to ∷ text_items text
+instr_items (instr.Copy to from) = byte 0x03 ∷ byte to ∷ byte from ∷ []
+instr_items (instr.Compute operation to left right skip) = byte (operation_code operation) ∷ byte to ∷ byte left ∷ byte right ∷ wide skip ∷ []
+instr_items (instr.Concatenate to left right skip) = byte 0x18 ∷ byte to ∷ byte left ∷ byte right ∷ wide skip ∷ []
+instr_items (instr.Length to from) = byte 0x19 ∷ byte to ∷ byte from ∷ []
+instr_items (instr.Show to from) = byte 0x1a ∷ byte to ∷ byte from ∷ []
+instr_items (instr.ReadInt to from skip) = byte 0x1b ∷ byte to ∷ byte from ∷ wide skip ∷ []
+instr_items (instr.Jump skip) = byte 0x20 ∷ wide skip ∷ []
+instr_items (instr.JumpEqual left right skip) = byte 0x21 ∷ byte left ∷ byte right ∷ wide skip ∷ []
+instr_items (instr.JumpLess left right skip) = byte 0x22 ∷ byte left ∷ byte right ∷ wide skip ∷ []
+instr_items (instr.Repeat turns) = byte 0x23 ∷ wide turns ∷ []
+instr_items instr.End = byte 0x24 ∷ []
 instr_items (instr.Store datum from) = byte 0x31 ∷ byte datum ∷ byte from ∷ []
 instr_items instr.Ret = byte 0x42 ∷ []
 

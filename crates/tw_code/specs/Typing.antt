@@ -1,7 +1,6 @@
 -- Right typing: what the right registers hold at a place; and what each instruction asks there and leaves.
 --
--- A question stands with the number of the refusal that is given where its answer is no.
-use Rattle.std.specs.Prelude.{ℕ, ◌-◌, ◌==◌, Bool, true, false, not, ◌&&◌, ◌||◌, nat_le, nat_lt, if◌then◌else◌, List, [], ◌∷◌, ◌++◌, map, length, replicate, Option, Some, None, is_none, is_some, slice_get, slice_set}
+use Rattle.std.specs.Prelude.{ℕ, ◌-◌, ◌==◌, Bool, true, not, ◌&&◌, ◌||◌, nat_le, if◌then◌else◌, List, [], ◌∷◌, ◌++◌, map, length, replicate, Option, Some, None, is_none, is_some, slice_get, slice_set}
 use Rattle.std.specs.List.{list_all}
 use Rattle.std.specs.Option.{option_flatten}
 use Rattle.tw_types.specs.Nesting.{NestedScalar}
@@ -16,6 +15,7 @@ use Rattle.tw_code.specs.declared.instr.Instr.{Instr}
 use Rattle.tw_code.specs.declared.instr.Instr.TheVariants as instr
 use Rattle.tw_code.specs.declared.procedure.Procedure.{Procedure}
 use Rattle.tw_code.specs.Opening.{is_val, is_write}
+use Rattle.tw_code.specs.Question.{Question, passes}
 
 -- a right on a datum of the type; the mode is closed, ref or write
 pub record Right : Type 0 where
@@ -45,27 +45,20 @@ start_typing params = map Some (rights_given params) ++ replicate (16 - length (
 
 -- ---- questions
 
-abbrev pub Question : Type 0
-Question = ℕ × Bool
-
--- the lower of a number and another, if there is one
-abbrev pub lower : ℕ → Option ℕ → ℕ
-lower n None = n
-lower n (Some m) = if nat_lt m n then m else n
-
--- the lowest number of those whose answer is no
-abbrev pub refusal_in : List Question → Option ℕ
-refusal_in [] = None
-refusal_in (q ∷ questions) = if q.1 then refusal_in questions else Some (lower q.0 (refusal_in questions))
-
-abbrev pub passes : {A : Type 0} → (A → Bool) → Option A → Bool
-passes test None = false
-passes test (Some x) = test x
-
 -- V01 and V02: a value register is declared, and is of this type
 abbrev pub asks_value : List Scalar → ℕ → Scalar → List Question
 asks_value registers register ty =
     (1, is_some (slice_get registers register)) ∷ (2, passes (λ declared. same_scalar declared ty) (slice_get registers register)) ∷ []
+
+-- V01 and V02: two value registers are declared, and are of one type
+abbrev pub asks_alike : List Scalar → ℕ → ℕ → List Question
+asks_alike registers first second =
+    (1, is_some (slice_get registers first)) ∷ (1, is_some (slice_get registers second))
+    ∷ (2, passes (λ ty. passes (λ declared. same_scalar declared ty) (slice_get registers second)) (slice_get registers first)) ∷ []
+
+-- three value registers of one type
+abbrev pub asks_values : List Scalar → ℕ → ℕ → ℕ → Scalar → List Question
+asks_values registers first second third ty = asks_value registers first ty ++ (asks_value registers second ty ++ asks_value registers third ty)
 
 abbrev pub writes_scalar : Right → Bool
 writes_scalar right = is_write right.mode && is_scalar right.ty
@@ -79,6 +72,18 @@ asks_value_of registers register test right =
 -- what an instruction of a procedure of the program asks at a typing, a line an instruction
 abbrev pub asks : List Procedure → Procedure → Instr → Typing → List Question
 asks program p (instr.Int to n) typing = asks_value p.registers to scalar.Int
+asks program p (instr.Text to text) typing = asks_value p.registers to scalar.Text
+asks program p (instr.Copy to from) typing = asks_alike p.registers to from
+asks program p (instr.Compute operation to left right skip) typing = asks_values p.registers to left right scalar.Int
+asks program p (instr.Concatenate to left right skip) typing = asks_values p.registers to left right scalar.Text
+asks program p (instr.Length to from) typing = asks_value p.registers to scalar.Int ++ asks_value p.registers from scalar.Text
+asks program p (instr.Show to from) typing = asks_value p.registers to scalar.Text ++ asks_value p.registers from scalar.Int
+asks program p (instr.ReadInt to from skip) typing = asks_value p.registers to scalar.Int ++ asks_value p.registers from scalar.Text
+asks program p (instr.Jump skip) typing = []
+asks program p (instr.JumpEqual left right skip) typing = asks_alike p.registers left right
+asks program p (instr.JumpLess left right skip) typing = asks_value p.registers left scalar.Int ++ asks_value p.registers right scalar.Int
+asks program p (instr.Repeat turns) typing = []
+asks program p instr.End typing = []
 asks program p (instr.Store datum from) typing = asks_value_of p.registers from writes_scalar (right_in typing datum)
 asks program p instr.Ret typing = (10, list_all is_none typing) ∷ []
 
@@ -98,5 +103,17 @@ asks_at program p place i typing = (if place == 0 then asks_params p else []) ++
 -- ---- the typing after an instruction that goes on by this outcome, a line an instruction
 abbrev pub after : List Procedure → Way → Instr → Typing → Typing
 after program way (instr.Int to n) typing = typing
+after program way (instr.Text to text) typing = typing
+after program way (instr.Copy to from) typing = typing
+after program way (instr.Compute operation to left right skip) typing = typing
+after program way (instr.Concatenate to left right skip) typing = typing
+after program way (instr.Length to from) typing = typing
+after program way (instr.Show to from) typing = typing
+after program way (instr.ReadInt to from skip) typing = typing
+after program way (instr.Jump skip) typing = typing
+after program way (instr.JumpEqual left right skip) typing = typing
+after program way (instr.JumpLess left right skip) typing = typing
+after program way (instr.Repeat turns) typing = typing
+after program way instr.End typing = typing
 after program way (instr.Store datum from) typing = slice_set typing datum None
 after program way instr.Ret typing = typing

@@ -1,31 +1,16 @@
 -- Which procedures and programs are accepted; and the first refusal of one that isn't.
-use Rattle.std.specs.Prelude.{◌≡◌, ◌⊎◌, ℕ, ◌+◌, ◌<◌, ◌≤◌, ◌==◌, Bool, true, false, not, ◌&&◌, if◌then◌else◌, List, length, Option, Some, None, slice_get}
-use Rattle.std.specs.Option.{option_and_then}
+use Rattle.std.specs.Prelude.{◌≡◌, ◌≢◌, ◌⊎◌, ℕ, ◌+◌, ◌<◌, ◌≤◌, true, false, List, length, Some, None, slice_get}
 use Rattle.tw_code.specs.declared.flow.Way.{Way}
 use Rattle.tw_code.specs.declared.instr.Instr.{Instr}
 use Rattle.tw_code.specs.declared.procedure.Procedure.{Procedure}
-use Rattle.tw_code.specs.Flow.{flow_of, onward}
-use Rattle.tw_code.specs.Machine.{is_stop}
+use Rattle.tw_code.specs.declared.flow.Flow.TheVariants.{Begin}
+use Rattle.tw_code.specs.declared.flow.Way.TheVariants.{Done}
+use Rattle.tw_code.specs.Flow.{flow_of, flows, onward}
 use Rattle.tw_code.specs.Opening.{has_main_shape}
-use Rattle.tw_code.specs.Typing.{Typing, start_typing, refusal_in, asks_at, after}
-
--- ---- structure
-
--- V11: the last instruction isn't RET
-abbrev pub structure_refusal : List Instr → ℕ → Instr → Option ℕ
-structure_refusal code place i = if (place + 1 == length code) && not (is_stop (flow_of i)) then Some 11 else None
-
-abbrev pub structure_refusal_at : List Instr → ℕ → Option ℕ
-structure_refusal_at code place = option_and_then (structure_refusal code place) (slice_get code place)
-
--- no place is refused
-abbrev pub IsStructured : List Instr → Type 0
-IsStructured code = (place : ℕ) → structure_refusal_at code place ≡ None
-
--- the first place that is refused, with the lowest number there
-pub record IsStructureRefusal (code : List Instr) (number place : ℕ) : Type 0 where
-  pub here : structure_refusal_at code place ≡ Some number
-  pub before : (k : ℕ) → k < place → structure_refusal_at code k ≡ None
+use Rattle.tw_code.specs.Question.{refusal_in}
+use Rattle.tw_code.specs.Structure.{IsStructured, IsStructureRefusal, end_of}
+use Rattle.tw_code.specs.Typing.{Typing, start_typing, asks_at, after}
+use Rattle.tw_code.specs.Walk.{IsBudget, IsOverBudget, greatest_budget}
 
 -- ---- typings
 
@@ -37,6 +22,10 @@ pub record LeadsTo (code : List Instr) (before place : ℕ) : Type 0 where
   pub way : Way
   pub goes_on : onward way before (flow_of instr) ≡ Some place
 
+-- the END at a place is that of the loop with this first place
+abbrev pub IsEndOf : List Instr → ℕ → ℕ → Type 0
+IsEndOf code first place = (begin : ℕ) × (turns : ℕ) × (first ≡ begin + 1) × (slice_get (flows code) begin ≡ Some (Begin turns)) × (end_of (flows code) first ≡ Some place)
+
 -- a list of typings for the places before `to`, such that
 pub record IsWellTyped (program : List Procedure) (p : Procedure) (typings : List Typing) (to : ℕ) : Type 0 where
   pub long : length typings ≡ to
@@ -47,21 +36,66 @@ pub record IsWellTyped (program : List Procedure) (p : Procedure) (typings : Lis
   -- each later successor, of either outcome, has the typing that the instruction leaves
   pub later : (place next : ℕ) (i : Instr) (way : Way) (typing left : Typing) → slice_get p.code place ≡ Some i → slice_get typings place ≡ Some typing
       → onward way place (flow_of i) ≡ Some next → slice_get typings next ≡ Some left → left ≡ after program way i typing
+  -- an END has the typing of its loop's first place
+  pub loops : (place first : ℕ) (typing begun : Typing) → IsEndOf p.code first place → slice_get typings place ≡ Some typing → slice_get typings first ≡ Some begun → typing ≡ begun
   -- every place but the first is a successor of an earlier one
   pub entered : (place : ℕ) → 0 < place → place < to → (before : ℕ) × LeadsTo p.code before place
 
+-- an earlier place leads here with this typing
+pub record Brings (program : List Procedure) (p : Procedure) (typings : List Typing) (before place : ℕ) (typing : Typing) : Type 0 where
+  pub step : LeadsTo p.code before place
+  pub from : Typing
+  pub there : slice_get typings before ≡ Some from
+  pub is : typing ≡ after program step.way step.instr from
+
+-- it is the least such place, and of its two outcomes the one that isn't refused, where that leads here
+pub record IsFirstToBring (program : List Procedure) (p : Procedure) (typings : List Typing) (before place : ℕ) (typing : Typing) : Type 0 where
+  pub brings : Brings program p typings before place typing
+  pub least : (other : ℕ) → other < before → LeadsTo p.code other place → ⊥
+  pub done : onward Done before (flow_of brings.step.instr) ≡ Some place → brings.step.way ≡ Done
+
 -- the typing with which a place is reached: the parameters' at the first, else what the least earlier place leaves that leads here
 abbrev pub IsReached : List Procedure → Procedure → List Typing → ℕ → Typing → Type 0
-IsReached program p typings place typing =
-    ((place ≡ 0) × (typing ≡ start_typing p.params))
-    ⊎ ((before : ℕ) × (from : Typing) × (step : LeadsTo p.code before place) × ((other : ℕ) → other < before → LeadsTo p.code other place → ⊥)
-    × (slice_get typings before ≡ Some from) × (typing ≡ after program step.way step.instr from))
+IsReached program p typings place typing = ((place ≡ 0) × (typing ≡ start_typing p.params)) ⊎ ((before : ℕ) × IsFirstToBring program p typings before place typing)
 
--- a number that is refused at a place: V09 where no earlier place leads here, else the lowest of what its instruction asks in vain
+-- V09: no earlier place leads here; and then nothing else is asked
+pub record IsUnreached (p : Procedure) (number place : ℕ) : Type 0 where
+  pub is : number ≡ 9
+  pub later : 0 < place
+  pub never : (before : ℕ) → LeadsTo p.code before place → ⊥
+
+-- what the instruction asks in vain at the typing with which its place is reached
+pub record AsksInVain (program : List Procedure) (p : Procedure) (typings : List Typing) (number place : ℕ) : Type 0 where
+  pub typing : Typing
+  pub reached : IsReached program p typings place typing
+  pub instr : Instr
+  pub here : slice_get p.code place ≡ Some instr
+  pub vain : refusal_in (asks_at program p place instr typing) ≡ Some number
+
+-- V07: earlier places, or the two outcomes of one, bring other typings
+pub record IsDifferent (program : List Procedure) (p : Procedure) (typings : List Typing) (number place : ℕ) : Type 0 where
+  pub is : number ≡ 7
+  pub typing : Typing
+  pub reached : IsReached program p typings place typing
+  pub before : ℕ
+  pub other : Typing
+  pub brings : Brings program p typings before place other
+  pub differs : other ≢ typing
+
+-- V08: an END is reached with another typing than its loop's first place has
+pub record IsChanged (program : List Procedure) (p : Procedure) (typings : List Typing) (number place : ℕ) : Type 0 where
+  pub is : number ≡ 8
+  pub typing : Typing
+  pub reached : IsReached program p typings place typing
+  pub first : ℕ
+  pub end : IsEndOf p.code first place
+  pub begun : Typing
+  pub there : slice_get typings first ≡ Some begun
+  pub differs : typing ≢ begun
+
+-- a number that is refused at a place
 abbrev pub IsRefused : List Procedure → Procedure → List Typing → ℕ → ℕ → Type 0
-IsRefused program p typings number place =
-    ((number ≡ 9) × (0 < place) × ((before : ℕ) → LeadsTo p.code before place → ⊥))
-    ⊎ ((typing : Typing) × (i : Instr) × IsReached program p typings place typing × (slice_get p.code place ≡ Some i) × (refusal_in (asks_at program p place i typing) ≡ Some number))
+IsRefused program p typings number place = IsUnreached p number place ⊎ (AsksInVain program p typings number place ⊎ (IsDifferent program p typings number place ⊎ IsChanged program p typings number place))
 
 -- the lowest number that is refused there
 pub record IsRefusedAt (program : List Procedure) (p : Procedure) (typings : List Typing) (number place : ℕ) : Type 0 where
@@ -78,19 +112,34 @@ pub record IsTypingRefusal (program : List Procedure) (p : Procedure) (number pl
 
 -- ---- programs
 
+-- some list of typings stands for all its places
+abbrev pub IsTypable : List Procedure → Procedure → Type 0
+IsTypable program p = (typings : List Typing) × IsWellTyped program p typings (length p.code)
+
+-- within what a budget may be
+abbrev pub HasBudget : Procedure → Type 0
+HasBudget p = (budget : ℕ) × IsBudget (flows p.code) budget × (budget ≤ greatest_budget)
+
 pub record IsAcceptedProcedure (program : List Procedure) (p : Procedure) : Type 0 where
   pub structured : IsStructured p.code
-  pub typings : List Typing
-  pub well_typed : IsWellTyped program p typings (length p.code)
+  pub typable : IsTypable program p
+  pub budget : HasBudget p
+
+-- V17: some walk is too long
+pub record IsBudgetRefusal (p : Procedure) (number place : ℕ) : Type 0 where
+  pub is : number ≡ 17
+  pub first : place ≡ 0
+  pub over : IsOverBudget (flows p.code)
 
 -- main has its shape, and each procedure is accepted
 pub record IsAccepted (program : List Procedure) : Type 0 where
   pub main : has_main_shape program ≡ true
   pub each : (k : ℕ) (p : Procedure) → slice_get program k ≡ Some p → IsAcceptedProcedure program p
 
--- the structure of a procedure is asked before its typings
+-- the structure of a procedure is asked before its typings, and these before its budget
 abbrev pub IsProcedureRefusal : List Procedure → Procedure → ℕ → ℕ → Type 0
-IsProcedureRefusal program p number place = IsStructureRefusal p.code number place ⊎ (IsStructured p.code × IsTypingRefusal program p number place)
+IsProcedureRefusal program p number place =
+    IsStructureRefusal p.code number place ⊎ (IsStructured p.code × (IsTypingRefusal program p number place ⊎ (IsTypable program p × IsBudgetRefusal p number place)))
 
 -- main's shape is asked first (V16); then the procedures in order
 pub record IsMainRefusal (program : List Procedure) (number procedure place : ℕ) : Type 0 where

@@ -20,7 +20,7 @@ pub enum FaultNo {
     /// The input ends too early.
     #[error("F03: bytes are missing")]
     Missing,
-    /// A count or a register is out of its limits.
+    /// A count, a register, a number of turns or a text's length is out of its limits.
     #[error("F04: a number is out of its limits")]
     Limit,
     /// A kind, mode, type or opcode isn't known, or the type can't stand there.

@@ -2,6 +2,7 @@
 
 ghost use Rattle.std.specs.Prelude.{◌≡◌};
 ghost use Rattle.tw_code.specs.Flow.{flow_of};
+ghost use Rattle.tw_code.specs.Position.{is_local};
 
 use crate::instr::Instr;
 
@@ -10,6 +11,14 @@ use crate::instr::Instr;
 pub enum Flow {
     /// At the next place.
     Straight,
+    /// At the next place, or behind so many more instructions.
+    Branch(u16),
+    /// Behind so many instructions after the next place.
+    Jump(u16),
+    /// At the next place, in a loop of so many turns.
+    Begin(u16),
+    /// At the first place of the innermost loop, or at the next place.
+    Close,
     /// Nowhere: the task ends.
     Stop,
 }
@@ -29,8 +38,28 @@ impl Instr {
         ensures { result ≡ flow_of self.now }
     {
         match self {
-            Instr::Int { .. } | Instr::Store { .. } => Flow::Straight,
+            Instr::Int { .. }
+            | Instr::Text { .. }
+            | Instr::Copy { .. }
+            | Instr::Length { .. }
+            | Instr::Show { .. }
+            | Instr::Store { .. } => Flow::Straight,
+            Instr::Compute { skip, .. }
+            | Instr::Concatenate { skip, .. }
+            | Instr::ReadInt { skip, .. }
+            | Instr::JumpEqual { skip, .. }
+            | Instr::JumpLess { skip, .. } => Flow::Branch(*skip),
+            Instr::Jump { skip } => Flow::Jump(*skip),
+            Instr::Repeat { turns } => Flow::Begin(*turns),
+            Instr::End => Flow::Close,
             Instr::Ret => Flow::Stop,
         }
+    }
+
+    /// Whether it changes nothing but its task's place, values and loops.
+    pub fn is_local(&self) -> bool
+        ensures { result ≡ is_local self.now }
+    {
+        !matches!(self, Instr::Store { .. } | Instr::Ret)
     }
 }

@@ -22,7 +22,8 @@ pub fn byte_of(low: u8, high: u8, bytes: &[u8]) -> Result<(u8, &[u8]), Stop>
 /// Two bytes that make a number from `low` to `high`.
 #[tactic(auto, unfolding(crate::specs::Reading::wide_at))]
 pub fn wide_of(low: u16, high: u16, bytes: &[u8]) -> Result<(u16, &[u8]), Stop>
-    ensures { Gives (λ x. (x.0, x.1.now)) result (wide_at low high bytes.now) }
+    ensures reads { Gives (λ x. (x.0, x.1.now)) result (wide_at low high bytes.now) }
+    ensures within { IfOk result (λ x. x.0 ≤ high) }
 {
     if bytes.len() < 2 {
         return Err(Stop::missing());

@@ -73,7 +73,7 @@ fn some_code(alloc: Global, count: u16, bytes: &[u8]) -> Result<(Vec<Instr>, &[u
     let mut code = Vec::new(alloc);
     let mut rest = bytes;
     for _ in 0..count {
-        match instr_of(rest) {
+        match instr_of(alloc, rest) {
             Ok((instr, after)) => {
                 code.push(instr)?;
                 rest = after;

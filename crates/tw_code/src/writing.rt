@@ -3,14 +3,14 @@
 ghost use Rattle.std.specs.Prelude.{◌≡◌, ◌++◌, ◌≤◌, length, OnOk, IfOk};
 ghost use Rattle.std.specs.List.{concat};
 ghost use Rattle.tw_code.specs.Program.{IsInstr, IsList, IsProcedure};
-ghost use Rattle.tw_code.specs.Spelling.{kind_code, mode_code, scalar_code, byte, wide, type_items, param_items, scalar_items, instr_items, counted_items, procedure_items, spelling};
+ghost use Rattle.tw_code.specs.Spelling.{kind_code, mode_code, scalar_code, operation_code, byte, wide, type_items, param_items, scalar_items, instr_items, counted_items, procedure_items, spelling};
 
 use crate::fault::NoMemory;
-use crate::instr::Instr;
+use crate::instr::{Arithmetic, Instr};
 use crate::procedure::Procedure;
 use crate::program::Program;
 use std::alloc::{AllocError, Global};
-use tw_types::{DataType, Kind, Mode, Param, Scalar};
+use tw_types::{DataType, Kind, Mode, Param, Scalar, Text};
 
 fn code_of_kind(kind: Kind) -> u8
     ensures { result ≡ kind_code kind }
@@ -38,6 +38,18 @@ fn code_of_scalar(scalar: Scalar) -> u8
     match scalar {
         Scalar::Int => 1,
         Scalar::Text => 2,
+    }
+}
+
+fn code_of_operation(operation: Arithmetic) -> u8
+    ensures { result ≡ operation_code operation }
+{
+    match operation {
+        Arithmetic::Add => 0x10,
+        Arithmetic::Subtract => 0x11,
+        Arithmetic::Multiply => 0x12,
+        Arithmetic::Divide => 0x13,
+        Arithmetic::Remainder => 0x14,
     }
 }
 
@@ -73,12 +85,55 @@ fn put_int(out: &mut Vec<u8>, to: u8, value: i64) -> Result<(), AllocError>
     Ok(())
 }
 
+/// These bytes, and then a number of two bytes.
+fn put_wide(out: &mut Vec<u8>, front: &[u8], number: u16) -> Result<(), AllocError>
+    ensures { OnOk result (out.new.items ≡ out.old.items ++ (front.now ++ wide number)) }
+{
+    out.extend_from_slice(front)?;
+    out.extend_from_slice(&number.to_be_bytes())
+}
+
+fn put_text(out: &mut Vec<u8>, to: u8, text: &Text) -> Result<(), AllocError>
+    ensures { OnOk result (out.new.items
+        ≡ out.old.items ++ concat (instr_items (Instr.Text to text.now))) }
+{
+    let bytes = text.as_str().as_bytes();
+    put_wide(out, &[0x02, to], bytes.len() as u16)?;
+    out.extend_from_slice(bytes)
+}
+
 fn put_instr(out: &mut Vec<u8>, instr: &Instr) -> Result<(), AllocError>
     requires { IsInstr instr.now }
     ensures { OnOk result (out.new.items ≡ out.old.items ++ concat (instr_items instr.now)) }
 {
     match instr {
         Instr::Int { to, value } => put_int(out, *to, *value),
+        Instr::Text { to, text } => put_text(out, *to, text),
+        Instr::Copy { to, from } => out.extend_from_slice(&[0x03, *to, *from]),
+        Instr::Compute {
+            operation,
+            to,
+            left,
+            right,
+            skip,
+        } => {
+            let code = code_of_operation(*operation);
+            put_wide(out, &[code, *to, *left, *right], *skip)
+        }
+        Instr::Concatenate {
+            to,
+            left,
+            right,
+            skip,
+        } => put_wide(out, &[0x18, *to, *left, *right], *skip),
+        Instr::Length { to, from } => out.extend_from_slice(&[0x19, *to, *from]),
+        Instr::Show { to, from } => out.extend_from_slice(&[0x1a, *to, *from]),
+        Instr::ReadInt { to, from, skip } => put_wide(out, &[0x1b, *to, *from], *skip),
+        Instr::Jump { skip } => put_wide(out, &[0x20], *skip),
+        Instr::JumpEqual { left, right, skip } => put_wide(out, &[0x21, *left, *right], *skip),
+        Instr::JumpLess { left, right, skip } => put_wide(out, &[0x22, *left, *right], *skip),
+        Instr::Repeat { turns } => put_wide(out, &[0x23], *turns),
+        Instr::End => out.extend_from_slice(&[0x24]),
         Instr::Store { datum, from } => out.extend_from_slice(&[0x31, *datum, *from]),
         Instr::Ret => out.extend_from_slice(&[0x42]),
     }

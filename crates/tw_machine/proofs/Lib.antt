@@ -9,3 +9,6 @@ pub mod Takes
 pub mod Quiet
 pub mod Opened
 pub mod Growth
+pub mod Computing
+pub mod Turns
+pub mod Stretches

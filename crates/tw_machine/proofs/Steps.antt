@@ -1,6 +1,6 @@
 -- Local steps, one after the other.
-use Rattle.std.proofs.Common.{◌≡◌, ◌<◌, ◌+◌, ◌-◌, ℕ, suc, List, ap, ◌∙◌, arith}
-use Rattle.tw_types.specs.Outcome.{Went, ◌>>=◌}
+use Rattle.std.proofs.Common.{◌≡◌, ◌<◌, ◌+◌, ◌-◌, ℕ, zero, suc, List, refl, ap, ◌∙◌, arith}
+use Rattle.tw_types.specs.Outcome.{Outcome, Went, NotEnabled, Trap, ◌>>=◌}
 use Rattle.tw_code.specs.declared.instr.Instr.{Instr}
 use Rattle.tw_code.specs.Position.{Position, local_step, local_steps}
 use Rattle.tw_machine.specs.declared.refused.Refused.{Refused}
@@ -18,3 +18,19 @@ step_goes n k code first at next h before goes = before ∙ next_step n k code a
 pub step_refused : (n k : ℕ) (code : List Instr) (first at : Position) (why : Refused) → k < n → local_steps n code first ≡ local_steps (n - k) code at → IsRefused (local_step code at) why
     → IsRefused (local_steps n code first) why
 step_refused n k code first at why h before refusal = refused_is _ _ why (before ∙ next_step n k code at h) (refused_then _ _ why refusal)
+
+-- one step more, behind the others
+pub one_more : (n : ℕ) (code : List Instr) (at now next : Position) → local_steps n code at ≡ Went now → local_step code now ≡ Went next → local_steps (n + 1) code at ≡ Went next
+one_more zero code at now next went goes =
+    let same : at ≡ now = cc in
+    rw (same, goes) refl
+one_more (suc n) code at now next went goes =
+    let first = went_first (local_step code at) (local_steps n code) now went in
+    let count : suc n + 1 ≡ suc (n + 1) = omega arith in
+    let more : (local_step code at >>= local_steps (n + 1) code) ≡ Went next = rw first.1 (one_more n code first.0 now next first.2 goes) in
+    ap (λ (k : ℕ). local_steps k code at) count ∙ more
+  where
+    went_first : (o : Outcome Position) (others : Position → Outcome Position) (now : Position) → (o >>= others) ≡ Went now → (x : Position) × (o ≡ Went x) × (others x ≡ Went now)
+    went_first (Went x) others now e = (x, refl, e)
+    went_first NotEnabled others now e = cc
+    went_first (Trap cause) others now e = cc

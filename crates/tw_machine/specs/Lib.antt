@@ -9,3 +9,4 @@ pub mod Best
 pub mod Opening
 pub mod PlainView
 pub mod Answers
+pub mod Stretch

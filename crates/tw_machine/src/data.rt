@@ -73,6 +73,6 @@ pub fn data_instr(
 {
     match instr {
         Instr::Store { datum, from } => self::store(alloc, store, frame, *datum, *from),
-        Instr::Int { .. } | Instr::Ret => Err(Refused::NotEnabled),
+        _ => Err(Refused::NotEnabled),
     }
 }

@@ -4,7 +4,8 @@ ghost use Rattle.std.specs.Prelude.{◌≡◌, ◌<◌, ◌^◌, IfSome, MatchRe
 ghost use Rattle.std.specs.FinMap.{get, remove};
 ghost use Rattle.tw_types.specs.declared.actor.Actor.{Actor as AnActor};
 ghost use Rattle.tw_types.specs.Outcome.{Went};
-ghost use Rattle.tw_code.specs.Machine.{call_event, end_event, is_stop, local_event, standing_of, State as Meaning};
+ghost use Rattle.tw_code.specs.Machine.{call_event, end_event, local_event, standing_of, State as Meaning};
+ghost use Rattle.tw_code.specs.Structure.{is_stop};
 ghost use Rattle.tw_machine.specs.Attempts.{Changes, IsRefused};
 ghost use Rattle.tw_machine.specs.Events.{ContextComes, FrameComes, FramesCome};
 ghost use Rattle.tw_machine.specs.Parts.{frames_of, with_frames, with_store};
@@ -53,7 +54,7 @@ fn local_of(
     }
     let procedure = procedure_of(program, frame.procedure())?;
     let mut position = frame.position().try_clone(alloc)?;
-    local_steps(procedure.code.as_slice(), &mut position, steps)?;
+    local_steps(alloc, procedure.code.as_slice(), &mut position, steps)?;
     frame.move_to(position, steps);
     Ok(())
 }

@@ -1,18 +1,20 @@
 //! Tasks that run.
 
-ghost use Rattle.std.specs.Prelude.{◌≡◌, ◌<◌, ◌^◌, ◌+◌, MatchResult, None, Some, is_none, slice_set};
+ghost use Rattle.std.specs.Prelude.{◌≡◌, ◌<◌, ◌^◌, ◌+◌, IfOk, MatchResult, None, Some, is_none, slice_set};
 ghost use Rattle.std.specs.Option.{option_copied};
 ghost use Rattle.std.specs.List.{list_all};
 ghost use Rattle.tw_code.specs.Context.{right_at};
 ghost use Rattle.tw_code.specs.Machine.{frame_of};
 ghost use Rattle.tw_code.specs.Position.{at_next_place};
 ghost use Rattle.tw_machine.specs.Attempts.{Gives};
+ghost use Rattle.tw_machine.specs.Stretch.{IsStretch};
 
 use crate::code::procedure_of;
+use crate::local::count_local;
 use crate::position::Position;
 use crate::refused::Refused;
 use crate::task::Task;
-use std::alloc::Global;
+use std::alloc::{AllocError, Global};
 use std::marker::Model;
 use tw_code::Procedure;
 use tw_types::{DatumId, TaskNo, Value};
@@ -50,7 +52,7 @@ impl Frame {
         Ok(Frame {
             task: TaskNo::new(number),
             procedure: task.procedure(),
-            position: Position::first(values),
+            position: Position::first(alloc, values),
             rights: task.rights(),
             spent: 0,
         })
@@ -81,6 +83,23 @@ impl Frame {
         ensures { result ≡ self.now.spent }
     {
         self.spent
+    }
+
+    /// How many local instructions its task does from here, before one that isn't local or can't be done; at most so
+    /// many.
+    pub fn local_steps(
+        &self,
+        alloc: Global,
+        program: &[Procedure],
+        most: u64,
+    ) -> Result<u64, AllocError>
+        ensures { IfOk result (IsStretch program.now self.now most) }
+    {
+        let Some(procedure) = program.get(usize::from(self.procedure)) else {
+            return Ok(0);
+        };
+        let mut position = self.position.try_clone(alloc)?;
+        count_local(alloc, procedure.code.as_slice(), &mut position, most)
     }
 
     pub(crate) fn position(&self) -> &Position

@@ -5,6 +5,7 @@
 #![tactic(auto)]
 
 mod code;
+mod compute;
 mod data;
 mod datum;
 mod events;

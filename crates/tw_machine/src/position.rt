@@ -1,35 +1,60 @@
 //! Where a task stands.
 
-ghost use Rattle.std.specs.Prelude.{◌≡◌, ◌<◌, ◌^◌, length, slice_get, slice_set, IfOk};
-ghost use Rattle.std.specs.Option.{option_copied};
-ghost use Rattle.tw_code.specs.Position.{at_next_place, with_value};
+ghost use Rattle.std.specs.Prelude.{◌≡◌, ◌<◌, ◌^◌, ◌∷◌, ◌+◌, [], length, reverse, slice_get, slice_set, IfOk, OnOk, None, Some, true, false, OnErr};
+ghost use Rattle.std.specs.Option.{option_copied, option_map};
+ghost use Rattle.tw_code.specs.Position.{at_next_place, at_goal, with_value};
+ghost use Rattle.tw_code.specs.Walk.{after_end};
 
 use crate::value::copy_of;
 use std::alloc::{AllocError, Global};
 use std::marker::Model;
 use tw_types::Value;
 
-/// A place in the code, and the value registers that the procedure declares.
+/// A loop that is begun: its first place, and the turns that are left.
+#[derive(Clone, Copy)]
+struct Loop {
+    first: usize,
+    left: u16,
+}
+
+impl Model for Loop {
+    ghost use Rattle.tw_code.specs.Walk.{Loop as Meaning};
+
+    ghost Value = { Meaning };
+
+    ghost view = { λ l. record { first = l.first; left = l.left } };
+
+    ghost inverse = { λ l. record { first = l.first; left = l.left } };
+}
+
+/// A place in the code, the value registers that the procedure declares, and the loops that are begun.
 #[derive(Drop)]
 pub struct Position {
     place: usize,
     values: Vec<Value>,
+    /// The innermost one is the last.
+    loops: Vec<Loop>,
 }
 
 impl Model for Position {
+    ghost use Rattle.std.specs.Prelude.{reverse};
     ghost use Rattle.tw_code.specs.Position.{Position as Meaning};
 
     ghost Value = { Meaning };
 
-    ghost view = { λ p. record { place = p.place; values = p.values.items } };
+    ghost view = { λ p. record { place = p.place; values = p.values.items; loops = reverse p.loops.items } };
 }
 
 impl Position {
     /// At the beginning of the code.
-    pub fn first(values: Vec<Value>) -> Position
-        ensures { result ≡ record { place = 0; values = values.items } }
+    pub fn first(alloc: Global, values: Vec<Value>) -> Position
+        ensures { result ≡ record { place = 0; values = values.items; loops = [] } }
     {
-        Position { place: 0, values }
+        Position {
+            place: 0,
+            values,
+            loops: Vec::new(alloc),
+        }
     }
 
     pub fn place(&self) -> usize
@@ -45,11 +70,14 @@ impl Position {
         self.values.get(usize::from(register))
     }
 
-    pub fn set_value(&mut self, register: u8, value: Value)
-        requires { register < length self.old.values }
-        ensures { self.new ≡ with_value self.old register value }
+    /// The register gets the value, and the task goes on.
+    pub fn put(&mut self, register: u8, value: Value)
+        requires declared { register < length self.old.values }
+        requires inside { self.old.place < 2 ^ 63 }
+        ensures { self.new ≡ at_next_place (with_value self.old register value) }
     {
         set_in(&mut self.values, register, value);
+        self.place += 1;
     }
 
     pub fn go_on(&mut self)
@@ -59,6 +87,42 @@ impl Position {
         self.place += 1;
     }
 
+    /// Goes on behind so many instructions after the next place.
+    pub fn skip(&mut self, skip: u16)
+        requires { self.old.place < 2 ^ 63 }
+        ensures { self.new ≡ at_goal self.old skip }
+    {
+        self.place += 1 + usize::from(skip);
+    }
+
+    /// Begins a loop of so many turns.
+    pub fn begin_loop(&mut self, turns: u16) -> Result<(), AllocError>
+        requires { self.old.place < 2 ^ 63 }
+        ensures begun { OnOk result (self.new ≡ record self.old { place = self.old.place + 1; loops = record { first = self.old.place + 1; left = turns } ∷ self.old.loops }) }
+        ensures kept { OnErr result (self.new ≡ self.old) }
+    {
+        let first = self.place + 1;
+        self.loops.push(Loop { first, left: turns })?;
+        self.place = first;
+        Ok(())
+    }
+
+    /// Ends a turn of the innermost loop; false where no loop is begun.
+    pub fn end_turn(&mut self) -> bool
+        requires { self.old.place < 2 ^ 63 }
+        ensures ended { result ≡ true → after_end self.old.place self.old.loops ≡ Some (record { place = self.new.place; loops = self.new.loops }) }
+        ensures values { self.new.values ≡ self.old.values }
+        ensures none { result ≡ false → (after_end self.old.place self.old.loops ≡ None) × (self.new ≡ self.old) }
+    {
+        match end_turn_in(&mut self.loops, self.place) {
+            Some(place) => {
+                self.place = place;
+                true
+            }
+            None => false,
+        }
+    }
+
     /// A second position, equal to this one.
     pub fn try_clone(&self, alloc: Global) -> Result<Position, AllocError>
         ensures { IfOk result (λ copy. copy ≡ self.now) }
@@ -66,7 +130,24 @@ impl Position {
         Ok(Position {
             place: self.place,
             values: copies_of(alloc, &self.values)?,
+            loops: self.loops.clone()?,
         })
+    }
+}
+
+/// The place that follows the END at this one, if a loop is begun.
+fn end_turn_in(loops: &mut Vec<Loop>, place: usize) -> Option<usize>
+    requires { place < 2 ^ 63 }
+    ensures next { option_map (λ next. record { place = next; loops = reverse loops.new.items }) result ≡ after_end place (reverse loops.old.items) }
+    ensures kept { result ≡ None → loops.new.items ≡ loops.old.items }
+{
+    let inner = loops.last_mut()?;
+    if inner.left > 1 {
+        inner.left -= 1;
+        Some(inner.first)
+    } else {
+        let _ended = loops.pop();
+        Some(place + 1)
     }
 }
 

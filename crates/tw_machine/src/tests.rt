@@ -7,6 +7,8 @@ use std::test::Fail;
 use tw_code::{Program, decode};
 use tw_types::{Actor, Cause, DatumId, Ending, Event, Input, Layout, RuleNo, Value};
 
+mod local;
+
 const ENGINE: Actor = Actor::Engine(0);
 
 const OTHER_ENGINE: Actor = Actor::Engine(1);

@@ -26,7 +26,7 @@ pub fn copy_of(alloc: Global, value: &Value) -> Result<Value, AllocError>
     }
 }
 
-fn copy_of_text(alloc: Global, text: &Text) -> Result<Text, AllocError>
+pub fn copy_of_text(alloc: Global, text: &Text) -> Result<Text, AllocError>
     ensures { IfOk result (λ copy. copy ≡ text.now) }
 {
     let Ok(copy) = Text::new(String::from_str(alloc, text.as_str())?) else {

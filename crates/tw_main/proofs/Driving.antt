@@ -15,15 +15,21 @@ use Rattle.tw_types.specs.Task.{Arg, RightArg, Task, Tasks, best, best_of}
 use Rattle.tw_code.specs.declared.procedure.Procedure.{Procedure}
 use Rattle.tw_code.specs.declared.instr.Instr.{Instr}
 use Rattle.tw_code.specs.declared.instr.Instr.TheVariants as instr
-use Rattle.tw_code.specs.Position.{Position, value_at, must_have_type, instr_at, local_instr, local_step, local_steps}
+use Rattle.tw_types.specs.declared.data_type.Scalar.{Scalar}
+use Rattle.tw_types.specs.declared.value.Value.{Value}
+use Rattle.tw_types.specs.declared.value.Value.TheVariants as value
+use Rattle.tw_code.specs.Position.{Position, value_at, int_in, int_at, text_in, text_at, same_value, must_have_type, instr_at, is_local, local_instr, local_step, local_steps}
+use Rattle.tw_code.specs.Structure.{is_stop}
+use Rattle.tw_code.specs.Walk.{after_end}
+use Rattle.tw_machine.specs.Stretch.{IsStretch, steps_from}
 use Rattle.tw_types.specs.Store.{Store, is_scalar}
-use Rattle.tw_types.specs.declared.cause.Cause.TheVariants.{RightLeft, OutsideCode, WrongRegister, WrongType, AlreadySet, NoWriteCount}
+use Rattle.tw_types.specs.declared.cause.Cause.TheVariants.{RightLeft, OutsideCode, NoLoop, WrongCall, WrongRegister, WrongType, AlreadySet, NoWriteCount}
 use Rattle.tw_code.specs.Flow.{flow_of}
 use Rattle.tw_code.specs.Context.{Context, datum_at, right_at, held, live, suits, is_unset, data_instr}
-use Rattle.tw_main.specs.Driving.{engine, IsAlone, IsDone, is_local, AreLocal, IsStretch, IsEnd, IsCall, IsNext}
+use Rattle.tw_main.specs.Driving.{engine, IsAlone, IsDone, IsLocalNext, IsEnd, IsCall, IsSingle, IsNext}
 use Rattle.tw_types.specs.Store.{empty_store}
 use Rattle.tw_types.specs.Value.{blank_of}
-use Rattle.tw_code.specs.Machine.{State, Frame, step, run, values_in, ids_in, sixteen, with_frame, is_stop, Standing, standing_of, procedure_of, frame_of, context_of, after_context}
+use Rattle.tw_code.specs.Machine.{State, Frame, step, run, values_in, ids_in, sixteen, with_frame, Standing, standing_of, procedure_of, frame_of, context_of, after_context}
 use Rattle.tw_code.specs.Opening.{opening, opened, main_params, main_task}
 use Rattle.tw_code.specs.Ending.{ending}
 use Rattle.tw_types.specs.declared.ending.Ending.TheVariants.{Quiet}
@@ -83,7 +89,7 @@ same_ids (id ∷ ids) = ap (λ (rest : List ℕ). id ∷ rest) (same_ids ids)
 
 -- main's first frame
 abbrev first_frame : Procedure → List ℕ → Frame
-first_frame main ids = record { task = 1; procedure = 0; position = record { place = 0; values = map blank_of main.registers }; rights = sixteen ids; spent = 0 }
+first_frame main ids = record { task = 1; procedure = 0; position = record { place = 0; values = map blank_of main.registers; loops = [] }; rights = sixteen ids; spent = 0 }
 
 abbrev main_ids : List Procedure → List ℕ
 main_ids program = (opened (record { store = empty_store; rights = []; outputs = [] }) (main_params program) []).rights
@@ -117,31 +123,47 @@ take_leaves main others t e = subst (λ (s : State). (f : Frame) × IsAlone s f)
 
 -- ---- the events of main's frame
 
+typed : (at : Position) (register : ℕ) (ty : Scalar) → IsEnabled (must_have_type at register ty)
+typed at register ty = enabled-bind (value_at at register) _ (enabled-there (slice_get at.values register) _) (λ x _. enabled-must _ _)
+
+int_read : (at : Position) (register : ℕ) → IsEnabled (int_at at register)
+int_read at register = enabled-bind (value_at at register) int_in (enabled-there (slice_get at.values register) _) (λ x _. of x)
+  where
+    of : (x : Value) → IsEnabled (int_in x)
+    of (value.Int n) = tt
+    of (value.Text text) = tt
+
+text_read : (at : Position) (register : ℕ) → IsEnabled (text_at at register)
+text_read at register = enabled-bind (value_at at register) text_in (enabled-there (slice_get at.values register) _) (λ x _. of x)
+  where
+    of : (x : Value) → IsEnabled (text_in x)
+    of (value.Int n) = tt
+    of (value.Text text) = tt
+
+compared : (x y : Value) → IsEnabled (same_value x y)
+compared (value.Int a) (value.Int b) = tt
+compared (value.Int a) (value.Text b) = tt
+compared (value.Text a) (value.Int b) = tt
+compared (value.Text a) (value.Text b) = tt
+
+-- a local instruction is enabled: it goes, or it traps
 local_one : (i : Instr) (at : Position) → is_local i ≡ true → IsEnabled (local_instr i at)
-local_one (instr.Int to n) at e = enabled-then (must_have_type at to _) _ (enabled-bind (value_at at to) _ (enabled-there (slice_get at.values to) _) (λ x _. enabled-must _ _)) tt
+local_one (instr.Int to n) at e = enabled-then (must_have_type at to _) _ (typed at to _) tt
+local_one (instr.Text to text) at e = enabled-then (must_have_type at to _) _ (typed at to _) tt
+local_one (instr.Copy to from) at e = enabled-bind (value_at at from) _ (enabled-there (slice_get at.values from) _) (λ x _. enabled-then (must_have_type at to _) _ (typed at to _) tt)
+local_one (instr.Compute operation to left right skip) at e = enabled-then (must_have_type at to _) _ (typed at to _) (enabled-bind (int_at at left) _ (int_read at left) (λ a _. enabled-bind (int_at at right) _ (int_read at right) (λ b _. tt)))
+local_one (instr.Concatenate to left right skip) at e = enabled-then (must_have_type at to _) _ (typed at to _) (enabled-bind (text_at at left) _ (text_read at left) (λ a _. enabled-bind (text_at at right) _ (text_read at right) (λ b _. tt)))
+local_one (instr.Length to from) at e = enabled-then (must_have_type at to _) _ (typed at to _) (enabled-bind (text_at at from) _ (text_read at from) (λ a _. tt))
+local_one (instr.Show to from) at e = enabled-then (must_have_type at to _) _ (typed at to _) (enabled-bind (int_at at from) _ (int_read at from) (λ a _. tt))
+local_one (instr.ReadInt to from skip) at e = enabled-then (must_have_type at to _) _ (typed at to _) (enabled-bind (text_at at from) _ (text_read at from) (λ a _. tt))
+local_one (instr.Jump skip) at e = tt
+local_one (instr.JumpEqual left right skip) at e =
+    enabled-bind (value_at at left) _ (enabled-there (slice_get at.values left) _) (λ x _. enabled-bind (value_at at right) _ (enabled-there (slice_get at.values right) _) (λ y _. enabled-bind (same_value x y) _ (compared x y) (λ same _. tt)))
+local_one (instr.JumpLess left right skip) at e = enabled-bind (int_at at left) _ (int_read at left) (λ a _. enabled-bind (int_at at right) _ (int_read at right) (λ b _. tt))
+local_one (instr.Repeat turns) at e = tt
+local_one instr.End at e = enabled-bind (there (after_end at.place at.loops) NoLoop) _ (enabled-there (after_end at.place at.loops) _) (λ cursor _. tt)
 local_one (instr.Store datum from) at e = absurd cc
 local_one instr.Ret at e = absurd cc
-
-local_on : (i : Instr) (at next : Position) → is_local i ≡ true → local_instr i at ≡ Went next → next.place ≡ at.place + 1
-local_on (instr.Int to n) at next e h = let went = went-then (must_have_type at to _) _ next h in ap (λ (p : Position). p.place) (sym (went_is went.1))
-local_on (instr.Store datum from) at next e h = absurd cc
-local_on instr.Ret at next e h = absurd cc
-
-steps_enabled : (n : ℕ) (code : List Instr) (at : Position) → AreLocal code at.place n → IsEnabled (local_steps n code at)
-steps_enabled zero code at h = tt
-steps_enabled (suc n) code at h =
-    let place : at.place + 0 ≡ at.place = omega arith in
-    let first = h 0 (omega arith) in
-    let here : slice_get code at.place ≡ Some first.0 = subst (λ (k : ℕ). slice_get code k ≡ Some first.0) place first.1 in
-    let one : local_step code at ≡ local_instr first.0 at = ap (λ (o : Option Instr). there o OutsideCode >>= λ i. local_instr i at) here in
-    enabled-bind (local_step code at) (λ next. local_steps n code next) (subst IsEnabled (sym one) (local_one first.0 at first.2))
-    (λ next went. steps_enabled n code next (subst (λ (k : ℕ). AreLocal code k n) (sym (local_on first.0 at next first.2 (sym one ∙ went))) (rest code at.place n h)))
-  where
-    rest : (code : List Instr) (place n : ℕ) → AreLocal code place (suc n) → AreLocal code (place + 1) n
-    rest code place n h k lt =
-        let P : ℕ → Type 0 = λ m. (i : Instr) × (slice_get code m ≡ Some i) × (is_local i ≡ true) in
-        let index : place + suc k ≡ place + 1 + k = omega arith in
-        subst P index (h (suc k) (omega arith))
 
 store_enabled : (datum from : ℕ) (c : Context) → IsEnabled (data_instr (instr.Store datum from) c)
 store_enabled datum from c =
@@ -155,6 +177,18 @@ store_enabled datum from c =
 
 data_enabled : (i : Instr) (c : Context) → is_local i ≡ false → is_stop (flow_of i) ≡ false → IsEnabled (data_instr i c)
 data_enabled (instr.Int to n) c local stop = absurd cc
+data_enabled (instr.Text to text) c local stop = absurd cc
+data_enabled (instr.Copy to from) c local stop = absurd cc
+data_enabled (instr.Compute operation to left right skip) c local stop = absurd cc
+data_enabled (instr.Concatenate to left right skip) c local stop = absurd cc
+data_enabled (instr.Length to from) c local stop = absurd cc
+data_enabled (instr.Show to from) c local stop = absurd cc
+data_enabled (instr.ReadInt to from skip) c local stop = absurd cc
+data_enabled (instr.Jump skip) c local stop = absurd cc
+data_enabled (instr.JumpEqual left right skip) c local stop = absurd cc
+data_enabled (instr.JumpLess left right skip) c local stop = absurd cc
+data_enabled (instr.Repeat turns) c local stop = absurd cc
+data_enabled instr.End c local stop = absurd cc
 data_enabled (instr.Store datum from) c local stop = store_enabled datum from c
 data_enabled instr.Ret c local stop = absurd cc
 
@@ -165,20 +199,36 @@ not_zero n h = grind (arith, nat_tests)
 alone_again : (s : State) (f g : Frame) (store : Store) → IsAlone s f → IsAlone (with_frame (record s { store = store }) engine g) g
 alone_again s f g store a = record { no_task = a.no_task; one_frame = len_again s.frames f g a.frame ∙ a.one_frame; frame = got s.frames g }
 
--- ---- a stretch of local instructions
+-- ---- local instructions
 
-module _ (program : List Procedure) (s : State) (f : Frame) (n : ℕ) (a : IsAlone s f) (h : IsStretch program f n) where
-  local_is : step program run_layout (Local engine n) s ≡ (local_steps n h.p.code f.position >>= λ at. Went (with_frame s engine (record f { position = at; spent = f.spent + n })))
+module _ (program : List Procedure) (s : State) (f : Frame) (n : ℕ) (a : IsAlone s f) (some : 0 < n) where
+  -- the frame behind them
+  abbrev further : Position → Frame
+  further at = record f { position = at; spent = f.spent + n }
+
+  local_is : step program run_layout (Local engine n) s ≡ (procedure_of program f.procedure >>= λ p. local_steps n p.code f.position >>= λ at. Went (with_frame s engine (further at)))
   unfolding step
-  local_is = rw (not_zero n h.some, a.frame, h.here) refl
+  local_is = rw (not_zero n some, a.frame) refl
 
-  local_enabled : IsEnabled (step program run_layout (Local engine n) s)
-  local_enabled = subst IsEnabled (sym local_is) (enabled-bind (local_steps n h.p.code f.position) _ (steps_enabled n h.p.code f.position h.are_local) (λ at _. tt))
+  -- they go
+  local_enabled : (at : Position) → steps_from program f n ≡ Went at → IsEnabled (step program run_layout (Local engine n) s)
+  local_enabled at go =
+      let p = went-bind (procedure_of program f.procedure) (λ p. local_steps n p.code f.position) at go in
+      subst IsEnabled (sym local_is) (rw (p.1, p.2) tt)
 
   local_leaves : (t : State) → step program run_layout (Local engine n) s ≡ Went t → (g : Frame) × IsAlone t g
   local_leaves t e =
-      let went = went-bind (local_steps n h.p.code f.position) (λ at. Went (with_frame s engine (record f { position = at; spent = f.spent + n }))) t (sym local_is ∙ e) in
-      subst (λ (u : State). (g : Frame) × IsAlone u g) (went_is went.2) (record f { position = went.0; spent = f.spent + n }, alone_again s f (record f { position = went.0; spent = f.spent + n }) s.store a)
+      let p = went-bind (procedure_of program f.procedure) (λ p. local_steps n p.code f.position >>= λ at. Went (with_frame s engine (further at))) t (sym local_is ∙ e) in
+      let at = went-bind (local_steps n p.0.code f.position) (λ at. Went (with_frame s engine (further at))) t p.2 in
+      subst (λ (u : State). (g : Frame) × IsAlone u g) (went_is at.2) (further at.0, alone_again s f (further at.0) s.store a)
+
+-- one of them, where the next instruction is local
+one_enabled : (program : List Procedure) (s : State) (f : Frame) → IsAlone s f → IsLocalNext program f → IsEnabled (step program run_layout (Local engine 1) s)
+one_enabled program s f a h =
+    let here : procedure_of program f.procedure ≡ Went h.p = ap (λ (o : Option Procedure). there o WrongCall) h.here in
+    let one : local_step h.p.code f.position ≡ local_instr h.i f.position = ap (λ (o : Option Instr). there o OutsideCode >>= λ i. local_instr i f.position) h.at in
+    subst IsEnabled (sym (local_is program s f 1 a (omega arith))) (rw here (
+    enabled-bind (local_steps 1 h.p.code f.position) _ (enabled-bind (local_step h.p.code f.position) _ (subst IsEnabled (sym one) (local_one h.i f.position h.local)) (λ at _. tt)) (λ at _. tt)))
 
 -- ---- a call
 
@@ -235,15 +285,23 @@ module _ (program : List Procedure) (s : State) (f : Frame) (a : IsAlone s f) wh
 
 -- ---- whichever event comes next
 
+single_enabled : (program : List Procedure) (s : State) (f : Frame) (event : Event) → IsAlone s f → IsSingle program f event → IsEnabled (step program run_layout event s)
+single_enabled program s f event a (inl h) = subst (λ (e : Event). IsEnabled (step program run_layout e s)) (sym h.0) (one_enabled program s f a h.1)
+single_enabled program s f event a (inr (inl h)) = subst (λ (e : Event). IsEnabled (step program run_layout e s)) (sym h.0) (call_enabled program s f a h.1)
+single_enabled program s f event a (inr (inr h)) = subst (λ (e : Event). IsEnabled (step program run_layout e s)) (sym h.0) (end_enabled program s f a h.1)
+
 pub next_enabled : (program : List Procedure) (s : State) (f : Frame) (event : Event) → IsAlone s f → IsNext program f event → IsEnabled (step program run_layout event s)
-next_enabled program s f event a (inl h) = subst (λ (e : Event). IsEnabled (step program run_layout e s)) (sym h.1) (local_enabled program s f h.0 a h.2)
-next_enabled program s f event a (inr (inl h)) = subst (λ (e : Event). IsEnabled (step program run_layout e s)) (sym h.0) (call_enabled program s f a h.1)
-next_enabled program s f event a (inr (inr h)) = subst (λ (e : Event). IsEnabled (step program run_layout e s)) (sym h.0) (end_enabled program s f a h.1)
+next_enabled program s f event a (inl (n, some, is, h)) = let go = h.go some in subst (λ (e : Event). IsEnabled (step program run_layout e s)) (sym is) (local_enabled program s f n a some go.0 go.1)
+next_enabled program s f event a (inr h) = single_enabled program s f event a h
+
+single_leaves : (program : List Procedure) (s t : State) (f : Frame) (event : Event) → IsAlone s f → IsSingle program f event → step program run_layout event s ≡ Went t → ((g : Frame) × IsAlone t g) ⊎ IsDone t
+single_leaves program s t f event a (inl h) e = inl (local_leaves program s f 1 a (omega arith) t (ap (λ (v : Event). step program run_layout v s) (sym h.0) ∙ e))
+single_leaves program s t f event a (inr (inl h)) e = inl (call_leaves program s f a t (ap (λ (v : Event). step program run_layout v s) (sym h.0) ∙ e))
+single_leaves program s t f event a (inr (inr h)) e = inr (end_leaves program s f a h.1 t (ap (λ (v : Event). step program run_layout v s) (sym h.0) ∙ e))
 
 pub next_leaves : (program : List Procedure) (s t : State) (f : Frame) (event : Event) → IsAlone s f → IsNext program f event → step program run_layout event s ≡ Went t → ((g : Frame) × IsAlone t g) ⊎ IsDone t
-next_leaves program s t f event a (inl h) e = inl (local_leaves program s f h.0 a h.2 t (ap (λ (v : Event). step program run_layout v s) (sym h.1) ∙ e))
-next_leaves program s t f event a (inr (inl h)) e = inl (call_leaves program s f a t (ap (λ (v : Event). step program run_layout v s) (sym h.0) ∙ e))
-next_leaves program s t f event a (inr (inr h)) e = inr (end_leaves program s f a h.1 t (ap (λ (v : Event). step program run_layout v s) (sym h.0) ∙ e))
+next_leaves program s t f event a (inl (n, some, is, h)) e = inl (local_leaves program s f n a some t (ap (λ (v : Event). step program run_layout v s) (sym is) ∙ e))
+next_leaves program s t f event a (inr h) e = single_leaves program s t f event a h e
 
 -- ---- the ending
 

@@ -16,7 +16,7 @@ use Rattle.tw_code.specs.Opening.{opening}
 use Rattle.tw_main.specs.declared.run.RunEnd.{RunEnd}
 use Rattle.tw_main.specs.declared.run.RunEnd.TheVariants as run_end
 use Rattle.tw_main.specs.Run.{IsRun, run_layout}
-use Rattle.tw_main.specs.Driving.{engine, IsAlone, IsDone, IsDriven, IsNext}
+use Rattle.tw_main.specs.Driving.{engine, IsAlone, IsDone, IsDriven, IsNext, most_steps}
 use Rattle.tw_main.proofs.Never.{IsEnabled}
 use Rattle.tw_main.proofs.Driving.{take_enabled, take_leaves, next_enabled, next_leaves, alone_goes_on, done_is_quiet}
 use Rattle.tw_main.proofs.Runs.{run_more}
@@ -63,7 +63,7 @@ module _ (program : List Procedure) (layout : ActorCounts) (s : State) (one : la
         long = refl;
         frame = alone.0;
         alone = alone.1;
-        below = below_larger (64 + 1) (64 + 1 * 4096) t (omega arith) below;
+        below = below_larger (64 + 1) (64 + 1 * most_steps) t (omega arith) below;
       }
     where
       by_main : (program : List Procedure) (t : State) → 0 < length program → step program run_layout (Take engine) (opening program []) ≡ Went t → (f : Frame) × IsAlone t f
@@ -95,7 +95,7 @@ module _ (program : List Procedure) (layout : ActorCounts) (made : ℕ) (s : Sta
   longer : (t : State) → step program layout event s ≡ Went t → run program run_layout (d.history ++ event ∷ []) (opening program []) ≡ Went t
   longer t e = run_more program run_layout d.history event (opening program []) s t d.reaches (sym as_laid_out ∙ e)
 
-  pub go_on : (t : State) → step program layout event s ≡ Went t → ending t ≡ None → size_of event ≤ 4096 → AreBelow (64 + made * 4096 + size_of event) t → IsDriven program (made + 1) t
+  pub go_on : (t : State) → step program layout event s ≡ Went t → ending t ≡ None → size_of event ≤ most_steps → AreBelow (64 + made * most_steps + size_of event) t → IsDriven program (made + 1) t
   go_on t e none few below = by_end (next_leaves program s t f event alone_with next (sym as_laid_out ∙ e))
     where
       by_end : ((g : Frame) × IsAlone t g) ⊎ IsDone t → IsDriven program (made + 1) t
@@ -105,7 +105,7 @@ module _ (program : List Procedure) (layout : ActorCounts) (made : ℕ) (s : Sta
         long = omega (arith, length-append d.history (event ∷ []), d.long);
         frame = a.0;
         alone = a.1;
-        below = below_larger (64 + made * 4096 + size_of event) (64 + (made + 1) * 4096) t (omega arith) below;
+        below = below_larger (64 + made * most_steps + size_of event) (64 + (made + 1) * most_steps) t (omega arith) below;
       }
       by_end (inr done) = absurd (none_is_some Quiet (sym none ∙ done_is_quiet t done))
 

@@ -1,8 +1,12 @@
 -- The command line: what clap is told of it, and what the words then ask for.
-use Rattle.std.specs.Prelude.{true, List, Option, Some, None, codes}
+use Rattle.std.specs.Prelude.{true, List, Option, Some, None, codes, bytes_eq, if◌then◌else◌}
 use Rattle.clap.specs.Words.{App, Kinds, Row, Text, fault_of, new_app, subcommand_of, with_subcommand}
 use Rattle.tw_main.specs.declared.command.Order.{Order}
-use Rattle.tw_main.specs.declared.command.Order.TheVariants.{Run}
+use Rattle.tw_main.specs.declared.command.Order.TheVariants.{Check, Run}
+
+-- `check`, without options
+abbrev pub check_line : App
+check_line = new_app (codes "check")
 
 -- `run`, without options
 abbrev pub run_line : App
@@ -20,12 +24,12 @@ bare_line = record (new_app (codes "tw")) {
 
 -- the whole command line
 unfoldable pub command_line : App
-command_line = with_subcommand bare_line run_line.top
+command_line = with_subcommand (with_subcommand bare_line check_line.top) run_line.top
 
--- the command that was named; there is one today
+-- the command that was named
 abbrev pub asked_of : Option (Text × List Row) → Order
 asked_of None = Run
-asked_of (Some named) = Run
+asked_of (Some named) = if bytes_eq named.0 (codes "check") then Check else Run
 
 -- what the program's words ask for
 abbrev pub asked_by_words : List Text → Order

@@ -8,11 +8,13 @@ use Rattle.tw_types.specs.declared.event.Event.TheVariants.{Local, Call, End}
 use Rattle.tw_types.specs.Outcome.{Outcome, Went, NotEnabled, Trap}
 use Rattle.tw_code.specs.declared.procedure.Procedure.{Procedure}
 use Rattle.tw_code.specs.declared.instr.Instr.{Instr}
-use Rattle.tw_code.specs.declared.instr.Instr.TheVariants as instr
 use Rattle.tw_code.specs.Flow.{flow_of}
+use Rattle.tw_code.specs.Position.{is_local}
+use Rattle.tw_code.specs.Structure.{is_stop}
 use Rattle.tw_code.specs.Bounds.{AreBelow}
-use Rattle.tw_code.specs.Machine.{State, Frame, is_stop, run}
+use Rattle.tw_code.specs.Machine.{State, Frame, run}
 use Rattle.tw_code.specs.Opening.{opening}
+use Rattle.tw_machine.specs.Stretch.{IsStretch}
 use Rattle.tw_main.specs.declared.run.RunEnd.{RunEnd}
 use Rattle.tw_main.specs.Run.{IsRun, run_layout}
 
@@ -30,23 +32,19 @@ pub record IsDone (s : State) : Type 0 where
   pub no_task : fin.len s.tasks ≡ 0
   pub no_frame : fin.len s.frames ≡ 0
 
-abbrev pub is_local : Instr → Bool
-is_local (instr.Int to n) = true
-is_local (instr.Store datum from) = false
-is_local instr.Ret = false
+-- what the driver takes a stretch to have at most
+abbrev pub most_steps : ℕ
+most_steps = 1000000000
 
--- so many instructions from this place on are local
-abbrev pub AreLocal : List Instr → ℕ → ℕ → Type 0
-AreLocal code place n = (k : ℕ) → k < n → (i : Instr) × (slice_get code (place + k) ≡ Some i) × (is_local i ≡ true)
-
--- local instructions one after the other; a call, where neither a local instruction nor RET comes; or the end
-pub record IsStretch (program : List Procedure) (f : Frame) (n : ℕ) : Type 0 where
+-- the next instruction is local
+pub record IsLocalNext (program : List Procedure) (f : Frame) : Type 0 where
   pub p : Procedure
+  pub i : Instr
   pub here : slice_get program f.procedure ≡ Some p
-  pub some : 0 < n
-  pub few : n ≤ 4096
-  pub are_local : AreLocal p.code f.position.place n
+  pub at : slice_get p.code f.position.place ≡ Some i
+  pub local : is_local i ≡ true
 
+-- it is RET
 pub record IsEnd (program : List Procedure) (f : Frame) : Type 0 where
   pub p : Procedure
   pub i : Instr
@@ -54,14 +52,17 @@ pub record IsEnd (program : List Procedure) (f : Frame) : Type 0 where
   pub at : slice_get p.code f.position.place ≡ Some i
   pub stops : is_stop (flow_of i) ≡ true
 
+-- it is neither
 abbrev pub IsCall : List Procedure → Frame → Type 0
 IsCall program f = (p : Procedure) (i : Instr) → slice_get program f.procedure ≡ Some p → slice_get p.code f.position.place ≡ Some i → (is_local i ≡ false) × (is_stop (flow_of i) ≡ false)
 
--- the event that comes next for the engine's frame
+-- the event where no local instruction goes: a local one, which traps; a call; or the end
+abbrev pub IsSingle : List Procedure → Frame → Event → Type 0
+IsSingle program f event = ((event ≡ Local engine 1) × IsLocalNext program f) ⊎ (((event ≡ Call engine) × IsCall program f) ⊎ ((event ≡ End engine) × IsEnd program f))
+
+-- the event that comes next for the engine's frame: all the local instructions that go, in one stretch; or a single one
 abbrev pub IsNext : List Procedure → Frame → Event → Type 0
-IsNext program f event =
-    ((n : ℕ) × (event ≡ Local engine n) × IsStretch program f n)
-    ⊎ (((event ≡ Call engine) × IsCall program f) ⊎ ((event ≡ End engine) × IsEnd program f))
+IsNext program f event = ((n : ℕ) × (0 < n) × (event ≡ Local engine n) × IsStretch program f most_steps n) ⊎ IsSingle program f event
 
 -- some history of so many events leads to this state, in which the engine runs main alone
 pub record IsDriven (program : List Procedure) (made : ℕ) (s : State) : Type 0 where
@@ -70,7 +71,7 @@ pub record IsDriven (program : List Procedure) (made : ℕ) (s : State) : Type 0
   pub long : length history ≡ made
   pub frame : Frame
   pub alone : IsAlone s frame
-  pub below : AreBelow (64 + made * 4096) s
+  pub below : AreBelow (64 + made * most_steps) s
 
 -- what is known after an event: how the run has ended, or that it goes on
 abbrev pub IsAdvanced : List Procedure → ℕ → State → Option RunEnd → Type 0

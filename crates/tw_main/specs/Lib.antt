@@ -4,6 +4,7 @@ pub mod Input
 pub mod Status
 pub mod Lines
 pub mod Report
+pub mod Check
 pub mod Run
 pub mod Driving
 pub mod Session

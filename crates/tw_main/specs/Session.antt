@@ -13,7 +13,7 @@ use Rattle.tw_code.specs.Machine.{State}
 use Rattle.tw_code.specs.Opening.{is_write, main_params}
 use Rattle.tw_code.specs.WellTyped.{IsAccepted, IsFirstRefusal}
 use Rattle.tw_main.specs.declared.command.Order.{Order}
-use Rattle.tw_main.specs.declared.command.Order.TheVariants.{Run}
+use Rattle.tw_main.specs.declared.command.Order.TheVariants.{Check, Run}
 use Rattle.tw_main.specs.declared.status.Close.{Close}
 use Rattle.tw_main.specs.declared.status.Close.TheVariants.{Success, Refused, Limit, Trapped}
 use Rattle.tw_main.specs.declared.status.Status.{Status}
@@ -24,6 +24,7 @@ use Rattle.tw_main.specs.declared.run.RunEnd.TheVariants as run_end
 use Rattle.tw_main.specs.Input.{most_bytes, digits_in}
 use Rattle.tw_main.specs.Lines.{fault_line, verify_line, opening_line, trap_line}
 use Rattle.tw_main.specs.Report.{report}
+use Rattle.tw_main.specs.Check.{IsCheckText}
 use Rattle.tw_main.specs.Run.{IsRun}
 
 -- the text that is written, and how the session ends
@@ -54,31 +55,35 @@ has_inputs program = not (list_all (λ (p : Param). is_write p.mode) (main_param
 abbrev pub RepliesByOpening : List Procedure → Reply → Type 0
 RepliesByOpening program r = MatchBool (has_inputs program) (r ≡ reply (opening_line 1) Refused) (RepliesByRun program r)
 
--- the program is accepted and opened, or it is refused, and this is the first refusal
-abbrev pub RepliesByProgram : List Procedure → Reply → Type 0
-RepliesByProgram program r =
-    (IsAccepted program × RepliesByOpening program r)
+abbrev pub RepliesByCheck : List Procedure → Reply → Type 0
+RepliesByCheck program r = (text : List ℕ) × IsCheckText program text × (r ≡ reply text Success)
+
+-- an accepted program is checked, or opened and run
+abbrev pub RepliesByAccepted : Order → List Procedure → Reply → Type 0
+RepliesByAccepted Check program r = RepliesByCheck program r
+RepliesByAccepted Run program r = RepliesByOpening program r
+
+-- the program is accepted; or it is refused, and this is the first refusal
+abbrev pub RepliesByProgram : Order → List Procedure → Reply → Type 0
+RepliesByProgram order program r =
+    (IsAccepted program × RepliesByAccepted order program r)
     ⊎ ((number : ℕ) × (procedure : ℕ) × (place : ℕ) × IsFirstRefusal program number procedure place × (r ≡ reply (verify_line number procedure place) Refused))
 
 -- ---- the bytes
 
 -- the bytes spell a program, or have a first fault
-abbrev pub RepliesByBytes : Result (List Procedure) Fault → Reply → Type 0
-RepliesByBytes (Ok program) r = RepliesByProgram program r
-RepliesByBytes (Err f) r = r ≡ reply (fault_line (fault.number_of f.no) f.offset) Refused
+abbrev pub RepliesByBytes : Order → Result (List Procedure) Fault → Reply → Type 0
+RepliesByBytes order (Ok program) r = RepliesByProgram order program r
+RepliesByBytes order (Err f) r = r ≡ reply (fault_line (fault.number_of f.no) f.offset) Refused
 
 -- the text is hex digits, two a byte, or isn't
-abbrev pub RepliesByText : Result (List ℕ) FromHexError → Reply → Type 0
-RepliesByText (Ok bytes) r = RepliesByBytes (program_of bytes) r
-RepliesByText (Err e) r = r ≡ reply (codes "refused H01\n") Refused
+abbrev pub RepliesByText : Order → Result (List ℕ) FromHexError → Reply → Type 0
+RepliesByText order (Ok bytes) r = RepliesByBytes order (program_of bytes) r
+RepliesByText order (Err e) r = r ≡ reply (codes "refused H01\n") Refused
 
--- too much input is refused before it is looked at
-abbrev pub RepliesByInput : List ℕ → Reply → Type 0
-RepliesByInput input r = MatchBool (nat_lt most_bytes (length input)) (r ≡ reply (codes "refused H02\n") Refused) (RepliesByText (decode_of (digits_in input)) r)
-
--- what a session may answer to an order and the bytes that it reads
+-- what a session may answer to an order and the bytes that it reads: too much input is refused before it is looked at
 abbrev pub MayReply : Order → List ℕ → Reply → Type 0
-MayReply Run input r = RepliesByInput input r
+MayReply order input r = MatchBool (nat_lt most_bytes (length input)) (r ≡ reply (codes "refused H02\n") Refused) (RepliesByText order (decode_of (digits_in input)) r)
 
 -- some such reply is written, and the status is its
 abbrev pub IsReplied : Order → List ℕ → Status → Option (List ℕ) → Option (List ℕ) → Type 0

@@ -3,7 +3,7 @@
 ghost use Rattle.std.specs.Prelude.{◌≡◌, false, [], map, IfOk, IfErr, string_bytes};
 ghost use Rattle.clap.specs.Words.{app_of, kind_of, subcommand_rows_of};
 ghost use Rattle.clap.specs.declared.Command.TheViews.{out-Command};
-ghost use Rattle.tw_main.specs.CommandLine.{asked_by_words, asked_of, command_line, run_line, word_faults};
+ghost use Rattle.tw_main.specs.CommandLine.{asked_by_words, asked_of, check_line, command_line, run_line, word_faults};
 ghost use Rattle.tw_main.specs.Order.{HasReason, IsReason};
 ghost use Rattle.tw_main.specs.declared.command.NoOrder.TheVariants.{NoMemory};
 
@@ -19,9 +19,18 @@ The program is read from standard input as hex text: two digits a byte; spaces, 
 The report has a line for each output, and then how the run ended. Exit status: 0 quiet, 1 refused, 2 command line
 refused, 4 event limit, 5 memory ran out, 6 trap, 7 a read or write failed.";
 
+const CHECK_ABOUT: &str = "Verifies a program and reports its budgets.
+
+The program is read from standard input as hex text: two digits a byte; spaces, tabs and line ends are skipped.
+Where it is accepted, a line for each procedure tells how many instructions a task of it does at most, and a last
+line how many engines and workers its targets need. Exit status: 0 accepted, 1 refused, 2 command line refused,
+5 memory ran out, 7 a read or write failed.";
+
 /// What the words ask for.
 #[derive(Clone, Copy, Debug, PartialEq, Eq)]
 pub enum Order {
+    /// Verify the program that is read.
+    Check,
     /// Run the program that is read.
     Run,
 }
@@ -43,6 +52,13 @@ impl From<AllocError> for NoOrder {
     }
 }
 
+fn check_command<'a>(alloc: Global) -> Command<'a>
+    ensures app { app_of result ≡ check_line }
+    ensures local { (out-Command result).has_globals ≡ false }
+{
+    Command::new(alloc, "check").about(CHECK_ABOUT)
+}
+
 fn run_command<'a>(alloc: Global) -> Command<'a>
     ensures app { app_of result ≡ run_line }
     ensures local { (out-Command result).has_globals ≡ false }
@@ -59,7 +75,8 @@ fn command<'a>(alloc: Global) -> Result<Command<'a>, AllocError>
         .disable_help_subcommand(true)
         .subcommand_required(true);
     let named = bare.bin_name("tw")?;
-    let whole = named.subcommand(run_command(alloc))?;
+    let checking = named.subcommand(check_command(alloc))?;
+    let whole = checking.subcommand(run_command(alloc))?;
     Ok(whole)
 }
 
@@ -76,10 +93,13 @@ fn reason_of(alloc: Global, error: &Error) -> NoOrder
     }
 }
 
-fn order_of(_matches: &ArgMatches<'_>) -> Order
-    ensures { result ≡ asked_of (subcommand_rows_of _matches.now) }
+fn order_of(matches: &ArgMatches<'_>) -> Order
+    ensures { result ≡ asked_of (subcommand_rows_of matches.now) }
 {
-    Order::Run
+    match matches.subcommand_name() {
+        Some("check") => Order::Check,
+        _ => Order::Run,
+    }
 }
 
 /// Reads the order from the program's words, without its own name.

@@ -1,6 +1,7 @@
 //! The command `tw`.
 #![tactic(auto)]
 
+mod check;
 mod command;
 mod input;
 mod laws;

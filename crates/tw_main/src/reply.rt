@@ -2,7 +2,7 @@
 
 ghost use Rattle.std.specs.Prelude.{◌≡◌, ◌<◌, ◌≤◌, length, IfErr, IfOk, IfSome, string_bytes};
 ghost use Rattle.std.specs.Io.KnownBytes.{Keeps};
-ghost use Rattle.tw_main.specs.Session.{MayReply, RepliesByBytes, RepliesByOpening, RepliesByProgram, RepliesByRun, RepliesByText, reply, run_reply};
+ghost use Rattle.tw_main.specs.Session.{MayReply, RepliesByAccepted, RepliesByBytes, RepliesByOpening, RepliesByProgram, RepliesByRun, RepliesByText, reply, run_reply};
 ghost use Rattle.tw_main.specs.Input.{digits_in, most_bytes};
 ghost use Rattle.tw_main.specs.Run.{IsRun};
 ghost use Rattle.tw_main.specs.declared.reply.NoReply.TheVariants.{NoMemory};
@@ -10,6 +10,7 @@ ghost use Rattle.tw_code.specs.Reading.{program_of};
 ghost use Rattle.tw_code.specs.WellTyped.{IsAccepted};
 ghost use Rattle.hex.specs.Hex.{decode_of};
 
+use crate::check::check_text;
 use crate::command::Order;
 use crate::input::{NoInput, digits, read_input};
 use crate::lines::{put, put_fault_line, put_opening_line, put_trap_line, put_verify_line};
@@ -22,7 +23,7 @@ use std::io::Read;
 use tw_code::{FaultNo, Program, decode};
 use tw_machine::{OpenRefusal, Plain, State};
 use tw_types::Layout;
-use tw_verify::{VerifyRefusal, verify};
+use tw_verify::{Verified, VerifyRefusal, verify};
 
 /// What a session writes, and how it ends.
 #[derive(Debug, Drop)]
@@ -103,12 +104,26 @@ fn opened_reply(alloc: Global, program: Program) -> Result<Reply, AllocError>
     }
 }
 
-/// Verifies a program, and runs it if it is accepted.
-fn program_reply(alloc: Global, program: Program) -> Result<Reply, AllocError>
-    ensures { IfOk result (λ r. RepliesByProgram program (reply r.text.items r.close)) }
+/// Does what is ordered with an accepted program.
+fn accepted_reply(alloc: Global, order: Order, verified: Verified) -> Result<Reply, AllocError>
+    requires { IsAccepted verified }
+    ensures { IfOk result (λ r. RepliesByAccepted order verified (reply r.text.items r.close)) }
+{
+    match order {
+        Order::Check => Ok(Reply {
+            text: check_text(alloc, &verified)?,
+            close: Close::Success,
+        }),
+        Order::Run => opened_reply(alloc, verified.into_program()),
+    }
+}
+
+/// Verifies a program, and does what is ordered if it is accepted.
+fn program_reply(alloc: Global, order: Order, program: Program) -> Result<Reply, AllocError>
+    ensures { IfOk result (λ r. RepliesByProgram order program (reply r.text.items r.close)) }
 {
     match verify(alloc, program) {
-        Ok(verified) => opened_reply(alloc, verified.into_program()),
+        Ok(verified) => accepted_reply(alloc, order, verified),
         Err(refused) => match refused.no {
             VerifyRefusal::Memory => Err(AllocError),
             no => {
@@ -129,12 +144,12 @@ fn program_reply(alloc: Global, program: Program) -> Result<Reply, AllocError>
     }
 }
 
-/// Decodes bytes, and runs the program that they spell.
-fn bytes_reply(alloc: Global, bytes: &[u8]) -> Result<Reply, AllocError>
-    ensures { IfOk result (λ r. RepliesByBytes (program_of bytes.now) (reply r.text.items r.close)) }
+/// Decodes bytes, and does what is ordered with the program that they spell.
+fn bytes_reply(alloc: Global, order: Order, bytes: &[u8]) -> Result<Reply, AllocError>
+    ensures { IfOk result (λ r. RepliesByBytes order (program_of bytes.now) (reply r.text.items r.close)) }
 {
     match decode(alloc, bytes) {
-        Ok(program) => program_reply(alloc, program),
+        Ok(program) => program_reply(alloc, order, program),
         Err(fault) => match fault.no {
             FaultNo::Memory => Err(AllocError),
             no => {
@@ -150,11 +165,11 @@ fn bytes_reply(alloc: Global, bytes: &[u8]) -> Result<Reply, AllocError>
 }
 
 /// Turns hex text into bytes, and answers to these.
-fn text_reply(alloc: Global, input: Vec<u8>) -> Result<Reply, AllocError>
-    ensures { IfOk result (λ r. RepliesByText (decode_of (digits_in input.items)) (reply r.text.items r.close)) }
+fn text_reply(alloc: Global, order: Order, input: Vec<u8>) -> Result<Reply, AllocError>
+    ensures { IfOk result (λ r. RepliesByText order (decode_of (digits_in input.items)) (reply r.text.items r.close)) }
 {
     match hex::decode(alloc, digits(input)) {
-        Ok(bytes) => bytes_reply(alloc, &bytes),
+        Ok(bytes) => bytes_reply(alloc, order, &bytes),
         Err(FromHexError::OutOfMemory) => Err(AllocError),
         Err(_) => fixed_reply(alloc, "refused H01\n", Close::Refused),
     }
@@ -164,9 +179,8 @@ fn text_reply(alloc: Global, input: Vec<u8>) -> Result<Reply, AllocError>
 pub fn make_reply<R: Read>(alloc: Global, order: Order, reader: &mut R) -> Result<Reply, NoReply>
     ensures { IfOk result (λ r. IfSome (R.remaining reader.old) (λ input. MayReply order input (reply r.text.items r.close))) }
 {
-    let Order::Run = order;
     match read_input(alloc, reader) {
-        Ok(input) => Ok(text_reply(alloc, input)?),
+        Ok(input) => Ok(text_reply(alloc, order, input)?),
         Err(NoInput::TooLong) => Ok(fixed_reply(alloc, "refused H02\n", Close::Refused)?),
         Err(NoInput::Failed) => Err(NoReply::ReadFailed),
         Err(NoInput::NoMemory) => Err(NoReply::NoMemory),

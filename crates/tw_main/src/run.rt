@@ -4,11 +4,11 @@ ghost use Rattle.std.specs.Prelude.{◌≡◌, ◌<◌, ◌≤◌, ◌+◌, ℕ,
 ghost use Rattle.tw_code.specs.Bounds.{AreBelow, size_of};
 ghost use Rattle.tw_code.specs.Opening.{opening};
 ghost use Rattle.tw_code.specs.Program.{IsProgram};
-ghost use Rattle.tw_main.specs.Driving.{AreLocal, IsAdvanced, IsDriven, IsNext, is_local};
+ghost use Rattle.tw_main.specs.Driving.{IsAdvanced, IsDriven, IsNext, IsSingle, most_steps};
 ghost use Rattle.tw_main.specs.Run.{IsRun, run_layout};
 
 use std::alloc::{AllocError, Global};
-use tw_code::{Flow, Instr, Procedure};
+use tw_code::{Flow, Procedure};
 use tw_machine::{Frame, Plain, Stepped};
 use tw_types::{Actor, Cause, Event};
 
@@ -26,51 +26,43 @@ pub enum RunEnd {
 /// The most events of a run.
 const EVENT_LIMIT: usize = 10_000;
 
+/// The most local instructions of one event.
+const MOST_STEPS: u64 = 1_000_000_000;
+
 const ENGINE: Actor = Actor::Engine(0);
 
-fn is_local(instr: &Instr) -> bool
-    ensures { result ≡ is_local instr.now }
-{
-    matches!(instr, Instr::Int { .. })
-}
-
-/// How many local instructions stand one after the other from a place on.
-fn stretch(code: &[Instr], place: usize) -> usize
-    requires { place ≤ length code.now }
-    ensures within { place + result ≤ length code.now }
-    ensures local { AreLocal code.now place result }
-{
-    let rest = &code[place..];
-    let mut n = 0;
-    for instr in rest {
-        if !is_local(instr) {
-            break;
-        }
-        n += 1;
-    }
-    n
-}
-
-/// The event that comes next for a frame of the engine.
-fn next_event(program: &[Procedure], frame: &Frame) -> Event
+/// The event where no local instruction goes.
+fn single_event(program: &[Procedure], frame: &Frame) -> Event
     requires { IsProgram program.now }
-    ensures next { IsNext program.now frame.now result }
-    ensures size { size_of result ≤ 4096 }
+    ensures single { IsSingle program.now frame.now result }
+    ensures size { size_of result ≡ 1 }
 {
     let Some(procedure) = program.get(usize::from(frame.procedure())) else {
         return Event::Call(ENGINE);
     };
-    let code = procedure.code.as_slice();
-    let place = frame.place();
-    let Some(instr) = code.get(place) else {
+    let Some(instr) = procedure.code.as_slice().get(frame.place()) else {
         return Event::Call(ENGINE);
     };
-    if is_local(instr) {
-        return Event::Local(ENGINE, 1 + stretch(code, place + 1) as u64);
+    if instr.is_local() {
+        return Event::Local(ENGINE, 1);
     }
-    match instr.flow() {
-        Flow::Straight => Event::Call(ENGINE),
-        Flow::Stop => Event::End(ENGINE),
+    if instr.flow() == Flow::Stop {
+        return Event::End(ENGINE);
+    }
+    Event::Call(ENGINE)
+}
+
+/// The event that comes next for a frame of the engine.
+fn next_event(alloc: Global, program: &[Procedure], frame: &Frame) -> Result<Event, AllocError>
+    requires { IsProgram program.now }
+    ensures next { IfOk result (IsNext program.now frame.now) }
+    ensures size { IfOk result (λ event. size_of event ≤ most_steps) }
+{
+    let steps = frame.local_steps(alloc, program, MOST_STEPS)?;
+    if steps > 0 {
+        Ok(Event::Local(ENGINE, steps))
+    } else {
+        Ok(single_event(program, frame))
     }
 }
 
@@ -104,7 +96,7 @@ fn advance(alloc: Global, plain: &mut Plain, made: usize) -> Result<Option<RunEn
     let Some(frame) = plain.state().frame(ENGINE) else {
         unreachable!();
     };
-    let event = next_event(plain.program().procedures(), frame);
+    let event = next_event(alloc, plain.program().procedures(), frame)?;
     match plain.step(alloc, event) {
         Stepped::Went => {}
         Stepped::NotEnabled => unreachable!(),

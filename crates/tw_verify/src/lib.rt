@@ -1,20 +1,25 @@
 //! The verifier: which programs are accepted, and why another isn't.
 //!
-//! An accepted program has a list of typings for each procedure, which says what every right register holds at
-//! every place; a refused one comes back with its first refusal.
+//! An accepted program has for each procedure a list of typings, which says what every right register holds at every
+//! place, and a budget, how many instructions a task may do; a refused one comes back with its first refusal.
 #![tactic(auto)]
 
 mod fault;
+mod findings;
+mod laws;
+mod loops;
 mod params;
 mod pass;
 mod questions;
 mod refusal;
+mod rows;
 mod shape;
 mod structure;
 mod typing;
 mod verified;
 mod verifier;
 
+pub use laws::no_trap;
 pub use refusal::{Refused, VerifyRefusal};
 pub use typing::{Right, Typing};
 pub use verified::Verified;

@@ -1,30 +1,79 @@
 //! The passes over one procedure.
 
-ghost use Rattle.std.specs.Prelude.{◌≡◌, length, IfOk, IfErr, OnOk};
-ghost use Rattle.tw_code.specs.declared.flow.Way.TheVariants.{Done};
-ghost use Rattle.tw_code.specs.Flow.{flow_of};
+ghost use Rattle.std.specs.Prelude.{◌≡◌, ℕ, false, ◌≤◌, ◌<◌, ◌^◌, Some, length, slice_get, IsTrue, IfOk, IfErr, OnOk};
+ghost use Rattle.std.specs.Option.{option_map};
+ghost use Rattle.tw_code.specs.Flow.{flows};
 ghost use Rattle.tw_code.specs.Program.{IsInstr, IsProcedure};
-ghost use Rattle.tw_code.specs.Typing.{after};
-ghost use Rattle.tw_code.specs.WellTyped.{IsStructured, IsWellTyped, IsTypingRefusal, IsProcedureRefusal};
-ghost use Rattle.tw_verify.specs.Passes.{IfFault, carried};
+ghost use Rattle.tw_code.specs.Question.{refusal_in};
+ghost use Rattle.tw_code.specs.Structure.{IsStructured};
+ghost use Rattle.tw_code.specs.Typing.{Typing, asks_at};
+ghost use Rattle.tw_code.specs.Walk.{IsBudget, greatest_budget};
+ghost use Rattle.tw_code.specs.WellTyped.{IsEndOf, IsWellTyped, IsTypingRefusal, IsBudgetRefusal, IsProcedureRefusal};
+ghost use Rattle.tw_verify.specs.Loops.{AreLoops};
+ghost use Rattle.tw_verify.specs.Passes.{IfFault, HasChanged, lowest_at};
+ghost use Rattle.tw_verify.specs.Refusal.{number_of};
+ghost use Rattle.tw_verify.specs.Verified.{AreFindings};
 
 use crate::fault::{Fault, keep};
-use crate::questions::place_refusal;
+use crate::findings::Findings;
+use crate::loops::Loops;
+use crate::questions::{lowest, place_refusal};
 use crate::refusal::VerifyRefusal;
+use crate::rows::{Reached, first_rows, row_at, send_both};
 use crate::structure::ask_structure;
 use crate::typing::Typing;
 use std::alloc::Global;
-use tw_code::{Flow, Instr, Procedure, Way};
+use tw_budget::{BudgetRefusal, budgets};
+use tw_code::{Instr, Procedure};
+use tw_types::Items;
 
-/// The typing with which an instruction goes on to the next place, if it does.
-fn carry(procedures: &[Procedure], instr: &Instr, typing: Typing) -> Option<Typing>
-    requires { IsInstr instr.now }
-    ensures { result ≡ carried (flow_of instr.now) (after procedures.now Done instr.now typing) }
+fn typing_at(typings: &[Typing], place: usize) -> Option<Typing>
+    ensures { result ≡ slice_get typings.now place }
 {
-    match instr.flow() {
-        Flow::Straight => Some(typing.after(procedures, Way::Done, instr)),
-        Flow::Stop => None,
+    typings.get(place).copied()
+}
+
+/// Whether the END at a place is reached with another typing than its loop's first place has.
+fn is_changed(
+    code: &[Instr],
+    loops: &Loops,
+    typings: &[Typing],
+    place: usize,
+    typing: &Typing,
+) -> bool
+    requires known { AreLoops code.now loops.now }
+    requires within { place < length code.now }
+    ensures found { IsTrue result → HasChanged code.now typings.now place typing.now }
+    ensures all { (first : ℕ) (begun : Typing) → result ≡ false → IsEndOf code.now first place
+        → slice_get typings.now first ≡ Some begun → typing.now ≡ begun }
+{
+    let Some(first) = loops.first(code, place) else {
+        return false;
+    };
+    match typing_at(typings, first) {
+        Some(begun) => !typing.is_same(&begun),
+        None => false,
     }
+}
+
+/// The lowest number that is refused at a place that is reached.
+fn typing_refusal(
+    procedures: &[Procedure],
+    procedure: &Procedure,
+    place: usize,
+    instr: &Instr,
+    reached: &Reached,
+    changed: bool,
+) -> Option<VerifyRefusal>
+    requires { IsInstr instr.now }
+    ensures { option_map number_of result ≡ lowest_at
+        (refusal_in (asks_at procedures.now procedure.now place instr.now reached.now.typing))
+        reached.now.differs changed }
+{
+    let own = place_refusal(procedures, procedure, place, instr, &reached.typing);
+    let differs = reached.differs.then_some(VerifyRefusal::TypingsDiffer);
+    let changed = changed.then_some(VerifyRefusal::TypingChanged);
+    lowest(lowest(own, differs), changed)
 }
 
 /// The typing of each place, by one pass from the first place to the last.
@@ -32,46 +81,76 @@ fn typings(
     alloc: Global,
     procedures: &[Procedure],
     procedure: &Procedure,
+    loops: &Loops,
 ) -> Result<Vec<Typing>, Fault>
-    requires { IsProcedure procedure.now }
+    requires operands { IsProcedure procedure.now }
+    requires known { AreLoops procedure.now.code loops.now }
     ensures accepted { IfOk result
         (λ typings. IsWellTyped procedures.now procedure.now
         typings.items (length procedure.now.code)) }
     ensures refused { IfErr result
         (λ fault. IfFault fault (IsTypingRefusal procedures.now procedure.now)) }
 {
+    let code = procedure.code.as_slice();
+    let mut rows = first_rows(
+        alloc,
+        code.len(),
+        Typing::start(procedure.params.as_slice()),
+    )?;
     let mut all = Vec::new(alloc);
-    let mut reached = Some(Typing::start(procedure.params.as_slice()));
-    for (place, instr) in procedure.code.as_slice().iter().enumerate() {
-        let Some(typing) = reached else {
+    for (place, instr) in code.iter().enumerate() {
+        let Some(reached) = row_at(&rows, place) else {
             return Err(Fault::At {
                 no: VerifyRefusal::Unreached,
                 place,
             });
         };
-        if let Some(no) = place_refusal(procedures, procedure, place, instr, &typing) {
+        let changed = is_changed(code, loops, &all, place, &reached.typing);
+        if let Some(no) = typing_refusal(procedures, procedure, place, instr, &reached, changed) {
             return Err(Fault::At { no, place });
         }
-        keep(&mut all, typing)?;
-        reached = carry(procedures, instr, typing);
+        keep(&mut all, reached.typing)?;
+        send_both(&mut rows, procedures, place, instr, reached.typing);
     }
     Ok(all)
 }
 
-/// The typings of an accepted procedure; its structure is asked before them.
-pub(crate) fn procedure_typings(
+/// How many instructions a task of the procedure may do.
+fn budget(alloc: Global, procedure: &Procedure) -> Result<u64, Fault>
+    requires operands { IsProcedure procedure.now }
+    requires structured { IsStructured procedure.now.code }
+    ensures is { IfOk result (λ budget. IsBudget (flows procedure.now.code) budget) }
+    ensures within { IfOk result (λ budget. budget ≤ greatest_budget) }
+    ensures refused { IfErr result (λ fault. IfFault fault (IsBudgetRefusal procedure.now)) }
+{
+    match budgets(alloc, procedure) {
+        Ok(budget) => Ok(budget),
+        Err(BudgetRefusal::TooLarge) => Err(Fault::At {
+            no: VerifyRefusal::BudgetTooLarge,
+            place: 0,
+        }),
+        Err(BudgetRefusal::Memory) => Err(Fault::Memory),
+    }
+}
+
+/// What is found out about an accepted procedure. Its structure is asked first, then its typings, then its budget.
+pub(crate) fn procedure_findings(
     alloc: Global,
     procedures: &[Procedure],
     procedure: &Procedure,
-) -> Result<Vec<Typing>, Fault>
+) -> Result<Findings, Fault>
     requires { IsProcedure procedure.now }
-    ensures structured { OnOk result (IsStructured procedure.now.code) }
-    ensures accepted { IfOk result
-        (λ typings. IsWellTyped procedures.now procedure.now
-        typings.items (length procedure.now.code)) }
+    ensures accepted { IfOk result (AreFindings procedures.now procedure.now) }
     ensures refused { IfErr result
         (λ fault. IfFault fault (IsProcedureRefusal procedures.now procedure.now)) }
 {
-    ask_structure(procedure.code.as_slice())?;
-    typings(alloc, procedures, procedure)
+    let code = procedure.code.as_slice();
+    let loops = Loops::new(alloc, code)?;
+    ask_structure(code, &loops)?;
+    let typings = typings(alloc, procedures, procedure, &loops)?;
+    let budget = budget(alloc, procedure)?;
+    Ok(Findings {
+        typings: Items::from(typings),
+        budget,
+    })
 }

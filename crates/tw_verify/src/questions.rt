@@ -1,11 +1,12 @@
 //! What the instructions ask of a typing and of the declared value registers: of all that isn't met, the lowest
 //! refusal.
 
-ghost use Rattle.std.specs.Prelude.{◌≡◌, Bool, true, slice_get};
+ghost use Rattle.std.specs.Prelude.{◌≡◌, ◌++◌, Bool, true, slice_get};
 ghost use Rattle.std.specs.Option.{option_map, option_map_or};
 ghost use Rattle.tw_types.specs.Value.{same_scalar};
 ghost use Rattle.tw_code.specs.Program.{IsInstr};
-ghost use Rattle.tw_code.specs.Typing.{Right, passes, refusal_in, asks_value, asks_value_of, asks, asks_params, asks_at, writes_scalar};
+ghost use Rattle.tw_code.specs.Question.{passes, refusal_in};
+ghost use Rattle.tw_code.specs.Typing.{Right, asks_value, asks_alike, asks_values, asks_value_of, asks, asks_params, asks_at, writes_scalar};
 ghost use Rattle.tw_verify.specs.Passes.{lowest_of};
 ghost use Rattle.tw_verify.specs.Refusal.{number_of};
 
@@ -15,7 +16,11 @@ use crate::typing::{Right, Typing};
 use tw_code::{Instr, Procedure};
 use tw_types::Scalar;
 
-fn lowest(first: Option<VerifyRefusal>, second: Option<VerifyRefusal>) -> Option<VerifyRefusal>
+/// The lower of two refusals, of which each may be missing.
+pub(crate) fn lowest(
+    first: Option<VerifyRefusal>,
+    second: Option<VerifyRefusal>,
+) -> Option<VerifyRefusal>
     ensures { option_map number_of result
         ≡ lowest_of (option_map number_of first) (option_map number_of second) }
 {
@@ -33,6 +38,50 @@ fn value_refusal(registers: &[Scalar], register: u8, ty: Scalar) -> Option<Verif
     match registers.get(register as usize) {
         None => Some(VerifyRefusal::UndeclaredValue),
         Some(declared) => (*declared != ty).then_some(VerifyRefusal::WrongValueType),
+    }
+}
+
+/// Two value registers must be declared, and be of these types.
+fn both_refusal(
+    registers: &[Scalar],
+    first: u8,
+    first_ty: Scalar,
+    second: u8,
+    second_ty: Scalar,
+) -> Option<VerifyRefusal>
+    ensures { option_map number_of result
+        ≡ refusal_in (asks_value registers.now first first_ty ++ asks_value registers.now second second_ty) }
+{
+    lowest(
+        value_refusal(registers, first, first_ty),
+        value_refusal(registers, second, second_ty),
+    )
+}
+
+/// Three value registers must be declared, and be of one type.
+fn values_refusal(
+    registers: &[Scalar],
+    first: u8,
+    second: u8,
+    third: u8,
+    ty: Scalar,
+) -> Option<VerifyRefusal>
+    ensures { option_map number_of result
+        ≡ refusal_in (asks_values registers.now first second third ty) }
+{
+    lowest(
+        value_refusal(registers, first, ty),
+        both_refusal(registers, second, ty, third, ty),
+    )
+}
+
+/// Two value registers must be declared, and be of the same type.
+fn alike_refusal(registers: &[Scalar], first: u8, second: u8) -> Option<VerifyRefusal>
+    ensures { option_map number_of result ≡ refusal_in (asks_alike registers.now first second) }
+{
+    match registers.get(first as usize) {
+        None => Some(VerifyRefusal::UndeclaredValue),
+        Some(ty) => value_refusal(registers, second, *ty),
     }
 }
 
@@ -82,6 +131,44 @@ fn instr_refusal(
     let registers = procedure.registers.as_slice();
     match instr {
         Instr::Int { to, .. } => value_refusal(registers, *to, Scalar::Int),
+        Instr::Text { to, .. } => value_refusal(registers, *to, Scalar::Text),
+        Instr::Copy { to, from } => alike_refusal(registers, *to, *from),
+        Instr::Compute {
+            to,
+            left,
+            right,
+            ..
+        } => values_refusal(registers, *to, *left, *right, Scalar::Int),
+        Instr::Concatenate {
+            to,
+            left,
+            right,
+            ..
+        } => values_refusal(registers, *to, *left, *right, Scalar::Text),
+        Instr::Length { to, from } => both_refusal(
+            registers,
+            *to,
+            Scalar::Int,
+            *from,
+            Scalar::Text,
+        ),
+        Instr::Show { to, from } => both_refusal(registers, *to, Scalar::Text, *from, Scalar::Int),
+        Instr::ReadInt { to, from, .. } => both_refusal(
+            registers,
+            *to,
+            Scalar::Int,
+            *from,
+            Scalar::Text,
+        ),
+        Instr::JumpEqual { left, right, .. } => alike_refusal(registers, *left, *right),
+        Instr::JumpLess { left, right, .. } => both_refusal(
+            registers,
+            *left,
+            Scalar::Int,
+            *right,
+            Scalar::Int,
+        ),
+        Instr::Jump { .. } | Instr::Repeat { .. } | Instr::End => None,
         Instr::Store { datum, from } => {
             let right = typing.right_in(*datum);
             let fits = is_scalar_write(&right);

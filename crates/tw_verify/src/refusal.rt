@@ -18,6 +18,18 @@ pub enum VerifyRefusal {
     /// V04.
     #[error("a right register is empty or has another mode or type than asked")]
     WrongRight,
+    /// V05.
+    #[error("a skip leaves its block or the code")]
+    SkipLeavesBlock,
+    /// V06.
+    #[error("a REPEAT or an END has no partner, or five loops stand in one another")]
+    Unmatched,
+    /// V07.
+    #[error("earlier places bring other typings")]
+    TypingsDiffer,
+    /// V08.
+    #[error("the typing at END isn't that of its loop's first place")]
+    TypingChanged,
     /// V09.
     #[error("no earlier place reaches this one")]
     Unreached,
@@ -25,11 +37,14 @@ pub enum VerifyRefusal {
     #[error("a right register isn't empty at RET")]
     RightLeft,
     /// V11.
-    #[error("the last instruction isn't RET")]
-    NoFinalRet,
+    #[error("a RET stands in a loop, or the last instruction isn't RET")]
+    MisplacedRet,
     /// V16.
     #[error("main is of another shape")]
     MainShape,
+    /// V17.
+    #[error("a task may do more instructions than a budget allows")]
+    BudgetTooLarge,
     /// V18.
     #[error("memory ran out")]
     Memory,
@@ -44,10 +59,15 @@ impl VerifyRefusal {
             VerifyRefusal::UndeclaredValue => 1,
             VerifyRefusal::WrongValueType => 2,
             VerifyRefusal::WrongRight => 4,
+            VerifyRefusal::SkipLeavesBlock => 5,
+            VerifyRefusal::Unmatched => 6,
+            VerifyRefusal::TypingsDiffer => 7,
+            VerifyRefusal::TypingChanged => 8,
             VerifyRefusal::Unreached => 9,
             VerifyRefusal::RightLeft => 10,
-            VerifyRefusal::NoFinalRet => 11,
+            VerifyRefusal::MisplacedRet => 11,
             VerifyRefusal::MainShape => 16,
+            VerifyRefusal::BudgetTooLarge => 17,
             VerifyRefusal::Memory => 18,
         }
     }

@@ -1,31 +1,109 @@
-//! The structure of a procedure's code.
+//! The structure of a procedure's code: its skips, loops and ends.
 
-ghost use Rattle.std.specs.Prelude.{◌≡◌, ◌<◌, length, OnOk, IfErr};
+ghost use Rattle.std.specs.Prelude.{◌≡◌, ◌<◌, length, OnOk, IfErr, ◌^◌};
 ghost use Rattle.std.specs.Option.{option_map};
-ghost use Rattle.tw_code.specs.WellTyped.{structure_refusal, IsStructured, IsStructureRefusal};
+ghost use Rattle.tw_code.specs.Flow.{flows};
+ghost use Rattle.tw_code.specs.Structure.{same_block, is_in_block, skips_in_block, is_matched, ends_well, structure_refusal_at, IsStructured, IsStructureRefusal};
+ghost use Rattle.tw_verify.specs.Loops.{AreLoops};
 ghost use Rattle.tw_verify.specs.Passes.{IfFault};
 ghost use Rattle.tw_verify.specs.Refusal.{number_of};
 
 use crate::fault::Fault;
+use crate::loops::{Loops, flow_at};
 use crate::refusal::VerifyRefusal;
 use tw_code::{Flow, Instr};
 
-/// The last instruction must be RET.
-fn structure_refusal_of(code: &[Instr], place: usize, instr: &Instr) -> Option<VerifyRefusal>
-    requires { place < length code.now }
-    ensures { option_map number_of result ≡ structure_refusal code.now place instr.now }
+/// How many loops may stand in one another.
+const MAX_DEPTH: usize = 4;
+
+fn is_same_block(left: Option<usize>, right: Option<usize>) -> bool
+    ensures { result ≡ same_block left right }
 {
-    let is_last = place + 1 == code.len();
-    (is_last && instr.flow() != Flow::Stop).then_some(VerifyRefusal::NoFinalRet)
+    match (left, right) {
+        (None, None) => true,
+        (Some(a), Some(b)) => a == b,
+        _ => false,
+    }
+}
+
+/// Whether a place is in the code and in the block of the instruction that skips to it.
+fn is_goal_in_block(code: &[Instr], loops: &Loops, place: usize, goal: usize) -> bool
+    requires known { AreLoops code.now loops.now }
+    requires within { place < length code.now }
+    ensures { result ≡ is_in_block (flows code.now) place goal }
+{
+    goal < code.len() && is_same_block(loops.block(code, goal), loops.block(code, place))
+}
+
+fn is_skip_in_block(code: &[Instr], loops: &Loops, place: usize, flow: Flow) -> bool
+    requires known { AreLoops code.now loops.now }
+    requires within { place < length code.now }
+    requires short { length code.now < 2 ^ 32 }
+    ensures { result ≡ skips_in_block (flows code.now) place flow }
+{
+    match flow {
+        Flow::Branch(skip) => is_goal_in_block(code, loops, place, place + 1 + skip as usize),
+        Flow::Jump(skip) => is_goal_in_block(code, loops, place, place + 1 + skip as usize),
+        Flow::Straight | Flow::Begin(_) | Flow::Close | Flow::Stop => true,
+    }
+}
+
+/// Whether a REPEAT has its END and isn't the fifth of a nest, and an END has its REPEAT.
+fn has_partner(code: &[Instr], loops: &Loops, place: usize, flow: Flow) -> bool
+    requires known { AreLoops code.now loops.now }
+    requires within { place < length code.now }
+    ensures { result ≡ is_matched (flows code.now) place flow }
+{
+    match flow {
+        Flow::Begin(_) => loops.end(code, place + 1).is_some()
+            && loops.depth(code, place) < MAX_DEPTH,
+        Flow::Close => loops.depth(code, place) > 0,
+        Flow::Straight | Flow::Branch(_) | Flow::Jump(_) | Flow::Stop => true,
+    }
+}
+
+/// Whether a RET is in no loop, and another instruction isn't the last.
+fn is_ending_well(code: &[Instr], loops: &Loops, place: usize, flow: Flow) -> bool
+    requires known { AreLoops code.now loops.now }
+    requires within { place < length code.now }
+    ensures { result ≡ ends_well (flows code.now) place flow }
+{
+    match flow {
+        Flow::Stop => loops.depth(code, place) == 0,
+        Flow::Straight | Flow::Branch(_) | Flow::Jump(_) | Flow::Begin(_) | Flow::Close => place + 1
+            != code.len(),
+    }
+}
+
+/// The lowest number that is refused at a place.
+fn structure_refusal(code: &[Instr], loops: &Loops, place: usize) -> Option<VerifyRefusal>
+    requires known { AreLoops code.now loops.now }
+    requires within { place < length code.now }
+    requires short { length code.now < 2 ^ 32 }
+    ensures { option_map number_of result ≡ structure_refusal_at (flows code.now) place }
+{
+    let flow = flow_at(code, place);
+    if !is_skip_in_block(code, loops, place, flow) {
+        return Some(VerifyRefusal::SkipLeavesBlock);
+    }
+    if !has_partner(code, loops, place, flow) {
+        return Some(VerifyRefusal::Unmatched);
+    }
+    if !is_ending_well(code, loops, place, flow) {
+        return Some(VerifyRefusal::MisplacedRet);
+    }
+    None
 }
 
 /// Asks the structure of all places in order.
-pub(crate) fn ask_structure(code: &[Instr]) -> Result<(), Fault>
+pub(crate) fn ask_structure(code: &[Instr], loops: &Loops) -> Result<(), Fault>
+    requires known { AreLoops code.now loops.now }
+    requires short { length code.now < 2 ^ 32 }
     ensures accepted { OnOk result (IsStructured code.now) }
     ensures refused { IfErr result (λ fault. IfFault fault (IsStructureRefusal code.now)) }
 {
-    for (place, instr) in code.iter().enumerate() {
-        if let Some(no) = structure_refusal_of(code, place, instr) {
+    for place in 0..code.len() {
+        if let Some(no) = structure_refusal(code, loops, place) {
             return Err(Fault::At { no, place });
         }
     }

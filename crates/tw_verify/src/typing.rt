@@ -4,6 +4,7 @@ ghost use Rattle.std.specs.Prelude.{◌≡◌, ◌≤◌, ◌<◌, length, None,
 ghost use Rattle.std.specs.List.{list_all};
 ghost use Rattle.tw_code.specs.Program.{IsInstr};
 ghost use Rattle.tw_code.specs.Typing.{right_in, start_typing, writes_scalar, after};
+ghost use Rattle.tw_verify.specs.Passes.{same_typing};
 
 use crate::params::is_value;
 use std::marker::Model;
@@ -101,6 +102,12 @@ impl Typing {
         self.rights.iter().all(|right| right.is_none())
     }
 
+    pub(crate) fn is_same(&self, other: &Typing) -> bool
+        ensures { result ≡ same_typing self.now other.now }
+    {
+        self.rights == other.rights
+    }
+
     fn without(mut self, register: u8) -> Typing
         requires { register < 16 }
         ensures { result ≡ slice_set self register None }
@@ -115,7 +122,20 @@ impl Typing {
         ensures { result ≡ after procedures.now way instr.now self }
     {
         match instr {
-            Instr::Int { .. } | Instr::Ret => self,
+            Instr::Int { .. }
+            | Instr::Text { .. }
+            | Instr::Copy { .. }
+            | Instr::Compute { .. }
+            | Instr::Concatenate { .. }
+            | Instr::Length { .. }
+            | Instr::Show { .. }
+            | Instr::ReadInt { .. }
+            | Instr::Jump { .. }
+            | Instr::JumpEqual { .. }
+            | Instr::JumpLess { .. }
+            | Instr::Repeat { .. }
+            | Instr::End
+            | Instr::Ret => self,
             Instr::Store { datum, .. } => self.without(*datum),
         }
     }

@@ -9,17 +9,17 @@ ghost use Rattle.tw_verify.specs.Verified.{IsTyped};
 ghost use Rattle.tw_verify.specs.declared.refusal.VerifyRefusal.TheVariants.{Memory};
 
 use crate::fault::{Refusal, keep};
-use crate::pass::procedure_typings;
+use crate::findings::Findings;
+use crate::pass::procedure_findings;
 use crate::refusal::{Refused, VerifyRefusal};
 use crate::shape::starts_with_main;
-use crate::typing::Typing;
 use crate::verified::Verified;
 use std::alloc::Global;
 use tw_code::{Procedure, Program};
 use tw_types::Items;
 
-/// The typings of each procedure of an accepted program.
-fn all_typings(alloc: Global, procedures: &[Procedure]) -> Result<Items<Items<Typing>>, Refusal>
+/// What is found out about each procedure of an accepted program.
+fn all_findings(alloc: Global, procedures: &[Procedure]) -> Result<Items<Findings>, Refusal>
     requires { IsProgram procedures.now }
     ensures accepted { IfOk result (IsTyped procedures.now) }
     ensures refused { IfErr result (λ r. IsRefusal procedures.now r.no r.procedure r.place) }
@@ -33,17 +33,17 @@ fn all_typings(alloc: Global, procedures: &[Procedure]) -> Result<Items<Items<Ty
     }
     let mut all = Vec::new(alloc);
     for (number, procedure) in procedures.iter().enumerate() {
-        let typings = match procedure_typings(alloc, procedures, procedure) {
-            Ok(typings) => typings,
+        let findings = match procedure_findings(alloc, procedures, procedure) {
+            Ok(findings) => findings,
             Err(fault) => return Err(Refusal::new(number, fault)),
         };
-        keep(&mut all, Items::from(typings))?;
+        keep(&mut all, findings)?;
     }
     Ok(Items::from(all))
 }
 
 /// Accepts a program, or gives it back with its first refusal: main's shape is asked first, then in each procedure
-/// in order its structure and then its typings.
+/// in order its structure, then its typings, then its budget.
 pub fn verify(alloc: Global, program: Program) -> Result<Verified, Refused>
     // An accepted program is answered `Ok`, unless memory runs out.
     ensures complete { IsAccepted program → IfErr result (λ refused. refused.no ≡ Memory) }
@@ -61,8 +61,8 @@ pub fn verify(alloc: Global, program: Program) -> Result<Verified, Refused>
     // The program comes back.
     ensures back { IfErr result (λ refused. refused.program ≡ program) }
 {
-    match all_typings(alloc, program.procedures()) {
-        Ok(typings) => Ok(Verified::new(program, typings)),
+    match all_findings(alloc, program.procedures()) {
+        Ok(findings) => Ok(Verified::new(program, findings)),
         Err(refusal) => Err(Refused {
             program,
             no: refusal.no,

@@ -34,6 +34,21 @@ fn answer<H: AllocGlobal + Threads + Wait + Sync>(
     Ok((status.code(), String::from_utf8(writer).ok().ok_or("text")?))
 }
 
+/// A table of inputs, each with the status and the text that are wanted.
+fn answers<H: AllocGlobal + Threads + Wait + Sync>(
+    rt: &H,
+    line: &str,
+    rows: &[(&str, u8, &str)],
+) -> Result<(), Fail> {
+    for (input, code, text) in rows {
+        let (status, written) = answer(rt, line, *input)?;
+        if status != *code || written.as_str() != *text {
+            return Err(format!(in rt.alloc(); "{input}: {status} {written}")?.into());
+        }
+    }
+    Ok(())
+}
+
 /// The files of `examples/`, with the texts that lie beside them.
 #[test]
 fn examples(rt: HostRuntime) -> Result<(), Fail> {
@@ -65,13 +80,38 @@ fn examples(rt: HostRuntime) -> Result<(), Fail> {
             1,
             "refused V10 in procedure 0 at place 0\n",
         ),
+        (
+            "54574201 01 00 01 0401 02 0101 0005 01000000000000000007 130000010001 01000000000000000009 310000 42\n",
+            0,
+            "out 0 int 7\nquiet\n",
+        ),
+        (
+            "54574201 01 00 01 0401 03 010101 0009 01008000000000000000 0101ffffffffffffffff 01020000000000000005 130200010001 01020000000000000009 140200010001 01020000000000000009 310002 42\n",
+            0,
+            "out 0 int 5\nquiet\n",
+        ),
+        (
+            "54574201 01 00 01 0401 02 0201 0007 0200000178 23000d 180000000000 24 190100 310001 42\n",
+            0,
+            "out 0 int 4096\nquiet\n",
+        ),
+        (
+            "54574201 01 00 00 02 0101 0004 23000a 100000010000 24 42\n",
+            0,
+            "quiet\n",
+        ),
+        (
+            "54574201 01 00 00 00 0009 2303e8 2303e8 2303e8 2303e8 24 24 24 24 42\n",
+            1,
+            "refused V17 in procedure 0 at place 0\n",
+        ),
+        (
+            "54574201 01 00 01 0401 01 01 0003 2100000001 310000 42\n",
+            1,
+            "refused V07 in procedure 0 at place 2\n",
+        ),
     ];
-    for (input, code, text) in rows {
-        let (status, written) = answer(&rt, "run", input)?;
-        assert_eq!(rt; status, code, "at {input}");
-        assert_eq!(rt; written.as_str(), text, "at {input}");
-    }
-    Ok(())
+    answers(&rt, "run", &rows)
 }
 
 #[test]
@@ -122,12 +162,132 @@ fn programs(rt: HostRuntime) -> Result<(), Fail> {
             "refused V01 in procedure 1 at place 0\n",
         ),
     ];
-    for (input, code, text) in rows {
-        let (status, written) = answer(&rt, "run", input)?;
-        assert_eq!(rt; written.as_str(), text, "at {input}");
-        assert_eq!(rt; status, code, "at {input}");
-    }
-    Ok(())
+    answers(&rt, "run", &rows)
+}
+
+#[test]
+fn computations(rt: HostRuntime) -> Result<(), Fail> {
+    let rows = [
+        // READI of "-0".
+        (
+            "54574201 01 00 01 0401 02 0102 0006 01000000000000000003 020100022d30 1b00010001 01000000000000000009 310000 42",
+            0,
+            "out 0 int 3\nquiet\n",
+        ),
+        // READI of "007".
+        (
+            "54574201 01 00 01 0401 02 0102 0006 01000000000000000003 02010003303037 1b00010001 01000000000000000009 310000 42",
+            0,
+            "out 0 int 3\nquiet\n",
+        ),
+        // READI of "".
+        (
+            "54574201 01 00 01 0401 02 0102 0006 01000000000000000003 02010000 1b00010001 01000000000000000009 310000 42",
+            0,
+            "out 0 int 3\nquiet\n",
+        ),
+        // READI of "9223372036854775808".
+        (
+            "54574201 01 00 01 0401 02 0102 0006 01000000000000000003 0201001339323233333732303336383534373735383038 1b00010001 01000000000000000009 310000 42",
+            0,
+            "out 0 int 3\nquiet\n",
+        ),
+        // READI of "12".
+        (
+            "54574201 01 00 01 0401 02 0102 0006 01000000000000000003 020100023132 1b00010001 01000000000000000009 310000 42",
+            0,
+            "out 0 int 9\nquiet\n",
+        ),
+        // Twenty thousand turns are one event.
+        (
+            "54574201 01 00 01 0401 02 0101 0008 01010000000000000001 230064 2300c8 100000010000 24 24 310000 42",
+            0,
+            "out 0 int 20000\nquiet\n",
+        ),
+    ];
+    answers(&rt, "run", &rows)
+}
+
+#[test]
+fn checks(rt: HostRuntime) -> Result<(), Fail> {
+    let rows = [
+        // Ten turns of an addition.
+        (
+            "54574201 01 00 00 02 0101 0004 23000a 100000010000 24 42",
+            0,
+            "accepted\nproc 0 control budget 22\nneeds engines 0 workers 0\n",
+        ),
+        // A jump that may skip.
+        (
+            "54574201 01 00 00 02 0101 0005 230003 2200010001 01000000000000000001 24 42",
+            0,
+            "accepted\nproc 0 control budget 11\nneeds engines 0 workers 0\n",
+        ),
+        // The doubling.
+        (
+            "54574201 01 00 01 0401 02 0201 0007 0200000178 23000d 180000000000 24 190100 310001 42",
+            0,
+            "accepted\nproc 0 control budget 31\nneeds engines 0 workers 0\n",
+        ),
+        // Two loops of a thousand turns.
+        (
+            "54574201 01 00 00 00 0005 2303e8 2303e8 24 24 42",
+            0,
+            "accepted\nproc 0 control budget 1002002\nneeds engines 0 workers 0\n",
+        ),
+        // A leaf beside main.
+        (
+            "54574201 02 00 00 00 0001 42 01 00 00 0002 200000 42",
+            0,
+            "accepted\nproc 0 control budget 1\nproc 1 leaf budget 2\nneeds engines 0 workers 0\n",
+        ),
+        // Three loops of a thousand turns.
+        (
+            "54574201 01 00 00 00 0007 2303e8 2303e8 2303e8 24 24 24 42",
+            1,
+            "refused V17 in procedure 0 at place 0\n",
+        ),
+        // Four of them.
+        (
+            "54574201 01 00 00 00 0009 2303e8 2303e8 2303e8 2303e8 24 24 24 24 42",
+            1,
+            "refused V17 in procedure 0 at place 0\n",
+        ),
+        // A skip out of a loop.
+        (
+            "54574201 01 00 00 00 0004 230002 200001 24 42",
+            1,
+            "refused V05 in procedure 0 at place 1\n",
+        ),
+        // A skip into a loop.
+        (
+            "54574201 01 00 00 00 0004 200001 230002 24 42",
+            1,
+            "refused V05 in procedure 0 at place 0\n",
+        ),
+        // A loop without an end.
+        (
+            "54574201 01 00 00 00 0002 230002 42",
+            1,
+            "refused V06 in procedure 0 at place 0\n",
+        ),
+        // A store that may be skipped.
+        (
+            "54574201 01 00 01 0401 01 01 0003 2100000001 310000 42",
+            1,
+            "refused V07 in procedure 0 at place 2\n",
+        ),
+        // A store in a loop.
+        (
+            "54574201 01 00 01 0401 01 01 0004 230002 310000 24 42",
+            1,
+            "refused V08 in procedure 0 at place 2\n",
+        ),
+        // What isn't a program, and what is no hex text.
+        ("", 1, "refused F03 at byte 0\n"),
+        ("5", 1, "refused H01\n"),
+    ];
+    answers(&rt, "check", &rows)
 }
 
 #[test]
@@ -151,12 +311,7 @@ fn hex_text(rt: HostRuntime) -> Result<(), Fail> {
         ("\u{a0}", 1, "refused H01\n"),
         (" \n", 1, "refused F03 at byte 0\n"),
     ];
-    for (input, code, text) in rows {
-        let (status, written) = answer(&rt, "run", input)?;
-        assert_eq!(rt; written.as_str(), text, "at {input}");
-        assert_eq!(rt; status, code, "at {input}");
-    }
-    Ok(())
+    answers(&rt, "run", &rows)
 }
 
 #[test]
@@ -165,7 +320,10 @@ fn command_lines(rt: HostRuntime) -> Result<(), Fail> {
         "walk",
         "",
         "help",
-        "check",
+        "check --trace",
+        "check int:7",
+        "check run",
+        "Check",
         "run --trace",
         "run --limit 5",
         "run --engines 1",
@@ -195,6 +353,7 @@ fn help(rt: HostRuntime) -> Result<(), Fail> {
         assert_eq!(rt; status, 0);
         assert!(rt; text.contains("Usage: tw <COMMAND>"));
         assert!(rt; text.contains("run"));
+        assert!(rt; text.contains("check"));
     }
     let (status, text) = answer(&rt, "run --help", STORE_SEVEN)?;
     assert_eq!(rt; status, 0);

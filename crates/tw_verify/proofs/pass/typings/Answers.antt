@@ -1,46 +1,85 @@
-use Rattle.std.proofs.Common.{◌≡◌, ◌+◌, ◌∷◌, [], ◌++◌, List, get_or, sym, ap, ◌∙◌, subst, arith}
-use Rattle.std.specs.Prelude.{length, slice_get, pos}
+use Rattle.std.proofs.Common.{◌≡◌, ℕ, ◌+◌, ◌∷◌, [], ◌++◌, List, Option, Some, drop, take, refl, sym, ap, ◌∙◌, subst, arith}
+use Rattle.std.specs.Prelude.{length, slice_get}
 use Rattle.std.specs.Option.{option_map}
-use Rattle.std.proofs.lemmas.Option.{slice_get-get_or}
+use Rattle.std.proofs.lemmas.Option.{slice_get_read}
 use Rattle.tw_code.specs.declared.instr.Instr.{Instr}
-use Rattle.tw_code.specs.declared.instr.Instr.TheVariants.{Int}
-use Rattle.tw_code.specs.Typing.{Typing}
-use Rattle.tw_code.specs.WellTyped.{IsWellTyped}
+use Rattle.tw_code.specs.Question.{refusal_in}
+use Rattle.tw_code.specs.Typing.{Typing, start_typing, asks_at}
+use Rattle.tw_code.specs.WellTyped.{IsEndOf, IsWellTyped}
+use Rattle.tw_verify.specs.declared.rows.Reached.{Reached}
+use Rattle.tw_verify.specs.Passes.{first_row, HasChanged, lowest_at}
 use Rattle.tw_verify.specs.Refusal.{number_of}
-use Rattle.tw_verify.proofs.Typings.{HasReached, unreached, asks_in_vain, one_more, next_reached}
+use Rattle.tw_verify.proofs.Lowest.{nothing_at}
+use Rattle.tw_verify.proofs.Mistakes.{none_typed, one_more, unreached, refused_at}
+use Rattle.tw_verify.proofs.Reaching.{IsRow, HasReached, start_row, rows_more, whole_slice}
 use Rattle.tw_verify.proofs.pass.typings.Goals as goal
+
+pub loop-place-init : goal.loop-place-init
+loop-place-init c =
+    let program = c.args.procedures.now in
+    let p = c.args.procedure.now in
+    let start : c.start.result ≡ start_typing p.params = c.start.ensures ∙ ap start_typing c.as_slice.ensures in
+    record {
+      typed = subst (λ (xs : List Typing). IsWellTyped program p xs 0) (sym c.new-all.ensures.items) (none_typed program p);
+      long = c.in_ok-rows.ensures.0;
+      rows = λ k row at.
+          let is : row ≡ first_row (start_typing p.params) k = c.in_ok-rows.ensures.1 k row at ∙ ap (λ (t : Typing). first_row t k) start in
+          subst (λ (xs : List Typing). IsRow program p xs 0 k row) (sym c.new-all.ensures.items) (subst (λ (x : Option Reached). IsRow program p [] 0 k x) (sym is) (start_row program p k));
+    }
 
 pub returns-in_default-clause-refused : goal.returns-in_default-clause-refused
 returns-in_default-clause-refused c =
     let program = c.args.procedures.now in
     let p = c.args.procedure.now in
     let all = c.loop-place.all.items in
-    let k = c.loop-place.place in
-    unreached program p all k c.loop-place.invariant.typed (subst (HasReached program p all k) c.in_default.is c.loop-place.invariant.reached) (omega (arith, ap (length {A = Instr}) c.as_slice-instr-items.ensures))
+    let place = c.loop-place.place in
+    let at = subst (λ (xs : List (Option Reached)). slice_get xs place ≡ Some c.row_at.result) c.deref.ensures.value c.row_at.ensures in
+    let row = subst (λ (x : Option Reached). IsRow program p all (place + place) place x) c.in_default.is (c.loop-place.invariant.rows place c.row_at.result at) in
+    unreached program p all place c.loop-place.invariant.typed row (omega (arith, ap (length {A = Instr}) c.as_slice-code.ensures))
 
-pub returns-in-Some-place_refusal-clause-refused : goal.returns-in-Some-place_refusal-clause-refused
-returns-in-Some-place_refusal-clause-refused c =
+pub returns-in-Some-typing_refusal-clause-refused : goal.returns-in-Some-typing_refusal-clause-refused
+returns-in-Some-typing_refusal-clause-refused c =
     let program = c.args.procedures.now in
     let p = c.args.procedure.now in
     let all = c.loop-place.all.items in
-    let k = c.loop-place.place in
-    let i = get_or c.as_slice-instr-items.result.now k (Int 0 (pos 0)) in
-    let here = ap (λ (code : List Instr). slice_get code k) (sym c.as_slice-instr-items.ensures) ∙ slice_get-get_or c.as_slice-instr-items.result.now k (Int 0 (pos 0)) c.loop-place-test.true in
-    asks_in_vain program p all k (number_of c.in-Some-place_refusal.no) c.in-Some.typing i c.loop-place.invariant.typed (subst (HasReached program p all k) c.in-Some.is c.loop-place.invariant.reached) here (sym c.in-Some-place_refusal.ensures)
+    let place = c.loop-place.place in
+    let r = c.in-Some.reached in
+    let code = c.as_slice-code.result.now in
+    let i = c.index-code-place.result in
+    let changed = c.is_changed-changed.result in
+    let at = subst (λ (xs : List (Option Reached)). slice_get xs place ≡ Some c.row_at.result) c.deref.ensures.value c.row_at.ensures in
+    let row : HasReached program p all (place + place) place r = subst (λ (x : Option Reached). IsRow program p all (place + place) place x) c.in-Some.is (c.loop-place.invariant.rows place c.row_at.result at) in
+    let here : slice_get p.code place ≡ Some i = ap (λ (xs : List Instr). slice_get xs place) (sym c.as_slice-code.ensures) ∙ slice_get_read code (length code) place i refl c.loop-place-test.true c.index-code-place.is in
+    let is : lowest_at (refusal_in (asks_at program p place i r.typing)) r.differs changed ≡ Some (number_of c.in-Some-typing_refusal.no) = sym c.typing_refusal.ensures ∙ ap (option_map number_of) c.in-Some-typing_refusal.is in
+    refused_at program p all place (number_of c.in-Some-typing_refusal.no) r i changed c.loop-place.invariant.typed row here
+    (λ e. subst (λ (ts : List Typing). HasChanged p.code ts place r.typing) c.deref-in-loop-place.ensures.value (subst (λ (xs : List Instr). HasChanged xs c.deref-in-loop-place.result.now place r.typing) c.as_slice-code.ensures (c.is_changed-changed.ensures.found e)))
+    (λ first begun e end there. c.is_changed-changed.ensures.all first begun e (subst (λ (xs : List Instr). IsEndOf xs first place) (sym c.as_slice-code.ensures) end) (subst (λ (ts : List Typing). slice_get ts first ≡ Some begun) (sym c.deref-in-loop-place.ensures.value) there))
+    is
 
 pub loop-place-preserved : goal.loop-place-preserved
 loop-place-preserved c =
     let program = c.args.procedures.now in
     let p = c.args.procedure.now in
     let all = c.loop-place.all.items in
-    let k = c.loop-place.place in
-    let t = c.in-Some.typing in
-    let i = get_or c.as_slice-instr-items.result.now k (Int 0 (pos 0)) in
-    let here = ap (λ (code : List Instr). slice_get code k) (sym c.as_slice-instr-items.ensures) ∙ slice_get-get_or c.as_slice-instr-items.result.now k (Int 0 (pos 0)) c.loop-place-test.true in
-    let fine = sym c.place_refusal.ensures ∙ ap (option_map number_of) c.in_default-place_refusal.is in
-    let reached = subst (HasReached program p all k) c.in-Some.is c.loop-place.invariant.reached in
-    let kept : c.keep.new.list.items ≡ all ++ t ∷ [] = c.in_ok-keep.ensures in
+    let place = c.loop-place.place in
+    let r = c.in-Some.reached in
+    let code = c.as_slice-code.result.now in
+    let i = c.index-code-place.result in
+    let changed = c.is_changed-changed.result in
+    let old = c.loop-place.rows.items in
+    let new = c.send_both.new.rows in
+    let at = subst (λ (xs : List (Option Reached)). slice_get xs place ≡ Some c.row_at.result) c.deref.ensures.value c.row_at.ensures in
+    let row : HasReached program p all (place + place) place r = subst (λ (x : Option Reached). IsRow program p all (place + place) place x) c.in-Some.is (c.loop-place.invariant.rows place c.row_at.result at) in
+    let here : slice_get p.code place ≡ Some i = ap (λ (xs : List Instr). slice_get xs place) (sym c.as_slice-code.ensures) ∙ slice_get_read code (length code) place i refl c.loop-place-test.true c.index-code-place.is in
+    let nothing = nothing_at (refusal_in (asks_at program p place i r.typing)) r.differs changed (sym c.typing_refusal.ensures ∙ ap (option_map number_of) c.in_default-typing_refusal.is) in
+    let kept : c.keep.new.list.items ≡ all ++ r.typing ∷ [] = c.in_ok-keep.ensures in
+    let same : length new ≡ length old = c.send_both.auto.rows ∙ ap length c.deref_mut.ensures.value in
+    let whole : take c.loop-place.rows.len (new ++ drop (length new) old) ≡ new = whole_slice new old c.loop-place.rows.len same c.loop-place.rows.ok.0 in
+    let typed = one_more program p all place r i c.loop-place.invariant.typed row here nothing.0 nothing.1 (λ first begun end there. c.is_changed-changed.ensures.all first begun nothing.2 (subst (λ (xs : List Instr). IsEndOf xs first place) (sym c.as_slice-code.ensures) end) (subst (λ (ts : List Typing). slice_get ts first ≡ Some begun) (sym c.deref-in-loop-place.ensures.value) there)) in
+    let rows = rows_more program p all place i r.typing old new c.loop-place.invariant.typed.long here same (λ k x was. c.send_both.ensures k x (subst (λ (xs : List (Option Reached)). slice_get xs k ≡ Some x) (sym c.deref_mut.ensures.value) was)) c.loop-place.invariant.rows in
     record {
-      typed = subst (λ (xs : List Typing). IsWellTyped program p xs (k + 1)) (sym kept) (one_more program p all k t i c.loop-place.invariant.typed reached here fine);
-      reached = subst (λ (xs : List Typing). HasReached program p xs (k + 1) c.carry-reached.result) (sym kept) (subst (HasReached program p (all ++ t ∷ []) (k + 1)) (sym c.carry-reached.ensures) (next_reached program p all k t i c.loop-place.invariant.typed.long here));
+      typed = subst (λ (xs : List Typing). IsWellTyped program p xs (place + 1)) (sym kept) typed;
+      long = ap length whole ∙ same ∙ c.loop-place.invariant.long;
+      rows = subst (λ (xs : List (Option Reached)). (k : ℕ) (x : Option Reached) → slice_get xs k ≡ Some x → IsRow program p c.keep.new.list.items (place + 1 + (place + 1)) k x) (sym whole)
+          (subst (λ (ts : List Typing). (k : ℕ) (x : Option Reached) → slice_get new k ≡ Some x → IsRow program p ts (place + 1 + (place + 1)) k x) (sym kept) rows);
     }

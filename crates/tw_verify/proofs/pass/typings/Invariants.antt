@@ -1,10 +1,14 @@
+use Rattle.std.proofs.Common.{◌≡◌, ℕ, ◌+◌, length, Option, Some}
+use Rattle.std.specs.Prelude.{slice_get}
 use Rattle.tw_code.specs.WellTyped.{IsWellTyped}
-use Rattle.tw_verify.proofs.Typings.{HasReached}
+use Rattle.tw_verify.specs.declared.rows.Reached.{Reached}
+use Rattle.tw_verify.proofs.Reaching.{IsRow}
 use Rattle.tw_verify.proofs.pass.typings.Given as goal
 
--- the places so far have their typings, and this one is reached so
+-- the places so far have their typings, and each row says what both outcomes of these brought
 abbrev pub invariant-loop-place : goal.invariant-loop-place
 invariant-loop-place l = record {
   typed : IsWellTyped l.procedures l.procedure l.all.items l.place;
-  reached : HasReached l.procedures l.procedure l.all.items l.place l.reached;
+  long : length l.rows.items ≡ length l.code;
+  rows : (k : ℕ) (row : Option Reached) → slice_get l.rows.items k ≡ Some row → IsRow l.procedures l.procedure l.all.items (l.place + l.place) k row;
 }

@@ -1,6 +1,7 @@
 use Rattle.std.proofs.Common.{◌≡◌, ℕ, Option, ap, sym, ◌∙◌, subst}
 use Rattle.std.specs.Option.{option_map}
-use Rattle.tw_code.specs.Typing.{refusal_in, asks_params, asks, asks_at}
+use Rattle.tw_code.specs.Question.{refusal_in}
+use Rattle.tw_code.specs.Typing.{asks_params, asks, asks_at}
 use Rattle.tw_verify.specs.Passes.{lowest_of}
 use Rattle.tw_verify.specs.Refusal.{number_of}
 use Rattle.tw_verify.proofs.Lowest.{refusal_in-append}

@@ -1,7 +1,8 @@
 use Rattle.std.proofs.Common.{◌≡◌, ℕ, ◌<◌, None}
-use Rattle.tw_code.specs.WellTyped.{structure_refusal_at}
+use Rattle.tw_code.specs.Flow.{flows}
+use Rattle.tw_code.specs.Structure.{structure_refusal_at}
 use Rattle.tw_verify.proofs.structure.ask_structure.Given as goal
 
 -- no place so far is refused
 abbrev pub invariant-loop-place : goal.invariant-loop-place
-invariant-loop-place l = (k : ℕ) → k < l.place → structure_refusal_at l.code k ≡ None
+invariant-loop-place l = (k : ℕ) → k < l.place → structure_refusal_at (flows l.code) k ≡ None

@@ -6,7 +6,7 @@ use Rattle.tw_verify.proofs.Programs.{accepted, refused_memory}
 use Rattle.tw_verify.proofs.verifier.verify.Goals as goal
 
 pub returns-in-Ok-clause-sound : goal.returns-in-Ok-clause-sound
-returns-in-Ok-clause-sound c = subst IsAccepted c.procedures.ensures.is (accepted c.procedures.result.now c.in-Ok.typings c.in-Ok.ensures.accepted)
+returns-in-Ok-clause-sound c = subst IsAccepted c.procedures.ensures.is (accepted c.procedures.result.now c.in-Ok.findings c.in-Ok.ensures.accepted)
 
 pub returns-in-Err-clause-complete : goal.returns-in-Err-clause-complete
 returns-in-Err-clause-complete c = λ a.

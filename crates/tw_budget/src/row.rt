@@ -1,0 +1,107 @@
+//! The table of places.
+
+ghost use Rattle.std.specs.Prelude.{◌≡◌, ◌+◌, ◌<◌, ◌≤◌, length, min, slice_get};
+ghost use Rattle.tw_code.specs.Flow.{flows, goal_of};
+ghost use Rattle.tw_budget.specs.Rows.{IsRow, RowsFrom, most_told};
+ghost use Rattle.tw_budget.specs.Sound.{IsSound};
+
+use tw_code::{Flow, Instr};
+
+/// The greatest budget.
+pub const GREATEST: u64 = 1_000_000_000;
+
+/// What is known of a place: the length of the longest rest of a walk up to the END of the loop that the place is in,
+/// cut off over the greatest budget, and that END.
+#[derive(Clone, Copy, Debug)]
+pub struct Row {
+    pub longest: u64,
+    pub end: Option<usize>,
+}
+
+/// Lengths over the greatest budget aren't told apart.
+fn told(length: u64) -> u64
+    ensures { result ≡ min length most_told }
+{
+    length.min(GREATEST + 1)
+}
+
+fn flow_at(code: &[Instr], place: usize) -> Flow
+    requires { place < length code.now }
+    ensures { slice_get (flows code.now) place ≡ Some result }
+{
+    code[place].flow()
+}
+
+pub fn row_of(code: &[Instr], rows: &[Row], from: usize, place: usize) -> Row
+    requires ahead { from ≤ place }
+    requires within { place < length code.now }
+    requires known { RowsFrom (flows code.now) rows.now from }
+    ensures row { IsRow (flows code.now) place result }
+    ensures bound { result.longest ≤ most_told }
+{
+    rows[place]
+}
+
+/// The row of a place, from the rows further on.
+pub fn row_at(code: &[Instr], rows: &[Row], place: usize) -> Row
+    requires within { place < length code.now }
+    requires sound { IsSound (flows code.now) }
+    requires known { RowsFrom (flows code.now) rows.now (place + 1) }
+    ensures { IsRow (flows code.now) place result }
+{
+    let next = place + 1;
+    match flow_at(code, place) {
+        Flow::Straight => {
+            let on = row_of(code, rows, next, next);
+            Row {
+                longest: told(1 + on.longest),
+                end: on.end,
+            }
+        }
+        Flow::Branch(skip) => {
+            let on = row_of(code, rows, next, next);
+            let skipped = row_of(code, rows, next, next + skip as usize);
+            Row {
+                longest: told(1 + on.longest.max(skipped.longest)),
+                end: on.end,
+            }
+        }
+        Flow::Jump(skip) => {
+            let on = row_of(code, rows, next, next + skip as usize);
+            Row {
+                longest: told(1 + on.longest),
+                end: on.end,
+            }
+        }
+        Flow::Begin(turns) => loop_row(code, rows, place, turns),
+        Flow::Close => Row {
+            longest: 1,
+            end: Some(place),
+        },
+        Flow::Stop => Row {
+            longest: 1,
+            end: None,
+        },
+    }
+}
+
+/// The row of a REPEAT: its turns, and what comes after the loop.
+fn loop_row(code: &[Instr], rows: &[Row], place: usize, turns: u16) -> Row
+    requires within { place < length code.now }
+    requires begins { slice_get (flows code.now) place ≡ Some (Flow.Begin turns) }
+    requires sound { IsSound (flows code.now) }
+    requires known { RowsFrom (flows code.now) rows.now (place + 1) }
+    ensures { IsRow (flows code.now) place result }
+{
+    let body = row_of(code, rows, place + 1, place + 1);
+    match body.end {
+        Some(end) => {
+            let on = row_of(code, rows, place + 1, end + 1);
+            Row {
+                longest: told(1 + turns as u64 * body.longest + on.longest),
+                end: on.end,
+            }
+        }
+        None => unreachable!(),
+    }
+}

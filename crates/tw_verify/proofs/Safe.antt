@@ -1,0 +1,62 @@
+-- Accepted programs reach no trap.
+use Rattle.std.proofs.Common.{◌≡◌, ℕ, zero, suc, true, List, [], ◌∷◌, length, slice_get, Option, Some, None, refl, subst}
+use Rattle.std.proofs.lemmas.Option.{same_Some}
+use Rattle.std.specs.List.{AllByRecursion}
+use Rattle.tw_types.specs.Layout.{ActorCounts}
+use Rattle.tw_code.specs.declared.procedure.Procedure.{Procedure}
+use Rattle.tw_code.specs.Machine.{State, step, run}
+use Rattle.tw_code.specs.Opening.{opening}
+use Rattle.tw_code.specs.Program.{IsProcedure, IsProgram}
+use Rattle.tw_code.specs.Typing.{Typing}
+use Rattle.tw_code.specs.WellTyped.{IsWellTyped, IsAccepted}
+use Rattle.tw_budget.specs.Sound.{sound_flows}
+use Rattle.tw_verify.specs.Invariant.{Typings, IsHeld}
+use Rattle.tw_verify.specs.NoTrap.{has_no_inputs, IsSafe, NoTrap}
+use Rattle.tw_verify.proofs.Events.{step_keeps, run_keeps, one_step, below}
+use Rattle.tw_verify.proofs.Moving.{Accepts}
+use Rattle.tw_verify.proofs.Opening.{opening_held}
+use Rattle.tw_verify.proofs.Steps.{keeps_went, keeps_no_trap}
+
+within_limits : (program : List Procedure) (k : ℕ) (p : Procedure) → AllByRecursion IsProcedure program → slice_get program k ≡ Some p → IsProcedure p
+within_limits [] k p all here = cc
+within_limits (q ∷ program) zero p all here = subst IsProcedure (same_Some q p here) all.0
+within_limits (q ∷ program) (suc k) p all here = within_limits program k p all.1 here
+
+module _ (program : List Procedure) (is : IsProgram program) (accepted : IsAccepted program) where
+  -- the typings that each procedure has
+  typings_from : (k : ℕ) (o : Option Procedure) → slice_get program k ≡ o → List Typing
+  typings_from k None e = []
+  typings_from k (Some p) e = (accepted.each k p e).typable.0
+
+  typings : Typings
+  typings k = typings_from k (slice_get program k) refl
+
+  are_typings : (k : ℕ) (o : Option Procedure) (e : slice_get program k ≡ o) (p : Procedure) → o ≡ Some p → IsWellTyped program p (typings_from k o e) (length p.code)
+  unfolding typings_from
+  are_typings k None e p f = cc
+  are_typings k (Some q) e p f = subst (λ (r : Procedure). IsWellTyped program r (accepted.each k q e).typable.0 (length r.code)) (same_Some q p f) (accepted.each k q e).typable.1
+
+  accepts : (k : ℕ) (p : Procedure) → slice_get program k ≡ Some p → Accepts program (typings k) p
+  unfolding typings
+  accepts k p here = record {
+    typed = are_typings k (slice_get program k) refl p here;
+    sound = sound_flows p (within_limits program k p is.1 here) (accepted.each k p here).structured;
+    budget = ((accepted.each k p here).budget.0, (accepted.each k p here).budget.1);
+  }
+
+  safe : (layout : ActorCounts) (s : State) → IsHeld program typings s → IsSafe program layout s
+  safe layout s held = record {
+    no_trap = λ event cause e. keeps_no_trap (step program layout event s) (IsHeld program typings) cause (step_keeps program typings accepts layout event s held) e;
+    one_step = λ a f at. one_step program typings accepts layout s a f held at;
+    below = λ a f at. below program typings accepts layout s a f held at;
+  }
+
+  all_held : IsHeld program typings (opening program []) → NoTrap program
+  all_held opened = record {
+    run_goes = λ layout events cause e. keeps_no_trap (run program layout events (opening program [])) (IsHeld program typings) cause (run_keeps program typings accepts layout events (opening program []) opened) e;
+    reached_is_safe = λ layout events s e. safe layout s (keeps_went (run program layout events (opening program [])) (IsHeld program typings) s (run_keeps program typings accepts layout events (opening program []) opened) e);
+  }
+
+pub no_trap : (program : List Procedure) → IsProgram program → IsAccepted program → has_no_inputs program ≡ true → NoTrap program
+no_trap [] is accepted writes = let main = accepted.main in cc
+no_trap (main ∷ others) is accepted writes = all_held (main ∷ others) is accepted (opening_held main others (typings (main ∷ others) is accepted) is.1.0.params.1 writes)

@@ -1,0 +1,8 @@
+use Rattle.std.proofs.Common.{◌≡◌, ◌≤◌}
+use Rattle.tw_code.specs.Flow.{flows}
+use Rattle.tw_code.specs.Structure.{depth_of}
+use Rattle.tw_verify.specs.Loops.{DepthsTo}
+use Rattle.tw_verify.proofs.loops.all_depths.Given as goal
+
+abbrev pub invariant-loop-place : goal.invariant-loop-place
+invariant-loop-place l = record { known : DepthsTo (flows l.code) l.depths.items l.place; depth : l.depth ≡ depth_of (flows l.code) l.place; shallow : l.depth ≤ l.place }

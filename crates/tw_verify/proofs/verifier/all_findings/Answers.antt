@@ -1,0 +1,29 @@
+use Rattle.std.proofs.Common.{◌≡◌, ◌+◌, ◌∷◌, [], ◌++◌, List, length, refl, sym, ◌∙◌, subst}
+use Rattle.std.proofs.lemmas.Option.{slice_get_read}
+use Rattle.tw_verify.specs.declared.fault.Refusal.{Refusal}
+use Rattle.tw_verify.specs.declared.findings.Findings.{Findings}
+use Rattle.tw_verify.specs.Passes.{IsRefusal}
+use Rattle.tw_verify.specs.Verified.{AreTyped}
+use Rattle.tw_verify.proofs.Programs.{refused_by, one_more}
+use Rattle.tw_verify.proofs.verifier.all_findings.Goals as goal
+
+pub returns-in-Err-clause-refused : goal.returns-in-Err-clause-refused
+returns-in-Err-clause-refused c =
+    let program = c.args.procedures.now in
+    let number = c.loop-number.number in
+    let p = c.index-procedures-number.result in
+    let here = slice_get_read program (length program) number p refl c.loop-number-test.true c.index-procedures-number.is in
+    let main = sym c.starts_with_main.ensures ∙ c.if-not-starts_with_main.false in
+    subst (λ (r : Refusal). IsRefusal program r.no r.procedure r.place) (sym c.new.ensures)
+    (refused_by program c.loop-number.all.items number p c.in-Err.fault main c.loop-number.invariant here c.in-Err.ensures.refused)
+
+pub loop-number-preserved : goal.loop-number-preserved
+loop-number-preserved c =
+    let program = c.args.procedures.now in
+    let number = c.loop-number.number in
+    let p = c.index-procedures-number.result in
+    let own = c.in-Ok.findings in
+    let here = slice_get_read program (length program) number p refl c.loop-number-test.true c.index-procedures-number.is in
+    let kept : c.keep.new.list.items ≡ c.loop-number.all.items ++ own ∷ [] = c.in_ok-keep.ensures in
+    subst (λ (all : List Findings). AreTyped program all (number + 1)) (sym kept)
+    (one_more program c.loop-number.all.items number p own c.loop-number.invariant here c.in-Ok.ensures.accepted)

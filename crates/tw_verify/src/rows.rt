@@ -1,0 +1,113 @@
+//! What reaches the places ahead.
+
+ghost use Rattle.std.specs.Prelude.{◌≡◌, ℕ, ◌<◌, Option, Some, None, length, slice_get, IfOk, ◌^◌};
+ghost use Rattle.tw_code.specs.Flow.{flow_of, onward};
+ghost use Rattle.tw_code.specs.Program.{IsInstr};
+ghost use Rattle.tw_code.specs.Typing.{after};
+ghost use Rattle.tw_code.specs.declared.flow.Way.TheVariants.{Done, Refused};
+ghost use Rattle.tw_verify.specs.Passes.{noted, sent, first_row};
+ghost use Rattle.tw_verify.specs.declared.rows.Reached.{Reached};
+
+use crate::typing::Typing;
+use std::alloc::{AllocError, Global};
+use tw_code::{Flow, Instr, Procedure, Way};
+
+/// What has reached a place so far: the typing that came first, and whether another one came.
+#[derive(Clone, Copy, Debug)]
+pub(crate) struct Reached {
+    pub(crate) typing: Typing,
+    pub(crate) differs: bool,
+}
+
+fn note(reached: Option<Reached>, typing: Typing) -> Option<Reached>
+    ensures { result ≡ noted reached typing }
+{
+    match reached {
+        None => Some(Reached {
+            typing,
+            differs: false,
+        }),
+        Some(r) => Some(Reached {
+            typing: r.typing,
+            differs: r.differs || !r.typing.is_same(&typing),
+        }),
+    }
+}
+
+/// The later place where an instruction goes on by this outcome.
+fn next_place(way: Way, place: usize, flow: Flow) -> Option<usize>
+    requires { place < 2 ^ 32 }
+    ensures { result ≡ onward way place flow }
+{
+    match way {
+        Way::Done => match flow {
+            Flow::Straight | Flow::Branch(_) | Flow::Begin(_) | Flow::Close => Some(place + 1),
+            Flow::Jump(skip) => Some(place + 1 + skip as usize),
+            Flow::Stop => None,
+        },
+        Way::Refused => match flow {
+            Flow::Branch(skip) => Some(place + 1 + skip as usize),
+            Flow::Straight | Flow::Jump(_) | Flow::Begin(_) | Flow::Close | Flow::Stop => None,
+        },
+    }
+}
+
+/// Notes a typing at the place that it reaches, if that is in the code.
+fn send(rows: &mut [Option<Reached>], to: Option<usize>, typing: Typing)
+    ensures { (q : ℕ) (r : Option Reached) → slice_get rows.old q ≡ Some r
+        → slice_get rows.new q ≡ Some (sent to typing q r) }
+{
+    if let Some(place) = to {
+        if place < rows.len() {
+            rows[place] = note(rows[place], typing);
+        }
+    }
+}
+
+/// Notes what both outcomes of an instruction bring, first that which isn't refused.
+pub(crate) fn send_both(
+    rows: &mut [Option<Reached>],
+    procedures: &[Procedure],
+    place: usize,
+    instr: &Instr,
+    typing: Typing,
+)
+    requires operands { IsInstr instr.now }
+    requires short { place < 2 ^ 32 }
+    ensures { (q : ℕ) (r : Option Reached) → slice_get rows.old q ≡ Some r
+        → slice_get rows.new q
+        ≡ Some (sent (onward Refused place (flow_of instr.now)) (after procedures.now Refused instr.now typing) q
+        (sent (onward Done place (flow_of instr.now)) (after procedures.now Done instr.now typing) q r)) }
+{
+    let flow = instr.flow();
+    let done = typing.after(procedures, Way::Done, instr);
+    send(rows, next_place(Way::Done, place, flow), done);
+    let refused = typing.after(procedures, Way::Refused, instr);
+    send(rows, next_place(Way::Refused, place, flow), refused);
+}
+
+/// Before any instruction the parameters' typing has reached the first place, and nothing another one.
+pub(crate) fn first_rows(
+    alloc: Global,
+    count: usize,
+    start: Typing,
+) -> Result<Vec<Option<Reached>>, AllocError>
+    requires { 0 < count }
+    ensures { IfOk result (λ rows. (length rows.items ≡ count)
+        × ((q : ℕ) (r : Option Reached) → slice_get rows.items q ≡ Some r → r ≡ first_row start q)) }
+{
+    let mut rows = vec![in alloc; None; count]?;
+    rows[0] = Some(Reached {
+        typing: start,
+        differs: false,
+    });
+    Ok(rows)
+}
+
+/// What has reached a place.
+pub(crate) fn row_at(rows: &[Option<Reached>], place: usize) -> Option<Reached>
+    requires { place < length rows.now }
+    ensures { slice_get rows.now place ≡ Some result }
+{
+    rows[place]
+}
