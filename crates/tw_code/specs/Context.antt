@@ -3,14 +3,16 @@
 -- The lines of an instruction stand in the order of the causes: register types (C13), empty registers (C1), freed
 -- data (C2), types of data (C6), unset or open data (C3, C4), set data (C5), counts (C7, C8), closed containers (C9);
 -- each is asked of all operands before the next.
-use Rattle.std.specs.Prelude.{ℕ, ◌-◌, ◌==◌, Bool, true, false, not, if◌then◌else◌, List, Option, Some, None, slice_get, slice_set}
+use Rattle.std.specs.Prelude.{ℕ, ◌==◌, Bool, true, not, if◌then◌else◌, List, Option, Some, None, slice_get, slice_set}
 use Rattle.std.specs.Option.{option_and_then, option_flatten}
 use Rattle.std.specs.FinMap as map
 use Rattle.tw_types.specs.declared.cause.Cause.TheVariants.{EmptyRegister, FreedDatum, AlreadySet, WrongType, NoWriteCount, WrongRegister}
 use Rattle.tw_types.specs.declared.value.Value.{Value}
 use Rattle.tw_types.specs.Outcome.{Outcome, Went, NotEnabled, ◌>>=◌, ◌>>◌, there, must}
 use Rattle.tw_types.specs.Value.{same_scalar, scalar_of}
-use Rattle.tw_types.specs.Store.{Content, Unset, Set, Contains, Datum, Store, is_scalar, with_datum}
+pub use Rattle.tw_types.specs.StoreCalls.{set_to}
+pub use Rattle.tw_types.specs.StoreChecks.{is_unset}
+use Rattle.tw_types.specs.Store.{Datum, Store, is_scalar, with_datum}
 use Rattle.tw_code.specs.declared.instr.Instr.{Instr}
 use Rattle.tw_code.specs.declared.instr.Instr.TheVariants as instr
 use Rattle.tw_code.specs.Position.{Position, value_at, at_next_place}
@@ -48,11 +50,6 @@ abbrev pub suits : Value → Option Datum → Bool
 suits x None = true
 suits x (Some d) = if is_scalar d.ty then same_scalar (scalar_of x) d.ty.scalar else true
 
-abbrev pub is_unset : Content → Bool
-is_unset Unset = true
-is_unset (Set _) = false
-is_unset (Contains _) = false
-
 -- ---- what it leaves
 
 abbrev pub with_right : Context → ℕ → Option ℕ → Context
@@ -60,10 +57,6 @@ with_right c register right = record c { rights = slice_set c.rights register ri
 
 abbrev pub gone_on : Context → Context
 gone_on c = record c { position = at_next_place c.position }
-
--- set, with one write spent
-abbrev pub set_to : Value → Datum → Datum
-set_to x d = record d { content = Set x; writes = d.writes - 1 }
 
 -- ---- one instruction on data, a case an instruction; any other isn't enabled
 

@@ -56,7 +56,7 @@ main_params (main ∷ others) = main.params
 
 -- closed, with one read
 abbrev pub closed_scalar : Value → Datum
-closed_scalar x = record { ty = scalar_type (scalar_of x); content = Set x; reads = 1; writes = 0 }
+closed_scalar x = record { ty = scalar_type (scalar_of x); content = Set x; reads = 1; writes = 0; subscribers = [] }
 
 -- the members have the ids from here on, by the order of their subscripts
 abbrev pub numbered : ℕ → List (ℤ × Value) → Members
@@ -67,7 +67,7 @@ numbered id (e ∷ es) = fin.insert (numbered (id + 1) es) e.0 id
 abbrev pub with_container : Store → Scalar → List (ℤ × Value) → Store
 with_container s ty es =
     fold (λ t e. added t (closed_scalar e.1))
-    (added s (record { ty = container_of (scalar_type ty); content = Contains (numbered (s.next + 1) es); reads = 1; writes = 0 })) es
+    (added s (record { ty = container_of (scalar_type ty); content = Contains (numbered (s.next + 1) es); reads = 1; writes = 0; subscribers = [] })) es
 
 abbrev pub with_input : Store → Input → Store
 with_input s (input.Int n) = added s (closed_scalar (value.Int n))

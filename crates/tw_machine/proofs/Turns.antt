@@ -6,7 +6,7 @@ use Rattle.tw_code.specs.Walk.{Loop, after_end, turned}
 -- a list that ends with this
 split : {A : Type 0} (xs : List A) (x : A) → 0 < length xs → x ≡ get_or xs (length xs - 1) x → (front : List A) × (xs ≡ front ++ x ∷ [])
 split [] x some is = absurd (omega arith)
-split (y ∷ []) x some is = ([], ap (λ z. z ∷ []) (sym is))
+split {A} (y ∷ []) x some is = let same : y ≡ x = sym is in ([], ap (λ (z : A). z ∷ []) same)
 split {A} (y ∷ z ∷ zs) x some is =
     let e : length (y ∷ z ∷ zs) - 1 ≡ suc (length (z ∷ zs) - 1) = omega arith in
     let rest = split (z ∷ zs) x (omega arith) (is ∙ ap (λ (n : ℕ). get_or (y ∷ z ∷ zs) n x) e) in

@@ -10,7 +10,6 @@ use crate::datum::Datum;
 use crate::frame::Frame;
 use crate::refused::Refused;
 use crate::store::Store;
-use crate::value::{copy_of, scalar_of};
 use std::alloc::Global;
 use tw_code::Instr;
 use tw_types::{Cause, Value};
@@ -27,7 +26,7 @@ fn suits(value: &Value, datum: Option<&Datum>) -> bool
     ensures { result ≡ suits value.now (option_copied datum.entry) }
 {
     match datum {
-        Some(datum) => datum.ty().depth() != 0 || scalar_of(value) == datum.ty().scalar(),
+        Some(datum) => datum.ty().depth() != 0 || value.scalar() == datum.ty().scalar(),
         None => true,
     }
 }
@@ -54,7 +53,7 @@ fn store(
         .ok_or(Refused::Trap(Cause::EmptyRegister))?;
     let target = store.datum(id).ok_or(Refused::Trap(Cause::FreedDatum))?;
     target.may_be_set()?;
-    let value = copy_of(alloc, value)?;
+    let value = value.try_clone(alloc)?;
     store.set(id, value);
     frame.empty(datum);
     frame.go_on();

@@ -34,6 +34,7 @@ pub struct Datum {
 }
 
 impl Model for Datum {
+    ghost use Rattle.std.specs.Prelude.{[]};
     ghost use Rattle.tw_types.specs.Store.{Datum as Meaning};
     ghost use Rattle.std.specs.FinMap.{code};
     ghost use Rattle.std.specs.Ordering.{int_cmp};
@@ -45,7 +46,7 @@ impl Model for Datum {
 
     ghost use Rattle.tw_machine.specs.Content.{content_of};
 
-    ghost view = { λ d. record { ty = d.ty; content = content_of d.content; reads = d.reads; writes = d.writes } };
+    ghost view = { λ d. record { ty = d.ty; content = content_of d.content; reads = d.reads; writes = d.writes; subscribers = [] } };
 }
 
 impl Datum {

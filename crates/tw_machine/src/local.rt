@@ -11,7 +11,6 @@ use crate::code::instr_at;
 use crate::compute::{int_shown_as, joined, result_of, same_value, shown};
 use crate::position::Position;
 use crate::refused::Refused;
-use crate::value::{copy_of, copy_of_text, scalar_of};
 use std::alloc::{AllocError, Global};
 use tw_code::{Arithmetic, Instr};
 use tw_types::{Cause, Scalar, Text, Value};
@@ -50,7 +49,7 @@ fn must_have_type(position: &Position, register: u8, ty: Scalar) -> Result<(), R
     ensures declared { OnOk result (register < length position.now.values) }
 {
     let value = value_at(position, register)?;
-    if scalar_of(value) == ty {
+    if value.scalar() == ty {
         Ok(())
     } else {
         Err(Refused::Trap(Cause::WrongRegister))
@@ -71,7 +70,7 @@ fn text(alloc: Global, position: &mut Position, to: u8, text: &Text) -> Result<(
     ensures { Changes (local_instr (TEXT to text.now) position.old) position.old result position.new }
 {
     must_have_type(position, to, Scalar::Text)?;
-    let copy = copy_of_text(alloc, text)?;
+    let copy = text.try_clone(alloc)?;
     position.put(to, Value::Text(copy));
     Ok(())
 }
@@ -81,8 +80,8 @@ fn copy(alloc: Global, position: &mut Position, to: u8, from: u8) -> Result<(), 
     ensures { Changes (local_instr (COPY to from) position.old) position.old result position.new }
 {
     let value = value_at(position, from)?;
-    must_have_type(position, to, scalar_of(value))?;
-    let copy = copy_of(alloc, value)?;
+    must_have_type(position, to, value.scalar())?;
+    let copy = value.try_clone(alloc)?;
     position.put(to, copy);
     Ok(())
 }

@@ -5,7 +5,6 @@ ghost use Rattle.std.specs.Option.{option_copied, option_map};
 ghost use Rattle.tw_code.specs.Position.{at_next_place, at_goal, with_value};
 ghost use Rattle.tw_code.specs.Walk.{after_end};
 
-use crate::value::copy_of;
 use std::alloc::{AllocError, Global};
 use std::marker::Model;
 use tw_types::Value;
@@ -163,7 +162,7 @@ fn copies_of(alloc: Global, values: &[Value]) -> Result<Vec<Value>, AllocError>
 {
     let mut copies = Vec::new(alloc);
     for value in values {
-        copies.push(copy_of(alloc, value)?)?;
+        copies.push(value.try_clone(alloc)?)?;
     }
     Ok(copies)
 }

@@ -12,7 +12,7 @@ ghost use Rattle.tw_machine.specs.Args.{arg_of};
 ghost use Rattle.tw_machine.specs.Attempts.{IsRefused};
 
 use crate::refused::Refused;
-use crate::value::{blank_of, copy_of, scalar_of};
+use crate::value::blank_of;
 use std::alloc::{AllocError, Global};
 use std::marker::Model;
 use tw_types::{Actor, Cause, DatumId, Kind, Scalar, Value};
@@ -118,10 +118,10 @@ fn first_values(alloc: Global, args: &[Arg], registers: &[Scalar]) -> Result<Vec
     for arg in args {
         if let Arg::Value(value) = arg {
             let declared = registers.get(values.len()).copied();
-            if declared != Some(scalar_of(value)) {
+            if declared != Some(value.scalar()) {
                 return Err(Refused::Trap(Cause::WrongRegister));
             }
-            values.push(copy_of(alloc, value)?)?;
+            values.push(value.try_clone(alloc)?)?;
         }
     }
     Ok(values)

@@ -15,10 +15,13 @@ lines_more number budget [] p lines is found =
     (budget, [], found, ap (λ (text : List ℕ). text ++ procedure_line (number + 0) p.kind budget) is ∙ ap (λ (n : ℕ). procedure_line n p.kind budget) same ∙ sym (append-nil (procedure_line number p.kind budget)), refl)
 lines_more number budget (q ∷ ps) p lines (own, rest, has, is, others) found =
     let same : number + length (q ∷ ps) ≡ suc number + length ps = omega arith in
-    let line = procedure_line (suc number + length ps) p.kind budget in
-    (own, rest ++ line, has,
-    ap (λ (n : ℕ). lines ++ procedure_line n p.kind budget) same ∙ ap (λ (text : List ℕ). text ++ line) is ∙ append_assoc (procedure_line number q.kind own) rest line,
-    lines_more (suc number) budget ps p rest others found)
+    let line = procedure_line (suc number + length ps) p.kind budget in (
+      own,
+      rest ++ line,
+      has,
+      ap (λ (n : ℕ). lines ++ procedure_line n p.kind budget) same ∙ ap (λ (text : List ℕ). text ++ line) is ∙ append_assoc (procedure_line number q.kind own) rest line,
+      lines_more (suc number) budget ps p rest others found,
+    )
 
 -- what has been added after so many procedures
 abbrev pub HasLines : List Procedure → ℕ → List ℕ → List ℕ → Type 0
@@ -45,10 +48,12 @@ read_line program items i budget p old now next same has inside here found added
 -- the first line, those of the procedures, and the last one
 pub whole_text : (program : List Procedure) (first second third : List ℕ) (engines workers : ℕ) → first ≡ codes "accepted\n" → ((lines : List ℕ) × AreProcedureLines 0 program lines × (second ≡ first ++ lines))
     → third ≡ second ++ needs_line engines workers → engines ≡ 0 → workers ≡ 0 → IsCheckText program third
-whole_text program first second third engines workers start (lines, are, is) more none idle =
-    (lines, are,
-    more
-    ∙ ap (λ (n : ℕ). second ++ needs_line n workers) none
-    ∙ ap (λ (n : ℕ). second ++ needs_line 0 n) idle
-    ∙ ap (λ (text : List ℕ). text ++ needs_line 0 0) (is ∙ ap (λ (text : List ℕ). text ++ lines) start)
-    ∙ append_assoc (codes "accepted\n") lines (needs_line 0 0))
+whole_text program first second third engines workers start (lines, are, is) more none idle = (
+  lines,
+  are,
+  more
+      ∙ ap (λ (n : ℕ). second ++ needs_line n workers) none
+      ∙ ap (λ (n : ℕ). second ++ needs_line 0 n) idle
+      ∙ ap (λ (text : List ℕ). text ++ needs_line 0 0) (is ∙ ap (λ (text : List ℕ). text ++ lines) start)
+      ∙ append_assoc (codes "accepted\n") lines (needs_line 0 0),
+)

@@ -1,17 +1,15 @@
 -- One engine runs main alone: which of its events are enabled, and what they leave.
-use Rattle.std.proofs.Common.{◌≡◌, ◌≢◌, ◌<◌, ◌≤◌, ◌+◌, ◌-◌, ℕ, zero, suc, Bool, true, false, not, eqb, cond, List, [], ◌∷◌, ◌++◌, length, refl, sym, ap, subst, ◌∙◌, ◌⊎◌, inl, inr, arith, is_some, is_none, Option, Some, None, map, slice_get}
+use Rattle.std.proofs.Common.{◌≡◌, ◌<◌, ◌+◌, ◌-◌, ℕ, true, false, not, eqb, cond, List, [], ◌∷◌, length, refl, sym, ap, subst, ◌∙◌, ◌⊎◌, inl, inr, arith, is_some, is_none, Option, Some, None, map, slice_get}
 use Rattle.std.proofs.lemmas.Bool.Decides.{nat_tests}
-use Rattle.std.specs.Ordering.{nat_cmp, on, then_cmp}
+use Rattle.std.specs.Ordering.{nat_cmp}
 use Rattle.std.specs.Cmp.{IsTotalOrder, nat_cmp_total, on_total, then_total}
 use Rattle.std.specs.FinMap as fin
 use Rattle.std.specs.FinMap.{FinMap, get-empty, get-insert, len-empty, len-insert, len-remove, entries-insert, put, len-entries}
-use Rattle.tw_types.specs.declared.actor.Actor.{Actor}
-use Rattle.tw_types.specs.declared.actor.Actor.TheVariants.{Engine}
 use Rattle.tw_types.specs.declared.event.Event.{Event}
 use Rattle.tw_types.specs.declared.event.Event.TheVariants.{Take, Local, Call, End}
-use Rattle.tw_types.specs.Outcome.{Outcome, Went, NotEnabled, Trap, ◌>>=◌, ◌>>◌, there, must, only_if}
+use Rattle.tw_types.specs.Outcome.{Went, ◌>>=◌, ◌>>◌, there, must, only_if}
 use Rattle.tw_types.specs.Actor.{actor_cmp, rank_of, number_of}
-use Rattle.tw_types.specs.Task.{Arg, RightArg, Task, Tasks, best, best_of}
+use Rattle.tw_types.specs.Task.{RightArg, Task, best}
 use Rattle.tw_code.specs.declared.procedure.Procedure.{Procedure}
 use Rattle.tw_code.specs.declared.instr.Instr.{Instr}
 use Rattle.tw_code.specs.declared.instr.Instr.TheVariants as instr
@@ -21,7 +19,7 @@ use Rattle.tw_types.specs.declared.value.Value.TheVariants as value
 use Rattle.tw_code.specs.Position.{Position, value_at, int_in, int_at, text_in, text_at, same_value, must_have_type, instr_at, is_local, local_instr, local_step, local_steps}
 use Rattle.tw_code.specs.Structure.{is_stop}
 use Rattle.tw_code.specs.Walk.{after_end}
-use Rattle.tw_machine.specs.Stretch.{IsStretch, steps_from}
+use Rattle.tw_machine.specs.Stretch.{steps_from}
 use Rattle.tw_types.specs.Store.{Store, is_scalar}
 use Rattle.tw_types.specs.declared.cause.Cause.TheVariants.{RightLeft, OutsideCode, NoLoop, WrongCall, WrongRegister, WrongType, AlreadySet, NoWriteCount}
 use Rattle.tw_code.specs.Flow.{flow_of}
@@ -29,13 +27,13 @@ use Rattle.tw_code.specs.Context.{Context, datum_at, right_at, held, live, suits
 use Rattle.tw_main.specs.Driving.{engine, IsAlone, IsDone, IsLocalNext, IsEnd, IsCall, IsSingle, IsNext}
 use Rattle.tw_types.specs.Store.{empty_store}
 use Rattle.tw_types.specs.Value.{blank_of}
-use Rattle.tw_code.specs.Machine.{State, Frame, step, run, values_in, ids_in, sixteen, with_frame, Standing, standing_of, procedure_of, frame_of, context_of, after_context}
+use Rattle.tw_code.specs.Machine.{State, Frame, step, values_in, ids_in, sixteen, with_frame, Standing, standing_of, procedure_of, context_of, after_context}
 use Rattle.tw_code.specs.Opening.{opening, opened, main_params, main_task}
 use Rattle.tw_code.specs.Ending.{ending}
 use Rattle.tw_types.specs.declared.ending.Ending.TheVariants.{Quiet}
 use Rattle.std.specs.List.{list_all}
 use Rattle.tw_main.specs.Run.{run_layout}
-use Rattle.tw_main.proofs.Never.{IsEnabled, enabled-bind, enabled-then, enabled-there, enabled-must, went-bind, went-then, went-there, went-must, went-only_if}
+use Rattle.tw_main.proofs.Never.{IsEnabled, enabled-bind, enabled-then, enabled-there, enabled-must, went-bind, went-then, went-there}
 
 actors_total : IsTotalOrder actor_cmp
 actors_total = then_total (on_total rank_of nat_cmp_total) (on_total number_of nat_cmp_total)

@@ -1,5 +1,5 @@
 -- A run that is one event longer.
-use Rattle.std.proofs.Common.{◌≡◌, List, [], ◌∷◌, ◌++◌, refl, ap, ◌∙◌}
+use Rattle.std.proofs.Common.{◌≡◌, List, [], ◌∷◌, ◌++◌, ap, ◌∙◌}
 use Rattle.tw_types.specs.declared.event.Event.{Event}
 use Rattle.tw_types.specs.Layout.{ActorCounts}
 use Rattle.tw_types.specs.Outcome.{Outcome, Went, ◌>>=◌}

@@ -1,5 +1,5 @@
 -- What the driver knows after each event, over plain variables.
-use Rattle.std.proofs.Common.{◌≡◌, ◌<◌, ◌≤◌, ◌+◌, ◌*◌, ◌⊎◌, inl, inr, ℕ, suc, List, [], ◌∷◌, ◌++◌, length, refl, sym, ap, subst, ◌∙◌, arith, length-append, Option, Some, None}
+use Rattle.std.proofs.Common.{◌≡◌, ◌<◌, ◌≤◌, ◌+◌, ◌*◌, ◌⊎◌, inl, inr, ℕ, List, [], ◌∷◌, ◌++◌, length, refl, sym, ap, subst, ◌∙◌, arith, length-append, Some, None}
 use Rattle.std.specs.FinMap as fin
 use Rattle.tw_types.specs.declared.cause.Cause.{Cause}
 use Rattle.tw_types.specs.declared.ending.Ending.{Ending}
@@ -13,7 +13,6 @@ use Rattle.tw_code.specs.Bounds.{AreBelow, size_of}
 use Rattle.tw_code.specs.Ending.{ending}
 use Rattle.tw_code.specs.Machine.{State, Frame, step, run}
 use Rattle.tw_code.specs.Opening.{opening}
-use Rattle.tw_main.specs.declared.run.RunEnd.{RunEnd}
 use Rattle.tw_main.specs.declared.run.RunEnd.TheVariants as run_end
 use Rattle.tw_main.specs.Run.{IsRun, run_layout}
 use Rattle.tw_main.specs.Driving.{engine, IsAlone, IsDone, IsDriven, IsNext, most_steps}

@@ -1,11 +1,11 @@
 -- What the driver keeps while one engine runs main: which event comes next, and what is known of the state.
-use Rattle.std.specs.Prelude.{◌≡◌, ◌⊎◌, ◌<◌, ◌≤◌, ◌+◌, ◌*◌, ℕ, Bool, true, false, List, [], length, Option, Some, None, slice_get}
+use Rattle.std.specs.Prelude.{◌≡◌, ◌⊎◌, ◌<◌, ◌+◌, ◌*◌, ℕ, true, false, List, [], length, Option, Some, None, slice_get}
 use Rattle.std.specs.FinMap as fin
 use Rattle.tw_types.specs.declared.actor.Actor.{Actor}
 use Rattle.tw_types.specs.declared.actor.Actor.TheVariants.{Engine}
 use Rattle.tw_types.specs.declared.event.Event.{Event}
 use Rattle.tw_types.specs.declared.event.Event.TheVariants.{Local, Call, End}
-use Rattle.tw_types.specs.Outcome.{Outcome, Went, NotEnabled, Trap}
+use Rattle.tw_types.specs.Outcome.{Went}
 use Rattle.tw_code.specs.declared.procedure.Procedure.{Procedure}
 use Rattle.tw_code.specs.declared.instr.Instr.{Instr}
 use Rattle.tw_code.specs.Flow.{flow_of}

@@ -1,6 +1,5 @@
 -- How the runs of a program may end that `run` reports.
 use Rattle.std.specs.Prelude.{◌≡◌, ℕ, suc, List, [], length, Some, None}
-use Rattle.tw_types.specs.declared.cause.Cause.{Cause}
 use Rattle.tw_types.specs.declared.ending.Ending.TheVariants.{Quiet}
 use Rattle.tw_types.specs.declared.event.Event.{Event}
 use Rattle.tw_types.specs.Layout.{ActorCounts}

@@ -6,7 +6,6 @@ use Rattle.clap.specs.declared.error.ErrorKind.{ErrorKind}
 use Rattle.clap.specs.declared.error.ErrorKind.TheVariants.{DisplayHelp}
 use Rattle.tw_main.specs.declared.status.Status.{Status}
 use Rattle.tw_main.specs.declared.status.Status.TheVariants.{Ended, NoMemory, ReadFailed, WriteFailed}
-use Rattle.tw_main.specs.declared.status.Close.{Close}
 use Rattle.tw_main.specs.declared.status.Close.TheVariants.{Success, Refused, CommandLine, Limit, Trapped}
 
 -- memory sufficed, and no read or write failed

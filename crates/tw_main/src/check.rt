@@ -49,12 +49,7 @@ fn put_procedure_lines(
 }
 
 /// Adds the line of what the targets need.
-fn put_needs(
-    alloc: Global,
-    out: &mut Vec<u8>,
-    engines: u8,
-    workers: u8,
-) -> Result<(), AllocError>
+fn put_needs(alloc: Global, out: &mut Vec<u8>, engines: u8, workers: u8) -> Result<(), AllocError>
     ensures { OnOk result (out.new.items ≡ out.old.items ++ needs_line engines workers) }
 {
     put_numbered(alloc, out, "needs engines ", usize::from(engines))?;

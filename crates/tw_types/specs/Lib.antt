@@ -8,5 +8,8 @@ pub mod Outcome
 pub mod Actor
 pub mod Value
 pub mod Store
+pub mod StoreCalls
+pub mod StoreChecks
+pub mod Counts
 pub mod Task
 pub mod ActorOrder

@@ -1,10 +1,12 @@
 -- The store: a finite map from the ids of live data to data; and how a datum closes and is freed.
-use Rattle.std.specs.Prelude.{ℕ, zero, suc, ◌+◌, ◌-◌, ◌==◌, Bool, true, false, ◌&&◌, if◌then◌else◌, List, [], fold, Option, Some, None}
+use Rattle.std.specs.Prelude.{ℕ, zero, suc, ◌+◌, ◌-◌, ◌==◌, Bool, true, false, ◌&&◌, if◌then◌else◌, List, [], fold, map as each, ◌%◌, Option, Some, None}
 use Rattle.std.specs.Ordering.{nat_cmp, int_cmp}
 use Rattle.std.specs.FinMap as map
 use Rattle.std.specs.FinMap.{FinMap}
 use Rattle.tw_types.specs.Nesting.{NestedScalar}
 use Rattle.tw_types.specs.declared.value.Value.{Value}
+use Rattle.tw_types.specs.declared.notice.Subscriber.{Subscriber}
+use Rattle.tw_types.specs.declared.notice.Notice.{Notice}
 
 -- the id at each subscript
 abbrev pub Members : Type 0
@@ -16,11 +18,13 @@ pub data Content : Type 0 where
   Set : Value → Content
   Contains : Members → Content
 
+-- with how many rights are held on it, and who waits for it, in the order of asking
 pub record Datum : Type 0 where
   pub ty : NestedScalar
   pub content : Content
   pub reads : ℕ
   pub writes : ℕ
+  pub subscribers : List Subscriber
 
 -- the live data by their ids
 abbrev pub Data : Type 0
@@ -51,13 +55,30 @@ is_closed x = closed_at x.content
 abbrev pub empty_content : NestedScalar → Content
 empty_content ty = if is_scalar ty then Unset else Contains map.empty
 
--- with one read and one write
+-- with one read and one write, and nobody waits for it
 abbrev pub new_datum : NestedScalar → Datum
-new_datum ty = record { ty = ty; content = empty_content ty; reads = 1; writes = 1 }
+new_datum ty = record { ty = ty; content = empty_content ty; reads = 1; writes = 1; subscribers = [] }
 
 -- the store with one datum more, at the next id
 abbrev pub added : Store → Datum → Store
 added s x = record { live = map.insert s.live s.next x; next = s.next + 1 }
+
+-- ---- closing
+
+-- the subscribers of a closed datum have become notices
+abbrev pub told : Datum → Datum
+told x = if is_closed x then record x { subscribers = [] } else x
+
+abbrev pub notice_to : ℕ → Subscriber → Notice
+notice_to id s = record { datum = id; rule = s.rule; parameter = s.parameter }
+
+-- the notices that a datum's subscribers become when it is closed, in the order of asking
+abbrev pub notices_of : ℕ → Datum → List Notice
+notices_of id x = if is_closed x then each (notice_to id) x.subscribers else []
+
+-- the server that delivers the notices of a datum
+abbrev pub server_of : ℕ → ℕ → ℕ
+server_of servers id = id % servers
 
 -- ---- freeing
 

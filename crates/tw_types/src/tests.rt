@@ -93,3 +93,19 @@ fn actors_come_engines_first(rt: HostRuntime) {
     }
     assert_eq!(rt; Actor::Worker(7).number(), 7);
 }
+
+#[test]
+fn values_are_copied_with_their_types(rt: HostRuntime) -> Result<(), Fail> {
+    let number = Value::Int(7).try_clone(rt.alloc())?;
+    assert!(rt; matches!(number, Value::Int(7)));
+    assert_eq!(rt; number.scalar(), Scalar::Int);
+    let Ok(text) = Text::new(String::from_str(rt.alloc(), "ab")?) else {
+        return Err("a short text")?;
+    };
+    let value = Value::Text(text.try_clone(rt.alloc())?);
+    assert_eq!(rt; value.scalar(), Scalar::Text);
+    assert_eq!(rt; text.as_str(), "ab");
+    // A law, which computes nothing.
+    counts_kept();
+    Ok(())
+}

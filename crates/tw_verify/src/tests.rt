@@ -4,6 +4,8 @@ use std::test::*;
 use tw_code::{decode, encode};
 use tw_types::{DataType, Mode};
 
+mod search;
+
 // ---- the parts of the bytes
 
 /// INT v0 7.

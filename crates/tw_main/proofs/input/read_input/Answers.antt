@@ -1,4 +1,4 @@
-use Rattle.std.proofs.Common.{◌≡◌, ◌≤◌, ◌+◌, ◌++◌, ◌∙◌, ℕ, List, [], suc, length, take, Option, Some, None, IfSome, option_map, arith, length-take}
+use Rattle.std.proofs.Common.{◌≡◌, ◌≤◌, ◌+◌, ◌++◌, ◌∙◌, ℕ, List, [], length, take, Option, Some, None, IfSome, option_map, arith, length-take}
 use Rattle.std.proofs.lemmas.List.{take_all}
 use Rattle.tw_main.proofs.input.read_input.Goals as goal
 

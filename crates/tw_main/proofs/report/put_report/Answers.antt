@@ -1,4 +1,3 @@
-use Rattle.std.proofs.Common.{◌<◌, length}
 use Rattle.tw_main.proofs.Reports.{one_line_more}
 use Rattle.tw_main.proofs.report.put_report.Goals as goal
 

@@ -1,10 +1,9 @@
-use Rattle.std.proofs.Common.{◌≡◌, ◌^◌, ◌+◌, ◌*◌, ℕ, List, Some, None, sym, ap, subst, ◌∙◌, arith}
+use Rattle.std.proofs.Common.{◌≡◌, ◌+◌, ◌*◌, List, Some, sym, ap, subst, ◌∙◌}
 use Rattle.std.specs.FinMap as fin
 use Rattle.tw_code.specs.declared.procedure.Procedure.{Procedure}
-use Rattle.tw_code.specs.Bounds.{AreBelow}
 use Rattle.tw_code.specs.Machine.{State}
 use Rattle.tw_main.specs.Driving.{engine, IsNext, most_steps}
-use Rattle.tw_main.proofs.Stepping.{not_disabled, go_enabled, go_on, go_end, go_trap}
+use Rattle.tw_main.proofs.Stepping.{not_disabled, go_enabled, go_on, go_end}
 use Rattle.tw_main.proofs.run.advance.Goals as goal
 
 pub unreachable-requires-in-NotEnabled : goal.unreachable-requires-in-NotEnabled
