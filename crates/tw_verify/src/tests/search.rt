@@ -36,7 +36,8 @@ fn letter_of(digit: u32) -> Letter {
 
 /// A control procedure of one int register with this code.
 fn spelled(alloc: Global, code: &[Letter]) -> Result<Vec<u8>, Fail> {
-    let mut bytes = bytes_of(alloc, 1, &[&[0x00, 0, 1, 1, 0, code.len() as u8]])?;
+    let length = u8::try_from(code.len()).ok().ok_or("the code is short")?;
+    let mut bytes = bytes_of(alloc, 1, &[&[0x00, 0, 1, 1, 0, length]])?;
     for letter in code {
         match *letter {
             Letter::Int => bytes.extend_from_slice(&[0x01, 0, 0, 0, 0, 0, 0, 0, 0, 7])?,
