@@ -290,7 +290,7 @@ single_enabled program s f event a (inr (inr h)) = subst (λ (e : Event). IsEnab
 
 pub next_enabled : (program : List Procedure) (s : State) (f : Frame) (event : Event) → IsAlone s f → IsNext program f event → IsEnabled (step program run_layout event s)
 next_enabled program s f event a (inl (n, some, is, h)) = let go = h.go some in subst (λ (e : Event). IsEnabled (step program run_layout e s)) (sym is) (local_enabled program s f n a some go.0 go.1)
-next_enabled program s f event a (inr h) = single_enabled program s f event a h
+next_enabled program s f event a (inr (none, h)) = single_enabled program s f event a h
 
 single_leaves : (program : List Procedure) (s t : State) (f : Frame) (event : Event) → IsAlone s f → IsSingle program f event → step program run_layout event s ≡ Went t → ((g : Frame) × IsAlone t g) ⊎ IsDone t
 single_leaves program s t f event a (inl h) e = inl (local_leaves program s f 1 a (omega arith) t (ap (λ (v : Event). step program run_layout v s) (sym h.0) ∙ e))
@@ -299,7 +299,7 @@ single_leaves program s t f event a (inr (inr h)) e = inr (end_leaves program s 
 
 pub next_leaves : (program : List Procedure) (s t : State) (f : Frame) (event : Event) → IsAlone s f → IsNext program f event → step program run_layout event s ≡ Went t → ((g : Frame) × IsAlone t g) ⊎ IsDone t
 next_leaves program s t f event a (inl (n, some, is, h)) e = inl (local_leaves program s f n a some t (ap (λ (v : Event). step program run_layout v s) (sym is) ∙ e))
-next_leaves program s t f event a (inr h) e = single_leaves program s t f event a h e
+next_leaves program s t f event a (inr (none, h)) e = single_leaves program s t f event a h e
 
 -- ---- the ending
 

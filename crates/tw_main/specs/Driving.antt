@@ -60,9 +60,9 @@ IsCall program f = (p : Procedure) (i : Instr) → slice_get program f.procedure
 abbrev pub IsSingle : List Procedure → Frame → Event → Type 0
 IsSingle program f event = ((event ≡ Local engine 1) × IsLocalNext program f) ⊎ (((event ≡ Call engine) × IsCall program f) ⊎ ((event ≡ End engine) × IsEnd program f))
 
--- the event that comes next for the engine's frame: all the local instructions that go, in one stretch; or a single one
+-- the event that comes next for the engine's frame: all the local instructions that go, in one stretch; or a single one, but only where none goes
 abbrev pub IsNext : List Procedure → Frame → Event → Type 0
-IsNext program f event = ((n : ℕ) × (0 < n) × (event ≡ Local engine n) × IsStretch program f most_steps n) ⊎ IsSingle program f event
+IsNext program f event = ((n : ℕ) × (0 < n) × (event ≡ Local engine n) × IsStretch program f most_steps n) ⊎ (IsStretch program f most_steps 0 × IsSingle program f event)
 
 -- some history of so many events leads to this state, in which the engine runs main alone
 pub record IsDriven (program : List Procedure) (made : ℕ) (s : State) : Type 0 where

@@ -59,10 +59,9 @@ fn next_event(alloc: Global, program: &[Procedure], frame: &Frame) -> Result<Eve
     ensures size { IfOk result (λ event. size_of event ≤ most_steps) }
 {
     let steps = frame.local_steps(alloc, program, MOST_STEPS)?;
-    if steps > 0 {
-        Ok(Event::Local(ENGINE, steps))
-    } else {
-        Ok(single_event(program, frame))
+    match steps {
+        0 => Ok(single_event(program, frame)),
+        _ => Ok(Event::Local(ENGINE, steps)),
     }
 }
 
