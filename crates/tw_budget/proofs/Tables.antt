@@ -71,24 +71,27 @@ known_row code rows from place d known ahead within = known.each place (get_or r
 pub told_bound : (code : List Flow) (place : ℕ) (row : Row) → IsRow code place row → row.longest ≤ most_told
 told_bound code place row r = omega (arith, r.told)
 
+-- a table whose entries from the next place on are as they should be, and the one that is put here
+pub set_from : {A : Type 0} (P : ℕ → A → Type 0) (xs : List A) (place : ℕ) (x : A) → place < length xs → ((k : ℕ) (y : A) → place + 1 ≤ k → slice_get xs k ≡ Some y → P k y) → P place x → (k : ℕ) (y : A) → place ≤ k → slice_get (set xs place x) k ≡ Some y → P k y
+set_from {A} P xs place x within known r k y ahead at = cases (cases_lt place k)
+  where
+    cases : (place < k) ⊎ (k ≤ place) → P k y
+    cases (inl far) =
+        let other : k ≢ place = omega arith in
+        let inside : k < length xs = omega (arith, slice_get_within (set xs place x) k y at, length-set xs place x) in
+        let same = sym (get_or_from_slice_get (set xs place x) k y y at) ∙ get_or-set_other xs place k x y other in
+        known k y (omega arith) (slice_get-get_or xs k y inside ∙ ap Some (sym same))
+    cases (inr near) =
+        let here : k ≡ place = omega arith in
+        let same = sym (get_or_from_slice_get (set xs place x) k y y at) ∙ get_or-set_at xs place k x y here within in
+        subst (λ (z : A). P k z) (sym same) (subst (λ (n : ℕ). P n x) (sym here) r)
+
 -- the table with one row more
 pub rows_more : (code : List Flow) (rows : List Row) (place : ℕ) (row : Row) → place < length code → RowsFrom code rows (place + 1) → IsRow code place row → RowsFrom code (set rows place row) place
 rows_more code rows place row within known r = record {
   long = length-set rows place row ∙ known.long;
-  each = λ k y ahead at. cases k y ahead at (cases_lt place k);
+  each = set_from (IsRow code) rows place row (omega (arith, known.long)) known.each r;
 }
-  where
-    cases : (k : ℕ) (y : Row) → place ≤ k → slice_get (set rows place row) k ≡ Some y → ((place < k) ⊎ (k ≤ place)) → IsRow code k y
-    cases k y ahead at (inl far) =
-        let other : k ≢ place = omega arith in
-        let inside : k < length rows = omega (arith, slice_get_within (set rows place row) k y at, length-set rows place row) in
-        let same = sym (get_or_from_slice_get (set rows place row) k y y at) ∙ get_or-set_other rows place k row y other in
-        known.each k y (omega arith) (slice_get-get_or rows k y inside ∙ ap Some (sym same))
-    cases k y ahead at (inr near) =
-        let here : k ≡ place = omega arith in
-        let inside : place < length rows = omega (arith, known.long) in
-        let same = sym (get_or_from_slice_get (set rows place row) k y y at) ∙ get_or-set_at rows place k row y here inside in
-        subst (λ (x : Row). IsRow code k x) (sym same) (subst (λ (n : ℕ). IsRow code n row) (sym here) r)
 
 -- the first row tells of whole walks
 longest_walk : (code : List Flow) → IsSound code → (whole : ℕ) → IsLongest code 0 whole → (walk : List ℕ) × IsWalk code walk × (length walk ≡ whole)

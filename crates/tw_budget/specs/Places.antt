@@ -17,7 +17,7 @@ drop_at code place i at =
     drop_more code place i (slice_get_within code place i at) ∙ ap (λ (x : Flow). x ∷ drop (place + 1) code) (get_or_from_slice_get code place i i at)
 
 -- one place on, in the list that is left
-slide : (code rest : List Flow) (place : ℕ) (i : Flow) → i ∷ rest ≡ drop place code → (slice_get code place ≡ Some i) × (rest ≡ drop (place + 1) code)
+pub slide : (code rest : List Flow) (place : ℕ) (i : Flow) → i ∷ rest ≡ drop place code → (slice_get code place ≡ Some i) × (rest ≡ drop (place + 1) code)
 slide code rest place i e =
     let here = ap (λ (xs : List Flow). slice_get xs 0) e ∙ get_dropped code place in
     let at : slice_get code place ≡ Some i = sym here in

@@ -9,7 +9,7 @@ use Rattle.std.specs.declared.option.Option.TheVariants.{None, Some}
 use Rattle.tw_types.specs.declared.actor.Actor.{Actor}
 use Rattle.tw_types.specs.Task.{Task, best, best_of, better}
 use Rattle.tw_machine.specs.Parts.{tasks_of}
-use Rattle.tw_machine.proofs.Maps.{entries_view}
+use Rattle.tw_types.proofs.Maps.{entries_view}
 
 -- the best of what came before and of what is left
 abbrev pub best_by : Option (ℕ × Task) → Option (ℕ × Task) → Option (ℕ × Task)

@@ -18,7 +18,7 @@ use Rattle.tw_machine.specs.Attempts.{Changes}
 use Rattle.tw_machine.specs.Events.{ContextComes, FrameComes, FramesCome}
 use Rattle.tw_machine.specs.Parts.{frames_of, with_frames, with_store}
 use Rattle.tw_types.specs.ActorOrder.{actor_cmp_total, actor_cmp-IsAntisymmetric}
-use Rattle.tw_machine.proofs.Maps.{found_view, insert_same, written_view}
+use Rattle.tw_types.proofs.Maps.{found_view, insert_same, written_view}
 
 pub is_few : (o : Option Frame) (f : Frame) (bound : ℕ) → o ≡ Some f → IfSome o (λ g. g.spent < bound) → f.spent < bound
 is_few o f bound e h = subst (λ p. IfSome p (λ (g : Frame). g.spent < bound)) e h

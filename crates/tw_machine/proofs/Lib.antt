@@ -1,4 +1,3 @@
-pub mod Maps
 pub mod Setting
 pub mod Filling
 pub mod Refusals

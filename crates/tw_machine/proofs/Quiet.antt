@@ -13,7 +13,7 @@ use Rattle.tw_code.specs.Ending.{ending}
 use Rattle.tw_code.specs.Machine.{Frame, State}
 use Rattle.tw_machine.specs.Parts.{frames_of, tasks_of, with_frames, with_tasks}
 use Rattle.tw_types.specs.ActorOrder.{actor_cmp_total, actor_cmp-IsAntisymmetric}
-use Rattle.tw_machine.proofs.Maps.{is_empty_view}
+use Rattle.tw_types.proofs.Maps.{is_empty_view}
 
 module _ (s : State) (frames : BTreeMap Actor Frame) (tasks : BTreeMap ℕ Task) (f t : Bool) where
   pub quiet_is : (quiet : Bool) → IsTrue f ↔ (btree_map_len frames ≡ 0) → IsTrue t ↔ (btree_map_len tasks ≡ 0) → quiet ≡ f && t

@@ -7,7 +7,7 @@ use Rattle.std.specs.FinMap.{nat_cmp-IsAntisymmetric, get, insert, remove}
 use Rattle.tw_types.specs.declared.value.Value.{Value}
 use Rattle.tw_types.specs.Store.{Data, Datum, settled, is_let_go}
 use Rattle.tw_code.specs.Context.{set_to}
-use Rattle.tw_machine.proofs.Maps.{if_some, remove_insert}
+use Rattle.tw_types.proofs.Maps.{if_some, remove_insert}
 
 pub not_gone : (o : Option Datum) → o ≡ None → IsSome o → ⊥
 not_gone None e h = cc

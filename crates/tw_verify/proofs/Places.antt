@@ -1,87 +1,25 @@
 -- Where loops end, what is begun at a place, and the tables of both.
-use Rattle.std.proofs.Common.{◌≡◌, ◌≢◌, ℕ, zero, suc, ◌+◌, ◌-◌, ◌<◌, ◌≤◌, ◌⊎◌, inl, inr, List, [], ◌∷◌, ◌++◌, length, length-append, take, drop, set, get_or, Option, Some, None, refl, sym, ap, ◌∙◌, subst, arith}
+use Rattle.std.proofs.Common.{◌≡◌, ◌≢◌, ℕ, zero, suc, ◌+◌, ◌-◌, ◌<◌, ◌≤◌, ◌⊎◌, inl, inr, List, [], ◌∷◌, ◌++◌, length, length-append, drop, set, get_or, Option, Some, None, refl, sym, ap, ◌∙◌, subst, arith}
 use Rattle.std.specs.Prelude.{slice_get, slice_index}
 use Rattle.std.proofs.Math.ListN.{get_or-append}
 use Rattle.std.proofs.Math.Seq.{drop-length, get_or-append_seam}
 use Rattle.std.proofs.lemmas.Bool.{cases_lt}
-use Rattle.std.proofs.lemmas.Grind.{get_or-set_at}
-use Rattle.std.proofs.lemmas.List.{drop_more, take_more, length-map, length-set, get_or-set_other}
-use Rattle.std.proofs.lemmas.Option.{slice_get_within, slice_get-get_or, get_or_from_slice_get, same_Some}
+use Rattle.std.proofs.lemmas.List.{length-map, length-set}
+use Rattle.std.proofs.lemmas.Option.{same_Some}
 use Rattle.tw_code.specs.declared.flow.Flow.{Flow}
 use Rattle.tw_code.specs.declared.flow.Flow.TheVariants.{Straight, Branch, Jump, Begin, Close, Stop}
 use Rattle.tw_code.specs.declared.instr.Instr.{Instr}
 use Rattle.tw_code.specs.Flow.{flow_of, flows}
 use Rattle.tw_code.specs.Structure.{end_from, end_of, depth_after, depth_of}
 use Rattle.tw_code.specs.WellTyped.{IsEndOf}
+use Rattle.tw_budget.specs.Places.{drop_at, slide, end_is, end_past, straight_end, branch_end, jump_end, end_within, depth_next, end_depth}
+use Rattle.tw_budget.proofs.Tables.{set_from}
 use Rattle.tw_verify.specs.Loops.{EndsFrom, DepthsTo, AreFirsts}
 use Rattle.tw_verify.proofs.Lists.{get_set_at, get_set_other}
 
--- ---- the code from a place on
-
-pub drop_at : (code : List Flow) (place : ℕ) (i : Flow) → slice_get code place ≡ Some i → drop place code ≡ i ∷ drop (place + 1) code
-drop_at code place i at =
-    drop_more code place i (slice_get_within code place i at) ∙ ap (λ (x : Flow). x ∷ drop (place + 1) code) (get_or_from_slice_get code place i i at)
-
--- one place on, in the list that is left
-slide : (code rest : List Flow) (place : ℕ) (i : Flow) → i ∷ rest ≡ drop place code → (slice_get code place ≡ Some i) × (rest ≡ drop (place + 1) code)
-slide code rest place i e =
-    let here = ap (λ (xs : List Flow). slice_get xs 0) e ∙ get_dropped code place in
-    let at : slice_get code place ≡ Some i = sym here in
-    (at, ap (λ (xs : List Flow). drop 1 xs) (e ∙ drop_at code place i at))
-  where
-    get_dropped : (xs : List Flow) (n : ℕ) → slice_get (drop n xs) 0 ≡ slice_get xs n
-    get_dropped [] zero = refl
-    get_dropped [] (suc n) = refl
-    get_dropped (x ∷ xs) zero = refl
-    get_dropped (x ∷ xs) (suc n) = get_dropped xs n
-
--- the END that is found is one, and lies ahead
-pub end_is : (code xs : List Flow) (place inner end : ℕ) → xs ≡ drop place code → end_from place inner xs ≡ Some end → (slice_get code end ≡ Some Close) × (place ≤ end)
-end_is code [] place inner end e f = cc
-end_is code (Straight ∷ xs) place inner end e f = let on = slide code xs place Straight e in let far = end_is code xs (place + 1) inner end on.1 f in (far.0, omega arith)
-end_is code (Branch s ∷ xs) place inner end e f = let on = slide code xs place (Branch s) e in let far = end_is code xs (place + 1) inner end on.1 f in (far.0, omega arith)
-end_is code (Jump s ∷ xs) place inner end e f = let on = slide code xs place (Jump s) e in let far = end_is code xs (place + 1) inner end on.1 f in (far.0, omega arith)
-end_is code (Stop ∷ xs) place inner end e f = let on = slide code xs place Stop e in let far = end_is code xs (place + 1) inner end on.1 f in (far.0, omega arith)
-end_is code (Begin n ∷ xs) place inner end e f = let on = slide code xs place (Begin n) e in let far = end_is code xs (place + 1) (suc inner) end on.1 f in (far.0, omega arith)
-end_is code (Close ∷ xs) place zero end e f =
-    let same : place ≡ end = ap (λ (o : Option ℕ). elim o as (λ _. ℕ) [ None ↦ place | Some n ↦ n ]) f in
-    (subst (λ (n : ℕ). slice_get code n ≡ Some Close) same (slide code xs place Close e).0, omega arith)
-end_is code (Close ∷ xs) place (suc inner) end e f = let on = slide code xs place Close e in let far = end_is code xs (place + 1) inner end on.1 f in (far.0, omega arith)
-
 -- ---- ENDs
 
--- past an inner END, the loops outside
-pub end_past : (code xs : List Flow) (place inner outer end : ℕ) → xs ≡ drop place code → end_from place inner xs ≡ Some end → end_from place (suc (inner + outer)) xs ≡ end_from (end + 1) outer (drop (end + 1) code)
-end_past code [] place inner outer end e f = cc
-end_past code (Straight ∷ xs) place inner outer end e f = end_past code xs (place + 1) inner outer end (slide code xs place Straight e).1 f
-end_past code (Branch s ∷ xs) place inner outer end e f = end_past code xs (place + 1) inner outer end (slide code xs place (Branch s) e).1 f
-end_past code (Jump s ∷ xs) place inner outer end e f = end_past code xs (place + 1) inner outer end (slide code xs place (Jump s) e).1 f
-end_past code (Stop ∷ xs) place inner outer end e f = end_past code xs (place + 1) inner outer end (slide code xs place Stop e).1 f
-end_past code (Begin n ∷ xs) place inner outer end e f =
-    let one : suc (inner + outer) ≡ suc inner + outer = omega arith in
-    ap (λ (m : ℕ). end_from (place + 1) (suc m) xs) one ∙ end_past code xs (place + 1) (suc inner) outer end (slide code xs place (Begin n) e).1 f
-end_past code (Close ∷ xs) place zero outer end e f =
-    let same : place ≡ end = ap (λ (o : Option ℕ). elim o as (λ _. ℕ) [ None ↦ place | Some n ↦ n ]) f in
-    let none : 0 + outer ≡ outer = omega arith in
-    ap (λ (n : ℕ). end_from (place + 1) n xs) none ∙ ap (λ (ys : List Flow). end_from (place + 1) outer ys) (slide code xs place Close e).1 ∙ ap (λ (n : ℕ). end_from (n + 1) outer (drop (n + 1) code)) same
-end_past code (Close ∷ xs) place (suc inner) outer end e f =
-    let one : suc inner + outer ≡ suc (inner + outer) = omega arith in
-    ap (λ (n : ℕ). end_from (place + 1) n xs) one ∙ end_past code xs (place + 1) inner outer end (slide code xs place Close e).1 f
-
--- where the next instruction stands in the same loops
-pub straight_end : (code : List Flow) (place : ℕ) → slice_get code place ≡ Some Straight → end_of code place ≡ end_of code (place + 1)
-straight_end code place at = ap (λ (xs : List Flow). end_from place 0 xs) (drop_at code place Straight at)
-
-pub branch_end : (code : List Flow) (place skip : ℕ) → slice_get code place ≡ Some (Branch skip) → end_of code place ≡ end_of code (place + 1)
-branch_end code place skip at = ap (λ (xs : List Flow). end_from place 0 xs) (drop_at code place (Branch skip) at)
-
-pub close_end : (code : List Flow) (place : ℕ) → slice_get code place ≡ Some Close → end_of code place ≡ Some place
-close_end code place at = ap (λ (xs : List Flow). end_from place 0 xs) (drop_at code place Close at)
-
--- the END that a place's instruction leads on to
-pub jump_end : (code : List Flow) (place skip : ℕ) → slice_get code place ≡ Some (Jump skip) → end_of code place ≡ end_of code (place + 1)
-jump_end code place skip at = ap (λ (xs : List Flow). end_from place 0 xs) (drop_at code place (Jump skip) at)
-
+-- past a RET, the same loops
 pub stop_end : (code : List Flow) (place : ℕ) → slice_get code place ≡ Some Stop → end_of code place ≡ end_of code (place + 1)
 stop_end code place at = ap (λ (xs : List Flow). end_from place 0 xs) (drop_at code place Stop at)
 
@@ -102,10 +40,6 @@ begin_no_end code place turns at e = ap (λ (xs : List Flow). end_from place 0 x
 pub begin_end : (code : List Flow) (place turns end : ℕ) → slice_get code place ≡ Some (Begin turns) → end_of code (place + 1) ≡ Some end → end_of code place ≡ end_of code (end + 1)
 begin_end code place turns end at e = ap (λ (xs : List Flow). end_from place 0 xs) (drop_at code place (Begin turns) at) ∙ end_past code (drop (place + 1) code) (place + 1) 0 0 end refl e
 
--- an END lies in the code
-pub end_within : (code : List Flow) (place end : ℕ) → end_of code place ≡ Some end → (slice_get code end ≡ Some Close) × (place ≤ end) × (end < length code)
-end_within code place end e = let f = end_is code (drop place code) place 0 end refl e in (f.0, f.1, slice_get_within code end Close f.0)
-
 -- no END lies past the code
 pub end_past_code : (code : List Flow) → end_of code (length code) ≡ None
 end_past_code code = ap (λ (xs : List Flow). end_from (length code) 0 xs) (drop-length code)
@@ -121,43 +55,6 @@ passes_end code place flow at (inr (inr (inl e))) = jump_end code place e.0 (at 
 passes_end code place flow at (inr (inr (inr e))) = stop_end code place (at ∙ ap Some e)
 
 -- ---- depths
-
--- how deep the next place stands
-depth_append : (inner : ℕ) (xs ys : List Flow) → depth_after inner (xs ++ ys) ≡ depth_after (depth_after inner xs) ys
-depth_append inner [] ys = refl
-depth_append inner (Straight ∷ xs) ys = depth_append inner xs ys
-depth_append inner (Branch s ∷ xs) ys = depth_append inner xs ys
-depth_append inner (Jump s ∷ xs) ys = depth_append inner xs ys
-depth_append inner (Stop ∷ xs) ys = depth_append inner xs ys
-depth_append inner (Begin n ∷ xs) ys = depth_append (suc inner) xs ys
-depth_append zero (Close ∷ xs) ys = depth_append zero xs ys
-depth_append (suc inner) (Close ∷ xs) ys = depth_append inner xs ys
-
-pub depth_next : (code : List Flow) (place : ℕ) (i : Flow) → slice_get code place ≡ Some i → depth_of code (place + 1) ≡ depth_after (depth_of code place) (i ∷ [])
-depth_next code place i at =
-    ap (λ (xs : List Flow). depth_after 0 xs) (take_more code place i (slice_get_within code place i at) ∙ ap (λ (x : Flow). take place code ++ x ∷ []) (get_or_from_slice_get code place i i at))
-    ∙ depth_append 0 (take place code) (i ∷ [])
-
--- how deep the END stands that ends a loop begun before
-pub end_depth : (code xs : List Flow) (place inner outer end : ℕ) → xs ≡ drop place code → depth_of code place ≡ inner + outer → end_from place inner xs ≡ Some end → depth_of code end ≡ outer
-end_depth code [] place inner outer end e d f = cc
-end_depth code (Straight ∷ xs) place inner outer end e d f = let on = slide code xs place (Straight) e in end_depth code xs (place + 1) inner outer end on.1 (depth_next code place (Straight) on.0 ∙ d) f
-end_depth code (Branch s ∷ xs) place inner outer end e d f = let on = slide code xs place (Branch s) e in end_depth code xs (place + 1) inner outer end on.1 (depth_next code place (Branch s) on.0 ∙ d) f
-end_depth code (Jump s ∷ xs) place inner outer end e d f = let on = slide code xs place (Jump s) e in end_depth code xs (place + 1) inner outer end on.1 (depth_next code place (Jump s) on.0 ∙ d) f
-end_depth code (Stop ∷ xs) place inner outer end e d f = let on = slide code xs place (Stop) e in end_depth code xs (place + 1) inner outer end on.1 (depth_next code place (Stop) on.0 ∙ d) f
-end_depth code (Begin n ∷ xs) place inner outer end e d f =
-    let on = slide code xs place (Begin n) e in
-    let deeper : depth_of code (place + 1) ≡ suc inner + outer = omega (arith, depth_next code place (Begin n) on.0) in
-    end_depth code xs (place + 1) (suc inner) outer end on.1 deeper f
-end_depth code (Close ∷ xs) place zero outer end e d f =
-    let same : place ≡ end = ap (λ (o : Option ℕ). elim o as (λ _. ℕ) [ None ↦ place | Some n ↦ n ]) f in
-    let none : 0 + outer ≡ outer = omega arith in
-    ap (λ (n : ℕ). depth_of code n) (sym same) ∙ d ∙ none
-end_depth code (Close ∷ xs) place (suc inner) outer end e d f =
-    let on = slide code xs place Close e in
-    let one : suc inner + outer ≡ suc (inner + outer) = omega arith in
-    let less = depth_next code place Close on.0 ∙ ap (λ (n : ℕ). depth_after n (Close ∷ [])) (d ∙ one) in
-    end_depth code xs (place + 1) inner outer end on.1 less f
 
 -- between a place and the END that ends what is begun before it, it is never less deep than there
 depth_within : (code xs : List Flow) (place n inner outer end : ℕ) → xs ≡ drop place code → depth_of code place ≡ inner + outer → end_from place inner xs ≡ Some end → place + n ≤ end → outer ≤ depth_of code (place + n)
@@ -242,20 +139,8 @@ loop_within code first place (begin, turns, is, at, end) =
 pub ends_more : (code : List Flow) (ends : List (Option ℕ)) (place : ℕ) (end : Option ℕ) → place < length code + 1 → EndsFrom code ends (place + 1) → end ≡ end_of code place → EndsFrom code (set ends place end) place
 ends_more code ends place end within known r = record {
   long = length-set ends place end ∙ known.long;
-  each = λ k y ahead at. cases k y ahead at (cases_lt place k);
+  each = set_from (λ k y. y ≡ end_of code k) ends place end (omega (arith, known.long)) known.each r;
 }
-  where
-    cases : (k : ℕ) (y : Option ℕ) → place ≤ k → slice_get (set ends place end) k ≡ Some y → ((place < k) ⊎ (k ≤ place)) → y ≡ end_of code k
-    cases k y ahead at (inl far) =
-        let other : k ≢ place = omega arith in
-        let inside : k < length ends = omega (arith, slice_get_within (set ends place end) k y at, length-set ends place end) in
-        let same = sym (get_or_from_slice_get (set ends place end) k y y at) ∙ get_or-set_other ends place k end y other in
-        known.each k y (omega arith) (slice_get-get_or ends k y inside ∙ ap Some (sym same))
-    cases k y ahead at (inr near) =
-        let here : k ≡ place = omega arith in
-        let inside : place < length ends = omega (arith, known.long) in
-        let same = sym (get_or_from_slice_get (set ends place end) k y y at) ∙ get_or-set_at ends place k end y here inside in
-        same ∙ r ∙ ap (λ (n : ℕ). end_of code n) (sym here)
 
 -- the table of depths with one place more
 pub depths_more : (code : List Flow) (depths : List ℕ) (place depth : ℕ) → DepthsTo code depths place → depth ≡ depth_of code place → DepthsTo code (depths ++ depth ∷ []) (place + 1)

@@ -3,7 +3,7 @@ use Rattle.std.specs.declared.option.Option.TheVariants.{None, Some}
 use Rattle.std.specs.Cmp.{nat_cmp_total}
 use Rattle.std.specs.FinMap.{nat_cmp-IsAntisymmetric}
 use Rattle.tw_machine.specs.Parts.{data_of}
-use Rattle.tw_machine.proofs.Maps.{found_view, written_view, removed_view}
+use Rattle.tw_types.proofs.Maps.{found_view, written_view, removed_view}
 use Rattle.tw_machine.proofs.Setting.{not_gone, has_write, set_freed, set_kept}
 use Rattle.tw_machine.proofs.store.set_in.Goals as goal
 

@@ -5,7 +5,7 @@ use Rattle.std.specs.FinMap.{nat_cmp-IsAntisymmetric, insert}
 use Rattle.tw_types.specs.Outcome.{Went}
 use Rattle.tw_machine.specs.Parts.{frames_of, tasks_of, with_frames, with_tasks}
 use Rattle.tw_types.specs.ActorOrder.{actor_cmp_total, actor_cmp-IsAntisymmetric}
-use Rattle.tw_machine.proofs.Maps.{found_view, inserted_view, removed_view}
+use Rattle.tw_types.proofs.Maps.{found_view, inserted_view, removed_view}
 use Rattle.tw_machine.proofs.Takes.{take_outside, take_busy, take_none, take_refused, take_goes}
 use Rattle.tw_machine.proofs.take.take.Goals as goal
 use Rattle.tw_machine.proofs.take.take.Goals.{then-not-is_in-via-then-not-is_in, then-not-is_in-via-else-not-is_in+then-contains_key}

@@ -3,7 +3,8 @@ use Rattle.tw_code.specs.Flow.{flows}
 use Rattle.tw_code.specs.Structure.{depth_after}
 use Rattle.tw_verify.specs.Loops.{DepthsTo}
 use Rattle.std.proofs.Common.{[], ◌∷◌}
-use Rattle.tw_verify.proofs.Places.{depths_more, depth_next}
+use Rattle.tw_budget.specs.Places.{depth_next}
+use Rattle.tw_verify.proofs.Places.{depths_more}
 use Rattle.tw_verify.proofs.loops.all_depths.Goals as goal
 
 pub loop-place-preserved : goal.loop-place-preserved

@@ -1,7 +1,7 @@
 use Rattle.std.proofs.Common.{sym, ap, ◌∙◌, length}
 use Rattle.std.specs.Cmp.{int_cmp_total}
 use Rattle.std.specs.FinMap.{len, len-entries}
-use Rattle.tw_machine.proofs.Maps.{entries_view}
+use Rattle.tw_types.proofs.Maps.{entries_view}
 use Rattle.tw_machine.proofs.members.Members.len.Goals as goal
 
 pub returns : goal.returns

@@ -3,7 +3,7 @@ use Rattle.std.specs.Cmp.{nat_cmp_total}
 use Rattle.std.specs.FinMap.{nat_cmp-IsAntisymmetric, insert}
 use Rattle.tw_types.specs.Store.{Data, Store}
 use Rattle.tw_machine.specs.Parts.{data_of}
-use Rattle.tw_machine.proofs.Maps.{inserted_view}
+use Rattle.tw_types.proofs.Maps.{inserted_view}
 use Rattle.tw_machine.proofs.store.Store.create.Goals as goal
 
 abbrev store_of : ℕ → Data → Store

@@ -2,7 +2,7 @@ use Rattle.std.proofs.Common.{ap, ◌∙◌, sym}
 use Rattle.std.specs.Cmp.{nat_cmp_total}
 use Rattle.std.specs.FinMap.{nat_cmp-IsAntisymmetric, get}
 use Rattle.tw_machine.specs.Parts.{data_of}
-use Rattle.tw_machine.proofs.Maps.{found_view}
+use Rattle.tw_types.proofs.Maps.{found_view}
 use Rattle.tw_machine.proofs.store.Store.datum.Goals as goal
 
 pub returns : goal.returns
