@@ -1,5 +1,5 @@
 -- The cases of `drop_read_within`, over the finite map.
-use Rattle.std.proofs.Common.{◌≡◌, ◌≢◌, ℕ, ◌-◌, true, false, List, [], ◌∷◌, Some, None, refl, ap, ◌∙◌, arith, zero, suc, nat_eq, eq-eqb, inl, inr, fold}
+use Rattle.std.proofs.Common.{◌≡◌, ◌≢◌, ℕ, ℤ, ◌+◌, ◌-◌, ◌≤◌, true, false, List, [], ◌∷◌, Some, None, refl, ap, ◌∙◌, arith, zero, suc, nat_eq, eq-eqb, inl, inr, fold, drop, map, length, slice_get}
 use Rattle.std.specs.declared.option.Option.{Option}
 use Rattle.std.proofs.lemmas.Bool.Decides.{eqb_tells}
 use Rattle.std.specs.FinMap.{get, insert, remove}
@@ -43,3 +43,19 @@ same_some x y h = cc
 -- the members of what is taken out are those of what was written there
 pub same_members : (x y : Datum) (r : Option Datum) → Some x ≡ r → r ≡ Some y → members_of x.content ≡ members_of y.content
 same_members x y r p q = ap (λ z. members_of z.content) (same_some x y (p ∙ q))
+
+-- a fold over what is left of a list, one step further
+
+some_entry : (x y : ℤ × ℕ) → Some x ≡ Some y → x ≡ y
+some_entry x y h = cc
+
+pub fold_next : {A : Type 0} (f : A → ℕ → A) (m : A) (es : List (ℤ × ℕ)) (i : ℕ) (e : ℤ × ℕ) → slice_get es i ≡ Some e → fold f m (drop i (map (λ x. x.1) es)) ≡ fold f (f m e.1) (drop (i + 1) (map (λ x. x.1) es))
+fold_next f m [] i e h = cc
+fold_next f m (x ∷ es) zero e h = ap (λ y. fold f (f m y.1) (map (λ z. z.1) es)) (some_entry x e h)
+fold_next f m (x ∷ es) (suc i) e h = let next : suc i + 1 ≡ suc (i + 1) = omega arith in rw next (fold_next f m es i e h)
+
+pub fold_end : {A : Type 0} (f : A → ℕ → A) (m : A) (xs : List ℕ) (i : ℕ) → length xs ≤ i → fold f m (drop i xs) ≡ m
+fold_end f m [] zero h = refl
+fold_end f m [] (suc i) h = refl
+fold_end f m (x ∷ xs) zero h = absurd (omega arith)
+fold_end f m (x ∷ xs) (suc i) h = fold_end f m xs i (omega arith)

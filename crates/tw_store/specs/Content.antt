@@ -1,7 +1,6 @@
 -- What is in a datum, as the code keeps it.
-use Rattle.std.specs.Prelude.{◌≡◌, ℕ, ℤ, Bool, true, false, not, List, [], Option, Some, None}
-use Rattle.std.specs.Map.{values_of}
-use Rattle.std.specs.BTreeMap.{BTreeMap}
+use Rattle.std.specs.Prelude.{◌≡◌, ℕ, Bool, true, false, not, List, [], Option, Some, None}
+use Rattle.std.specs.FinMap as map
 use Rattle.tw_types.specs.Nesting.{NestedScalar}
 use Rattle.tw_types.specs.Store.{Content as Meaning, Unset, Set, Contains, Members, is_scalar}
 use Rattle.tw_store.specs.declared.datum.Content.{Content}
@@ -22,9 +21,9 @@ abbrev pub FitsType : NestedScalar → Meaning → Type 0
 FitsType ty content = is_container content ≡ not (is_scalar ty)
 
 -- the ids of members, if there are any
-abbrev pub ids_in : Option (BTreeMap ℤ ℕ) → List ℕ
+abbrev pub ids_in : Option Members → List ℕ
 ids_in None = []
-ids_in (Some ids) = values_of ids.entries
+ids_in (Some members) = map.values members
 
 -- the members of a container
 abbrev pub members_if : Meaning → Option Members

@@ -11,7 +11,6 @@ ghost use Rattle.tw_store.specs.Content.{ids_in, members_if};
 use crate::members::Members;
 use smallvec::SmallVec;
 use std::alloc::{AllocError, Global};
-use std::collections::BTreeMap;
 use std::marker::Model;
 use tw_types::{DataType, DatumId, Subscriber, Value};
 
@@ -258,7 +257,7 @@ impl Datum {
     }
 
     /// The members of a datum that goes, if it is a container.
-    pub(crate) fn into_members(self) -> Option<BTreeMap<i64, DatumId>>
+    pub(crate) fn into_members(self) -> Option<Members>
         ensures { ids_in result ≡ members_of self.content }
     {
         let Datum {
@@ -269,7 +268,7 @@ impl Datum {
             subscribers: _,
         } = self;
         match content {
-            Content::Contains(members) => Some(members.into_ids()),
+            Content::Contains(members) => Some(members),
             Content::Unset | Content::Set(_) => None,
         }
     }

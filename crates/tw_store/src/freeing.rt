@@ -2,13 +2,13 @@
 
 ghost use Rattle.std.specs.Prelude.{◌≡◌, IfSome, fold};
 ghost use Rattle.std.specs.FinMap.{get};
-ghost use Rattle.std.specs.Map.{values_of};
+ghost use Rattle.std.specs.FinMap as map;
 ghost use Rattle.tw_types.specs.Store.{drop_read_within, settled};
 ghost use Rattle.tw_store.specs.Parts.{data_of};
 
 use crate::datum::Datum;
+use crate::members::Members;
 use std::collections::BTreeMap;
-use tw_types::DatumId;
 
 /// Takes one read of a datum whose type is nested so deep at most. Where it was the last right, the datum is freed.
 #[cycle(freeing)]
@@ -38,11 +38,13 @@ pub fn drop_read_within(live: &mut BTreeMap<u64, Datum>, id: u64, depth: u8)
 
 /// Takes one read of each member of a container that is freed.
 #[cycle(freeing)]
-fn drop_each(live: &mut BTreeMap<u64, Datum>, mut members: BTreeMap<i64, DatumId>, depth: u8)
-    ensures { data_of live.new.entries ≡ fold (drop_read_within depth) (data_of live.old.entries) (values_of members.entries) }
+fn drop_each(live: &mut BTreeMap<u64, Datum>, members: Members, depth: u8)
+    ensures { data_of live.new.entries ≡ fold (drop_read_within depth) (data_of live.old.entries) (map.values members) }
 {
-    while let Some((_, member)) = members.pop_first() {
-        drop_read_within(live, member.number(), depth);
+    for index in 0..members.len() {
+        if let Some((_, member)) = members.nth(index) {
+            drop_read_within(live, member.number(), depth);
+        }
     }
 }
 

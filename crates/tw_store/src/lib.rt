@@ -14,11 +14,11 @@ mod members;
 mod refused;
 mod store;
 mod telling;
+mod tree;
 mod tried;
 
 pub use calls::{Asked, Inserted};
-pub use datum::{Content, Datum};
-pub use members::Members;
+pub use datum::Datum;
 pub use refused::Refused;
 pub use store::Store;
 

@@ -208,6 +208,28 @@ fn freed_at_the_store_and_not_before(rt: HostRuntime) -> Result<(), Fail> {
 }
 
 #[test]
+fn a_thousand_members_are_found_at_their_indices(rt: HostRuntime) -> Result<(), Fail> {
+    let mut store = Store::new(rt.alloc(), 1)?;
+    let ty = cont_int()?;
+    assert_eq!(rt; create(&mut store, rt.alloc(), ty)?, 1);
+    // Since 7 and 1000 have no divisor in common, each subscript below 1000 comes once.
+    for turn in 0..1_000_i64 {
+        let member = create(&mut store, rt.alloc(), DataType::int())?;
+        assert!(rt; inserted(&mut store, 1, turn.wrapping_mul(7) % 1_000, member)?);
+    }
+    let container = store.view(DatumId::new(1)).ok_or("it is live")?;
+    assert_eq!(rt; container.len(), 1_000);
+    for subscript in 0..1_000_i64 {
+        let index = usize::try_from(subscript).ok().ok_or("not negative")?;
+        let (found, member) = container.member(index).ok_or("there are as many")?;
+        assert_eq!(rt; found, subscript);
+        assert_eq!(rt; container.member_at(subscript), Some(member));
+    }
+    assert_eq!(rt; container.member(1_000), None);
+    Ok(())
+}
+
+#[test]
 fn a_thousand_members_are_freed_at_once(rt: HostRuntime) -> Result<(), Fail> {
     let mut store = Store::new(rt.alloc(), 1)?;
     let ty = cont_int()?;

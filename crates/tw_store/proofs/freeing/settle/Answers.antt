@@ -1,6 +1,6 @@
 use Rattle.std.proofs.Common.{sym, ap, ◌∙◌, fold, Some, None}
 use Rattle.std.specs.FinMap.{remove}
-use Rattle.std.specs.Map.{values_of}
+use Rattle.std.specs.FinMap as map
 use Rattle.tw_store.specs.Parts.{data_of}
 use Rattle.tw_store.proofs.Live.{found, removed}
 use Rattle.tw_types.specs.Store.{drop_read_within}
@@ -23,7 +23,7 @@ returns-in-Some-into_members c =
     let gone = removed c.args.live.now c.remove.new.self c.args.id c.remove.ensures.updates in
     let members = c.in-Some-into_members.ensures ∙ same_members c.in-Some-remove.gone c.in-Some.datum.now _ c.in-Some-remove.ensures.value (sym c.in-Some.ensures.value) in
     if_some _ c.in-Some.datum.now _ there (c.drop_each.ensures
-    ∙ ap (λ m. fold (drop_read_within 2) m (values_of c.in-Some-into_members.members.entries)) gone
+    ∙ ap (λ m. fold (drop_read_within 2) m (map.values c.in-Some-into_members.members)) gone
     ∙ ap (fold (drop_read_within 2) (remove (data_of c.args.live.now.entries) c.args.id)) members
     ∙ settled_gone _ _ c.in-Some.datum.now (sym c.is_let_go.ensures ∙ c.if-not-is_let_go.false))
 
