@@ -24,7 +24,8 @@ use Rattle.tw_types.specs.Store.{Store, is_scalar}
 use Rattle.tw_types.specs.declared.cause.Cause.TheVariants.{RightLeft, OutsideCode, NoLoop, WrongCall, WrongRegister, WrongType, AlreadySet, NoWriteCount}
 use Rattle.tw_code.specs.Flow.{flow_of}
 use Rattle.tw_code.specs.Context.{Context, datum_at, right_at, held, live, suits, is_unset, data_instr}
-use Rattle.tw_main.specs.Driving.{engine, IsAlone, IsDone, IsLocalNext, IsEnd, IsCall, IsSingle, IsNext}
+use Rattle.tw_main.specs.Driving.{IsAlone, IsDone}
+use Rattle.tw_main.specs.Next.{engine, IsLocalNext, IsEnd, IsCall, IsSingle, IsNext, IsDue}
 use Rattle.tw_types.specs.Store.{empty_store}
 use Rattle.tw_types.specs.Value.{blank_of}
 use Rattle.tw_code.specs.Machine.{State, Frame, step, values_in, ids_in, sixteen, with_frame, Standing, standing_of, procedure_of, context_of, after_context}
@@ -99,6 +100,11 @@ main_taken main s ids = with_frame (record s { tasks = fin.remove s.tasks 1 }) e
 take_is : (main : Procedure) (others : List Procedure) → step (main ∷ others) run_layout (Take engine) (opening (main ∷ others) []) ≡ Went (main_taken main (opening (main ∷ others) []) (main_ids (main ∷ others)))
 unfolding step opening best
 take_is main others = rw (get-empty actor_cmp engine, only_entry (main_task (main_ids (main ∷ others))), no_values (main_ids (main ∷ others)), same_ids (main_ids (main ∷ others))) refl
+
+-- it is due
+pub take_due : (program : List Procedure) → IsDue program (opening program []) (Take engine)
+unfolding opening
+take_due program = rw (get-empty {X = Frame} actor_cmp engine) refl
 
 -- where the program has a first procedure, the engine may take main
 pub take_enabled : (main : Procedure) (others : List Procedure) → IsEnabled (step (main ∷ others) run_layout (Take engine) (opening (main ∷ others) []))

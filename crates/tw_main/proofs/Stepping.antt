@@ -14,11 +14,13 @@ use Rattle.tw_code.specs.Ending.{ending}
 use Rattle.tw_code.specs.Machine.{State, Frame, step, run}
 use Rattle.tw_code.specs.Opening.{opening}
 use Rattle.tw_main.specs.declared.run.RunEnd.TheVariants as run_end
-use Rattle.tw_main.specs.Run.{IsRun, run_layout}
-use Rattle.tw_main.specs.Driving.{engine, IsAlone, IsDone, IsDriven, IsNext, most_steps}
+use Rattle.std.specs.declared.option.Option.{Option}
+use Rattle.tw_main.specs.Run.{AreDue, IsRun, run_layout}
+use Rattle.tw_main.specs.Driving.{IsAlone, IsDone, IsDriven}
+use Rattle.tw_main.specs.Next.{engine, most_steps, IsNext, IsDue, IsDueFor}
 use Rattle.tw_main.proofs.Never.{IsEnabled}
-use Rattle.tw_main.proofs.Driving.{take_enabled, take_leaves, next_enabled, next_leaves, alone_goes_on, done_is_quiet}
-use Rattle.tw_main.proofs.Runs.{run_more}
+use Rattle.tw_main.proofs.Driving.{take_due, take_enabled, take_leaves, next_enabled, next_leaves, alone_goes_on, done_is_quiet}
+use Rattle.tw_main.proofs.Runs.{run_more, due_more}
 
 pub below_larger : (a b : ℕ) (s : State) → a ≤ b → AreBelow a s → AreBelow b s
 below_larger a b s le h = record {
@@ -58,6 +60,7 @@ module _ (program : List Procedure) (layout : ActorCounts) (s : State) (one : la
       let alone = by_main program t some went in
       record {
         history = Take engine ∷ [];
+        due = (take_due program, λ u h. tt);
         reaches = run_more program run_layout [] (Take engine) (opening program []) (opening program []) t (no_event program (opening program [])) went;
         long = refl;
         frame = alone.0;
@@ -72,8 +75,9 @@ module _ (program : List Procedure) (layout : ActorCounts) (s : State) (one : la
   pub start_traps : (t : State) (cause : Cause) → t ≡ s → step program layout (Take engine) s ≡ Trap cause → IsRun program t (run_end.Trapped cause 1)
   start_traps t cause same e = record {
     history = [];
+    due = tt;
     reaches = no_event program (opening program []) ∙ ap (λ (u : State). Went u) (sym (same ∙ opened));
-    ends = (refl, Take engine, ap (step program run_layout (Take engine)) (same ∙ opened) ∙ sym as_opened ∙ e);
+    ends = (refl, Take engine, subst (λ (u : State). IsDue program u (Take engine)) (sym (same ∙ opened)) (take_due program), ap (step program run_layout (Take engine)) (same ∙ opened) ∙ sym as_opened ∙ e);
   }
 
 none_is_some : (end : Ending) → None ≡ Some end → ⊥
@@ -84,6 +88,12 @@ none_is_some end h = cc
 module _ (program : List Procedure) (layout : ActorCounts) (made : ℕ) (s : State) (f : Frame) (event : Event) (one : layout ≡ run_layout) (d : IsDriven program made s) (here : fin.get s.frames engine ≡ Some f) (next : IsNext program f event) where
   alone_with : IsAlone s f
   alone_with = record { no_task = d.alone.no_task; one_frame = d.alone.one_frame; frame = here }
+
+  due_now : IsDue program s event
+  due_now = subst (λ (o : Option Frame). IsDueFor program o event) (sym here) next
+
+  due_so_far : AreDue program (opening program []) (d.history ++ event ∷ [])
+  due_so_far = due_more program d.history event (opening program []) s d.due d.reaches due_now
 
   as_laid_out : step program layout event s ≡ step program run_layout event s
   as_laid_out = ap (λ (l : ActorCounts). step program l event s) one
@@ -100,6 +110,7 @@ module _ (program : List Procedure) (layout : ActorCounts) (made : ℕ) (s : Sta
       by_end : ((g : Frame) × IsAlone t g) ⊎ IsDone t → IsDriven program (made + 1) t
       by_end (inl a) = record {
         history = d.history ++ event ∷ [];
+        due = due_so_far;
         reaches = longer t e;
         long = omega (arith, length-append d.history (event ∷ []), d.long);
         frame = a.0;
@@ -113,16 +124,17 @@ module _ (program : List Procedure) (layout : ActorCounts) (made : ℕ) (s : Sta
     where
       by_end : ((g : Frame) × IsAlone t g) ⊎ IsDone t → IsRun program t run_end.Quiet
       by_end (inl a) = absurd (none_is_some end (sym (alone_goes_on t a.0 a.1) ∙ some))
-      by_end (inr done) = record { history = d.history ++ event ∷ []; reaches = longer t e; ends = done_is_quiet t done }
+      by_end (inr done) = record { history = d.history ++ event ∷ []; due = due_so_far; reaches = longer t e; ends = done_is_quiet t done }
 
   pub go_trap : (t : State) (cause : Cause) → t ≡ s → step program layout event s ≡ Trap cause → IsRun program t (run_end.Trapped cause (made + 1))
   go_trap t cause same e = record {
     history = d.history;
+    due = d.due;
     reaches = d.reaches ∙ ap (λ (u : State). Went u) (sym same);
-    ends = (omega (arith, d.long), event, ap (step program run_layout event) same ∙ sym as_laid_out ∙ e);
+    ends = (omega (arith, d.long), event, subst (λ (u : State). IsDue program u event) (sym same) due_now, ap (step program run_layout event) same ∙ sym as_laid_out ∙ e);
   }
 
 -- ---- as many events as a run may have
 
 pub at_limit : (program : List Procedure) (s : State) → IsDriven program 10000 s → IsRun program s run_end.Limit
-at_limit program s d = record { history = d.history; reaches = d.reaches; ends = (d.long, alone_goes_on s d.frame d.alone) }
+at_limit program s d = record { history = d.history; due = d.due; reaches = d.reaches; ends = (d.long, alone_goes_on s d.frame d.alone) }

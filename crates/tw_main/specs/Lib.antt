@@ -5,6 +5,7 @@ pub mod Status
 pub mod Lines
 pub mod Report
 pub mod Check
+pub mod Next
 pub mod Run
 pub mod Driving
 pub mod Session

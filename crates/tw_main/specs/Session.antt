@@ -42,7 +42,7 @@ run_reply s run_end.Quiet = reply (report s (codes "quiet\n")) Success
 run_reply s run_end.Limit = reply (report s (codes "limit\n")) Limit
 run_reply s (run_end.Trapped cause event) = reply (trap_line (number_of cause) event) Trapped
 
--- the reply is that of some run of the program
+-- the reply is that of the program's run
 abbrev pub RepliesByRun : List Procedure → Reply → Type 0
 RepliesByRun program r = (s : State) × (end : RunEnd) × IsRun program s end × (r ≡ run_reply s end)
 

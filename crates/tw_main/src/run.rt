@@ -4,7 +4,8 @@ ghost use Rattle.std.specs.Prelude.{◌≡◌, ◌<◌, ◌≤◌, ◌+◌, ℕ,
 ghost use Rattle.tw_code.specs.Bounds.{AreBelow, size_of};
 ghost use Rattle.tw_code.specs.Opening.{opening};
 ghost use Rattle.tw_code.specs.Program.{IsProgram};
-ghost use Rattle.tw_main.specs.Driving.{IsAdvanced, IsDriven, IsNext, IsSingle, most_steps};
+ghost use Rattle.tw_main.specs.Driving.{IsAdvanced, IsDriven};
+ghost use Rattle.tw_main.specs.Next.{IsNext, IsSingle, most_steps};
 ghost use Rattle.tw_main.specs.Run.{IsRun, run_layout};
 
 use std::alloc::{AllocError, Global};
