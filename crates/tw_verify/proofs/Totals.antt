@@ -1,34 +1,18 @@
 -- What a change at one key does to a sum over the values of a finite map.
-use Rattle.std.specs.Prelude.{ℕ, ◌+◌, ◌≤◌, ◌≡◌, Bool, true, false, cond, ◌&&◌, T, List, [], ◌∷◌, Option, Some, None, length}
+use Rattle.std.specs.Prelude.{ℕ, ◌+◌, ◌≤◌, ◌≡◌, true, false, cond, T, List, [], ◌∷◌, Option, Some, None, length}
 use Rattle.std.specs.declared.cmp.Ordering.{Ordering}
 use Rattle.std.specs.declared.cmp.Ordering.TheVariants.{Less, Equal, Greater}
-use Rattle.std.specs.Ordering.{eq_by_cmp, is_eq, is_lt, ordering_reverse}
+use Rattle.std.specs.Ordering.{eq_by_cmp, is_eq, ordering_reverse}
 use Rattle.std.specs.Cmp.{IsTotalOrder, tied_itself}
 use Rattle.std.specs.FinMap.{FinMap, entries, entries_sorted, entries-insert, get, insert, remove, empty, get-entries, find, put, is_sorted, IsAntisymmetric, same_map, get-insert, get-remove, get_tied, len-empty, len-entries}
 use Rattle.std.specs.FinMap.Entries.{by_order, below_all}
 use Rattle.std.proofs.Common.{refl, sym, ap, subst, ◌∙◌, arith, inl, inr, ◌⊎◌}
+use Rattle.tw_types.proofs.Rising.{first, second, less, find_below, below_less}
 use Rattle.tw_verify.specs.Totals.{sum_of, total}
 
 abbrev pub part : {X : Type 0} → (X → ℕ) → Option X → ℕ
 part f None = 0
 part f (Some x) = f x
-
-first : (a b : Bool) → T (a && b) → T a
-first true b p = tt
-first false b p = p
-
-second : (a b : Bool) → T (a && b) → T b
-second true b p = p
-second false b p = absurd p
-
-both : (a b : Bool) → T a → T b → T (a && b)
-both true b p q = q
-both false b p q = p
-
-less : (o : Ordering) → T (is_lt o) → o ≡ Less
-less Less p = refl
-less Equal p = absurd p
-less Greater p = absurd p
 
 equal : (o : Ordering) → T (is_eq o) → o ≡ Equal
 equal Less p = absurd p
@@ -43,23 +27,11 @@ added : (a b c d n : ℕ) → a + b ≡ c + d → (n + a) + b ≡ (n + c) + d
 added a b c d n h = omega arith
 
 module _ {K X : Type 0} (R : K → K → Ordering) (o : IsTotalOrder R) where
-  find_below : (q : K) (es : List (K × X)) → T (below_all R q es) → find R q es ≡ None
-  find_below q [] h = refl
-  find_below q (e ∷ es) h = ap (λ r. cond (is_eq r) (Some e.1) (find R q es)) (less _ (first _ _ h)) ∙ find_below q es (second _ _ h)
-
-  below_less : (x y : K) (es : List (K × X)) → R x y ≡ Less → T (below_all R y es) → T (below_all R x es)
-  below_less x y [] p h = tt
-  below_less x y (e ∷ es) p h = both _ _ (subst (λ r. T (is_lt r)) (sym (o.trans x y e.0 p (less _ (first _ _ h)))) tt) (below_less x y es p (second _ _ h))
-
-  below_tied : (x y : K) (es : List (K × X)) → R x y ≡ Equal → T (below_all R y es) → T (below_all R x es)
-  below_tied x y [] p h = tt
-  below_tied x y (e ∷ es) p h = both _ _ (subst (λ r. T (is_lt r)) (sym (o.congr x y e.0 p)) (first _ _ h)) (below_tied x y es p (second _ _ h))
-
   pub sum_of-put : (f : X → ℕ) (k : K) (v : X) (es : List (K × X)) → T (is_sorted R es) → sum_of f (put R k v es) + part f (find R k es) ≡ sum_of f es + f v
   sum_of-put f k v [] h = omega arith
   sum_of-put f k v (e ∷ es) h =
       elim (R k e.0) as (λ r. R k e.0 ≡ r → sum_of f (by_order r ((k, v) ∷ e ∷ es) ((e.0, v) ∷ es) (e ∷ put R k v es)) + part f (cond (is_eq r) (Some e.1) (find R k es)) ≡ (f e.1 + sum_of f es) + f v) [
-        | Less ↦ λ p. let none = find_below k es (below_less k e.0 es p (first _ _ h)) in rw none (omega arith)
+        | Less ↦ λ p. let none = find_below R k es (below_less R o k e.0 es p (first _ _ h)) in rw none (omega arith)
         | Equal ↦ λ p. omega arith
         | Greater ↦ λ p. added (sum_of f (put R k v es)) (part f (find R k es)) (sum_of f es) (f v) (f e.1) (sum_of-put f k v es (second _ _ h))
       ] refl
