@@ -24,6 +24,3 @@ pub use procedure::Procedure;
 pub use program::Program;
 pub use reading::decode;
 pub use writing::encode;
-
-#[cfg(test)]
-mod tests;

@@ -30,6 +30,3 @@ pub use plain::Plain;
 pub use refusal::{OpenRefusal, OpenRefused};
 pub use state::State;
 pub use stepped::Stepped;
-
-#[cfg(test)]
-mod tests;

@@ -32,6 +32,3 @@ pub use notice::{Notice, Subscriber};
 pub use param::{Mode, Param};
 pub use text::Text;
 pub use value::Value;
-
-#[cfg(test)]
-mod tests;

@@ -24,6 +24,3 @@ pub use refusal::{Refused, VerifyRefusal};
 pub use typing::{Right, Typing};
 pub use verified::Verified;
 pub use verifier::verify;
-
-#[cfg(test)]
-mod tests;

@@ -1,8 +1,0 @@
-use Rattle.std.proofs.Common.{refl}
-use Rattle.clap.proofs.OnLiterals.{clap_on_literals}
-use Rattle.tw_main.specs.CommandLine.{command_line}
-use Rattle.tw_main.proofs.laws.commands_are_taken.Goals as goal
-
-pub returns : goal.returns
-unfolding clap_on_literals command_line
-returns c = record { check = (refl, refl); run = (refl, refl) }

@@ -1,0 +1,18 @@
+//! A session of the command `tw`: words and bytes in, text and a status out.
+//!
+//! `session` works over any reader and writer. What it answers to the bytes that it reads is `reply_to`.
+#![tactic(auto)]
+
+mod check;
+mod command;
+mod input;
+mod laws;
+mod lines;
+mod reply;
+mod report;
+mod run;
+mod shell;
+mod status;
+
+pub use shell::{session, without_words};
+pub use status::{Close, Status};

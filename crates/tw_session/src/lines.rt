@@ -1,0 +1,168 @@
+//! The lines that a session writes, added to the end of a text.
+
+ghost use Rattle.std.specs.Prelude.{◌≡◌, ◌++◌, ◌<◌, ◌+◌, ◌^◌, ◌∷◌, [], OnOk, decimal, length, take};
+ghost use Rattle.std.specs.Fmt.{signed_decimal};
+ghost use Rattle.tw_session.specs.Lines.{escaped, fault_line, hex_digit, opening_line, place_text, quoted, trap_line, two_digits, value_text, verify_line};
+
+use std::alloc::{AllocError, Global};
+use tw_types::Value;
+
+/// Adds bytes as they stand.
+pub fn put(out: &mut Vec<u8>, text: &str) -> Result<(), AllocError>
+    ensures { OnOk result (out.new.items ≡ out.old.items ++ text.now) }
+{
+    out.extend_from_slice(text.as_bytes())
+}
+
+/// Adds a number in decimal digits.
+pub fn put_decimal(alloc: Global, out: &mut Vec<u8>, n: usize) -> Result<(), AllocError>
+    ensures { OnOk result (out.new.items ≡ out.old.items ++ decimal n) }
+{
+    let text = format!(in alloc; "{n}")?;
+    put(out, &text)
+}
+
+/// Adds words, and a number after them.
+pub fn put_numbered(
+    alloc: Global,
+    out: &mut Vec<u8>,
+    words: &str,
+    n: usize,
+) -> Result<(), AllocError>
+    ensures { OnOk result (out.new.items ≡ out.old.items ++ (words.now ++ decimal n)) }
+{
+    put(out, words)?;
+    put_decimal(alloc, out, n)
+}
+
+fn put_signed(alloc: Global, out: &mut Vec<u8>, n: i64) -> Result<(), AllocError>
+    ensures { OnOk result (out.new.items ≡ out.old.items ++ signed_decimal n) }
+{
+    let text = format!(in alloc; "{n}")?;
+    put(out, &text)
+}
+
+fn put_two_digits(out: &mut Vec<u8>, n: u8) -> Result<(), AllocError>
+    requires { n < 100 }
+    ensures { OnOk result (out.new.items ≡ out.old.items ++ two_digits n) }
+{
+    out.extend_from_slice(&[b'0' + n / 10, b'0' + n % 10])
+}
+
+fn hex_digit(n: u8) -> u8
+    requires { n < 16 }
+    ensures { result ≡ hex_digit n }
+{
+    if n < 10 { b'0' + n } else { b'a' + (n - 10) }
+}
+
+/// Adds a byte as it stands inside quotes.
+fn put_escaped(out: &mut Vec<u8>, byte: u8) -> Result<(), AllocError>
+    ensures { OnOk result (out.new.items ≡ out.old.items ++ escaped byte) }
+{
+    match byte {
+        b'"' => put(out, "\\\""),
+        b'\\' => put(out, "\\\\"),
+        b'\n' => put(out, "\\n"),
+        0..=31 | 127 => {
+            put(out, "\\x")?;
+            out.extend_from_slice(&[hex_digit(byte / 16), hex_digit(byte % 16)])
+        }
+        _ => Ok(out.push(byte)?),
+    }
+}
+
+fn put_quoted(out: &mut Vec<u8>, text: &str) -> Result<(), AllocError>
+    ensures { OnOk result (out.new.items ≡ out.old.items ++ quoted text.now) }
+{
+    put(out, "\"")?;
+    for byte in text.as_bytes() {
+        put_escaped(out, *byte)?;
+    }
+    put(out, "\"")
+}
+
+/// Adds a value with its type.
+pub fn put_value(alloc: Global, out: &mut Vec<u8>, value: &Value) -> Result<(), AllocError>
+    ensures { OnOk result (out.new.items ≡ out.old.items ++ value_text value.now) }
+{
+    match value {
+        Value::Int(n) => {
+            put(out, "int ")?;
+            put_signed(alloc, out, *n)
+        }
+        Value::Text(text) => {
+            put(out, "text ")?;
+            put_quoted(out, text.as_str())
+        }
+    }
+}
+
+/// Adds the line of bytes that are no program.
+pub fn put_fault_line(
+    alloc: Global,
+    out: &mut Vec<u8>,
+    number: u8,
+    offset: usize,
+) -> Result<(), AllocError>
+    requires { number < 100 }
+    ensures { OnOk result (out.new.items ≡ out.old.items ++ fault_line number offset) }
+{
+    put(out, "refused F")?;
+    put_two_digits(out, number)?;
+    put_numbered(alloc, out, " at byte ", offset)?;
+    put(out, "\n")
+}
+
+fn put_place(
+    alloc: Global,
+    out: &mut Vec<u8>,
+    procedure: usize,
+    place: usize,
+) -> Result<(), AllocError>
+    ensures { OnOk result (out.new.items ≡ out.old.items ++ place_text procedure place) }
+{
+    put_numbered(alloc, out, " in procedure ", procedure)?;
+    put_numbered(alloc, out, " at place ", place)?;
+    put(out, "\n")
+}
+
+/// Adds the line of a program that isn't accepted.
+pub fn put_verify_line(
+    alloc: Global,
+    out: &mut Vec<u8>,
+    number: u8,
+    procedure: usize,
+    place: usize,
+) -> Result<(), AllocError>
+    requires { number < 100 }
+    ensures { OnOk result (out.new.items ≡ out.old.items ++ verify_line number procedure place) }
+{
+    put(out, "refused V")?;
+    put_two_digits(out, number)?;
+    put_place(alloc, out, procedure, place)
+}
+
+/// Adds the line of a program that isn't opened.
+pub fn put_opening_line(out: &mut Vec<u8>, number: u8) -> Result<(), AllocError>
+    requires { number < 100 }
+    ensures { OnOk result (out.new.items ≡ out.old.items ++ opening_line number) }
+{
+    put(out, "refused O")?;
+    put_two_digits(out, number)?;
+    put(out, "\n")
+}
+
+/// Adds the line of a run that met a trap at an event, counted from 1.
+pub fn put_trap_line(
+    alloc: Global,
+    out: &mut Vec<u8>,
+    number: u8,
+    event: usize,
+) -> Result<(), AllocError>
+    ensures { OnOk result (out.new.items ≡ out.old.items ++ trap_line number event) }
+{
+    put_numbered(alloc, out, "trap C", usize::from(number))?;
+    put_numbered(alloc, out, " at event ", event)?;
+    put(out, "\n")
+}

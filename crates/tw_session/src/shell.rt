@@ -1,0 +1,104 @@
+//! A whole session: words and bytes in, bytes and a status out.
+
+ghost use Rattle.std.specs.Prelude.{◌≡◌, ◌≢◌, [], map, codes, string_bytes, IfSome};
+ghost use Rattle.std.specs.Io.KnownBytes.{Appends, Keeps};
+ghost use Rattle.tw_session.specs.CommandLine.{asked_by_words, word_faults};
+ghost use Rattle.tw_session.specs.Session.{IsReplied};
+ghost use Rattle.tw_session.specs.Status.{AnswersFaults, IsAnswered};
+
+use crate::command::{NoOrder, read_order};
+use crate::reply::{NoReply, Reply, make_reply};
+use crate::status::{Close, Status};
+use std::io::{ErrorKind, Read, Write};
+use std::sync::Wait;
+use std::thread::Threads;
+
+/// Writes the whole text, once.
+fn write_text<W: Write>(writer: &mut W, text: &[u8], status: Status) -> Status
+    ensures status { result ≢ Status.WriteFailed → result ≡ status }
+    ensures text { result ≢ Status.WriteFailed → Appends (W.contents writer.old) (W.contents writer.new) text.now }
+{
+    if writer.write_all(text).is_err() {
+        return Status::WriteFailed;
+    }
+    if writer.flush().is_err() {
+        return Status::WriteFailed;
+    }
+    status
+}
+
+fn write_memory<W: Write>(writer: &mut W) -> Status
+    ensures status { result ≢ Status.WriteFailed → result ≡ Status.NoMemory }
+    ensures text { result ≢ Status.WriteFailed → Appends (W.contents writer.old) (W.contents writer.new) (codes "memory\n") }
+{
+    write_text(writer, "memory\n".as_bytes(), Status::NoMemory)
+}
+
+fn write_refused<W: Write>(writer: &mut W) -> Status
+    ensures status { result ≢ Status.WriteFailed → result ≡ Status.Ended Close.CommandLine }
+    ensures text { result ≢ Status.WriteFailed → Appends (W.contents writer.old) (W.contents writer.new) (codes "command line refused\n") }
+{
+    write_text(
+        writer,
+        "command line refused\n".as_bytes(),
+        Status::Ended(Close::CommandLine),
+    )
+}
+
+/// Ends where the words could not be had: memory was refused, or one of them is no text.
+pub fn without_words<W: Write>(kind: ErrorKind, writer: &mut W) -> Status
+    ensures memory { kind ≡ ErrorKind.OutOfMemory → result ≢ Status.WriteFailed
+        → (result ≡ Status.NoMemory) × Appends (W.contents writer.old) (W.contents writer.new) (codes "memory\n") }
+    ensures refused { kind ≢ ErrorKind.OutOfMemory → result ≢ Status.WriteFailed
+        → (result ≡ Status.Ended Close.CommandLine) × Appends (W.contents writer.old) (W.contents writer.new) (codes "command line refused\n") }
+{
+    if kind == ErrorKind::OutOfMemory {
+        return write_memory(writer);
+    }
+    write_refused(writer)
+}
+
+/// Takes the words, reads, acts and writes. `words` has the program's words without its own name.
+///
+/// The whole text is made before the first write, and nothing is written after a failed read. What went out before a
+/// failed write, and what a help text says, no clause tells.
+pub fn session<H, R, W>(rt: &H, words: &[String], reader: &mut R, writer: &mut W) -> Status
+where
+    H: AllocGlobal + Threads + Wait + Sync,
+    R: Read,
+    W: Write,
+    // Words that are taken, and the bytes that the reader holds, are answered by a reply that they may have.
+    ensures taken { word_faults (map string_bytes words.now) ≡ [] → IsAnswered result
+        → IfSome (R.remaining reader.old) (λ input.
+        IsReplied (asked_by_words (map string_bytes words.now)) input result
+        (W.contents writer.old) (W.contents writer.new)) }
+    // Other words are refused by one line, or get a help text.
+    ensures refused { (word_faults (map string_bytes words.now) ≢ []) → IsAnswered result
+        → AnswersFaults (word_faults (map string_bytes words.now)) result
+        (W.contents writer.old) (W.contents writer.new) }
+    // Where memory was refused, that alone is written.
+    ensures memory { result ≡ Status.NoMemory
+        → Appends (W.contents writer.old) (W.contents writer.new) (codes "memory\n") }
+    // Words that aren't taken read nothing.
+    ensures unread { (word_faults (map string_bytes words.now) ≢ [])
+        → Keeps (R.remaining reader.old) (R.remaining reader.new) }
+    // After a failed read nothing is written.
+    ensures unwritten { result ≡ Status.ReadFailed → Keeps (W.contents writer.old) (W.contents writer.new) }
+{
+    let alloc = rt.alloc();
+    let order = match read_order(alloc, words) {
+        Ok(order) => order,
+        Err(NoOrder::Help(text)) => return write_text(
+            writer,
+            text.as_bytes(),
+            Status::Ended(Close::Success),
+        ),
+        Err(NoOrder::Refused) => return write_refused(writer),
+        Err(NoOrder::NoMemory) => return write_memory(writer),
+    };
+    match make_reply(alloc, order, reader) {
+        Ok(Reply { text, close }) => write_text(writer, text.as_slice(), Status::Ended(close)),
+        Err(NoReply::NoMemory) => write_memory(writer),
+        Err(NoReply::ReadFailed) => Status::ReadFailed,
+    }
+}
