@@ -12,7 +12,7 @@ pub const GREATEST: u64 = 1_000_000_000;
 
 /// What is known of a place: the length of the longest rest of a walk up to the END of the loop that the place is in,
 /// cut off over the greatest budget, and that END.
-#[derive(Clone, Copy, Debug)]
+#[derive(Clone, Copy)]
 pub struct Row {
     pub longest: u64,
     pub end: Option<usize>,

@@ -9,34 +9,25 @@ use std::alloc::{AllocError, AllocFailed};
 use thiserror::Error;
 
 /// What is wrong, F01 to F09 in this order.
-#[derive(Clone, Copy, Debug, PartialEq, Eq, Error)]
+#[derive(Clone, Copy, Debug)]
 pub enum FaultNo {
     /// A magic byte differs.
-    #[error("F01: the bytes don't begin as a program")]
     Magic,
     /// The version isn't 1.
-    #[error("F02: another version of the format")]
     Version,
     /// The input ends too early.
-    #[error("F03: bytes are missing")]
     Missing,
     /// A count, a register, a number of turns or a text's length is out of its limits.
-    #[error("F04: a number is out of its limits")]
     Limit,
     /// A kind, mode, type or opcode isn't known, or the type can't stand there.
-    #[error("F05: a byte that isn't known here")]
     Unknown,
     /// A container in three containers.
-    #[error("F06: a fourth container")]
     Nesting,
     /// A text isn't UTF-8.
-    #[error("F07: a text isn't UTF-8")]
     Utf8,
     /// Bytes stand after the end of the program.
-    #[error("F08: bytes after the end")]
     Trailing,
     /// Memory ran out, so nothing is known of the bytes.
-    #[error("F09: memory ran out")]
     Memory,
 }
 
@@ -52,22 +43,22 @@ impl FaultNo {
 /// The first fault from the left, and where its item begins.
 ///
 /// Where bytes are missing the offset is the input's length, and where memory ran out it is 0.
-#[derive(Clone, Copy, Debug, PartialEq, Eq, Error)]
-#[error("{no}, at byte {offset}")]
+#[derive(Clone, Copy, Debug, Error)]
+#[error("F{:02} at byte {offset}", .no.number())]
 pub struct Fault {
     pub no: FaultNo,
     pub offset: usize,
 }
 
 /// A fault, by how many bytes of the input are left where its item begins.
-#[derive(Clone, Copy, Debug, PartialEq, Eq)]
+#[derive(Clone, Copy)]
 pub struct Broken {
     pub no: FaultNo,
     pub left: usize,
 }
 
 /// Why reading stopped.
-#[derive(Debug, Drop)]
+#[derive(Drop)]
 pub enum Stop {
     OutOfMemory,
     At(Broken),
@@ -112,7 +103,7 @@ impl<T: Drop> From<AllocFailed<T>> for Stop {
 }
 
 /// Memory ran out.
-#[derive(Clone, Copy, Debug, PartialEq, Eq, Error)]
+#[derive(Clone, Copy, Debug, Error)]
 #[error("memory ran out")]
 pub struct NoMemory;
 

@@ -7,7 +7,7 @@ ghost use Rattle.tw_code.specs.Position.{is_local};
 use crate::instr::Instr;
 
 /// Where a task goes on after an instruction.
-#[derive(Clone, Copy, Debug, PartialEq, Eq)]
+#[derive(Clone, Copy, PartialEq, Eq)]
 pub enum Flow {
     /// At the next place.
     Straight,
@@ -24,7 +24,7 @@ pub enum Flow {
 }
 
 /// By which outcome an instruction goes on.
-#[derive(Clone, Copy, Debug, PartialEq, Eq)]
+#[derive(Clone, Copy)]
 pub enum Way {
     /// It is done.
     Done,

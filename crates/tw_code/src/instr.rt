@@ -3,7 +3,7 @@
 use tw_types::Text;
 
 /// What an instruction computes of two integers. The order is that of the opcodes.
-#[derive(Clone, Copy, Debug, PartialEq, Eq)]
+#[derive(Clone, Copy)]
 pub enum Arithmetic {
     /// ADD.
     Add,
@@ -19,7 +19,7 @@ pub enum Arithmetic {
 
 /// An instruction. Registers are named by their numbers, 0 to 15 in each of the two banks. An instruction that skips goes
 /// on behind so many instructions after the next place.
-#[derive(Debug, Drop)]
+#[derive(Drop)]
 pub enum Instr {
     /// INT: the value register `to` gets the number.
     Int {

@@ -7,7 +7,7 @@ use crate::procedure::Procedure;
 use std::marker::Model;
 
 /// Procedures within the limits; procedure 0 is main.
-#[derive(Debug, Drop)]
+#[derive(Drop)]
 pub struct Program {
     procedures: Vec<Procedure>,
 }

@@ -3,20 +3,18 @@
 ghost use Rattle.std.specs.Prelude.{◌≡◌};
 ghost use Rattle.tw_machine.specs.Opening.{number_of};
 
+use std::fmt;
 use thiserror::Error;
 use tw_code::Program;
 
 /// Why a program isn't opened.
-#[derive(Clone, Copy, Debug, PartialEq, Eq, Error)]
+#[derive(Clone, Copy)]
 pub enum OpenRefusal {
     /// O01.
-    #[error("main has another number of inputs than were given")]
     InputCount,
     /// O05.
-    #[error("memory is refused")]
     Memory,
     /// O06.
-    #[error("main is no control procedure of rights on scalars and on containers of scalars")]
     MainShape,
 }
 
@@ -34,8 +32,16 @@ impl OpenRefusal {
 }
 
 /// A program that wasn't opened, and why.
-#[derive(Debug, Drop)]
+#[derive(Drop, Error)]
+#[error("refused O{:02}", .no.number())]
 pub struct OpenRefused {
     pub program: Program,
     pub no: OpenRefusal,
+}
+
+/// As it is displayed, without the program.
+impl fmt::Debug for OpenRefused {
+    fn fmt<W: fmt::Write>(&self, f: &mut fmt::Formatter<W>) -> fmt::Result {
+        write!(f, "{self}")
+    }
 }

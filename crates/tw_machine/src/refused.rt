@@ -4,7 +4,7 @@ use std::alloc::{AllocError, AllocFailed};
 use tw_types::Cause;
 
 /// Why an event, or a part of one, isn't made.
-#[derive(Clone, Copy, Debug, PartialEq, Eq)]
+#[derive(Clone, Copy, PartialEq, Eq)]
 pub enum Refused {
     NotEnabled,
     Trap(Cause),

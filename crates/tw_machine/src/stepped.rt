@@ -4,7 +4,7 @@ use crate::refused::Refused;
 use tw_types::Cause;
 
 /// What an event came to.
-#[derive(Clone, Copy, Debug, PartialEq, Eq)]
+#[derive(Clone, Copy, PartialEq, Eq)]
 pub enum Stepped {
     /// It was made.
     Went,

@@ -27,7 +27,7 @@ line how many engines and workers its targets need. Exit status: 0 accepted, 1 r
 5 memory ran out, 7 a read or write failed.";
 
 /// What the words ask for.
-#[derive(Clone, Copy, Debug, PartialEq, Eq)]
+#[derive(Clone, Copy)]
 pub enum Order {
     /// Verify the program that is read.
     Check,
@@ -36,7 +36,7 @@ pub enum Order {
 }
 
 /// Why the words give no order.
-#[derive(Debug, Drop)]
+#[derive(Drop)]
 pub enum NoOrder {
     /// They ask for this help.
     Help(String),

@@ -10,7 +10,7 @@ use std::io::{ErrorKind, Read};
 pub const MOST_BYTES: usize = 16_777_216;
 
 /// Why there is no input.
-#[derive(Debug, Clone, Copy, PartialEq, Eq)]
+#[derive(Clone, Copy)]
 pub enum NoInput {
     TooLong,
     Failed,

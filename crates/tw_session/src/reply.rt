@@ -26,14 +26,14 @@ use tw_types::Layout;
 use tw_verify::{Verified, VerifyRefusal, verify};
 
 /// What a session writes, and how it ends.
-#[derive(Debug, Drop)]
+#[derive(Drop)]
 pub struct Reply {
     pub text: Vec<u8>,
     pub close: Close,
 }
 
 /// Why there is no reply.
-#[derive(Debug, Clone, Copy, PartialEq, Eq)]
+#[derive(Clone, Copy)]
 pub enum NoReply {
     ReadFailed,
     NoMemory,

@@ -14,7 +14,7 @@ use tw_machine::{Frame, Plain, Stepped};
 use tw_types::{Actor, Cause, Event};
 
 /// How a run ended.
-#[derive(Clone, Copy, Debug, PartialEq, Eq)]
+#[derive(Clone, Copy)]
 pub enum RunEnd {
     /// Nothing is left to do.
     Quiet,

@@ -25,7 +25,7 @@ pub enum Inserted {
 }
 
 /// What asking answers.
-#[derive(Clone, Copy, Debug, PartialEq, Eq)]
+#[derive(Clone, Copy, PartialEq, Eq)]
 pub enum Asked {
     /// The datum is closed, and no notice will come.
     Closed,

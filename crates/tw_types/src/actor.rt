@@ -8,14 +8,14 @@ ghost use Rattle.std.specs.Ordering.{as_partial_cmp};
 use std::cmp::Ordering;
 
 /// The work of a procedure: control tasks run on engines, leaf tasks on workers.
-#[derive(Clone, Copy, Debug, PartialEq, Eq)]
+#[derive(Clone, Copy, PartialEq, Eq)]
 pub enum Kind {
     Control,
     Leaf,
 }
 
 /// An actor, by its number within its kind, from 0. Engines come before servers, and servers before workers.
-#[derive(Clone, Copy, Debug, PartialEq, Eq)]
+#[derive(Clone, Copy, PartialEq, Eq)]
 pub enum Actor {
     /// Holds rules, and runs control tasks.
     Engine(u8),

@@ -8,7 +8,7 @@ use crate::refusal::VerifyRefusal;
 use std::alloc::AllocError;
 
 /// Why a pass over one procedure stops.
-#[derive(Clone, Copy, Debug)]
+#[derive(Clone, Copy)]
 pub(crate) enum Fault {
     At { no: VerifyRefusal, place: usize },
     Memory,
@@ -23,7 +23,7 @@ impl From<AllocError> for Fault {
 }
 
 /// Why a program is refused, and where.
-#[derive(Clone, Copy, Debug)]
+#[derive(Clone, Copy)]
 pub(crate) struct Refusal {
     pub(crate) no: VerifyRefusal,
     pub(crate) procedure: usize,

@@ -118,7 +118,7 @@ fn all_firsts(
 
 /// What is known of the places of a code: the next END that ends a loop begun before, how many loops are begun there,
 /// and, of an END, its loop's first place.
-#[derive(Debug, Drop)]
+#[derive(Drop)]
 pub(crate) struct Loops {
     ends: Vec<Option<usize>>,
     depths: Vec<usize>,

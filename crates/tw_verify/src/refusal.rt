@@ -3,50 +3,38 @@
 ghost use Rattle.std.specs.Prelude.{◌≡◌};
 ghost use Rattle.tw_verify.specs.Refusal.{number_of};
 
+use std::fmt;
 use thiserror::Error;
 use tw_code::Program;
 
 /// Why a program isn't accepted, by rising numbers.
-#[derive(Clone, Copy, Debug, PartialEq, Eq, Error)]
+#[derive(Clone, Copy)]
 pub enum VerifyRefusal {
     /// V01.
-    #[error("a value register isn't declared")]
     UndeclaredValue,
     /// V02.
-    #[error("a value register has another type than asked")]
     WrongValueType,
     /// V04.
-    #[error("a right register is empty or has another mode or type than asked")]
     WrongRight,
     /// V05.
-    #[error("a skip leaves its block or the code")]
     SkipLeavesBlock,
     /// V06.
-    #[error("a REPEAT or an END has no partner, or five loops stand in one another")]
     Unmatched,
     /// V07.
-    #[error("earlier places bring other typings")]
     TypingsDiffer,
     /// V08.
-    #[error("the typing at END isn't that of its loop's first place")]
     TypingChanged,
     /// V09.
-    #[error("no earlier place reaches this one")]
     Unreached,
     /// V10.
-    #[error("a right register isn't empty at RET")]
     RightLeft,
     /// V11.
-    #[error("a RET stands in a loop, or the last instruction isn't RET")]
     MisplacedRet,
     /// V16.
-    #[error("main is of another shape")]
     MainShape,
     /// V17.
-    #[error("a task may do more instructions than a budget allows")]
     BudgetTooLarge,
     /// V18.
-    #[error("memory ran out")]
     Memory,
 }
 
@@ -74,11 +62,18 @@ impl VerifyRefusal {
 }
 
 /// A program that isn't accepted, with its first refusal.
-#[derive(Debug, Drop, Error)]
+#[derive(Drop, Error)]
 #[error("refused V{:02} in procedure {procedure} at place {place}", .no.number())]
 pub struct Refused {
     pub program: Program,
     pub no: VerifyRefusal,
     pub procedure: usize,
     pub place: usize,
+}
+
+/// As it is displayed, without the program.
+impl fmt::Debug for Refused {
+    fn fmt<W: fmt::Write>(&self, f: &mut fmt::Formatter<W>) -> fmt::Result {
+        write!(f, "{self}")
+    }
 }

@@ -13,7 +13,7 @@ use std::alloc::{AllocError, Global};
 use tw_code::{Flow, Instr, Procedure, Way};
 
 /// What has reached a place so far: the typing that came first, and whether another one came.
-#[derive(Clone, Copy, Debug)]
+#[derive(Clone, Copy)]
 pub(crate) struct Reached {
     pub(crate) typing: Typing,
     pub(crate) differs: bool,

@@ -12,7 +12,7 @@ use tw_code::{Instr, Procedure, Way};
 use tw_types::{DataType, Mode, Param};
 
 /// A right on a datum of a type.
-#[derive(Clone, Copy, Debug, PartialEq, Eq)]
+#[derive(Clone, Copy, PartialEq, Eq)]
 pub struct Right {
     mode: Mode,
     ty: DataType,
@@ -51,7 +51,7 @@ impl Right {
 }
 
 /// What the 16 right registers hold at a place: each is empty or has a right.
-#[derive(Clone, Copy, Debug, PartialEq, Eq)]
+#[derive(Clone, Copy, PartialEq, Eq)]
 pub struct Typing {
     rights: [Option<Right>; 16],
 }
