@@ -1,4 +1,6 @@
--- What a reader must believe of types, values and the store, in the order in which the files stand on one another.
+-- What a reader must believe of types, values and the store, in the order in which the files stand on one another: the
+-- limits of types, texts and layouts, the order of the actors, what each call of a store asks and leaves, which task an
+-- actor takes. For the law on counts besides: Totals and Counts. TypedStore serves the laws of the crates above.
 pub mod Nesting
 pub mod DataType
 pub mod Text
@@ -17,6 +19,3 @@ pub mod Task
 pub mod Totals
 pub mod Counts
 pub mod TypedStore
--- The orders of actors and of notices: what maps and sets by them need.
-pub mod ActorOrder
-pub mod NoticeOrder
