@@ -1,11 +1,3 @@
-pub mod Joined
-pub mod Loop
-pub mod Formats
-pub mod Breaks
-pub mod Bytes
-pub mod Numbers
-pub mod TextFormat
-pub mod Types
-pub mod Instructions
-pub mod Programs
-pub mod FirstFault
+pub mod Computing
+pub mod Range
+pub mod Shown

@@ -1,7 +1,7 @@
 //! Why bytes are no program.
 
 ghost use Rattle.std.specs.Prelude.{◌≡◌, length};
-ghost use Rattle.tw_code.specs.Fault.{number_of};
+ghost use Rattle.tw_code.specs.format.Fault.{fault_number};
 ghost use Rattle.tw_code.specs.declared.fault.FaultNo.TheVariants.{Missing};
 ghost use Rattle.tw_code.specs.declared.fault.Stop.TheVariants.{OutOfMemory, At};
 
@@ -34,7 +34,7 @@ pub enum FaultNo {
 impl FaultNo {
     /// The number behind the letter F, from 1.
     pub fn number(self) -> u8
-        ensures { result ≡ number_of self }
+        ensures { result ≡ fault_number self }
     {
         self as u8 + 1
     }

@@ -1,10 +1,10 @@
 //! What follows an instruction.
 
-ghost use Rattle.std.specs.Prelude.{◌≡◌};
-ghost use Rattle.tw_code.specs.Flow.{flow_of};
-ghost use Rattle.tw_code.specs.Position.{is_local};
+ghost use Rattle.std.specs.Prelude.{◌≡◌, is_some};
+ghost use Rattle.tw_code.specs.accepting.Flow.{data_flow, flow_of, local_flow};
+ghost use Rattle.tw_code.specs.machine.Machine.{local_of};
 
-use crate::instr::Instr;
+use crate::instr::{DataInstr, Instr, LocalInstr};
 
 /// Where a task goes on after an instruction.
 #[derive(Clone, Copy, PartialEq, Eq)]
@@ -32,34 +32,56 @@ pub enum Way {
     Refused,
 }
 
+impl LocalInstr {
+    /// Where a task goes on after it.
+    fn flow(&self) -> Flow
+        ensures { result ≡ local_flow self.now }
+    {
+        match self {
+            LocalInstr::Int { .. }
+            | LocalInstr::Text { .. }
+            | LocalInstr::Copy { .. }
+            | LocalInstr::Length { .. }
+            | LocalInstr::Show { .. } => Flow::Straight,
+            LocalInstr::Compute { skip, .. }
+            | LocalInstr::Concatenate { skip, .. }
+            | LocalInstr::ReadInt { skip, .. }
+            | LocalInstr::JumpEqual { skip, .. }
+            | LocalInstr::JumpLess { skip, .. } => Flow::Branch(*skip),
+            LocalInstr::Jump { skip } => Flow::Jump(*skip),
+            LocalInstr::Repeat { turns } => Flow::Begin(*turns),
+            LocalInstr::End => Flow::Close,
+        }
+    }
+}
+
+impl DataInstr {
+    /// Where a task goes on after it.
+    fn flow(self) -> Flow
+        ensures { result ≡ data_flow self }
+    {
+        match self {
+            DataInstr::Store { .. } => Flow::Straight,
+        }
+    }
+}
+
 impl Instr {
     /// Where a task goes on after it.
     pub fn flow(&self) -> Flow
         ensures { result ≡ flow_of self.now }
     {
         match self {
-            Instr::Int { .. }
-            | Instr::Text { .. }
-            | Instr::Copy { .. }
-            | Instr::Length { .. }
-            | Instr::Show { .. }
-            | Instr::Store { .. } => Flow::Straight,
-            Instr::Compute { skip, .. }
-            | Instr::Concatenate { skip, .. }
-            | Instr::ReadInt { skip, .. }
-            | Instr::JumpEqual { skip, .. }
-            | Instr::JumpLess { skip, .. } => Flow::Branch(*skip),
-            Instr::Jump { skip } => Flow::Jump(*skip),
-            Instr::Repeat { turns } => Flow::Begin(*turns),
-            Instr::End => Flow::Close,
+            Instr::Local(instr) => instr.flow(),
+            Instr::Data(instr) => instr.flow(),
             Instr::Ret => Flow::Stop,
         }
     }
 
     /// Whether it changes nothing but its task's place, values and loops.
     pub fn is_local(&self) -> bool
-        ensures { result ≡ is_local self.now }
+        ensures { result ≡ is_some (local_of self.now) }
     {
-        !matches!(self, Instr::Store { .. } | Instr::Ret)
+        matches!(self, Instr::Local(_))
     }
 }

@@ -17,10 +17,10 @@ pub enum Arithmetic {
     Remainder,
 }
 
-/// An instruction. Registers are named by their numbers, 0 to 15 in each of the two banks. An instruction that skips goes
-/// on behind so many instructions after the next place.
+/// A local instruction: it changes nothing but its task's place, values and loops. Registers are named by their numbers, 0
+/// to 15 in each of the two banks. An instruction that skips goes on behind so many instructions after the next place.
 #[derive(Drop)]
-pub enum Instr {
+pub enum LocalInstr {
     /// INT: the value register `to` gets the number.
     Int {
         to: u8,
@@ -90,12 +90,24 @@ pub enum Instr {
     },
     /// END: the innermost loop has one turn less; it goes on at its first place, or ends.
     End,
+}
+
+/// An instruction on data: it reads and changes besides the store, its notices and the task's right registers.
+#[derive(Clone, Copy)]
+pub enum DataInstr {
     /// STORE: the datum whose write right is in the right register `datum` gets the value of the value register
     /// `from`, and the right is spent.
     Store {
         datum: u8,
         from: u8,
     },
+}
+
+/// An instruction, by what it reads and changes.
+#[derive(Drop)]
+pub enum Instr {
+    Local(LocalInstr),
+    Data(DataInstr),
     /// RET: the task ends.
     Ret,
 }

@@ -3,24 +3,19 @@
 //! Each program has one spelling. `decode` reads it, or says which fault stands first; `encode` writes it.
 #![tactic(auto)]
 
+pub mod compute;
 mod fault;
 mod flow;
 mod instr;
-mod items;
 mod laws;
-mod operands;
-mod parts;
+mod main_shape;
 mod procedure;
 mod program;
-mod reading;
-mod texts;
-mod writing;
 
 pub use fault::{Fault, FaultNo, NoMemory};
 pub use flow::{Flow, Way};
-pub use instr::{Arithmetic, Instr};
+pub use instr::{Arithmetic, DataInstr, Instr, LocalInstr};
 pub use laws::shown_and_read;
+pub use main_shape::{has_main_shape, main_params};
 pub use procedure::Procedure;
 pub use program::Program;
-pub use reading::decode;
-pub use writing::encode;

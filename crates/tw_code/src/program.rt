@@ -1,7 +1,7 @@
 //! Programs.
 
 ghost use Rattle.std.specs.Prelude.{◌≡◌};
-ghost use Rattle.tw_code.specs.Program.{IsProgram};
+ghost use Rattle.tw_code.specs.format.Program.{IsProgram};
 
 use crate::procedure::Procedure;
 use std::marker::Model;
@@ -15,7 +15,7 @@ pub struct Program {
 impl Model for Program {
     ghost use Rattle.std.specs.Prelude.{List};
     ghost use Rattle.tw_code.specs.declared.procedure.Procedure.{Procedure};
-    ghost use Rattle.tw_code.specs.Program.{IsProgram};
+    ghost use Rattle.tw_code.specs.format.Program.{IsProgram};
 
     ghost Value = { List Procedure };
 

@@ -1,4 +1,4 @@
-use Rattle.tw_code.specs.Shown as shown
+use Rattle.tw_code.proofs.Shown as shown
 use Rattle.tw_code.proofs.laws.shown_and_read.Goals as goal
 
 pub returns : goal.returns

@@ -1,0 +1,17 @@
+-- The machine: what instructions do, what an event comes to, how a run begins and ends; in the order in which the files
+-- stand on one another.
+pub mod Position
+pub mod Local
+pub mod Rights
+pub mod Data
+pub mod Arguments
+pub mod State
+pub mod Machine
+pub mod Opening
+pub mod Inputs
+pub mod Ending
+pub mod History
+-- What the laws of runs speak of.
+pub mod Holders
+pub mod Bounds
+pub mod Shown

@@ -1,0 +1,42 @@
+//! The shape of main.
+
+ghost use Rattle.std.specs.Prelude.{◌≡◌};
+ghost use Rattle.std.specs.List.{list_all};
+ghost use Rattle.tw_code.specs.accepting.MainShape.{has_main_shape, is_main_param};
+ghost use Rattle.tw_code.specs.machine.Opening.{main_params};
+
+use crate::procedure::Procedure;
+use tw_types::{Kind, Param};
+
+/// Whether the first procedure has the shape that main must have: a control procedure without values, on scalars and on
+/// containers of scalars alone.
+pub fn has_main_shape(program: &[Procedure]) -> bool
+    ensures { result ≡ has_main_shape program.now }
+{
+    match program.first() {
+        Some(main) => main.kind == Kind::Control && are_main_params(main.params.as_slice()),
+        None => false,
+    }
+}
+
+/// The parameters of main.
+pub fn main_params(program: &[Procedure]) -> &[Param]
+    ensures { result.now ≡ main_params program.now }
+{
+    match program.first() {
+        Some(main) => main.params.as_slice(),
+        None => &[],
+    }
+}
+
+fn are_main_params(params: &[Param]) -> bool
+    ensures { result ≡ list_all is_main_param params.now }
+{
+    params.iter().all(is_main_param)
+}
+
+fn is_main_param(param: &Param) -> bool
+    ensures { result ≡ is_main_param param.now }
+{
+    !param.mode.is_val() && param.ty.is_flat()
+}
