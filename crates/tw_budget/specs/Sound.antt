@@ -5,12 +5,16 @@ use Rattle.std.specs.List.{AllByRecursion}
 use Rattle.std.proofs.lemmas.List.{length-map}
 use Rattle.tw_code.specs.declared.flow.Flow.{Flow}
 use Rattle.tw_code.specs.declared.flow.Flow.TheVariants.{Straight, Branch, Jump, Begin, Close, Stop}
+use Rattle.tw_code.specs.declared.instr.DataInstr.{DataInstr}
+use Rattle.tw_code.specs.declared.instr.DataInstr.TheVariants as on_data
+use Rattle.tw_code.specs.declared.instr.LocalInstr.{LocalInstr}
+use Rattle.tw_code.specs.declared.instr.LocalInstr.TheVariants as local
 use Rattle.tw_code.specs.declared.instr.Instr.{Instr}
 use Rattle.tw_code.specs.declared.instr.Instr.TheVariants as instr
 use Rattle.tw_code.specs.declared.procedure.Procedure.{Procedure}
-use Rattle.tw_code.specs.Flow.{flow_of, flows}
-use Rattle.tw_code.specs.Program.{IsInstr, IsProcedure}
-use Rattle.tw_code.specs.Structure.{structure_refusal_at, IsStructured}
+use Rattle.tw_code.specs.accepting.Flow.{data_flow, flow_of, flows, local_flow}
+use Rattle.tw_code.specs.format.Program.{IsInstr, IsLocalInstr, IsProcedure}
+use Rattle.tw_code.specs.accepting.Structure.{structure_refusal_at, IsStructured}
 
 pub record IsSound (code : List Flow) : Type 0 where
   pub long : 0 < length code
@@ -18,19 +22,19 @@ pub record IsSound (code : List Flow) : Type 0 where
   pub each : (place : ℕ) → structure_refusal_at code place ≡ None
 
 -- a REPEAT has turns
-has_turns : (i : Instr) (turns : ℕ) → IsInstr i → flow_of i ≡ Begin turns → 0 < turns
-has_turns (instr.Int to value) turns h e = cc
-has_turns (instr.Text to text) turns h e = cc
-has_turns (instr.Copy to from) turns h e = cc
-has_turns (instr.Compute operation to left right skip) turns h e = cc
-has_turns (instr.Concatenate to left right skip) turns h e = cc
-has_turns (instr.Length to from) turns h e = cc
-has_turns (instr.Show to from) turns h e = cc
-has_turns (instr.ReadInt to from skip) turns h e = cc
-has_turns (instr.Jump skip) turns h e = cc
-has_turns (instr.JumpEqual left right skip) turns h e = cc
-has_turns (instr.JumpLess left right skip) turns h e = cc
-has_turns (instr.Repeat given) turns h e =
+local_turns : (i : LocalInstr) (turns : ℕ) → IsLocalInstr i → local_flow i ≡ Begin turns → 0 < turns
+local_turns (local.Int to value) turns h e = cc
+local_turns (local.Text to text) turns h e = cc
+local_turns (local.Copy to from) turns h e = cc
+local_turns (local.Compute operation to left right skip) turns h e = cc
+local_turns (local.Concatenate to left right skip) turns h e = cc
+local_turns (local.Length to from) turns h e = cc
+local_turns (local.Show to from) turns h e = cc
+local_turns (local.ReadInt to from skip) turns h e = cc
+local_turns (local.Jump skip) turns h e = cc
+local_turns (local.JumpEqual left right skip) turns h e = cc
+local_turns (local.JumpLess left right skip) turns h e = cc
+local_turns (local.Repeat given) turns h e =
     let same : given ≡ turns = ap (λ (f : Flow). turns_in f) e in
     omega (arith, h.0, same)
   where
@@ -41,8 +45,14 @@ has_turns (instr.Repeat given) turns h e =
     turns_in (Begin n) = n
     turns_in Close = 0
     turns_in Stop = 0
-has_turns instr.End turns h e = cc
-has_turns (instr.Store datum from) turns h e = cc
+local_turns local.End turns h e = cc
+
+no_turns : (i : DataInstr) (turns : ℕ) → data_flow i ≡ Begin turns → ⊥
+no_turns (on_data.Store datum from) turns e = cc
+
+has_turns : (i : Instr) (turns : ℕ) → IsInstr i → flow_of i ≡ Begin turns → 0 < turns
+has_turns (instr.Local i) turns h e = local_turns i turns h e
+has_turns (instr.Data i) turns h e = absurd (no_turns i turns e)
 has_turns instr.Ret turns h e = cc
 
 have_turns : (code : List Instr) → AllByRecursion IsInstr code → (place turns : ℕ) → slice_get (flows code) place ≡ Some (Begin turns) → 0 < turns

@@ -1,7 +1,8 @@
 //! The table of places.
 
 ghost use Rattle.std.specs.Prelude.{◌≡◌, ◌+◌, ◌<◌, ◌≤◌, length, min, slice_get};
-ghost use Rattle.tw_code.specs.Flow.{flows, goal_of};
+ghost use Rattle.tw_code.specs.accepting.Flow.{flows};
+ghost use Rattle.tw_code.specs.machine.Position.{goal_of};
 ghost use Rattle.tw_budget.specs.Rows.{IsRow, RowsFrom, most_told};
 ghost use Rattle.tw_budget.specs.Sound.{IsSound};
 

@@ -6,7 +6,8 @@ use Rattle.std.proofs.lemmas.List.{append-nil, map-append, take_more}
 use Rattle.tw_types.specs.declared.value.Value.{Value}
 use Rattle.tw_types.specs.Outcome.{Outcome, Went, ◌>>=◌}
 use Rattle.tw_types.specs.Task as task
-use Rattle.tw_code.specs.Machine.{ids_in, sixteen}
+use Rattle.tw_code.specs.machine.State.{ids_in}
+use Rattle.tw_code.specs.machine.Rights.{first_rights}
 use Rattle.tw_machine.specs.declared.task.Arg.{Arg}
 use Rattle.tw_machine.specs.declared.task.Arg.TheVariants as arg
 use Rattle.tw_machine.specs.Args.{arg_of}
@@ -32,7 +33,7 @@ set_next : (ids : List ℕ) (m id : ℕ) → set (map Some ids ++ replicate (suc
 set_next [] m id = refl
 set_next (i ∷ ids) m id = ap (λ xs. Some i ∷ xs) (set_next ids m id)
 
-sixteen_more : (ids : List ℕ) (id : ℕ) → length ids < 16 → set (sixteen ids) (length ids) (Some id) ≡ sixteen (ids ++ id ∷ [])
+sixteen_more : (ids : List ℕ) (id : ℕ) → length ids < 16 → set (first_rights ids) (length ids) (Some id) ≡ first_rights (ids ++ id ∷ [])
 sixteen_more ids id h =
     let m = 16 - length (ids ++ id ∷ []) in
     let e : 16 - length ids ≡ suc m = omega (arith, length-append ids (id ∷ [])) in
@@ -40,13 +41,13 @@ sixteen_more ids id h =
 
 -- a right more
 pub rights_more : (args : List Arg) (k count : ℕ) (rights left : List (Option ℕ)) (x : Arg) (id : ℕ) → k < length args → x ≡ get_or args k x → x ≡ arg.Right id → count < 16
-    → rights ≡ sixteen (ids_among (take k args)) → count ≡ length (ids_among (take k args)) → left ≡ set rights count (Some id)
-    → (left ≡ sixteen (ids_among (take (k + 1) args))) × (count + 1 ≡ length (ids_among (take (k + 1) args)))
+    → rights ≡ first_rights (ids_among (take k args)) → count ≡ length (ids_among (take k args)) → left ≡ set rights count (Some id)
+    → (left ≡ first_rights (ids_among (take (k + 1) args))) × (count + 1 ≡ length (ids_among (take (k + 1) args)))
 rights_more args k count rights left x id h at is few so_far counted now =
     let ids = ids_among (take k args) in
     let more : ids_among (take (k + 1) args) ≡ ids ++ id ∷ [] = ids_more args k x h at ∙ ap (λ y. ids ++ ids_in (arg_of y ∷ [])) is in
     let room : length ids < 16 = omega arith in (
-      now ∙ ap (λ r. set r count (Some id)) so_far ∙ ap (λ n. set (sixteen ids) n (Some id)) counted ∙ sixteen_more ids id room ∙ ap sixteen (sym more),
+      now ∙ ap (λ r. set r count (Some id)) so_far ∙ ap (λ n. set (first_rights ids) n (Some id)) counted ∙ sixteen_more ids id room ∙ ap first_rights (sym more),
       rw more (omega (arith, length-append ids (id ∷ []))),
     )
 

@@ -11,13 +11,14 @@ use Rattle.tw_types.specs.Actor.{actor_cmp}
 use Rattle.tw_types.specs.Outcome.{Outcome, Went, NotEnabled}
 use Rattle.tw_types.specs.Store.{Store}
 use Rattle.tw_code.specs.declared.procedure.Procedure.{Procedure}
-use Rattle.tw_code.specs.Bounds.{AreBelow}
-use Rattle.tw_code.specs.Machine.{Frame, State, call_event, end_event, local_event}
+use Rattle.tw_code.specs.machine.Bounds.{AreBelow}
+use Rattle.tw_code.specs.machine.State.{Frame, State}
+use Rattle.tw_code.specs.machine.Machine.{call_event, end_event, local_event}
 use Rattle.tw_machine.specs.declared.refused.Refused.{Refused}
 use Rattle.tw_machine.specs.Attempts.{Changes}
 use Rattle.tw_machine.specs.Events.{ContextComes, FrameComes, FramesCome}
 use Rattle.tw_machine.specs.Parts.{frames_of, with_frames, with_store}
-use Rattle.tw_types.specs.ActorOrder.{actor_cmp_total, actor_cmp-IsAntisymmetric}
+use Rattle.tw_types.proofs.ActorOrder.{actor_cmp_total, actor_cmp-IsAntisymmetric}
 use Rattle.tw_types.proofs.Maps.{found_view, insert_same, written_view}
 
 pub is_few : (o : Option Frame) (f : Frame) (bound : ℕ) → o ≡ Some f → IfSome o (λ g. g.spent < bound) → f.spent < bound

@@ -5,9 +5,10 @@ use Rattle.std.specs.declared.result.Result.TheVariants.{Ok, Err}
 use Rattle.tw_types.specs.declared.event.Event.{Event}
 use Rattle.tw_types.specs.Layout.{ActorCounts}
 use Rattle.tw_code.specs.declared.procedure.Procedure.{Procedure}
-use Rattle.tw_code.specs.Bounds.{AreBelow, size_of}
-use Rattle.tw_code.specs.Growth.{below_more, step_grows}
-use Rattle.tw_code.specs.Machine.{State, step}
+use Rattle.tw_code.specs.machine.Bounds.{AreBelow, size_of}
+use Rattle.tw_code.proofs.Growth.{below_more, step_grows}
+use Rattle.tw_code.specs.machine.State.{State}
+use Rattle.tw_code.specs.machine.Machine.{step}
 use Rattle.tw_machine.specs.declared.refused.Refused.{Refused}
 use Rattle.tw_machine.specs.Attempts.{Changes}
 

@@ -6,11 +6,13 @@ use Rattle.tw_types.specs.declared.input.Input.{Input}
 use Rattle.tw_types.specs.declared.param.Param.{Param}
 use Rattle.tw_types.specs.Store.{Store}
 use Rattle.tw_code.specs.declared.procedure.Procedure.{Procedure}
-use Rattle.tw_code.specs.Bounds.{AreBelow}
-use Rattle.tw_code.specs.Growth.{opening_is_small}
-use Rattle.tw_code.specs.Machine.{State}
-use Rattle.tw_code.specs.Opening.{Opened, has_main_shape, is_write, main_params, opened, opening, opening_of}
-use Rattle.tw_code.specs.Program.{IsProgram}
+use Rattle.tw_code.specs.machine.Bounds.{AreBelow}
+use Rattle.tw_code.proofs.Growth.{opening_is_small}
+use Rattle.tw_code.specs.machine.State.{State}
+use Rattle.tw_code.specs.machine.Opening.{Opened, main_params, opened, opening, opening_of}
+use Rattle.tw_code.specs.accepting.MainShape.{has_main_shape}
+use Rattle.tw_types.specs.Mode.{is_write}
+use Rattle.tw_code.specs.format.Program.{IsProgram}
 use Rattle.tw_machine.specs.declared.refusal.OpenRefusal.TheVariants.{InputCount, MainShape}
 use Rattle.tw_machine.specs.Opening.{has_no_input, is_nil, nothing_opened, refusal_of}
 

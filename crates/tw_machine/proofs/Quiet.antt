@@ -1,18 +1,17 @@
 -- Whether a state is quiet.
-use Rattle.std.proofs.Common.{◌≡◌, if◌then◌else◌, Bool, true, false, ◌&&◌, refl, IsTrue, ◌↔◌}
+use Rattle.std.proofs.Common.{◌≡◌, if◌then◌else◌, Bool, true, false, ◌&&◌, refl, IsTrue, ◌↔◌, ℕ}
 use Rattle.std.specs.declared.option.Option.TheVariants.{None, Some}
 use Rattle.std.specs.Bool.{then_some}
 use Rattle.std.specs.BTreeMap.{BTreeMap, btree_map_len}
 use Rattle.std.specs.Cmp.{nat_cmp_total}
 use Rattle.std.specs.FinMap.{nat_cmp-IsAntisymmetric}
-use Rattle.std.proofs.Common.{ℕ}
 use Rattle.tw_types.specs.declared.actor.Actor.{Actor}
 use Rattle.tw_types.specs.declared.ending.Ending.TheVariants.{Quiet}
 use Rattle.tw_types.specs.Task.{Task}
-use Rattle.tw_code.specs.Ending.{ending}
-use Rattle.tw_code.specs.Machine.{Frame, State}
+use Rattle.tw_code.specs.machine.Ending.{ending}
+use Rattle.tw_code.specs.machine.State.{Frame, State}
 use Rattle.tw_machine.specs.Parts.{frames_of, tasks_of, with_frames, with_tasks}
-use Rattle.tw_types.specs.ActorOrder.{actor_cmp_total, actor_cmp-IsAntisymmetric}
+use Rattle.tw_types.proofs.ActorOrder.{actor_cmp_total, actor_cmp-IsAntisymmetric}
 use Rattle.tw_types.proofs.Maps.{is_empty_view}
 
 module _ (s : State) (frames : BTreeMap Actor Frame) (tasks : BTreeMap ℕ Task) (f t : Bool) where

@@ -2,7 +2,8 @@
 use Rattle.std.proofs.Common.{◌≡◌, ◌<◌, ◌+◌, ◌-◌, ℕ, zero, suc, List, refl, ap, ◌∙◌, arith}
 use Rattle.tw_types.specs.Outcome.{Outcome, Went, NotEnabled, Trap, ◌>>=◌}
 use Rattle.tw_code.specs.declared.instr.Instr.{Instr}
-use Rattle.tw_code.specs.Position.{Position, local_step, local_steps}
+use Rattle.tw_code.specs.machine.Position.{Position}
+use Rattle.tw_code.specs.machine.Machine.{local_step, local_steps}
 use Rattle.tw_machine.specs.declared.refused.Refused.{Refused}
 use Rattle.tw_machine.specs.Attempts.{IsRefused}
 use Rattle.tw_machine.proofs.Refusals.{refused_then, refused_is}

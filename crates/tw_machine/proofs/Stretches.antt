@@ -5,8 +5,10 @@ use Rattle.tw_types.specs.declared.cause.Cause.TheVariants.{WrongCall}
 use Rattle.tw_types.specs.Outcome.{Outcome, Went, NotEnabled, Trap, ◌>>=◌}
 use Rattle.tw_code.specs.declared.instr.Instr.{Instr}
 use Rattle.tw_code.specs.declared.procedure.Procedure.{Procedure}
-use Rattle.tw_code.specs.Machine.{Frame, procedure_of}
-use Rattle.tw_code.specs.Position.{Position, local_step, local_steps}
+use Rattle.tw_code.specs.machine.State.{Frame}
+use Rattle.tw_code.specs.machine.Arguments.{procedure_of}
+use Rattle.tw_code.specs.machine.Position.{Position}
+use Rattle.tw_code.specs.machine.Machine.{local_step, local_steps}
 use Rattle.tw_machine.specs.Stretch.{IsStretch, steps_from}
 
 went_on : {A B : Type 0} (o : Outcome A) (next : A → Outcome B) (y : B) → (o >>= next) ≡ Went y → (x : A) × (o ≡ Went x) × (next x ≡ Went y)

@@ -9,7 +9,8 @@ use Rattle.tw_types.specs.Layout.{ActorCounts}
 use Rattle.tw_types.specs.Outcome.{Went, NotEnabled, ◌>>=◌}
 use Rattle.tw_types.specs.Task.{Task, best}
 use Rattle.tw_code.specs.declared.procedure.Procedure.{Procedure}
-use Rattle.tw_code.specs.Machine.{Frame, State, frame_of, take_event, with_frame}
+use Rattle.tw_code.specs.machine.State.{Frame, State, frame_of, with_frame}
+use Rattle.tw_code.specs.machine.Machine.{take_event}
 use Rattle.tw_machine.specs.declared.refused.Refused.{Refused}
 use Rattle.tw_machine.specs.Attempts.{IsRefused}
 use Rattle.tw_machine.specs.Parts.{with_tasks}

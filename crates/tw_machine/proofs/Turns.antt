@@ -1,7 +1,7 @@
 -- The innermost loop, which is the last that was begun.
 use Rattle.std.proofs.Common.{◌≡◌, ◌<◌, ◌≤◌, ◌+◌, ◌-◌, ℕ, zero, suc, List, [], ◌∷◌, ◌++◌, length, reverse, take, set, get_or, Some, refl, sym, ap, subst, ◌∙◌, arith, length-append}
 use Rattle.std.proofs.lemmas.List.{reverse-append}
-use Rattle.tw_code.specs.Walk.{Loop, after_end, turned}
+use Rattle.tw_code.specs.machine.Position.{Loop, after_end, turned}
 
 -- a list that ends with this
 split : {A : Type 0} (xs : List A) (x : A) → 0 < length xs → x ≡ get_or xs (length xs - 1) x → (front : List A) × (xs ≡ front ++ x ∷ [])

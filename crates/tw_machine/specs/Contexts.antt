@@ -5,8 +5,8 @@ use Rattle.std.specs.declared.result.Result.TheVariants.{Ok, Err}
 use Rattle.tw_types.specs.Outcome.{Went}
 use Rattle.tw_types.specs.Store.{Store}
 use Rattle.tw_code.specs.declared.instr.Instr.{Instr}
-use Rattle.tw_code.specs.Context.{Context, data_instr}
-use Rattle.tw_code.specs.Machine.{Frame}
+use Rattle.tw_code.specs.machine.Data.{Context, data_instr}
+use Rattle.tw_code.specs.machine.State.{Frame}
 use Rattle.tw_machine.specs.declared.refused.Refused.{Refused}
 use Rattle.tw_machine.specs.Attempts.{IsRefused}
 

@@ -3,9 +3,11 @@ use Rattle.std.specs.Prelude.{◌==◌, ℕ, not, Option, Some, None}
 use Rattle.std.specs.FinMap.{len}
 use Rattle.tw_types.specs.declared.cause.Cause.TheVariants.{AlreadySet, WrongType, NoWriteCount}
 use Rattle.tw_types.specs.declared.value.Value.{Value}
-use Rattle.tw_types.specs.Outcome.{Outcome, ◌>>◌, must}
-use Rattle.tw_types.specs.Store.{Content, Unset, Set, Contains, Datum, is_scalar}
-use Rattle.tw_code.specs.Context.{is_unset}
+use Rattle.tw_types.specs.Outcome.{Outcome, ◌>>◌}
+use Rattle.tw_types.specs.Result.{must}
+use Rattle.tw_types.specs.Store.{Content, Unset, Set, Contains, Datum}
+use Rattle.tw_types.specs.DataType.{is_scalar}
+use Rattle.tw_types.specs.StoreChecks.{is_unset}
 
 -- the value, where there is one
 abbrev pub value_in : Content → Option Value

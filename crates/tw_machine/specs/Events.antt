@@ -6,7 +6,7 @@ use Rattle.std.specs.FinMap.{get}
 use Rattle.tw_types.specs.declared.actor.Actor.{Actor}
 use Rattle.tw_types.specs.Outcome.{Outcome, Went}
 use Rattle.tw_types.specs.Store.{Store}
-use Rattle.tw_code.specs.Machine.{Frame, Frames, State, with_frame}
+use Rattle.tw_code.specs.machine.State.{Frame, Frames, State, with_frame}
 use Rattle.tw_machine.specs.declared.refused.Refused.{Refused}
 use Rattle.tw_machine.specs.Attempts.{Changes, IsRefused}
 use Rattle.tw_machine.specs.Parts.{with_store, with_frames}

@@ -4,7 +4,9 @@ use Rattle.std.specs.List.{list_all}
 use Rattle.tw_types.specs.declared.input.Input.{Input}
 use Rattle.tw_types.specs.Store.{empty_store}
 use Rattle.tw_code.specs.declared.procedure.Procedure.{Procedure}
-use Rattle.tw_code.specs.Opening.{Opened, has_main_shape, is_write, main_params}
+use Rattle.tw_code.specs.machine.Opening.{Opened, main_params}
+use Rattle.tw_code.specs.accepting.MainShape.{has_main_shape}
+use Rattle.tw_types.specs.Mode.{is_write}
 use Rattle.tw_machine.specs.declared.refusal.OpenRefusal.{OpenRefusal}
 use Rattle.tw_machine.specs.declared.refusal.OpenRefusal.TheVariants.{InputCount, Memory, MainShape}
 

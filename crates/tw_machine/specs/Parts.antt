@@ -6,7 +6,7 @@ use Rattle.tw_types.specs.declared.actor.Actor.{Actor}
 use Rattle.tw_types.specs.Actor.{actor_cmp}
 use Rattle.tw_types.specs.Store.{Datum, Data, Store}
 use Rattle.tw_types.specs.Task.{Task, Tasks}
-use Rattle.tw_code.specs.Machine.{Frame, Frames, State}
+use Rattle.tw_code.specs.machine.State.{Frame, Frames, State}
 
 abbrev pub data_of : List (ℕ × Datum) → Data
 data_of es = from_entries {R = nat_cmp} es

@@ -4,7 +4,8 @@ use Rattle.tw_types.specs.declared.event.Event.{Event}
 use Rattle.tw_types.specs.Layout.{ActorCounts}
 use Rattle.tw_types.specs.Outcome.{Went, NotEnabled, Trap}
 use Rattle.tw_code.specs.declared.procedure.Procedure.{Procedure}
-use Rattle.tw_code.specs.Machine.{State, step}
+use Rattle.tw_code.specs.machine.State.{State}
+use Rattle.tw_code.specs.machine.Machine.{step}
 use Rattle.tw_machine.specs.declared.stepped.Stepped.{Stepped}
 use Rattle.tw_machine.specs.declared.stepped.Stepped.TheVariants as stepped
 

@@ -2,8 +2,10 @@
 use Rattle.std.specs.Prelude.{◌≡◌, ℕ, ◌+◌, ◌<◌, ◌≤◌, List}
 use Rattle.tw_types.specs.Outcome.{Outcome, Went, ◌>>=◌}
 use Rattle.tw_code.specs.declared.procedure.Procedure.{Procedure}
-use Rattle.tw_code.specs.Machine.{Frame, procedure_of}
-use Rattle.tw_code.specs.Position.{Position, local_steps}
+use Rattle.tw_code.specs.machine.State.{Frame}
+use Rattle.tw_code.specs.machine.Arguments.{procedure_of}
+use Rattle.tw_code.specs.machine.Position.{Position}
+use Rattle.tw_code.specs.machine.Machine.{local_steps}
 
 -- so many local instructions from where the frame stands
 abbrev pub steps_from : List Procedure → Frame → ℕ → Outcome Position

@@ -2,8 +2,8 @@
 
 ghost use Rattle.std.specs.Prelude.{◌≡◌, ◌<◌, ◌^◌, MatchResult, OnOk};
 ghost use Rattle.tw_types.specs.Outcome.{Went};
-ghost use Rattle.tw_code.specs.Machine.{procedure_of};
-ghost use Rattle.tw_code.specs.Position.{instr_at};
+ghost use Rattle.tw_code.specs.machine.Arguments.{procedure_of};
+ghost use Rattle.tw_code.specs.machine.Machine.{instr_at};
 ghost use Rattle.tw_machine.specs.Attempts.{IsRefused};
 
 use crate::refused::Refused;

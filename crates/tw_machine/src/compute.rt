@@ -2,7 +2,7 @@
 
 ghost use Rattle.std.specs.Prelude.{◌≡◌, ◌≤◌, length, bytes_eq, IfOk};
 ghost use Rattle.std.specs.Fmt.{signed_decimal};
-ghost use Rattle.tw_code.specs.Position.{result_of, joined, int_shown_as, same_value};
+ghost use Rattle.tw_code.specs.machine.Local.{result_of, joined, int_shown_as, same_value};
 ghost use Rattle.tw_machine.specs.Attempts.{Gives};
 
 use crate::refused::Refused;

@@ -3,7 +3,7 @@
 ghost use Rattle.std.specs.Prelude.{◌≡◌, ◌<◌, ◌^◌};
 ghost use Rattle.std.specs.Option.{option_copied};
 ghost use Rattle.tw_code.specs.declared.instr.Instr.TheVariants.{Store as STORE};
-ghost use Rattle.tw_code.specs.Context.{data_instr, datum_at, suits};
+ghost use Rattle.tw_code.specs.machine.Data.{data_instr, datum_at, suits};
 ghost use Rattle.tw_machine.specs.Contexts.{context, Does};
 
 use crate::datum::Datum;

@@ -2,8 +2,10 @@
 
 ghost use Rattle.std.specs.Prelude.{◌≡◌, ◌<◌};
 ghost use Rattle.std.specs.Option.{option_copied};
-ghost use Rattle.tw_types.specs.Store.{new_datum, is_closed, is_let_go, is_scalar};
-ghost use Rattle.tw_code.specs.Context.{is_unset, set_to};
+ghost use Rattle.tw_types.specs.Store.{new_datum, is_closed, is_unheld};
+ghost use Rattle.tw_types.specs.DataType.{is_scalar};
+ghost use Rattle.tw_types.specs.StoreChecks.{is_unset};
+ghost use Rattle.tw_types.specs.StoreCalls.{set_to};
 ghost use Rattle.tw_machine.specs.Attempts.{Gives};
 ghost use Rattle.tw_machine.specs.Data.{value_in, member_count_of, may_be_set};
 
@@ -150,8 +152,8 @@ impl Datum {
     }
 
     /// Whether nobody holds a right on it.
-    pub(crate) fn is_let_go(&self) -> bool
-        ensures { result ≡ is_let_go self.now }
+    pub(crate) fn is_unheld(&self) -> bool
+        ensures { result ≡ is_unheld self.now }
     {
         self.reads == 0 && self.writes == 0
     }

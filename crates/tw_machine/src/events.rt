@@ -4,8 +4,9 @@ ghost use Rattle.std.specs.Prelude.{◌≡◌, ◌<◌, ◌^◌, IfSome, MatchRe
 ghost use Rattle.std.specs.FinMap.{get, remove};
 ghost use Rattle.tw_types.specs.declared.actor.Actor.{Actor as AnActor};
 ghost use Rattle.tw_types.specs.Outcome.{Went};
-ghost use Rattle.tw_code.specs.Machine.{call_event, end_event, local_event, standing_of, State as Meaning};
-ghost use Rattle.tw_code.specs.Structure.{is_stop};
+ghost use Rattle.tw_code.specs.machine.Machine.{call_event, end_event, local_event, standing_of};
+ghost use Rattle.tw_code.specs.machine.State.{State as Meaning};
+ghost use Rattle.tw_code.specs.accepting.Flow.{is_stop};
 ghost use Rattle.tw_machine.specs.Attempts.{Changes, IsRefused};
 ghost use Rattle.tw_machine.specs.Events.{ContextComes, FrameComes, FramesCome};
 ghost use Rattle.tw_machine.specs.Parts.{frames_of, with_frames, with_store};

@@ -3,9 +3,9 @@
 ghost use Rattle.std.specs.Prelude.{◌≡◌, ◌<◌, ◌^◌, ◌+◌, IfOk, MatchResult, None, Some, is_none, slice_set};
 ghost use Rattle.std.specs.Option.{option_copied};
 ghost use Rattle.std.specs.List.{list_all};
-ghost use Rattle.tw_code.specs.Context.{right_at};
-ghost use Rattle.tw_code.specs.Machine.{frame_of};
-ghost use Rattle.tw_code.specs.Position.{at_next_place};
+ghost use Rattle.tw_code.specs.machine.Rights.{right_at};
+ghost use Rattle.tw_code.specs.machine.State.{frame_of};
+ghost use Rattle.tw_code.specs.machine.Position.{at_next_place};
 ghost use Rattle.tw_machine.specs.Attempts.{Gives};
 ghost use Rattle.tw_machine.specs.Stretch.{IsStretch};
 
@@ -30,7 +30,7 @@ pub struct Frame {
 }
 
 impl Model for Frame {
-    ghost use Rattle.tw_code.specs.Machine.{Frame as Meaning};
+    ghost use Rattle.tw_code.specs.machine.State.{Frame as Meaning};
 
     ghost Value = { Meaning };
 

@@ -3,8 +3,10 @@
 ghost use Rattle.std.specs.Prelude.{◌≡◌, ◌<◌, ◌≤◌, ◌^◌, length, IfOk, MatchResult, OnOk, if◌then◌else◌};
 ghost use Rattle.tw_types.specs.Outcome.{Went};
 ghost use Rattle.tw_code.specs.declared.instr.Instr.TheVariants.{Int as INT, Text as TEXT, Copy as COPY, Compute as COMPUTE, Concatenate as CAT, Length as LEN, Show as SHOW, ReadInt as READI, Jump as JMP, JumpEqual as JEQ, JumpLess as JLT, Repeat as REPEAT, End as END};
-ghost use Rattle.tw_code.specs.Position.{local_instr, local_step, local_steps, must_have_type, value_at, int_at, text_at, at_goal, at_next_place};
-ghost use Rattle.tw_code.specs.Position.{Position as Where};
+ghost use Rattle.tw_code.specs.machine.Local.{local_instr};
+ghost use Rattle.tw_code.specs.machine.Machine.{local_step, local_steps};
+ghost use Rattle.tw_code.specs.machine.Position.{must_have_type, value_at, int_at, text_at, at_goal, at_next_place};
+ghost use Rattle.tw_code.specs.machine.Position.{Position as Where};
 ghost use Rattle.tw_machine.specs.Attempts.{Changes, Gives, IsRefused};
 
 use crate::code::instr_at;

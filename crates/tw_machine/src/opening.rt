@@ -2,7 +2,9 @@
 
 ghost use Rattle.std.specs.Prelude.{◌≡◌, true, false, Some};
 ghost use Rattle.std.specs.List.{list_all};
-ghost use Rattle.tw_code.specs.Opening.{has_main_shape, is_main_param, is_write, main_params};
+ghost use Rattle.tw_code.specs.accepting.MainShape.{has_main_shape, is_main_param};
+ghost use Rattle.tw_types.specs.Mode.{is_write};
+ghost use Rattle.tw_code.specs.machine.Opening.{main_params};
 ghost use Rattle.tw_machine.specs.Opening.{has_no_input, refusal_of};
 
 use crate::refusal::OpenRefusal;

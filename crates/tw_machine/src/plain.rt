@@ -1,9 +1,9 @@
 //! The plain machine.
 
 ghost use Rattle.std.specs.Prelude.{◌≡◌, ℕ, ◌<◌, ◌+◌, ◌^◌, IfErr, IfOk, MatchResult, None};
-ghost use Rattle.tw_code.specs.Bounds.{AreBelow, size_of};
-ghost use Rattle.tw_code.specs.Ending.{ending};
-ghost use Rattle.tw_code.specs.Opening.{opening};
+ghost use Rattle.tw_code.specs.machine.Bounds.{AreBelow, size_of};
+ghost use Rattle.tw_code.specs.machine.Ending.{ending};
+ghost use Rattle.tw_code.specs.machine.Opening.{opening};
 ghost use Rattle.tw_machine.specs.Opening.{IsTold, refusal_of};
 ghost use Rattle.tw_machine.specs.PlainView.{Steps};
 
@@ -29,7 +29,7 @@ impl Model for Plain {
     ghost use Rattle.tw_types.specs.Actor.{actor_cmp};
     ghost use Rattle.tw_types.specs.Store.{Datum as DatumMeaning};
     ghost use Rattle.tw_types.specs.Task.{Task as TaskMeaning};
-    ghost use Rattle.tw_code.specs.Machine.{Frame as FrameMeaning};
+    ghost use Rattle.tw_code.specs.machine.State.{Frame as FrameMeaning};
     ghost use Rattle.std.specs.FinMap.{code};
     ghost use Rattle.std.specs.Ordering.{int_cmp, nat_cmp};
     ghost use Rattle.std.specs.Coded.{codes, coded_ℕ, coded_ℤ};

@@ -2,8 +2,8 @@
 
 ghost use Rattle.std.specs.Prelude.{◌≡◌, ◌<◌, ◌^◌, ◌∷◌, ◌+◌, [], length, reverse, slice_get, slice_set, IfOk, OnOk, None, Some, true, false, OnErr};
 ghost use Rattle.std.specs.Option.{option_copied, option_map};
-ghost use Rattle.tw_code.specs.Position.{at_next_place, at_goal, with_value};
-ghost use Rattle.tw_code.specs.Walk.{after_end};
+ghost use Rattle.tw_code.specs.machine.Position.{at_next_place, at_goal, with_value};
+ghost use Rattle.tw_code.specs.machine.Position.{after_end};
 
 use std::alloc::{AllocError, Global};
 use std::marker::Model;
@@ -17,7 +17,7 @@ struct Loop {
 }
 
 impl Model for Loop {
-    ghost use Rattle.tw_code.specs.Walk.{Loop as Meaning};
+    ghost use Rattle.tw_code.specs.machine.Position.{Loop as Meaning};
 
     ghost Value = { Meaning };
 
@@ -37,7 +37,7 @@ pub struct Position {
 
 impl Model for Position {
     ghost use Rattle.std.specs.Prelude.{reverse};
-    ghost use Rattle.tw_code.specs.Position.{Position as Meaning};
+    ghost use Rattle.tw_code.specs.machine.Position.{Position as Meaning};
 
     ghost Value = { Meaning };
 

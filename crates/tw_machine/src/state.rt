@@ -4,10 +4,11 @@ ghost use Rattle.std.specs.Prelude.{◌≡◌, ◌<◌, ◌≤◌, ◌^◌, [], 
 ghost use Rattle.std.specs.List.{list_all};
 ghost use Rattle.std.specs.Option.{option_copied};
 ghost use Rattle.std.specs.FinMap.{get};
-ghost use Rattle.tw_code.specs.Bounds.{AreBelow, size_of};
-ghost use Rattle.tw_code.specs.Ending.{ending};
-ghost use Rattle.tw_code.specs.Machine.{step};
-ghost use Rattle.tw_code.specs.Opening.{is_write, opened, opening_of};
+ghost use Rattle.tw_code.specs.machine.Bounds.{AreBelow, size_of};
+ghost use Rattle.tw_code.specs.machine.Ending.{ending};
+ghost use Rattle.tw_code.specs.machine.Machine.{step};
+ghost use Rattle.tw_types.specs.Mode.{is_write};
+ghost use Rattle.tw_code.specs.machine.Opening.{opened, opening_of};
 ghost use Rattle.tw_machine.specs.Opening.{nothing_opened};
 ghost use Rattle.tw_machine.specs.Attempts.{Changes};
 
@@ -38,7 +39,7 @@ impl Model for State {
     ghost use Rattle.tw_types.specs.Actor.{actor_cmp};
     ghost use Rattle.tw_types.specs.Store.{Datum as DatumMeaning};
     ghost use Rattle.tw_types.specs.Task.{Task as TaskMeaning};
-    ghost use Rattle.tw_code.specs.Machine.{State as Meaning, Frame as FrameMeaning};
+    ghost use Rattle.tw_code.specs.machine.State.{State as Meaning, Frame as FrameMeaning};
     ghost use Rattle.std.specs.FinMap.{code};
     ghost use Rattle.std.specs.Ordering.{int_cmp, nat_cmp};
     ghost use Rattle.std.specs.Coded.{codes, coded_ℕ, coded_ℤ};

@@ -4,7 +4,7 @@ ghost use Rattle.std.specs.Prelude.{◌≡◌, ◌<◌, ◌^◌, IfOk, OnErr, On
 ghost use Rattle.std.specs.Option.{option_copied};
 ghost use Rattle.std.specs.FinMap.{get};
 ghost use Rattle.tw_types.specs.Store.{empty_store, new_datum, added, settled, with_datum};
-ghost use Rattle.tw_code.specs.Context.{set_to};
+ghost use Rattle.tw_types.specs.StoreCalls.{set_to};
 ghost use Rattle.tw_machine.specs.Parts.{data_of};
 
 use crate::datum::Datum;

@@ -4,7 +4,8 @@ ghost use Rattle.std.specs.Prelude.{◌≡◌, option_map, ◌&&◌, is_none, in
 ghost use Rattle.std.specs.FinMap.{get};
 ghost use Rattle.tw_types.specs.Actor.{is_in};
 ghost use Rattle.tw_types.specs.Task.{best};
-ghost use Rattle.tw_code.specs.Machine.{take_event, State as Meaning};
+ghost use Rattle.tw_code.specs.machine.Machine.{take_event};
+ghost use Rattle.tw_code.specs.machine.State.{State as Meaning};
 ghost use Rattle.tw_machine.specs.Attempts.{Changes};
 ghost use Rattle.tw_machine.specs.Best.{is_better};
 ghost use Rattle.tw_machine.specs.Parts.{frames_of, tasks_of, with_frames, with_tasks};

@@ -5,8 +5,9 @@ ghost use Rattle.std.specs.Option.{option_copied};
 ghost use Rattle.tw_types.specs.Outcome.{Went};
 ghost use Rattle.tw_types.specs.Task.{is_eligible, is_for};
 ghost use Rattle.tw_types.specs.Actor.{may_take};
-ghost use Rattle.tw_code.specs.Machine.{filled, ids_in, sixteen, values_in};
-ghost use Rattle.tw_code.specs.Opening.{main_task};
+ghost use Rattle.tw_code.specs.machine.State.{filled, ids_in, values_in};
+ghost use Rattle.tw_code.specs.machine.Rights.{first_rights};
+ghost use Rattle.tw_code.specs.machine.Opening.{main_task};
 ghost use Rattle.tw_types.specs.Value.{blank_of};
 ghost use Rattle.tw_machine.specs.Args.{arg_of};
 ghost use Rattle.tw_machine.specs.Attempts.{IsRefused};
@@ -95,7 +96,7 @@ impl Task {
 
     /// The right registers at its start: the ids of its rights in their order, and then empty ones.
     pub fn rights(&self) -> [Option<DatumId>; 16]
-        ensures { result ≡ sixteen (ids_in self.now.args) }
+        ensures { result ≡ first_rights (ids_in self.now.args) }
     {
         first_rights(&self.args)
     }
@@ -142,7 +143,7 @@ fn add_blanks(
 
 fn first_rights(args: &[Arg]) -> [Option<DatumId>; 16]
     requires { length args.now ≤ 8 }
-    ensures { result ≡ sixteen (ids_in (map arg_of args.now)) }
+    ensures { result ≡ first_rights (ids_in (map arg_of args.now)) }
 {
     let mut rights = [None; 16];
     let mut count = 0;

@@ -4,8 +4,8 @@ use Rattle.std.specs.Prelude.{slice_get}
 use Rattle.std.proofs.lemmas.List.{append-nil, take_more}
 use Rattle.std.proofs.lemmas.Option.{slice_get-get_or}
 use Rattle.tw_code.specs.declared.procedure.Procedure.{Procedure}
-use Rattle.tw_code.specs.Flow.{flows}
-use Rattle.tw_code.specs.Walk.{IsBudget}
+use Rattle.tw_code.specs.accepting.Flow.{flows}
+use Rattle.tw_code.specs.accepting.Walk.{IsBudget}
 use Rattle.tw_session.specs.Check.{AreProcedureLines, IsCheckText, needs_line, procedure_line}
 
 pub lines_more : (number budget : ℕ) (ps : List Procedure) (p : Procedure) (lines : List ℕ) → AreProcedureLines number ps lines → IsBudget (flows p.code) budget

@@ -7,8 +7,10 @@ use Rattle.std.specs.FinMap as fin
 use Rattle.std.specs.FinMap.{FinMap, get-empty, get-insert, len-empty, len-insert, len-remove, entries-insert, put, len-entries}
 use Rattle.tw_types.specs.declared.event.Event.{Event}
 use Rattle.tw_types.specs.declared.event.Event.TheVariants.{Take, Local, Call, End}
-use Rattle.tw_types.specs.Outcome.{Went, ◌>>=◌, ◌>>◌, there, must, only_if}
-use Rattle.tw_types.specs.Actor.{actor_cmp, rank_of, number_of}
+use Rattle.tw_types.specs.Outcome.{Went, ◌>>=◌, ◌>>◌, only_if}
+use Rattle.std.specs.Option.{ok_or}
+use Rattle.tw_types.specs.Result.{must}
+use Rattle.tw_types.specs.Actor.{actor_cmp, rank_of, number_in_kind}
 use Rattle.tw_types.specs.Task.{RightArg, Task, best}
 use Rattle.tw_code.specs.declared.procedure.Procedure.{Procedure}
 use Rattle.tw_code.specs.declared.instr.Instr.{Instr}
@@ -16,28 +18,33 @@ use Rattle.tw_code.specs.declared.instr.Instr.TheVariants as instr
 use Rattle.tw_types.specs.declared.data_type.Scalar.{Scalar}
 use Rattle.tw_types.specs.declared.value.Value.{Value}
 use Rattle.tw_types.specs.declared.value.Value.TheVariants as value
-use Rattle.tw_code.specs.Position.{Position, value_at, int_in, int_at, text_in, text_at, same_value, must_have_type, instr_at, is_local, local_instr, local_step, local_steps}
-use Rattle.tw_code.specs.Structure.{is_stop}
-use Rattle.tw_code.specs.Walk.{after_end}
+use Rattle.tw_code.specs.machine.Position.{Position, value_at, int_in, int_at, text_in, text_at, must_have_type, after_end}
+use Rattle.tw_code.specs.machine.Local.{same_value, local_instr}
+use Rattle.tw_code.specs.machine.Machine.{instr_at, local_step, local_steps, step, Standing, standing_of}
+use Rattle.tw_code.specs.Position.{is_local}
+use Rattle.tw_code.specs.accepting.Flow.{is_stop, flow_of}
 use Rattle.tw_machine.specs.Stretch.{steps_from}
-use Rattle.tw_types.specs.Store.{Store, is_scalar}
+use Rattle.tw_types.specs.Store.{Store, empty_store}
+use Rattle.tw_types.specs.DataType.{is_scalar}
 use Rattle.tw_types.specs.declared.cause.Cause.TheVariants.{RightLeft, OutsideCode, NoLoop, WrongCall, WrongRegister, WrongType, AlreadySet, NoWriteCount}
-use Rattle.tw_code.specs.Flow.{flow_of}
-use Rattle.tw_code.specs.Context.{Context, datum_at, right_at, held, live, suits, is_unset, data_instr}
+use Rattle.tw_code.specs.machine.Data.{Context, datum_at, suits, data_instr}
+use Rattle.tw_code.specs.machine.Rights.{right_at, held, first_rights}
+use Rattle.tw_code.specs.Context.{live}
+use Rattle.tw_types.specs.StoreChecks.{is_unset}
 use Rattle.tw_session.specs.Driving.{IsAlone, IsDone}
 use Rattle.tw_session.specs.Next.{engine, IsLocalNext, IsEnd, IsCall, IsSingle, IsNext, IsDue}
-use Rattle.tw_types.specs.Store.{empty_store}
 use Rattle.tw_types.specs.Value.{blank_of}
-use Rattle.tw_code.specs.Machine.{State, Frame, step, values_in, ids_in, sixteen, with_frame, Standing, standing_of, procedure_of, context_of, after_context}
-use Rattle.tw_code.specs.Opening.{opening, opened, main_params, main_task}
-use Rattle.tw_code.specs.Ending.{ending}
+use Rattle.tw_code.specs.machine.State.{State, Frame, values_in, ids_in, with_frame, context_of, after_context}
+use Rattle.tw_code.specs.machine.Arguments.{procedure_of}
+use Rattle.tw_code.specs.machine.Opening.{opening, opened, main_params, main_task}
+use Rattle.tw_code.specs.machine.Ending.{ending}
 use Rattle.tw_types.specs.declared.ending.Ending.TheVariants.{Quiet}
 use Rattle.std.specs.List.{list_all}
 use Rattle.tw_session.specs.Run.{run_layout}
 use Rattle.tw_session.proofs.Never.{IsEnabled, enabled-bind, enabled-then, enabled-there, enabled-must, went-bind, went-then, went-there}
 
 actors_total : IsTotalOrder actor_cmp
-actors_total = then_total (on_total rank_of nat_cmp_total) (on_total number_of nat_cmp_total)
+actors_total = then_total (on_total rank_of nat_cmp_total) (on_total number_in_kind nat_cmp_total)
 
 -- ---- what inserting and removing at the engine leaves
 
@@ -88,7 +95,7 @@ same_ids (id ∷ ids) = ap (λ (rest : List ℕ). id ∷ rest) (same_ids ids)
 
 -- main's first frame
 abbrev first_frame : Procedure → List ℕ → Frame
-first_frame main ids = record { task = 1; procedure = 0; position = record { place = 0; values = map blank_of main.registers; loops = [] }; rights = sixteen ids; spent = 0 }
+first_frame main ids = record { task = 1; procedure = 0; position = record { place = 0; values = map blank_of main.registers; loops = [] }; rights = first_rights ids; spent = 0 }
 
 abbrev main_ids : List Procedure → List ℕ
 main_ids program = (opened (record { store = empty_store; rights = []; outputs = [] }) (main_params program) []).rights
@@ -128,17 +135,17 @@ take_leaves main others t e = subst (λ (s : State). (f : Frame) × IsAlone s f)
 -- ---- the events of main's frame
 
 typed : (at : Position) (register : ℕ) (ty : Scalar) → IsEnabled (must_have_type at register ty)
-typed at register ty = enabled-bind (value_at at register) _ (enabled-there (slice_get at.values register) _) (λ x _. enabled-must _ _)
+typed at register ty = enabled-bind (value_at at register) _ (enabled-ok_or (slice_get at.values register) _) (λ x _. enabled-must _ _)
 
 int_read : (at : Position) (register : ℕ) → IsEnabled (int_at at register)
-int_read at register = enabled-bind (value_at at register) int_in (enabled-there (slice_get at.values register) _) (λ x _. of x)
+int_read at register = enabled-bind (value_at at register) int_in (enabled-ok_or (slice_get at.values register) _) (λ x _. of x)
   where
     of : (x : Value) → IsEnabled (int_in x)
     of (value.Int n) = tt
     of (value.Text text) = tt
 
 text_read : (at : Position) (register : ℕ) → IsEnabled (text_at at register)
-text_read at register = enabled-bind (value_at at register) text_in (enabled-there (slice_get at.values register) _) (λ x _. of x)
+text_read at register = enabled-bind (value_at at register) text_in (enabled-ok_or (slice_get at.values register) _) (λ x _. of x)
   where
     of : (x : Value) → IsEnabled (text_in x)
     of (value.Int n) = tt
@@ -154,7 +161,7 @@ compared (value.Text a) (value.Text b) = tt
 local_one : (i : Instr) (at : Position) → is_local i ≡ true → IsEnabled (local_instr i at)
 local_one (instr.Int to n) at e = enabled-then (must_have_type at to _) _ (typed at to _) tt
 local_one (instr.Text to text) at e = enabled-then (must_have_type at to _) _ (typed at to _) tt
-local_one (instr.Copy to from) at e = enabled-bind (value_at at from) _ (enabled-there (slice_get at.values from) _) (λ x _. enabled-then (must_have_type at to _) _ (typed at to _) tt)
+local_one (instr.Copy to from) at e = enabled-bind (value_at at from) _ (enabled-ok_or (slice_get at.values from) _) (λ x _. enabled-then (must_have_type at to _) _ (typed at to _) tt)
 local_one (instr.Compute operation to left right skip) at e = enabled-then (must_have_type at to _) _ (typed at to _) (enabled-bind (int_at at left) _ (int_read at left) (λ a _. enabled-bind (int_at at right) _ (int_read at right) (λ b _. tt)))
 local_one (instr.Concatenate to left right skip) at e = enabled-then (must_have_type at to _) _ (typed at to _) (enabled-bind (text_at at left) _ (text_read at left) (λ a _. enabled-bind (text_at at right) _ (text_read at right) (λ b _. tt)))
 local_one (instr.Length to from) at e = enabled-then (must_have_type at to _) _ (typed at to _) (enabled-bind (text_at at from) _ (text_read at from) (λ a _. tt))
@@ -162,19 +169,19 @@ local_one (instr.Show to from) at e = enabled-then (must_have_type at to _) _ (t
 local_one (instr.ReadInt to from skip) at e = enabled-then (must_have_type at to _) _ (typed at to _) (enabled-bind (text_at at from) _ (text_read at from) (λ a _. tt))
 local_one (instr.Jump skip) at e = tt
 local_one (instr.JumpEqual left right skip) at e =
-    enabled-bind (value_at at left) _ (enabled-there (slice_get at.values left) _) (λ x _. enabled-bind (value_at at right) _ (enabled-there (slice_get at.values right) _) (λ y _. enabled-bind (same_value x y) _ (compared x y) (λ same _. tt)))
+    enabled-bind (value_at at left) _ (enabled-ok_or (slice_get at.values left) _) (λ x _. enabled-bind (value_at at right) _ (enabled-ok_or (slice_get at.values right) _) (λ y _. enabled-bind (same_value x y) _ (compared x y) (λ same _. tt)))
 local_one (instr.JumpLess left right skip) at e = enabled-bind (int_at at left) _ (int_read at left) (λ a _. enabled-bind (int_at at right) _ (int_read at right) (λ b _. tt))
 local_one (instr.Repeat turns) at e = tt
-local_one instr.End at e = enabled-bind (there (after_end at.place at.loops) NoLoop) _ (enabled-there (after_end at.place at.loops) _) (λ cursor _. tt)
+local_one instr.End at e = enabled-bind (ok_or (after_end at.place at.loops) NoLoop) _ (enabled-ok_or (after_end at.place at.loops) _) (λ cursor _. tt)
 local_one (instr.Store datum from) at e = absurd cc
 local_one instr.Ret at e = absurd cc
 
 store_enabled : (datum from : ℕ) (c : Context) → IsEnabled (data_instr (instr.Store datum from) c)
 store_enabled datum from c =
-    enabled-bind (value_at c.position from) _ (enabled-there (slice_get c.position.values from) _) (λ x _.
+    enabled-bind (value_at c.position from) _ (enabled-ok_or (slice_get c.position.values from) _) (λ x _.
     enabled-then (must (suits x (datum_at c datum)) WrongRegister) _ (enabled-must _ _) (
-    enabled-bind (held c.rights datum) _ (enabled-there (right_at c.rights datum) _) (λ id _.
-    enabled-bind (live c.store id) _ (enabled-there (fin.get c.store.live id) _) (λ d _.
+    enabled-bind (held c.rights datum) _ (enabled-ok_or (right_at c.rights datum) _) (λ id _.
+    enabled-bind (live c.store id) _ (enabled-ok_or (fin.get c.store.live id) _) (λ d _.
     enabled-then (must (is_scalar d.ty) WrongType) _ (enabled-must _ _) (
     enabled-then (must (is_unset d.content) AlreadySet) _ (enabled-must _ _) (
     enabled-then (must (not (eqb d.writes 0)) NoWriteCount) _ (enabled-must _ _) tt))))))
@@ -229,8 +236,8 @@ module _ (program : List Procedure) (s : State) (f : Frame) (n : ℕ) (a : IsAlo
 -- one of them, where the next instruction is local
 one_enabled : (program : List Procedure) (s : State) (f : Frame) → IsAlone s f → IsLocalNext program f → IsEnabled (step program run_layout (Local engine 1) s)
 one_enabled program s f a h =
-    let here : procedure_of program f.procedure ≡ Went h.p = ap (λ (o : Option Procedure). there o WrongCall) h.here in
-    let one : local_step h.p.code f.position ≡ local_instr h.i f.position = ap (λ (o : Option Instr). there o OutsideCode >>= λ i. local_instr i f.position) h.at in
+    let here : procedure_of program f.procedure ≡ Went h.p = ap (λ (o : Option Procedure). ok_or o WrongCall) h.here in
+    let one : local_step h.p.code f.position ≡ local_instr h.i f.position = ap (λ (o : Option Instr). ok_or o OutsideCode >>= λ i. local_instr i f.position) h.at in
     subst IsEnabled (sym (local_is program s f 1 a (omega arith))) (rw here (
     enabled-bind (local_steps 1 h.p.code f.position) _ (enabled-bind (local_step h.p.code f.position) _ (subst IsEnabled (sym one) (local_one h.i f.position h.local)) (λ at _. tt)) (λ at _. tt)))
 
@@ -247,14 +254,14 @@ module _ (program : List Procedure) (s : State) (f : Frame) (a : IsAlone s f) wh
       enabled-bind (data_instr at.instr (context_of s at.frame)) (λ c. Went (after_context s engine at.frame c)) (data_enabled at.instr _ is.0 is.1) (λ c _. tt))
     where
       stands : IsEnabled (standing_of program engine s)
-      stands = subst IsEnabled (sym standing_is) (enabled-bind (procedure_of program f.procedure) _ (enabled-there (slice_get program f.procedure) _) (λ p _.
-          enabled-bind (instr_at p.code f.position.place) _ (enabled-there (slice_get p.code f.position.place) _) (λ i _. tt)))
+      stands = subst IsEnabled (sym standing_is) (enabled-bind (procedure_of program f.procedure) _ (enabled-ok_or (slice_get program f.procedure) _) (λ p _.
+          enabled-bind (instr_at p.code f.position.place) _ (enabled-ok_or (slice_get p.code f.position.place) _) (λ i _. tt)))
 
       stood : (at : Standing) → standing_of program engine s ≡ Went at → (is_local at.instr ≡ false) × (is_stop (flow_of at.instr) ≡ false)
       stood at went =
           let one = went-bind (procedure_of program f.procedure) (λ p. instr_at p.code f.position.place >>= λ i. Went (record { frame = f; instr = i })) at (sym standing_is ∙ went) in
           let two = went-bind (instr_at one.0.code f.position.place) (λ i. Went (record { frame = f; instr = i })) at one.2 in
-          let is = h one.0 two.0 (went-there (slice_get program f.procedure) _ one.0 one.1) (went-there (slice_get one.0.code f.position.place) _ two.0 two.1) in
+          let is = h one.0 two.0 (went-ok_or (slice_get program f.procedure) _ one.0 one.1) (went-ok_or (slice_get one.0.code f.position.place) _ two.0 two.1) in
           let instr_is : two.0 ≡ at.instr = ap (λ (k : Standing). k.instr) (went_is two.2) in
           (ap is_local (sym instr_is) ∙ is.0, ap (λ i. is_stop (flow_of i)) (sym instr_is) ∙ is.1)
 

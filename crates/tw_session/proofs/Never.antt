@@ -1,7 +1,9 @@
 -- Steps that are always enabled.
 use Rattle.std.proofs.Common.{◌≡◌, Bool, true, false, Option, Some, None, refl}
 use Rattle.tw_types.specs.declared.cause.Cause.{Cause}
-use Rattle.tw_types.specs.Outcome.{Outcome, Went, NotEnabled, Trap, ◌>>=◌, ◌>>◌, there, must, only_if}
+use Rattle.tw_types.specs.Outcome.{Outcome, Went, NotEnabled, Trap, ◌>>=◌, ◌>>◌, only_if}
+use Rattle.std.specs.Option.{ok_or}
+use Rattle.tw_types.specs.Result.{must}
 
 -- it went or it trapped
 abbrev pub IsEnabled : {A : Type 0} → Outcome A → Type 0
@@ -19,8 +21,8 @@ enabled-then (Went x) f h k = k
 enabled-then NotEnabled f h k = h
 enabled-then (Trap cause) f h k = tt
 
-pub enabled-there : {A : Type 0} (o : Option A) (cause : Cause) → IsEnabled (there o cause)
-enabled-there (Some x) cause = tt
+pub enabled-there : {A : Type 0} (o : Option A) (cause : Cause) → IsEnabled (ok_or o cause)
+enabled-ok_or (Some x) cause = tt
 enabled-there None cause = tt
 
 pub enabled-must : (b : Bool) (cause : Cause) → IsEnabled (must b cause)
@@ -38,8 +40,8 @@ went-then (Went tt) f y e = (refl, e)
 went-then NotEnabled f y e = absurd cc
 went-then (Trap cause) f y e = absurd cc
 
-pub went-there : {A : Type 0} (o : Option A) (cause : Cause) (x : A) → there o cause ≡ Went x → o ≡ Some x
-went-there (Some y) cause x e = cc
+pub went-there : {A : Type 0} (o : Option A) (cause : Cause) (x : A) → ok_or o cause ≡ Went x → o ≡ Some x
+went-ok_or (Some y) cause x e = cc
 went-there None cause x e = absurd cc
 
 pub went-must : (b : Bool) (cause : Cause) → must b cause ≡ Went tt → b ≡ true

@@ -3,12 +3,14 @@ use Rattle.std.proofs.Common.{◌≡◌, Bool, true, false, not, ◌&&◌, cond,
 use Rattle.std.specs.List.{list_all}
 use Rattle.tw_types.specs.declared.param.Param.{Param}
 use Rattle.tw_code.specs.declared.procedure.Procedure.{Procedure}
-use Rattle.tw_code.specs.Opening.{has_main_shape, is_write, main_params}
+use Rattle.tw_code.specs.accepting.MainShape.{has_main_shape}
+use Rattle.tw_types.specs.Mode.{is_write}
+use Rattle.tw_code.specs.machine.Opening.{main_params}
 use Rattle.tw_machine.specs.declared.refusal.OpenRefusal.{OpenRefusal}
 use Rattle.tw_machine.specs.declared.refusal.OpenRefusal.TheVariants.{InputCount, Memory, MainShape}
 use Rattle.tw_machine.specs.Opening.{IsTold, number_of, refusal_of}
 use Rattle.std.specs.Prelude.{MatchBool}
-use Rattle.tw_code.specs.Machine.{State}
+use Rattle.tw_code.specs.machine.State.{State}
 use Rattle.tw_session.specs.declared.run.RunEnd.{RunEnd}
 use Rattle.tw_session.specs.declared.status.Close.TheVariants.{Refused}
 use Rattle.tw_session.specs.Lines.{opening_line}

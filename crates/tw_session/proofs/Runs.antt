@@ -4,7 +4,8 @@ use Rattle.tw_types.specs.declared.event.Event.{Event}
 use Rattle.tw_types.specs.Layout.{ActorCounts}
 use Rattle.tw_types.specs.Outcome.{Outcome, Went, ◌>>=◌}
 use Rattle.tw_code.specs.declared.procedure.Procedure.{Procedure}
-use Rattle.tw_code.specs.Machine.{State, step, run}
+use Rattle.tw_code.specs.machine.State.{State}
+use Rattle.tw_code.specs.machine.Machine.{step, run}
 use Rattle.tw_session.specs.Next.{IsDue}
 use Rattle.tw_session.specs.Run.{AreDue, run_layout}
 use Rattle.tw_session.proofs.Never.{went-bind}

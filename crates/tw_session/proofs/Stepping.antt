@@ -9,10 +9,11 @@ use Rattle.tw_types.specs.declared.event.Event.TheVariants.{Take}
 use Rattle.tw_types.specs.Layout.{ActorCounts}
 use Rattle.tw_types.specs.Outcome.{Outcome, Went, NotEnabled, Trap}
 use Rattle.tw_code.specs.declared.procedure.Procedure.{Procedure}
-use Rattle.tw_code.specs.Bounds.{AreBelow, size_of}
-use Rattle.tw_code.specs.Ending.{ending}
-use Rattle.tw_code.specs.Machine.{State, Frame, step, run}
-use Rattle.tw_code.specs.Opening.{opening}
+use Rattle.tw_code.specs.machine.Bounds.{AreBelow, size_of}
+use Rattle.tw_code.specs.machine.Ending.{ending}
+use Rattle.tw_code.specs.machine.State.{State, Frame}
+use Rattle.tw_code.specs.machine.Machine.{step, run}
+use Rattle.tw_code.specs.machine.Opening.{opening}
 use Rattle.tw_session.specs.declared.run.RunEnd.TheVariants as run_end
 use Rattle.std.specs.declared.option.Option.{Option}
 use Rattle.tw_session.specs.Run.{AreDue, IsRun, run_layout}

@@ -3,8 +3,8 @@ use Rattle.std.specs.Prelude.{◌≡◌, ℕ, suc, List, [], ◌∷◌, ◌++◌
 use Rattle.tw_types.specs.declared.actor.Kind.{Kind}
 use Rattle.tw_types.specs.declared.actor.Kind.TheVariants.{Control, Leaf}
 use Rattle.tw_code.specs.declared.procedure.Procedure.{Procedure}
-use Rattle.tw_code.specs.Flow.{flows}
-use Rattle.tw_code.specs.Walk.{IsBudget}
+use Rattle.tw_code.specs.accepting.Flow.{flows}
+use Rattle.tw_code.specs.accepting.Walk.{IsBudget}
 
 abbrev pub kind_text : Kind → List ℕ
 kind_text Control = codes " control"

@@ -4,9 +4,10 @@ use Rattle.std.specs.FinMap as fin
 use Rattle.tw_types.specs.declared.event.Event.{Event}
 use Rattle.tw_types.specs.Outcome.{Went}
 use Rattle.tw_code.specs.declared.procedure.Procedure.{Procedure}
-use Rattle.tw_code.specs.Bounds.{AreBelow}
-use Rattle.tw_code.specs.Machine.{State, Frame, run}
-use Rattle.tw_code.specs.Opening.{opening}
+use Rattle.tw_code.specs.machine.Bounds.{AreBelow}
+use Rattle.tw_code.specs.machine.State.{State, Frame}
+use Rattle.tw_code.specs.machine.Machine.{run}
+use Rattle.tw_code.specs.machine.Opening.{opening}
 use Rattle.tw_session.specs.declared.run.RunEnd.{RunEnd}
 use Rattle.tw_session.specs.Next.{engine, most_steps}
 use Rattle.tw_session.specs.Run.{AreDue, IsRun, run_layout}

@@ -7,10 +7,9 @@ use Rattle.tw_types.specs.declared.event.Event.{Event}
 use Rattle.tw_types.specs.declared.event.Event.TheVariants.{Take, Local, Call, End}
 use Rattle.tw_code.specs.declared.procedure.Procedure.{Procedure}
 use Rattle.tw_code.specs.declared.instr.Instr.{Instr}
-use Rattle.tw_code.specs.Flow.{flow_of}
+use Rattle.tw_code.specs.accepting.Flow.{flow_of, is_stop}
 use Rattle.tw_code.specs.Position.{is_local}
-use Rattle.tw_code.specs.Structure.{is_stop}
-use Rattle.tw_code.specs.Machine.{State, Frame}
+use Rattle.tw_code.specs.machine.State.{State, Frame}
 use Rattle.tw_machine.specs.Stretch.{IsStretch}
 
 abbrev pub engine : Actor

@@ -4,7 +4,7 @@ use Rattle.std.specs.FinMap as fin
 use Rattle.tw_types.specs.declared.data_type.Scalar.{Scalar}
 use Rattle.tw_types.specs.declared.data_type.Scalar.TheVariants as scalar
 use Rattle.tw_types.specs.Store.{Content, Unset, Set, Contains, Datum, Data, is_closed}
-use Rattle.tw_code.specs.Machine.{State}
+use Rattle.tw_code.specs.machine.State.{State}
 use Rattle.tw_session.specs.Lines.{value_text}
 
 abbrev pub scalar_text : Scalar → List ℕ

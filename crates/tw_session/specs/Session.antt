@@ -3,15 +3,16 @@ use Rattle.std.specs.Prelude.{◌≡◌, ◌⊎◌, ℕ, List, length, codes, Re
 use Rattle.std.specs.List.{list_all}
 use Rattle.hex.specs.Hex.{decode_of}
 use Rattle.hex.specs.declared.FromHexError.{FromHexError}
-use Rattle.tw_types.specs.Cause.{number_of}
+use Rattle.tw_types.specs.Cause.{cause_number}
 use Rattle.tw_types.specs.declared.param.Param.{Param}
 use Rattle.tw_code.specs.declared.procedure.Procedure.{Procedure}
 use Rattle.tw_code.specs.declared.fault.Fault.{Fault}
-use Rattle.tw_code.specs.Fault as fault
-use Rattle.tw_code.specs.Reading.{program_of}
-use Rattle.tw_code.specs.Machine.{State}
-use Rattle.tw_code.specs.Opening.{is_write, main_params}
-use Rattle.tw_code.specs.WellTyped.{IsAccepted, IsFirstRefusal}
+use Rattle.tw_code.specs.format.Fault as fault
+use Rattle.tw_code.specs.format.Reading.{program_of}
+use Rattle.tw_code.specs.machine.State.{State}
+use Rattle.tw_types.specs.Mode.{is_write}
+use Rattle.tw_code.specs.machine.Opening.{main_params}
+use Rattle.tw_code.specs.accepting.WellTyped.{IsAccepted, IsFirstRefusal}
 use Rattle.tw_session.specs.declared.command.Order.{Order}
 use Rattle.tw_session.specs.declared.command.Order.TheVariants.{Check, Run}
 use Rattle.tw_session.specs.declared.status.Close.{Close}
@@ -40,7 +41,7 @@ reply text close = record { text = text; close = close }
 abbrev pub run_reply : State → RunEnd → Reply
 run_reply s run_end.Quiet = reply (report s (codes "quiet\n")) Success
 run_reply s run_end.Limit = reply (report s (codes "limit\n")) Limit
-run_reply s (run_end.Trapped cause event) = reply (trap_line (number_of cause) event) Trapped
+run_reply s (run_end.Trapped cause event) = reply (trap_line (cause_number cause) event) Trapped
 
 -- the reply is that of the program's run
 abbrev pub RepliesByRun : List Procedure → Reply → Type 0

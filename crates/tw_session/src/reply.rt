@@ -6,8 +6,8 @@ ghost use Rattle.tw_session.specs.Session.{MayReply, RepliesByAccepted, RepliesB
 ghost use Rattle.tw_session.specs.Input.{digits_in, most_bytes};
 ghost use Rattle.tw_session.specs.Run.{IsRun};
 ghost use Rattle.tw_session.specs.declared.reply.NoReply.TheVariants.{NoMemory};
-ghost use Rattle.tw_code.specs.Reading.{program_of};
-ghost use Rattle.tw_code.specs.WellTyped.{IsAccepted};
+ghost use Rattle.tw_code.specs.format.Reading.{program_of};
+ghost use Rattle.tw_code.specs.accepting.WellTyped.{IsAccepted};
 ghost use Rattle.hex.specs.Hex.{decode_of};
 
 use crate::check::check_text;

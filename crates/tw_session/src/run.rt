@@ -1,9 +1,9 @@
 //! The run of a program on the plain machine, in one thread: an engine runs main.
 
 ghost use Rattle.std.specs.Prelude.{◌≡◌, ◌<◌, ◌≤◌, ◌+◌, ℕ, List, [], length, IfOk, MatchOption};
-ghost use Rattle.tw_code.specs.Bounds.{AreBelow, size_of};
-ghost use Rattle.tw_code.specs.Opening.{opening};
-ghost use Rattle.tw_code.specs.Program.{IsProgram};
+ghost use Rattle.tw_code.specs.machine.Bounds.{AreBelow, size_of};
+ghost use Rattle.tw_code.specs.machine.Opening.{opening};
+ghost use Rattle.tw_code.specs.format.Program.{IsProgram};
 ghost use Rattle.tw_session.specs.Driving.{IsAdvanced, IsDriven};
 ghost use Rattle.tw_session.specs.Next.{IsNext, IsSingle, most_steps};
 ghost use Rattle.tw_session.specs.Run.{IsRun, run_layout};

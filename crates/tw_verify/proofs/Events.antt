@@ -11,20 +11,24 @@ use Rattle.tw_types.specs.declared.event.Event.{Event}
 use Rattle.tw_types.specs.declared.event.Event.TheVariants.{Take, Local, Call, End, Ask, Deliver, Release}
 use Rattle.tw_types.specs.Actor.{is_in}
 use Rattle.tw_types.specs.Layout.{ActorCounts}
-use Rattle.tw_types.specs.Outcome.{Outcome, Went, NotEnabled, Trap, ◌>>=◌, ◌>>◌, must, only_if}
+use Rattle.tw_types.specs.Outcome.{Outcome, Went, NotEnabled, Trap, ◌>>=◌, ◌>>◌, only_if}
+use Rattle.tw_types.specs.Result.{must}
 use Rattle.tw_types.specs.Store.{Store}
 use Rattle.tw_types.specs.Task.{Task, best}
 use Rattle.tw_code.specs.declared.instr.Instr.{Instr}
 use Rattle.tw_code.specs.declared.procedure.Procedure.{Procedure}
-use Rattle.tw_code.specs.Context.{Context, data_instr}
-use Rattle.tw_code.specs.Flow.{flow_of, flows}
-use Rattle.tw_code.specs.Machine.{Frame, State, Standing, values_in, ids_in, sixteen, frame_of, with_frame, take_event, local_event, standing_of, context_of, after_context, call_event, end_event, step, run}
-use Rattle.tw_code.specs.Position.{Position, local_instr, local_step, local_steps}
-use Rattle.tw_code.specs.Structure.{is_stop}
-use Rattle.tw_code.specs.Typing.{Typing, value_types, start_typing, values_fit, asks_at}
+use Rattle.tw_code.specs.machine.Data.{Context, data_instr}
+use Rattle.tw_code.specs.accepting.Flow.{flow_of, flows, is_stop}
+use Rattle.tw_code.specs.machine.State.{Frame, State, values_in, ids_in, frame_of, with_frame, context_of, after_context}
+use Rattle.tw_code.specs.machine.Machine.{Standing, take_event, local_event, standing_of, call_event, end_event, step, run, local_step, local_steps}
+use Rattle.tw_code.specs.machine.Rights.{first_rights, Typing}
+use Rattle.tw_code.specs.machine.Position.{Position}
+use Rattle.tw_code.specs.machine.Local.{local_instr}
+use Rattle.tw_code.specs.accepting.Typing.{value_types, start_typing, values_fit, asks_at}
 use Rattle.tw_budget.specs.FrameLaws.{starts_within, below_budget}
-use Rattle.tw_verify.specs.Holders.{read_by, write_by, over}
-use Rattle.tw_verify.specs.Invariant.{Typings, typing_of, RightsFit, over_args, params_in, TypesHeld, CountsHeld, BudgetsHeld, IsHeld}
+use Rattle.tw_code.specs.machine.Holders.{read_by, write_by, over, Typings, typing_of, over_args}
+use Rattle.tw_verify.specs.Invariant.{RightsFit, TypesHeld, CountsHeld, BudgetsHeld, IsHeld}
+use Rattle.tw_code.specs.machine.Arguments.{params_in}
 use Rattle.tw_verify.specs.NoTrap.{ExactlyOne, HasOneStep, IsBelowBudget}
 use Rattle.tw_verify.proofs.Moving.{Accepts, Stands, IsLeftBy, inside, instr_there, its_turn, stands_on, typing_on, at_place, step_goes, steps_keep}
 use Rattle.tw_verify.proofs.Registers.{Undisturbed, Settles}
@@ -200,16 +204,16 @@ module _ (program : List Procedure) (typings : Typings) (accepts : (k : ℕ) (p 
             let fit = held.types.args number t p waits here in
             let met = params_met t.procedure p here in
             let all = filled_fits (value_types p.params) p.registers (values_in t.args) (args_values s.store p.params t.args fit) met.0 met.1 in
-            let f₁ : Frame = record { task = number; procedure = t.procedure; position = record { place = 0; values = all.0; loops = [] }; rights = sixteen (ids_in t.args); spent = 0 } in
+            let f₁ : Frame = record { task = number; procedure = t.procedure; position = record { place = 0; values = all.0; loops = [] }; rights = first_rights (ids_in t.args); spent = 0 } in
             let goes : frame_of program number t ≡ Went f₁ = rw (here, all.1) refl in
             let start = starts_typed t.procedure p here in
             keeps_went_on (frame_of program number t) (λ frame. Went (with_frame (record s { tasks = remove s.tasks number }) a frame)) (IsHeld program typings) f₁ goes
             (held_taken program typings s a number t f₁ p held free waits here
             (record { values = all.2; begun = tt; within = λ budget most. starts_within (flows p.code) acc.sound budget most })
-            (subst (λ (typing : Typing). RightsFit s.store typing (sixteen (ids_in t.args))) (sym start) (start_fits s.store p.params t.args fit))
+            (subst (λ (typing : Typing). RightsFit s.store typing (first_rights (ids_in t.args))) (sym start) (start_fits s.store p.params t.args fit))
             (λ d. (
-              ap (λ (typing : Typing). over (read_by d) typing (sixteen (ids_in t.args))) start ∙ over_start (read_by d) (λ o. refl) s.store p.params t.args fit ∙ ap (λ (o : Option Procedure). over_args (read_by d) (params_in o) t.args) (sym here),
-              ap (λ (typing : Typing). over (write_by d) typing (sixteen (ids_in t.args))) start ∙ over_start (write_by d) (λ o. refl) s.store p.params t.args fit ∙ ap (λ (o : Option Procedure). over_args (write_by d) (params_in o) t.args) (sym here),
+              ap (λ (typing : Typing). over (read_by d) typing (first_rights (ids_in t.args))) start ∙ over_start (read_by d) (λ o. refl) s.store p.params t.args fit ∙ ap (λ (o : Option Procedure). over_args (read_by d) (params_in o) t.args) (sym here),
+              ap (λ (typing : Typing). over (write_by d) typing (first_rights (ids_in t.args))) start ∙ over_start (write_by d) (λ o. refl) s.store p.params t.args fit ∙ ap (λ (o : Option Procedure). over_args (write_by d) (params_in o) t.args) (sym here),
             )))
 
     take_keeps : (s : State) (a : Actor) → IsHeld program typings s → Keeps (take_event program layout a s) (IsHeld program typings)

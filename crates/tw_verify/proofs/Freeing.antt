@@ -5,13 +5,14 @@ use Rattle.std.specs.Cmp.{nat_cmp_total}
 use Rattle.std.specs.FinMap.{get, insert, remove, nat_cmp-IsAntisymmetric}
 use Rattle.tw_types.specs.DataType.{container_of}
 use Rattle.tw_types.specs.Nesting.{NestedScalar}
-use Rattle.tw_types.specs.Store.{Datum, Data, members_of, is_let_go, is_closed, settled_by, read_taken_by, drop_read_within}
-use Rattle.tw_verify.specs.Holders.{hits, count_of, members_at, inside, BalancedAt, Balanced, HasWriters, IsOfType}
-use Rattle.tw_verify.proofs.Totals.{part, total-insert, total-remove, insert_same, insert_other, remove_other, get-remove_same}
+use Rattle.tw_types.specs.Store.{Datum, Data, members_of, is_unheld, is_closed, settled_by, read_taken_by, drop_read_within}
+use Rattle.tw_types.specs.Counts.{hits, count_of, subscripts_in, inside, BalancedAt, Balanced, HasWriters}
+use Rattle.tw_types.specs.TypedStore.{IsOfType}
+use Rattle.tw_types.proofs.Totals.{part, total-insert, total-remove, insert_same, insert_other, remove_other, get-remove_same}
 
 -- each member is of the type that its container says
 pub record Typed (m : Data) : Type 0 where
-  pub members : (c d : ℕ) (x y : Datum) → get m c ≡ Some x → get m d ≡ Some y → 0 < members_at d x → x.ty ≡ container_of y.ty
+  pub members : (c d : ℕ) (x y : Datum) → get m c ≡ Some x → get m d ≡ Some y → 0 < subscripts_in d x → x.ty ≡ container_of y.ty
 
 -- y is what x has become: of the same type, with the same members, and closed where x was
 pub record Aged (x y : Datum) : Type 0 where
@@ -47,14 +48,14 @@ pub hits_other : (d n : ℕ) → (n ≡ d → ⊥) → hits d n ≡ 0
 hits_other d n h = ap (λ b. if b then 1 else 0) (ne_eqb n d h)
 
 -- what a change of one datum does to the members
-pub inside-insert : (m : Data) (id : ℕ) (x y : Datum) (d : ℕ) → get m id ≡ Some x → inside (insert m id y) d + members_at d x ≡ inside m d + members_at d y
-inside-insert m id x y d is = subst (λ o. inside (insert m id y) d + part (members_at d) o ≡ inside m d + members_at d y) is (total-insert nat_cmp nat_cmp_total (members_at d) m id y)
+pub inside-insert : (m : Data) (id : ℕ) (x y : Datum) (d : ℕ) → get m id ≡ Some x → inside (insert m id y) d + subscripts_in d x ≡ inside m d + subscripts_in d y
+inside-insert m id x y d is = subst (λ o. inside (insert m id y) d + part (subscripts_in d) o ≡ inside m d + subscripts_in d y) is (total-insert nat_cmp nat_cmp_total (subscripts_in d) m id y)
 
-pub inside-new : (m : Data) (id : ℕ) (y : Datum) (d : ℕ) → get m id ≡ None → inside (insert m id y) d ≡ inside m d + members_at d y
-inside-new m id y d is = let h : inside (insert m id y) d + part (members_at d) None ≡ inside m d + members_at d y = subst (λ o. inside (insert m id y) d + part (members_at d) o ≡ inside m d + members_at d y) is (total-insert nat_cmp nat_cmp_total (members_at d) m id y) in omega arith
+pub inside-new : (m : Data) (id : ℕ) (y : Datum) (d : ℕ) → get m id ≡ None → inside (insert m id y) d ≡ inside m d + subscripts_in d y
+inside-new m id y d is = let h : inside (insert m id y) d + part (subscripts_in d) None ≡ inside m d + subscripts_in d y = subst (λ o. inside (insert m id y) d + part (subscripts_in d) o ≡ inside m d + subscripts_in d y) is (total-insert nat_cmp nat_cmp_total (subscripts_in d) m id y) in omega arith
 
-pub inside-remove : (m : Data) (id : ℕ) (x : Datum) (d : ℕ) → get m id ≡ Some x → inside (remove m id) d + members_at d x ≡ inside m d
-inside-remove m id x d is = subst (λ o. inside (remove m id) d + part (members_at d) o ≡ inside m d) is (total-remove nat_cmp nat_cmp_total nat_cmp-IsAntisymmetric (members_at d) m id)
+pub inside-remove : (m : Data) (id : ℕ) (x : Datum) (d : ℕ) → get m id ≡ Some x → inside (remove m id) d + subscripts_in d x ≡ inside m d
+inside-remove m id x d is = subst (λ o. inside (remove m id) d + part (subscripts_in d) o ≡ inside m d) is (total-remove nat_cmp nat_cmp_total nat_cmp-IsAntisymmetric (subscripts_in d) m id)
 
 pub balanced_some : (m : Data) (r w : ℕ → ℕ) (id : ℕ) (x : Datum) → Balanced m r w → get m id ≡ Some x → (x.reads ≡ inside m id + r id) × (x.writes ≡ w id) × (0 < x.reads + x.writes)
 balanced_some m r w id x b is = subst (λ o. BalancedAt o (inside m id) (r id) (w id)) is (b.at id)
@@ -71,8 +72,8 @@ held_is_there m r w id b h = elim (get m id) as (λ o. get m id ≡ o → (x : D
 
 -- a datum that stays, with other counts and members
 pub put_balanced : (m : Data) (r w s v : ℕ → ℕ) (id : ℕ) (x y : Datum) → get m id ≡ Some x → Balanced m r w
-    → ((d : ℕ) → (d ≡ id → ⊥) → (members_at d y + s d ≡ members_at d x + r d) × (v d ≡ w d))
-    → (y.reads + members_at id x ≡ inside m id + members_at id y + s id) → y.writes ≡ v id → 0 < y.reads + y.writes
+    → ((d : ℕ) → (d ≡ id → ⊥) → (subscripts_in d y + s d ≡ subscripts_in d x + r d) × (v d ≡ w d))
+    → (y.reads + subscripts_in id x ≡ inside m id + subscripts_in id y + s id) → y.writes ≡ v id → 0 < y.reads + y.writes
     → Balanced (insert m id y) s v
 put_balanced m r w s v id x y is b other reads writes some = record {
   at = λ d. elim (cases_eq d id) [
@@ -83,7 +84,7 @@ put_balanced m r w s v id x y is b other reads writes some = record {
   ];
 }
   where
-    balanced_at : (m : Data) (r w s v : ℕ → ℕ) (id : ℕ) (x y : Datum) (d : ℕ) → get m id ≡ Some x → BalancedAt (get m d) (inside m d) (r d) (w d) → (members_at d y + s d ≡ members_at d x + r d) × (v d ≡ w d) → BalancedAt (get m d) (inside (insert m id y) d) (s d) (v d)
+    balanced_at : (m : Data) (r w s v : ℕ → ℕ) (id : ℕ) (x y : Datum) (d : ℕ) → get m id ≡ Some x → BalancedAt (get m d) (inside m d) (r d) (w d) → (subscripts_in d y + s d ≡ subscripts_in d x + r d) × (v d ≡ w d) → BalancedAt (get m d) (inside (insert m id y) d) (s d) (v d)
     balanced_at m r w s v id x y d is b o =
         let i = inside-insert m id x y d is in
         elim (get m d) as (λ z. BalancedAt z (inside m d) (r d) (w d) → BalancedAt z (inside (insert m id y) d) (s d) (v d)) [
@@ -98,7 +99,7 @@ pub new_balanced : (m : Data) (r w s v : ℕ → ℕ) (id : ℕ) (y : Datum) →
     → Balanced (insert m id y) s v
 new_balanced m r w s v id y is b no_members other reads writes some = record {
   at = λ d.
-      let none : members_at d y ≡ 0 = ap (count_of d) no_members in
+      let none : subscripts_in d y ≡ 0 = ap (count_of d) no_members in
       let i = inside-new m id y d is in
       let same : inside (insert m id y) d ≡ inside m d = omega arith in
       elim (cases_eq d id) [
@@ -113,18 +114,18 @@ new_balanced m r w s v id y is b no_members other reads writes some = record {
 
 -- a datum that goes, with its members' reads handed out
 pub free_balanced : (m : Data) (r w s v : ℕ → ℕ) (id : ℕ) (x : Datum) → get m id ≡ Some x → Balanced m r w
-    → ((d : ℕ) → (d ≡ id → ⊥) → (s d ≡ members_at d x + r d) × (v d ≡ w d))
-    → inside m id + s id ≡ members_at id x → v id ≡ 0
+    → ((d : ℕ) → (d ≡ id → ⊥) → (s d ≡ subscripts_in d x + r d) × (v d ≡ w d))
+    → inside m id + s id ≡ subscripts_in id x → v id ≡ 0
     → Balanced (remove m id) s v
 free_balanced m r w s v id x is b other reads writes = record {
   at = λ d.
       let i = inside-remove m id x d is in
       elim (cases_eq d id) [
         | inl e ↦
-            let j : inside (remove m id) id + members_at id x ≡ inside m id = inside-remove m id x id is in
+            let j : inside (remove m id) id + subscripts_in id x ≡ inside m id = inside-remove m id x id is in
             let f : BalancedAt None (inside (remove m id) id) (s id) (v id) = (omega arith, omega arith, writes) in
             rw e (rw (data_remove_same m id) f)
-        | inr e ↦ rw (data_remove_other m id d e) (kept (get m d) (inside m d) (inside (remove m id) d) (members_at d x) (r d) (w d) (s d) (v d) i (other d e).0 (other d e).1 (b.at d))
+        | inr e ↦ rw (data_remove_other m id d e) (kept (get m d) (inside m d) (inside (remove m id) d) (subscripts_in d x) (r d) (w d) (s d) (v d) i (other d e).0 (other d e).1 (b.at d))
       ];
 }
   where
@@ -157,7 +158,7 @@ typed_later n m l t = record {
   members = λ c d x y at_c at_d some.
       let p = l.there c x at_c in
       let q = l.there d y at_d in
-      let still : 0 < members_at d p.0 = subst (λ z. 0 < count_of d z) p.2.members some in
+      let still : 0 < subscripts_in d p.0 = subst (λ z. 0 < count_of d z) p.2.members some in
       p.2.ty ∙ t.members c d p.0 q.0 p.1 q.1 still ∙ ap container_of (sym q.2.ty);
 }
 
@@ -205,14 +206,14 @@ pub settled_balanced : (depth : ℕ) (drop : Data → ℕ → Data) → Drops de
     → ((d : ℕ) → (d ≡ id → ⊥) → (s d ≡ r d) × (v d ≡ w d)) → y.reads ≡ inside m id + s id → y.writes ≡ v id
     → Freed (settled_by drop m id y) m s v
 settled_balanced depth drop drops m id x y r w s v t is b shallow aged other reads writes =
-    let e : (d : ℕ) → members_at d y ≡ members_at d x = λ d. ap (count_of d) aged.members in
+    let e : (d : ℕ) → subscripts_in d y ≡ subscripts_in d x = λ d. ap (count_of d) aged.members in
     let e_id = e id in
-    elim (cases_Bool (is_let_go y)) [
+    elim (cases_Bool (is_unheld y)) [
       | inl go ↦
           let zero_both : ((y.reads == 0) ≡ true) × ((y.writes == 0) ≡ true) = and_parts (y.reads == 0) (y.writes == 0) go in
           let no_reads : y.reads ≡ 0 = eqb-true y.reads 0 zero_both.0 in
           let no_writes : y.writes ≡ 0 = eqb-true y.writes 0 zero_both.1 in
-          let left : Balanced (remove m id) (λ d. members_at d y + s d) v = free_balanced m r w (λ d. members_at d y + s d) v id x is b (λ d h. (let o = (other d h).0 in let e_d = e d in omega arith, (other d h).1)) (omega arith) (omega arith) in
+          let left : Balanced (remove m id) (λ d. subscripts_in d y + s d) v = free_balanced m r w (λ d. subscripts_in d y + s d) v id x is b (λ d h. (let o = (other d h).0 in let e_d = e d in omega arith, (other d h).1)) (omega arith) (omega arith) in
           let rest = drop_all depth drop drops (members_of y.content) (remove m id) s v (typed_later _ m (later_removed m id) t) (λ d z some at. let p = (later_removed m id).there d z at in
           let of : x.ty ≡ container_of p.0.ty = t.members id d x p.0 is p.1 (subst (λ c. 0 < count_of d c) aged.members some) in
           let deep : x.ty.depth ≡ suc p.0.ty.depth = ap (λ (u : NestedScalar). u.depth) of in

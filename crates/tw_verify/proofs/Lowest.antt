@@ -10,11 +10,12 @@ use Rattle.std.proofs.lemmas.Option.{same_Some}
 use Rattle.tw_code.specs.declared.instr.Instr.{Instr}
 use Rattle.tw_code.specs.declared.instr.Instr.TheVariants as instr
 use Rattle.tw_code.specs.declared.procedure.Procedure.{Procedure}
-use Rattle.tw_code.specs.Question.{Question, lower, refusal_in}
-use Rattle.tw_code.specs.Typing.{Typing, asks, asks_params, asks_at}
+use Rattle.tw_code.specs.accepting.Question.{Question, lower, refusal_in}
+use Rattle.tw_code.specs.machine.Rights.{Typing}
+use Rattle.tw_code.specs.accepting.Typing.{asks, asks_params, asks_at}
 use Rattle.tw_verify.specs.declared.refusal.VerifyRefusal.{VerifyRefusal}
 use Rattle.tw_verify.specs.Passes.{lowest_of, lowest_at}
-use Rattle.tw_verify.specs.Refusal.{number_of}
+use Rattle.tw_verify.specs.Refusal.{verify_refusal_number}
 
 lower_twice : (n m k : ℕ) → (if nat_lt (if nat_lt k m then k else m) n then (if nat_lt k m then k else m) else n) ≡ (if nat_lt k (if nat_lt m n then m else n) then k else (if nat_lt m n then m else n))
 lower_twice n m k = grind (arith, nat_tests)
@@ -72,7 +73,7 @@ if_so : (b : Bool) (k : ℕ) → b ≡ true → (if b then Some k else None) ≡
 if_so b k e = ap (λ (t : Bool). if t then Some k else None) e
 
 -- a refusal that is told where a test says so
-pub told : (b : Bool) (cause : VerifyRefusal) → option_map number_of (then_some b cause) ≡ (if b then Some (number_of cause) else None)
+pub told : (b : Bool) (cause : VerifyRefusal) → option_map verify_refusal_number (then_some b cause) ≡ (if b then Some (verify_refusal_number cause) else None)
 told true cause = refl
 told false cause = refl
 

@@ -7,13 +7,14 @@ use Rattle.tw_code.specs.declared.flow.Way.{Way}
 use Rattle.tw_code.specs.declared.flow.Way.TheVariants.{Done, Refused}
 use Rattle.tw_code.specs.declared.instr.Instr.{Instr}
 use Rattle.tw_code.specs.declared.procedure.Procedure.{Procedure}
-use Rattle.tw_code.specs.Flow.{flow_of, onward}
-use Rattle.tw_code.specs.Question.{refusal_in}
-use Rattle.tw_code.specs.Typing.{Typing, start_typing, asks_at, after}
-use Rattle.tw_code.specs.WellTyped.{LeadsTo, IsEndOf, IsWellTyped, Brings, IsReached, IsRefused, IsTypingRefusal}
+use Rattle.tw_code.specs.accepting.Flow.{flow_of, onward}
+use Rattle.tw_code.specs.accepting.Question.{refusal_in}
+use Rattle.tw_code.specs.machine.Rights.{Typing}
+use Rattle.tw_code.specs.accepting.Typing.{start_typing, asks_at, after}
+use Rattle.tw_code.specs.accepting.WellTyped.{LeadsTo, IsEndOf, IsWellTyped, Brings, IsReached, IsRefusalAt, IsTypingRefusal}
 use Rattle.tw_verify.specs.declared.rows.Reached.{Reached}
 use Rattle.tw_verify.specs.Passes.{lowest_at, HasChanged}
-use Rattle.tw_verify.proofs.Lists.{get_pushed}
+use Rattle.tw_code.proofs.Lists.{get_pushed}
 use Rattle.tw_verify.proofs.Lowest.{IsCause, cause_at, least_at}
 use Rattle.tw_verify.proofs.Places.{loop_within}
 use Rattle.tw_verify.proofs.Reaching.{turn_of, HasReached, IsRow}
@@ -105,7 +106,7 @@ unreached program p typings place w (some, none) inside = record {
     no_way t (inl (start, is)) = absurd (omega arith)
     no_way t (inr (before, f)) = never before f.brings.step
 
-    lowest : (other : ℕ) → IsRefused program p typings other place → 9 ≤ other
+    lowest : (other : ℕ) → IsRefusalAt program p typings other place → 9 ≤ other
     lowest other (inl u) = omega (arith, u.is)
     lowest other (inr (inl a)) = absurd (no_way a.typing a.reached)
     lowest other (inr (inr (inl d))) = absurd (no_way d.typing d.reached)
@@ -136,7 +137,7 @@ refused_at program p typings place number r i changed w h here has kept is = rec
     cause : IsCause own r.differs changed number
     cause = cause_at own r.differs changed number is
 
-    refused : IsCause own r.differs changed number → IsRefused program p typings number place
+    refused : IsCause own r.differs changed number → IsRefusalAt program p typings number place
     refused (inl e) = inr (inl (record { typing = r.typing; reached = h.first; instr = i; here = here; vain = e }))
     refused (inr (inl (e, seven))) = let o = h.another e in inr (inr (inl (record { is = seven; typing = r.typing; reached = h.first; before = o.0; other = o.1; brings = o.2; differs = o.3 })))
     refused (inr (inr (e, eight))) = let o = has e in inr (inr (inr (record { is = eight; typing = r.typing; reached = h.first; first = o.first; end = o.end; begun = o.begun; there = o.there; differs = o.differs })))
@@ -171,7 +172,7 @@ refused_at program p typings place number r i changed w h here has kept is = rec
     least : ((m : ℕ) → own ≡ Some m → number ≤ m) × (r.differs ≡ true → number ≤ 7) × (changed ≡ true → number ≤ 8)
     least = least_at own r.differs changed number is
 
-    lowest : (other : ℕ) → IsRefused program p typings other place → number ≤ other
+    lowest : (other : ℕ) → IsRefusalAt program p typings other place → number ≤ other
     lowest other (inl u) = absurd (reached_by h.first)
       where
         reached_by : IsReached program p typings place r.typing → ⊥

@@ -12,12 +12,15 @@ use Rattle.tw_code.specs.declared.flow.Way.TheVariants.{Done, Refused}
 use Rattle.tw_code.specs.declared.instr.Instr.{Instr}
 use Rattle.tw_code.specs.declared.instr.Instr.TheVariants as instr
 use Rattle.tw_code.specs.declared.procedure.Procedure.{Procedure}
-use Rattle.tw_code.specs.Flow.{flow_of, flows, onward}
-use Rattle.tw_code.specs.Position.{Position, local_instr, local_step, local_steps}
-use Rattle.tw_code.specs.Structure.{end_of}
-use Rattle.tw_code.specs.Typing.{Typing, asks, asks_at, asks_params, after}
-use Rattle.tw_code.specs.Walk.{Loop, Cursor, turned, moved, IsBudget}
-use Rattle.tw_code.specs.WellTyped.{IsWellTyped, IsEndOf}
+use Rattle.tw_code.specs.accepting.Flow.{flow_of, flows, onward}
+use Rattle.tw_code.specs.machine.Position.{Position, Loop, Cursor, turned}
+use Rattle.tw_code.specs.machine.Local.{local_instr}
+use Rattle.tw_code.specs.machine.Machine.{local_step, local_steps}
+use Rattle.tw_code.specs.accepting.Structure.{end_of}
+use Rattle.tw_code.specs.machine.Rights.{Typing}
+use Rattle.tw_code.specs.accepting.Typing.{asks, asks_at, asks_params, after}
+use Rattle.tw_code.specs.accepting.Walk.{moved, IsBudget}
+use Rattle.tw_code.specs.accepting.WellTyped.{IsWellTyped, IsEndOf}
 use Rattle.tw_budget.specs.Frames.{IsWithinBudget, LoopsFit}
 use Rattle.tw_budget.specs.FrameLaws.{stays_within, end_goes_on}
 use Rattle.tw_budget.specs.Places.{close_end}

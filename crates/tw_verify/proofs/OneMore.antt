@@ -5,9 +5,10 @@ use Rattle.std.specs.Option.{option_map_or}
 use Rattle.std.proofs.lemmas.List.{take_more}
 use Rattle.tw_types.specs.declared.data_type.Scalar.{Scalar}
 use Rattle.tw_types.specs.declared.param.Param.{Param}
-use Rattle.tw_types.specs.Value.{same_scalar}
-use Rattle.tw_code.specs.Opening.{is_val}
-use Rattle.tw_code.specs.Typing.{Right, value_types, values_fit, rights_given, start_typing}
+use Rattle.tw_types.specs.DataType.{same_scalar}
+use Rattle.tw_types.specs.Mode.{is_val}
+use Rattle.tw_code.specs.machine.Rights.{Right}
+use Rattle.tw_code.specs.accepting.Typing.{value_types, values_fit, rights_given, start_typing}
 
 abbrev pub right_of : Param → Right
 right_of p = record { mode = p.mode; ty = p.ty }

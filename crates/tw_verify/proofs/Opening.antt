@@ -12,22 +12,26 @@ use Rattle.tw_types.specs.declared.param.Mode.{Mode}
 use Rattle.tw_types.specs.declared.param.Mode.TheVariants.{Val, Closed, Ref, Write}
 use Rattle.tw_types.specs.declared.param.Param.{Param}
 use Rattle.tw_types.specs.Actor.{actor_cmp}
-use Rattle.tw_types.specs.DataType.{IsDataType, container_of}
+use Rattle.tw_types.specs.DataType.{IsDataType, container_of, is_scalar}
 use Rattle.tw_types.specs.Nesting.{NestedScalar}
-use Rattle.tw_types.specs.Store.{Unset, Contains, Datum, Store, empty_store, is_scalar, empty_content, new_datum, added, members_of}
+use Rattle.tw_types.specs.Store.{Unset, Contains, Datum, Store, empty_store, empty_content, new_datum, added, members_of}
 use Rattle.tw_types.specs.Task.{Arg, RightArg, Task}
 use Rattle.tw_code.specs.declared.procedure.Procedure.{Procedure}
-use Rattle.tw_code.specs.Machine.{Frame}
-use Rattle.tw_code.specs.Opening.{is_val, is_write, Opened, with_output, opened, main_task, opening_of, opening}
-use Rattle.tw_code.specs.Program.{IsParam, depth_under}
-use Rattle.tw_code.specs.Typing.{Right}
-use Rattle.tw_verify.specs.Holders.{hits, count_of, members_at, inside, read_by, write_by, Balanced, BalancedAt, HasWriters, HaveWriters, IsOfType, IsTypedStore}
-use Rattle.tw_verify.specs.Invariant.{Typings, is_closed_mode, Holds, right_of, ArgFits, ArgsFit, over_args, task_reads, task_writes, frame_reads, frame_writes, IsHeld}
-use Rattle.tw_verify.specs.Totals.{total}
-use Rattle.tw_verify.proofs.Freeing.{hits_same, hits_other, balanced_none, balanced_same, new_balanced, data_insert_same, data_insert_other}
+use Rattle.tw_code.specs.machine.State.{Frame}
+use Rattle.tw_types.specs.Mode.{is_val, is_write, is_closed_mode}
+use Rattle.tw_code.specs.machine.Opening.{Opened, with_output, opened, main_task, opening_of, opening}
+use Rattle.tw_code.specs.format.Program.{IsParam}
+use Rattle.tw_code.specs.Program.{depth_under}
+use Rattle.tw_code.specs.machine.Rights.{Right, right_of}
+use Rattle.tw_types.specs.Counts.{hits, count_of, subscripts_in, inside, Balanced, BalancedAt, HasWriters, HaveWriters}
+use Rattle.tw_code.specs.machine.Holders.{read_by, write_by, Typings, over_args, task_reads, task_writes, frame_reads, frame_writes}
+use Rattle.tw_types.specs.TypedStore.{IsOfType, IsTypedStore}
+use Rattle.tw_verify.specs.Invariant.{Holds, ArgFits, ArgsFit, IsHeld}
+use Rattle.tw_types.specs.Totals.{total}
+use Rattle.tw_types.proofs.Freeing.{hits_same, hits_other, balanced_none, balanced_same, new_balanced, data_insert_same, data_insert_other}
 use Rattle.tw_verify.proofs.Registers.{Undisturbed}
 use Rattle.tw_verify.proofs.States.{args_kept}
-use Rattle.tw_verify.proofs.Totals.{part, total-insert, total-empty, part-le-total, insert_same, insert_other}
+use Rattle.tw_types.proofs.Totals.{part, total-insert, total-empty, part-le-total, insert_same, insert_other}
 
 -- ---- outputs
 
@@ -117,10 +121,10 @@ module _ (s : Store) (t : IsTypedStore s) (ty : NestedScalar) (deep : IsDataType
   }
 
   -- the new id is no member
-  no_member : (c : ℕ) (x : Datum) → get s.live c ≡ Some x → members_at s.next x ≡ 0
+  no_member : (c : ℕ) (x : Datum) → get s.live c ≡ Some x → subscripts_in s.next x ≡ 0
   no_member c x at =
       let none = balanced_none s.live r w s.next b (not_yet s t) in
-      let le : members_at s.next x ≤ inside s.live s.next = subst (λ (o : Option Datum). part (members_at s.next) o ≤ inside s.live s.next) at (part-le-total nat_cmp nat_cmp_total nat_cmp-IsAntisymmetric (members_at s.next) s.live c) in
+      let le : subscripts_in s.next x ≤ inside s.live s.next = subst (λ (o : Option Datum). part (subscripts_in s.next) o ≤ inside s.live s.next) at (part-le-total nat_cmp nat_cmp_total nat_cmp-IsAntisymmetric (subscripts_in s.next) s.live c) in
       omega (arith, none.0)
 
   pub typed_new : IsTypedStore (added s (new_datum ty))
@@ -140,12 +144,12 @@ module _ (s : Store) (t : IsTypedStore s) (ty : NestedScalar) (deep : IsDataType
     ];
   }
     where
-      members : (c d : ℕ) (x y : Datum) → ((c ≡ s.next) × (new_datum ty ≡ x)) ⊎ ((c < s.next) × (get s.live c ≡ Some x)) → ((d ≡ s.next) × (new_datum ty ≡ y)) ⊎ ((d < s.next) × (get s.live d ≡ Some y)) → 0 < members_at d x → x.ty ≡ container_of y.ty
+      members : (c d : ℕ) (x y : Datum) → ((c ≡ s.next) × (new_datum ty ≡ x)) ⊎ ((c < s.next) × (get s.live c ≡ Some x)) → ((d ≡ s.next) × (new_datum ty ≡ y)) ⊎ ((d < s.next) × (get s.live d ≡ Some y)) → 0 < subscripts_in d x → x.ty ≡ container_of y.ty
       members c d x y (inl new) other some =
-          let none : members_at d x ≡ 0 = ap (λ (z : Datum). members_at d z) (sym new.1) ∙ ap (count_of d) (no_members ty) in
+          let none : subscripts_in d x ≡ 0 = ap (λ (z : Datum). subscripts_in d z) (sym new.1) ∙ ap (count_of d) (no_members ty) in
           absurd (omega arith)
       members c d x y (inr old) (inl new) some =
-          let none : members_at d x ≡ 0 = ap (λ (n : ℕ). members_at n x) new.0 ∙ no_member c x old.1 in
+          let none : subscripts_in d x ≡ 0 = ap (λ (n : ℕ). subscripts_in n x) new.0 ∙ no_member c x old.1 in
           absurd (omega arith)
       members c d x y (inr old) (inr older) some = t.members c d x y old.1 older.1 some
 
@@ -204,7 +208,7 @@ start_opened = record {
     fresh = λ d x e. absurd (nothing_live d x e);
   };
   writers = λ d x e. absurd (nothing_live d x e);
-  balanced = record { at = λ d. subst (λ (o : Option Datum). BalancedAt o (inside empty d) 0 0) (sym (get-empty nat_cmp d)) (total-empty nat_cmp (members_at d), refl, refl) };
+  balanced = record { at = λ d. subst (λ (o : Option Datum). BalancedAt o (inside empty d) 0 0) (sym (get-empty nat_cmp d)) (total-empty nat_cmp (subscripts_in d), refl, refl) };
   args = tt;
 }
 

@@ -9,13 +9,13 @@ use Rattle.std.proofs.lemmas.Option.{same_Some}
 use Rattle.tw_code.specs.declared.flow.Flow.{Flow}
 use Rattle.tw_code.specs.declared.flow.Flow.TheVariants.{Straight, Branch, Jump, Begin, Close, Stop}
 use Rattle.tw_code.specs.declared.instr.Instr.{Instr}
-use Rattle.tw_code.specs.Flow.{flow_of, flows}
-use Rattle.tw_code.specs.Structure.{end_from, end_of, depth_after, depth_of}
-use Rattle.tw_code.specs.WellTyped.{IsEndOf}
+use Rattle.tw_code.specs.accepting.Flow.{flow_of, flows}
+use Rattle.tw_code.specs.accepting.Structure.{end_from, end_of, depth_after, depth_of}
+use Rattle.tw_code.specs.accepting.WellTyped.{IsEndOf}
 use Rattle.tw_budget.specs.Places.{drop_at, slide, end_is, end_past, straight_end, branch_end, jump_end, end_within, depth_next, end_depth}
 use Rattle.tw_budget.proofs.Tables.{set_from}
 use Rattle.tw_verify.specs.Loops.{EndsFrom, DepthsTo, AreFirsts}
-use Rattle.tw_verify.proofs.Lists.{get_set_at, get_set_other}
+use Rattle.tw_code.proofs.Lists.{get_set_at, get_set_other}
 
 -- ---- ENDs
 

@@ -5,21 +5,21 @@ use Rattle.std.specs.Option.{option_and_then}
 use Rattle.std.proofs.lemmas.Option.{slice_get_within, slice_get-get_or, same_Some}
 use Rattle.tw_code.specs.declared.flow.Flow.{Flow}
 use Rattle.tw_code.specs.declared.procedure.Procedure.{Procedure}
-use Rattle.tw_code.specs.Flow.{flows}
-use Rattle.tw_code.specs.Opening.{has_main_shape}
-use Rattle.tw_code.specs.Structure.{structure_questions, structure_refusal}
-use Rattle.tw_code.specs.Typing.{Typing}
-use Rattle.tw_code.specs.Walk.{IsBudget, greatest_budget}
-use Rattle.tw_code.specs.WellTyped.{IsRefused, IsAcceptedProcedure, IsAccepted, IsProcedureRefusal, IsFirstRefusal}
+use Rattle.tw_code.specs.accepting.Flow.{flows}
+use Rattle.tw_code.specs.accepting.MainShape.{has_main_shape}
+use Rattle.tw_code.specs.accepting.Structure.{structure_questions, structure_refusal}
+use Rattle.tw_code.specs.machine.Rights.{Typing}
+use Rattle.tw_code.specs.accepting.Walk.{IsBudget, greatest_budget}
+use Rattle.tw_code.specs.accepting.WellTyped.{IsRefusalAt, IsAcceptedProcedure, IsAccepted, IsProcedureRefusal, IsFirstRefusal}
 use Rattle.tw_verify.specs.declared.fault.Fault.{Fault}
 use Rattle.tw_verify.specs.declared.fault.Fault.TheVariants as fault
 use Rattle.tw_verify.specs.declared.findings.Findings.{Findings}
 use Rattle.tw_verify.specs.declared.refusal.VerifyRefusal.{VerifyRefusal}
 use Rattle.tw_verify.specs.declared.refusal.VerifyRefusal.TheVariants as refusal
 use Rattle.tw_verify.specs.Passes.{IfFault, refusal_of, IsRefusal}
-use Rattle.tw_verify.specs.Refusal.{number_of}
+use Rattle.tw_verify.specs.Refusal.{verify_refusal_number}
 use Rattle.tw_verify.specs.Verified.{AreFindings, AreTyped, IsTyped}
-use Rattle.tw_verify.proofs.Lists.{get_none, get_pushed}
+use Rattle.tw_code.proofs.Lists.{get_none, get_pushed}
 use Rattle.tw_verify.proofs.Lowest.{refusal_number, asks_number}
 use Rattle.tw_verify.proofs.Typings.{well_typed_front}
 
@@ -80,7 +80,7 @@ refused_memory program cause procedure place r a = by (is_memory cause)
   where
     by : (cause ≡ refusal.Memory) ⊎ (cause ≢ refusal.Memory) → cause ≡ refusal.Memory
     by (inl is) = is
-    by (inr other) = absurd (not_both program (number_of cause) procedure place a (r.first other))
+    by (inr other) = absurd (not_both program (verify_refusal_number cause) procedure place a (r.first other))
 
 -- ---- a procedure that is refused refuses its program
 
@@ -88,7 +88,7 @@ structure_number : (code : List Flow) (place number : ℕ) (o : Option Flow) →
 structure_number code place number None h = cc
 structure_number code place number (Some flow) h = refusal_number (structure_questions code place flow) number refl h
 
-typing_number : (program : List Procedure) (p : Procedure) (typings : List Typing) (number place : ℕ) → IsRefused program p typings number place → number < 18
+typing_number : (program : List Procedure) (p : Procedure) (typings : List Typing) (number place : ℕ) → IsRefusalAt program p typings number place → number < 18
 typing_number program p typings number place (inl u) = omega (arith, u.is)
 typing_number program p typings number place (inr (inl a)) = asks_number program p place a.instr a.typing number a.vain
 typing_number program p typings number place (inr (inr (inl d))) = omega (arith, d.is)
@@ -104,7 +104,7 @@ pub refused_by : (program : List Procedure) (all : List Findings) (number : ℕ)
 refused_by program all number p fault.Memory main t at h = record { first = λ other. absurd (other refl); memory = λ is. (refl, refl) }
 refused_by program all number p (fault.At cause place) main t at h = record {
   first = λ other. inr (record { main = main; before = λ k q below here. accepted_one program all number k q t below here; refused = p; here = at; refusal = h });
-  memory = λ is. absurd (omega (arith, procedure_number program p (number_of cause) place h, ap number_of is));
+  memory = λ is. absurd (omega (arith, procedure_number program p (verify_refusal_number cause) place h, ap verify_refusal_number is));
 }
 
 -- ---- one procedure more

@@ -13,17 +13,19 @@ use Rattle.tw_types.specs.declared.data_type.Scalar.{Scalar}
 use Rattle.tw_types.specs.declared.data_type.Scalar.TheVariants as scalar
 use Rattle.tw_types.specs.declared.param.Mode.{Mode}
 use Rattle.tw_types.specs.declared.param.Mode.TheVariants.{Val, Closed, Ref, Write}
-use Rattle.tw_types.specs.Value.{same_scalar}
+use Rattle.tw_types.specs.DataType.{same_scalar}
 use Rattle.tw_code.specs.declared.flow.Way.{Way}
 use Rattle.tw_code.specs.declared.flow.Way.TheVariants.{Done, Refused}
 use Rattle.tw_code.specs.declared.instr.Instr.{Instr}
 use Rattle.tw_code.specs.declared.procedure.Procedure.{Procedure}
-use Rattle.tw_code.specs.Flow.{flow_of, onward}
-use Rattle.tw_code.specs.Typing.{Right, Typing, start_typing, after}
-use Rattle.tw_code.specs.WellTyped.{LeadsTo, Brings, IsReached}
+use Rattle.tw_code.specs.accepting.Flow.{flow_of, onward}
+use Rattle.tw_code.specs.machine.Rights.{Right, Typing}
+use Rattle.tw_code.specs.accepting.Typing.{start_typing, after}
+use Rattle.tw_code.specs.accepting.WellTyped.{LeadsTo, Brings, IsReached}
 use Rattle.tw_verify.specs.declared.rows.Reached.{Reached}
-use Rattle.tw_verify.specs.Passes.{rank_of, same_right, same_typing, is_place, noted, sent, first_row}
-use Rattle.tw_verify.proofs.Lists.{get_front, get_last}
+use Rattle.tw_types.specs.Actor.{rank_of}
+use Rattle.tw_verify.specs.Passes.{same_right, same_typing, is_place, noted, sent, first_row}
+use Rattle.tw_code.proofs.Lists.{get_front, get_last}
 use Rattle.tw_verify.proofs.Lowest.{and_true}
 use Rattle.tw_verify.proofs.Typings.{onward_later}
 

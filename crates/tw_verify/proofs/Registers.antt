@@ -4,12 +4,15 @@ use Rattle.std.proofs.lemmas.Bool.{cases_Bool}
 use Rattle.std.specs.FinMap.{get}
 use Rattle.tw_types.specs.DataType.{IsDataType}
 use Rattle.tw_types.specs.Store.{Datum, Store, is_closed, settled, drop_read_within}
-use Rattle.tw_code.specs.Context.{Rights, Context}
-use Rattle.tw_code.specs.Opening.{is_write}
-use Rattle.tw_code.specs.Typing.{Right, Typing, right_in}
-use Rattle.tw_verify.specs.Holders.{inside, read_by, write_by, over, Balanced, HaveWriters, IsTypedStore}
-use Rattle.tw_verify.specs.Invariant.{is_closed_mode, Holds, RightFits, RightsFit}
-use Rattle.tw_verify.proofs.Freeing.{Aged, Later, Typed, Freed, drops, settled_balanced, held_is_there, hits_same, balanced_some, typed_later}
+use Rattle.tw_code.specs.machine.Rights.{Rights, Right, Typing, right_at}
+use Rattle.tw_code.specs.machine.Data.{Context}
+use Rattle.tw_types.specs.Mode.{is_write, is_closed_mode}
+use Rattle.tw_types.specs.Counts.{inside, Balanced, HaveWriters}
+use Rattle.tw_code.specs.machine.Holders.{read_by, write_by, over}
+use Rattle.tw_types.specs.TypedStore.{IsTypedStore}
+use Rattle.tw_verify.specs.Invariant.{Holds, RightFits, RightsFit}
+use Rattle.tw_verify.proofs.Freeing.{Aged, Later, Typed, Freed, drops, settled_balanced, typed_later}
+use Rattle.tw_types.proofs.Freeing.{held_is_there, hits_same, balanced_some}
 
 -- ---- all registers
 
@@ -53,7 +56,7 @@ pub record Found (m : Store) (rights : Rights) (typing : Typing) (k : ℕ) (p : 
   pub register : slice_get rights k ≡ Some (Some id)
   pub holds : Holds m p id
 
-pub found : (m : Store) (rights : Rights) (typing : Typing) (k : ℕ) (p : Right) → RightsFit m typing rights → right_in typing k ≡ Some p → Found m rights typing k p
+pub found : (m : Store) (rights : Rights) (typing : Typing) (k : ℕ) (p : Right) → RightsFit m typing rights → right_at typing k ≡ Some p → Found m rights typing k p
 found m rights [] k p f e = cc
 found m [] (t ∷ typing) k p f e = absurd f
 found m (Some id ∷ rights) (Some q ∷ typing) zero p f e = let same : q ≡ p = cc in record { id = id; typed = ap (λ z. Some (Some z)) same; register = refl; holds = subst (λ z. Holds m z id) same f.0 }
@@ -141,7 +144,7 @@ pub record At (ts : Typing) (k : Context) (r w : ℕ → ℕ) (d : ℕ) (p : Rig
   pub has_read : is_write p.mode ≡ false → 0 < over (read_by id) ts k.rights
   pub has_write : is_write p.mode ≡ true → 0 < over (write_by id) ts k.rights
 
-pub at_right : (d : ℕ) (ts : Typing) (k : Context) (r w : ℕ → ℕ) (p : Right) → Fits ts k r w → right_in ts d ≡ Some p → At ts k r w d p
+pub at_right : (d : ℕ) (ts : Typing) (k : Context) (r w : ℕ → ℕ) (p : Right) → Fits ts k r w → right_at ts d ≡ Some p → At ts k r w d p
 at_right d ts k r w p fits at = located d ts k r w p fits (found k.store k.rights ts d p fits.rights at)
   where
     hit_read : (ts : Typing) (rights : Rights) (d : ℕ) (p : Right) (id : ℕ) → slice_get ts d ≡ Some (Some p) → slice_get rights d ≡ Some (Some id) → is_write p.mode ≡ false → 0 < over (read_by id) ts rights

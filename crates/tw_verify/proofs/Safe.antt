@@ -4,14 +4,17 @@ use Rattle.std.proofs.lemmas.Option.{same_Some}
 use Rattle.std.specs.List.{AllByRecursion}
 use Rattle.tw_types.specs.Layout.{ActorCounts}
 use Rattle.tw_code.specs.declared.procedure.Procedure.{Procedure}
-use Rattle.tw_code.specs.Machine.{State, step, run}
-use Rattle.tw_code.specs.Opening.{opening}
-use Rattle.tw_code.specs.Program.{IsProcedure, IsProgram}
-use Rattle.tw_code.specs.Typing.{Typing}
-use Rattle.tw_code.specs.WellTyped.{IsWellTyped, IsAccepted}
+use Rattle.tw_code.specs.machine.State.{State}
+use Rattle.tw_code.specs.machine.Machine.{step, run}
+use Rattle.tw_code.specs.machine.Opening.{opening}
+use Rattle.tw_code.specs.format.Program.{IsProcedure, IsProgram}
+use Rattle.tw_code.specs.machine.Rights.{Typing}
+use Rattle.tw_code.specs.accepting.WellTyped.{IsWellTyped, IsAccepted}
 use Rattle.tw_budget.specs.Sound.{sound_flows}
-use Rattle.tw_verify.specs.Invariant.{Typings, IsHeld}
-use Rattle.tw_verify.specs.NoTrap.{has_no_inputs, IsSafe, NoTrap}
+use Rattle.tw_code.specs.machine.Holders.{Typings}
+use Rattle.tw_verify.specs.Invariant.{IsHeld}
+use Rattle.tw_verify.specs.Simple.{has_no_inputs}
+use Rattle.tw_verify.specs.NoTrap.{IsSafe, NoTrap}
 use Rattle.tw_verify.proofs.Events.{step_keeps, run_keeps, one_step, below}
 use Rattle.tw_verify.proofs.Moving.{Accepts}
 use Rattle.tw_verify.proofs.Opening.{opening_held}

@@ -10,23 +10,24 @@ use Rattle.std.specs.Ordering.{eq_by_cmp}
 use Rattle.tw_types.specs.declared.actor.Actor.{Actor}
 use Rattle.tw_types.specs.declared.param.Param.{Param}
 use Rattle.tw_types.specs.Actor.{actor_cmp}
-use Rattle.tw_types.specs.ActorOrder.{actor_cmp_total, actor_cmp-IsAntisymmetric}
+use Rattle.tw_types.proofs.ActorOrder.{actor_cmp_total, actor_cmp-IsAntisymmetric}
 use Rattle.tw_types.specs.Store.{Store}
 use Rattle.tw_types.specs.Task.{Arg, ValueArg, RightArg, Task}
 use Rattle.tw_code.specs.declared.procedure.Procedure.{Procedure}
-use Rattle.tw_code.specs.Context.{Context, Rights}
-use Rattle.tw_code.specs.Flow.{flows}
-use Rattle.tw_code.specs.Machine.{State, Frame, Frames, with_frame, context_of}
-use Rattle.tw_code.specs.Typing.{Right, Typing}
-use Rattle.tw_code.specs.Walk.{IsBudget}
+use Rattle.tw_code.specs.machine.Data.{Context}
+use Rattle.tw_code.specs.machine.Rights.{Rights, Right, Typing, right_of}
+use Rattle.tw_code.specs.accepting.Flow.{flows}
+use Rattle.tw_code.specs.machine.State.{State, Frame, Frames, with_frame, context_of}
+use Rattle.tw_code.specs.accepting.Walk.{IsBudget}
 use Rattle.tw_budget.specs.Frames.{IsWithinBudget}
-use Rattle.tw_verify.specs.Holders.{count_of, read_by, write_by, over}
-use Rattle.tw_verify.specs.Invariant.{Typings, typing_at, typing_of, RightsFit, ValuesFit, right_of, ArgFits, ArgsFit, AreBegun, task_reads, task_writes, frame_reads, frame_writes, ProceduresHeld, TypesHeld, CountsHeld, BudgetsHeld, IsHeld}
-use Rattle.tw_verify.specs.Totals.{total}
-use Rattle.tw_verify.proofs.Freeing.{balanced_same}
+use Rattle.tw_types.specs.Counts.{count_of}
+use Rattle.tw_code.specs.machine.Holders.{read_by, write_by, over, Typings, typing_at, typing_of, task_reads, task_writes, frame_reads, frame_writes}
+use Rattle.tw_verify.specs.Invariant.{RightsFit, ValuesFit, ArgFits, ArgsFit, AreBegun, ProceduresHeld, TypesHeld, CountsHeld, BudgetsHeld, IsHeld}
+use Rattle.tw_types.specs.Totals.{total}
+use Rattle.tw_types.proofs.Freeing.{balanced_same}
 use Rattle.tw_verify.proofs.Moving.{Stands}
 use Rattle.tw_verify.proofs.Registers.{Fits, Undisturbed, Settles, holds_undisturbed, rights_kept}
-use Rattle.tw_verify.proofs.Totals.{part, total-insert, total-remove, insert_same, insert_other}
+use Rattle.tw_types.proofs.Totals.{part, total-insert, total-remove, insert_same, insert_other}
 
 -- ---- maps
 

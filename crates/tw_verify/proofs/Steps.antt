@@ -1,7 +1,9 @@
 -- What goes, step by step.
 use Rattle.std.proofs.Common.{◌≡◌, Bool, true, false, Option, Some, None, refl, ap}
 use Rattle.tw_types.specs.declared.cause.Cause.{Cause}
-use Rattle.tw_types.specs.Outcome.{Outcome, Went, NotEnabled, Trap, ◌>>=◌, ◌>>◌, there, must, enabled, only_if}
+use Rattle.tw_types.specs.Outcome.{Outcome, Went, NotEnabled, Trap, ◌>>=◌, ◌>>◌, enabled, only_if}
+use Rattle.std.specs.Option.{ok_or}
+use Rattle.tw_types.specs.Result.{must}
 
 -- it went, and what came of it has P
 abbrev pub Goes : {A : Type 0} → Outcome A → (A → Type 0) → Type 0
@@ -24,7 +26,7 @@ goes_must b cause f P e h = rw e h
 pub goes_then : {B : Type 0} (o : Outcome (Unit {0})) (f : Outcome B) (P : B → Type 0) → o ≡ Went tt → Goes f P → Goes (o >> f) P
 goes_then o f P e h = rw e h
 
-pub at_some : {A : Type 0} (o : Option A) (cause : Cause) (x : A) → o ≡ Some x → there o cause ≡ Went x
+pub at_some : {A : Type 0} (o : Option A) (cause : Cause) (x : A) → o ≡ Some x → ok_or o cause ≡ Went x
 at_some o cause x e = ap (λ z. there z cause) e
 
 pub goes_more : {A B : Type 0} (o : Outcome A) (f : A → Outcome B) (P : A → Type 0) (Q : B → Type 0) → Goes o P → ((x : A) → P x → Goes (f x) Q) → Goes (o >>= f) Q

@@ -10,17 +10,19 @@ use Rattle.tw_types.specs.declared.data_type.Scalar.{Scalar}
 use Rattle.tw_types.specs.declared.data_type.Scalar.TheVariants as scalar
 use Rattle.tw_types.specs.declared.param.Param.{Param}
 use Rattle.tw_types.specs.declared.value.Value.{Value}
-use Rattle.tw_types.specs.Outcome.{Went, ◌>>=◌, ◌>>◌, must}
+use Rattle.tw_types.specs.Outcome.{Went, ◌>>=◌, ◌>>◌}
+use Rattle.tw_types.specs.Result.{must}
 use Rattle.tw_types.specs.Store.{Store}
 use Rattle.tw_types.specs.Task.{Arg, ValueArg, RightArg, Task, Tasks, is_eligible, better, best_of, best}
-use Rattle.tw_types.specs.Value.{same_scalar, scalar_of, blank_of}
-use Rattle.tw_code.specs.Context.{Rights}
-use Rattle.tw_code.specs.Machine.{values_in, ids_in, filled, sixteen}
-use Rattle.tw_code.specs.Opening.{is_val}
-use Rattle.tw_code.specs.Typing.{Right, Typing, value_types, rights_given, start_typing, values_fit}
-use Rattle.tw_verify.specs.Holders.{over}
-use Rattle.tw_verify.specs.Invariant.{RightsFit, ValuesFit, ArgFits, ArgsFit, id_of, over_args}
-use Rattle.tw_verify.proofs.Totals.{IsEntry, get_entry}
+use Rattle.tw_types.specs.DataType.{same_scalar}
+use Rattle.tw_types.specs.Value.{scalar_of, blank_of}
+use Rattle.tw_code.specs.machine.Rights.{Rights, first_rights, Right, Typing}
+use Rattle.tw_code.specs.machine.State.{values_in, ids_in, filled}
+use Rattle.tw_types.specs.Mode.{is_val}
+use Rattle.tw_code.specs.accepting.Typing.{value_types, rights_given, start_typing, values_fit}
+use Rattle.tw_code.specs.machine.Holders.{over, id_of, over_args}
+use Rattle.tw_verify.specs.Invariant.{RightsFit, ValuesFit, ArgFits, ArgsFit}
+use Rattle.tw_types.proofs.Totals.{IsEntry, get_entry}
 use Rattle.tw_verify.proofs.Values.{same_scalars, scalar_itself}
 
 -- ---- the best task is one of those that wait
@@ -119,7 +121,7 @@ empty_fit : (s : Store) (n : ℕ) → RightsFit s (replicate n None) (replicate 
 empty_fit s zero = tt
 empty_fit s (suc n) = (tt, empty_fit s n)
 
-pub start_fits : (s : Store) (params : List Param) (args : List Arg) → ArgsFit s params args → RightsFit s (start_typing params) (sixteen (ids_in args))
+pub start_fits : (s : Store) (params : List Param) (args : List Arg) → ArgsFit s params args → RightsFit s (start_typing params) (first_rights (ids_in args))
 start_fits s params args h =
     rights_joined s (map Some (rights_given params)) (replicate (16 - length (rights_given params)) None) (map Some (ids_in args)) (replicate (16 - length (ids_in args)) None) (args_rights s params args h)
     (subst (λ (n : ℕ). RightsFit s (replicate (16 - length (rights_given params)) None) (replicate (16 - n) None)) (same_length s params args h) (empty_fit s (16 - length (rights_given params))))
@@ -156,7 +158,7 @@ length_some [] = refl
 length_some (x ∷ xs) = let h = length_some xs in omega arith
 
 -- the registers hold what the arguments hold
-pub over_start : (by : Option Right → Option ℕ → ℕ) → ((o : Option ℕ) → by None o ≡ 0) → (s : Store) (params : List Param) (args : List Arg) → ArgsFit s params args → over by (start_typing params) (sixteen (ids_in args)) ≡ over_args by params args
+pub over_start : (by : Option Right → Option ℕ → ℕ) → ((o : Option ℕ) → by None o ≡ 0) → (s : Store) (params : List Param) (args : List Arg) → ArgsFit s params args → over by (start_typing params) (first_rights (ids_in args)) ≡ over_args by params args
 over_start by none s params args h =
     let lengths : length (map Some (rights_given params)) ≡ length (map Some (ids_in args)) = length_some (rights_given params) ∙ same_length s params args h ∙ sym (length_some (ids_in args)) in
     let joined = over_joined by (map Some (rights_given params)) (replicate (16 - length (rights_given params)) None) (map Some (ids_in args)) (replicate (16 - length (ids_in args)) None) lengths in

@@ -3,30 +3,36 @@ use Rattle.std.proofs.Common.{◌≡◌, ℕ, ◌+◌, ◌<◌, ◌==◌, ◌⊎
 use Rattle.std.proofs.lemmas.Bool.{and_parts, ne_eqb}
 use Rattle.std.specs.FinMap.{get}
 use Rattle.std.specs.List.{list_all}
-use Rattle.std.specs.Option.{option_and_then, option_flatten}
+use Rattle.std.specs.Option.{option_and_then, option_flatten, ok_or}
 use Rattle.tw_types.specs.declared.cause.Cause.TheVariants.{EmptyRegister, FreedDatum, AlreadySet, WrongType, NoWriteCount, WrongRegister}
 use Rattle.tw_types.specs.declared.data_type.Scalar.{Scalar}
 use Rattle.tw_types.specs.declared.value.Value.{Value}
 use Rattle.tw_types.specs.Nesting.{NestedScalar}
-use Rattle.tw_types.specs.Outcome.{NotEnabled, there}
-use Rattle.tw_types.specs.Store.{Content, Unset, Set, Contains, Datum, is_scalar, members_of}
-use Rattle.tw_types.specs.Value.{same_scalar, scalar_of}
+use Rattle.tw_types.specs.Outcome.{NotEnabled}
+use Rattle.tw_types.specs.Store.{Content, Unset, Set, Contains, Datum, members_of}
+use Rattle.tw_types.specs.DataType.{is_scalar, same_scalar}
+use Rattle.tw_types.specs.Value.{scalar_of}
 use Rattle.tw_code.specs.declared.flow.Flow.TheVariants.{Close}
 use Rattle.tw_code.specs.declared.flow.Way.{Way}
 use Rattle.tw_code.specs.declared.flow.Way.TheVariants.{Done}
 use Rattle.tw_code.specs.declared.instr.Instr.{Instr}
 use Rattle.tw_code.specs.declared.instr.Instr.TheVariants as instr
 use Rattle.tw_code.specs.declared.procedure.Procedure.{Procedure}
-use Rattle.tw_code.specs.Context.{Context, data_instr, datum_at, suits, is_unset, set_to, right_at}
-use Rattle.tw_code.specs.Flow.{flow_of}
-use Rattle.tw_code.specs.Opening.{is_write}
-use Rattle.tw_code.specs.Position.{Position, local_instr}
-use Rattle.tw_code.specs.Question.{passes}
-use Rattle.tw_code.specs.Structure.{is_stop}
-use Rattle.tw_code.specs.Typing.{Right, Typing, right_in, writes_scalar, asks, after}
-use Rattle.tw_verify.specs.Holders.{hits, read_by, write_by, over, HasWriters, IsOfType}
+use Rattle.tw_code.specs.machine.Data.{Context, data_instr, datum_at, suits}
+use Rattle.tw_types.specs.StoreChecks.{is_unset}
+use Rattle.tw_types.specs.StoreCalls.{set_to}
+use Rattle.tw_code.specs.machine.Rights.{right_at, Right, Typing}
+use Rattle.tw_code.specs.accepting.Flow.{flow_of, is_stop}
+use Rattle.tw_types.specs.Mode.{is_write}
+use Rattle.tw_code.specs.machine.Position.{Position}
+use Rattle.tw_code.specs.machine.Local.{local_instr}
+use Rattle.tw_code.specs.accepting.Question.{passes}
+use Rattle.tw_code.specs.accepting.Typing.{writes_scalar, asks, after}
+use Rattle.tw_types.specs.Counts.{hits, HasWriters}
+use Rattle.tw_code.specs.machine.Holders.{read_by, write_by, over}
+use Rattle.tw_types.specs.TypedStore.{IsOfType}
 use Rattle.tw_verify.specs.Invariant.{ValuesFit}
-use Rattle.tw_verify.proofs.Freeing.{hits_same, hits_other}
+use Rattle.tw_types.proofs.Freeing.{hits_same, hits_other}
 use Rattle.tw_verify.proofs.Registers.{Fits, Settles, At, at_right, aged_context, emptied, rights_set}
 use Rattle.tw_verify.proofs.Steps.{Goes, goes, goes_must, at_some}
 use Rattle.tw_verify.proofs.Values.{AllYes, scalar_itself, declared_as, value_found, Moves, HasLoop, int_moves, text_moves, copy_moves, compute_moves, concatenate_moves, length_moves, show_moves, read_moves, jump_moves, equal_moves, less_moves, repeat_moves, end_moves}
@@ -62,10 +68,10 @@ store_goes program registers d from ts k r w p x fits values h writes scalar at_
     let unset = still_unset h.x.ty h.x.content h.x.writes (fits.store.contents h.id h.x h.live) (fits.writers h.id h.x h.live) x_scalar (omega (arith, h.writes)) in
     let y : Datum = set_to x h.x in
     let of_x : scalar_of x ≡ h.x.ty.scalar = of_ty ∙ ap (λ (u : NestedScalar). u.scalar) (sym h.ty) in
-    goes (there (slice_get k.position.values from) WrongRegister) _ _ x (at_some _ WrongRegister x at_from)
+    goes (ok_or (slice_get k.position.values from) WrongRegister) _ _ x (at_some _ WrongRegister x at_from)
     (goes_must (suits x (datum_at k d)) WrongRegister _ _ (ap (suits x) (datum_here ts k r w d p h) ∙ suits_here x h.x p.ty h.ty scalar of_ty)
-    (goes (there (right_at k.rights d) EmptyRegister) _ _ h.id (at_some (right_at k.rights d) EmptyRegister h.id (ap option_flatten h.register))
-    (goes (there (get k.store.live h.id) FreedDatum) _ _ h.x (at_some (get k.store.live h.id) FreedDatum h.x h.live)
+    (goes (ok_or (right_at k.rights d) EmptyRegister) _ _ h.id (at_some (right_at k.rights d) EmptyRegister h.id (ap option_flatten h.register))
+    (goes (ok_or (get k.store.live h.id) FreedDatum) _ _ h.x (at_some (get k.store.live h.id) FreedDatum h.x h.live)
     (goes_must (is_scalar h.x.ty) WrongType _ _ x_scalar
     (goes_must (is_unset h.x.content) AlreadySet _ _ (ap is_unset unset.0)
     (goes_must (not (h.x.writes == 0)) NoWriteCount _ _ (ap not (ne_eqb h.x.writes 0 (λ z. omega (arith, unset.1))))
@@ -104,12 +110,12 @@ IsTurn program p i typing = IsLocal program p i typing ⊎ (IsCall program p i t
 
 store_call : (program : List Procedure) (p : Procedure) (d from : ℕ) (typing : Typing) → AllYes (asks program p (instr.Store d from) typing)
     → (c : Context) (r w : ℕ → ℕ) → Fits typing c r w → ValuesFit p.registers c.position.values → Goes (data_instr (instr.Store d from) c) (Leaves program p.registers (instr.Store d from) typing c r w)
-store_call program p d from typing met c r w fits values = by (right_in typing d) refl met.0 met.1.1.0
+store_call program p d from typing met c r w fits values = by (right_at typing d) refl met.0 met.1.1.0
   where
     typed : (right : Right) → writes_scalar right ≡ true → (not (writes_scalar right) || passes (λ declared. same_scalar declared right.ty.scalar) (slice_get p.registers from)) ≡ true → slice_get p.registers from ≡ Some right.ty.scalar
     typed right writes e = declared_as (slice_get p.registers from) right.ty.scalar (sym (ap (λ b. not b || passes (λ declared. same_scalar declared right.ty.scalar) (slice_get p.registers from)) writes) ∙ e)
 
-    by : (o : Option Right) → right_in typing d ≡ o → passes writes_scalar o ≡ true
+    by : (o : Option Right) → right_at typing d ≡ o → passes writes_scalar o ≡ true
         → (not (passes writes_scalar o) || passes (λ right. passes (λ declared. same_scalar declared right.ty.scalar) (slice_get p.registers from)) o) ≡ true
         → Goes (data_instr (instr.Store d from) c) (Leaves program p.registers (instr.Store d from) typing c r w)
     by None e first second = cc

@@ -10,10 +10,12 @@ use Rattle.tw_code.specs.declared.flow.Way.{Way}
 use Rattle.tw_code.specs.declared.flow.Way.TheVariants.{Done, Refused}
 use Rattle.tw_code.specs.declared.instr.Instr.{Instr}
 use Rattle.tw_code.specs.declared.procedure.Procedure.{Procedure}
-use Rattle.tw_code.specs.Flow.{flow_of, goal_of, onward}
-use Rattle.tw_code.specs.Typing.{Typing, after}
-use Rattle.tw_code.specs.WellTyped.{Brings, IsWellTyped, IsReached}
-use Rattle.tw_verify.proofs.Lists.{get-take}
+use Rattle.tw_code.specs.accepting.Flow.{flow_of, onward}
+use Rattle.tw_code.specs.machine.Position.{goal_of}
+use Rattle.tw_code.specs.machine.Rights.{Typing}
+use Rattle.tw_code.specs.accepting.Typing.{after}
+use Rattle.tw_code.specs.accepting.WellTyped.{Brings, IsWellTyped, IsReached}
+use Rattle.tw_code.proofs.Lists.{get-take}
 
 -- the later place of an outcome is later
 pub onward_later : (way : Way) (place : ℕ) (flow : Flow) (next : ℕ) → onward way place flow ≡ Some next → place < next

@@ -2,25 +2,27 @@
 use Rattle.std.proofs.Common.{◌≡◌, ℕ, zero, suc, Bool, true, false, List, [], ◌∷◌, ◌++◌, length, ℤ, pos, slice_get, slice_set, Option, Some, None, refl, sym, ap, ◌∙◌, if◌then◌else◌, bytes_eq}
 use Rattle.std.specs.Prelude.{int_lt}
 use Rattle.std.specs.Fmt.{signed_decimal}
-use Rattle.std.specs.Option.{option_map}
+use Rattle.std.specs.Option.{option_map, ok_or}
 use Rattle.std.specs.Ordering.{int_eq}
 use Rattle.tw_types.specs.declared.cause.Cause.TheVariants.{NoLoop, WrongRegister}
 use Rattle.tw_types.specs.declared.data_type.Scalar.{Scalar}
 use Rattle.tw_types.specs.declared.data_type.Scalar.TheVariants as scalar
 use Rattle.tw_types.specs.declared.value.Value.{Value}
 use Rattle.tw_types.specs.declared.value.Value.TheVariants as value
-use Rattle.tw_types.specs.Outcome.{Went, there}
-use Rattle.tw_types.specs.Value.{same_scalar, scalar_of}
+use Rattle.tw_types.specs.Outcome.{Went}
+use Rattle.tw_types.specs.DataType.{same_scalar}
+use Rattle.tw_types.specs.Value.{scalar_of}
 use Rattle.tw_code.specs.declared.flow.Flow.{Flow}
 use Rattle.tw_code.specs.declared.flow.Flow.TheVariants.{Straight, Branch, Jump, Begin, Close}
 use Rattle.tw_code.specs.declared.flow.Way.{Way}
 use Rattle.tw_code.specs.declared.flow.Way.TheVariants.{Done, Refused}
 use Rattle.tw_code.specs.declared.instr.Arithmetic.{Arithmetic}
 use Rattle.tw_code.specs.declared.instr.Instr.TheVariants as instr
-use Rattle.tw_code.specs.Position.{Position, value_at, int_in, text_in, int_at, text_at, must_have_type, at_next_place, at_goal, with_value, with_result, result_of, joined, int_shown_as, same_value, local_instr}
-use Rattle.tw_code.specs.Question.{Question, refusal_in, passes}
-use Rattle.tw_code.specs.Typing.{asks_value, asks_alike, asks_values}
-use Rattle.tw_code.specs.Walk.{Cursor, after_end, moved}
+use Rattle.tw_code.specs.machine.Position.{Position, value_at, int_in, text_in, int_at, text_at, must_have_type, at_next_place, at_goal, with_value, with_result, Cursor, after_end}
+use Rattle.tw_code.specs.machine.Local.{result_of, joined, int_shown_as, same_value, local_instr}
+use Rattle.tw_code.specs.accepting.Question.{Question, refusal_in, passes}
+use Rattle.tw_code.specs.accepting.Typing.{asks_value, asks_alike, asks_values}
+use Rattle.tw_code.specs.accepting.Walk.{moved}
 use Rattle.tw_verify.specs.Invariant.{ValuesFit}
 use Rattle.tw_verify.proofs.Steps.{Goes, goes, goes_then, at_some}
 
@@ -225,4 +227,4 @@ module _ (registers : List Scalar) (at : Position) (fits : ValuesFit registers a
   repeat_moves turns = record { way = Done; goes_on = refl; values = fits }
 
   pub end_moves : HasLoop at → Goes (local_instr instr.End at) (Moves registers Close at)
-  end_moves (cursor, e) = goes (there (after_end at.place at.loops) NoLoop) _ _ cursor (at_some (after_end at.place at.loops) NoLoop cursor e) (record { way = Done; goes_on = e; values = fits })
+  end_moves (cursor, e) = goes (ok_or (after_end at.place at.loops) NoLoop) _ _ cursor (at_some (after_end at.place at.loops) NoLoop cursor e) (record { way = Done; goes_on = e; values = fits })

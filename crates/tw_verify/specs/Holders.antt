@@ -1,14 +1,13 @@
 -- Who holds a datum, and what it is for its counts to be those of its holders.
 use Rattle.std.specs.Prelude.{◌≡◌, ℕ, ◌+◌, ◌<◌, ◌==◌, true, false, if◌then◌else◌, List, [], ◌∷◌, Option, Some, None}
 use Rattle.std.specs.FinMap.{get}
-use Rattle.tw_types.specs.DataType.{IsDataType, container_of}
+use Rattle.tw_types.specs.DataType.{IsDataType, container_of, is_scalar}
 use Rattle.tw_types.specs.Nesting.{NestedScalar}
-use Rattle.tw_types.specs.Store.{Content, Unset, Set, Contains, Datum, Data, Store, is_scalar, members_of}
+use Rattle.tw_types.specs.Store.{Content, Unset, Set, Contains, Datum, Data, Store, members_of}
 use Rattle.tw_types.specs.Value.{scalar_of}
-use Rattle.tw_code.specs.Opening.{is_write}
-use Rattle.tw_code.specs.Typing.{Right, Typing}
-use Rattle.tw_code.specs.Context.{Rights}
-use Rattle.tw_verify.specs.Totals.{total}
+use Rattle.tw_types.specs.Mode.{is_write}
+use Rattle.tw_code.specs.machine.Rights.{Right, Typing, Rights}
+use Rattle.tw_types.specs.Totals.{total}
 
 -- 1 where the id is that of the datum
 abbrev pub hits : ℕ → ℕ → ℕ

@@ -13,15 +13,17 @@ use Rattle.tw_types.specs.Value.{scalar_of}
 use Rattle.tw_code.specs.declared.flow.Flow.{Flow}
 use Rattle.tw_code.specs.declared.flow.Flow.TheVariants.{Begin}
 use Rattle.tw_code.specs.declared.procedure.Procedure.{Procedure}
-use Rattle.tw_code.specs.Context.{Rights}
-use Rattle.tw_code.specs.Flow.{flows}
-use Rattle.tw_code.specs.Machine.{Frame, State}
-use Rattle.tw_code.specs.Opening.{is_val}
-use Rattle.tw_code.specs.Typing.{Right, Typing}
-use Rattle.tw_code.specs.Walk.{Loop, IsBudget}
+use Rattle.tw_code.specs.machine.Rights.{Rights, Right, Typing}
+use Rattle.tw_code.specs.accepting.Flow.{flows}
+use Rattle.tw_code.specs.machine.State.{Frame, State}
+use Rattle.tw_types.specs.Mode.{is_val}
+use Rattle.tw_code.specs.machine.Position.{Loop}
+use Rattle.tw_code.specs.accepting.Walk.{IsBudget}
 use Rattle.tw_budget.specs.Frames.{IsWithinBudget}
-use Rattle.tw_verify.specs.Holders.{count_of, read_by, write_by, over, Balanced, HaveWriters, IsTypedStore}
-use Rattle.tw_verify.specs.Totals.{total}
+use Rattle.tw_types.specs.Counts.{count_of, Balanced, HaveWriters}
+use Rattle.tw_code.specs.machine.Holders.{read_by, write_by, over}
+use Rattle.tw_types.specs.TypedStore.{IsTypedStore}
+use Rattle.tw_types.specs.Totals.{total}
 
 -- ---- typings
 

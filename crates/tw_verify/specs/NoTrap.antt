@@ -9,10 +9,12 @@ use Rattle.tw_types.specs.declared.event.Event.TheVariants.{Local, Call, End}
 use Rattle.tw_types.specs.Layout.{ActorCounts}
 use Rattle.tw_types.specs.Outcome.{Outcome, Went, NotEnabled, Trap}
 use Rattle.tw_code.specs.declared.procedure.Procedure.{Procedure}
-use Rattle.tw_code.specs.Flow.{flows}
-use Rattle.tw_code.specs.Machine.{State, Frame, step, run}
-use Rattle.tw_code.specs.Opening.{opening, main_params, is_write}
-use Rattle.tw_code.specs.Walk.{IsBudget}
+use Rattle.tw_code.specs.accepting.Flow.{flows}
+use Rattle.tw_code.specs.machine.State.{State, Frame}
+use Rattle.tw_code.specs.machine.Machine.{step, run}
+use Rattle.tw_code.specs.machine.Opening.{opening, main_params}
+use Rattle.tw_types.specs.Mode.{is_write}
+use Rattle.tw_code.specs.accepting.Walk.{IsBudget}
 
 -- main is given nothing but outputs
 abbrev pub has_no_inputs : List Procedure → Bool

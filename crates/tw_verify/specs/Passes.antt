@@ -4,19 +4,19 @@ use Rattle.std.specs.Option.{option_eq}
 use Rattle.std.specs.Cmp.Lexicographic.{pointwise}
 use Rattle.tw_types.specs.declared.param.Mode.{Mode}
 use Rattle.tw_types.specs.declared.param.Mode.TheVariants.{Val, Closed, Ref, Write}
-use Rattle.tw_types.specs.Value.{same_scalar}
+use Rattle.tw_types.specs.DataType.{same_scalar}
 use Rattle.tw_code.specs.declared.instr.Instr.{Instr}
 use Rattle.tw_code.specs.declared.procedure.Procedure.{Procedure}
-use Rattle.tw_code.specs.Question.{lower}
-use Rattle.tw_code.specs.Typing.{Right, Typing}
-use Rattle.tw_code.specs.WellTyped.{IsEndOf, IsFirstRefusal}
+use Rattle.tw_code.specs.accepting.Question.{lower}
+use Rattle.tw_code.specs.machine.Rights.{Right, Typing}
+use Rattle.tw_code.specs.accepting.WellTyped.{IsEndOf, IsFirstRefusal}
 use Rattle.tw_verify.specs.declared.fault.Fault.{Fault}
 use Rattle.tw_verify.specs.declared.fault.Fault.TheVariants as fault
 use Rattle.tw_verify.specs.declared.fault.Refusal.{Refusal}
 use Rattle.tw_verify.specs.declared.refusal.VerifyRefusal.{VerifyRefusal}
 use Rattle.tw_verify.specs.declared.refusal.VerifyRefusal.TheVariants as refusal
 use Rattle.tw_verify.specs.declared.rows.Reached.{Reached}
-use Rattle.tw_verify.specs.Refusal.{number_of}
+use Rattle.tw_verify.specs.Refusal.{verify_refusal_number}
 
 -- ---- numbers
 
@@ -72,7 +72,7 @@ pub record HasChanged (code : List Instr) (typings : List Typing) (place : ℕ) 
 
 -- P of the number and the place of a fault
 abbrev pub IfFault : Fault → (ℕ → ℕ → Type 0) → Type 0
-IfFault (fault.At cause place) P = P (number_of cause) place
+IfFault (fault.At cause place) P = P (verify_refusal_number cause) place
 IfFault fault.Memory P = Unit {0}
 
 -- the refusal of a program by the fault of a procedure
@@ -82,5 +82,5 @@ refusal_of procedure fault.Memory = record { no = refusal.Memory; procedure = 0;
 
 -- the program's first refusal, unless memory ran out, which names place 0 of procedure 0
 pub record IsRefusal (program : List Procedure) (no : VerifyRefusal) (procedure place : ℕ) : Type 0 where
-  pub first : no ≢ refusal.Memory → IsFirstRefusal program (number_of no) procedure place
+  pub first : no ≢ refusal.Memory → IsFirstRefusal program (verify_refusal_number no) procedure place
   pub memory : no ≡ refusal.Memory → (procedure ≡ 0) × (place ≡ 0)

@@ -1,9 +1,9 @@
 //! Where loops begin and end.
 
 ghost use Rattle.std.specs.Prelude.{◌≡◌, ℕ, ◌+◌, ◌<◌, ◌≤◌, [], ◌∷◌, Some, length, slice_get, IfOk, ◌^◌};
-ghost use Rattle.tw_code.specs.Flow.{flows};
-ghost use Rattle.tw_code.specs.Structure.{end_of, depth_after, depth_of, block_of};
-ghost use Rattle.tw_code.specs.WellTyped.{IsEndOf};
+ghost use Rattle.tw_code.specs.accepting.Flow.{flows};
+ghost use Rattle.tw_code.specs.accepting.Structure.{end_of, depth_after, depth_of, block_of};
+ghost use Rattle.tw_code.specs.accepting.WellTyped.{IsEndOf};
 ghost use Rattle.tw_verify.specs.Loops.{EndsFrom, DepthsTo, AreFirsts, AreLoops};
 
 use std::alloc::{AllocError, Global};

@@ -1,7 +1,7 @@
 //! Kinds of parameters.
 
 ghost use Rattle.std.specs.Prelude.{◌≡◌};
-ghost use Rattle.tw_code.specs.Opening.{is_val};
+ghost use Rattle.tw_types.specs.Mode.{is_val};
 
 use tw_types::{Mode, Param};
 

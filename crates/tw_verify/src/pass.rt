@@ -2,16 +2,17 @@
 
 ghost use Rattle.std.specs.Prelude.{◌≡◌, ℕ, false, ◌≤◌, ◌<◌, ◌^◌, Some, length, slice_get, IsTrue, IfOk, IfErr, OnOk};
 ghost use Rattle.std.specs.Option.{option_map};
-ghost use Rattle.tw_code.specs.Flow.{flows};
-ghost use Rattle.tw_code.specs.Program.{IsInstr, IsProcedure};
-ghost use Rattle.tw_code.specs.Question.{refusal_in};
-ghost use Rattle.tw_code.specs.Structure.{IsStructured};
-ghost use Rattle.tw_code.specs.Typing.{Typing, asks_at};
-ghost use Rattle.tw_code.specs.Walk.{IsBudget, greatest_budget};
-ghost use Rattle.tw_code.specs.WellTyped.{IsEndOf, IsWellTyped, IsTypingRefusal, IsBudgetRefusal, IsProcedureRefusal};
+ghost use Rattle.tw_code.specs.accepting.Flow.{flows};
+ghost use Rattle.tw_code.specs.format.Program.{IsInstr, IsProcedure};
+ghost use Rattle.tw_code.specs.accepting.Question.{refusal_in};
+ghost use Rattle.tw_code.specs.accepting.Structure.{IsStructured};
+ghost use Rattle.tw_code.specs.machine.Rights.{Typing};
+ghost use Rattle.tw_code.specs.accepting.Typing.{asks_at};
+ghost use Rattle.tw_code.specs.accepting.Walk.{IsBudget, greatest_budget};
+ghost use Rattle.tw_code.specs.accepting.WellTyped.{IsEndOf, IsWellTyped, IsTypingRefusal, IsBudgetRefusal, IsProcedureRefusal};
 ghost use Rattle.tw_verify.specs.Loops.{AreLoops};
 ghost use Rattle.tw_verify.specs.Passes.{IfFault, HasChanged, lowest_at};
-ghost use Rattle.tw_verify.specs.Refusal.{number_of};
+ghost use Rattle.tw_verify.specs.Refusal.{verify_refusal_number};
 ghost use Rattle.tw_verify.specs.Verified.{AreFindings};
 
 use crate::fault::{Fault, keep};
@@ -66,7 +67,7 @@ fn typing_refusal(
     changed: bool,
 ) -> Option<VerifyRefusal>
     requires { IsInstr instr.now }
-    ensures { option_map number_of result ≡ lowest_at
+    ensures { option_map verify_refusal_number result ≡ lowest_at
         (refusal_in (asks_at procedures.now procedure.now place instr.now reached.now.typing))
         reached.now.differs changed }
 {

@@ -3,12 +3,13 @@
 
 ghost use Rattle.std.specs.Prelude.{◌≡◌, ◌++◌, Bool, true, slice_get};
 ghost use Rattle.std.specs.Option.{option_map, option_map_or};
-ghost use Rattle.tw_types.specs.Value.{same_scalar};
-ghost use Rattle.tw_code.specs.Program.{IsInstr};
-ghost use Rattle.tw_code.specs.Question.{passes, refusal_in};
-ghost use Rattle.tw_code.specs.Typing.{Right, asks_value, asks_alike, asks_values, asks_value_of, asks, asks_params, asks_at, writes_scalar};
+ghost use Rattle.tw_types.specs.DataType.{same_scalar};
+ghost use Rattle.tw_code.specs.format.Program.{IsInstr};
+ghost use Rattle.tw_code.specs.accepting.Question.{passes, refusal_in};
+ghost use Rattle.tw_code.specs.machine.Rights.{Right};
+ghost use Rattle.tw_code.specs.accepting.Typing.{asks_value, asks_alike, asks_values, asks_value_of, asks, asks_params, asks_at, writes_scalar};
 ghost use Rattle.tw_verify.specs.Passes.{lowest_of};
-ghost use Rattle.tw_verify.specs.Refusal.{number_of};
+ghost use Rattle.tw_verify.specs.Refusal.{verify_refusal_number};
 
 use crate::params::is_value;
 use crate::refusal::VerifyRefusal;
@@ -21,8 +22,8 @@ pub(crate) fn lowest(
     first: Option<VerifyRefusal>,
     second: Option<VerifyRefusal>,
 ) -> Option<VerifyRefusal>
-    ensures { option_map number_of result
-        ≡ lowest_of (option_map number_of first) (option_map number_of second) }
+    ensures { option_map verify_refusal_number result
+        ≡ lowest_of (option_map verify_refusal_number first) (option_map verify_refusal_number second) }
 {
     match (first, second) {
         (Some(a), Some(b)) => Some(if b.number() < a.number() { b } else { a }),
@@ -33,7 +34,7 @@ pub(crate) fn lowest(
 
 /// A value register must be declared, and be of this type.
 fn value_refusal(registers: &[Scalar], register: u8, ty: Scalar) -> Option<VerifyRefusal>
-    ensures { option_map number_of result ≡ refusal_in (asks_value registers.now register ty) }
+    ensures { option_map verify_refusal_number result ≡ refusal_in (asks_value registers.now register ty) }
 {
     match registers.get(register as usize) {
         None => Some(VerifyRefusal::UndeclaredValue),
@@ -49,7 +50,7 @@ fn both_refusal(
     second: u8,
     second_ty: Scalar,
 ) -> Option<VerifyRefusal>
-    ensures { option_map number_of result
+    ensures { option_map verify_refusal_number result
         ≡ refusal_in (asks_value registers.now first first_ty ++ asks_value registers.now second second_ty) }
 {
     lowest(
@@ -66,7 +67,7 @@ fn values_refusal(
     third: u8,
     ty: Scalar,
 ) -> Option<VerifyRefusal>
-    ensures { option_map number_of result
+    ensures { option_map verify_refusal_number result
         ≡ refusal_in (asks_values registers.now first second third ty) }
 {
     lowest(
@@ -77,7 +78,7 @@ fn values_refusal(
 
 /// Two value registers must be declared, and be of the same type.
 fn alike_refusal(registers: &[Scalar], first: u8, second: u8) -> Option<VerifyRefusal>
-    ensures { option_map number_of result ≡ refusal_in (asks_alike registers.now first second) }
+    ensures { option_map verify_refusal_number result ≡ refusal_in (asks_alike registers.now first second) }
 {
     match registers.get(first as usize) {
         None => Some(VerifyRefusal::UndeclaredValue),
@@ -94,7 +95,7 @@ fn value_of_refusal(
     fits: bool,
 ) -> Option<VerifyRefusal>
     ensures { (test : Right → Bool) → fits ≡ passes test right.now
-        → option_map number_of result
+        → option_map verify_refusal_number result
         ≡ refusal_in (asks_value_of registers.now register test right.now) }
 {
     let Some(declared) = registers.get(register as usize) else {
@@ -125,7 +126,7 @@ fn instr_refusal(
     typing: &Typing,
 ) -> Option<VerifyRefusal>
     requires { IsInstr instr.now }
-    ensures { option_map number_of result
+    ensures { option_map verify_refusal_number result
         ≡ refusal_in (asks procedures.now procedure.now instr.now typing.now) }
 {
     let registers = procedure.registers.as_slice();
@@ -191,7 +192,7 @@ fn is_open_or_of(registers: &[Scalar], register: usize, ty: Scalar) -> bool
 
 /// The value parameters must have registers, of their types.
 fn params_refusal(procedure: &Procedure) -> Option<VerifyRefusal>
-    ensures { option_map number_of result ≡ refusal_in (asks_params procedure.now) }
+    ensures { option_map verify_refusal_number result ≡ refusal_in (asks_params procedure.now) }
 {
     let registers = procedure.registers.as_slice();
     let mut given = 0;
@@ -218,7 +219,7 @@ pub(crate) fn place_refusal(
     typing: &Typing,
 ) -> Option<VerifyRefusal>
     requires { IsInstr instr.now }
-    ensures { option_map number_of result
+    ensures { option_map verify_refusal_number result
         ≡ refusal_in (asks_at procedures.now procedure.now place instr.now typing.now) }
 {
     let own = instr_refusal(procedures, procedure, instr, typing);

@@ -1,7 +1,7 @@
 //! Why a program is refused.
 
 ghost use Rattle.std.specs.Prelude.{◌≡◌};
-ghost use Rattle.tw_verify.specs.Refusal.{number_of};
+ghost use Rattle.tw_verify.specs.Refusal.{verify_refusal_number};
 
 use std::fmt;
 use thiserror::Error;
@@ -41,7 +41,7 @@ pub enum VerifyRefusal {
 impl VerifyRefusal {
     /// The number behind the letter V.
     pub fn number(self) -> u8
-        ensures { result ≡ number_of self }
+        ensures { result ≡ verify_refusal_number self }
     {
         match self {
             VerifyRefusal::UndeclaredValue => 1,

@@ -1,9 +1,9 @@
 //! What reaches the places ahead.
 
 ghost use Rattle.std.specs.Prelude.{◌≡◌, ℕ, ◌<◌, Option, Some, None, length, slice_get, IfOk, ◌^◌};
-ghost use Rattle.tw_code.specs.Flow.{flow_of, onward};
-ghost use Rattle.tw_code.specs.Program.{IsInstr};
-ghost use Rattle.tw_code.specs.Typing.{after};
+ghost use Rattle.tw_code.specs.accepting.Flow.{flow_of, onward};
+ghost use Rattle.tw_code.specs.format.Program.{IsInstr};
+ghost use Rattle.tw_code.specs.accepting.Typing.{after};
 ghost use Rattle.tw_code.specs.declared.flow.Way.TheVariants.{Done, Refused};
 ghost use Rattle.tw_verify.specs.Passes.{noted, sent, first_row};
 ghost use Rattle.tw_verify.specs.declared.rows.Reached.{Reached};

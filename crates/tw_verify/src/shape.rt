@@ -2,7 +2,7 @@
 
 ghost use Rattle.std.specs.Prelude.{◌≡◌};
 ghost use Rattle.std.specs.List.{list_all};
-ghost use Rattle.tw_code.specs.Opening.{has_main_shape, is_main_param};
+ghost use Rattle.tw_code.specs.accepting.MainShape.{has_main_shape, is_main_param};
 
 use crate::params::is_value;
 use tw_code::Procedure;

@@ -2,11 +2,11 @@
 
 ghost use Rattle.std.specs.Prelude.{◌≡◌, ◌<◌, length, OnOk, IfErr, ◌^◌};
 ghost use Rattle.std.specs.Option.{option_map};
-ghost use Rattle.tw_code.specs.Flow.{flows};
-ghost use Rattle.tw_code.specs.Structure.{same_block, is_in_block, skips_in_block, is_matched, ends_well, structure_refusal_at, IsStructured, IsStructureRefusal};
+ghost use Rattle.tw_code.specs.accepting.Flow.{flows};
+ghost use Rattle.tw_code.specs.accepting.Structure.{same_block, is_in_block, skips_in_block, is_matched, ends_well, structure_refusal_at, IsStructured, IsStructureRefusal};
 ghost use Rattle.tw_verify.specs.Loops.{AreLoops};
 ghost use Rattle.tw_verify.specs.Passes.{IfFault};
-ghost use Rattle.tw_verify.specs.Refusal.{number_of};
+ghost use Rattle.tw_verify.specs.Refusal.{verify_refusal_number};
 
 use crate::fault::Fault;
 use crate::loops::{Loops, flow_at};
@@ -80,7 +80,7 @@ fn structure_refusal(code: &[Instr], loops: &Loops, place: usize) -> Option<Veri
     requires known { AreLoops code.now loops.now }
     requires within { place < length code.now }
     requires short { length code.now < 2 ^ 32 }
-    ensures { option_map number_of result ≡ structure_refusal_at (flows code.now) place }
+    ensures { option_map verify_refusal_number result ≡ structure_refusal_at (flows code.now) place }
 {
     let flow = flow_at(code, place);
     if !is_skip_in_block(code, loops, place, flow) {

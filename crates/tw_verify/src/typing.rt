@@ -2,8 +2,9 @@
 
 ghost use Rattle.std.specs.Prelude.{◌≡◌, ◌≤◌, ◌<◌, length, None, is_none, slice_set};
 ghost use Rattle.std.specs.List.{list_all};
-ghost use Rattle.tw_code.specs.Program.{IsInstr};
-ghost use Rattle.tw_code.specs.Typing.{right_in, start_typing, writes_scalar, after};
+ghost use Rattle.tw_code.specs.format.Program.{IsInstr};
+ghost use Rattle.tw_code.specs.machine.Rights.{right_at};
+ghost use Rattle.tw_code.specs.accepting.Typing.{start_typing, writes_scalar, after};
 ghost use Rattle.tw_verify.specs.Passes.{same_typing};
 
 use crate::params::is_value;
@@ -19,7 +20,7 @@ pub struct Right {
 }
 
 impl Model for Right {
-    ghost use Rattle.tw_code.specs.Typing.{Right as RightOn};
+    ghost use Rattle.tw_code.specs.machine.Rights.{Right as RightOn};
 
     ghost Value = { RightOn };
 
@@ -58,7 +59,7 @@ pub struct Typing {
 
 impl Model for Typing {
     ghost use Rattle.std.specs.Prelude.{List, Option};
-    ghost use Rattle.tw_code.specs.Typing.{Right as RightOn};
+    ghost use Rattle.tw_code.specs.machine.Rights.{Right as RightOn};
 
     ghost Value = { List (Option RightOn) };
 
@@ -88,9 +89,9 @@ impl Typing {
     }
 
     /// What a register holds.
-    pub fn right_in(&self, register: u8) -> Option<Right>
+    pub fn right_at(&self, register: u8) -> Option<Right>
         requires { register < 16 }
-        ensures { result ≡ right_in self.now register }
+        ensures { result ≡ right_at self.now register }
     {
         self.rights[register as usize]
     }

@@ -1,9 +1,9 @@
 //! Verifying.
 
 ghost use Rattle.std.specs.Prelude.{◌≡◌, ◌≢◌, IfOk, IfErr, OnOk};
-ghost use Rattle.tw_code.specs.Program.{IsProgram};
-ghost use Rattle.tw_code.specs.WellTyped.{IsAccepted, IsFirstRefusal};
-ghost use Rattle.tw_verify.specs.Refusal.{number_of};
+ghost use Rattle.tw_code.specs.format.Program.{IsProgram};
+ghost use Rattle.tw_code.specs.accepting.WellTyped.{IsAccepted, IsFirstRefusal};
+ghost use Rattle.tw_verify.specs.Refusal.{verify_refusal_number};
 ghost use Rattle.tw_verify.specs.Passes.{IsRefusal};
 ghost use Rattle.tw_verify.specs.Verified.{IsTyped};
 ghost use Rattle.tw_verify.specs.declared.refusal.VerifyRefusal.TheVariants.{Memory};
@@ -54,7 +54,7 @@ pub fn verify(alloc: Global, program: Program) -> Result<Verified, Refused>
 
     // A refusal is the program's first one, unless memory ran out.
     ensures first { IfErr result (λ refused. refused.no ≢ Memory
-        → IsFirstRefusal program (number_of refused.no) refused.procedure refused.place) }
+        → IsFirstRefusal program (verify_refusal_number refused.no) refused.procedure refused.place) }
     // Where memory ran out, no place is told.
     ensures memory { IfErr result (λ refused. refused.no ≡ Memory
         → (refused.procedure ≡ 0) × (refused.place ≡ 0)) }

@@ -1,8 +1,8 @@
 use Rattle.std.proofs.Common.{ap}
 use Rattle.std.specs.declared.option.Option.TheVariants.{None, Some}
-use Rattle.tw_code.specs.Machine.{call_event}
+use Rattle.tw_code.specs.machine.Machine.{call_event}
 use Rattle.tw_machine.specs.Parts.{frames_of, with_frames, with_store}
-use Rattle.tw_types.specs.ActorOrder.{actor_cmp_total, actor_cmp-IsAntisymmetric}
+use Rattle.tw_types.proofs.ActorOrder.{actor_cmp_total, actor_cmp-IsAntisymmetric}
 use Rattle.tw_types.proofs.Maps.{found_view}
 use Rattle.tw_machine.proofs.Frames.{is_few, call_idle, context_comes}
 use Rattle.tw_machine.proofs.events.call.Goals as goal

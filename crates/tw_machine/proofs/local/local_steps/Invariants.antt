@@ -1,5 +1,5 @@
 use Rattle.std.proofs.Common.{◌≡◌, ◌-◌}
-use Rattle.tw_code.specs.Position.{local_steps}
+use Rattle.tw_code.specs.machine.Machine.{local_steps}
 use Rattle.tw_machine.proofs.local.local_steps.Given as goal
 
 abbrev pub invariant-loop : goal.invariant-loop

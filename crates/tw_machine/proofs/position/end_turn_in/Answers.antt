@@ -1,5 +1,5 @@
 use Rattle.std.proofs.Common.{vec_len, ◌∙◌}
-use Rattle.tw_code.specs.Walk.{Loop}
+use Rattle.tw_code.specs.machine.Position.{Loop}
 use Rattle.tw_machine.proofs.Turns.{turn_again, turn_over}
 use Rattle.tw_machine.proofs.position.end_turn_in.Goals as goal
 

@@ -4,7 +4,7 @@ use Rattle.std.specs.Cmp.{nat_cmp_total}
 use Rattle.std.specs.FinMap.{nat_cmp-IsAntisymmetric, insert}
 use Rattle.tw_types.specs.Outcome.{Went}
 use Rattle.tw_machine.specs.Parts.{frames_of, tasks_of, with_frames, with_tasks}
-use Rattle.tw_types.specs.ActorOrder.{actor_cmp_total, actor_cmp-IsAntisymmetric}
+use Rattle.tw_types.proofs.ActorOrder.{actor_cmp_total, actor_cmp-IsAntisymmetric}
 use Rattle.tw_types.proofs.Maps.{found_view, inserted_view, removed_view}
 use Rattle.tw_machine.proofs.Takes.{take_outside, take_busy, take_none, take_refused, take_goes}
 use Rattle.tw_machine.proofs.take.take.Goals as goal

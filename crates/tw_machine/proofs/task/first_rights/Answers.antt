@@ -1,5 +1,5 @@
 use Rattle.std.proofs.Common.{◌∙◌, ap, sym, arith, length}
-use Rattle.tw_code.specs.Machine.{sixteen}
+use Rattle.tw_code.specs.machine.Rights.{first_rights}
 use Rattle.tw_machine.proofs.Filling.{rights_more, rights_same}
 use Rattle.tw_machine.proofs.task.first_rights.Goals as goal
 use Rattle.tw_machine.proofs.task.first_rights.Goals.{in-Right, in_default}
@@ -13,5 +13,5 @@ loop-arg-preserved c =
           record { rights = more.0; count = w.count-is ∙ more.1; few = omega arith }
       | in_default w ↦
           let same = rights_same c.args.args.now k c.arg-item.result w.in_default.field-0 c.loop-arg-test.true c.arg-item.is w.in_default.is in
-          record { rights = w.rights-is ∙ c.loop-arg.invariant.rights ∙ ap sixteen (sym same); count = w.count-is ∙ c.loop-arg.invariant.count ∙ ap length (sym same); few = omega arith }
+          record { rights = w.rights-is ∙ c.loop-arg.invariant.rights ∙ ap first_rights (sym same); count = w.count-is ∙ c.loop-arg.invariant.count ∙ ap length (sym same); few = omega arith }
     ]

@@ -1,7 +1,7 @@
 use Rattle.std.proofs.Common.{List, ap, subst, ◌∙◌}
 use Rattle.std.proofs.lemmas.Result.{IfOk-weaker}
 use Rattle.tw_code.specs.declared.procedure.Procedure.{Procedure}
-use Rattle.tw_code.specs.Machine.{State}
+use Rattle.tw_code.specs.machine.State.{State}
 use Rattle.tw_machine.specs.PlainView.{PlainView}
 use Rattle.tw_session.specs.Run.{IsRun}
 use Rattle.tw_session.specs.declared.reply.Reply.{Reply}

@@ -1,7 +1,7 @@
 use Rattle.std.proofs.Common.{◌≡◌, ◌+◌, ◌*◌, List, Some, sym, ap, subst, ◌∙◌}
 use Rattle.std.specs.FinMap as fin
 use Rattle.tw_code.specs.declared.procedure.Procedure.{Procedure}
-use Rattle.tw_code.specs.Machine.{State}
+use Rattle.tw_code.specs.machine.State.{State}
 use Rattle.tw_session.specs.Next.{engine, IsNext, most_steps}
 use Rattle.tw_session.proofs.Stepping.{not_disabled, go_enabled, go_on, go_end, go_trap}
 use Rattle.tw_session.proofs.run.advance.Goals as goal

@@ -1,5 +1,5 @@
 use Rattle.std.proofs.Common.{subst}
-use Rattle.tw_code.specs.Program.{IsProgram}
+use Rattle.tw_code.specs.format.Program.{IsProgram}
 use Rattle.tw_verify.proofs.Safe as safe
 use Rattle.tw_verify.proofs.laws.no_trap.Goals as goal
 

@@ -1,8 +1,7 @@
-use Rattle.std.proofs.Common.{ℕ, ◌+◌, List, sym, ap, ◌∙◌, subst, arith}
-use Rattle.tw_code.specs.Flow.{flows}
-use Rattle.tw_code.specs.Structure.{depth_after}
+use Rattle.std.proofs.Common.{ℕ, ◌+◌, List, sym, ap, ◌∙◌, subst, arith, [], ◌∷◌}
+use Rattle.tw_code.specs.accepting.Flow.{flows}
+use Rattle.tw_code.specs.accepting.Structure.{depth_after}
 use Rattle.tw_verify.specs.Loops.{DepthsTo}
-use Rattle.std.proofs.Common.{[], ◌∷◌}
 use Rattle.tw_budget.specs.Places.{depth_next}
 use Rattle.tw_verify.proofs.Places.{depths_more}
 use Rattle.tw_verify.proofs.loops.all_depths.Goals as goal

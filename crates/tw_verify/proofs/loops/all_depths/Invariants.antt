@@ -1,6 +1,6 @@
 use Rattle.std.proofs.Common.{◌≡◌, ◌≤◌}
-use Rattle.tw_code.specs.Flow.{flows}
-use Rattle.tw_code.specs.Structure.{depth_of}
+use Rattle.tw_code.specs.accepting.Flow.{flows}
+use Rattle.tw_code.specs.accepting.Structure.{depth_of}
 use Rattle.tw_verify.specs.Loops.{DepthsTo}
 use Rattle.tw_verify.proofs.loops.all_depths.Given as goal
 

@@ -1,11 +1,11 @@
 use Rattle.std.proofs.Common.{ℕ, Option, Some, None, ap, ◌∙◌}
 use Rattle.std.specs.Prelude.{if◌then◌else◌}
 use Rattle.std.specs.Option.{option_map}
-use Rattle.tw_code.specs.Question.{refusal_in}
-use Rattle.tw_code.specs.Typing.{asks_at}
+use Rattle.tw_code.specs.accepting.Question.{refusal_in}
+use Rattle.tw_code.specs.accepting.Typing.{asks_at}
 use Rattle.tw_verify.specs.declared.refusal.VerifyRefusal.TheVariants.{TypingsDiffer, TypingChanged}
 use Rattle.tw_verify.specs.Passes.{lowest_of}
-use Rattle.tw_verify.specs.Refusal.{number_of}
+use Rattle.tw_verify.specs.Refusal.{verify_refusal_number}
 use Rattle.tw_verify.proofs.Lowest.{told}
 use Rattle.tw_verify.proofs.pass.typing_refusal.Goals as goal
 
@@ -15,8 +15,8 @@ returns c =
     let differs = c.args.reached.now.differs in
     let inner =
     c.lowest.ensures
-    ∙ ap (λ (o : Option ℕ). lowest_of o (option_map number_of c.then_some-differs.result)) c.place_refusal-own.ensures
-    ∙ ap (lowest_of own) (ap (option_map number_of) c.then_some-differs.ensures ∙ told differs TypingsDiffer) in
+    ∙ ap (λ (o : Option ℕ). lowest_of o (option_map verify_refusal_number c.then_some-differs.result)) c.place_refusal-own.ensures
+    ∙ ap (lowest_of own) (ap (option_map verify_refusal_number) c.then_some-differs.ensures ∙ told differs TypingsDiffer) in
     c.lowest-2.ensures
-    ∙ ap (λ (o : Option ℕ). lowest_of o (option_map number_of c.then_some-changed.result)) inner
-    ∙ ap (lowest_of (lowest_of own (if differs then Some 7 else None))) (ap (option_map number_of) c.then_some-changed.ensures ∙ told c.args.changed TypingChanged)
+    ∙ ap (λ (o : Option ℕ). lowest_of o (option_map verify_refusal_number c.then_some-changed.result)) inner
+    ∙ ap (lowest_of (lowest_of own (if differs then Some 7 else None))) (ap (option_map verify_refusal_number) c.then_some-changed.ensures ∙ told c.args.changed TypingChanged)

@@ -2,8 +2,8 @@ use Rattle.std.proofs.Common.{Bool, true, ◌&&◌, ap, sym, ◌∙◌, arith, l
 use Rattle.std.specs.Prelude.{slice_get}
 use Rattle.std.specs.Option.{option_map_or}
 use Rattle.tw_types.specs.declared.data_type.Scalar.{Scalar}
-use Rattle.tw_types.specs.Value.{same_scalar}
-use Rattle.tw_code.specs.Typing.{value_types, values_fit}
+use Rattle.tw_types.specs.DataType.{same_scalar}
+use Rattle.tw_code.specs.accepting.Typing.{value_types, values_fit}
 use Rattle.tw_verify.proofs.OneMore.{next_value, next_right, next_fits}
 use Rattle.tw_verify.proofs.questions.params_refusal.Goals as goal
 use Rattle.tw_verify.proofs.questions.params_refusal.Goals.{then-is_value, else-is_value}

@@ -1,5 +1,5 @@
 use Rattle.std.proofs.Common.{◌≡◌, ◌≤◌, length, take}
-use Rattle.tw_code.specs.Typing.{value_types, values_fit}
+use Rattle.tw_code.specs.accepting.Typing.{value_types, values_fit}
 use Rattle.tw_verify.proofs.questions.params_refusal.Given as goal
 
 -- the value parameters so far

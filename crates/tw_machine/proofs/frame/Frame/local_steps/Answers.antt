@@ -3,8 +3,9 @@ use Rattle.std.specs.Prelude.{slice_get}
 use Rattle.std.proofs.lemmas.Option.{slice_get-get_or}
 use Rattle.tw_types.specs.Outcome.{Went}
 use Rattle.tw_code.specs.declared.instr.Instr.{Instr}
-use Rattle.tw_code.specs.Machine.{Frame}
-use Rattle.tw_code.specs.Position.{Position, local_step, local_steps}
+use Rattle.tw_code.specs.machine.State.{Frame}
+use Rattle.tw_code.specs.machine.Position.{Position}
+use Rattle.tw_code.specs.machine.Machine.{local_step, local_steps}
 use Rattle.tw_machine.proofs.Stretches.{stretched}
 use Rattle.tw_machine.proofs.frame.Frame.local_steps.Goals as goal
 

@@ -1,6 +1,6 @@
 use Rattle.std.proofs.Common.{sym, ap, subst}
-use Rattle.tw_code.specs.Bounds.{AreBelow}
-use Rattle.tw_code.specs.Machine.{State}
+use Rattle.tw_code.specs.machine.Bounds.{AreBelow}
+use Rattle.tw_code.specs.machine.State.{State}
 use Rattle.tw_machine.specs.PlainView.{PlainView}
 use Rattle.tw_machine.proofs.Opened.{is_small, none_of, opened_as}
 use Rattle.tw_machine.proofs.plain.Plain.open.Goals as goal

@@ -1,5 +1,5 @@
 use Rattle.std.proofs.Common.{sym}
-use Rattle.tw_types.specs.ActorOrder.{actor_cmp_total, actor_cmp-IsAntisymmetric}
+use Rattle.tw_types.proofs.ActorOrder.{actor_cmp_total, actor_cmp-IsAntisymmetric}
 use Rattle.tw_types.proofs.Maps.{found_view}
 use Rattle.tw_machine.proofs.state.State.frame.Goals as goal
 

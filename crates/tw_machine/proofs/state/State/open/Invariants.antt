@@ -1,5 +1,5 @@
 use Rattle.std.proofs.Common.{◌≡◌, ◌+◌, drop, [], length}
-use Rattle.tw_code.specs.Opening.{opened}
+use Rattle.tw_code.specs.machine.Opening.{opened}
 use Rattle.tw_machine.specs.Opening.{nothing_opened}
 use Rattle.tw_machine.proofs.Opened.{outputs_opened}
 use Rattle.tw_machine.proofs.state.State.open.Given as goal

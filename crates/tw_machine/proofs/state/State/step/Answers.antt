@@ -1,6 +1,7 @@
 use Rattle.std.proofs.Common.{◌^◌, rules, subst, sym}
-use Rattle.tw_code.specs.Bounds.{AreBelow}
-use Rattle.tw_code.specs.Machine.{State, step}
+use Rattle.tw_code.specs.machine.Bounds.{AreBelow}
+use Rattle.tw_code.specs.machine.State.{State}
+use Rattle.tw_code.specs.machine.Machine.{step}
 use Rattle.tw_machine.specs.contracts.state.State.{the_view}
 use Rattle.tw_machine.proofs.Frames.{few_at}
 use Rattle.tw_machine.proofs.state.State.step.Goals as goal

@@ -1,5 +1,6 @@
 use Rattle.std.proofs.Common.{◌-◌, List, ◌++◌, map, replicate, Some, None, ap, sym, ◌∙◌, arith, length, length-append, set, take, ◌∷◌, []}
-use Rattle.tw_code.specs.Typing.{Right, Typing, rights_given}
+use Rattle.tw_code.specs.machine.Rights.{Right, Typing}
+use Rattle.tw_code.specs.accepting.Typing.{rights_given}
 use Rattle.tw_verify.proofs.OneMore.{next_value, next_right, next_typing, right_of}
 use Rattle.tw_verify.proofs.typing.Typing.start.Goals as goal
 use Rattle.tw_verify.proofs.typing.Typing.start.Goals.{then-not-is_value, else-not-is_value}

@@ -1,5 +1,5 @@
 use Rattle.std.proofs.Common.{◌≡◌, ◌≤◌, length, take}
-use Rattle.tw_code.specs.Typing.{rights_given, start_typing}
+use Rattle.tw_code.specs.accepting.Typing.{rights_given, start_typing}
 use Rattle.tw_verify.proofs.typing.Typing.start.Given as goal
 
 -- the rights of the parameters so far stand in their registers
