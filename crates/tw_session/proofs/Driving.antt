@@ -31,8 +31,8 @@ use Rattle.tw_code.specs.machine.Data.{Context, datum_at, suits, data_instr}
 use Rattle.tw_code.specs.machine.Rights.{right_at, held, first_rights}
 use Rattle.tw_code.specs.Context.{live}
 use Rattle.tw_types.specs.StoreChecks.{is_unset}
-use Rattle.tw_session.specs.Driving.{IsAlone, IsDone}
-use Rattle.tw_session.specs.Next.{engine, IsLocalNext, IsEnd, IsCall, IsSingle, IsNext, IsDue}
+use Rattle.tw_session.specs.driver.Driving.{IsAlone, IsDone}
+use Rattle.tw_session.specs.driver.Next.{engine, IsLocalNext, IsEnd, IsCall, IsSingle, IsNext, IsDue}
 use Rattle.tw_types.specs.Value.{blank_of}
 use Rattle.tw_code.specs.machine.State.{State, Frame, values_in, ids_in, with_frame, context_of, after_context}
 use Rattle.tw_code.specs.machine.Arguments.{procedure_of}
@@ -40,7 +40,7 @@ use Rattle.tw_code.specs.machine.Opening.{opening, opened, main_params, main_tas
 use Rattle.tw_code.specs.machine.Ending.{ending}
 use Rattle.tw_types.specs.declared.ending.Ending.TheVariants.{Quiet}
 use Rattle.std.specs.List.{list_all}
-use Rattle.tw_session.specs.Run.{run_layout}
+use Rattle.tw_session.specs.Run.{plain_setup}
 use Rattle.tw_session.proofs.Never.{IsEnabled, enabled-bind, enabled-then, enabled-there, enabled-must, went-bind, went-then, went-there}
 
 actors_total : IsTotalOrder actor_cmp
@@ -104,7 +104,7 @@ main_ids program = (opened (record { store = empty_store; rights = []; outputs =
 abbrev main_taken : Procedure → State → List ℕ → State
 main_taken main s ids = with_frame (record s { tasks = fin.remove s.tasks 1 }) engine (first_frame main ids)
 
-take_is : (main : Procedure) (others : List Procedure) → step (main ∷ others) run_layout (Take engine) (opening (main ∷ others) []) ≡ Went (main_taken main (opening (main ∷ others) []) (main_ids (main ∷ others)))
+take_is : (main : Procedure) (others : List Procedure) → step (main ∷ others) plain_setup.layout (Take engine) (opening (main ∷ others) []) ≡ Went (main_taken main (opening (main ∷ others) []) (main_ids (main ∷ others)))
 unfolding step opening best
 take_is main others = rw (get-empty actor_cmp engine, only_entry (main_task (main_ids (main ∷ others))), no_values (main_ids (main ∷ others)), same_ids (main_ids (main ∷ others))) refl
 
@@ -114,7 +114,7 @@ unfolding opening
 take_due program = rw (get-empty {X = Frame} actor_cmp engine) refl
 
 -- where the program has a first procedure, the engine may take main
-pub take_enabled : (main : Procedure) (others : List Procedure) → IsEnabled (step (main ∷ others) run_layout (Take engine) (opening (main ∷ others) []))
+pub take_enabled : (main : Procedure) (others : List Procedure) → IsEnabled (step (main ∷ others) plain_setup.layout (Take engine) (opening (main ∷ others) []))
 take_enabled main others = rw (take_is main others) tt
 
 went_is : {A : Type 0} {x y : A} → Went x ≡ Went y → x ≡ y
@@ -129,7 +129,7 @@ taken_alone main others = record {
 }
 
 -- and runs it alone
-pub take_leaves : (main : Procedure) (others : List Procedure) (t : State) → step (main ∷ others) run_layout (Take engine) (opening (main ∷ others) []) ≡ Went t → (f : Frame) × IsAlone t f
+pub take_leaves : (main : Procedure) (others : List Procedure) (t : State) → step (main ∷ others) plain_setup.layout (Take engine) (opening (main ∷ others) []) ≡ Went t → (f : Frame) × IsAlone t f
 take_leaves main others t e = subst (λ (s : State). (f : Frame) × IsAlone s f) (went_is (sym (take_is main others) ∙ e)) (first_frame main (main_ids (main ∷ others)), taken_alone main others)
 
 -- ---- the events of main's frame
@@ -217,24 +217,24 @@ module _ (program : List Procedure) (s : State) (f : Frame) (n : ℕ) (a : IsAlo
   abbrev further : Position → Frame
   further at = record f { position = at; spent = f.spent + n }
 
-  local_is : step program run_layout (Local engine n) s ≡ (procedure_of program f.procedure >>= λ p. local_steps n p.code f.position >>= λ at. Went (with_frame s engine (further at)))
+  local_is : step program plain_setup.layout (Local engine n) s ≡ (procedure_of program f.procedure >>= λ p. local_steps n p.code f.position >>= λ at. Went (with_frame s engine (further at)))
   unfolding step
   local_is = rw (not_zero n some, a.frame) refl
 
   -- they go
-  local_enabled : (at : Position) → steps_from program f n ≡ Went at → IsEnabled (step program run_layout (Local engine n) s)
+  local_enabled : (at : Position) → steps_from program f n ≡ Went at → IsEnabled (step program plain_setup.layout (Local engine n) s)
   local_enabled at go =
       let p = went-bind (procedure_of program f.procedure) (λ p. local_steps n p.code f.position) at go in
       subst IsEnabled (sym local_is) (rw (p.1, p.2) tt)
 
-  local_leaves : (t : State) → step program run_layout (Local engine n) s ≡ Went t → (g : Frame) × IsAlone t g
+  local_leaves : (t : State) → step program plain_setup.layout (Local engine n) s ≡ Went t → (g : Frame) × IsAlone t g
   local_leaves t e =
       let p = went-bind (procedure_of program f.procedure) (λ p. local_steps n p.code f.position >>= λ at. Went (with_frame s engine (further at))) t (sym local_is ∙ e) in
       let at = went-bind (local_steps n p.0.code f.position) (λ at. Went (with_frame s engine (further at))) t p.2 in
       subst (λ (u : State). (g : Frame) × IsAlone u g) (went_is at.2) (further at.0, alone_again s f (further at.0) s.store a)
 
 -- one of them, where the next instruction is local
-one_enabled : (program : List Procedure) (s : State) (f : Frame) → IsAlone s f → IsLocalNext program f → IsEnabled (step program run_layout (Local engine 1) s)
+one_enabled : (program : List Procedure) (s : State) (f : Frame) → IsAlone s f → IsLocalNext program f → IsEnabled (step program plain_setup.layout (Local engine 1) s)
 one_enabled program s f a h =
     let here : procedure_of program f.procedure ≡ Went h.p = ap (λ (o : Option Procedure). ok_or o WrongCall) h.here in
     let one : local_step h.p.code f.position ≡ local_instr h.i f.position = ap (λ (o : Option Instr). ok_or o OutsideCode >>= λ i. local_instr i f.position) h.at in
@@ -247,7 +247,7 @@ module _ (program : List Procedure) (s : State) (f : Frame) (a : IsAlone s f) wh
   standing_is : standing_of program engine s ≡ (procedure_of program f.procedure >>= λ p. instr_at p.code f.position.place >>= λ i. Went (record { frame = f; instr = i }))
   standing_is = rw a.frame refl
 
-  call_enabled : IsCall program f → IsEnabled (step program run_layout (Call engine) s)
+  call_enabled : IsCall program f → IsEnabled (step program plain_setup.layout (Call engine) s)
   unfolding step
   call_enabled h = enabled-bind (standing_of program engine s) (λ at. data_instr at.instr (context_of s at.frame) >>= λ c. Went (after_context s engine at.frame c)) stands (λ at went.
       let is = stood at went in
@@ -271,7 +271,7 @@ module _ (program : List Procedure) (s : State) (f : Frame) (a : IsAlone s f) wh
       let two = went-bind (instr_at one.0.code f.position.place) (λ i. Went (record { frame = f; instr = i })) at one.2 in
       sym (ap (λ (k : Standing). k.frame) (went_is two.2))
 
-  call_leaves : (t : State) → step program run_layout (Call engine) s ≡ Went t → (g : Frame) × IsAlone t g
+  call_leaves : (t : State) → step program plain_setup.layout (Call engine) s ≡ Went t → (g : Frame) × IsAlone t g
   unfolding step
   call_leaves t e =
       let one = went-bind (standing_of program engine s) (λ at. data_instr at.instr (context_of s at.frame) >>= λ c. Went (after_context s engine at.frame c)) t e in
@@ -281,14 +281,14 @@ module _ (program : List Procedure) (s : State) (f : Frame) (a : IsAlone s f) wh
 
   -- ---- the end
 
-  end_is : (h : IsEnd program f) → step program run_layout (End engine) s ≡ (only_if (is_stop (flow_of h.i)) >> (must (list_all is_none f.rights) RightLeft >> Went (record s { frames = fin.remove s.frames engine })))
+  end_is : (h : IsEnd program f) → step program plain_setup.layout (End engine) s ≡ (only_if (is_stop (flow_of h.i)) >> (must (list_all is_none f.rights) RightLeft >> Went (record s { frames = fin.remove s.frames engine })))
   unfolding step
   end_is h = rw (a.frame, h.here, h.at) refl
 
-  end_enabled : IsEnd program f → IsEnabled (step program run_layout (End engine) s)
+  end_enabled : IsEnd program f → IsEnabled (step program plain_setup.layout (End engine) s)
   end_enabled h = subst IsEnabled (sym (end_is h)) (rw h.stops (enabled-then (must (list_all is_none f.rights) RightLeft) _ (enabled-must _ _) tt))
 
-  end_leaves : IsEnd program f → (t : State) → step program run_layout (End engine) s ≡ Went t → IsDone t
+  end_leaves : IsEnd program f → (t : State) → step program plain_setup.layout (End engine) s ≡ Went t → IsDone t
   end_leaves h t e =
       let one = went-then (only_if (is_stop (flow_of h.i))) _ t (sym (end_is h) ∙ e) in
       let two = went-then (must (list_all is_none f.rights) RightLeft) _ t one.1 in
@@ -296,22 +296,22 @@ module _ (program : List Procedure) (s : State) (f : Frame) (a : IsAlone s f) wh
 
 -- ---- whichever event comes next
 
-single_enabled : (program : List Procedure) (s : State) (f : Frame) (event : Event) → IsAlone s f → IsSingle program f event → IsEnabled (step program run_layout event s)
-single_enabled program s f event a (inl h) = subst (λ (e : Event). IsEnabled (step program run_layout e s)) (sym h.0) (one_enabled program s f a h.1)
-single_enabled program s f event a (inr (inl h)) = subst (λ (e : Event). IsEnabled (step program run_layout e s)) (sym h.0) (call_enabled program s f a h.1)
-single_enabled program s f event a (inr (inr h)) = subst (λ (e : Event). IsEnabled (step program run_layout e s)) (sym h.0) (end_enabled program s f a h.1)
+single_enabled : (program : List Procedure) (s : State) (f : Frame) (event : Event) → IsAlone s f → IsSingle program f event → IsEnabled (step program plain_setup.layout event s)
+single_enabled program s f event a (inl h) = subst (λ (e : Event). IsEnabled (step program plain_setup.layout e s)) (sym h.0) (one_enabled program s f a h.1)
+single_enabled program s f event a (inr (inl h)) = subst (λ (e : Event). IsEnabled (step program plain_setup.layout e s)) (sym h.0) (call_enabled program s f a h.1)
+single_enabled program s f event a (inr (inr h)) = subst (λ (e : Event). IsEnabled (step program plain_setup.layout e s)) (sym h.0) (end_enabled program s f a h.1)
 
-pub next_enabled : (program : List Procedure) (s : State) (f : Frame) (event : Event) → IsAlone s f → IsNext program f event → IsEnabled (step program run_layout event s)
-next_enabled program s f event a (inl (n, some, is, h)) = let go = h.go some in subst (λ (e : Event). IsEnabled (step program run_layout e s)) (sym is) (local_enabled program s f n a some go.0 go.1)
+pub next_enabled : (program : List Procedure) (s : State) (f : Frame) (event : Event) → IsAlone s f → IsNext program f event → IsEnabled (step program plain_setup.layout event s)
+next_enabled program s f event a (inl (n, some, is, h)) = let go = h.go some in subst (λ (e : Event). IsEnabled (step program plain_setup.layout e s)) (sym is) (local_enabled program s f n a some go.0 go.1)
 next_enabled program s f event a (inr (none, h)) = single_enabled program s f event a h
 
-single_leaves : (program : List Procedure) (s t : State) (f : Frame) (event : Event) → IsAlone s f → IsSingle program f event → step program run_layout event s ≡ Went t → ((g : Frame) × IsAlone t g) ⊎ IsDone t
-single_leaves program s t f event a (inl h) e = inl (local_leaves program s f 1 a (omega arith) t (ap (λ (v : Event). step program run_layout v s) (sym h.0) ∙ e))
-single_leaves program s t f event a (inr (inl h)) e = inl (call_leaves program s f a t (ap (λ (v : Event). step program run_layout v s) (sym h.0) ∙ e))
-single_leaves program s t f event a (inr (inr h)) e = inr (end_leaves program s f a h.1 t (ap (λ (v : Event). step program run_layout v s) (sym h.0) ∙ e))
+single_leaves : (program : List Procedure) (s t : State) (f : Frame) (event : Event) → IsAlone s f → IsSingle program f event → step program plain_setup.layout event s ≡ Went t → ((g : Frame) × IsAlone t g) ⊎ IsDone t
+single_leaves program s t f event a (inl h) e = inl (local_leaves program s f 1 a (omega arith) t (ap (λ (v : Event). step program plain_setup.layout v s) (sym h.0) ∙ e))
+single_leaves program s t f event a (inr (inl h)) e = inl (call_leaves program s f a t (ap (λ (v : Event). step program plain_setup.layout v s) (sym h.0) ∙ e))
+single_leaves program s t f event a (inr (inr h)) e = inr (end_leaves program s f a h.1 t (ap (λ (v : Event). step program plain_setup.layout v s) (sym h.0) ∙ e))
 
-pub next_leaves : (program : List Procedure) (s t : State) (f : Frame) (event : Event) → IsAlone s f → IsNext program f event → step program run_layout event s ≡ Went t → ((g : Frame) × IsAlone t g) ⊎ IsDone t
-next_leaves program s t f event a (inl (n, some, is, h)) e = inl (local_leaves program s f n a some t (ap (λ (v : Event). step program run_layout v s) (sym is) ∙ e))
+pub next_leaves : (program : List Procedure) (s t : State) (f : Frame) (event : Event) → IsAlone s f → IsNext program f event → step program plain_setup.layout event s ≡ Went t → ((g : Frame) × IsAlone t g) ⊎ IsDone t
+next_leaves program s t f event a (inl (n, some, is, h)) e = inl (local_leaves program s f n a some t (ap (λ (v : Event). step program plain_setup.layout v s) (sym is) ∙ e))
 next_leaves program s t f event a (inr (none, h)) e = single_leaves program s t f event a h e
 
 -- ---- the ending

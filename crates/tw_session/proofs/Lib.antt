@@ -6,3 +6,4 @@ pub mod Stepping
 pub mod Reports
 pub mod Openings
 pub mod Checks
+pub mod Replies

@@ -14,7 +14,7 @@ use Rattle.tw_code.specs.machine.State.{State}
 use Rattle.tw_session.specs.declared.run.RunEnd.{RunEnd}
 use Rattle.tw_session.specs.declared.status.Close.TheVariants.{Refused}
 use Rattle.tw_session.specs.Lines.{opening_line}
-use Rattle.tw_session.specs.Run.{IsRun}
+use Rattle.tw_session.specs.Run.{IsRun, plain_setup}
 use Rattle.tw_session.specs.Session.{Reply, reply, run_reply, RepliesByRun, RepliesByOpening, has_inputs}
 
 told_by : (shape outputs : Bool) → Option OpenRefusal
@@ -44,7 +44,7 @@ inputs_told program why shape told other =
     inputs_are (are_outputs program) why (subst (λ (s : Bool). IsTold (told_by s (are_outputs program)) why) shape told) other
 
 -- the reply of a run, where there are no inputs
-pub replies_by_run : (program : List Procedure) (r : Reply) (s : State) (end : RunEnd) → refusal_of program [] ≡ None → IsRun program s end → r ≡ run_reply s end → RepliesByOpening program r
+pub replies_by_run : (program : List Procedure) (r : Reply) (s : State) (end : RunEnd) → refusal_of program [] ≡ None → IsRun program plain_setup s end → r ≡ run_reply s end → RepliesByOpening program r
 replies_by_run program r s end none run is =
     subst (λ (b : Bool). MatchBool b (r ≡ reply (opening_line 1) Refused) (RepliesByRun program r)) (sym (no_inputs program none)) (s, end, run, is)
 

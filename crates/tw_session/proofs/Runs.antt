@@ -6,8 +6,9 @@ use Rattle.tw_types.specs.Outcome.{Outcome, Went, ◌>>=◌}
 use Rattle.tw_code.specs.declared.procedure.Procedure.{Procedure}
 use Rattle.tw_code.specs.machine.State.{State}
 use Rattle.tw_code.specs.machine.Machine.{step, run}
-use Rattle.tw_session.specs.Next.{IsDue}
-use Rattle.tw_session.specs.Run.{AreDue, run_layout}
+use Rattle.tw_session.specs.Run.{plain_setup}
+use Rattle.tw_session.specs.driver.Next.{IsDue}
+use Rattle.tw_session.specs.driver.Schedule.{AreDue}
 use Rattle.tw_session.proofs.Never.{went-bind}
 
 pub run_more : (program : List Procedure) (layout : ActorCounts) (history : List Event) (event : Event) (s t u : State)
@@ -21,8 +22,8 @@ run_more program layout (first ∷ history) event s t u e h =
     ap (λ (o : Outcome State). o >>= run program layout (history ++ event ∷ [])) one.1 ∙ run_more program layout history event one.0 t u one.2 h
 
 pub due_more : (program : List Procedure) (history : List Event) (event : Event) (s t : State)
-    → AreDue program s history → run program run_layout history s ≡ Went t → IsDue program t event → AreDue program s (history ++ event ∷ [])
+    → AreDue program s history → run program plain_setup.layout history s ≡ Went t → IsDue program t event → AreDue program s (history ++ event ∷ [])
 unfolding run
 due_more program [] event s t due e next = let same : t ≡ s = cc in (subst (λ (u : State). IsDue program u event) same next, λ u h. tt)
 due_more program (first ∷ history) event s t due e next =
-    (due.0, λ u h. due_more program history event u t (due.1 u h) (sym (ap (λ (o : Outcome State). o >>= run program run_layout history) h) ∙ e) next)
+    (due.0, λ u h. due_more program history event u t (due.1 u h) (sym (ap (λ (o : Outcome State). o >>= run program plain_setup.layout history) h) ∙ e) next)

@@ -16,9 +16,10 @@ use Rattle.tw_code.specs.machine.Machine.{step, run}
 use Rattle.tw_code.specs.machine.Opening.{opening}
 use Rattle.tw_session.specs.declared.run.RunEnd.TheVariants as run_end
 use Rattle.std.specs.declared.option.Option.{Option}
-use Rattle.tw_session.specs.Run.{AreDue, IsRun, run_layout}
-use Rattle.tw_session.specs.Driving.{IsAlone, IsDone, IsDriven}
-use Rattle.tw_session.specs.Next.{engine, most_steps, IsNext, IsDue, IsDueFor}
+use Rattle.tw_session.specs.Run.{plain_setup}
+use Rattle.tw_session.specs.driver.Driving.{IsAlone, IsDone, IsDriven}
+use Rattle.tw_session.specs.driver.Schedule.{AreDue, IsScheduled}
+use Rattle.tw_session.specs.driver.Next.{engine, most_steps, IsNext, IsDue, IsDueFor}
 use Rattle.tw_session.proofs.Never.{IsEnabled}
 use Rattle.tw_session.proofs.Driving.{take_due, take_enabled, take_leaves, next_enabled, next_leaves, alone_goes_on, done_is_quiet}
 use Rattle.tw_session.proofs.Runs.{run_more, due_more}
@@ -38,47 +39,50 @@ not_disabled (Went x) h e = cc
 not_disabled NotEnabled h e = h
 not_disabled (Trap cause) h e = cc
 
-no_event : (program : List Procedure) (s : State) → run program run_layout [] s ≡ Went s
+no_event : (program : List Procedure) (s : State) → run program plain_setup.layout [] s ≡ Went s
 unfolding run
 no_event program s = refl
 
 -- ---- main is taken
 
-module _ (program : List Procedure) (layout : ActorCounts) (s : State) (one : layout ≡ run_layout) (opened : s ≡ opening program []) where
-  as_opened : step program layout (Take engine) s ≡ step program run_layout (Take engine) (opening program [])
-  as_opened = ap (λ (l : ActorCounts). step program l (Take engine) s) one ∙ ap (step program run_layout (Take engine)) opened
+module _ (program : List Procedure) (layout : ActorCounts) (s : State) (one : layout ≡ plain_setup.layout) (opened : s ≡ opening program []) where
+  as_opened : step program layout (Take engine) s ≡ step program plain_setup.layout (Take engine) (opening program [])
+  as_opened = ap (λ (l : ActorCounts). step program l (Take engine) s) one ∙ ap (step program plain_setup.layout (Take engine)) opened
 
   pub start_enabled : 0 < length program → IsEnabled (step program layout (Take engine) s)
   start_enabled some = subst IsEnabled (sym as_opened) (by_main program some)
     where
-      by_main : (program : List Procedure) → 0 < length program → IsEnabled (step program run_layout (Take engine) (opening program []))
+      by_main : (program : List Procedure) → 0 < length program → IsEnabled (step program plain_setup.layout (Take engine) (opening program []))
       by_main [] some = absurd (omega arith)
       by_main (main ∷ others) some = take_enabled main others
 
   pub start_goes : (t : State) → 0 < length program → step program layout (Take engine) s ≡ Went t → AreBelow (64 + 1) t → IsDriven program 1 t
   start_goes t some e below =
-      let went : step program run_layout (Take engine) (opening program []) ≡ Went t = sym as_opened ∙ e in
+      let went : step program plain_setup.layout (Take engine) (opening program []) ≡ Went t = sym as_opened ∙ e in
       let alone = by_main program t some went in
       record {
         history = Take engine ∷ [];
         due = (take_due program, λ u h. tt);
-        reaches = run_more program run_layout [] (Take engine) (opening program []) (opening program []) t (no_event program (opening program [])) went;
+        reaches = run_more program plain_setup.layout [] (Take engine) (opening program []) (opening program []) t (no_event program (opening program [])) went;
         long = refl;
         frame = alone.0;
         alone = alone.1;
         below = below_larger (64 + 1) (64 + 1 * most_steps) t (omega arith) below;
       }
     where
-      by_main : (program : List Procedure) (t : State) → 0 < length program → step program run_layout (Take engine) (opening program []) ≡ Went t → (f : Frame) × IsAlone t f
+      by_main : (program : List Procedure) (t : State) → 0 < length program → step program plain_setup.layout (Take engine) (opening program []) ≡ Went t → (f : Frame) × IsAlone t f
       by_main [] t some e = absurd (omega arith)
       by_main (main ∷ others) t some e = take_leaves main others t e
 
-  pub start_traps : (t : State) (cause : Cause) → t ≡ s → step program layout (Take engine) s ≡ Trap cause → IsRun program t (run_end.Trapped cause 1)
+  pub start_traps : (t : State) (cause : Cause) → t ≡ s → step program layout (Take engine) s ≡ Trap cause → IsScheduled program t (run_end.Trapped cause 1)
   start_traps t cause same e = record {
-    history = [];
+    run = record {
+      history = [];
+      few = omega arith;
+      reaches = no_event program (opening program []) ∙ ap (λ (u : State). Went u) (sym (same ∙ opened));
+      ends = (refl, omega arith, Take engine, ap (step program plain_setup.layout (Take engine)) (same ∙ opened) ∙ sym as_opened ∙ e);
+    };
     due = tt;
-    reaches = no_event program (opening program []) ∙ ap (λ (u : State). Went u) (sym (same ∙ opened));
-    ends = (refl, Take engine, subst (λ (u : State). IsDue program u (Take engine)) (sym (same ∙ opened)) (take_due program), ap (step program run_layout (Take engine)) (same ∙ opened) ∙ sym as_opened ∙ e);
   }
 
 none_is_some : (end : Ending) → None ≡ Some end → ⊥
@@ -86,7 +90,7 @@ none_is_some end h = cc
 
 -- ---- main goes on
 
-module _ (program : List Procedure) (layout : ActorCounts) (made : ℕ) (s : State) (f : Frame) (event : Event) (one : layout ≡ run_layout) (d : IsDriven program made s) (here : fin.get s.frames engine ≡ Some f) (next : IsNext program f event) where
+module _ (program : List Procedure) (layout : ActorCounts) (made : ℕ) (s : State) (f : Frame) (event : Event) (one : layout ≡ plain_setup.layout) (room : made < 10000) (d : IsDriven program made s) (here : fin.get s.frames engine ≡ Some f) (next : IsNext program f event) where
   alone_with : IsAlone s f
   alone_with = record { no_task = d.alone.no_task; one_frame = d.alone.one_frame; frame = here }
 
@@ -96,14 +100,14 @@ module _ (program : List Procedure) (layout : ActorCounts) (made : ℕ) (s : Sta
   due_so_far : AreDue program (opening program []) (d.history ++ event ∷ [])
   due_so_far = due_more program d.history event (opening program []) s d.due d.reaches due_now
 
-  as_laid_out : step program layout event s ≡ step program run_layout event s
+  as_laid_out : step program layout event s ≡ step program plain_setup.layout event s
   as_laid_out = ap (λ (l : ActorCounts). step program l event s) one
 
   pub go_enabled : IsEnabled (step program layout event s)
   go_enabled = subst IsEnabled (sym as_laid_out) (next_enabled program s f event alone_with next)
 
-  longer : (t : State) → step program layout event s ≡ Went t → run program run_layout (d.history ++ event ∷ []) (opening program []) ≡ Went t
-  longer t e = run_more program run_layout d.history event (opening program []) s t d.reaches (sym as_laid_out ∙ e)
+  longer : (t : State) → step program layout event s ≡ Went t → run program plain_setup.layout (d.history ++ event ∷ []) (opening program []) ≡ Went t
+  longer t e = run_more program plain_setup.layout d.history event (opening program []) s t d.reaches (sym as_laid_out ∙ e)
 
   pub go_on : (t : State) → step program layout event s ≡ Went t → ending t ≡ None → size_of event ≤ most_steps → AreBelow (64 + made * most_steps + size_of event) t → IsDriven program (made + 1) t
   go_on t e none few below = by_end (next_leaves program s t f event alone_with next (sym as_laid_out ∙ e))
@@ -120,22 +124,31 @@ module _ (program : List Procedure) (layout : ActorCounts) (made : ℕ) (s : Sta
       }
       by_end (inr done) = absurd (none_is_some Quiet (sym none ∙ done_is_quiet t done))
 
-  pub go_end : (t : State) (end : Ending) → step program layout event s ≡ Went t → ending t ≡ Some end → IsRun program t run_end.Quiet
+  pub go_end : (t : State) (end : Ending) → step program layout event s ≡ Went t → ending t ≡ Some end → IsScheduled program t run_end.Quiet
   go_end t end e some = by_end (next_leaves program s t f event alone_with next (sym as_laid_out ∙ e))
     where
-      by_end : ((g : Frame) × IsAlone t g) ⊎ IsDone t → IsRun program t run_end.Quiet
+      by_end : ((g : Frame) × IsAlone t g) ⊎ IsDone t → IsScheduled program t run_end.Quiet
       by_end (inl a) = absurd (none_is_some end (sym (alone_goes_on t a.0 a.1) ∙ some))
-      by_end (inr done) = record { history = d.history ++ event ∷ []; due = due_so_far; reaches = longer t e; ends = done_is_quiet t done }
+      by_end (inr done) = record {
+        run = record { history = d.history ++ event ∷ []; few = omega (arith, length-append d.history (event ∷ []), d.long, room); reaches = longer t e; ends = done_is_quiet t done };
+        due = due_so_far;
+      }
 
-  pub go_trap : (t : State) (cause : Cause) → t ≡ s → step program layout event s ≡ Trap cause → IsRun program t (run_end.Trapped cause (made + 1))
+  pub go_trap : (t : State) (cause : Cause) → t ≡ s → step program layout event s ≡ Trap cause → IsScheduled program t (run_end.Trapped cause (made + 1))
   go_trap t cause same e = record {
-    history = d.history;
+    run = record {
+      history = d.history;
+      few = omega (arith, d.long, room);
+      reaches = d.reaches ∙ ap (λ (u : State). Went u) (sym same);
+      ends = (omega (arith, d.long), omega (arith, room), event, ap (step program plain_setup.layout event) same ∙ sym as_laid_out ∙ e);
+    };
     due = d.due;
-    reaches = d.reaches ∙ ap (λ (u : State). Went u) (sym same);
-    ends = (omega (arith, d.long), event, subst (λ (u : State). IsDue program u event) (sym same) due_now, ap (step program run_layout event) same ∙ sym as_laid_out ∙ e);
   }
 
 -- ---- as many events as a run may have
 
-pub at_limit : (program : List Procedure) (s : State) → IsDriven program 10000 s → IsRun program s run_end.Limit
-at_limit program s d = record { history = d.history; due = d.due; reaches = d.reaches; ends = (d.long, alone_goes_on s d.frame d.alone) }
+pub at_limit : (program : List Procedure) (s : State) → IsDriven program 10000 s → IsScheduled program s run_end.Limit
+at_limit program s d = record {
+  run = record { history = d.history; few = omega (arith, d.long); reaches = d.reaches; ends = (d.long, alone_goes_on s d.frame d.alone) };
+  due = d.due;
+}

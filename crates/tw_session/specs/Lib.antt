@@ -1,3 +1,5 @@
+-- What a session writes, and how it ends: to be believed for `session` and `reply_to` are all files but those of driver.
+-- Begin with Session; a run is Run, a check Check, texts are Lines and Report, words CommandLine, statuses Status.
 pub mod CommandLine
 pub mod Order
 pub mod Input
@@ -5,7 +7,6 @@ pub mod Status
 pub mod Lines
 pub mod Report
 pub mod Check
-pub mod Next
 pub mod Run
-pub mod Driving
 pub mod Session
+pub mod driver

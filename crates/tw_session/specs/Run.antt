@@ -1,7 +1,8 @@
--- The run of a program: its events, and how it ends.
-use Rattle.std.specs.Prelude.{◌≡◌, ℕ, suc, List, [], ◌∷◌, length, Some, None}
+-- The run of a program: some history of enabled events from the opening, and how it ends.
+use Rattle.std.specs.Prelude.{◌≡◌, ◌≤◌, ℕ, suc, List, [], length, Some, None}
 use Rattle.tw_types.specs.declared.ending.Ending.TheVariants.{Quiet}
 use Rattle.tw_types.specs.declared.event.Event.{Event}
+use Rattle.tw_types.specs.declared.input.Input.{Input}
 use Rattle.tw_types.specs.Layout.{ActorCounts}
 use Rattle.tw_types.specs.Outcome.{Went, Trap}
 use Rattle.tw_code.specs.declared.procedure.Procedure.{Procedure}
@@ -9,32 +10,30 @@ use Rattle.tw_code.specs.machine.State.{State}
 use Rattle.tw_code.specs.machine.Machine.{step, run}
 use Rattle.tw_code.specs.machine.Opening.{opening}
 use Rattle.tw_code.specs.machine.Ending.{ending}
-use Rattle.tw_session.specs.Next.{IsDue}
 use Rattle.tw_session.specs.declared.run.RunEnd.{RunEnd}
 use Rattle.tw_session.specs.declared.run.RunEnd.TheVariants as run_end
 
--- one actor of each kind
-abbrev pub run_layout : ActorCounts
-run_layout = record { engines = 1; servers = 1; workers = 1 }
+-- with what a program is run: the actors, main's inputs, and the most events
+pub record Setup : Type 0 where
+  pub layout : ActorCounts
+  pub inputs : List Input
+  pub limit : ℕ
 
--- the most events of a run
-abbrev pub event_limit : ℕ
-event_limit = 10000
+-- `run` without options and input words: one actor of each kind, 10,000 events
+abbrev pub plain_setup : Setup
+plain_setup = record { layout = record { engines = 1; servers = 1; workers = 1 }; inputs = []; limit = 10000 }
 
--- each event of the history is the one that is due then
-abbrev pub AreDue : List Procedure → State → List Event → Type 0
-AreDue program s [] = Unit {0}
-AreDue program s (event ∷ later) = IsDue program s event × ((t : State) → step program run_layout event s ≡ Went t → AreDue program t later)
+-- what the end of a run says of its history and the state that this leaves: it is quiet; or it has all its events and
+-- isn't; or its next event traps
+abbrev pub EndsSo : List Procedure → Setup → List Event → State → RunEnd → Type 0
+EndsSo program setup history s run_end.Quiet = ending s ≡ Some Quiet
+EndsSo program setup history s run_end.Limit = (length history ≡ setup.limit) × (ending s ≡ None)
+EndsSo program setup history s (run_end.Trapped cause number) =
+    (number ≡ suc (length history)) × (number ≤ setup.limit) × (event : Event) × (step program setup.layout event s ≡ Trap cause)
 
--- what the end of a run says of its history and the state that this leaves
-abbrev pub EndsSo : List Procedure → List Event → State → RunEnd → Type 0
-EndsSo program history s run_end.Quiet = ending s ≡ Some Quiet
-EndsSo program history s run_end.Limit = (length history ≡ event_limit) × (ending s ≡ None)
-EndsSo program history s (run_end.Trapped cause number) = (number ≡ suc (length history)) × (event : Event) × IsDue program s event × (step program run_layout event s ≡ Trap cause)
-
--- the events that are due from the opening on lead to this state, and the run ends so
-pub record IsRun (program : List Procedure) (s : State) (end : RunEnd) : Type 0 where
+-- a history of enabled events, none of which traps, leads from the opening to this state, and the run ends so
+pub record IsRun (program : List Procedure) (setup : Setup) (s : State) (end : RunEnd) : Type 0 where
   pub history : List Event
-  pub due : AreDue program (opening program []) history
-  pub reaches : run program run_layout history (opening program []) ≡ Went s
-  pub ends : EndsSo program history s end
+  pub few : length history ≤ setup.limit
+  pub reaches : run program setup.layout history (opening program setup.inputs) ≡ Went s
+  pub ends : EndsSo program setup history s end

@@ -1,5 +1,5 @@
 -- What a session writes and how it ends, by the bytes that it reads.
-use Rattle.std.specs.Prelude.{◌≡◌, ◌⊎◌, ℕ, List, length, codes, Result, Ok, Err, nat_lt, Bool, MatchBool, not, Option}
+use Rattle.std.specs.Prelude.{◌≡◌, ◌⊎◌, ℕ, List, length, codes, Result, Ok, Err, nat_lt, Bool, MatchBool, not, Option, ⊤}
 use Rattle.std.specs.List.{list_all}
 use Rattle.hex.specs.Hex.{decode_of}
 use Rattle.hex.specs.declared.FromHexError.{FromHexError}
@@ -18,15 +18,15 @@ use Rattle.tw_session.specs.declared.command.Order.TheVariants.{Check, Run}
 use Rattle.tw_session.specs.declared.status.Close.{Close}
 use Rattle.tw_session.specs.declared.status.Close.TheVariants.{Success, Refused, Limit, Trapped}
 use Rattle.tw_session.specs.declared.status.Status.{Status}
-use Rattle.tw_session.specs.declared.status.Status.TheVariants.{Ended}
-use Rattle.std.specs.Io.KnownBytes.{Appends}
+use Rattle.tw_session.specs.declared.status.Status.TheVariants.{Ended, NoMemory, ReadFailed, WriteFailed}
+use Rattle.std.specs.Io.KnownBytes.{Appends, Keeps}
 use Rattle.tw_session.specs.declared.run.RunEnd.{RunEnd}
 use Rattle.tw_session.specs.declared.run.RunEnd.TheVariants as run_end
 use Rattle.tw_session.specs.Input.{most_bytes, digits_in}
 use Rattle.tw_session.specs.Lines.{fault_line, verify_line, opening_line, trap_line}
 use Rattle.tw_session.specs.Report.{report}
 use Rattle.tw_session.specs.Check.{IsCheckText}
-use Rattle.tw_session.specs.Run.{IsRun}
+use Rattle.tw_session.specs.Run.{IsRun, plain_setup}
 
 -- the text that is written, and how the session ends
 pub record Reply : Type 0 where
@@ -43,9 +43,9 @@ run_reply s run_end.Quiet = reply (report s (codes "quiet\n")) Success
 run_reply s run_end.Limit = reply (report s (codes "limit\n")) Limit
 run_reply s (run_end.Trapped cause event) = reply (trap_line (cause_number cause) event) Trapped
 
--- the reply is that of the program's run
+-- the reply is that of a run of the program
 abbrev pub RepliesByRun : List Procedure → Reply → Type 0
-RepliesByRun program r = (s : State) × (end : RunEnd) × IsRun program s end × (r ≡ run_reply s end)
+RepliesByRun program r = (s : State) × (end : RunEnd) × IsRun program plain_setup s end × (r ≡ run_reply s end)
 
 -- ---- a program
 
@@ -86,6 +86,10 @@ RepliesByText order (Err e) r = r ≡ reply (codes "refused H01\n") Refused
 abbrev pub MayReply : Order → List ℕ → Reply → Type 0
 MayReply order input r = MatchBool (nat_lt most_bytes (length input)) (r ≡ reply (codes "refused H02\n") Refused) (RepliesByText order (decode_of (digits_in input)) r)
 
--- some such reply is written, and the status is its
-abbrev pub IsReplied : Order → List ℕ → Status → Option (List ℕ) → Option (List ℕ) → Type 0
-IsReplied order input status old new = (r : Reply) × MayReply order input r × (status ≡ Ended r.close) × Appends old new r.text
+-- What may come of an order, the bytes that the reader held, a status, and what the writer held before and after: a reply
+-- is written, or want of memory; after a failed read nothing is; after a failed write nothing is said.
+abbrev pub ComesOf : Order → List ℕ → Status → Option (List ℕ) → Option (List ℕ) → Type 0
+ComesOf order input (Ended close) old new = (text : List ℕ) × MayReply order input (reply text close) × Appends old new text
+ComesOf order input NoMemory old new = Appends old new (codes "memory\n")
+ComesOf order input ReadFailed old new = Keeps old new
+ComesOf order input WriteFailed old new = ⊤

@@ -1,5 +1,5 @@
 -- What a session's status says.
-use Rattle.std.specs.Prelude.{◌≡◌, ◌≢◌, ◌⊎◌, ℕ, List, Option, codes}
+use Rattle.std.specs.Prelude.{◌≢◌, ℕ, List, Option, ⊤, codes}
 use Rattle.std.specs.Io.KnownBytes.{Appends}
 use Rattle.clap.specs.Words.{IsAmong, Kinds}
 use Rattle.clap.specs.declared.error.ErrorKind.{ErrorKind}
@@ -8,16 +8,17 @@ use Rattle.tw_session.specs.declared.status.Status.{Status}
 use Rattle.tw_session.specs.declared.status.Status.TheVariants.{Ended, NoMemory, ReadFailed, WriteFailed}
 use Rattle.tw_session.specs.declared.status.Close.TheVariants.{Success, Refused, CommandLine, Limit, Trapped}
 
--- memory sufficed, and no read or write failed
-abbrev pub IsAnswered : Status → Type 0
-IsAnswered status = (status ≢ NoMemory) × (status ≢ ReadFailed) × (status ≢ WriteFailed)
-
--- words that aren't taken are refused by one line, or get a help text of which nothing else is said
-abbrev pub AnswersFaults : Kinds → Status → Option (List ℕ) → Option (List ℕ) → Type 0
-AnswersFaults kinds status old new =
-    ((status ≡ Ended Success) × IsAmong DisplayHelp kinds)
-    ⊎ ((status ≡ Ended CommandLine) × Appends old new (codes "command line refused\n")
-    × ((kind : ErrorKind) × IsAmong kind kinds × (kind ≢ DisplayHelp)))
+-- What may come of words that aren't taken, for these reasons: a help text, of which nothing else is said; one line; or
+-- want of memory, or a failed write. Nothing is read.
+abbrev pub ComesOfFaults : Kinds → Status → Option (List ℕ) → Option (List ℕ) → Type 0
+ComesOfFaults kinds (Ended Success) old new = IsAmong DisplayHelp kinds
+ComesOfFaults kinds (Ended CommandLine) old new = Appends old new (codes "command line refused\n") × ((kind : ErrorKind) × IsAmong kind kinds × (kind ≢ DisplayHelp))
+ComesOfFaults kinds (Ended Refused) old new = ⊥
+ComesOfFaults kinds (Ended Limit) old new = ⊥
+ComesOfFaults kinds (Ended Trapped) old new = ⊥
+ComesOfFaults kinds NoMemory old new = Appends old new (codes "memory\n")
+ComesOfFaults kinds ReadFailed old new = ⊥
+ComesOfFaults kinds WriteFailed old new = ⊤
 
 -- the exit status of the process
 abbrev pub code_of : Status → ℕ

@@ -5,21 +5,19 @@ ghost use Rattle.std.specs.Io.KnownBytes.{Keeps};
 ghost use Rattle.tw_session.specs.Session.{MayReply, RepliesByAccepted, RepliesByBytes, RepliesByOpening, RepliesByProgram, RepliesByRun, RepliesByText, reply, run_reply};
 ghost use Rattle.tw_session.specs.Input.{digits_in, most_bytes};
 ghost use Rattle.tw_session.specs.Run.{IsRun};
-ghost use Rattle.tw_session.specs.declared.reply.NoReply.TheVariants.{NoMemory};
 ghost use Rattle.tw_code.specs.format.Reading.{program_of};
 ghost use Rattle.tw_code.specs.accepting.WellTyped.{IsAccepted};
 ghost use Rattle.hex.specs.Hex.{decode_of};
 
 use crate::check::check_text;
 use crate::command::Order;
-use crate::input::{NoInput, digits, read_input};
+use crate::input::{MOST_BYTES, digits};
 use crate::lines::{put, put_fault_line, put_opening_line, put_trap_line, put_verify_line};
 use crate::report::put_report;
 use crate::run::{RunEnd, run};
 use crate::status::Close;
 use hex::FromHexError;
 use std::alloc::{AllocError, Global};
-use std::io::Read;
 use tw_code::{FaultNo, Program, decode};
 use tw_machine::{OpenRefusal, Plain, State};
 use tw_types::Layout;
@@ -30,21 +28,6 @@ use tw_verify::{Verified, VerifyRefusal, verify};
 pub struct Reply {
     pub text: Vec<u8>,
     pub close: Close,
-}
-
-/// Why there is no reply.
-#[derive(Clone, Copy)]
-pub enum NoReply {
-    ReadFailed,
-    NoMemory,
-}
-
-impl From<AllocError> for NoReply {
-    ghost from_gives = { λ _ e. e ≡ NoMemory };
-
-    fn from(_error: AllocError) -> NoReply {
-        NoReply::NoMemory
-    }
 }
 
 fn fixed_reply(alloc: Global, line: &str, close: Close) -> Result<Reply, AllocError>
@@ -175,14 +158,12 @@ fn text_reply(alloc: Global, order: Order, input: Vec<u8>) -> Result<Reply, Allo
     }
 }
 
-/// Reads what the order needs, and makes the whole text of the reply.
-pub fn make_reply<R: Read>(alloc: Global, order: Order, reader: &mut R) -> Result<Reply, NoReply>
-    ensures { IfOk result (λ r. IfSome (R.remaining reader.old) (λ input. MayReply order input (reply r.text.items r.close))) }
+/// The whole reply to an order and the bytes that were read; refused where memory is.
+pub fn reply_to(alloc: Global, order: Order, input: Vec<u8>) -> Result<Reply, AllocError>
+    ensures { IfOk result (λ r. MayReply order input.items (reply r.text.items r.close)) }
 {
-    match read_input(alloc, reader) {
-        Ok(input) => Ok(text_reply(alloc, order, input)?),
-        Err(NoInput::TooLong) => Ok(fixed_reply(alloc, "refused H02\n", Close::Refused)?),
-        Err(NoInput::Failed) => Err(NoReply::ReadFailed),
-        Err(NoInput::NoMemory) => Err(NoReply::NoMemory),
+    if input.len() > MOST_BYTES {
+        return fixed_reply(alloc, "refused H02\n", Close::Refused);
     }
+    text_reply(alloc, order, input)
 }

@@ -4,9 +4,10 @@ ghost use Rattle.std.specs.Prelude.{◌≡◌, ◌<◌, ◌≤◌, ◌+◌, ℕ,
 ghost use Rattle.tw_code.specs.machine.Bounds.{AreBelow, size_of};
 ghost use Rattle.tw_code.specs.machine.Opening.{opening};
 ghost use Rattle.tw_code.specs.format.Program.{IsProgram};
-ghost use Rattle.tw_session.specs.Driving.{IsAdvanced, IsDriven};
-ghost use Rattle.tw_session.specs.Next.{IsNext, IsSingle, most_steps};
-ghost use Rattle.tw_session.specs.Run.{IsRun, run_layout};
+ghost use Rattle.tw_session.specs.driver.Driving.{IsAdvanced, IsDriven};
+ghost use Rattle.tw_session.specs.driver.Next.{IsNext, IsSingle, most_steps};
+ghost use Rattle.tw_session.specs.driver.Schedule.{IsScheduled};
+ghost use Rattle.tw_session.specs.Run.{plain_setup};
 
 use std::alloc::{AllocError, Global};
 use tw_code::{Flow, Procedure};
@@ -69,7 +70,7 @@ fn next_event(alloc: Global, program: &[Procedure], frame: &Frame) -> Result<Eve
 /// Has the engine take main.
 fn start(alloc: Global, plain: &mut Plain) -> Result<Option<RunEnd>, AllocError>
     requires opened { plain.old.state ≡ opening plain.old.program [] }
-    requires layout { plain.old.layout ≡ run_layout }
+    requires layout { plain.old.layout ≡ plain_setup.layout }
     requires below { AreBelow 64 plain.old.state }
     requires main { 0 < length plain.old.program }
     ensures advanced { IfOk result (IsAdvanced plain.old.program 1 plain.new.state) }
@@ -87,7 +88,7 @@ fn start(alloc: Global, plain: &mut Plain) -> Result<Option<RunEnd>, AllocError>
 /// Makes the event that comes next for main, and answers how the run has ended, if it has.
 fn advance(alloc: Global, plain: &mut Plain, made: usize) -> Result<Option<RunEnd>, AllocError>
     requires driven { IsDriven plain.old.program made plain.old.state }
-    requires layout { plain.old.layout ≡ run_layout }
+    requires layout { plain.old.layout ≡ plain_setup.layout }
     requires few { made < 10000 }
     ensures advanced { IfOk result (IsAdvanced plain.old.program (made + 1) plain.new.state) }
     ensures program { plain.new.program ≡ plain.old.program }
@@ -112,10 +113,10 @@ fn advance(alloc: Global, plain: &mut Plain, made: usize) -> Result<Option<RunEn
 /// Runs main until nothing is left to do, an event traps, or as many events are made as a run may have.
 pub fn run(alloc: Global, plain: &mut Plain) -> Result<RunEnd, AllocError>
     requires opened { plain.old.state ≡ opening plain.old.program [] }
-    requires layout { plain.old.layout ≡ run_layout }
+    requires layout { plain.old.layout ≡ plain_setup.layout }
     requires below { AreBelow 64 plain.old.state }
     requires main { 0 < length plain.old.program }
-    ensures { IfOk result (IsRun plain.old.program plain.new.state) }
+    ensures { IfOk result (IsScheduled plain.old.program plain.new.state) }
 {
     if let Some(end) = start(alloc, plain)? {
         return Ok(end);

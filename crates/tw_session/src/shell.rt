@@ -3,15 +3,15 @@
 ghost use Rattle.std.specs.Prelude.{◌≡◌, ◌≢◌, [], map, codes, string_bytes, IfSome};
 ghost use Rattle.std.specs.Io.KnownBytes.{Appends, Keeps};
 ghost use Rattle.tw_session.specs.CommandLine.{asked_by_words, word_faults};
-ghost use Rattle.tw_session.specs.Session.{IsReplied};
-ghost use Rattle.tw_session.specs.Status.{AnswersFaults, IsAnswered};
+ghost use Rattle.tw_session.specs.Session.{ComesOf};
+ghost use Rattle.tw_session.specs.Status.{ComesOfFaults};
 
-use crate::command::{NoOrder, read_order};
-use crate::reply::{NoReply, Reply, make_reply};
+use crate::command::{NoOrder, Order, read_order};
+use crate::input::{NoInput, read_input};
+use crate::reply::reply_to;
 use crate::status::{Close, Status};
+use std::alloc::Global;
 use std::io::{ErrorKind, Read, Write};
-use std::sync::Wait;
-use std::thread::Threads;
 
 /// Writes the whole text, once.
 fn write_text<W: Write>(writer: &mut W, text: &[u8], status: Status) -> Status
@@ -58,47 +58,62 @@ pub fn without_words<W: Write>(kind: ErrorKind, writer: &mut W) -> Status
     write_refused(writer)
 }
 
+/// Reads, acts and writes, where the words are taken.
+fn obey<R: Read, W: Write>(alloc: Global, order: Order, reader: &mut R, writer: &mut W) -> Status
+    ensures reply { IfSome (R.remaining reader.old) (λ input.
+        ComesOf order input result (W.contents writer.old) (W.contents writer.new)) }
+    ensures memory { result ≡ Status.NoMemory
+        → Appends (W.contents writer.old) (W.contents writer.new) (codes "memory\n") }
+    ensures unwritten { result ≡ Status.ReadFailed → Keeps (W.contents writer.old) (W.contents writer.new) }
+{
+    let input = match read_input(alloc, reader) {
+        Ok(input) => input,
+        Err(NoInput::Failed) => return Status::ReadFailed,
+        Err(NoInput::NoMemory) => return write_memory(writer),
+    };
+    match reply_to(alloc, order, input) {
+        Ok(reply) => write_text(writer, reply.text.as_slice(), Status::Ended(reply.close)),
+        Err(_) => write_memory(writer),
+    }
+}
+
 /// Takes the words, reads, acts and writes. `words` has the program's words without its own name.
 ///
 /// The whole text is made before the first write, and nothing is written after a failed read. What went out before a
-/// failed write, and what a help text says, no clause tells.
+/// failed write, and what a help text says, no clause tells; nor that memory, a read or a write failed where that is
+/// answered.
 pub fn session<H, R, W>(rt: &H, words: &[String], reader: &mut R, writer: &mut W) -> Status
 where
-    H: AllocGlobal + Threads + Wait + Sync,
+    H: AllocGlobal,
     R: Read,
     W: Write,
-    // Words that are taken, and the bytes that the reader holds, are answered by a reply that they may have.
-    ensures taken { word_faults (map string_bytes words.now) ≡ [] → IsAnswered result
-        → IfSome (R.remaining reader.old) (λ input.
-        IsReplied (asked_by_words (map string_bytes words.now)) input result
+    // Words that are taken, and the bytes that the reader holds, have a reply, and that is written; or memory, a read or
+    // a write fails.
+    ensures taken { word_faults (map string_bytes words.now) ≡ [] → IfSome (R.remaining reader.old) (λ input.
+        ComesOf (asked_by_words (map string_bytes words.now)) input result
         (W.contents writer.old) (W.contents writer.new)) }
-    // Other words are refused by one line, or get a help text.
-    ensures refused { (word_faults (map string_bytes words.now) ≢ []) → IsAnswered result
-        → AnswersFaults (word_faults (map string_bytes words.now)) result
+    // Other words are refused by one line, or get a help text; no read fails then.
+    ensures refused { (word_faults (map string_bytes words.now) ≢ [])
+        → ComesOfFaults (word_faults (map string_bytes words.now)) result
         (W.contents writer.old) (W.contents writer.new) }
+    // They read nothing.
+    ensures unread { (word_faults (map string_bytes words.now) ≢ [])
+        → Keeps (R.remaining reader.old) (R.remaining reader.new) }
     // Where memory was refused, that alone is written.
     ensures memory { result ≡ Status.NoMemory
         → Appends (W.contents writer.old) (W.contents writer.new) (codes "memory\n") }
-    // Words that aren't taken read nothing.
-    ensures unread { (word_faults (map string_bytes words.now) ≢ [])
-        → Keeps (R.remaining reader.old) (R.remaining reader.new) }
     // After a failed read nothing is written.
     ensures unwritten { result ≡ Status.ReadFailed → Keeps (W.contents writer.old) (W.contents writer.new) }
 {
     let alloc = rt.alloc();
-    let order = match read_order(alloc, words) {
-        Ok(order) => order,
-        Err(NoOrder::Help(text)) => return write_text(
+    match read_order(alloc, words) {
+        Ok(order) => obey(alloc, order, reader, writer),
+        Err(NoOrder::Help(text)) => write_text(
             writer,
             text.as_bytes(),
             Status::Ended(Close::Success),
         ),
-        Err(NoOrder::Refused) => return write_refused(writer),
-        Err(NoOrder::NoMemory) => return write_memory(writer),
-    };
-    match make_reply(alloc, order, reader) {
-        Ok(Reply { text, close }) => write_text(writer, text.as_slice(), Status::Ended(close)),
-        Err(NoReply::NoMemory) => write_memory(writer),
-        Err(NoReply::ReadFailed) => Status::ReadFailed,
+        Err(NoOrder::Refused) => write_refused(writer),
+        Err(NoOrder::NoMemory) => write_memory(writer),
     }
 }

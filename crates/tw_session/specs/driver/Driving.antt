@@ -9,8 +9,9 @@ use Rattle.tw_code.specs.machine.State.{State, Frame}
 use Rattle.tw_code.specs.machine.Machine.{run}
 use Rattle.tw_code.specs.machine.Opening.{opening}
 use Rattle.tw_session.specs.declared.run.RunEnd.{RunEnd}
-use Rattle.tw_session.specs.Next.{engine, most_steps}
-use Rattle.tw_session.specs.Run.{AreDue, IsRun, run_layout}
+use Rattle.tw_session.specs.Run.{plain_setup}
+use Rattle.tw_session.specs.driver.Next.{engine, most_steps}
+use Rattle.tw_session.specs.driver.Schedule.{AreDue, IsScheduled}
 
 -- no task waits, and the engine's is the only one that runs
 pub record IsAlone (s : State) (f : Frame) : Type 0 where
@@ -27,7 +28,7 @@ pub record IsDone (s : State) : Type 0 where
 pub record IsDriven (program : List Procedure) (made : ℕ) (s : State) : Type 0 where
   pub history : List Event
   pub due : AreDue program (opening program []) history
-  pub reaches : run program run_layout history (opening program []) ≡ Went s
+  pub reaches : run program plain_setup.layout history (opening program []) ≡ Went s
   pub long : length history ≡ made
   pub frame : Frame
   pub alone : IsAlone s frame
@@ -36,4 +37,4 @@ pub record IsDriven (program : List Procedure) (made : ℕ) (s : State) : Type 0
 -- what is known after an event: how the run has ended, or that it goes on
 abbrev pub IsAdvanced : List Procedure → ℕ → State → Option RunEnd → Type 0
 IsAdvanced program made s None = IsDriven program made s
-IsAdvanced program made s (Some end) = IsRun program s end
+IsAdvanced program made s (Some end) = IsScheduled program s end
