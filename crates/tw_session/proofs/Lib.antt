@@ -1,6 +1,7 @@
 pub mod Words
 pub mod Never
 pub mod Driving
+pub mod Silent
 pub mod Runs
 pub mod Stepping
 pub mod Reports

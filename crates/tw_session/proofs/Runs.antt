@@ -9,7 +9,7 @@ use Rattle.tw_code.specs.machine.Machine.{step, run}
 use Rattle.tw_session.specs.Run.{plain_setup}
 use Rattle.tw_session.specs.driver.Next.{IsDue}
 use Rattle.tw_session.specs.driver.Schedule.{AreDue}
-use Rattle.tw_session.proofs.Never.{went-bind}
+use Rattle.tw_types.proofs.Outcomes.{went_first}
 
 pub run_more : (program : List Procedure) (layout : ActorCounts) (history : List Event) (event : Event) (s t u : State)
     → run program layout history s ≡ Went t → step program layout event t ≡ Went u → run program layout (history ++ event ∷ []) s ≡ Went u
@@ -18,7 +18,7 @@ run_more program layout [] event s t u e h =
     let same : s ≡ t = cc in
     ap (λ (o : Outcome State). o >>= run program layout []) (ap (step program layout event) same ∙ h)
 run_more program layout (first ∷ history) event s t u e h =
-    let one = went-bind (step program layout first s) (run program layout history) t e in
+    let one = went_first (step program layout first s) (run program layout history) t e in
     ap (λ (o : Outcome State). o >>= run program layout (history ++ event ∷ [])) one.1 ∙ run_more program layout history event one.0 t u one.2 h
 
 pub due_more : (program : List Procedure) (history : List Event) (event : Event) (s t : State)

@@ -9,7 +9,7 @@ use Rattle.tw_types.specs.declared.event.Event.TheVariants.{Take}
 use Rattle.tw_types.specs.Layout.{ActorCounts}
 use Rattle.tw_types.specs.Outcome.{Outcome, Went, NotEnabled, Trap}
 use Rattle.tw_code.specs.declared.procedure.Procedure.{Procedure}
-use Rattle.tw_code.specs.machine.Bounds.{AreBelow, size_of}
+use Rattle.tw_code.specs.machine.Bounds.{AreBelow, size_of, opening_bound}
 use Rattle.tw_code.specs.machine.Ending.{ending}
 use Rattle.tw_code.specs.machine.State.{State, Frame}
 use Rattle.tw_code.specs.machine.Machine.{step, run}
@@ -21,23 +21,18 @@ use Rattle.tw_session.specs.driver.Driving.{IsAlone, IsDone, IsDriven}
 use Rattle.tw_session.specs.driver.Schedule.{AreDue, IsScheduled}
 use Rattle.tw_session.specs.driver.Next.{engine, most_steps, IsNext, IsDue, IsDueFor}
 use Rattle.tw_session.proofs.Never.{IsEnabled}
+use Rattle.tw_session.proofs.Silent.{none_noticed}
 use Rattle.tw_session.proofs.Driving.{take_due, take_enabled, take_leaves, next_enabled, next_leaves, alone_goes_on, done_is_quiet}
 use Rattle.tw_session.proofs.Runs.{run_more, due_more}
 
 pub below_larger : (a b : ℕ) (s : State) → a ≤ b → AreBelow a s → AreBelow b s
 below_larger a b s le h = record {
-  next_datum = omega (arith, h.next_datum);
-  next_task = omega (arith, h.next_task);
+  numbers = record { datum = omega (arith, h.numbers.datum); task = omega (arith, h.numbers.task) };
   reads = λ id x is. omega (arith, h.reads id x is);
   writes = λ id x is. omega (arith, h.writes id x is);
+  members = λ id x is. omega (arith, h.members id x is);
   spent = λ actor frame is. omega (arith, h.spent actor frame is);
 }
-
--- what is enabled doesn't come to nothing
-pub not_disabled : {A : Type 0} (o : Outcome A) → IsEnabled o → o ≡ NotEnabled → ⊥
-not_disabled (Went x) h e = cc
-not_disabled NotEnabled h e = h
-not_disabled (Trap cause) h e = cc
 
 no_event : (program : List Procedure) (s : State) → run program plain_setup.layout [] s ≡ Went s
 unfolding run
@@ -56,7 +51,7 @@ module _ (program : List Procedure) (layout : ActorCounts) (s : State) (one : la
       by_main [] some = absurd (omega arith)
       by_main (main ∷ others) some = take_enabled main others
 
-  pub start_goes : (t : State) → 0 < length program → step program layout (Take engine) s ≡ Went t → AreBelow (64 + 1) t → IsDriven program 1 t
+  pub start_goes : (t : State) → 0 < length program → step program layout (Take engine) s ≡ Went t → AreBelow (opening_bound + 1) t → IsDriven program 1 t
   start_goes t some e below =
       let went : step program plain_setup.layout (Take engine) (opening program []) ≡ Went t = sym as_opened ∙ e in
       let alone = by_main program t some went in
@@ -67,7 +62,7 @@ module _ (program : List Procedure) (layout : ActorCounts) (s : State) (one : la
         long = refl;
         frame = alone.0;
         alone = alone.1;
-        below = below_larger (64 + 1) (64 + 1 * most_steps) t (omega arith) below;
+        below = below_larger (opening_bound + 1) (opening_bound + 1 * most_steps) t (omega arith) below;
       }
     where
       by_main : (program : List Procedure) (t : State) → 0 < length program → step program plain_setup.layout (Take engine) (opening program []) ≡ Went t → (f : Frame) × IsAlone t f
@@ -109,7 +104,7 @@ module _ (program : List Procedure) (layout : ActorCounts) (made : ℕ) (s : Sta
   longer : (t : State) → step program layout event s ≡ Went t → run program plain_setup.layout (d.history ++ event ∷ []) (opening program []) ≡ Went t
   longer t e = run_more program plain_setup.layout d.history event (opening program []) s t d.reaches (sym as_laid_out ∙ e)
 
-  pub go_on : (t : State) → step program layout event s ≡ Went t → ending t ≡ None → size_of event ≤ most_steps → AreBelow (64 + made * most_steps + size_of event) t → IsDriven program (made + 1) t
+  pub go_on : (t : State) → step program layout event s ≡ Went t → ending t ≡ None → size_of event ≤ most_steps → AreBelow (opening_bound + made * most_steps + size_of event) t → IsDriven program (made + 1) t
   go_on t e none few below = by_end (next_leaves program s t f event alone_with next (sym as_laid_out ∙ e))
     where
       by_end : ((g : Frame) × IsAlone t g) ⊎ IsDone t → IsDriven program (made + 1) t
@@ -120,9 +115,9 @@ module _ (program : List Procedure) (layout : ActorCounts) (made : ℕ) (s : Sta
         long = omega (arith, length-append d.history (event ∷ []), d.long);
         frame = a.0;
         alone = a.1;
-        below = below_larger (64 + made * most_steps + size_of event) (64 + (made + 1) * most_steps) t (omega arith) below;
+        below = below_larger (opening_bound + made * most_steps + size_of event) (opening_bound + (made + 1) * most_steps) t (omega arith) below;
       }
-      by_end (inr done) = absurd (none_is_some Quiet (sym none ∙ done_is_quiet t done))
+      by_end (inr done) = absurd (none_is_some Quiet (sym none ∙ done_is_quiet t done (none_noticed program plain_setup.layout (d.history ++ event ∷ []) t (longer t e))))
 
   pub go_end : (t : State) (end : Ending) → step program layout event s ≡ Went t → ending t ≡ Some end → IsScheduled program t run_end.Quiet
   go_end t end e some = by_end (next_leaves program s t f event alone_with next (sym as_laid_out ∙ e))
@@ -130,7 +125,7 @@ module _ (program : List Procedure) (layout : ActorCounts) (made : ℕ) (s : Sta
       by_end : ((g : Frame) × IsAlone t g) ⊎ IsDone t → IsScheduled program t run_end.Quiet
       by_end (inl a) = absurd (none_is_some end (sym (alone_goes_on t a.0 a.1) ∙ some))
       by_end (inr done) = record {
-        run = record { history = d.history ++ event ∷ []; few = omega (arith, length-append d.history (event ∷ []), d.long, room); reaches = longer t e; ends = done_is_quiet t done };
+        run = record { history = d.history ++ event ∷ []; few = omega (arith, length-append d.history (event ∷ []), d.long, room); reaches = longer t e; ends = done_is_quiet t done (none_noticed program plain_setup.layout (d.history ++ event ∷ []) t (longer t e)) };
         due = due_so_far;
       }
 

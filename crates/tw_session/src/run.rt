@@ -1,16 +1,16 @@
 //! The run of a program on the plain machine, in one thread: an engine runs main.
 
 ghost use Rattle.std.specs.Prelude.{◌≡◌, ◌<◌, ◌≤◌, ◌+◌, ℕ, List, [], length, IfOk, MatchOption};
-ghost use Rattle.tw_code.specs.machine.Bounds.{AreBelow, size_of};
+ghost use Rattle.tw_code.specs.machine.Bounds.{AreBelow, opening_bound, size_of};
 ghost use Rattle.tw_code.specs.machine.Opening.{opening};
 ghost use Rattle.tw_code.specs.format.Program.{IsProgram};
 ghost use Rattle.tw_session.specs.driver.Driving.{IsAdvanced, IsDriven};
-ghost use Rattle.tw_session.specs.driver.Next.{IsNext, IsSingle, most_steps};
+ghost use Rattle.tw_session.specs.driver.Next.{IsNext, instr_here, most_steps, single};
 ghost use Rattle.tw_session.specs.driver.Schedule.{IsScheduled};
 ghost use Rattle.tw_session.specs.Run.{plain_setup};
 
 use std::alloc::{AllocError, Global};
-use tw_code::{Flow, Procedure};
+use tw_code::{Instr, Procedure};
 use tw_machine::{Frame, Plain, Stepped};
 use tw_types::{Actor, Cause, Event};
 
@@ -36,22 +36,17 @@ const ENGINE: Actor = Actor::Engine(0);
 /// The event where no local instruction goes.
 fn single_event(program: &[Procedure], frame: &Frame) -> Event
     requires { IsProgram program.now }
-    ensures single { IsSingle program.now frame.now result }
+    ensures single { result ≡ single (instr_here program.now frame.now) }
     ensures size { size_of result ≡ 1 }
 {
     let Some(procedure) = program.get(usize::from(frame.procedure())) else {
         return Event::Call(ENGINE);
     };
-    let Some(instr) = procedure.code.as_slice().get(frame.place()) else {
-        return Event::Call(ENGINE);
-    };
-    if instr.is_local() {
-        return Event::Local(ENGINE, 1);
+    match procedure.code.as_slice().get(frame.place()) {
+        Some(Instr::Local(_)) => Event::Local(ENGINE, 1),
+        Some(Instr::Ret) => Event::End(ENGINE),
+        Some(Instr::Data(_)) | None => Event::Call(ENGINE),
     }
-    if instr.flow() == Flow::Stop {
-        return Event::End(ENGINE);
-    }
-    Event::Call(ENGINE)
 }
 
 /// The event that comes next for a frame of the engine.
@@ -71,7 +66,7 @@ fn next_event(alloc: Global, program: &[Procedure], frame: &Frame) -> Result<Eve
 fn start(alloc: Global, plain: &mut Plain) -> Result<Option<RunEnd>, AllocError>
     requires opened { plain.old.state ≡ opening plain.old.program [] }
     requires layout { plain.old.layout ≡ plain_setup.layout }
-    requires below { AreBelow 64 plain.old.state }
+    requires below { AreBelow opening_bound plain.old.state }
     requires main { 0 < length plain.old.program }
     ensures advanced { IfOk result (IsAdvanced plain.old.program 1 plain.new.state) }
     ensures program { plain.new.program ≡ plain.old.program }
@@ -114,7 +109,7 @@ fn advance(alloc: Global, plain: &mut Plain, made: usize) -> Result<Option<RunEn
 pub fn run(alloc: Global, plain: &mut Plain) -> Result<RunEnd, AllocError>
     requires opened { plain.old.state ≡ opening plain.old.program [] }
     requires layout { plain.old.layout ≡ plain_setup.layout }
-    requires below { AreBelow 64 plain.old.state }
+    requires below { AreBelow opening_bound plain.old.state }
     requires main { 0 < length plain.old.program }
     ensures { IfOk result (IsScheduled plain.old.program plain.new.state) }
 {

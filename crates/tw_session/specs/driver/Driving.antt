@@ -4,7 +4,7 @@ use Rattle.std.specs.FinMap as fin
 use Rattle.tw_types.specs.declared.event.Event.{Event}
 use Rattle.tw_types.specs.Outcome.{Went}
 use Rattle.tw_code.specs.declared.procedure.Procedure.{Procedure}
-use Rattle.tw_code.specs.machine.Bounds.{AreBelow}
+use Rattle.tw_code.specs.machine.Bounds.{AreBelow, opening_bound}
 use Rattle.tw_code.specs.machine.State.{State, Frame}
 use Rattle.tw_code.specs.machine.Machine.{run}
 use Rattle.tw_code.specs.machine.Opening.{opening}
@@ -32,7 +32,7 @@ pub record IsDriven (program : List Procedure) (made : ℕ) (s : State) : Type 0
   pub long : length history ≡ made
   pub frame : Frame
   pub alone : IsAlone s frame
-  pub below : AreBelow (64 + made * most_steps) s
+  pub below : AreBelow (opening_bound + made * most_steps) s
 
 -- what is known after an event: how the run has ended, or that it goes on
 abbrev pub IsAdvanced : List Procedure → ℕ → State → Option RunEnd → Type 0

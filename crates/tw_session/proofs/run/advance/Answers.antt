@@ -25,7 +25,7 @@ returns-in-None-clause-advanced c =
     let here : fin.get c.args.plain.now.state.frames engine ≡ Some c.in-Some.frame.now = ap (λ (s : State). fin.get s.frames engine) (sym c.state.ensures) ∙ sym c.in-Some.ensures in
     let next : IsNext c.args.plain.now.program c.in-Some.frame.now c.in_ok-event.event = subst (λ (p : List Procedure). IsNext p c.in-Some.frame.now c.in_ok-event.event) (c.procedures.ensures.is ∙ c.program.ensures) c.in_ok-event.ensures.next in
     go_on c.args.plain.now.program c.args.plain.now.layout c.args.made c.args.plain.now.state c.in-Some.frame.now c.in_ok-event.event c.requires.layout c.requires.few c.requires.driven here next
-    c.step.new.self.state c.in-Went.ensures.steps (sym c.ending.ensures ∙ c.in-None.is) c.in_ok-event.ensures.size (c.step.ensures.below (64 + c.args.made * most_steps) c.requires.driven.below)
+    c.step.new.self.state c.in-Went.ensures.steps (sym c.ending.ensures ∙ c.in-None.is) c.in_ok-event.ensures.size (c.step.ensures.below (opening_bound + c.args.made * most_steps) c.requires.driven.below)
 
 pub returns-in-Trap-clause-advanced : goal.returns-in-Trap-clause-advanced
 returns-in-Trap-clause-advanced c =

@@ -3,7 +3,7 @@ use Rattle.tw_session.proofs.Stepping.{below_larger, not_disabled, start_enabled
 use Rattle.tw_session.proofs.run.start.Goals as goal
 
 pub step-requires-clause-small : goal.step-requires-clause-small
-step-requires-clause-small c = below_larger 64 (2 ^ 63) c.args.plain.now.state (omega arith) c.requires.below
+step-requires-clause-small c = below_larger opening_bound (2 ^ 63) c.args.plain.now.state (omega arith) c.requires.below
 
 pub unreachable-requires : goal.unreachable-requires
 unreachable-requires c = not_disabled _ (start_enabled c.args.plain.now.program c.args.plain.now.layout c.args.plain.now.state c.requires.layout c.requires.opened c.requires.main) c.in-NotEnabled.ensures.steps.0
@@ -11,7 +11,7 @@ unreachable-requires c = not_disabled _ (start_enabled c.args.plain.now.program 
 pub returns-in-Went-clause-advanced : goal.returns-in-Went-clause-advanced
 returns-in-Went-clause-advanced c =
     start_goes c.args.plain.now.program c.args.plain.now.layout c.args.plain.now.state c.requires.layout c.requires.opened c.step.new.self.state c.requires.main
-    c.in-Went.ensures.steps (c.step.ensures.below 64 c.requires.below)
+    c.in-Went.ensures.steps (c.step.ensures.below opening_bound c.requires.below)
 
 pub returns-in-Trap-clause-advanced : goal.returns-in-Trap-clause-advanced
 returns-in-Trap-clause-advanced c =
