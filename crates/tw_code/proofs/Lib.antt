@@ -1,3 +1,4 @@
 pub mod Computing
+pub mod Growth
 pub mod Range
 pub mod Shown
