@@ -1,8 +1,9 @@
 -- Numbers and counts start small, and each event makes them larger by at most its size.
-use Rattle.std.proofs.Common.{◌≡◌, ◌<◌, ◌≤◌, ◌+◌, ◌*◌, ◌==◌, ℕ, zero, suc, ℤ, Bool, true, false, cond, not, ◌&&◌, List, [], ◌∷◌, length, map, fold, drop, slice_get, Option, Some, None, refl, sym, ap, subst, arith, is_none}
+use Rattle.std.proofs.Common.{◌≡◌, ◌<◌, ◌≤◌, ◌+◌, ◌*◌, ◌==◌, ℕ, zero, suc, ℤ, Bool, true, false, cond, if◌then◌else◌, not, ◌&&◌, List, [], ◌∷◌, length, map, fold, drop, slice_get, Option, Some, None, refl, sym, ap, subst, arith, is_none}
 use Rattle.std.specs.Prelude.{Ok}
 use Rattle.std.proofs.lemmas.Bool.{and_parts}
 use Rattle.std.proofs.lemmas.Bool.Decides.{nat_tests}
+use Rattle.std.proofs.lemmas.List.{length-map}
 use Rattle.std.specs.List.{list_all}
 use Rattle.std.specs.Cmp.{nat_cmp_total}
 use Rattle.std.specs.FinMap as fin
@@ -21,11 +22,13 @@ use Rattle.tw_types.specs.declared.param.Param.{Param}
 use Rattle.tw_types.specs.declared.value.Value.{Value}
 use Rattle.tw_types.specs.declared.value.Value.TheVariants as value
 use Rattle.tw_types.specs.Actor.{actor_cmp, is_in}
+use Rattle.tw_types.specs.DataType.{container_of, is_scalar, same_type, scalar_type}
 use Rattle.tw_types.specs.Layout.{ActorCounts}
 use Rattle.tw_types.specs.Mode.{is_write}
+use Rattle.tw_types.specs.Nesting.{NestedScalar}
 use Rattle.tw_types.specs.Outcome.{Went, outcome_of}
 use Rattle.tw_types.specs.Result.{must}
-use Rattle.tw_types.specs.Store.{Members, Datum, Data, Store, added, empty_store, is_unheld, new_datum}
+use Rattle.tw_types.specs.Store.{Unset, Contains, Datum, Data, Store, added, empty_store, is_unheld, new_datum}
 use Rattle.tw_types.specs.StoreCalls.{members_in, set_to, stored}
 use Rattle.tw_types.specs.StoreChecks.{may_store}
 use Rattle.tw_types.specs.Task.{Task, best}
@@ -42,7 +45,7 @@ use Rattle.tw_code.specs.format.Program.{IsProgram}
 use Rattle.tw_code.specs.machine.Arguments.{procedure_of}
 use Rattle.tw_code.specs.machine.Bounds.{AreBelow, AreNumbersBelow, OpeningIsSmall, StepGrows, opening_bound, size_of}
 use Rattle.tw_code.specs.machine.Data.{Context, data_instr, datum_at, datum_of, suits}
-use Rattle.tw_code.specs.machine.Inputs.{AreInputsOf, are_inputs_of, are_few, input_params, is_input_of}
+use Rattle.tw_code.specs.machine.Inputs.{AreInputsOf, are_inputs_of, are_few, input_params, is_input_of, is_short, rises}
 use Rattle.tw_code.specs.machine.Machine.{Standing, call_by, call_event, end_event, instr_at, is_ret, local_event, local_steps, standing_of, step, take_event}
 use Rattle.tw_code.specs.machine.Opening.{Opened, closed_scalar, main_params, numbered, opened, opening, with_container, with_given, with_input, with_output}
 use Rattle.tw_code.specs.machine.Position.{value_at}
@@ -209,3 +212,113 @@ step_grows program layout event = record {
   where
     grown : (s next : State) → step program layout event s ≡ Went next → Grown (size_of event) s next
     grown s next went = went_of (step program layout event s) (Grown (size_of event) s) next (event_grown program layout event s) went
+
+-- ---- the opening
+
+abbrev IsFew : Datum → Type 0
+IsFew x = (x.reads ≤ 1) × (x.writes ≤ 1) × (len (members_in x.content) ≤ 1000)
+
+-- a store where so many data at most have been made
+record IsFresh (made : ℕ) (s : Store) : Type 0 where
+  next : s.next ≤ made + 1
+  few : Each IsFew s.live
+
+fresh_wider : (made more : ℕ) (s : Store) → made ≤ more → IsFresh made s → IsFresh more s
+fresh_wider made more s h fresh = record { next = omega (arith, fresh.next); few = fresh.few }
+
+fresh_added : (made : ℕ) (s : Store) (x : Datum) → IsFew x → IsFresh made s → IsFresh (made + 1) (added s x)
+fresh_added made s x few fresh = record { next = omega (arith, fresh.next); few = each_insert nat_cmp_total IsFew s.live fresh.few s.next x few }
+
+scalar_few : (x : Value) → IsFew (closed_scalar x)
+scalar_few x = (omega arith, omega arith, omega (arith, len-empty int_cmp ℕ))
+
+fresh_scalars : (es : List (ℤ × Value)) (made : ℕ) (s : Store) → IsFresh made s → IsFresh (made + length es) (fold (λ (t : Store) (e : ℤ × Value). added t (closed_scalar e.1)) s es)
+fresh_scalars [] made s fresh = fresh_wider made (made + 0) s (omega arith) fresh
+fresh_scalars (e ∷ es) made s fresh = fresh_wider (made + 1 + length es) (made + length (e ∷ es)) _ (omega arith) (fresh_scalars es (made + 1) (added s (closed_scalar e.1)) (fresh_added made s (closed_scalar e.1) (scalar_few e.1) fresh))
+
+numbered_few : (es : List (ℤ × Value)) (id : ℕ) → len (numbered id es) ≤ length es
+numbered_few [] id = omega (arith, len-empty int_cmp ℕ)
+numbered_few (e ∷ es) id = let l = len-insert int_cmp_total (numbered (id + 1) es) e.0 id in omega (arith, l, either (contains_key (numbered (id + 1) es) e.0) (len (numbered (id + 1) es)), numbered_few es (id + 1))
+  where
+    either : (b : Bool) (n : ℕ) → cond b n (n + 1) ≤ n + 1
+    either true n = omega arith
+    either false n = omega arith
+
+fresh_container : (made : ℕ) (s : Store) (ty : Scalar) (es : List (ℤ × Value)) → length es ≤ 1000 → IsFresh made s → IsFresh (made + 1001) (with_container s ty es)
+fresh_container made s ty es short fresh =
+    fresh_wider (made + 1 + length es) (made + 1001) _ (omega arith) (fresh_scalars es (made + 1) _ (fresh_added made s _ (omega arith, omega arith, omega (arith, numbered_few es (s.next + 1))) fresh))
+
+few_members : {A : Type 0} (f : ℤ × A → ℤ × Value) (es : List (ℤ × A)) → are_few es ≡ true → length (map f es) ≤ 1000
+few_members f es few = grind (arith, nat_tests, few, length-map es f)
+
+fresh_input : (made : ℕ) (s : Store) (ty : NestedScalar) (i : Input) → is_input_of ty i ≡ true → IsFresh made s → IsFresh (made + 1001) (with_input s i)
+fresh_input made s ty (input.Int n) h fresh = fresh_wider (made + 1) (made + 1001) _ (omega arith) (fresh_added made s _ (scalar_few (value.Int n)) fresh)
+fresh_input made s ty (input.Text text) h fresh = fresh_wider (made + 1) (made + 1001) _ (omega arith) (fresh_added made s _ (scalar_few (value.Text text)) fresh)
+fresh_input made s ty (input.Ints es) h fresh =
+    let few = (and_parts (are_few es) (rises es) (and_parts (same_type ty (container_of (scalar_type scalar.Int))) (are_few es && rises es) h).1).0 in
+    fresh_container made s scalar.Int _ (few_members (λ e. (e.0, value.Int e.1)) es few) fresh
+fresh_input made s ty (input.Texts es) h fresh =
+    let few = (and_parts (are_few es) (rises es && list_all (λ (e : ℤ × List ℕ). is_short e.1) es) (and_parts (same_type ty (container_of (scalar_type scalar.Text))) (are_few es && (rises es && list_all (λ (e : ℤ × List ℕ). is_short e.1) es)) h).1).0 in
+    fresh_container made s scalar.Text _ (few_members (λ e. (e.0, value.Text e.1)) es few) fresh
+
+fresh_output : (made : ℕ) (o : Opened) (ty : NestedScalar) → IsFresh made o.store → IsFresh (made + 1001) (with_output o ty).store
+fresh_output made o ty fresh = fresh_wider (made + 1) (made + 1001) _ (omega arith) (fresh_added made o.store (new_datum ty) (omega arith, omega arith, no_members (is_scalar ty)) fresh)
+  where
+    no_members : (b : Bool) → len (members_in (if b then Unset else Contains fin.empty)) ≤ 1000
+    no_members true = omega (arith, len-empty int_cmp ℕ)
+    no_members false = omega (arith, len-empty int_cmp ℕ)
+
+-- so many data at most as the parameters make
+abbrev room_of : List Param → ℕ
+room_of [] = 0
+room_of (p ∷ params) = 1001 + room_of params
+
+-- what the parameters from here on make
+abbrev AreFresh : List Param → Type 0
+AreFresh params = (inputs : List Input) (made : ℕ) (o : Opened) → are_inputs_of (input_params params) inputs ≡ true → IsFresh made o.store → IsFresh (made + room_of params) (opened o params inputs).store
+
+module _ (p : Param) (params : List Param) (rest : AreFresh params) (made : ℕ) (o : Opened) (fresh : IsFresh made o.store) where
+  none_fit : (params : List Param) → are_inputs_of params [] ≡ true
+  none_fit [] = refl
+  none_fit (q ∷ params) = refl
+
+  more : (n : ℕ) (t : Store) → n ≤ made + 1001 → IsFresh (n + room_of params) t → IsFresh (made + room_of (p ∷ params)) t
+  more n t h fresh = fresh_wider (n + room_of params) (made + room_of (p ∷ params)) t (omega arith) fresh
+
+  given : (inputs : List Input) → are_inputs_of (p ∷ input_params params) inputs ≡ true → IsFresh (made + room_of (p ∷ params)) (opened (with_given o (slice_get inputs 0)) params (drop 1 inputs)).store
+  given [] fit = more made _ (omega arith) (rest [] made o (none_fit (input_params params)) fresh)
+  given (i ∷ inputs) fit =
+      let parts = and_parts (is_input_of p.ty i) (are_inputs_of (input_params params) inputs) fit in
+      more (made + 1001) _ (omega arith) (rest inputs (made + 1001) (with_given o (Some i)) parts.1 (fresh_input made o.store p.ty i parts.0 fresh))
+
+  by_mode : (inputs : List Input) (b : Bool) → are_inputs_of (cond (not b) (p ∷ input_params params) (input_params params)) inputs ≡ true
+      → IsFresh (made + room_of (p ∷ params)) (cond b (opened (with_output o p.ty) params inputs) (opened (with_given o (slice_get inputs 0)) params (drop 1 inputs))).store
+  by_mode inputs true fit = more (made + 1001) _ (omega arith) (rest inputs (made + 1001) (with_output o p.ty) fit (fresh_output made o p.ty fresh))
+  by_mode inputs false fit = given inputs fit
+
+fresh_opened : (params : List Param) → AreFresh params
+fresh_opened [] inputs made o fit fresh = fresh_wider made (made + 0) _ (omega arith) fresh
+fresh_opened (p ∷ params) inputs made o fit fresh = by_mode p params (fresh_opened params) made o fresh inputs (is_write p.mode) fit
+
+few_params : (program : List Procedure) → IsProgram program → length (main_params program) ≤ 8
+few_params [] h = omega arith
+few_params (main ∷ others) h = h.1.0.params.0.1
+
+small_room : (params : List Param) → room_of params ≡ 1001 * length params
+small_room [] = refl
+small_room (p ∷ params) = omega (arith, small_room params)
+
+pub opening_is_small : (program : List Procedure) (inputs : List Input) → OpeningIsSmall program inputs
+unfolding opening
+opening_is_small program inputs within fit =
+    let fresh = fresh_opened (main_params program) inputs 0 (record { store = empty_store; rights = []; outputs = [] }) fit.fit
+        (record { next = omega arith; few = each_empty nat_cmp IsFew }) in
+    let room = small_room (main_params program) in
+    let few = few_params program within in
+    record {
+      numbers = record { datum = omega (arith, fresh.next); task = omega arith };
+      reads = λ id x e. omega (arith, (fresh.few id x e).0);
+      writes = λ id x e. omega (arith, (fresh.few id x e).1);
+      members = λ id x e. omega (arith, (fresh.few id x e).2);
+      spent = each_empty actor_cmp (HasSpent opening_bound);
+    }
