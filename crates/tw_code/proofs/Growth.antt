@@ -1,5 +1,5 @@
 -- Numbers and counts start small, and each event makes them larger by at most its size.
-use Rattle.std.proofs.Common.{◌≡◌, ◌<◌, ◌≤◌, ◌+◌, ◌*◌, ◌==◌, ℕ, zero, suc, ℤ, Bool, true, false, cond, if◌then◌else◌, not, ◌&&◌, List, [], ◌∷◌, length, map, fold, drop, slice_get, Option, Some, None, refl, sym, ap, subst, arith, is_none}
+use Rattle.std.proofs.Common.{◌≡◌, ◌<◌, ◌≤◌, ◌+◌, ◌*◌, ◌==◌, ℕ, ℤ, Bool, true, false, cond, if◌then◌else◌, not, ◌&&◌, List, [], ◌∷◌, length, map, fold, drop, slice_get, Option, Some, None, refl, arith, is_none}
 use Rattle.std.specs.Prelude.{Ok}
 use Rattle.std.proofs.lemmas.Bool.{and_parts}
 use Rattle.std.proofs.lemmas.Bool.Decides.{nat_tests}
@@ -7,7 +7,7 @@ use Rattle.std.proofs.lemmas.List.{length-map}
 use Rattle.std.specs.List.{list_all}
 use Rattle.std.specs.Cmp.{nat_cmp_total}
 use Rattle.std.specs.FinMap as fin
-use Rattle.std.specs.FinMap.{contains_key, get, insert, remove, get-empty, len, len-empty, len-insert}
+use Rattle.std.specs.FinMap.{contains_key, get, insert, remove, len, len-empty, len-insert}
 use Rattle.std.specs.Ordering.{nat_cmp, int_cmp}
 use Rattle.std.specs.Cmp.{int_cmp_total}
 use Rattle.tw_types.specs.declared.actor.Actor.{Actor}
@@ -45,7 +45,7 @@ use Rattle.tw_code.specs.format.Program.{IsProgram}
 use Rattle.tw_code.specs.machine.Arguments.{procedure_of}
 use Rattle.tw_code.specs.machine.Bounds.{AreBelow, AreNumbersBelow, OpeningIsSmall, StepGrows, opening_bound, size_of}
 use Rattle.tw_code.specs.machine.Data.{Context, data_instr, datum_at, datum_of, suits}
-use Rattle.tw_code.specs.machine.Inputs.{AreInputsOf, are_inputs_of, are_few, input_params, is_input_of, is_short, rises}
+use Rattle.tw_code.specs.machine.Inputs.{are_inputs_of, are_few, input_params, is_input_of, is_short, rises}
 use Rattle.tw_code.specs.machine.Machine.{Standing, call_by, call_event, end_event, instr_at, is_ret, local_event, local_steps, standing_of, step, take_event}
 use Rattle.tw_code.specs.machine.Opening.{Opened, closed_scalar, main_params, numbered, opened, opening, with_container, with_given, with_input, with_output}
 use Rattle.tw_code.specs.machine.Position.{value_at}
