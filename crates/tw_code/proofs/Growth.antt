@@ -117,23 +117,23 @@ module _ (program : List Procedure) (actor : Actor) (s : State) where
 
   take_grown : (layout : ActorCounts) → IfWent (take_event program layout actor s) (Grown 1 s)
   take_grown layout = if_only (is_in layout actor && is_none (get s.frames actor)) (λ _. if_enabled (best actor s.tasks) (λ task _. if_ok (frame_of program task.0 task.1) (λ frame begun. record {
-      is = record {
-        some = omega arith;
-        store = same_store s.store;
-        task = omega arith;
-        spent = λ bound all. framed bound 1 frame (let none = begun_spent program task.0 task.1 frame begun in omega arith) all;
-      }
-    })))
+    is = record {
+      some = omega arith;
+      store = same_store s.store;
+      task = omega arith;
+      spent = λ bound all. framed bound 1 frame (let none = begun_spent program task.0 task.1 frame begun in omega arith) all;
+    };
+  })))
 
   local_grown : (n : ℕ) → IfWent (local_event program actor n s) (Grown n s)
   local_grown n = if_only (not (n == 0)) (λ some. if_enabled (get s.frames actor) (λ frame at. if_ok (procedure_of program frame.procedure) (λ p _. if_both (local_steps n p.code frame.position) (λ position _. record {
-      is = record {
-        some = grind (arith, nat_tests, some);
-        store = same_store s.store;
-        task = omega arith;
-        spent = λ bound all. framed bound n (record frame { position = position; spent = frame.spent + n }) (let few = all actor frame at in omega arith) all;
-      }
-    }))))
+    is = record {
+      some = grind (arith, nat_tests, some);
+      store = same_store s.store;
+      task = omega arith;
+      spent = λ bound all. framed bound n (record frame { position = position; spent = frame.spent + n }) (let few = all actor frame at in omega arith) all;
+    };
+  }))))
 
   -- what stands is the actor's frame
   standing_frame : IfWent (standing_of program actor s) (λ at. get s.frames actor ≡ Some at.frame)
@@ -142,13 +142,13 @@ module _ (program : List Procedure) (actor : Actor) (s : State) where
   called_grown : (at : Standing) → get s.frames actor ≡ Some at.frame → (i : Instr) → IfWent (call_by s actor at i) (Grown 1 s)
   called_grown at here (instr.Local i) = record { is = tt }
   called_grown at here (instr.Data i) = if_ok (data_instr i (context_of s at.frame)) (λ c went. record {
-      is = record {
-        some = omega arith;
-        store = ok_of (data_instr i (context_of s at.frame)) (λ e. StoreGrown s.store e.store) c (data_grown i (context_of s at.frame)) went;
-        task = omega arith;
-        spent = λ bound all. framed bound 1 _ (let few = all actor at.frame here in omega arith) all;
-      }
-    })
+    is = record {
+      some = omega arith;
+      store = ok_of (data_instr i (context_of s at.frame)) (λ e. StoreGrown s.store e.store) c (data_grown i (context_of s at.frame)) went;
+      task = omega arith;
+      spent = λ bound all. framed bound 1 _ (let few = all actor at.frame here in omega arith) all;
+    };
+  })
   called_grown at here instr.Ret = record { is = tt }
 
   call_grown : IfWent (call_event program actor s) (Grown 1 s)
@@ -156,13 +156,13 @@ module _ (program : List Procedure) (actor : Actor) (s : State) where
 
   end_grown : IfWent (end_event program actor s) (Grown 1 s)
   end_grown = if_both (standing_of program actor s) (λ at _. if_only (is_ret at.instr) (λ _. if_then (outcome_of (must (list_all is_none at.frame.rights) RightLeft)) (λ _. record {
-      is = record {
-        some = omega arith;
-        store = same_store s.store;
-        task = omega arith;
-        spent = λ bound all. each_remove actor_cmp_total (HasSpent (bound + 1)) s.frames (more_spent bound 1 s all) actor;
-      }
-    })))
+    is = record {
+      some = omega arith;
+      store = same_store s.store;
+      task = omega arith;
+      spent = λ bound all. each_remove actor_cmp_total (HasSpent (bound + 1)) s.frames (more_spent bound 1 s all) actor;
+    };
+  })))
 
 event_grown : (program : List Procedure) (layout : ActorCounts) (event : Event) (s : State) → IfWent (step program layout event s) (Grown (size_of event) s)
 unfolding step
@@ -312,7 +312,7 @@ pub opening_is_small : (program : List Procedure) (inputs : List Input) → Open
 unfolding opening
 opening_is_small program inputs within fit =
     let fresh = fresh_opened (main_params program) inputs 0 (record { store = empty_store; rights = []; outputs = [] }) fit.fit
-        (record { next = omega arith; few = each_empty nat_cmp IsFew }) in
+    (record { next = omega arith; few = each_empty nat_cmp IsFew }) in
     let room = small_room (main_params program) in
     let few = few_params program within in
     record {

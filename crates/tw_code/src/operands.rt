@@ -135,14 +135,20 @@ fn jump_equal_of(bytes: &[u8]) -> Result<(Instr, &[u8]), Stop>
     ensures { Gives (λ x. (x.0, x.1.now)) result (operands_at 0x21 bytes.now) }
 {
     let ((left, right, skip), rest) = two_registers_and_skip_of(bytes)?;
-    Ok((Instr::Local(LocalInstr::JumpEqual { left, right, skip }), rest))
+    Ok((
+        Instr::Local(LocalInstr::JumpEqual { left, right, skip }),
+        rest,
+    ))
 }
 
 fn jump_less_of(bytes: &[u8]) -> Result<(Instr, &[u8]), Stop>
     ensures { Gives (λ x. (x.0, x.1.now)) result (operands_at 0x22 bytes.now) }
 {
     let ((left, right, skip), rest) = two_registers_and_skip_of(bytes)?;
-    Ok((Instr::Local(LocalInstr::JumpLess { left, right, skip }), rest))
+    Ok((
+        Instr::Local(LocalInstr::JumpLess { left, right, skip }),
+        rest,
+    ))
 }
 
 fn repeat_of(bytes: &[u8]) -> Result<(Instr, &[u8]), Stop>
