@@ -1,3 +1,15 @@
+pub mod Breaks
+pub mod Bytes
 pub mod Computing
+pub mod FirstFault
+pub mod Formats
+pub mod Growth
+pub mod Instructions
+pub mod Joined
+pub mod Loop
+pub mod Numbers
+pub mod Programs
 pub mod Range
 pub mod Shown
+pub mod TextFormat
+pub mod Types

@@ -1,5 +1,5 @@
 -- The machine: what instructions do, what an event comes to, how a run begins and ends; in the order in which the files
--- stand on one another.
+-- stand on one another. A run is believed by these up to Ending; History is for who reads what a run has done.
 pub mod Position
 pub mod Local
 pub mod Rights

@@ -97,10 +97,7 @@ pub enum LocalInstr {
 pub enum DataInstr {
     /// STORE: the datum whose write right is in the right register `datum` gets the value of the value register
     /// `from`, and the right is spent.
-    Store {
-        datum: u8,
-        from: u8,
-    },
+    Store { datum: u8, from: u8 },
 }
 
 /// An instruction, by what it reads and changes.

@@ -1,0 +1,324 @@
+-- Numbers and counts start small, and each event makes them larger by at most its size.
+use Rattle.std.proofs.Common.{◌≡◌, ◌<◌, ◌≤◌, ◌+◌, ◌*◌, ◌==◌, ℕ, ℤ, Bool, true, false, cond, if◌then◌else◌, not, ◌&&◌, List, [], ◌∷◌, length, map, fold, drop, slice_get, Option, Some, None, refl, arith, is_none}
+use Rattle.std.specs.Prelude.{Ok}
+use Rattle.std.proofs.lemmas.Bool.{and_parts}
+use Rattle.std.proofs.lemmas.Bool.Decides.{nat_tests}
+use Rattle.std.proofs.lemmas.List.{length-map}
+use Rattle.std.specs.List.{list_all}
+use Rattle.std.specs.Cmp.{nat_cmp_total}
+use Rattle.std.specs.FinMap as fin
+use Rattle.std.specs.FinMap.{contains_key, get, insert, remove, len, len-empty, len-insert}
+use Rattle.std.specs.Ordering.{nat_cmp, int_cmp}
+use Rattle.std.specs.Cmp.{int_cmp_total}
+use Rattle.tw_types.specs.declared.actor.Actor.{Actor}
+use Rattle.tw_types.specs.declared.cause.Cause.TheVariants.{RightLeft, WrongRegister}
+use Rattle.tw_types.specs.declared.data_type.Scalar.{Scalar}
+use Rattle.tw_types.specs.declared.data_type.Scalar.TheVariants as scalar
+use Rattle.tw_types.specs.declared.event.Event.{Event}
+use Rattle.tw_types.specs.declared.event.Event.TheVariants.{Take, Local, Call, End, Ask, Deliver, Release}
+use Rattle.tw_types.specs.declared.input.Input.{Input}
+use Rattle.tw_types.specs.declared.input.Input.TheVariants as input
+use Rattle.tw_types.specs.declared.param.Param.{Param}
+use Rattle.tw_types.specs.declared.value.Value.{Value}
+use Rattle.tw_types.specs.declared.value.Value.TheVariants as value
+use Rattle.tw_types.specs.Actor.{actor_cmp, is_in}
+use Rattle.tw_types.specs.DataType.{container_of, is_scalar, same_type, scalar_type}
+use Rattle.tw_types.specs.Layout.{ActorCounts}
+use Rattle.tw_types.specs.Mode.{is_write}
+use Rattle.tw_types.specs.Nesting.{NestedScalar}
+use Rattle.tw_types.specs.Outcome.{Went, outcome_of}
+use Rattle.tw_types.specs.Result.{must}
+use Rattle.tw_types.specs.Store.{Unset, Contains, Datum, Data, Store, added, empty_store, is_unheld, new_datum}
+use Rattle.tw_types.specs.StoreCalls.{members_in, set_to, stored}
+use Rattle.tw_types.specs.StoreChecks.{may_store}
+use Rattle.tw_types.specs.Task.{Task, best}
+use Rattle.tw_types.proofs.ActorOrder.{actor_cmp_total}
+use Rattle.tw_types.proofs.Each.{Each, each_empty, each_insert, each_remove}
+use Rattle.tw_types.proofs.Outcomes.{IfWent, if_both, if_enabled, if_ok, if_only, if_then, went_of}
+use Rattle.tw_types.proofs.Results.{WhereOk, ok_both, ok_of, ok_then}
+use Rattle.tw_code.specs.declared.instr.DataInstr.{DataInstr}
+use Rattle.tw_code.specs.declared.instr.DataInstr.TheVariants as on_data
+use Rattle.tw_code.specs.declared.instr.Instr.{Instr}
+use Rattle.tw_code.specs.declared.instr.Instr.TheVariants as instr
+use Rattle.tw_code.specs.declared.procedure.Procedure.{Procedure}
+use Rattle.tw_code.specs.format.Program.{IsProgram}
+use Rattle.tw_code.specs.machine.Arguments.{procedure_of}
+use Rattle.tw_code.specs.machine.Bounds.{AreBelow, AreNumbersBelow, OpeningIsSmall, StepGrows, opening_bound, size_of}
+use Rattle.tw_code.specs.machine.Data.{Context, data_instr, datum_at, datum_of, suits}
+use Rattle.tw_code.specs.machine.Inputs.{are_inputs_of, are_few, input_params, is_input_of, is_short, rises}
+use Rattle.tw_code.specs.machine.Machine.{Standing, call_by, call_event, end_event, instr_at, is_ret, local_event, local_steps, standing_of, step, take_event}
+use Rattle.tw_code.specs.machine.Opening.{Opened, closed_scalar, main_params, numbered, opened, opening, with_container, with_given, with_input, with_output}
+use Rattle.tw_code.specs.machine.Position.{value_at}
+use Rattle.tw_code.specs.machine.Rights.{held}
+use Rattle.tw_code.specs.machine.State.{Frame, State, context_of, filled, frame_of, values_in}
+
+-- ---- the store
+
+-- counts and the number of members
+abbrev HasCounts : ℕ → Datum → Type 0
+HasCounts bound x = (x.reads < bound) × (x.writes < bound) × (len (members_in x.content) < bound)
+
+-- a store comes of one call
+record StoreGrown (s t : Store) : Type 0 where
+  next : t.next ≤ s.next + 1
+  counts : (bound : ℕ) → Each (HasCounts bound) s.live → Each (HasCounts (bound + 1)) t.live
+
+more_counts : (bound : ℕ) (live : Data) → Each (HasCounts bound) live → Each (HasCounts (bound + 1)) live
+more_counts bound live all id x at = let h = all id x at in (omega (arith, h.0), omega (arith, h.1), omega (arith, h.2))
+
+same_store : (s : Store) → StoreGrown s s
+same_store s = record { next = omega arith; counts = λ bound all. more_counts bound s.live all }
+
+module _ (s : Store) (id : ℕ) (x : Value) (d : Datum) where
+  abbrev left : Datum
+  left = record (set_to x d) { subscribers = [] }
+
+  each_left : (bound : ℕ) → get s.live id ≡ Some d → Each (HasCounts bound) s.live → (b : Bool) → Each (HasCounts (bound + 1)) (cond b (remove s.live id) (insert s.live id left))
+  each_left bound at all true = each_remove nat_cmp_total (HasCounts (bound + 1)) s.live (more_counts bound s.live all) id
+  each_left bound at all false =
+      let h = all id d at in
+      each_insert nat_cmp_total (HasCounts (bound + 1)) s.live (more_counts bound s.live all) id left (omega (arith, h.0), omega (arith, h.1), omega (arith, len-empty int_cmp ℕ))
+
+stored_grown : (s : Store) (id : ℕ) (x : Value) → StoreGrown s (stored s id x)
+stored_grown s id x = by (get s.live id) refl
+  where
+    by : (o : Option Datum) → get s.live id ≡ o → StoreGrown s (stored s id x)
+    by None at = rw at (same_store s)
+    by (Some d) at = rw at (record { next = omega arith; counts = λ bound all. each_left s id x d bound at all (is_unheld (left s id x d)) })
+
+-- one instruction on data
+data_grown : (i : DataInstr) (c : Context) → WhereOk (data_instr i c) (λ e. StoreGrown c.store e.store)
+data_grown (on_data.Store datum from) c =
+    ok_both (value_at c.position from) (λ x _. ok_then (must (suits x (datum_at c datum)) WrongRegister) (λ _. ok_both (held c.rights datum) (λ id _. ok_then (may_store x (datum_of c id)) (λ _. record { is = stored_grown c.store id x }))))
+
+-- ---- events
+
+abbrev HasSpent : ℕ → Frame → Type 0
+HasSpent bound frame = frame.spent < bound
+
+-- a state comes of one event of this size
+record Grown (size : ℕ) (s t : State) : Type 0 where
+  some : 0 < size
+  store : StoreGrown s.store t.store
+  task : t.next_task ≤ s.next_task + 1
+  spent : (bound : ℕ) → Each (HasSpent bound) s.frames → Each (HasSpent (bound + size)) t.frames
+
+more_spent : (bound size : ℕ) (s : State) → Each (HasSpent bound) s.frames → Each (HasSpent (bound + size)) s.frames
+more_spent bound size s all actor frame at = omega (arith, all actor frame at)
+
+begun_spent : (program : List Procedure) (number : ℕ) (task : Task) (frame : Frame) → frame_of program number task ≡ Ok frame → frame.spent ≡ 0
+begun_spent program number task frame = ok_of (frame_of program number task) (λ f. f.spent ≡ 0) frame
+    (ok_both (procedure_of program task.procedure) (λ p _. ok_both (filled (values_in task.args) p.registers) (λ values _. record { is = refl })))
+
+module _ (program : List Procedure) (actor : Actor) (s : State) where
+  -- a frame takes the place of another, which it outdoes by the size, or is new
+  framed : (bound size : ℕ) (frame : Frame) → frame.spent < bound + size → Each (HasSpent bound) s.frames → Each (HasSpent (bound + size)) (insert s.frames actor frame)
+  framed bound size frame few all = each_insert actor_cmp_total (HasSpent (bound + size)) s.frames (more_spent bound size s all) actor frame few
+
+  take_grown : (layout : ActorCounts) → IfWent (take_event program layout actor s) (Grown 1 s)
+  take_grown layout = if_only (is_in layout actor && is_none (get s.frames actor)) (λ _. if_enabled (best actor s.tasks) (λ task _. if_ok (frame_of program task.0 task.1) (λ frame begun. record {
+    is = record {
+      some = omega arith;
+      store = same_store s.store;
+      task = omega arith;
+      spent = λ bound all. framed bound 1 frame (let none = begun_spent program task.0 task.1 frame begun in omega arith) all;
+    };
+  })))
+
+  local_grown : (n : ℕ) → IfWent (local_event program actor n s) (Grown n s)
+  local_grown n = if_only (not (n == 0)) (λ some. if_enabled (get s.frames actor) (λ frame at. if_ok (procedure_of program frame.procedure) (λ p _. if_both (local_steps n p.code frame.position) (λ position _. record {
+    is = record {
+      some = grind (arith, nat_tests, some);
+      store = same_store s.store;
+      task = omega arith;
+      spent = λ bound all. framed bound n (record frame { position = position; spent = frame.spent + n }) (let few = all actor frame at in omega arith) all;
+    };
+  }))))
+
+  -- what stands is the actor's frame
+  standing_frame : IfWent (standing_of program actor s) (λ at. get s.frames actor ≡ Some at.frame)
+  standing_frame = if_enabled (get s.frames actor) (λ frame at. if_ok (procedure_of program frame.procedure) (λ p _. if_ok (instr_at p.code frame.position.place) (λ i _. record { is = at })))
+
+  called_grown : (at : Standing) → get s.frames actor ≡ Some at.frame → (i : Instr) → IfWent (call_by s actor at i) (Grown 1 s)
+  called_grown at here (instr.Local i) = record { is = tt }
+  called_grown at here (instr.Data i) = if_ok (data_instr i (context_of s at.frame)) (λ c went. record {
+    is = record {
+      some = omega arith;
+      store = ok_of (data_instr i (context_of s at.frame)) (λ e. StoreGrown s.store e.store) c (data_grown i (context_of s at.frame)) went;
+      task = omega arith;
+      spent = λ bound all. framed bound 1 _ (let few = all actor at.frame here in omega arith) all;
+    };
+  })
+  called_grown at here instr.Ret = record { is = tt }
+
+  call_grown : IfWent (call_event program actor s) (Grown 1 s)
+  call_grown = if_both (standing_of program actor s) (λ at stands. called_grown at (went_of (standing_of program actor s) (λ z. get s.frames actor ≡ Some z.frame) at standing_frame stands) at.instr)
+
+  end_grown : IfWent (end_event program actor s) (Grown 1 s)
+  end_grown = if_both (standing_of program actor s) (λ at _. if_only (is_ret at.instr) (λ _. if_then (outcome_of (must (list_all is_none at.frame.rights) RightLeft)) (λ _. record {
+    is = record {
+      some = omega arith;
+      store = same_store s.store;
+      task = omega arith;
+      spent = λ bound all. each_remove actor_cmp_total (HasSpent (bound + 1)) s.frames (more_spent bound 1 s all) actor;
+    };
+  })))
+
+event_grown : (program : List Procedure) (layout : ActorCounts) (event : Event) (s : State) → IfWent (step program layout event s) (Grown (size_of event) s)
+unfolding step
+event_grown program layout (Take actor) s = take_grown program actor s layout
+event_grown program layout (Local actor n) s = local_grown program actor s n
+event_grown program layout (Call actor) s = call_grown program actor s
+event_grown program layout (End actor) s = end_grown program actor s
+event_grown program layout (Ask engine rule parameter) s = record { is = tt }
+event_grown program layout (Deliver server datum rule parameter) s = record { is = tt }
+event_grown program layout (Release engine rule) s = record { is = tt }
+
+-- ---- the law of events
+
+numbers_more : (bound : ℕ) (s t : State) (size : ℕ) → Grown size s t → AreNumbersBelow bound s → AreNumbersBelow (bound + 1) t
+numbers_more bound s t size grown below = record { datum = omega (arith, grown.store.next, below.datum); task = omega (arith, grown.task, below.task) }
+
+-- what is below a bound is below a greater one
+pub numbers_wider : (bound more : ℕ) (s : State) → bound ≤ more → AreNumbersBelow bound s → AreNumbersBelow more s
+numbers_wider bound more s h below = record { datum = omega (arith, below.datum); task = omega (arith, below.task) }
+
+pub below_more : (bound more : ℕ) (s : State) → bound ≤ more → AreBelow bound s → AreBelow more s
+below_more bound more s h below = record {
+  numbers = numbers_wider bound more s h below.numbers;
+  reads = λ id x e. omega (arith, below.reads id x e);
+  writes = λ id x e. omega (arith, below.writes id x e);
+  members = λ id x e. omega (arith, below.members id x e);
+  spent = λ actor frame e. omega (arith, below.spent actor frame e);
+}
+
+all_more : (bound : ℕ) (s t : State) (size : ℕ) → Grown size s t → AreBelow bound s → AreBelow (bound + size) t
+all_more bound s t size grown below =
+    let counts : Each (HasCounts (bound + 1)) t.store.live = grown.store.counts bound (λ id x e. (below.reads id x e, below.writes id x e, below.members id x e)) in
+    let one = grown.some in
+    record {
+      numbers = numbers_wider (bound + 1) (bound + size) t (omega arith) (numbers_more bound s t size grown below.numbers);
+      reads = λ id x e. omega (arith, (counts id x e).0);
+      writes = λ id x e. omega (arith, (counts id x e).1);
+      members = λ id x e. omega (arith, (counts id x e).2);
+      spent = grown.spent bound below.spent;
+    }
+
+pub step_grows : (program : List Procedure) (layout : ActorCounts) (event : Event) → StepGrows program layout event
+step_grows program layout event = record {
+  numbers = λ bound s next below went. numbers_more bound s next (size_of event) (grown s next went) below;
+  all = λ bound s next below went. all_more bound s next (size_of event) (grown s next went) below;
+}
+  where
+    grown : (s next : State) → step program layout event s ≡ Went next → Grown (size_of event) s next
+    grown s next went = went_of (step program layout event s) (Grown (size_of event) s) next (event_grown program layout event s) went
+
+-- ---- the opening
+
+abbrev IsFew : Datum → Type 0
+IsFew x = (x.reads ≤ 1) × (x.writes ≤ 1) × (len (members_in x.content) ≤ 1000)
+
+-- a store where so many data at most have been made
+record IsFresh (made : ℕ) (s : Store) : Type 0 where
+  next : s.next ≤ made + 1
+  few : Each IsFew s.live
+
+fresh_wider : (made more : ℕ) (s : Store) → made ≤ more → IsFresh made s → IsFresh more s
+fresh_wider made more s h fresh = record { next = omega (arith, fresh.next); few = fresh.few }
+
+fresh_added : (made : ℕ) (s : Store) (x : Datum) → IsFew x → IsFresh made s → IsFresh (made + 1) (added s x)
+fresh_added made s x few fresh = record { next = omega (arith, fresh.next); few = each_insert nat_cmp_total IsFew s.live fresh.few s.next x few }
+
+scalar_few : (x : Value) → IsFew (closed_scalar x)
+scalar_few x = (omega arith, omega arith, omega (arith, len-empty int_cmp ℕ))
+
+fresh_scalars : (es : List (ℤ × Value)) (made : ℕ) (s : Store) → IsFresh made s → IsFresh (made + length es) (fold (λ (t : Store) (e : ℤ × Value). added t (closed_scalar e.1)) s es)
+fresh_scalars [] made s fresh = fresh_wider made (made + 0) s (omega arith) fresh
+fresh_scalars (e ∷ es) made s fresh = fresh_wider (made + 1 + length es) (made + length (e ∷ es)) _ (omega arith) (fresh_scalars es (made + 1) (added s (closed_scalar e.1)) (fresh_added made s (closed_scalar e.1) (scalar_few e.1) fresh))
+
+numbered_few : (es : List (ℤ × Value)) (id : ℕ) → len (numbered id es) ≤ length es
+numbered_few [] id = omega (arith, len-empty int_cmp ℕ)
+numbered_few (e ∷ es) id = let l = len-insert int_cmp_total (numbered (id + 1) es) e.0 id in omega (arith, l, either (contains_key (numbered (id + 1) es) e.0) (len (numbered (id + 1) es)), numbered_few es (id + 1))
+  where
+    either : (b : Bool) (n : ℕ) → cond b n (n + 1) ≤ n + 1
+    either true n = omega arith
+    either false n = omega arith
+
+fresh_container : (made : ℕ) (s : Store) (ty : Scalar) (es : List (ℤ × Value)) → length es ≤ 1000 → IsFresh made s → IsFresh (made + 1001) (with_container s ty es)
+fresh_container made s ty es short fresh =
+    fresh_wider (made + 1 + length es) (made + 1001) _ (omega arith) (fresh_scalars es (made + 1) _ (fresh_added made s _ (omega arith, omega arith, omega (arith, numbered_few es (s.next + 1))) fresh))
+
+few_members : {A : Type 0} (f : ℤ × A → ℤ × Value) (es : List (ℤ × A)) → are_few es ≡ true → length (map f es) ≤ 1000
+few_members f es few = grind (arith, nat_tests, few, length-map es f)
+
+fresh_input : (made : ℕ) (s : Store) (ty : NestedScalar) (i : Input) → is_input_of ty i ≡ true → IsFresh made s → IsFresh (made + 1001) (with_input s i)
+fresh_input made s ty (input.Int n) h fresh = fresh_wider (made + 1) (made + 1001) _ (omega arith) (fresh_added made s _ (scalar_few (value.Int n)) fresh)
+fresh_input made s ty (input.Text text) h fresh = fresh_wider (made + 1) (made + 1001) _ (omega arith) (fresh_added made s _ (scalar_few (value.Text text)) fresh)
+fresh_input made s ty (input.Ints es) h fresh =
+    let few = (and_parts (are_few es) (rises es) (and_parts (same_type ty (container_of (scalar_type scalar.Int))) (are_few es && rises es) h).1).0 in
+    fresh_container made s scalar.Int _ (few_members (λ e. (e.0, value.Int e.1)) es few) fresh
+fresh_input made s ty (input.Texts es) h fresh =
+    let few = (and_parts (are_few es) (rises es && list_all (λ (e : ℤ × List ℕ). is_short e.1) es) (and_parts (same_type ty (container_of (scalar_type scalar.Text))) (are_few es && (rises es && list_all (λ (e : ℤ × List ℕ). is_short e.1) es)) h).1).0 in
+    fresh_container made s scalar.Text _ (few_members (λ e. (e.0, value.Text e.1)) es few) fresh
+
+fresh_output : (made : ℕ) (o : Opened) (ty : NestedScalar) → IsFresh made o.store → IsFresh (made + 1001) (with_output o ty).store
+fresh_output made o ty fresh = fresh_wider (made + 1) (made + 1001) _ (omega arith) (fresh_added made o.store (new_datum ty) (omega arith, omega arith, no_members (is_scalar ty)) fresh)
+  where
+    no_members : (b : Bool) → len (members_in (if b then Unset else Contains fin.empty)) ≤ 1000
+    no_members true = omega (arith, len-empty int_cmp ℕ)
+    no_members false = omega (arith, len-empty int_cmp ℕ)
+
+-- so many data at most as the parameters make
+abbrev room_of : List Param → ℕ
+room_of [] = 0
+room_of (p ∷ params) = 1001 + room_of params
+
+-- what the parameters from here on make
+abbrev AreFresh : List Param → Type 0
+AreFresh params = (inputs : List Input) (made : ℕ) (o : Opened) → are_inputs_of (input_params params) inputs ≡ true → IsFresh made o.store → IsFresh (made + room_of params) (opened o params inputs).store
+
+module _ (p : Param) (params : List Param) (rest : AreFresh params) (made : ℕ) (o : Opened) (fresh : IsFresh made o.store) where
+  none_fit : (params : List Param) → are_inputs_of params [] ≡ true
+  none_fit [] = refl
+  none_fit (q ∷ params) = refl
+
+  more : (n : ℕ) (t : Store) → n ≤ made + 1001 → IsFresh (n + room_of params) t → IsFresh (made + room_of (p ∷ params)) t
+  more n t h fresh = fresh_wider (n + room_of params) (made + room_of (p ∷ params)) t (omega arith) fresh
+
+  given : (inputs : List Input) → are_inputs_of (p ∷ input_params params) inputs ≡ true → IsFresh (made + room_of (p ∷ params)) (opened (with_given o (slice_get inputs 0)) params (drop 1 inputs)).store
+  given [] fit = more made _ (omega arith) (rest [] made o (none_fit (input_params params)) fresh)
+  given (i ∷ inputs) fit =
+      let parts = and_parts (is_input_of p.ty i) (are_inputs_of (input_params params) inputs) fit in
+      more (made + 1001) _ (omega arith) (rest inputs (made + 1001) (with_given o (Some i)) parts.1 (fresh_input made o.store p.ty i parts.0 fresh))
+
+  by_mode : (inputs : List Input) (b : Bool) → are_inputs_of (cond (not b) (p ∷ input_params params) (input_params params)) inputs ≡ true
+      → IsFresh (made + room_of (p ∷ params)) (cond b (opened (with_output o p.ty) params inputs) (opened (with_given o (slice_get inputs 0)) params (drop 1 inputs))).store
+  by_mode inputs true fit = more (made + 1001) _ (omega arith) (rest inputs (made + 1001) (with_output o p.ty) fit (fresh_output made o p.ty fresh))
+  by_mode inputs false fit = given inputs fit
+
+fresh_opened : (params : List Param) → AreFresh params
+fresh_opened [] inputs made o fit fresh = fresh_wider made (made + 0) _ (omega arith) fresh
+fresh_opened (p ∷ params) inputs made o fit fresh = by_mode p params (fresh_opened params) made o fresh inputs (is_write p.mode) fit
+
+few_params : (program : List Procedure) → IsProgram program → length (main_params program) ≤ 8
+few_params [] h = omega arith
+few_params (main ∷ others) h = h.1.0.params.0.1
+
+small_room : (params : List Param) → room_of params ≡ 1001 * length params
+small_room [] = refl
+small_room (p ∷ params) = omega (arith, small_room params)
+
+pub opening_is_small : (program : List Procedure) (inputs : List Input) → OpeningIsSmall program inputs
+unfolding opening
+opening_is_small program inputs within fit =
+    let fresh = fresh_opened (main_params program) inputs 0 (record { store = empty_store; rights = []; outputs = [] }) fit.fit
+    (record { next = omega arith; few = each_empty nat_cmp IsFew }) in
+    let room = small_room (main_params program) in
+    let few = few_params program within in
+    record {
+      numbers = record { datum = omega (arith, fresh.next); task = omega arith };
+      reads = λ id x e. omega (arith, (fresh.few id x e).0);
+      writes = λ id x e. omega (arith, (fresh.few id x e).1);
+      members = λ id x e. omega (arith, (fresh.few id x e).2);
+      spent = each_empty actor_cmp (HasSpent opening_bound);
+    }

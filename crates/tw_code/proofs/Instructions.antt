@@ -1,0 +1,186 @@
+-- Instructions: each is read as it was written, and where it is wrong or cut off the reading says so.
+use Rattle.std.proofs.Common.{◌≡◌, ℕ, ℤ, suc, ◌⊎◌, true, false, eqb, List, [], ◌∷◌, ◌++◌, length, Ok, Err, refl, sym, ap, subst, ◌∙◌, drop, arith, inl, inr}
+use Rattle.std.specs.Prelude.{FitsSigned}
+use Rattle.std.specs.Int.{w64}
+use Rattle.std.specs.List.{concat}
+use Rattle.std.proofs.lemmas.Bool.{eqb-true}
+use Rattle.tw_code.specs.declared.fault.Broken.{Broken}
+use Rattle.tw_code.specs.declared.fault.FaultNo.TheVariants.{Unknown}
+use Rattle.tw_code.specs.declared.instr.Arithmetic.TheVariants.{Add, Subtract, Multiply, Divide, Remainder}
+use Rattle.tw_code.specs.declared.instr.DataInstr.TheVariants as on_data
+use Rattle.tw_code.specs.declared.instr.Instr.{Instr}
+use Rattle.tw_code.specs.declared.instr.Instr.TheVariants as instr
+use Rattle.tw_code.specs.declared.instr.LocalInstr.TheVariants as local
+use Rattle.tw_types.specs.Text.{IsText}
+use Rattle.tw_code.specs.format.Program.{IsInstr, IsRegister, IsSkip, IsWithin}
+use Rattle.tw_code.specs.format.Spelling.{Item, byte, text_items, instr_items}
+use Rattle.tw_code.specs.format.Reading.{Reading, as_is, both, on, register_at, number_at, wide_at, skip_at, text_at, two_registers_at, two_registers_and_skip_at, three_registers_and_skip_at, nothing_at, no_other, operands_at, instr_at}
+use Rattle.tw_code.proofs.Formats.{IsBytes, IsBytes-rest, chosen, ok_is, Takes, as_is_takes, as_is_again}
+use Rattle.tw_code.proofs.Breaks.{IsStrict, FailsAt, GoesOn, carried, due_after, no_err, err_is, both_strict, as_is_fails}
+use Rattle.tw_code.proofs.Bytes.{a_byte, AnyOf, nothing_left, wrong_byte, register_strict}
+use Rattle.tw_code.proofs.Numbers.{a_number, a_wide, number_strict, wide_strict}
+use Rattle.tw_code.proofs.TextFormat.{text_strict}
+
+nothing_strict : IsStrict AnyOf (λ (x : Unit {0}). []) nothing_at
+nothing_strict = record {
+  format = record {
+    takes = λ bytes x rest fits e. (subst (λ (y : Unit {0} × List ℕ). Takes bytes [] y.1) (ok_is (tt, bytes) (x, rest) e) (record { parts = refl; rest_fits = fits }), tt);
+    again = λ x rest h. refl;
+  };
+  some = tt;
+  some_fits = tt;
+  fails = λ bytes f fits e. absurd (no_err _ f e);
+}
+
+-- ---- behind each code
+
+-- an instruction of this code
+abbrev HasCode : ℕ → Instr → Type 0
+HasCode c x = IsInstr x × (instr_items x ≡ byte c ∷ drop 1 (instr_items x))
+
+abbrev operand_items : Instr → List Item
+operand_items x = drop 1 (instr_items x)
+
+-- the code isn't known, or the operands behind it fail
+abbrev CodeFailsAt : (ℕ → Reading Instr) → ℕ → List ℕ → Broken → Type 0
+CodeFailsAt operands c bytes f =
+    ((record { no = Unknown; left = suc (length bytes) } ≡ f) × ((rest : List ℕ) → operands c rest ≡ Err (record { no = Unknown; left = suc (length rest) })))
+    ⊎ FailsAt (HasCode c) operand_items (operands c) bytes f
+
+-- behind each code a reading takes the operands of an instruction of that code, or says where they fail
+record AreOperands (operands : ℕ → Reading Instr) : Type 0 where
+  takes : (c : ℕ) (bytes : List ℕ) (x : Instr) (rest : List ℕ) → IsBytes (c ∷ bytes) → operands c bytes ≡ Ok (x, rest) → Takes (c ∷ bytes) (concat (instr_items x)) rest × IsInstr x
+  fails : (c : ℕ) (bytes : List ℕ) (f : Broken) → IsBytes bytes → operands c bytes ≡ Err f → CodeFailsAt operands c bytes f
+
+no_others : AreOperands no_other
+no_others = record { takes = λ c bytes x rest fits e. absurd (no_instr c bytes x rest e); fails = λ c bytes f fits e. inl (err_is {Z = Instr × List ℕ} _ f e, λ rest. refl) } where
+  no_instr : (c : ℕ) (bytes : List ℕ) (x : Instr) (rest : List ℕ) → no_other c bytes ≡ Ok (x, rest) → ⊥
+  no_instr c bytes x rest e = cc
+
+module _ {A : Type 0} {F : A → Type 0} {w : A → List Item} {r : Reading A} {others : ℕ → Reading Instr} (code : ℕ) (strict : IsStrict F w r) (make : A → Instr) (spelled : (a : A) → instr_items (make a) ≡ byte code ∷ w a) (fit : (a : A) → F a → IsInstr (make a)) (on_others : AreOperands others) where
+  on_takes : (c : ℕ) (bytes : List ℕ) (x : Instr) (rest : List ℕ) → IsBytes (c ∷ bytes) → on code r make others c bytes ≡ Ok (x, rest) → Takes (c ∷ bytes) (concat (instr_items x)) rest × IsInstr x
+  on_takes c bytes x rest fits e =
+      elim (chosen (eqb c code) (as_is make r bytes) (others c bytes) (Ok (x, rest)) e) [
+        | inl h ↦
+            let a = as_is_takes strict.format make bytes x rest (IsBytes-rest c bytes fits) h.1 in
+            let text : Takes (c ∷ bytes) (concat (byte c ∷ w a.0)) rest = record { parts = ap (λ (t : List ℕ). c ∷ t) a.1.parts; rest_fits = a.1.rest_fits } in
+            let so : byte c ∷ w a.0 ≡ instr_items (make a.0) = ap (λ (k : ℕ). byte k ∷ w a.0) (eqb-true c code h.0) ∙ sym (spelled a.0) in
+            subst (λ (y : Instr). Takes (c ∷ bytes) (concat (instr_items y)) rest × IsInstr y) a.3 (subst (λ (t : List Item). Takes (c ∷ bytes) (concat t) rest) so text, fit a.0 a.2)
+        | inr h ↦ on_others.takes c bytes x rest fits h.1
+      ]
+
+  here : (c : ℕ) → eqb c code ≡ true → GoesOn F w r (HasCode c) operand_items (on code r make others c) []
+  here c is = record {
+    due = due_after make (λ a h. (fit a h, has_code a)) [] (λ a h. ap (drop 1) (spelled a));
+    fails = λ rest d h. rw (is, h) refl;
+  } where
+    has_code : (a : A) → instr_items (make a) ≡ byte c ∷ drop 1 (instr_items (make a))
+    has_code a = spelled a ∙ ap (λ (t : List Item). byte code ∷ t) (sym (ap (drop 1) (spelled a))) ∙ ap (λ (k : ℕ). byte k ∷ drop 1 (instr_items (make a))) (sym (eqb-true c code is))
+
+  further : (c : ℕ) → eqb c code ≡ false → GoesOn (HasCode c) operand_items (others c) (HasCode c) operand_items (on code r make others c) []
+  further c isnt = record { due = λ before size d. d; fails = λ rest d h. rw isnt h }
+
+  on_fails : (c : ℕ) (bytes : List ℕ) (f : Broken) → IsBytes bytes → on code r make others c bytes ≡ Err f → CodeFailsAt (on code r make others) c bytes f
+  on_fails c bytes f fits e =
+      elim (chosen (eqb c code) (as_is make r bytes) (others c bytes) (Err f) e) [
+        | inl h ↦ inr (carried (here c h.0) bytes bytes f refl (strict.fails bytes f fits (as_is_fails make r bytes f h.1)))
+        | inr h ↦ elim (on_others.fails c bytes f fits h.1) [
+          | inl m ↦ inl (m.0, λ rest. rw h.0 (m.1 rest))
+          | inr b ↦ inr (carried (further c h.0) bytes bytes f refl b)
+        ]
+      ]
+
+  on_operands : AreOperands (on code r make others)
+  on_operands = record { takes = on_takes; fails = on_fails }
+
+-- ---- the instructions
+
+-- the operands, by their shape
+
+two_registers : IsStrict (λ (x : ℕ × ℕ). IsRegister x.0 × IsRegister x.1) (λ x. a_byte x.0 ++ a_byte x.1) two_registers_at
+two_registers = both_strict register_strict register_strict
+
+register_and_number : IsStrict (λ (x : ℕ × ℤ). IsRegister x.0 × FitsSigned w64 x.1) (λ x. a_byte x.0 ++ a_number x.1) (both register_at number_at)
+register_and_number = both_strict register_strict number_strict
+
+register_and_text : IsStrict (λ (x : ℕ × List ℕ). IsRegister x.0 × IsText x.1) (λ x. a_byte x.0 ++ text_items x.1) (both register_at text_at)
+register_and_text = both_strict register_strict text_strict
+
+skip_strict : IsStrict IsSkip a_wide skip_at
+skip_strict = wide_strict 0 65535 (omega arith) (omega arith)
+
+turns_strict : IsStrict (IsWithin 1 1000) a_wide (wide_at 1 1000)
+turns_strict = wide_strict 1 1000 (omega arith) (omega arith)
+
+two_registers_and_skip : IsStrict (λ (x : ℕ × (ℕ × ℕ)). IsRegister x.0 × (IsRegister x.1.0 × IsSkip x.1.1)) (λ x. a_byte x.0 ++ (a_byte x.1.0 ++ a_wide x.1.1)) two_registers_and_skip_at
+two_registers_and_skip = both_strict register_strict (both_strict register_strict skip_strict)
+
+three_registers_and_skip : IsStrict (λ (x : ℕ × (ℕ × (ℕ × ℕ))). IsRegister x.0 × (IsRegister x.1.0 × (IsRegister x.1.1.0 × IsSkip x.1.1.1))) (λ x. a_byte x.0 ++ (a_byte x.1.0 ++ (a_byte x.1.1.0 ++ a_wide x.1.1.1))) three_registers_and_skip_at
+three_registers_and_skip = both_strict register_strict two_registers_and_skip
+
+-- a line an instruction
+operands : AreOperands operands_at
+operands =
+    on_operands 0x01 register_and_number (λ x. instr.Local (local.Int x.0 x.1)) (λ _. refl) (λ _ h. h) (
+    on_operands 0x02 register_and_text (λ x. instr.Local (local.Text x.0 x.1)) (λ _. refl) (λ _ h. h) (
+    on_operands 0x03 two_registers (λ x. instr.Local (local.Copy x.0 x.1)) (λ _. refl) (λ _ h. h) (
+    on_operands 0x10 three_registers_and_skip (λ x. instr.Local (local.Compute Add x.0 x.1.0 x.1.1.0 x.1.1.1)) (λ _. refl) (λ _ h. (h.0, h.1.0, h.1.1.0, h.1.1.1)) (
+    on_operands 0x11 three_registers_and_skip (λ x. instr.Local (local.Compute Subtract x.0 x.1.0 x.1.1.0 x.1.1.1)) (λ _. refl) (λ _ h. (h.0, h.1.0, h.1.1.0, h.1.1.1)) (
+    on_operands 0x12 three_registers_and_skip (λ x. instr.Local (local.Compute Multiply x.0 x.1.0 x.1.1.0 x.1.1.1)) (λ _. refl) (λ _ h. (h.0, h.1.0, h.1.1.0, h.1.1.1)) (
+    on_operands 0x13 three_registers_and_skip (λ x. instr.Local (local.Compute Divide x.0 x.1.0 x.1.1.0 x.1.1.1)) (λ _. refl) (λ _ h. (h.0, h.1.0, h.1.1.0, h.1.1.1)) (
+    on_operands 0x14 three_registers_and_skip (λ x. instr.Local (local.Compute Remainder x.0 x.1.0 x.1.1.0 x.1.1.1)) (λ _. refl) (λ _ h. (h.0, h.1.0, h.1.1.0, h.1.1.1)) (
+    on_operands 0x18 three_registers_and_skip (λ x. instr.Local (local.Concatenate x.0 x.1.0 x.1.1.0 x.1.1.1)) (λ _. refl) (λ _ h. (h.0, h.1.0, h.1.1.0, h.1.1.1)) (
+    on_operands 0x19 two_registers (λ x. instr.Local (local.Length x.0 x.1)) (λ _. refl) (λ _ h. h) (
+    on_operands 0x1a two_registers (λ x. instr.Local (local.Show x.0 x.1)) (λ _. refl) (λ _ h. h) (
+    on_operands 0x1b two_registers_and_skip (λ x. instr.Local (local.ReadInt x.0 x.1.0 x.1.1)) (λ _. refl) (λ _ h. (h.0, h.1.0, h.1.1)) (
+    on_operands 0x20 skip_strict (λ x. instr.Local (local.Jump x)) (λ _. refl) (λ _ h. h) (
+    on_operands 0x21 two_registers_and_skip (λ x. instr.Local (local.JumpEqual x.0 x.1.0 x.1.1)) (λ _. refl) (λ _ h. (h.0, h.1.0, h.1.1)) (
+    on_operands 0x22 two_registers_and_skip (λ x. instr.Local (local.JumpLess x.0 x.1.0 x.1.1)) (λ _. refl) (λ _ h. (h.0, h.1.0, h.1.1)) (
+    on_operands 0x23 turns_strict (λ x. instr.Local (local.Repeat x)) (λ _. refl) (λ _ h. h) (
+    on_operands 0x24 nothing_strict (λ _. instr.Local local.End) (λ _. refl) (λ _ h. h) (
+    on_operands 0x31 two_registers (λ x. instr.Data (on_data.Store x.0 x.1)) (λ _. refl) (λ _ h. h) (
+    on_operands 0x42 nothing_strict (λ _. instr.Ret) (λ _. refl) (λ _ h. h) (
+    no_others)))))))))))))))))))
+
+-- a line an instruction
+instr_again : (x : Instr) (rest : List ℕ) → IsInstr x → instr_at (concat (instr_items x) ++ rest) ≡ Ok (x, rest)
+unfolding instr_at
+instr_again (instr.Local (local.Int to value)) rest h = as_is_again register_and_number.format (λ x. instr.Local (local.Int x.0 x.1)) (to, value) rest h
+instr_again (instr.Local (local.Text to text)) rest h = as_is_again register_and_text.format (λ x. instr.Local (local.Text x.0 x.1)) (to, text) rest h
+instr_again (instr.Local (local.Copy to from)) rest h = as_is_again two_registers.format (λ x. instr.Local (local.Copy x.0 x.1)) (to, from) rest h
+instr_again (instr.Local (local.Compute Add to left right skip)) rest h = as_is_again three_registers_and_skip.format (λ x. instr.Local (local.Compute Add x.0 x.1.0 x.1.1.0 x.1.1.1)) (to, (left, (right, skip))) rest (h.0, (h.1, (h.2, h.3)))
+instr_again (instr.Local (local.Compute Subtract to left right skip)) rest h = as_is_again three_registers_and_skip.format (λ x. instr.Local (local.Compute Subtract x.0 x.1.0 x.1.1.0 x.1.1.1)) (to, (left, (right, skip))) rest (h.0, (h.1, (h.2, h.3)))
+instr_again (instr.Local (local.Compute Multiply to left right skip)) rest h = as_is_again three_registers_and_skip.format (λ x. instr.Local (local.Compute Multiply x.0 x.1.0 x.1.1.0 x.1.1.1)) (to, (left, (right, skip))) rest (h.0, (h.1, (h.2, h.3)))
+instr_again (instr.Local (local.Compute Divide to left right skip)) rest h = as_is_again three_registers_and_skip.format (λ x. instr.Local (local.Compute Divide x.0 x.1.0 x.1.1.0 x.1.1.1)) (to, (left, (right, skip))) rest (h.0, (h.1, (h.2, h.3)))
+instr_again (instr.Local (local.Compute Remainder to left right skip)) rest h = as_is_again three_registers_and_skip.format (λ x. instr.Local (local.Compute Remainder x.0 x.1.0 x.1.1.0 x.1.1.1)) (to, (left, (right, skip))) rest (h.0, (h.1, (h.2, h.3)))
+instr_again (instr.Local (local.Concatenate to left right skip)) rest h = as_is_again three_registers_and_skip.format (λ x. instr.Local (local.Concatenate x.0 x.1.0 x.1.1.0 x.1.1.1)) (to, (left, (right, skip))) rest (h.0, (h.1, (h.2, h.3)))
+instr_again (instr.Local (local.Length to from)) rest h = as_is_again two_registers.format (λ x. instr.Local (local.Length x.0 x.1)) (to, from) rest h
+instr_again (instr.Local (local.Show to from)) rest h = as_is_again two_registers.format (λ x. instr.Local (local.Show x.0 x.1)) (to, from) rest h
+instr_again (instr.Local (local.ReadInt to from skip)) rest h = as_is_again two_registers_and_skip.format (λ x. instr.Local (local.ReadInt x.0 x.1.0 x.1.1)) (to, (from, skip)) rest (h.0, (h.1, h.2))
+instr_again (instr.Local (local.Jump skip)) rest h = as_is_again skip_strict.format (λ x. instr.Local (local.Jump x)) skip rest h
+instr_again (instr.Local (local.JumpEqual left right skip)) rest h = as_is_again two_registers_and_skip.format (λ x. instr.Local (local.JumpEqual x.0 x.1.0 x.1.1)) (left, (right, skip)) rest (h.0, (h.1, h.2))
+instr_again (instr.Local (local.JumpLess left right skip)) rest h = as_is_again two_registers_and_skip.format (λ x. instr.Local (local.JumpLess x.0 x.1.0 x.1.1)) (left, (right, skip)) rest (h.0, (h.1, h.2))
+instr_again (instr.Local (local.Repeat turns)) rest h = as_is_again turns_strict.format (λ x. instr.Local (local.Repeat x)) turns rest h
+instr_again (instr.Local local.End) rest h = refl
+instr_again (instr.Data (on_data.Store datum from)) rest h = as_is_again two_registers.format (λ x. instr.Data (on_data.Store x.0 x.1)) (datum, from) rest h
+instr_again instr.Ret rest h = refl
+
+-- behind a code that is known
+in_operands : (c : ℕ) → GoesOn (HasCode c) operand_items (operands_at c) IsInstr instr_items instr_at (concat (byte c ∷ []))
+unfolding instr_at
+in_operands c = record { due = due_after (λ x. x) (λ x h. h.0) (byte c ∷ []) (λ x h. h.1); fails = λ rest d h. h }
+
+pub instr_strict : IsStrict IsInstr instr_items instr_at
+unfolding instr_at
+instr_strict = record { format = record { takes = takes; again = instr_again }; some = instr.Ret; some_fits = tt; fails = fails } where
+  takes : (bytes : List ℕ) (x : Instr) (rest : List ℕ) → IsBytes bytes → instr_at bytes ≡ Ok (x, rest) → Takes bytes (concat (instr_items x)) rest × IsInstr x
+  takes [] x rest fits e = absurd cc
+  takes (c ∷ bytes) x rest fits e = operands.takes c bytes x rest fits e
+
+  fails : (bytes : List ℕ) (f : Broken) → IsBytes bytes → instr_at bytes ≡ Err f → FailsAt IsInstr instr_items instr_at bytes f
+  fails [] f fits e = inl (nothing_left f instr.Ret tt 0x42 [] refl (err_is {Z = Instr × List ℕ} _ f e))
+  fails (c ∷ bytes) f fits e =
+      elim (operands.fails c bytes f (IsBytes-rest c bytes fits) e) [
+        | inl m ↦ inr (wrong_byte c bytes Unknown f instr.Ret tt 0x42 [] refl tt m.0 m.1)
+        | inr b ↦ carried (in_operands c) bytes (c ∷ bytes) f refl b
+      ]

@@ -1,0 +1,129 @@
+//! The items of a program's bytes, and types, from the front of what is left.
+
+ghost use Rattle.std.specs.Prelude.{◌≡◌, ◌≤◌, IfOk};
+ghost use Rattle.tw_code.specs.format.Reading.{Gives, byte_at, wide_at, number_at, exactly_at, kind_at, mode_at, scalar_at, type_at, as_is};
+ghost use Rattle.tw_types.specs.DataType.{scalar_type};
+
+use crate::fault::{FaultNo, Stop};
+use tw_types::{DataType, Kind, Mode, Scalar};
+
+/// One byte from `low` to `high`.
+#[tactic(auto, unfolding(crate::specs::format::Reading::byte_at))]
+pub fn byte_of(low: u8, high: u8, bytes: &[u8]) -> Result<(u8, &[u8]), Stop>
+    ensures { Gives (λ x. (x.0, x.1.now)) result (byte_at low high bytes.now) }
+{
+    match bytes {
+        [] => Err(Stop::missing()),
+        [b, rest @ ..] if low <= *b && *b <= high => Ok((*b, rest)),
+        _ => Err(Stop::wrong(FaultNo::Limit, bytes)),
+    }
+}
+
+/// Two bytes that make a number from `low` to `high`.
+#[tactic(auto, unfolding(crate::specs::format::Reading::wide_at))]
+pub fn wide_of(low: u16, high: u16, bytes: &[u8]) -> Result<(u16, &[u8]), Stop>
+    ensures reads { Gives (λ x. (x.0, x.1.now)) result (wide_at low high bytes.now) }
+    ensures within { IfOk result (λ x. x.0 ≤ high) }
+{
+    if bytes.len() < 2 {
+        return Err(Stop::missing());
+    }
+    let (front, rest) = bytes.split_at(2);
+    let number = u16::from_be_bytes([front[0], front[1]]);
+    if low <= number && number <= high {
+        Ok((number, rest))
+    } else {
+        Err(Stop::wrong(FaultNo::Limit, bytes))
+    }
+}
+
+/// Eight bytes: a signed number.
+#[tactic(auto, unfolding(crate::specs::format::Reading::number_at))]
+pub fn number_of(bytes: &[u8]) -> Result<(i64, &[u8]), Stop>
+    ensures { Gives (λ x. (x.0, x.1.now)) result (number_at bytes.now) }
+{
+    if bytes.len() < 8 {
+        return Err(Stop::missing());
+    }
+    let (front, rest) = bytes.split_at(8);
+    let number = i64::from_be_bytes([
+        front[0], front[1], front[2], front[3], front[4], front[5], front[6], front[7],
+    ]);
+    Ok((number, rest))
+}
+
+/// Just this byte; another one is this fault.
+#[tactic(auto, unfolding(crate::specs::format::Reading::exactly_at))]
+pub fn exactly(wanted: u8, no: FaultNo, bytes: &[u8]) -> Result<(u8, &[u8]), Stop>
+    ensures { Gives (λ x. (x.0, x.1.now)) result (exactly_at wanted no bytes.now) }
+{
+    match bytes {
+        [] => Err(Stop::missing()),
+        [b, rest @ ..] if *b == wanted => Ok((*b, rest)),
+        _ => Err(Stop::wrong(no, bytes)),
+    }
+}
+
+#[tactic(auto, unfolding(crate::specs::format::Reading::kind_at))]
+pub fn kind_of(bytes: &[u8]) -> Result<(Kind, &[u8]), Stop>
+    ensures { Gives (λ x. (x.0, x.1.now)) result (kind_at bytes.now) }
+{
+    match bytes {
+        [] => Err(Stop::missing()),
+        [0, rest @ ..] => Ok((Kind::Control, rest)),
+        [1, rest @ ..] => Ok((Kind::Leaf, rest)),
+        _ => Err(Stop::wrong(FaultNo::Unknown, bytes)),
+    }
+}
+
+#[tactic(auto, unfolding(crate::specs::format::Reading::mode_at))]
+pub fn mode_of(bytes: &[u8]) -> Result<(Mode, &[u8]), Stop>
+    ensures { Gives (λ x. (x.0, x.1.now)) result (mode_at bytes.now) }
+{
+    match bytes {
+        [] => Err(Stop::missing()),
+        [1, rest @ ..] => Ok((Mode::Val, rest)),
+        [2, rest @ ..] => Ok((Mode::Closed, rest)),
+        [3, rest @ ..] => Ok((Mode::Ref, rest)),
+        [4, rest @ ..] => Ok((Mode::Write, rest)),
+        _ => Err(Stop::wrong(FaultNo::Unknown, bytes)),
+    }
+}
+
+#[tactic(auto, unfolding(crate::specs::format::Reading::scalar_at))]
+pub fn scalar_of(bytes: &[u8]) -> Result<(Scalar, &[u8]), Stop>
+    ensures { Gives (λ x. (x.0, x.1.now)) result (scalar_at bytes.now) }
+{
+    match bytes {
+        [] => Err(Stop::missing()),
+        [1, rest @ ..] => Ok((Scalar::Int, rest)),
+        [2, rest @ ..] => Ok((Scalar::Text, rest)),
+        _ => Err(Stop::wrong(FaultNo::Unknown, bytes)),
+    }
+}
+
+/// A type with no container.
+pub fn scalar_type_of(bytes: &[u8]) -> Result<(DataType, &[u8]), Stop>
+    ensures { Gives (λ x. (x.0, x.1.now)) result (as_is scalar_type scalar_at bytes.now) }
+{
+    let (scalar, rest) = scalar_of(bytes)?;
+    Ok((DataType::from(scalar), rest))
+}
+
+/// A type with room for so many containers.
+#[tactic(auto, unfolding(crate::specs::format::Reading::type_at))]
+pub fn type_of(room: u8, bytes: &[u8]) -> Result<(DataType, &[u8]), Stop>
+    requires { room ≤ 3 }
+    ensures reads { Gives (λ x. (x.0, x.1.now)) result (type_at room bytes.now) }
+    ensures within { IfOk result (λ x. x.0.depth ≤ room) }
+{
+    match bytes {
+        [] => Err(Stop::missing()),
+        [3, _rest @ ..] if room == 0 => Err(Stop::wrong(FaultNo::Nesting, bytes)),
+        [3, rest @ ..] => match type_of(room - 1, rest) {
+            Ok((element, rest)) => Ok((element.cont().unwrap(), rest)),
+            Err(e) => Err(e),
+        },
+        _ => scalar_type_of(bytes),
+    }
+}

@@ -1,0 +1,118 @@
+//! Programs from bytes.
+
+ghost use Rattle.std.specs.Prelude.{◌≡◌, List, IfOk, IfErr, Ok};
+ghost use Rattle.tw_code.specs.format.Fault.{IsFirstFault};
+ghost use Rattle.tw_code.specs.format.Program.{IsProgram};
+ghost use Rattle.tw_code.specs.format.Reading.{Gives, procedure_at, header_at, many, counted, byte_at, whole, program_of, Answers};
+ghost use Rattle.tw_code.specs.format.Spelling.{spelling};
+ghost use Rattle.tw_code.specs.declared.procedure.Procedure.{Procedure};
+
+use crate::fault::{Fault, FaultNo, Stop};
+use crate::items::*;
+use crate::parts::*;
+use crate::procedure::Procedure;
+use crate::program::Program;
+use std::alloc::Global;
+
+#[tactic(auto, unfolding(crate::specs::format::Reading::procedure_at))]
+fn procedure_of(alloc: Global, bytes: &[u8]) -> Result<(Procedure, &[u8]), Stop>
+    ensures { Gives (λ x. (x.0, x.1.now)) result (procedure_at bytes.now) }
+{
+    let (kind, rest) = kind_of(bytes)?;
+    let (params, rest) = match params_of(alloc, rest) {
+        Ok(read) => read,
+        Err(e) => return Err(e),
+    };
+    let (registers, rest) = registers_of(alloc, rest)?;
+    let (code, rest) = code_of(alloc, rest)?;
+    Ok((
+        Procedure {
+            kind,
+            params,
+            registers,
+            code,
+        },
+        rest,
+    ))
+}
+
+#[tactic(auto, using(crate::proofs::Loop::goes_on, crate::proofs::Loop::ends))]
+fn some_procedures(alloc: Global, count: u8, bytes: &[u8]) -> Result<(Vec<Procedure>, &[u8]), Stop>
+    ensures { Gives (λ x. (x.0.items, x.1.now)) result (many procedure_at count bytes.now) }
+{
+    let mut procedures = Vec::new(alloc);
+    let mut rest = bytes;
+    for _ in 0..count {
+        match procedure_of(alloc, rest) {
+            Ok((procedure, after)) => {
+                procedures.push(procedure)?;
+                rest = after;
+            }
+            Err(e) => return Err(e),
+        }
+    }
+    Ok((procedures, rest))
+}
+
+/// 1 to 64 procedures, behind their number.
+fn procedures_of(alloc: Global, bytes: &[u8]) -> Result<(Vec<Procedure>, &[u8]), Stop>
+    ensures { Gives (λ x. (x.0.items, x.1.now)) result (counted (byte_at 1 64) procedure_at bytes.now) }
+{
+    let (count, rest) = byte_of(1, 64, bytes)?;
+    some_procedures(alloc, count, rest)
+}
+
+/// The magic bytes and the version.
+#[tactic(auto, unfolding(crate::specs::format::Reading::header_at))]
+fn header_of(bytes: &[u8]) -> Result<&[u8], Stop>
+    ensures { Gives (λ x. (tt, x.now)) result (header_at bytes.now) }
+{
+    let (_, rest) = exactly(0x54, FaultNo::Magic, bytes)?;
+    let (_, rest) = exactly(0x57, FaultNo::Magic, rest)?;
+    let (_, rest) = exactly(0x42, FaultNo::Magic, rest)?;
+    let (_, rest) = exactly(1, FaultNo::Version, rest)?;
+    Ok(rest)
+}
+
+#[tactic(auto, unfolding(crate::specs::format::Reading::whole))]
+fn whole_of(alloc: Global, bytes: &[u8]) -> Result<Vec<Procedure>, Stop>
+    ensures { Gives (λ v. v.items) result (whole bytes.now) }
+{
+    let rest = header_of(bytes)?;
+    match procedures_of(alloc, rest) {
+        Ok((procedures, rest)) => {
+            if rest.is_empty() {
+                Ok(procedures)
+            } else {
+                Err(Stop::wrong(FaultNo::Trailing, rest))
+            }
+        }
+        Err(e) => Err(e),
+    }
+}
+
+/// The program that the bytes spell, all of them; or the first fault from the left.
+pub fn decode(alloc: Global, bytes: &[u8]) -> Result<Program, Fault>
+    // What is read is spelled so.
+    ensures found { IfOk result (λ p. IsProgram p × (bytes.now ≡ spelling p)) }
+    // What is spelled so is read, unless memory runs out.
+    ensures only { (p : List Procedure)
+        → IsProgram p → bytes.now ≡ spelling p → Answers result (Ok p) }
+    // A refusal is the first fault, by the spellings of programs alone: the item that is due
+    // is wrong or cut off, or bytes follow a whole program.
+    ensures first { IfErr result (λ f. IsFirstFault f.no bytes.now f.offset) }
+    // Which program, or which fault, it is: what reading from left to right gives.
+    ensures exact { Answers result (program_of bytes.now) }
+{
+    match whole_of(alloc, bytes) {
+        Ok(procedures) => Ok(Program::new(procedures)),
+        Err(Stop::OutOfMemory) => Err(Fault {
+            no: FaultNo::Memory,
+            offset: 0,
+        }),
+        Err(Stop::At(broken)) => Err(Fault {
+            no: broken.no,
+            offset: bytes.len().saturating_sub(broken.left),
+        }),
+    }
+}

@@ -1,0 +1,219 @@
+//! Programs as bytes.
+
+ghost use Rattle.std.specs.Prelude.{◌≡◌, ◌++◌, ◌≤◌, length, OnOk, IfOk};
+ghost use Rattle.std.specs.List.{concat};
+ghost use Rattle.tw_code.specs.declared.instr.LocalInstr.TheVariants as local;
+ghost use Rattle.tw_code.specs.format.Program.{IsInstr, IsList, IsLocalInstr, IsProcedure};
+ghost use Rattle.tw_code.specs.format.Spelling.{kind_code, mode_code, scalar_code, operation_code, byte, wide, type_items, param_items, scalar_items, local_items, data_items, instr_items, counted_items, procedure_items, spelling};
+
+use crate::fault::NoMemory;
+use crate::instr::{Arithmetic, DataInstr, Instr, LocalInstr};
+use crate::procedure::Procedure;
+use crate::program::Program;
+use std::alloc::{AllocError, Global};
+use tw_types::{DataType, Kind, Mode, Param, Scalar, Text};
+
+fn code_of_kind(kind: Kind) -> u8
+    ensures { result ≡ kind_code kind }
+{
+    match kind {
+        Kind::Control => 0,
+        Kind::Leaf => 1,
+    }
+}
+
+fn code_of_mode(mode: Mode) -> u8
+    ensures { result ≡ mode_code mode }
+{
+    match mode {
+        Mode::Val => 1,
+        Mode::Closed => 2,
+        Mode::Ref => 3,
+        Mode::Write => 4,
+    }
+}
+
+fn code_of_scalar(scalar: Scalar) -> u8
+    ensures { result ≡ scalar_code scalar }
+{
+    match scalar {
+        Scalar::Int => 1,
+        Scalar::Text => 2,
+    }
+}
+
+fn code_of_operation(operation: Arithmetic) -> u8
+    ensures { result ≡ operation_code operation }
+{
+    match operation {
+        Arithmetic::Add => 0x10,
+        Arithmetic::Subtract => 0x11,
+        Arithmetic::Multiply => 0x12,
+        Arithmetic::Divide => 0x13,
+        Arithmetic::Remainder => 0x14,
+    }
+}
+
+fn put_type(out: &mut Vec<u8>, ty: DataType) -> Result<(), AllocError>
+    ensures { OnOk result (out.new.items ≡ out.old.items ++ concat (type_items ty)) }
+{
+    match ty.element() {
+        Some(element) => {
+            out.push(3)?;
+            put_type(out, element)
+        }
+        None => {
+            out.push(code_of_scalar(ty.scalar()))?;
+            Ok(())
+        }
+    }
+}
+
+fn put_param(out: &mut Vec<u8>, param: Param) -> Result<(), AllocError>
+    ensures { OnOk result (out.new.items ≡ out.old.items ++ concat (param_items param)) }
+{
+    out.push(code_of_mode(param.mode))?;
+    put_type(out, param.ty)
+}
+
+fn put_int(out: &mut Vec<u8>, to: u8, value: i64) -> Result<(), AllocError>
+    ensures { OnOk result (out.new.items
+        ≡ out.old.items ++ concat (local_items (local.Int to value))) }
+{
+    out.push(0x01)?;
+    out.push(to)?;
+    out.extend_from_slice(&value.to_be_bytes())?;
+    Ok(())
+}
+
+/// These bytes, and then a number of two bytes.
+fn put_wide(out: &mut Vec<u8>, front: &[u8], number: u16) -> Result<(), AllocError>
+    ensures { OnOk result (out.new.items ≡ out.old.items ++ (front.now ++ wide number)) }
+{
+    out.extend_from_slice(front)?;
+    out.extend_from_slice(&number.to_be_bytes())
+}
+
+fn put_text(out: &mut Vec<u8>, to: u8, text: &Text) -> Result<(), AllocError>
+    ensures { OnOk result (out.new.items
+        ≡ out.old.items ++ concat (local_items (local.Text to text.now))) }
+{
+    let bytes = text.as_str().as_bytes();
+    put_wide(out, &[0x02, to], bytes.len() as u16)?;
+    out.extend_from_slice(bytes)
+}
+
+fn put_local(out: &mut Vec<u8>, instr: &LocalInstr) -> Result<(), AllocError>
+    requires { IsLocalInstr instr.now }
+    ensures { OnOk result (out.new.items ≡ out.old.items ++ concat (local_items instr.now)) }
+{
+    match instr {
+        LocalInstr::Int { to, value } => put_int(out, *to, *value),
+        LocalInstr::Text { to, text } => put_text(out, *to, text),
+        LocalInstr::Copy { to, from } => out.extend_from_slice(&[0x03, *to, *from]),
+        LocalInstr::Compute {
+            operation,
+            to,
+            left,
+            right,
+            skip,
+        } => {
+            let code = code_of_operation(*operation);
+            put_wide(out, &[code, *to, *left, *right], *skip)
+        }
+        LocalInstr::Concatenate {
+            to,
+            left,
+            right,
+            skip,
+        } => put_wide(out, &[0x18, *to, *left, *right], *skip),
+        LocalInstr::Length { to, from } => out.extend_from_slice(&[0x19, *to, *from]),
+        LocalInstr::Show { to, from } => out.extend_from_slice(&[0x1a, *to, *from]),
+        LocalInstr::ReadInt { to, from, skip } => put_wide(out, &[0x1b, *to, *from], *skip),
+        LocalInstr::Jump { skip } => put_wide(out, &[0x20], *skip),
+        LocalInstr::JumpEqual { left, right, skip } => put_wide(out, &[0x21, *left, *right], *skip),
+        LocalInstr::JumpLess { left, right, skip } => put_wide(out, &[0x22, *left, *right], *skip),
+        LocalInstr::Repeat { turns } => put_wide(out, &[0x23], *turns),
+        LocalInstr::End => out.extend_from_slice(&[0x24]),
+    }
+}
+
+fn put_data(out: &mut Vec<u8>, instr: DataInstr) -> Result<(), AllocError>
+    ensures { OnOk result (out.new.items ≡ out.old.items ++ concat (data_items instr)) }
+{
+    match instr {
+        DataInstr::Store { datum, from } => out.extend_from_slice(&[0x31, datum, from]),
+    }
+}
+
+fn put_instr(out: &mut Vec<u8>, instr: &Instr) -> Result<(), AllocError>
+    requires { IsInstr instr.now }
+    ensures { OnOk result (out.new.items ≡ out.old.items ++ concat (instr_items instr.now)) }
+{
+    match instr {
+        Instr::Local(instr) => put_local(out, instr),
+        Instr::Data(instr) => put_data(out, *instr),
+        Instr::Ret => out.extend_from_slice(&[0x42]),
+    }
+}
+
+fn put_params(out: &mut Vec<u8>, params: &[Param]) -> Result<(), AllocError>
+    requires { length params.now ≤ 8 }
+    ensures { OnOk result (out.new.items
+        ≡ out.old.items ++ concat (counted_items byte param_items params.now)) }
+{
+    out.push(params.len() as u8)?;
+    for param in params {
+        put_param(out, *param)?;
+    }
+    Ok(())
+}
+
+fn put_registers(out: &mut Vec<u8>, registers: &[Scalar]) -> Result<(), AllocError>
+    requires { length registers.now ≤ 16 }
+    ensures { OnOk result (out.new.items
+        ≡ out.old.items ++ concat (counted_items byte scalar_items registers.now)) }
+{
+    out.push(registers.len() as u8)?;
+    for register in registers {
+        out.push(code_of_scalar(*register))?;
+    }
+    Ok(())
+}
+
+fn put_code(out: &mut Vec<u8>, code: &[Instr]) -> Result<(), AllocError>
+    requires { IsList 1 4096 IsInstr code.now }
+    ensures { OnOk result (out.new.items
+        ≡ out.old.items ++ concat (counted_items wide instr_items code.now)) }
+{
+    out.extend_from_slice(&(code.len() as u16).to_be_bytes())?;
+    for instr in code {
+        put_instr(out, instr)?;
+    }
+    Ok(())
+}
+
+fn put_procedure(out: &mut Vec<u8>, procedure: &Procedure) -> Result<(), AllocError>
+    requires { IsProcedure procedure.now }
+    ensures { OnOk result (out.new.items
+        ≡ out.old.items ++ concat (procedure_items procedure.now)) }
+{
+    out.push(code_of_kind(procedure.kind))?;
+    put_params(out, procedure.params.as_slice())?;
+    put_registers(out, procedure.registers.as_slice())?;
+    put_code(out, procedure.code.as_slice())?;
+    Ok(())
+}
+
+/// The one spelling of a program.
+pub fn encode(alloc: Global, program: &Program) -> Result<Vec<u8>, NoMemory>
+    ensures { IfOk result (λ bytes. bytes.items ≡ spelling program.now) }
+{
+    let procedures = program.procedures();
+    let mut out = Vec::new(alloc);
+    out.extend_from_slice(&[0x54, 0x57, 0x42, 1, procedures.len() as u8])?;
+    for procedure in procedures {
+        put_procedure(&mut out, procedure)?;
+    }
+    Ok(out)
+}
