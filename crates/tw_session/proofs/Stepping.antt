@@ -20,19 +20,11 @@ use Rattle.tw_session.specs.Run.{plain_setup}
 use Rattle.tw_session.specs.driver.Driving.{IsAlone, IsDone, IsDriven}
 use Rattle.tw_session.specs.driver.Schedule.{AreDue, IsScheduled}
 use Rattle.tw_session.specs.driver.Next.{engine, most_steps, IsNext, IsDue, IsDueFor}
+use Rattle.tw_code.proofs.Growth.{below_more}
 use Rattle.tw_session.proofs.Never.{IsEnabled}
 use Rattle.tw_session.proofs.Silent.{none_noticed}
 use Rattle.tw_session.proofs.Driving.{take_due, take_enabled, take_leaves, next_enabled, next_leaves, alone_goes_on, done_is_quiet}
 use Rattle.tw_session.proofs.Runs.{run_more, due_more}
-
-pub below_larger : (a b : ℕ) (s : State) → a ≤ b → AreBelow a s → AreBelow b s
-below_larger a b s le h = record {
-  numbers = record { datum = omega (arith, h.numbers.datum); task = omega (arith, h.numbers.task) };
-  reads = λ id x is. omega (arith, h.reads id x is);
-  writes = λ id x is. omega (arith, h.writes id x is);
-  members = λ id x is. omega (arith, h.members id x is);
-  spent = λ actor frame is. omega (arith, h.spent actor frame is);
-}
 
 no_event : (program : List Procedure) (s : State) → run program plain_setup.layout [] s ≡ Went s
 unfolding run
@@ -62,7 +54,7 @@ module _ (program : List Procedure) (layout : ActorCounts) (s : State) (one : la
         long = refl;
         frame = alone.0;
         alone = alone.1;
-        below = below_larger (opening_bound + 1) (opening_bound + 1 * most_steps) t (omega arith) below;
+        below = below_more (opening_bound + 1) (opening_bound + 1 * most_steps) t (omega arith) below;
       }
     where
       by_main : (program : List Procedure) (t : State) → 0 < length program → step program plain_setup.layout (Take engine) (opening program []) ≡ Went t → (f : Frame) × IsAlone t f
@@ -115,7 +107,7 @@ module _ (program : List Procedure) (layout : ActorCounts) (made : ℕ) (s : Sta
         long = omega (arith, length-append d.history (event ∷ []), d.long);
         frame = a.0;
         alone = a.1;
-        below = below_larger (opening_bound + made * most_steps + size_of event) (opening_bound + (made + 1) * most_steps) t (omega arith) below;
+        below = below_more (opening_bound + made * most_steps + size_of event) (opening_bound + (made + 1) * most_steps) t (omega arith) below;
       }
       by_end (inr done) = absurd (none_is_some Quiet (sym none ∙ done_is_quiet t done (none_noticed program plain_setup.layout (d.history ++ event ∷ []) t (longer t e))))
 

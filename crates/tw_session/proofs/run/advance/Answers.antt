@@ -3,7 +3,8 @@ use Rattle.std.specs.FinMap as fin
 use Rattle.tw_code.specs.declared.procedure.Procedure.{Procedure}
 use Rattle.tw_code.specs.machine.State.{State}
 use Rattle.tw_session.specs.driver.Next.{engine, IsNext, most_steps}
-use Rattle.tw_session.proofs.Stepping.{not_disabled, go_enabled, go_on, go_end, go_trap}
+use Rattle.tw_session.proofs.Never.{not_disabled}
+use Rattle.tw_session.proofs.Stepping.{go_enabled, go_on, go_end, go_trap}
 use Rattle.tw_session.proofs.run.advance.Goals as goal
 
 pub unreachable-requires-in-NotEnabled : goal.unreachable-requires-in-NotEnabled

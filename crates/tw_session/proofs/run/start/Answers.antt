@@ -1,9 +1,11 @@
 use Rattle.std.proofs.Common.{◌^◌, arith}
-use Rattle.tw_session.proofs.Stepping.{below_larger, not_disabled, start_enabled, start_goes, start_traps}
+use Rattle.tw_code.proofs.Growth.{below_more}
+use Rattle.tw_session.proofs.Never.{not_disabled}
+use Rattle.tw_session.proofs.Stepping.{start_enabled, start_goes, start_traps}
 use Rattle.tw_session.proofs.run.start.Goals as goal
 
 pub step-requires-clause-small : goal.step-requires-clause-small
-step-requires-clause-small c = below_larger opening_bound (2 ^ 63) c.args.plain.now.state (omega arith) c.requires.below
+step-requires-clause-small c = below_more opening_bound (2 ^ 63) c.args.plain.now.state (omega arith) c.requires.below
 
 pub unreachable-requires : goal.unreachable-requires
 unreachable-requires c = not_disabled _ (start_enabled c.args.plain.now.program c.args.plain.now.layout c.args.plain.now.state c.requires.layout c.requires.opened c.requires.main) c.in-NotEnabled.ensures.steps.0
