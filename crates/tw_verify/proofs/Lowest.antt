@@ -1,18 +1,23 @@
 -- The lowest number of questions.
-use Rattle.std.proofs.Common.{◌≡◌, ℕ, suc, ◌==◌, ◌<◌, ◌≤◌, ◌⊎◌, inl, inr, Bool, true, false, ◌&&◌, List, [], ◌∷◌, ◌++◌, Option, Some, None, refl, sym, ap, ◌∙◌, subst, arith}
+use Rattle.std.proofs.Common.{◌≡◌, ℕ, suc, ◌==◌, ◌<◌, ◌≤◌, ◌⊎◌, inl, inr, Bool, true, false, List, [], ◌∷◌, ◌++◌, Option, Some, None, refl, sym, ap, ◌∙◌, subst, arith}
 use Rattle.std.specs.Prelude.{nat_lt, if◌then◌else◌}
 use Rattle.std.specs.Bool.{then_some}
 use Rattle.std.specs.List.{list_all}
 use Rattle.std.specs.Option.{option_map}
-use Rattle.std.proofs.lemmas.Bool.{leb-true, leb-false}
+use Rattle.std.proofs.lemmas.Bool.{and_parts, leb-true, leb-false}
 use Rattle.std.proofs.lemmas.Bool.Decides.{nat_tests}
 use Rattle.std.proofs.lemmas.Option.{same_Some}
+use Rattle.tw_types.specs.declared.data_type.Scalar.{Scalar}
+use Rattle.tw_code.specs.declared.instr.DataInstr.{DataInstr}
+use Rattle.tw_code.specs.declared.instr.DataInstr.TheVariants as on_data
+use Rattle.tw_code.specs.declared.instr.LocalInstr.{LocalInstr}
+use Rattle.tw_code.specs.declared.instr.LocalInstr.TheVariants as local
 use Rattle.tw_code.specs.declared.instr.Instr.{Instr}
 use Rattle.tw_code.specs.declared.instr.Instr.TheVariants as instr
 use Rattle.tw_code.specs.declared.procedure.Procedure.{Procedure}
 use Rattle.tw_code.specs.accepting.Question.{Question, lower, refusal_in}
 use Rattle.tw_code.specs.machine.Rights.{Typing}
-use Rattle.tw_code.specs.accepting.Typing.{asks, asks_params, asks_at}
+use Rattle.tw_code.specs.accepting.Typing.{asks_local, asks_data, asks, asks_params, asks_at}
 use Rattle.tw_verify.specs.declared.refusal.VerifyRefusal.{VerifyRefusal}
 use Rattle.tw_verify.specs.Passes.{lowest_of, lowest_at}
 use Rattle.tw_verify.specs.Refusal.{verify_refusal_number}
@@ -140,14 +145,10 @@ lower_below n (Some m) h k = either (nat_lt m n)
     either true = k
     either false = h
 
-pub and_true : (a b : Bool) → (a && b) ≡ true → (a ≡ true) × (b ≡ true)
-and_true true b h = (refl, h)
-and_true false b h = cc
-
 refusal_in_below : (qs : List Question) → list_all is_below qs ≡ true → IsBelow (refusal_in qs)
 refusal_in_below [] h = tt
 refusal_in_below (q ∷ qs) h =
-    let both = and_true (is_below q) (list_all is_below qs) h in
+    let both = and_parts (is_below q) (list_all is_below qs) h in
     either q.1 (refusal_in_below qs both.1) (leb-true (suc q.0) 18 both.0)
   where
     either : (b : Bool) → IsBelow (refusal_in qs) → suc q.0 ≤ 18 → IsBelow (if b then refusal_in qs else Some (lower q.0 (refusal_in qs)))
@@ -158,21 +159,27 @@ pub refusal_number : (qs : List Question) (number : ℕ) → list_all is_below q
 refusal_number qs number below h = subst IsBelow h (refusal_in_below qs below)
 
 -- a line an instruction
+local_below : (registers : List Scalar) (i : LocalInstr) → list_all is_below (asks_local registers i) ≡ true
+local_below registers (local.Int to n) = refl
+local_below registers (local.Text to text) = refl
+local_below registers (local.Copy to from) = refl
+local_below registers (local.Compute operation to left right skip) = refl
+local_below registers (local.Concatenate to left right skip) = refl
+local_below registers (local.Length to from) = refl
+local_below registers (local.Show to from) = refl
+local_below registers (local.ReadInt to from skip) = refl
+local_below registers (local.Jump skip) = refl
+local_below registers (local.JumpEqual left right skip) = refl
+local_below registers (local.JumpLess left right skip) = refl
+local_below registers (local.Repeat turns) = refl
+local_below registers local.End = refl
+
+data_below : (registers : List Scalar) (i : DataInstr) (typing : Typing) → list_all is_below (asks_data registers i typing) ≡ true
+data_below registers (on_data.Store datum from) typing = refl
+
 asks_below : (program : List Procedure) (p : Procedure) (i : Instr) (typing : Typing) → list_all is_below (asks program p i typing) ≡ true
-asks_below program p (instr.Int to n) typing = refl
-asks_below program p (instr.Text to text) typing = refl
-asks_below program p (instr.Copy to from) typing = refl
-asks_below program p (instr.Compute operation to left right skip) typing = refl
-asks_below program p (instr.Concatenate to left right skip) typing = refl
-asks_below program p (instr.Length to from) typing = refl
-asks_below program p (instr.Show to from) typing = refl
-asks_below program p (instr.ReadInt to from skip) typing = refl
-asks_below program p (instr.Jump skip) typing = refl
-asks_below program p (instr.JumpEqual left right skip) typing = refl
-asks_below program p (instr.JumpLess left right skip) typing = refl
-asks_below program p (instr.Repeat turns) typing = refl
-asks_below program p instr.End typing = refl
-asks_below program p (instr.Store datum from) typing = refl
+asks_below program p (instr.Local i) typing = local_below p.registers i
+asks_below program p (instr.Data i) typing = data_below p.registers i typing
 asks_below program p instr.Ret typing = refl
 
 asks_at_below : (program : List Procedure) (p : Procedure) (place : ℕ) (i : Instr) (typing : Typing) → list_all is_below (asks_at program p place i typing) ≡ true

@@ -14,7 +14,7 @@ use Rattle.tw_code.specs.accepting.Typing.{start_typing, asks_at, after}
 use Rattle.tw_code.specs.accepting.WellTyped.{LeadsTo, IsEndOf, IsWellTyped, Brings, IsReached, IsRefusalAt, IsTypingRefusal}
 use Rattle.tw_verify.specs.declared.rows.Reached.{Reached}
 use Rattle.tw_verify.specs.Passes.{lowest_at, HasChanged}
-use Rattle.tw_code.proofs.Lists.{get_pushed}
+use Rattle.tw_verify.proofs.Lists.{get_pushed}
 use Rattle.tw_verify.proofs.Lowest.{IsCause, cause_at, least_at}
 use Rattle.tw_verify.proofs.Places.{loop_within}
 use Rattle.tw_verify.proofs.Reaching.{turn_of, HasReached, IsRow}
@@ -96,7 +96,7 @@ unreached program p typings place w (some, none) inside = record {
   typings = typings;
   before = w;
   none = λ others v. let entry = v.entered place some (omega arith) in never entry.0 entry.1;
-  refused = record { refused = inl (record { is = refl; later = some; never = never }); lowest = lowest };
+  lowest = record { refusal = inl (record { is = refl; later = some; never = never }); lowest = lowest };
 }
   where
     never : (before : ℕ) → LeadsTo p.code before place → ⊥
@@ -128,7 +128,7 @@ refused_at program p typings place number r i changed w h here has kept is = rec
   typings = typings;
   before = w;
   none = λ others v. none others v cause;
-  refused = record { refused = refused cause; lowest = lowest };
+  lowest = record { refusal = refusal cause; lowest = lowest };
 }
   where
     own : Option ℕ
@@ -137,10 +137,10 @@ refused_at program p typings place number r i changed w h here has kept is = rec
     cause : IsCause own r.differs changed number
     cause = cause_at own r.differs changed number is
 
-    refused : IsCause own r.differs changed number → IsRefusalAt program p typings number place
-    refused (inl e) = inr (inl (record { typing = r.typing; reached = h.first; instr = i; here = here; vain = e }))
-    refused (inr (inl (e, seven))) = let o = h.another e in inr (inr (inl (record { is = seven; typing = r.typing; reached = h.first; before = o.0; other = o.1; brings = o.2; differs = o.3 })))
-    refused (inr (inr (e, eight))) = let o = has e in inr (inr (inr (record { is = eight; typing = r.typing; reached = h.first; first = o.first; end = o.end; begun = o.begun; there = o.there; differs = o.differs })))
+    refusal : IsCause own r.differs changed number → IsRefusalAt program p typings number place
+    refusal (inl e) = inr (inl (record { typing = r.typing; reached = h.first; instr = i; here = here; vain = e }))
+    refusal (inr (inl (e, seven))) = let o = h.another e in inr (inr (inl (record { is = seven; typing = r.typing; reached = h.first; before = o.0; other = o.1; brings = o.2; differs = o.3 })))
+    refusal (inr (inr (e, eight))) = let o = has e in inr (inr (inr (record { is = eight; typing = r.typing; reached = h.first; first = o.first; end = o.end; begun = o.begun; there = o.there; differs = o.differs })))
 
     none : (others : List Typing) → IsWellTyped program p others (place + 1) → IsCause own r.differs changed number → ⊥
     none others v why = by why

@@ -19,7 +19,7 @@ use Rattle.tw_verify.specs.declared.refusal.VerifyRefusal.TheVariants as refusal
 use Rattle.tw_verify.specs.Passes.{IfFault, refusal_of, IsRefusal}
 use Rattle.tw_verify.specs.Refusal.{verify_refusal_number}
 use Rattle.tw_verify.specs.Verified.{AreFindings, AreTyped, IsTyped}
-use Rattle.tw_code.proofs.Lists.{get_none, get_pushed}
+use Rattle.tw_verify.proofs.Lists.{get_none, get_pushed}
 use Rattle.tw_verify.proofs.Lowest.{refusal_number, asks_number}
 use Rattle.tw_verify.proofs.Typings.{well_typed_front}
 
@@ -59,12 +59,12 @@ pub not_both : (program : List Procedure) (number procedure place : ℕ) → IsA
 not_both program number procedure place a (inl r) = let both : true ≡ false = sym a.main ∙ r.shape in cc
 not_both program number procedure place a (inr r) = by r.refusal
   where
-    own : IsAcceptedProcedure program r.refused
-    own = a.each procedure r.refused r.here
+    own : IsAcceptedProcedure program r.p
+    own = a.each procedure r.p r.here
 
-    by : IsProcedureRefusal program r.refused number place → ⊥
+    by : IsProcedureRefusal program r.p number place → ⊥
     by (inl s) = let both : None ≡ Some number = sym (own.structured place) ∙ s.here in cc
-    by (inr (s, inl t)) = t.none (take (place + 1) own.typable.0) (well_typed_front program r.refused own.typable.0 (length r.refused.code) (place + 1) own.typable.1 (omega (arith, t.inside)))
+    by (inr (s, inl t)) = t.none (take (place + 1) own.typable.0) (well_typed_front program r.p own.typable.0 (length r.p.code) (place + 1) own.typable.1 (omega (arith, t.inside)))
     by (inr (s, inr (t, b))) =
         let over = b.over in
         let walk = over.2 in
@@ -96,14 +96,14 @@ typing_number program p typings number place (inr (inr (inr e))) = omega (arith,
 
 procedure_number : (program : List Procedure) (p : Procedure) (number place : ℕ) → IsProcedureRefusal program p number place → number < 18
 procedure_number program p number place (inl s) = structure_number (flows p.code) place number (slice_get (flows p.code) place) s.here
-procedure_number program p number place (inr (s, inl t)) = typing_number program p t.typings number place t.refused.refused
+procedure_number program p number place (inr (s, inl t)) = typing_number program p t.typings number place t.lowest.refusal
 procedure_number program p number place (inr (s, inr (t, b))) = omega (arith, b.is)
 
 pub refused_by : (program : List Procedure) (all : List Findings) (number : ℕ) (p : Procedure) (stop : Fault) → has_main_shape program ≡ true → AreTyped program all number → slice_get program number ≡ Some p → IfFault stop (IsProcedureRefusal program p)
     → IsRefusal program (refusal_of number stop).no (refusal_of number stop).procedure (refusal_of number stop).place
 refused_by program all number p fault.Memory main t at h = record { first = λ other. absurd (other refl); memory = λ is. (refl, refl) }
 refused_by program all number p (fault.At cause place) main t at h = record {
-  first = λ other. inr (record { main = main; before = λ k q below here. accepted_one program all number k q t below here; refused = p; here = at; refusal = h });
+  first = λ other. inr (record { main = main; before = λ k q below here. accepted_one program all number k q t below here; p = p; here = at; refusal = h });
   memory = λ is. absurd (omega (arith, procedure_number program p (verify_refusal_number cause) place h, ap verify_refusal_number is));
 }
 

@@ -5,15 +5,14 @@ use Rattle.std.specs.Bool.{Decides}
 use Rattle.std.specs.Option.{option_eq}
 use Rattle.std.proofs.Math.ListN.{drop_of_length-le}
 use Rattle.std.proofs.Math.Seq.{take-length}
-use Rattle.std.proofs.lemmas.Bool.{cases_lt, eqb-false, eqb-true}
+use Rattle.std.proofs.lemmas.Bool.{and_parts, cases_lt, eqb-false, eqb-true}
 use Rattle.std.proofs.lemmas.List.{append-nil}
 use Rattle.std.proofs.lemmas.Option.{slice_get_within, slice_get-get_or, same_Some}
 use Rattle.std.proofs.lemmas.Slice.Eq.{slice_eq-Decides}
-use Rattle.tw_types.specs.declared.data_type.Scalar.{Scalar}
-use Rattle.tw_types.specs.declared.data_type.Scalar.TheVariants as scalar
 use Rattle.tw_types.specs.declared.param.Mode.{Mode}
 use Rattle.tw_types.specs.declared.param.Mode.TheVariants.{Val, Closed, Ref, Write}
-use Rattle.tw_types.specs.DataType.{same_scalar}
+use Rattle.tw_types.specs.DataType.{same_type}
+use Rattle.tw_types.specs.Nesting.{NestedScalar}
 use Rattle.tw_code.specs.declared.flow.Way.{Way}
 use Rattle.tw_code.specs.declared.flow.Way.TheVariants.{Done, Refused}
 use Rattle.tw_code.specs.declared.instr.Instr.{Instr}
@@ -23,15 +22,14 @@ use Rattle.tw_code.specs.machine.Rights.{Right, Typing}
 use Rattle.tw_code.specs.accepting.Typing.{start_typing, after}
 use Rattle.tw_code.specs.accepting.WellTyped.{LeadsTo, Brings, IsReached}
 use Rattle.tw_verify.specs.declared.rows.Reached.{Reached}
-use Rattle.tw_types.specs.Actor.{rank_of}
-use Rattle.tw_verify.specs.Passes.{same_right, same_typing, is_place, noted, sent, first_row}
-use Rattle.tw_code.proofs.Lists.{get_front, get_last}
-use Rattle.tw_verify.proofs.Lowest.{and_true}
+use Rattle.tw_verify.specs.Passes.{mode_rank, same_right, same_typing, is_place, noted, sent, first_row}
+use Rattle.tw_verify.proofs.Lists.{get_front, get_last}
+use Rattle.tw_verify.proofs.Scalars.{same_types, type_itself}
 use Rattle.tw_verify.proofs.Typings.{onward_later}
 
 -- ---- the same typing
 
-same_mode : (a b : Mode) → (rank_of a == rank_of b) ≡ true → a ≡ b
+same_mode : (a b : Mode) → (mode_rank a == mode_rank b) ≡ true → a ≡ b
 same_mode Val Val h = refl
 same_mode Val Closed h = cc
 same_mode Val Ref h = cc
@@ -49,45 +47,23 @@ same_mode Write Closed h = cc
 same_mode Write Ref h = cc
 same_mode Write Write h = refl
 
-own_mode : (a : Mode) → (rank_of a == rank_of a) ≡ true
+own_mode : (a : Mode) → (mode_rank a == mode_rank a) ≡ true
 own_mode Val = refl
 own_mode Closed = refl
 own_mode Ref = refl
 own_mode Write = refl
-
-scalars_same : (a b : Scalar) → same_scalar a b ≡ true → a ≡ b
-scalars_same scalar.Int scalar.Int h = refl
-scalars_same scalar.Int scalar.Text h = cc
-scalars_same scalar.Text scalar.Int h = cc
-scalars_same scalar.Text scalar.Text h = refl
-
-own_scalar : (a : Scalar) → same_scalar a a ≡ true
-own_scalar scalar.Int = refl
-own_scalar scalar.Text = refl
-
-own_depth : (n : ℕ) → (n == n) ≡ true
-own_depth n = by (n == n) refl
-  where
-    by : (b : Bool) → (n == n) ≡ b → b ≡ true
-    by true e = refl
-    by false e = absurd (eqb-false n n e refl)
 
 right_told : (a b : Right) → Decides (same_right a b) (a ≡ b)
 right_told a b = (same, λ e. subst (λ (x : Right). same_right a x ≡ true) e own)
   where
     same : same_right a b ≡ true → a ≡ b
     same h =
-        let first = and_true (rank_of a.mode == rank_of b.mode) ((a.ty.depth == b.ty.depth) && same_scalar a.ty.scalar b.ty.scalar) h in
-        let second = and_true (a.ty.depth == b.ty.depth) (same_scalar a.ty.scalar b.ty.scalar) first.1 in
-        let mode = same_mode a.mode b.mode first.0 in
-        let depth = eqb-true a.ty.depth b.ty.depth second.0 in
-        let inner = scalars_same a.ty.scalar b.ty.scalar second.1 in
-        ap (λ (m : Mode). record { mode = m; ty = a.ty }) mode
-        ∙ ap (λ (n : ℕ). record { mode = b.mode; ty = record { depth = n; scalar = a.ty.scalar } }) depth
-        ∙ ap (λ (s : Scalar). record { mode = b.mode; ty = record { depth = b.ty.depth; scalar = s } }) inner
+        let both = and_parts (mode_rank a.mode == mode_rank b.mode) (same_type a.ty b.ty) h in
+        ap (λ (m : Mode). record { mode = m; ty = a.ty }) (same_mode a.mode b.mode both.0)
+        ∙ ap (λ (t : NestedScalar). record { mode = b.mode; ty = t }) (same_types a.ty b.ty both.1)
 
     own : same_right a a ≡ true
-    own = rw own_mode (rw own_depth (own_scalar a.ty.scalar))
+    own = rw (own_mode a.mode) (type_itself a.ty)
 
 slot_told : (a b : Option Right) → Decides (option_eq same_right a b) (a ≡ b)
 slot_told None None = (λ _. refl, λ _. refl)

@@ -4,17 +4,16 @@
 ghost use Rattle.std.specs.Prelude.{◌≡◌, ◌++◌, Bool, true, slice_get};
 ghost use Rattle.std.specs.Option.{option_map, option_map_or};
 ghost use Rattle.tw_types.specs.DataType.{same_scalar};
-ghost use Rattle.tw_code.specs.format.Program.{IsInstr};
+ghost use Rattle.tw_code.specs.format.Program.{IsDataInstr, IsInstr};
 ghost use Rattle.tw_code.specs.accepting.Question.{passes, refusal_in};
 ghost use Rattle.tw_code.specs.machine.Rights.{Right};
-ghost use Rattle.tw_code.specs.accepting.Typing.{asks_value, asks_alike, asks_values, asks_value_of, asks, asks_params, asks_at, writes_scalar};
+ghost use Rattle.tw_code.specs.accepting.Typing.{asks_value, asks_alike, asks_values, asks_value_of, asks_local, asks_data, asks, asks_params, asks_at, writes_scalar};
 ghost use Rattle.tw_verify.specs.Passes.{lowest_of};
 ghost use Rattle.tw_verify.specs.Refusal.{verify_refusal_number};
 
-use crate::params::is_value;
 use crate::refusal::VerifyRefusal;
 use crate::typing::{Right, Typing};
-use tw_code::{Instr, Procedure};
+use tw_code::{DataInstr, Instr, LocalInstr, Procedure};
 use tw_types::Scalar;
 
 /// The lower of two refusals, of which each may be missing.
@@ -118,7 +117,67 @@ fn is_scalar_write(right: &Option<Right>) -> bool
     }
 }
 
-/// What an instruction asks at a typing, a line an instruction.
+/// What a local instruction asks, a line an instruction.
+fn local_refusal(registers: &[Scalar], instr: &LocalInstr) -> Option<VerifyRefusal>
+    ensures { option_map verify_refusal_number result ≡ refusal_in (asks_local registers.now instr.now) }
+{
+    match instr {
+        LocalInstr::Int { to, .. } => value_refusal(registers, *to, Scalar::Int),
+        LocalInstr::Text { to, .. } => value_refusal(registers, *to, Scalar::Text),
+        LocalInstr::Copy { to, from } => alike_refusal(registers, *to, *from),
+        LocalInstr::Compute {
+            to,
+            left,
+            right,
+            ..
+        } => values_refusal(registers, *to, *left, *right, Scalar::Int),
+        LocalInstr::Concatenate {
+            to,
+            left,
+            right,
+            ..
+        } => values_refusal(registers, *to, *left, *right, Scalar::Text),
+        LocalInstr::Length { to, from } | LocalInstr::ReadInt { to, from, .. } => both_refusal(
+            registers,
+            *to,
+            Scalar::Int,
+            *from,
+            Scalar::Text,
+        ),
+        LocalInstr::Show { to, from } => both_refusal(
+            registers,
+            *to,
+            Scalar::Text,
+            *from,
+            Scalar::Int,
+        ),
+        LocalInstr::JumpEqual { left, right, .. } => alike_refusal(registers, *left, *right),
+        LocalInstr::JumpLess { left, right, .. } => both_refusal(
+            registers,
+            *left,
+            Scalar::Int,
+            *right,
+            Scalar::Int,
+        ),
+        LocalInstr::Jump { .. } | LocalInstr::Repeat { .. } | LocalInstr::End => None,
+    }
+}
+
+/// What an instruction on data asks at a typing, a line an instruction.
+fn data_refusal(registers: &[Scalar], instr: DataInstr, typing: &Typing) -> Option<VerifyRefusal>
+    requires { IsDataInstr instr }
+    ensures { option_map verify_refusal_number result ≡ refusal_in (asks_data registers.now instr typing.now) }
+{
+    match instr {
+        DataInstr::Store { datum, from } => {
+            let right = typing.right_at(datum);
+            let fits = is_scalar_write(&right);
+            value_of_refusal(registers, from, &right, fits)
+        }
+    }
+}
+
+/// What an instruction asks at a typing.
 fn instr_refusal(
     procedures: &[Procedure],
     procedure: &Procedure,
@@ -131,50 +190,8 @@ fn instr_refusal(
 {
     let registers = procedure.registers.as_slice();
     match instr {
-        Instr::Int { to, .. } => value_refusal(registers, *to, Scalar::Int),
-        Instr::Text { to, .. } => value_refusal(registers, *to, Scalar::Text),
-        Instr::Copy { to, from } => alike_refusal(registers, *to, *from),
-        Instr::Compute {
-            to,
-            left,
-            right,
-            ..
-        } => values_refusal(registers, *to, *left, *right, Scalar::Int),
-        Instr::Concatenate {
-            to,
-            left,
-            right,
-            ..
-        } => values_refusal(registers, *to, *left, *right, Scalar::Text),
-        Instr::Length { to, from } => both_refusal(
-            registers,
-            *to,
-            Scalar::Int,
-            *from,
-            Scalar::Text,
-        ),
-        Instr::Show { to, from } => both_refusal(registers, *to, Scalar::Text, *from, Scalar::Int),
-        Instr::ReadInt { to, from, .. } => both_refusal(
-            registers,
-            *to,
-            Scalar::Int,
-            *from,
-            Scalar::Text,
-        ),
-        Instr::JumpEqual { left, right, .. } => alike_refusal(registers, *left, *right),
-        Instr::JumpLess { left, right, .. } => both_refusal(
-            registers,
-            *left,
-            Scalar::Int,
-            *right,
-            Scalar::Int,
-        ),
-        Instr::Jump { .. } | Instr::Repeat { .. } | Instr::End => None,
-        Instr::Store { datum, from } => {
-            let right = typing.right_in(*datum);
-            let fits = is_scalar_write(&right);
-            value_of_refusal(registers, *from, &right, fits)
-        }
+        Instr::Local(instr) => local_refusal(registers, instr),
+        Instr::Data(instr) => data_refusal(registers, *instr, typing),
         Instr::Ret => (!typing.is_empty()).then_some(VerifyRefusal::RightLeft),
     }
 }
@@ -198,7 +215,7 @@ fn params_refusal(procedure: &Procedure) -> Option<VerifyRefusal>
     let mut given = 0;
     let mut fits = true;
     for param in procedure.params.as_slice() {
-        if is_value(param) {
+        if param.mode.is_val() {
             fits &= is_open_or_of(registers, given, param.ty.scalar());
             given += 1;
         }

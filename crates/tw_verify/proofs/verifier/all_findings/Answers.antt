@@ -13,7 +13,7 @@ returns-in-Err-clause-refused c =
     let number = c.loop-number.number in
     let p = c.index-procedures-number.result in
     let here = slice_get_read program (length program) number p refl c.loop-number-test.true c.index-procedures-number.is in
-    let main = sym c.starts_with_main.ensures ∙ c.if-not-starts_with_main.false in
+    let main = sym c.has_main_shape.ensures ∙ c.if-not-has_main_shape.false in
     subst (λ (r : Refusal). IsRefusal program r.no r.procedure r.place) (sym c.new.ensures)
     (refused_by program c.loop-number.all.items number p c.in-Err.fault main c.loop-number.invariant here c.in-Err.ensures.refused)
 
