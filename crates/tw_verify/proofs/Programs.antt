@@ -16,11 +16,12 @@ use Rattle.tw_verify.specs.declared.fault.Fault.TheVariants as fault
 use Rattle.tw_verify.specs.declared.findings.Findings.{Findings}
 use Rattle.tw_verify.specs.declared.refusal.VerifyRefusal.{VerifyRefusal}
 use Rattle.tw_verify.specs.declared.refusal.VerifyRefusal.TheVariants as refusal
-use Rattle.tw_verify.specs.Passes.{IfFault, refusal_of, IsRefusal}
+use Rattle.tw_verify.specs.declared.violation.Violation.{Violation}
+use Rattle.tw_verify.specs.declared.violation.Violation.TheVariants as broken
+use Rattle.tw_verify.specs.Passes.{refusal_for, IfFault, refusal_of, IsRefusal}
 use Rattle.tw_verify.specs.Refusal.{verify_refusal_number}
 use Rattle.tw_verify.specs.Verified.{AreFindings, AreTyped, IsTyped}
 use Rattle.tw_verify.proofs.Lists.{get_none, get_pushed}
-use Rattle.tw_verify.proofs.Lowest.{refusal_number, asks_number}
 use Rattle.tw_verify.proofs.Typings.{well_typed_front}
 
 -- ---- typed programs are accepted
@@ -75,8 +76,8 @@ is_memory : (cause : VerifyRefusal) → (cause ≡ refusal.Memory) ⊎ (cause �
 is_memory refusal.Memory = inl refl
 is_memory _ = inr (λ e. cc)
 
-pub refused_memory : (program : List Procedure) (cause : VerifyRefusal) (procedure place : ℕ) → IsRefusal program cause procedure place → IsAccepted program → cause ≡ refusal.Memory
-refused_memory program cause procedure place r a = by (is_memory cause)
+pub refusal_is_memory : (program : List Procedure) (cause : VerifyRefusal) (procedure place : ℕ) → IsRefusal program cause procedure place → IsAccepted program → cause ≡ refusal.Memory
+refusal_is_memory program cause procedure place r a = by (is_memory cause)
   where
     by : (cause ≡ refusal.Memory) ⊎ (cause ≢ refusal.Memory) → cause ≡ refusal.Memory
     by (inl is) = is
@@ -84,27 +85,25 @@ refused_memory program cause procedure place r a = by (is_memory cause)
 
 -- ---- a procedure that is refused refuses its program
 
-structure_number : (code : List Flow) (place number : ℕ) (o : Option Flow) → option_and_then (structure_refusal code place) o ≡ Some number → number < 18
-structure_number code place number None h = cc
-structure_number code place number (Some flow) h = refusal_number (structure_questions code place flow) number refl h
+names_a_place : (violation : Violation) → refusal_for violation ≡ refusal.Memory → ⊥
+names_a_place broken.UndeclaredValue e = cc
+names_a_place broken.WrongValueType e = cc
+names_a_place broken.WrongRight e = cc
+names_a_place broken.SkipLeavesBlock e = cc
+names_a_place broken.Unmatched e = cc
+names_a_place broken.TypingsDiffer e = cc
+names_a_place broken.TypingChanged e = cc
+names_a_place broken.Unreached e = cc
+names_a_place broken.RightLeft e = cc
+names_a_place broken.MisplacedRet e = cc
+names_a_place broken.BudgetTooLarge e = cc
 
-typing_number : (program : List Procedure) (p : Procedure) (typings : List Typing) (number place : ℕ) → IsRefusalAt program p typings number place → number < 18
-typing_number program p typings number place (inl u) = omega (arith, u.is)
-typing_number program p typings number place (inr (inl a)) = asks_number program p place a.instr a.typing number a.vain
-typing_number program p typings number place (inr (inr (inl d))) = omega (arith, d.is)
-typing_number program p typings number place (inr (inr (inr e))) = omega (arith, e.is)
-
-procedure_number : (program : List Procedure) (p : Procedure) (number place : ℕ) → IsProcedureRefusal program p number place → number < 18
-procedure_number program p number place (inl s) = structure_number (flows p.code) place number (slice_get (flows p.code) place) s.here
-procedure_number program p number place (inr (s, inl t)) = typing_number program p t.typings number place t.lowest.refusal
-procedure_number program p number place (inr (s, inr (t, b))) = omega (arith, b.is)
-
-pub refused_by : (program : List Procedure) (all : List Findings) (number : ℕ) (p : Procedure) (stop : Fault) → has_main_shape program ≡ true → AreTyped program all number → slice_get program number ≡ Some p → IfFault stop (IsProcedureRefusal program p)
+pub refusal_by : (program : List Procedure) (all : List Findings) (number : ℕ) (p : Procedure) (stop : Fault) → has_main_shape program ≡ true → AreTyped program all number → slice_get program number ≡ Some p → IfFault stop (IsProcedureRefusal program p)
     → IsRefusal program (refusal_of number stop).no (refusal_of number stop).procedure (refusal_of number stop).place
-refused_by program all number p fault.Memory main t at h = record { first = λ other. absurd (other refl); memory = λ is. (refl, refl) }
-refused_by program all number p (fault.At cause place) main t at h = record {
+refusal_by program all number p fault.Memory main t at h = record { first = λ other. absurd (other refl); memory = λ is. (refl, refl) }
+refusal_by program all number p (fault.At violation place) main t at h = record {
   first = λ other. inr (record { main = main; before = λ k q below here. accepted_one program all number k q t below here; p = p; here = at; refusal = h });
-  memory = λ is. absurd (omega (arith, procedure_number program p (verify_refusal_number cause) place h, ap verify_refusal_number is));
+  memory = λ is. absurd (names_a_place violation is);
 }
 
 -- ---- one procedure more

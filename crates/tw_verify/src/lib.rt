@@ -16,6 +16,7 @@ mod structure;
 mod typing;
 mod verified;
 mod verifier;
+mod violation;
 
 pub use laws::no_trap;
 pub use refusal::{Refused, VerifyRefusal};

@@ -8,21 +8,20 @@ ghost use Rattle.tw_code.specs.format.Program.{IsDataInstr, IsInstr};
 ghost use Rattle.tw_code.specs.accepting.Question.{passes, refusal_in};
 ghost use Rattle.tw_code.specs.machine.Rights.{Right};
 ghost use Rattle.tw_code.specs.accepting.Typing.{asks_value, asks_alike, asks_values, asks_value_of, asks_local, asks_data, asks, asks_params, asks_at, writes_scalar};
-ghost use Rattle.tw_verify.specs.Passes.{lowest_of};
-ghost use Rattle.tw_verify.specs.Refusal.{verify_refusal_number};
+ghost use Rattle.tw_verify.specs.Passes.{lowest_of, violation_number};
 
-use crate::refusal::VerifyRefusal;
 use crate::typing::{Right, Typing};
+use crate::violation::Violation;
 use tw_code::{DataInstr, Instr, LocalInstr, Procedure};
 use tw_types::Scalar;
 
 /// The lower of two refusals, of which each may be missing.
 pub(crate) fn lowest(
-    first: Option<VerifyRefusal>,
-    second: Option<VerifyRefusal>,
-) -> Option<VerifyRefusal>
-    ensures { option_map verify_refusal_number result
-        ≡ lowest_of (option_map verify_refusal_number first) (option_map verify_refusal_number second) }
+    first: Option<Violation>,
+    second: Option<Violation>,
+) -> Option<Violation>
+    ensures { option_map violation_number result
+        ≡ lowest_of (option_map violation_number first) (option_map violation_number second) }
 {
     match (first, second) {
         (Some(a), Some(b)) => Some(if b.number() < a.number() { b } else { a }),
@@ -32,12 +31,12 @@ pub(crate) fn lowest(
 }
 
 /// A value register must be declared, and be of this type.
-fn value_refusal(registers: &[Scalar], register: u8, ty: Scalar) -> Option<VerifyRefusal>
-    ensures { option_map verify_refusal_number result ≡ refusal_in (asks_value registers.now register ty) }
+fn value_refusal(registers: &[Scalar], register: u8, ty: Scalar) -> Option<Violation>
+    ensures { option_map violation_number result ≡ refusal_in (asks_value registers.now register ty) }
 {
     match registers.get(register as usize) {
-        None => Some(VerifyRefusal::UndeclaredValue),
-        Some(declared) => (*declared != ty).then_some(VerifyRefusal::WrongValueType),
+        None => Some(Violation::UndeclaredValue),
+        Some(declared) => (*declared != ty).then_some(Violation::WrongValueType),
     }
 }
 
@@ -48,8 +47,8 @@ fn both_refusal(
     first_ty: Scalar,
     second: u8,
     second_ty: Scalar,
-) -> Option<VerifyRefusal>
-    ensures { option_map verify_refusal_number result
+) -> Option<Violation>
+    ensures { option_map violation_number result
         ≡ refusal_in (asks_value registers.now first first_ty ++ asks_value registers.now second second_ty) }
 {
     lowest(
@@ -65,8 +64,8 @@ fn values_refusal(
     second: u8,
     third: u8,
     ty: Scalar,
-) -> Option<VerifyRefusal>
-    ensures { option_map verify_refusal_number result
+) -> Option<Violation>
+    ensures { option_map violation_number result
         ≡ refusal_in (asks_values registers.now first second third ty) }
 {
     lowest(
@@ -76,11 +75,11 @@ fn values_refusal(
 }
 
 /// Two value registers must be declared, and be of the same type.
-fn alike_refusal(registers: &[Scalar], first: u8, second: u8) -> Option<VerifyRefusal>
-    ensures { option_map verify_refusal_number result ≡ refusal_in (asks_alike registers.now first second) }
+fn alike_refusal(registers: &[Scalar], first: u8, second: u8) -> Option<Violation>
+    ensures { option_map violation_number result ≡ refusal_in (asks_alike registers.now first second) }
 {
     match registers.get(first as usize) {
-        None => Some(VerifyRefusal::UndeclaredValue),
+        None => Some(Violation::UndeclaredValue),
         Some(ty) => value_refusal(registers, second, *ty),
     }
 }
@@ -92,19 +91,19 @@ fn value_of_refusal(
     register: u8,
     right: &Option<Right>,
     fits: bool,
-) -> Option<VerifyRefusal>
+) -> Option<Violation>
     ensures { (test : Right → Bool) → fits ≡ passes test right.now
-        → option_map verify_refusal_number result
+        → option_map violation_number result
         ≡ refusal_in (asks_value_of registers.now register test right.now) }
 {
     let Some(declared) = registers.get(register as usize) else {
-        return Some(VerifyRefusal::UndeclaredValue);
+        return Some(Violation::UndeclaredValue);
     };
     match right {
         Some(right) if fits => (*declared != right.ty().scalar()).then_some(
-            VerifyRefusal::WrongValueType,
+            Violation::WrongValueType,
         ),
-        _ => Some(VerifyRefusal::WrongRight),
+        _ => Some(Violation::WrongRight),
     }
 }
 
@@ -118,8 +117,8 @@ fn is_scalar_write(right: &Option<Right>) -> bool
 }
 
 /// What a local instruction asks, a line an instruction.
-fn local_refusal(registers: &[Scalar], instr: &LocalInstr) -> Option<VerifyRefusal>
-    ensures { option_map verify_refusal_number result ≡ refusal_in (asks_local registers.now instr.now) }
+fn local_refusal(registers: &[Scalar], instr: &LocalInstr) -> Option<Violation>
+    ensures { option_map violation_number result ≡ refusal_in (asks_local registers.now instr.now) }
 {
     match instr {
         LocalInstr::Int { to, .. } => value_refusal(registers, *to, Scalar::Int),
@@ -164,9 +163,9 @@ fn local_refusal(registers: &[Scalar], instr: &LocalInstr) -> Option<VerifyRefus
 }
 
 /// What an instruction on data asks at a typing, a line an instruction.
-fn data_refusal(registers: &[Scalar], instr: DataInstr, typing: &Typing) -> Option<VerifyRefusal>
+fn data_refusal(registers: &[Scalar], instr: DataInstr, typing: &Typing) -> Option<Violation>
     requires { IsDataInstr instr }
-    ensures { option_map verify_refusal_number result ≡ refusal_in (asks_data registers.now instr typing.now) }
+    ensures { option_map violation_number result ≡ refusal_in (asks_data registers.now instr typing.now) }
 {
     match instr {
         DataInstr::Store { datum, from } => {
@@ -183,16 +182,16 @@ fn instr_refusal(
     procedure: &Procedure,
     instr: &Instr,
     typing: &Typing,
-) -> Option<VerifyRefusal>
+) -> Option<Violation>
     requires { IsInstr instr.now }
-    ensures { option_map verify_refusal_number result
+    ensures { option_map violation_number result
         ≡ refusal_in (asks procedures.now procedure.now instr.now typing.now) }
 {
     let registers = procedure.registers.as_slice();
     match instr {
         Instr::Local(instr) => local_refusal(registers, instr),
         Instr::Data(instr) => data_refusal(registers, *instr, typing),
-        Instr::Ret => (!typing.is_empty()).then_some(VerifyRefusal::RightLeft),
+        Instr::Ret => (!typing.is_empty()).then_some(Violation::RightLeft),
     }
 }
 
@@ -208,8 +207,8 @@ fn is_open_or_of(registers: &[Scalar], register: usize, ty: Scalar) -> bool
 }
 
 /// The value parameters must have registers, of their types.
-fn params_refusal(procedure: &Procedure) -> Option<VerifyRefusal>
-    ensures { option_map verify_refusal_number result ≡ refusal_in (asks_params procedure.now) }
+fn params_refusal(procedure: &Procedure) -> Option<Violation>
+    ensures { option_map violation_number result ≡ refusal_in (asks_params procedure.now) }
 {
     let registers = procedure.registers.as_slice();
     let mut given = 0;
@@ -221,9 +220,9 @@ fn params_refusal(procedure: &Procedure) -> Option<VerifyRefusal>
         }
     }
     if given > registers.len() {
-        Some(VerifyRefusal::UndeclaredValue)
+        Some(Violation::UndeclaredValue)
     } else {
-        (!fits).then_some(VerifyRefusal::WrongValueType)
+        (!fits).then_some(Violation::WrongValueType)
     }
 }
 
@@ -234,9 +233,9 @@ pub(crate) fn place_refusal(
     place: usize,
     instr: &Instr,
     typing: &Typing,
-) -> Option<VerifyRefusal>
+) -> Option<Violation>
     requires { IsInstr instr.now }
-    ensures { option_map verify_refusal_number result
+    ensures { option_map violation_number result
         ≡ refusal_in (asks_at procedures.now procedure.now place instr.now typing.now) }
 {
     let own = instr_refusal(procedures, procedure, instr, typing);
