@@ -1,16 +1,12 @@
 -- Accepted programs have no first refusal.
 use Rattle.std.proofs.Common.{◌≡◌, ◌≢◌, ℕ, ◌+◌, ◌<◌, ◌≤◌, ◌⊎◌, inl, inr, true, false, List, [], ◌∷◌, ◌++◌, length, length-append, take, get_or, Option, Some, None, refl, sym, ap, ◌∙◌, subst, arith}
 use Rattle.std.specs.Prelude.{slice_get, IsSomeAnd}
-use Rattle.std.specs.Option.{option_and_then}
 use Rattle.std.proofs.lemmas.Option.{slice_get_within, slice_get-get_or, same_Some}
-use Rattle.tw_code.specs.declared.flow.Flow.{Flow}
 use Rattle.tw_code.specs.declared.procedure.Procedure.{Procedure}
 use Rattle.tw_code.specs.accepting.Flow.{flows}
 use Rattle.tw_code.specs.accepting.MainShape.{has_main_shape}
-use Rattle.tw_code.specs.accepting.Structure.{structure_questions, structure_refusal}
-use Rattle.tw_code.specs.machine.Rights.{Typing}
 use Rattle.tw_code.specs.accepting.Walk.{IsBudget, greatest_budget}
-use Rattle.tw_code.specs.accepting.WellTyped.{IsRefusalAt, IsAcceptedProcedure, IsAccepted, IsProcedureRefusal, IsFirstRefusal}
+use Rattle.tw_code.specs.accepting.WellTyped.{IsAcceptedProcedure, IsAccepted, IsProcedureRefusal, IsFirstRefusal}
 use Rattle.tw_verify.specs.declared.fault.Fault.{Fault}
 use Rattle.tw_verify.specs.declared.fault.Fault.TheVariants as fault
 use Rattle.tw_verify.specs.declared.findings.Findings.{Findings}

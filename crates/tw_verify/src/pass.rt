@@ -106,7 +106,9 @@ fn typings(
             });
         };
         let changed = is_changed(code, loops, &all, place, &reached.typing);
-        if let Some(violation) = typing_refusal(procedures, procedure, place, instr, &reached, changed) {
+        if let Some(violation) = typing_refusal(
+            procedures, procedure, place, instr, &reached, changed,
+        ) {
             return Err(Fault::At { violation, place });
         }
         keep(&mut all, reached.typing)?;

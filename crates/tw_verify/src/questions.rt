@@ -16,10 +16,7 @@ use tw_code::{DataInstr, Instr, LocalInstr, Procedure};
 use tw_types::Scalar;
 
 /// The lower of two refusals, of which each may be missing.
-pub(crate) fn lowest(
-    first: Option<Violation>,
-    second: Option<Violation>,
-) -> Option<Violation>
+pub(crate) fn lowest(first: Option<Violation>, second: Option<Violation>) -> Option<Violation>
     ensures { option_map violation_number result
         ≡ lowest_of (option_map violation_number first) (option_map violation_number second) }
 {
