@@ -11,35 +11,34 @@ use Rattle.tw_types.specs.declared.event.Event.{Event}
 use Rattle.tw_types.specs.declared.event.Event.TheVariants.{Take, Local, Call, End, Ask, Deliver, Release}
 use Rattle.tw_types.specs.Actor.{is_in}
 use Rattle.tw_types.specs.Layout.{ActorCounts}
-use Rattle.tw_types.specs.Outcome.{Outcome, Went, NotEnabled, Trap, ◌>>=◌, ◌>>◌, only_if}
+use Rattle.tw_types.specs.Outcome.{Outcome, Went, NotEnabled, Trap, ◌>>=◌, ◌>>◌, outcome_of, only_if}
 use Rattle.tw_types.specs.Result.{must}
 use Rattle.tw_types.specs.Store.{Store}
 use Rattle.tw_types.specs.Task.{Task, best}
+use Rattle.std.specs.Prelude.{Ok}
 use Rattle.tw_code.specs.declared.instr.Instr.{Instr}
+use Rattle.tw_code.specs.declared.instr.Instr.TheVariants as instr
 use Rattle.tw_code.specs.declared.procedure.Procedure.{Procedure}
-use Rattle.tw_code.specs.machine.Data.{Context, data_instr}
-use Rattle.tw_code.specs.accepting.Flow.{flow_of, flows, is_stop}
+use Rattle.tw_code.specs.machine.Data.{data_instr}
+use Rattle.tw_code.specs.accepting.Flow.{flow_of, flows}
 use Rattle.tw_code.specs.machine.State.{Frame, State, values_in, ids_in, frame_of, with_frame, context_of, after_context}
-use Rattle.tw_code.specs.machine.Machine.{Standing, take_event, local_event, standing_of, call_event, end_event, step, run, local_step, local_steps}
+use Rattle.tw_code.specs.machine.Machine.{Standing, local_of, is_ret, take_event, local_event, standing_of, call_by, call_event, end_event, step, run, local_step, local_steps}
 use Rattle.tw_code.specs.machine.Rights.{first_rights, Typing}
 use Rattle.tw_code.specs.machine.Position.{Position}
-use Rattle.tw_code.specs.machine.Local.{local_instr}
 use Rattle.tw_code.specs.accepting.Typing.{value_types, start_typing, values_fit, asks_at}
-use Rattle.tw_budget.specs.FrameLaws.{starts_within, below_budget}
-use Rattle.tw_code.specs.machine.Holders.{read_by, write_by, over, Typings, typing_of, over_args}
+use Rattle.tw_budget.proofs.FrameLaws.{starts_within, below_budget}
+use Rattle.tw_code.specs.machine.Holders.{read_by, write_by, over, Typings, typing_of}
 use Rattle.tw_verify.specs.Invariant.{RightsFit, TypesHeld, CountsHeld, BudgetsHeld, IsHeld}
 use Rattle.tw_code.specs.machine.Arguments.{params_in}
 use Rattle.tw_verify.specs.NoTrap.{ExactlyOne, HasOneStep, IsBelowBudget}
-use Rattle.tw_verify.proofs.Moving.{Accepts, Stands, IsLeftBy, inside, instr_there, its_turn, stands_on, typing_on, at_place, step_goes, steps_keep}
+use Rattle.tw_verify.proofs.Moving.{Accepts, Stands, IsLeftBy, inside, instr_there, its_turn, stands_on, typing_on, at_other, step_goes, steps_keep}
+use Rattle.tw_verify.proofs.Over.{over_params}
 use Rattle.tw_verify.proofs.Registers.{Undisturbed, Settles}
 use Rattle.tw_verify.proofs.States.{other_reads, other_writes, fits_of, held_on, all_empty, held_end, held_taken}
-use Rattle.tw_verify.proofs.Steps.{Goes, Keeps, goes_then, goes_must, goes_more, keeps_more, goes_keeps, goes_went, keeps_went, waits_keeps, enabled_keeps, only_if_keeps}
+use Rattle.tw_verify.proofs.Steps.{Happens, Keeps, goes_on, happens_went, happens_keeps, keeps_more, ok_keeps, keeps_went, waits_keeps, enabled_keeps, only_if_keeps}
 use Rattle.tw_verify.proofs.Taking.{best_waits, filled_fits, args_values, start_fits, over_start}
 use Rattle.tw_verify.proofs.Turns.{IsLocal, IsCall, IsEnd, IsTurn, Leaves}
 use Rattle.tw_verify.proofs.Values.{all_yes}
-
-keeps_went_on : {A B : Type 0} (o : Outcome A) (f : A → Outcome B) (P : B → Type 0) (x : A) → o ≡ Went x → Keeps (f x) P → Keeps (o >>= f) P
-keeps_went_on o f P x e h = rw e h
 
 undisturbed_itself : (s : Store) → Undisturbed s s
 undisturbed_itself s = record { next = omega arith; kept = λ d y given at. (y, at, refl, λ c. c) }
@@ -58,7 +57,7 @@ module _ (program : List Procedure) (typings : Typings) (accepts : (k : ℕ) (p 
     pub stands : Stands procedure f.spent f.position
     pub instr : Instr
     pub at : slice_get procedure.code f.position.place ≡ Some instr
-    pub turn : IsTurn program procedure instr (typing_of typings f)
+    pub turn : IsTurn procedure instr (typing_of typings f)
 
   pub known : (s : State) (a : Actor) (f : Frame) → IsHeld program typings s → get s.frames a ≡ Some f → Known s a f
   known s a f held is = by (held.types.procedures.frames a f is).0 (held.types.procedures.frames a f is).1
@@ -85,8 +84,8 @@ module _ (program : List Procedure) (typings : Typings) (accepts : (k : ℕ) (p 
     moved : (n : ℕ) (at : Position) → IsLeftBy program (typings f.procedure) k.procedure acc (typing_of typings f) (f.spent + n) at → IsHeld program typings (with_frame s a (record f { position = at; spent = f.spent + n }))
     moved n at left =
         let fits = fits_of program typings s a f held is in
-        held_on program typings s a f held is k.procedure k.here (record { store = s.store; rights = f.rights; position = at }) (f.spent + n) left.stands
-        (subst (λ (t : Typing). Settles t (context_of s f) (other_reads program typings s a) (other_writes program typings s a) (record { store = s.store; rights = f.rights; position = at })) (sym left.typing_there)
+        held_on program typings s a f held is k.procedure k.here (record { store = s.store; notices = s.notices; rights = f.rights; position = at }) (f.spent + n) left.stands
+        (subst (λ (t : Typing). Settles t (context_of s f) (other_reads program typings s a) (other_writes program typings s a) (record { store = s.store; notices = s.notices; rights = f.rights; position = at })) (sym left.typing_there)
         (record { fits = record { balanced = fits.balanced; writers = fits.writers; store = fits.store; rights = fits.rights }; others = undisturbed_itself s.store }))
 
     local_is : (n : ℕ) → not (n == 0) ≡ true → local_event program a n s ≡ (local_steps n k.procedure.code f.position >>= λ at. Went (with_frame s a (record f { position = at; spent = f.spent + n })))
@@ -98,78 +97,93 @@ module _ (program : List Procedure) (typings : Typings) (accepts : (k : ℕ) (p 
         (steps_keep program (typings f.procedure) k.procedure acc n (typing_of typings f) f.spent f.position left_so)
         (λ at left. moved n at left))
 
-    standing_is : standing_of program a s ≡ Went (record { frame = f; instr = k.instr })
+    abbrev standing : Standing
+    standing = record { frame = f; procedure = k.procedure; instr = k.instr }
+
+    standing_is : standing_of program a s ≡ Went standing
     standing_is = rw (is, k.here, k.at) refl
 
-    call_is : call_event program a s ≡ (data_instr k.instr (context_of s f) >>= λ c. Went (after_context s a f c))
-    call_is = ap (λ (o : Outcome Standing). o >>= λ at. data_instr at.instr (context_of s at.frame) >>= λ c. Went (after_context s a at.frame c)) standing_is
+    call_is : call_event program a s ≡ call_by s a standing k.instr
+    call_is = ap (λ (o : Outcome Standing). o >>= λ at. call_by s a at at.instr) standing_is
 
-    end_is : end_event program a s ≡ (only_if (is_stop (flow_of k.instr)) >> (must (list_all is_none f.rights) RightLeft >> Went (record s { frames = remove s.frames a })))
-    end_is = ap (λ (o : Outcome Standing). o >>= λ at. only_if (is_stop (flow_of at.instr)) >> (must (list_all is_none at.frame.rights) RightLeft >> Went (record s { frames = remove s.frames a }))) standing_is
+    abbrev ended : Instr → Outcome State
+    ended i = only_if (is_ret i) >> (outcome_of (must (list_all is_none f.rights) RightLeft) >> Went (record s { frames = remove s.frames a }))
+
+    end_is : end_event program a s ≡ ended k.instr
+    end_is = ap (λ (o : Outcome Standing). o >>= λ at. only_if (is_ret at.instr) >> (outcome_of (must (list_all is_none at.frame.rights) RightLeft) >> Went (record s { frames = remove s.frames a }))) standing_is
 
     -- ---- the three kinds of instruction
 
-    first_step : (o : Outcome Position) → Goes o (IsLeftBy program (typings f.procedure) k.procedure acc (typing_of typings f) (f.spent + 1))
-        → Goes ((o >>= λ to. local_steps 0 k.procedure.code to) >>= λ at. Went (with_frame s a (record f { position = at; spent = f.spent + 1 }))) (IsHeld program typings)
+    first_step : (o : Outcome Position) → Happens o (IsLeftBy program (typings f.procedure) k.procedure acc (typing_of typings f) (f.spent + 1))
+        → Happens ((o >>= λ to. local_steps 0 k.procedure.code to) >>= λ at. Went (with_frame s a (record f { position = at; spent = f.spent + 1 }))) (IsHeld program typings)
     first_step (Went to) left = moved 1 to left
     first_step NotEnabled left = left
     first_step (Trap cause) left = left
 
-    pub local_goes : IsLocal program k.procedure k.instr (typing_of typings f) → Goes (local_event program a 1 s) (IsHeld program typings)
-    local_goes local = subst (λ (o : Outcome State). Goes o (IsHeld program typings)) (sym (local_is 1 refl))
+    pub local_goes : IsLocal k.procedure k.instr → Happens (local_event program a 1 s) (IsHeld program typings)
+    local_goes local = subst (λ (o : Outcome State). Happens o (IsHeld program typings)) (sym (local_is 1 refl))
         (first_step (local_step k.procedure.code f.position) (step_goes program (typings f.procedure) k.procedure acc (typing_of typings f) f.spent f.position k.instr left_so k.at local))
 
-    pub local_waits : ((at : Position) → local_instr k.instr at ≡ NotEnabled) → local_event program a 1 s ≡ NotEnabled
-    local_waits waits =
+    pub local_waits : local_of k.instr ≡ None → local_event program a 1 s ≡ NotEnabled
+    local_waits none =
         local_is 1 refl
         ∙ ap (λ (o : Outcome Position). (o >>= λ to. local_steps 0 k.procedure.code to) >>= λ at. Went (with_frame s a (record f { position = at; spent = f.spent + 1 })))
-        (at_place program (typings f.procedure) k.procedure acc f.position k.instr k.at ∙ waits f.position)
+        (at_other program (typings f.procedure) k.procedure acc f.position k.instr k.at none)
 
-    pub call_goes : IsCall program k.procedure k.instr (typing_of typings f) → Goes (call_event program a s) (IsHeld program typings)
-    call_goes call = subst (λ (o : Outcome State). Goes o (IsHeld program typings)) (sym call_is)
-        (goes_more (data_instr k.instr (context_of s f)) _ (Leaves program k.procedure.registers k.instr (typing_of typings f) (context_of s f) (other_reads program typings s a) (other_writes program typings s a)) (IsHeld program typings)
+    pub call_goes : IsCall k.procedure k.instr (typing_of typings f) → Happens (call_event program a s) (IsHeld program typings)
+    call_goes call = subst (λ (o : Outcome State). Happens o (IsHeld program typings)) (sym (call_is ∙ ap (call_by s a standing) call.is))
+        (goes_on (data_instr call.on (context_of s f)) (after_context s a f) (Leaves k.procedure.registers call.on (typing_of typings f) (context_of s f) (other_reads program typings s a) (other_writes program typings s a)) (IsHeld program typings)
         (call.leaves (context_of s f) (other_reads program typings s a) (other_writes program typings s a) (fits_of program typings s a f held is) k.stands.values)
         (λ c left. held_on program typings s a f held is k.procedure k.here c (f.spent + 1)
-        (stands_on program (typings f.procedure) k.procedure acc f.spent f.position c.position k.instr k.stands k.at left.moves)
-        (subst (λ (t : Typing). Settles t (context_of s f) (other_reads program typings s a) (other_writes program typings s a) c) (sym (typing_on program (typings f.procedure) k.procedure acc f.spent f.position c.position k.instr k.stands k.at left.moves)) left.settles)))
+        (stands_on program (typings f.procedure) k.procedure acc f.spent f.position c.position (instr.Data call.on) k.stands own left.moves)
+        (subst (λ (t : Typing). Settles t (context_of s f) (other_reads program typings s a) (other_writes program typings s a) c) (sym (typing_on program (typings f.procedure) k.procedure acc f.spent f.position c.position (instr.Data call.on) k.stands own left.moves)) left.settles)))
+      where
+        own : slice_get k.procedure.code f.position.place ≡ Some (instr.Data call.on)
+        own = k.at ∙ ap Some call.is
 
-    pub call_waits : ((c : Context) → data_instr k.instr c ≡ NotEnabled) → call_event program a s ≡ NotEnabled
-    call_waits waits = call_is ∙ ap (λ (o : Outcome Context). o >>= λ c. Went (after_context s a f c)) (waits (context_of s f))
+    -- one that isn't on data isn't called
+    call_waits : (i : Instr) → k.instr ≡ i → call_by s a standing i ≡ NotEnabled → call_event program a s ≡ NotEnabled
+    call_waits i e waits = call_is ∙ ap (call_by s a standing) e ∙ waits
 
-    pub end_goes : IsEnd program k.procedure k.instr (typing_of typings f) → Goes (end_event program a s) (IsHeld program typings)
-    end_goes end = subst (λ (o : Outcome State). Goes o (IsHeld program typings)) (sym end_is)
-        (goes_then (only_if (is_stop (flow_of k.instr))) _ (IsHeld program typings) (ap only_if end.stops)
-        (goes_must (list_all is_none f.rights) RightLeft _ (IsHeld program typings) (all_empty program typings s a f held is s.store (typing_of typings f) f.rights (held.types.rights a f is) end.empty)
-        (held_end program typings s a f held is end.empty)))
+    pub end_goes : IsEnd k.instr (typing_of typings f) → Happens (end_event program a s) (IsHeld program typings)
+    end_goes end = subst (λ (o : Outcome State). Happens o (IsHeld program typings)) (sym (end_is ∙ ap ended end.is))
+        (rw (all_empty program typings s a f held is s.store (typing_of typings f) f.rights (held.types.rights a f is) end.empty) (held_end program typings s a f held is end.empty))
 
-    pub end_waits : is_stop (flow_of k.instr) ≡ false → end_event program a s ≡ NotEnabled
-    end_waits e = end_is ∙ ap (λ b. only_if b >> (must (list_all is_none f.rights) RightLeft >> Went (record s { frames = remove s.frames a }))) e
+    -- one that isn't RET doesn't end
+    end_waits : is_ret k.instr ≡ false → end_event program a s ≡ NotEnabled
+    end_waits e = end_is ∙ ap (λ b. only_if b >> (outcome_of (must (list_all is_none f.rights) RightLeft) >> Went (record s { frames = remove s.frames a }))) e
 
     -- exactly one of the three is next
     pub one_of_three : ExactlyOne (local_event program a 1 s) (call_event program a s) (end_event program a s)
     one_of_three = by k.turn
       where
-        by : IsTurn program k.procedure k.instr (typing_of typings f) → ExactlyOne (local_event program a 1 s) (call_event program a s) (end_event program a s)
-        by (inl local) = let g = goes_went (local_event program a 1 s) (IsHeld program typings) (local_goes local) in inl (record { goes = (g.0, g.1); second_waits = call_waits local.no_call; third_waits = end_waits local.goes_on })
-        by (inr (inl call)) = let g = goes_went (call_event program a s) (IsHeld program typings) (call_goes call) in inr (inl (record { goes = (g.0, g.1); second_waits = local_waits call.no_step; third_waits = end_waits call.goes_on }))
-        by (inr (inr end)) = let g = goes_went (end_event program a s) (IsHeld program typings) (end_goes end) in inr (inr (record { goes = (g.0, g.1); second_waits = local_waits end.no_step; third_waits = call_waits end.no_call }))
+        by : IsTurn k.procedure k.instr (typing_of typings f) → ExactlyOne (local_event program a 1 s) (call_event program a s) (end_event program a s)
+        by (inl local) =
+            let g = happens_went (local_event program a 1 s) (IsHeld program typings) (local_goes local) in
+            inl (record { goes = (g.0, g.1); second_waits = call_waits (instr.Local local.local) local.is refl; third_waits = end_waits (ap is_ret local.is) })
+        by (inr (inl call)) =
+            let g = happens_went (call_event program a s) (IsHeld program typings) (call_goes call) in
+            inr (inl (record { goes = (g.0, g.1); second_waits = local_waits (ap local_of call.is); third_waits = end_waits (ap is_ret call.is) }))
+        by (inr (inr end)) =
+            let g = happens_went (end_event program a s) (IsHeld program typings) (end_goes end) in
+            inr (inr (record { goes = (g.0, g.1); second_waits = local_waits (ap local_of end.is); third_waits = call_waits instr.Ret end.is refl }))
 
     -- a call, and an end, that isn't enabled or goes
     pub call_keeps_on : Keeps (call_event program a s) (IsHeld program typings)
     call_keeps_on = by k.turn
       where
-        by : IsTurn program k.procedure k.instr (typing_of typings f) → Keeps (call_event program a s) (IsHeld program typings)
-        by (inl local) = waits_keeps (call_event program a s) (IsHeld program typings) (call_waits local.no_call)
-        by (inr (inl call)) = goes_keeps (call_event program a s) (IsHeld program typings) (call_goes call)
-        by (inr (inr end)) = waits_keeps (call_event program a s) (IsHeld program typings) (call_waits end.no_call)
+        by : IsTurn k.procedure k.instr (typing_of typings f) → Keeps (call_event program a s) (IsHeld program typings)
+        by (inl local) = waits_keeps (call_event program a s) (IsHeld program typings) (call_waits (instr.Local local.local) local.is refl)
+        by (inr (inl call)) = happens_keeps (call_event program a s) (IsHeld program typings) (call_goes call)
+        by (inr (inr end)) = waits_keeps (call_event program a s) (IsHeld program typings) (call_waits instr.Ret end.is refl)
 
     pub end_keeps_on : Keeps (end_event program a s) (IsHeld program typings)
     end_keeps_on = by k.turn
       where
-        by : IsTurn program k.procedure k.instr (typing_of typings f) → Keeps (end_event program a s) (IsHeld program typings)
-        by (inl local) = waits_keeps (end_event program a s) (IsHeld program typings) (end_waits local.goes_on)
-        by (inr (inl call)) = waits_keeps (end_event program a s) (IsHeld program typings) (end_waits call.goes_on)
-        by (inr (inr end)) = goes_keeps (end_event program a s) (IsHeld program typings) (end_goes end)
+        by : IsTurn k.procedure k.instr (typing_of typings f) → Keeps (end_event program a s) (IsHeld program typings)
+        by (inl local) = waits_keeps (end_event program a s) (IsHeld program typings) (end_waits (ap is_ret local.is))
+        by (inr (inl call)) = waits_keeps (end_event program a s) (IsHeld program typings) (end_waits (ap is_ret call.is))
+        by (inr (inr end)) = happens_keeps (end_event program a s) (IsHeld program typings) (end_goes end)
 
   -- ---- each event
 
@@ -195,25 +209,25 @@ module _ (program : List Procedure) (typings : Typings) (accepts : (k : ℕ) (p 
   module _ (layout : ActorCounts) where
     -- the frame of a task that waits
     take_goes : (s : State) (a : Actor) (number : ℕ) (t : Task) → IsHeld program typings s → get s.frames a ≡ None → get s.tasks number ≡ Some t
-        → Keeps (frame_of program number t >>= λ frame. Went (with_frame (record s { tasks = remove s.tasks number }) a frame)) (IsHeld program typings)
+        → Keeps (outcome_of (frame_of program number t) >>= λ frame. Went (with_frame (record s { tasks = remove s.tasks number }) a frame)) (IsHeld program typings)
     take_goes s a number t held free waits = by (held.types.procedures.tasks number t waits).0 (held.types.procedures.tasks number t waits).1
       where
-        by : (p : Procedure) → slice_get program t.procedure ≡ Some p → Keeps (frame_of program number t >>= λ frame. Went (with_frame (record s { tasks = remove s.tasks number }) a frame)) (IsHeld program typings)
+        by : (p : Procedure) → slice_get program t.procedure ≡ Some p → Keeps (outcome_of (frame_of program number t) >>= λ frame. Went (with_frame (record s { tasks = remove s.tasks number }) a frame)) (IsHeld program typings)
         by p here =
             let acc = accepts t.procedure p here in
             let fit = held.types.args number t p waits here in
             let met = params_met t.procedure p here in
             let all = filled_fits (value_types p.params) p.registers (values_in t.args) (args_values s.store p.params t.args fit) met.0 met.1 in
             let f₁ : Frame = record { task = number; procedure = t.procedure; position = record { place = 0; values = all.0; loops = [] }; rights = first_rights (ids_in t.args); spent = 0 } in
-            let goes : frame_of program number t ≡ Went f₁ = rw (here, all.1) refl in
+            let goes : frame_of program number t ≡ Ok f₁ = rw (here, all.1) refl in
             let start = starts_typed t.procedure p here in
-            keeps_went_on (frame_of program number t) (λ frame. Went (with_frame (record s { tasks = remove s.tasks number }) a frame)) (IsHeld program typings) f₁ goes
+            ok_keeps (frame_of program number t) (λ frame. Went (with_frame (record s { tasks = remove s.tasks number }) a frame)) (IsHeld program typings) f₁ goes
             (held_taken program typings s a number t f₁ p held free waits here
             (record { values = all.2; begun = tt; within = λ budget most. starts_within (flows p.code) acc.sound budget most })
             (subst (λ (typing : Typing). RightsFit s.store typing (first_rights (ids_in t.args))) (sym start) (start_fits s.store p.params t.args fit))
             (λ d. (
-              ap (λ (typing : Typing). over (read_by d) typing (first_rights (ids_in t.args))) start ∙ over_start (read_by d) (λ o. refl) s.store p.params t.args fit ∙ ap (λ (o : Option Procedure). over_args (read_by d) (params_in o) t.args) (sym here),
-              ap (λ (typing : Typing). over (write_by d) typing (first_rights (ids_in t.args))) start ∙ over_start (write_by d) (λ o. refl) s.store p.params t.args fit ∙ ap (λ (o : Option Procedure). over_args (write_by d) (params_in o) t.args) (sym here),
+              ap (λ (typing : Typing). over (read_by d) typing (first_rights (ids_in t.args))) start ∙ over_start (read_by d) (λ o. refl) s.store p.params t.args fit ∙ ap (λ (o : Option Procedure). over_params (read_by d) (params_in o) t.args) (sym here),
+              ap (λ (typing : Typing). over (write_by d) typing (first_rights (ids_in t.args))) start ∙ over_start (write_by d) (λ o. refl) s.store p.params t.args fit ∙ ap (λ (o : Option Procedure). over_params (write_by d) (params_in o) t.args) (sym here),
             )))
 
     take_keeps : (s : State) (a : Actor) → IsHeld program typings s → Keeps (take_event program layout a s) (IsHeld program typings)

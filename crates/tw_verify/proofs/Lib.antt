@@ -6,8 +6,10 @@ pub mod Typings
 pub mod Reaching
 pub mod Mistakes
 pub mod Programs
-pub mod Totals
-pub mod Freeing
+pub mod Needs
+pub mod Scalars
+pub mod Aging
+pub mod Over
 pub mod Steps
 pub mod Values
 pub mod Registers

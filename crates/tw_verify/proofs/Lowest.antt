@@ -1,21 +1,14 @@
 -- The lowest number of questions.
-use Rattle.std.proofs.Common.{◌≡◌, ℕ, suc, ◌==◌, ◌<◌, ◌≤◌, ◌⊎◌, inl, inr, Bool, true, false, ◌&&◌, List, [], ◌∷◌, ◌++◌, Option, Some, None, refl, sym, ap, ◌∙◌, subst, arith}
+use Rattle.std.proofs.Common.{◌≡◌, ℕ, suc, ◌≤◌, ◌⊎◌, inl, inr, Bool, true, false, List, [], ◌∷◌, ◌++◌, Option, Some, None, refl, sym, ap, ◌∙◌, arith}
 use Rattle.std.specs.Prelude.{nat_lt, if◌then◌else◌}
 use Rattle.std.specs.Bool.{then_some}
-use Rattle.std.specs.List.{list_all}
 use Rattle.std.specs.Option.{option_map}
 use Rattle.std.proofs.lemmas.Bool.{leb-true, leb-false}
 use Rattle.std.proofs.lemmas.Bool.Decides.{nat_tests}
 use Rattle.std.proofs.lemmas.Option.{same_Some}
-use Rattle.tw_code.specs.declared.instr.Instr.{Instr}
-use Rattle.tw_code.specs.declared.instr.Instr.TheVariants as instr
-use Rattle.tw_code.specs.declared.procedure.Procedure.{Procedure}
 use Rattle.tw_code.specs.accepting.Question.{Question, lower, refusal_in}
-use Rattle.tw_code.specs.machine.Rights.{Typing}
-use Rattle.tw_code.specs.accepting.Typing.{asks, asks_params, asks_at}
-use Rattle.tw_verify.specs.declared.refusal.VerifyRefusal.{VerifyRefusal}
-use Rattle.tw_verify.specs.Passes.{lowest_of, lowest_at}
-use Rattle.tw_verify.specs.Refusal.{verify_refusal_number}
+use Rattle.tw_verify.specs.declared.violation.Violation.{Violation}
+use Rattle.tw_verify.specs.Passes.{lowest_of, lowest_at, violation_number}
 
 lower_twice : (n m k : ℕ) → (if nat_lt (if nat_lt k m then k else m) n then (if nat_lt k m then k else m) else n) ≡ (if nat_lt k (if nat_lt m n then m else n) then k else (if nat_lt m n then m else n))
 lower_twice n m k = grind (arith, nat_tests)
@@ -72,10 +65,10 @@ if_not false k h = refl
 if_so : (b : Bool) (k : ℕ) → b ≡ true → (if b then Some k else None) ≡ Some k
 if_so b k e = ap (λ (t : Bool). if t then Some k else None) e
 
--- a refusal that is told where a test says so
-pub told : (b : Bool) (cause : VerifyRefusal) → option_map verify_refusal_number (then_some b cause) ≡ (if b then Some (verify_refusal_number cause) else None)
-told true cause = refl
-told false cause = refl
+-- a violation that is told where a test says so
+pub then_number : (b : Bool) (violation : Violation) → option_map violation_number (then_some b violation) ≡ (if b then Some (violation_number violation) else None)
+then_number true violation = refl
+then_number false violation = refl
 
 -- ---- the lowest number at a place
 
@@ -122,65 +115,3 @@ nothing_at own differs changed h =
     let outer = low_none (lowest_of own (if differs then Some 7 else None)) (if changed then Some 8 else None) h in
     let inner = low_none own (if differs then Some 7 else None) outer.0 in
     (inner.0, if_not differs 7 inner.1, if_not changed 8 outer.1)
-
--- ---- no question is about memory
-
-abbrev is_below : Question → Bool
-is_below q = nat_lt q.0 18
-
-abbrev pub IsBelow : Option ℕ → Type 0
-IsBelow None = Unit {0}
-IsBelow (Some n) = n < 18
-
-lower_below : (n : ℕ) (o : Option ℕ) → n < 18 → IsBelow o → lower n o < 18
-lower_below n None h k = h
-lower_below n (Some m) h k = either (nat_lt m n)
-  where
-    either : (b : Bool) → (if b then m else n) < 18
-    either true = k
-    either false = h
-
-pub and_true : (a b : Bool) → (a && b) ≡ true → (a ≡ true) × (b ≡ true)
-and_true true b h = (refl, h)
-and_true false b h = cc
-
-refusal_in_below : (qs : List Question) → list_all is_below qs ≡ true → IsBelow (refusal_in qs)
-refusal_in_below [] h = tt
-refusal_in_below (q ∷ qs) h =
-    let both = and_true (is_below q) (list_all is_below qs) h in
-    either q.1 (refusal_in_below qs both.1) (leb-true (suc q.0) 18 both.0)
-  where
-    either : (b : Bool) → IsBelow (refusal_in qs) → suc q.0 ≤ 18 → IsBelow (if b then refusal_in qs else Some (lower q.0 (refusal_in qs)))
-    either true rest own = rest
-    either false rest own = lower_below q.0 (refusal_in qs) (omega arith) rest
-
-pub refusal_number : (qs : List Question) (number : ℕ) → list_all is_below qs ≡ true → refusal_in qs ≡ Some number → number < 18
-refusal_number qs number below h = subst IsBelow h (refusal_in_below qs below)
-
--- a line an instruction
-asks_below : (program : List Procedure) (p : Procedure) (i : Instr) (typing : Typing) → list_all is_below (asks program p i typing) ≡ true
-asks_below program p (instr.Int to n) typing = refl
-asks_below program p (instr.Text to text) typing = refl
-asks_below program p (instr.Copy to from) typing = refl
-asks_below program p (instr.Compute operation to left right skip) typing = refl
-asks_below program p (instr.Concatenate to left right skip) typing = refl
-asks_below program p (instr.Length to from) typing = refl
-asks_below program p (instr.Show to from) typing = refl
-asks_below program p (instr.ReadInt to from skip) typing = refl
-asks_below program p (instr.Jump skip) typing = refl
-asks_below program p (instr.JumpEqual left right skip) typing = refl
-asks_below program p (instr.JumpLess left right skip) typing = refl
-asks_below program p (instr.Repeat turns) typing = refl
-asks_below program p instr.End typing = refl
-asks_below program p (instr.Store datum from) typing = refl
-asks_below program p instr.Ret typing = refl
-
-asks_at_below : (program : List Procedure) (p : Procedure) (place : ℕ) (i : Instr) (typing : Typing) → list_all is_below (asks_at program p place i typing) ≡ true
-asks_at_below program p place i typing = either (place == 0)
-  where
-    either : (b : Bool) → list_all is_below ((if b then asks_params p else []) ++ asks program p i typing) ≡ true
-    either true = asks_below program p i typing
-    either false = asks_below program p i typing
-
-pub asks_number : (program : List Procedure) (p : Procedure) (place : ℕ) (i : Instr) (typing : Typing) (number : ℕ) → refusal_in (asks_at program p place i typing) ≡ Some number → number < 18
-asks_number program p place i typing number h = subst IsBelow h (refusal_in_below (asks_at program p place i typing) (asks_at_below program p place i typing))

@@ -14,16 +14,16 @@ use Rattle.tw_code.specs.accepting.Typing.{start_typing, asks_at, after}
 use Rattle.tw_code.specs.accepting.WellTyped.{LeadsTo, IsEndOf, IsWellTyped, Brings, IsReached, IsRefusalAt, IsTypingRefusal}
 use Rattle.tw_verify.specs.declared.rows.Reached.{Reached}
 use Rattle.tw_verify.specs.Passes.{lowest_at, HasChanged}
-use Rattle.tw_code.proofs.Lists.{get_pushed}
+use Rattle.tw_verify.proofs.Lists.{get_pushed}
 use Rattle.tw_verify.proofs.Lowest.{IsCause, cause_at, least_at}
 use Rattle.tw_verify.proofs.Places.{loop_within}
-use Rattle.tw_verify.proofs.Reaching.{turn_of, HasReached, IsRow}
+use Rattle.tw_verify.proofs.Reaching.{outcome_number, HasReached, IsRow}
 use Rattle.tw_verify.proofs.Typings.{onward_later, agree, brought_typing, reached_typing, reached_same}
 
--- an outcome of a place before another one comes before the turns of that
-pub early_turn : (before place : ℕ) (way : Way) → before < place → turn_of before way < place + place
-early_turn before place Done h = omega arith
-early_turn before place Refused h = omega arith
+-- an outcome of a place before another one comes before the outcomes of that
+pub early_outcome : (before place : ℕ) (way : Way) → before < place → outcome_number before way < place + place
+early_outcome before place Done h = omega arith
+early_outcome before place Refused h = omega arith
 
 -- ---- nothing is wrong
 
@@ -70,7 +70,7 @@ one_more program p typings place r i w h here fine alike kept = record {
     later k next j way u v there goes (inl (before, at)) (inl (inside, beyond)) = w.later k next j way u v there at goes beyond
     later k next j way u v there goes (inl (before, at)) (inr (last, is)) =
         let brings : Brings program p typings k place (after program way j u) = record { step = record { earlier = before; instr = j; here = there; way = way; goes_on = goes ∙ ap Some last }; from = u; there = at; is = refl } in
-        is ∙ sym (h.same alike k (after program way j u) brings (early_turn k place way before))
+        is ∙ sym (h.same alike k (after program way j u) brings (early_outcome k place way before))
     later k next j way u v there goes (inr (same, was)) (inl (inside, beyond)) = absurd (omega (arith, onward_later way k (flow_of j) next goes))
     later k next j way u v there goes (inr (same, was)) (inr (last, is)) = absurd (omega (arith, onward_later way k (flow_of j) next goes))
 
@@ -96,11 +96,11 @@ unreached program p typings place w (some, none) inside = record {
   typings = typings;
   before = w;
   none = λ others v. let entry = v.entered place some (omega arith) in never entry.0 entry.1;
-  refused = record { refused = inl (record { is = refl; later = some; never = never }); lowest = lowest };
+  lowest = record { refusal = inl (record { is = refl; later = some; never = never }); lowest = lowest };
 }
   where
     never : (before : ℕ) → LeadsTo p.code before place → ⊥
-    never before step = none before step (early_turn before place step.way step.earlier)
+    never before step = none before step (early_outcome before place step.way step.earlier)
 
     no_way : (t : Typing) → IsReached program p typings place t → ⊥
     no_way t (inl (start, is)) = absurd (omega arith)
@@ -120,15 +120,15 @@ not_false true h = refl
 not_false false h = absurd (h refl)
 
 -- a place that is reached, where something is wrong
-pub refused_at : (program : List Procedure) (p : Procedure) (typings : List Typing) (place number : ℕ) (r : Reached) (i : Instr) (changed : Bool) → IsWellTyped program p typings place → HasReached program p typings (place + place) place r → slice_get p.code place ≡ Some i
+pub refusal_at : (program : List Procedure) (p : Procedure) (typings : List Typing) (place number : ℕ) (r : Reached) (i : Instr) (changed : Bool) → IsWellTyped program p typings place → HasReached program p typings (place + place) place r → slice_get p.code place ≡ Some i
     → (changed ≡ true → HasChanged p.code typings place r.typing) → ((first : ℕ) (begun : Typing) → changed ≡ false → IsEndOf p.code first place → slice_get typings first ≡ Some begun → r.typing ≡ begun)
     → lowest_at (refusal_in (asks_at program p place i r.typing)) r.differs changed ≡ Some number → IsTypingRefusal program p number place
-refused_at program p typings place number r i changed w h here has kept is = record {
+refusal_at program p typings place number r i changed w h here has kept is = record {
   inside = slice_get_within p.code place i here;
   typings = typings;
   before = w;
   none = λ others v. none others v cause;
-  refused = record { refused = refused cause; lowest = lowest };
+  lowest = record { refusal = refusal cause; lowest = lowest };
 }
   where
     own : Option ℕ
@@ -137,10 +137,10 @@ refused_at program p typings place number r i changed w h here has kept is = rec
     cause : IsCause own r.differs changed number
     cause = cause_at own r.differs changed number is
 
-    refused : IsCause own r.differs changed number → IsRefusalAt program p typings number place
-    refused (inl e) = inr (inl (record { typing = r.typing; reached = h.first; instr = i; here = here; vain = e }))
-    refused (inr (inl (e, seven))) = let o = h.another e in inr (inr (inl (record { is = seven; typing = r.typing; reached = h.first; before = o.0; other = o.1; brings = o.2; differs = o.3 })))
-    refused (inr (inr (e, eight))) = let o = has e in inr (inr (inr (record { is = eight; typing = r.typing; reached = h.first; first = o.first; end = o.end; begun = o.begun; there = o.there; differs = o.differs })))
+    refusal : IsCause own r.differs changed number → IsRefusalAt program p typings number place
+    refusal (inl e) = inr (inl (record { typing = r.typing; reached = h.first; instr = i; here = here; vain = e }))
+    refusal (inr (inl (e, seven))) = let o = h.another e in inr (inr (inl (record { is = seven; typing = r.typing; reached = h.first; before = o.0; other = o.1; brings = o.2; differs = o.3 })))
+    refusal (inr (inr (e, eight))) = let o = has e in inr (inr (inr (record { is = eight; typing = r.typing; reached = h.first; first = o.first; end = o.end; begun = o.begun; there = o.there; differs = o.differs })))
 
     none : (others : List Typing) → IsWellTyped program p others (place + 1) → IsCause own r.differs changed number → ⊥
     none others v why = by why
@@ -184,7 +184,7 @@ refused_at program p typings place number r i changed w h here has kept is = rec
         least.0 other (sym (ap (λ (x : Instr). refusal_in (asks_at program p place x a.typing)) instr ∙ ap (λ (x : Typing). refusal_in (asks_at program p place i x)) same) ∙ a.vain)
     lowest other (inr (inr (inl d))) =
         let same = reached_same program p typings place d.typing r.typing d.reached h.first in
-        let differs : r.differs ≡ true = not_false r.differs (λ e. d.differs (h.same e d.before d.other d.brings (early_turn d.before place d.brings.step.way d.brings.step.earlier) ∙ sym same)) in
+        let differs : r.differs ≡ true = not_false r.differs (λ e. d.differs (h.same e d.before d.other d.brings (early_outcome d.before place d.brings.step.way d.brings.step.earlier) ∙ sym same)) in
         let seven = least.1 differs in
         omega (arith, d.is)
     lowest other (inr (inr (inr e))) =

@@ -1,32 +1,33 @@
 -- Where a task goes on: in the loops that it has begun, within its budget, and with the typing of the place.
-use Rattle.std.proofs.Common.{◌≡◌, ℕ, zero, suc, ◌+◌, ◌<◌, ◌==◌, ◌⊎◌, inl, inr, List, [], ◌∷◌, length, slice_get, get_or, Some, refl, sym, ap, subst, ◌∙◌, arith, if◌then◌else◌}
+use Rattle.std.proofs.Common.{◌≡◌, ℕ, zero, suc, ◌+◌, ◌<◌, ◌==◌, ◌⊎◌, inl, inr, List, [], ◌∷◌, length, slice_get, get_or, Some, None, refl, sym, ap, subst, ◌∙◌, arith, if◌then◌else◌}
 use Rattle.std.proofs.lemmas.List.{length-map}
 use Rattle.std.proofs.lemmas.Option.{slice_get-map, slice_get-get_or, slice_get_within, same_Some}
 use Rattle.std.specs.Option.{option_and_then, option_map}
-use Rattle.tw_types.specs.declared.cause.Cause.TheVariants.{OutsideCode}
-use Rattle.tw_types.specs.Outcome.{Outcome, Went, NotEnabled, Trap, ◌>>=◌}
+use Rattle.tw_types.specs.Outcome.{Outcome, NotEnabled, outcome_of}
 use Rattle.tw_code.specs.declared.flow.Flow.{Flow}
 use Rattle.tw_code.specs.declared.flow.Flow.TheVariants.{Straight, Branch, Jump, Begin, Close, Stop}
 use Rattle.tw_code.specs.declared.flow.Way.{Way}
 use Rattle.tw_code.specs.declared.flow.Way.TheVariants.{Done, Refused}
+use Rattle.tw_code.specs.declared.instr.DataInstr.TheVariants as on_data
+use Rattle.tw_code.specs.declared.instr.LocalInstr.{LocalInstr}
 use Rattle.tw_code.specs.declared.instr.Instr.{Instr}
 use Rattle.tw_code.specs.declared.instr.Instr.TheVariants as instr
 use Rattle.tw_code.specs.declared.procedure.Procedure.{Procedure}
-use Rattle.tw_code.specs.accepting.Flow.{flow_of, flows, onward}
+use Rattle.tw_code.specs.accepting.Flow.{local_flow, flow_of, flows, onward}
 use Rattle.tw_code.specs.machine.Position.{Position, Loop, Cursor, turned}
 use Rattle.tw_code.specs.machine.Local.{local_instr}
-use Rattle.tw_code.specs.machine.Machine.{local_step, local_steps}
+use Rattle.tw_code.specs.machine.Machine.{local_of, local_step, local_steps}
 use Rattle.tw_code.specs.accepting.Structure.{end_of}
 use Rattle.tw_code.specs.machine.Rights.{Typing}
 use Rattle.tw_code.specs.accepting.Typing.{asks, asks_at, asks_params, after}
 use Rattle.tw_code.specs.accepting.Walk.{moved, IsBudget}
 use Rattle.tw_code.specs.accepting.WellTyped.{IsWellTyped, IsEndOf}
 use Rattle.tw_budget.specs.Frames.{IsWithinBudget, LoopsFit}
-use Rattle.tw_budget.specs.FrameLaws.{stays_within, end_goes_on}
-use Rattle.tw_budget.specs.Places.{close_end}
+use Rattle.tw_budget.proofs.FrameLaws.{stays_within, end_goes_on}
+use Rattle.tw_budget.proofs.Places.{close_end}
 use Rattle.tw_budget.specs.Sound.{IsSound}
 use Rattle.tw_verify.specs.Invariant.{ValuesFit, AreBegun}
-use Rattle.tw_verify.proofs.Steps.{Goes, Keeps, at_some, keeps_more, goes_keeps, waits_keeps}
+use Rattle.tw_verify.proofs.Steps.{Happens, Keeps, goes_happens, happens_keeps, keeps_more, waits_keeps}
 use Rattle.tw_verify.proofs.Turns.{IsLocal, IsTurn, turn}
 use Rattle.tw_verify.proofs.Values.{AllYes, all_yes, yes_behind, Moves, HasLoop}
 
@@ -84,20 +85,8 @@ forward_or_back place Stop loops Refused to e = cc
 
 -- END leaves the typing as it is
 close_same : (program : List Procedure) (i : Instr) (way : Way) (typing : Typing) → flow_of i ≡ Close → after program way i typing ≡ typing
-close_same program (instr.Int to n) way typing e = cc
-close_same program (instr.Text to text) way typing e = cc
-close_same program (instr.Copy to from) way typing e = cc
-close_same program (instr.Compute operation to left right skip) way typing e = cc
-close_same program (instr.Concatenate to left right skip) way typing e = cc
-close_same program (instr.Length to from) way typing e = cc
-close_same program (instr.Show to from) way typing e = cc
-close_same program (instr.ReadInt to from skip) way typing e = cc
-close_same program (instr.Jump skip) way typing e = cc
-close_same program (instr.JumpEqual left right skip) way typing e = cc
-close_same program (instr.JumpLess left right skip) way typing e = cc
-close_same program (instr.Repeat turns) way typing e = cc
-close_same program instr.End way typing e = refl
-close_same program (instr.Store datum from) way typing e = cc
+close_same program (instr.Local i) way typing e = refl
+close_same program (instr.Data (on_data.Store datum from)) way typing e = cc
 close_same program instr.Ret way typing e = cc
 
 -- ---- a procedure of an accepted program
@@ -135,7 +124,7 @@ module _ (program : List Procedure) (typings : List Typing) (p : Procedure) (acc
       yes_behind (if place == 0 then asks_params p else []) (asks program p i (get_or typings place []))
       (all_yes (asks_at program p place i (get_or typings place [])) (accepts.typed.asks place i (get_or typings place []) here (typing_there place (slice_get_within p.code place i here))))
 
-  pub its_turn : (place : ℕ) (i : Instr) → slice_get p.code place ≡ Some i → IsTurn program p i (get_or typings place [])
+  pub its_turn : (place : ℕ) (i : Instr) → slice_get p.code place ≡ Some i → IsTurn p i (get_or typings place [])
   its_turn place i here = turn program p i (get_or typings place []) (asked place i here)
 
   -- an END has a loop
@@ -185,40 +174,35 @@ module _ (program : List Procedure) (typings : List Typing) (p : Procedure) (acc
     pub stands : Stands p spent to
     pub typing_there : get_or typings to.place [] ≡ typing
 
-  moved_on : (typing : Typing) (spent : ℕ) (at to : Position) (i : Instr) → IsLeftBy typing spent at → slice_get p.code at.place ≡ Some i → IsLocal program p i (get_or typings at.place []) → Moves p.registers (flow_of i) at to → IsLeftBy typing (spent + 1) to
-  moved_on typing spent at to i l here local m = record {
-    stands = stands_on spent at to i l.stands here m;
-    typing_there = typing_on spent at to i l.stands here m ∙ local.same m.way ∙ l.typing_there;
+  moved_on : (typing : Typing) (spent : ℕ) (at to : Position) (i : LocalInstr) → IsLeftBy typing spent at → slice_get p.code at.place ≡ Some (instr.Local i) → Moves p.registers (local_flow i) at to → IsLeftBy typing (spent + 1) to
+  moved_on typing spent at to i l here m = record {
+    stands = stands_on spent at to (instr.Local i) l.stands here m;
+    typing_there = typing_on spent at to (instr.Local i) l.stands here m ∙ l.typing_there;
   }
 
-  keeps_on : {A : Type 0} (o : Outcome A) (P Q : A → Type 0) → Keeps o P → ((x : A) → P x → Q x) → Keeps o Q
-  keeps_on (Went x) P Q h k = k x h
-  keeps_on NotEnabled P Q h k = tt
-  keeps_on (Trap cause) P Q h k = h
+  at_local : (at : Position) (i : LocalInstr) → slice_get p.code at.place ≡ Some (instr.Local i) → local_step p.code at ≡ outcome_of (local_instr i at)
+  at_local at i here = rw here refl
 
-  goes_on : {A : Type 0} (o : Outcome A) (P Q : A → Type 0) → Goes o P → ((x : A) → P x → Q x) → Goes o Q
-  goes_on (Went x) P Q h k = k x h
-  goes_on NotEnabled P Q h k = h
-  goes_on (Trap cause) P Q h k = h
-
-  pub at_place : (at : Position) (i : Instr) → slice_get p.code at.place ≡ Some i → local_step p.code at ≡ local_instr i at
-  at_place at i here = ap (λ (o : Outcome Instr). o >>= λ j. local_instr j at) (at_some (slice_get p.code at.place) OutsideCode i here)
+  pub at_other : (at : Position) (i : Instr) → slice_get p.code at.place ≡ Some i → local_of i ≡ None → local_step p.code at ≡ NotEnabled
+  at_other at i here none = rw (here, none) refl
 
   -- a local instruction goes
-  pub step_goes : (typing : Typing) (spent : ℕ) (at : Position) (i : Instr) → IsLeftBy typing spent at → slice_get p.code at.place ≡ Some i → IsLocal program p i (get_or typings at.place []) → Goes (local_step p.code at) (IsLeftBy typing (spent + 1))
+  pub step_goes : (typing : Typing) (spent : ℕ) (at : Position) (i : Instr) → IsLeftBy typing spent at → slice_get p.code at.place ≡ Some i → IsLocal p i → Happens (local_step p.code at) (IsLeftBy typing (spent + 1))
   step_goes typing spent at i l here local =
-      subst (λ (o : Outcome Position). Goes o (IsLeftBy typing (spent + 1))) (sym (at_place at i here))
-      (goes_on (local_instr i at) (Moves p.registers (flow_of i) at) (IsLeftBy typing (spent + 1)) (local.moves at l.stands.values (has_loop spent at i l.stands here)) (λ to m. moved_on typing spent at to i l here local m))
+      let own : slice_get p.code at.place ≡ Some (instr.Local local.local) = here ∙ ap Some local.is in
+      subst (λ (o : Outcome Position). Happens o (IsLeftBy typing (spent + 1))) (sym (at_local at local.local own))
+      (goes_happens (local_instr local.local at) (Moves p.registers (local_flow local.local) at) (IsLeftBy typing (spent + 1)) (local.moves at l.stands.values (has_loop spent at (instr.Local local.local) l.stands own))
+      (λ to m. moved_on typing spent at to local.local l own m))
 
   step_keeps : (typing : Typing) (spent : ℕ) (at : Position) → IsLeftBy typing spent at → Keeps (local_step p.code at) (IsLeftBy typing (spent + 1))
   step_keeps typing spent at l =
       let i = instr_there p.code at.place (inside spent at l.stands) in
       by i.0 i.1 (its_turn at.place i.0 i.1)
     where
-      by : (i : Instr) → slice_get p.code at.place ≡ Some i → IsTurn program p i (get_or typings at.place []) → Keeps (local_step p.code at) (IsLeftBy typing (spent + 1))
-      by i here (inl local) = goes_keeps (local_step p.code at) (IsLeftBy typing (spent + 1)) (step_goes typing spent at i l here local)
-      by i here (inr (inl call)) = waits_keeps (local_step p.code at) (IsLeftBy typing (spent + 1)) (at_place at i here ∙ call.no_step at)
-      by i here (inr (inr end)) = waits_keeps (local_step p.code at) (IsLeftBy typing (spent + 1)) (at_place at i here ∙ end.no_step at)
+      by : (i : Instr) → slice_get p.code at.place ≡ Some i → IsTurn p i (get_or typings at.place []) → Keeps (local_step p.code at) (IsLeftBy typing (spent + 1))
+      by i here (inl local) = happens_keeps (local_step p.code at) (IsLeftBy typing (spent + 1)) (step_goes typing spent at i l here local)
+      by i here (inr (inl call)) = waits_keeps (local_step p.code at) (IsLeftBy typing (spent + 1)) (at_other at i here (ap local_of call.is))
+      by i here (inr (inr end)) = waits_keeps (local_step p.code at) (IsLeftBy typing (spent + 1)) (at_other at i here (ap local_of end.is))
 
   -- so many of them don't trap
   pub steps_keep : (n : ℕ) (typing : Typing) (spent : ℕ) (at : Position) → IsLeftBy typing spent at → Keeps (local_steps n p.code at) (IsLeftBy typing (spent + n))

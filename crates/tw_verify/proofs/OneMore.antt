@@ -1,17 +1,17 @@
 -- One parameter more.
 use Rattle.std.proofs.Common.{◌≡◌, ℕ, suc, ◌+◌, ◌-◌, ◌<◌, Bool, true, false, ◌&&◌, List, [], ◌∷◌, ◌++◌, length, map, set, replicate, take, get_or, Option, Some, None, refl, sym, ap, ◌∙◌, arith, length-append}
 use Rattle.std.specs.Prelude.{slice_get, if◌then◌else◌}
-use Rattle.std.specs.Option.{option_map_or}
-use Rattle.std.proofs.lemmas.List.{take_more}
+use Rattle.std.specs.Option.{option_map_or, option_to_list}
+use Rattle.std.proofs.lemmas.List.{append-nil, append_assoc, take_more}
 use Rattle.tw_types.specs.declared.data_type.Scalar.{Scalar}
 use Rattle.tw_types.specs.declared.param.Param.{Param}
 use Rattle.tw_types.specs.DataType.{same_scalar}
 use Rattle.tw_types.specs.Mode.{is_val}
-use Rattle.tw_code.specs.machine.Rights.{Right}
+use Rattle.tw_code.specs.machine.Rights.{Right, right_of}
 use Rattle.tw_code.specs.accepting.Typing.{value_types, values_fit, rights_given, start_typing}
 
-abbrev pub right_of : Param → Right
-right_of p = record { mode = p.mode; ty = p.ty }
+abbrev pub as_right : Param → Right
+as_right p = record { mode = p.mode; ty = p.ty }
 
 -- ---- a parameter at the end of a list
 
@@ -28,33 +28,36 @@ value_types-right : (ps : List Param) (p : Param) → is_val p.mode ≡ false �
 value_types-right [] p e = ap (λ (b : Bool). if b then p.ty.scalar ∷ [] else []) e
 value_types-right (q ∷ ps) p e = ap (λ (types : List Scalar). if is_val q.mode then q.ty.scalar ∷ types else types) (value_types-right ps p e)
 
-rights_given-value : (ps : List Param) (p : Param) → is_val p.mode ≡ true → rights_given (ps ++ p ∷ []) ≡ rights_given ps
-rights_given-value [] p e = ap (λ (b : Bool). if b then [] else right_of p ∷ []) e
-rights_given-value (q ∷ ps) p e = ap (λ (rights : List Right). if is_val q.mode then rights else right_of q ∷ rights) (rights_given-value ps p e)
+rights_given-push : (ps : List Param) (p : Param) → rights_given (ps ++ p ∷ []) ≡ rights_given ps ++ option_to_list (right_of p)
+rights_given-push [] p = append-nil (option_to_list (right_of p))
+rights_given-push (q ∷ ps) p =
+    ap (λ (rights : List Right). option_to_list (right_of q) ++ rights) (rights_given-push ps p)
+    ∙ sym (append_assoc (option_to_list (right_of q)) (rights_given ps) (option_to_list (right_of p)))
 
-rights_given-right : (ps : List Param) (p : Param) → is_val p.mode ≡ false → rights_given (ps ++ p ∷ []) ≡ rights_given ps ++ right_of p ∷ []
-rights_given-right [] p e = ap (λ (b : Bool). if b then [] else right_of p ∷ []) e
-rights_given-right (q ∷ ps) p e =
-    ap (λ (rights : List Right). if is_val q.mode then rights else right_of q ∷ rights) (rights_given-right ps p e) ∙ out (is_val q.mode)
-  where
-    out : (b : Bool) → (if b then rights_given ps ++ right_of p ∷ [] else right_of q ∷ (rights_given ps ++ right_of p ∷ [])) ≡ (if b then rights_given ps else right_of q ∷ rights_given ps) ++ right_of p ∷ []
-    out true = refl
-    out false = refl
+rights_given-value : (ps : List Param) (p : Param) → is_val p.mode ≡ true → rights_given (ps ++ p ∷ []) ≡ rights_given ps
+rights_given-value ps p e =
+    rights_given-push ps p
+    ∙ ap (λ (b : Bool). rights_given ps ++ option_to_list (if b then None else Some (as_right p))) e
+    ∙ append-nil (rights_given ps)
+
+rights_given-right : (ps : List Param) (p : Param) → is_val p.mode ≡ false → rights_given (ps ++ p ∷ []) ≡ rights_given ps ++ as_right p ∷ []
+rights_given-right ps p e =
+    rights_given-push ps p ∙ ap (λ (b : Bool). rights_given ps ++ option_to_list (if b then None else Some (as_right p))) e
 
 -- the next empty register is filled
 fill_next : {A : Type 0} (xs : List A) (y : A) (rest : ℕ) → map Some (xs ++ y ∷ []) ++ replicate rest None ≡ set (map Some xs ++ replicate (suc rest) None) (length xs) (Some y)
 fill_next [] y rest = refl
 fill_next {A} (x ∷ xs) y rest = ap (λ (ys : List (Option A)). Some x ∷ ys) (fill_next xs y rest)
 
-start_typing-right : (ps : List Param) (p : Param) → is_val p.mode ≡ false → length (rights_given ps) < 16 → start_typing (ps ++ p ∷ []) ≡ set (start_typing ps) (length (rights_given ps)) (Some (right_of p))
+start_typing-right : (ps : List Param) (p : Param) → is_val p.mode ≡ false → length (rights_given ps) < 16 → start_typing (ps ++ p ∷ []) ≡ set (start_typing ps) (length (rights_given ps)) (Some (as_right p))
 start_typing-right ps p e few =
     let rights = rights_given ps in
-    let here : 16 - length (rights ++ right_of p ∷ []) ≡ 15 - length rights = omega (arith, length-append rights (right_of p ∷ [])) in
+    let here : 16 - length (rights ++ as_right p ∷ []) ≡ 15 - length rights = omega (arith, length-append rights (as_right p ∷ [])) in
     let there : suc (15 - length rights) ≡ 16 - length rights = omega arith in
     ap (λ (given : List Right). map Some given ++ replicate (16 - length given) None) (rights_given-right ps p e)
-    ∙ ap (λ (n : ℕ). map Some (rights ++ right_of p ∷ []) ++ replicate n None) here
-    ∙ fill_next rights (right_of p) (15 - length rights)
-    ∙ ap (λ (n : ℕ). set (map Some rights ++ replicate n None) (length rights) (Some (right_of p))) there
+    ∙ ap (λ (n : ℕ). map Some (rights ++ as_right p ∷ []) ++ replicate n None) here
+    ∙ fill_next rights (as_right p) (15 - length rights)
+    ∙ ap (λ (n : ℕ). set (map Some rights ++ replicate n None) (length rights) (Some (as_right p))) there
 
 values_fit-push : (types : List Scalar) (ty : Scalar) (registers : List Scalar) → values_fit (types ++ ty ∷ []) registers ≡ (values_fit types registers && option_map_or (λ declared. same_scalar declared ty) (slice_get registers (length types)) true)
 values_fit-push [] ty [] = refl
@@ -85,18 +88,18 @@ next_value ps i p inside is e =
 
 -- a right more
 pub next_right : (ps : List Param) (i : ℕ) (p : Param) → i < length ps → p ≡ get_or ps i p → is_val p.mode ≡ false
-    → (value_types (take (i + 1) ps) ≡ value_types (take i ps)) × (rights_given (take (i + 1) ps) ≡ rights_given (take i ps) ++ right_of p ∷ [])
+    → (value_types (take (i + 1) ps) ≡ value_types (take i ps)) × (rights_given (take (i + 1) ps) ≡ rights_given (take i ps) ++ as_right p ∷ [])
 next_right ps i p inside is e =
     let next = next_of ps i p inside is in
     (ap value_types next ∙ value_types-right (take i ps) p e, ap rights_given next ∙ rights_given-right (take i ps) p e)
 
 -- the typing with a right more
 pub next_typing : (ps : List Param) (i given : ℕ) (p : Param) → i < length ps → p ≡ get_or ps i p → is_val p.mode ≡ false → given ≡ length (rights_given (take i ps)) → given < 16
-    → start_typing (take (i + 1) ps) ≡ set (start_typing (take i ps)) given (Some (right_of p))
+    → start_typing (take (i + 1) ps) ≡ set (start_typing (take i ps)) given (Some (as_right p))
 next_typing ps i given p inside is e counted few =
     ap start_typing (next_of ps i p inside is)
     ∙ start_typing-right (take i ps) p e (omega (arith, counted))
-    ∙ ap (λ (n : ℕ). set (start_typing (take i ps)) n (Some (right_of p))) (sym counted)
+    ∙ ap (λ (n : ℕ). set (start_typing (take i ps)) n (Some (as_right p))) (sym counted)
 
 -- the test of the types with one more
 pub next_fits : (ps : List Param) (i given : ℕ) (p : Param) (registers : List Scalar) → i < length ps → p ≡ get_or ps i p → is_val p.mode ≡ true → given ≡ length (value_types (take i ps))

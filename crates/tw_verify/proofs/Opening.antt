@@ -8,6 +8,7 @@ use Rattle.std.specs.FinMap.{nat_cmp-IsAntisymmetric, get, insert, empty, get-em
 use Rattle.std.specs.List.{list_all, AllByRecursion}
 use Rattle.std.specs.Ordering.{int_cmp}
 use Rattle.tw_types.specs.declared.actor.Actor.{Actor}
+use Rattle.tw_types.specs.declared.input.Input.{Input}
 use Rattle.tw_types.specs.declared.param.Mode.{Mode}
 use Rattle.tw_types.specs.declared.param.Mode.TheVariants.{Val, Closed, Ref, Write}
 use Rattle.tw_types.specs.declared.param.Param.{Param}
@@ -20,15 +21,15 @@ use Rattle.tw_code.specs.declared.procedure.Procedure.{Procedure}
 use Rattle.tw_code.specs.machine.State.{Frame}
 use Rattle.tw_types.specs.Mode.{is_val, is_write, is_closed_mode}
 use Rattle.tw_code.specs.machine.Opening.{Opened, with_output, opened, main_task, opening_of, opening}
-use Rattle.tw_code.specs.format.Program.{IsParam}
-use Rattle.tw_code.specs.Program.{depth_under}
+use Rattle.tw_code.specs.format.Program.{IsTypeUnder, IsParam}
 use Rattle.tw_code.specs.machine.Rights.{Right, right_of}
 use Rattle.tw_types.specs.Counts.{hits, count_of, subscripts_in, inside, Balanced, BalancedAt, HasWriters, HaveWriters}
-use Rattle.tw_code.specs.machine.Holders.{read_by, write_by, Typings, over_args, task_reads, task_writes, frame_reads, frame_writes}
+use Rattle.tw_code.specs.machine.Holders.{read_by, write_by, Typings, task_reads, task_writes, frame_reads, frame_writes}
 use Rattle.tw_types.specs.TypedStore.{IsOfType, IsTypedStore}
 use Rattle.tw_verify.specs.Invariant.{Holds, ArgFits, ArgsFit, IsHeld}
 use Rattle.tw_types.specs.Totals.{total}
 use Rattle.tw_types.proofs.Freeing.{hits_same, hits_other, balanced_none, balanced_same, new_balanced, data_insert_same, data_insert_other}
+use Rattle.tw_verify.proofs.Over.{over_params}
 use Rattle.tw_verify.proofs.Registers.{Undisturbed}
 use Rattle.tw_verify.proofs.States.{args_kept}
 use Rattle.tw_types.proofs.Totals.{part, total-insert, total-empty, part-le-total, insert_same, insert_other}
@@ -47,11 +48,11 @@ not_closed Closed e f = cc
 not_closed Ref e f = cc
 not_closed Write e f = cc
 
-shallow : (m : Mode) (n : ℕ) → is_write m ≡ true → n ≤ depth_under m → n ≤ 3
-shallow Val n e h = cc
-shallow Closed n e h = cc
-shallow Ref n e h = cc
-shallow Write n e h = h
+write_type : (m : Mode) (ty : NestedScalar) → is_write m ≡ true → IsTypeUnder m ty → IsDataType ty
+write_type Val ty e h = cc
+write_type Closed ty e h = cc
+write_type Ref ty e h = cc
+write_type Write ty e h = h
 
 count_joined : (d : ℕ) (xs ys : List ℕ) → count_of d (xs ++ ys) ≡ count_of d xs + count_of d ys
 count_joined d [] ys = omega arith
@@ -133,11 +134,13 @@ module _ (s : Store) (t : IsTypedStore s) (ty : NestedScalar) (deep : IsDataType
       | inl new ↦ subst (λ (y : Datum). IsOfType y.ty y.content) new.1 (new_content ty)
       | inr old ↦ t.contents d x old.1
     ];
-    types = λ d x at. elim (new_or_before d x at) [
-      | inl new ↦ subst (λ (y : Datum). IsDataType y.ty) new.1 deep
-      | inr old ↦ t.types d x old.1
-    ];
-    members = λ c d x y at_c at_d some. members c d x y (new_or_before c x at_c) (new_or_before d y at_d) some;
+    nested = record {
+      types = λ d x at. elim (new_or_before d x at) [
+        | inl new ↦ subst (λ (y : Datum). IsDataType y.ty) new.1 deep
+        | inr old ↦ t.nested.types d x old.1
+      ];
+      members = λ c d x y at_c at_d some. members c d x y (new_or_before c x at_c) (new_or_before d y at_d) some;
+    };
     fresh = λ d x at. elim (new_or_before d x at) [
       | inl new ↦ omega (arith, new.0)
       | inr old ↦ omega (arith, old.0)
@@ -151,7 +154,7 @@ module _ (s : Store) (t : IsTypedStore s) (ty : NestedScalar) (deep : IsDataType
       members c d x y (inr old) (inl new) some =
           let none : subscripts_in d x ≡ 0 = ap (λ (n : ℕ). subscripts_in n x) new.0 ∙ no_member c x old.1 in
           absurd (omega arith)
-      members c d x y (inr old) (inr older) some = t.members c d x y old.1 older.1 some
+      members c d x y (inr old) (inr older) some = t.nested.members c d x y old.1 older.1 some
 
   pub writers_new : HaveWriters s.live → HaveWriters (insert s.live s.next (new_datum ty))
   writers_new written = λ d x at. elim (new_or_before d x at) [
@@ -163,7 +166,7 @@ module _ (s : Store) (t : IsTypedStore s) (ty : NestedScalar) (deep : IsDataType
 opened_more : (params : List Param) (o : Opened) (p : Param) → IsOpened params o → is_write p.mode ≡ true → IsParam p → IsOpened (params ++ p ∷ []) (with_output o p.ty)
 opened_more params o p h writes param =
     let id = o.store.next in
-    let deep : IsDataType p.ty = shallow p.mode p.ty.depth writes param in
+    let deep : IsDataType p.ty = write_type p.mode p.ty writes param in
     let none = balanced_none o.store.live (λ d. count_of d o.outputs) (λ d. count_of d o.rights) id h.balanced (not_yet o.store h.store) in
     let one = hits_same id in
     let right : right_of p ≡ Some (record { mode = p.mode; ty = p.ty }) = ap (λ b. if b then None else Some (record { mode = p.mode; ty = p.ty })) (not_value p.mode writes) in
@@ -188,12 +191,13 @@ opened_more params o p h writes param =
           (subst (λ (q : Option Right). ArgFits (added o.store (new_datum p.ty)) p q (RightArg id)) (sym right) holds));
     }
 
-opened_all : (before params : List Param) (o : Opened) → IsOpened before o → list_all (λ p. is_write p.mode) params ≡ true → AllByRecursion IsParam params → IsOpened (before ++ params) (opened o params [])
-opened_all before [] o h writes each = subst (λ (ps : List Param). IsOpened ps o) (sym (append-nil before)) h
-opened_all before (p ∷ params) o h writes each =
+-- outputs alone: no input is asked for
+opened_all : (inputs : List Input) (before params : List Param) (o : Opened) → IsOpened before o → list_all (λ p. is_write p.mode) params ≡ true → AllByRecursion IsParam params → IsOpened (before ++ params) (opened o params inputs)
+opened_all inputs before [] o h writes each = subst (λ (ps : List Param). IsOpened ps o) (sym (append-nil before)) h
+opened_all inputs before (p ∷ params) o h writes each =
     let both = and_parts (is_write p.mode) (list_all (λ q. is_write q.mode) params) writes in
-    let rest : IsOpened (before ++ (p ∷ params)) (opened (with_output o p.ty) params []) = subst (λ (ps : List Param). IsOpened ps (opened (with_output o p.ty) params [])) (append_assoc before (p ∷ []) params)
-    (opened_all (before ++ p ∷ []) params (with_output o p.ty) (opened_more before o p h both.0 each.0) both.1 each.1) in
+    let rest : IsOpened (before ++ (p ∷ params)) (opened (with_output o p.ty) params inputs) = subst (λ (ps : List Param). IsOpened ps (opened (with_output o p.ty) params inputs)) (append_assoc before (p ∷ []) params)
+    (opened_all inputs (before ++ p ∷ []) params (with_output o p.ty) (opened_more before o p h both.0 each.0) both.1 each.1) in
     rw both.0 rest
 
 nothing_live : (d : ℕ) (x : Datum) → get (empty {X = Datum} {R = nat_cmp}) d ≡ Some x → ⊥
@@ -203,8 +207,7 @@ start_opened : IsOpened [] (record { store = empty_store; rights = []; outputs =
 start_opened = record {
   store = record {
     contents = λ d x e. absurd (nothing_live d x e);
-    types = λ d x e. absurd (nothing_live d x e);
-    members = λ c d x y e f some. absurd (nothing_live c x e);
+    nested = record { types = λ d x e. absurd (nothing_live d x e); members = λ c d x y e f some. absurd (nothing_live c x e) };
     fresh = λ d x e. absurd (nothing_live d x e);
   };
   writers = λ d x e. absurd (nothing_live d x e);
@@ -216,7 +219,7 @@ start_opened = record {
 
 -- outputs are writes, each held once
 outputs_held : (d : ℕ) (s : Store) (params : List Param) (ids : List ℕ) → list_all (λ p. is_write p.mode) params ≡ true → ArgsFit s params (map RightArg ids)
-    → (over_args (read_by d) params (map RightArg ids) ≡ 0) × (over_args (write_by d) params (map RightArg ids) ≡ count_of d ids)
+    → (over_params (read_by d) params (map RightArg ids) ≡ 0) × (over_params (write_by d) params (map RightArg ids) ≡ count_of d ids)
 outputs_held d s [] [] writes h = (refl, refl)
 outputs_held d s [] (id ∷ ids) writes h = absurd h
 outputs_held d s (p ∷ params) [] writes h = absurd h
@@ -277,6 +280,6 @@ module _ (main : Procedure) (others : List Procedure) (typings : Typings) (o : O
           let same : main ≡ p = same_Some main p (subst (λ (v : Task). slice_get (main ∷ others) v.procedure ≡ Some p) (sym e) here) in
           subst (λ (v : Task). ArgsFit o.store p.params v.args) e (subst (λ (q : Procedure). ArgsFit o.store q.params (map RightArg o.rights)) same h.args)
 
-pub opening_held : (main : Procedure) (others : List Procedure) (typings : Typings) → AllByRecursion IsParam main.params → list_all (λ p. is_write p.mode) main.params ≡ true → IsHeld (main ∷ others) typings (opening (main ∷ others) [])
+pub opening_held : (main : Procedure) (others : List Procedure) (typings : Typings) (inputs : List Input) → AllByRecursion IsParam main.params → list_all (λ p. is_write p.mode) main.params ≡ true → IsHeld (main ∷ others) typings (opening (main ∷ others) inputs)
 unfolding opening
-opening_held main others typings each writes = held_opening main others typings _ (opened_all [] main.params (record { store = empty_store; rights = []; outputs = [] }) start_opened writes each) writes
+opening_held main others typings inputs each writes = held_opening main others typings _ (opened_all inputs [] main.params (record { store = empty_store; rights = []; outputs = [] }) start_opened writes each) writes

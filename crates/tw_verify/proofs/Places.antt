@@ -12,10 +12,10 @@ use Rattle.tw_code.specs.declared.instr.Instr.{Instr}
 use Rattle.tw_code.specs.accepting.Flow.{flow_of, flows}
 use Rattle.tw_code.specs.accepting.Structure.{end_from, end_of, depth_after, depth_of}
 use Rattle.tw_code.specs.accepting.WellTyped.{IsEndOf}
-use Rattle.tw_budget.specs.Places.{drop_at, slide, end_is, end_past, straight_end, branch_end, jump_end, end_within, depth_next, end_depth}
+use Rattle.tw_budget.proofs.Places.{drop_at, slide, end_is, end_past, straight_end, branch_end, jump_end, end_within, depth_next, end_depth}
 use Rattle.tw_budget.proofs.Tables.{set_from}
 use Rattle.tw_verify.specs.Loops.{EndsFrom, DepthsTo, AreFirsts}
-use Rattle.tw_code.proofs.Lists.{get_set_at, get_set_other}
+use Rattle.tw_verify.proofs.Lists.{get_set_at, get_set_other}
 
 -- ---- ENDs
 
@@ -43,9 +43,6 @@ begin_end code place turns end at e = ap (λ (xs : List Flow). end_from place 0 
 -- no END lies past the code
 pub end_past_code : (code : List Flow) → end_of code (length code) ≡ None
 end_past_code code = ap (λ (xs : List Flow). end_from (length code) 0 xs) (drop-length code)
-
-pub no_depth : (code : List Flow) → depth_of code 0 ≡ 0
-no_depth code = refl
 
 -- an instruction that is neither REPEAT nor END leaves the loops as they are
 pub passes_end : (code : List Flow) (place : ℕ) (flow : Flow) → slice_get code place ≡ Some flow → ((flow ≡ Straight) ⊎ (((x : ℕ) × (flow ≡ Branch x)) ⊎ (((x : ℕ) × (flow ≡ Jump x)) ⊎ (flow ≡ Stop)))) → end_of code place ≡ end_of code (place + 1)
@@ -155,14 +152,6 @@ depths_more code depths place depth known d = record {
         let here : k ≡ length depths = omega (arith, known.long) in
         let same : k ≡ place = omega arith in
         ap (λ (n : ℕ). get_or (depths ++ depth ∷ []) n 0) here ∙ get_or-append_seam depths depth [] 0 ∙ d ∙ ap (λ (n : ℕ). depth_of code n) (sym same)
-
--- no loop has a first place before the code
-pub no_firsts : (code : List Instr) (firsts : List (Option ℕ)) → length firsts ≡ length code → ((k : ℕ) (x : Option ℕ) → slice_get firsts k ≡ Some x → x ≡ None) → AreFirsts code firsts 0
-no_firsts code firsts long none = record {
-  long = long;
-  found = λ place first at. let both : Some first ≡ None = none place (Some first) at in cc;
-  all = λ place first few is. absurd (omega (arith, (loop_within code first place is).0));
-}
 
 -- the table of first places with one more place looked at, where a loop begins
 pub firsts_more : (code : List Instr) (firsts : List (Option ℕ)) (place end : ℕ) → AreFirsts code firsts place → IsEndOf code (place + 1) end → AreFirsts code (set firsts end (Some (place + 1))) (place + 1)

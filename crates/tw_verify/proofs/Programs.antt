@@ -1,26 +1,23 @@
 -- Accepted programs have no first refusal.
 use Rattle.std.proofs.Common.{◌≡◌, ◌≢◌, ℕ, ◌+◌, ◌<◌, ◌≤◌, ◌⊎◌, inl, inr, true, false, List, [], ◌∷◌, ◌++◌, length, length-append, take, get_or, Option, Some, None, refl, sym, ap, ◌∙◌, subst, arith}
 use Rattle.std.specs.Prelude.{slice_get, IsSomeAnd}
-use Rattle.std.specs.Option.{option_and_then}
 use Rattle.std.proofs.lemmas.Option.{slice_get_within, slice_get-get_or, same_Some}
-use Rattle.tw_code.specs.declared.flow.Flow.{Flow}
 use Rattle.tw_code.specs.declared.procedure.Procedure.{Procedure}
 use Rattle.tw_code.specs.accepting.Flow.{flows}
 use Rattle.tw_code.specs.accepting.MainShape.{has_main_shape}
-use Rattle.tw_code.specs.accepting.Structure.{structure_questions, structure_refusal}
-use Rattle.tw_code.specs.machine.Rights.{Typing}
 use Rattle.tw_code.specs.accepting.Walk.{IsBudget, greatest_budget}
-use Rattle.tw_code.specs.accepting.WellTyped.{IsRefusalAt, IsAcceptedProcedure, IsAccepted, IsProcedureRefusal, IsFirstRefusal}
+use Rattle.tw_code.specs.accepting.WellTyped.{IsAcceptedProcedure, IsAccepted, IsProcedureRefusal, IsFirstRefusal}
 use Rattle.tw_verify.specs.declared.fault.Fault.{Fault}
 use Rattle.tw_verify.specs.declared.fault.Fault.TheVariants as fault
 use Rattle.tw_verify.specs.declared.findings.Findings.{Findings}
 use Rattle.tw_verify.specs.declared.refusal.VerifyRefusal.{VerifyRefusal}
 use Rattle.tw_verify.specs.declared.refusal.VerifyRefusal.TheVariants as refusal
-use Rattle.tw_verify.specs.Passes.{IfFault, refusal_of, IsRefusal}
+use Rattle.tw_verify.specs.declared.violation.Violation.{Violation}
+use Rattle.tw_verify.specs.declared.violation.Violation.TheVariants as broken
+use Rattle.tw_verify.specs.Passes.{refusal_for, IfFault, refusal_of, IsRefusal}
 use Rattle.tw_verify.specs.Refusal.{verify_refusal_number}
 use Rattle.tw_verify.specs.Verified.{AreFindings, AreTyped, IsTyped}
-use Rattle.tw_code.proofs.Lists.{get_none, get_pushed}
-use Rattle.tw_verify.proofs.Lowest.{refusal_number, asks_number}
+use Rattle.tw_verify.proofs.Lists.{get_none, get_pushed}
 use Rattle.tw_verify.proofs.Typings.{well_typed_front}
 
 -- ---- typed programs are accepted
@@ -59,12 +56,12 @@ pub not_both : (program : List Procedure) (number procedure place : ℕ) → IsA
 not_both program number procedure place a (inl r) = let both : true ≡ false = sym a.main ∙ r.shape in cc
 not_both program number procedure place a (inr r) = by r.refusal
   where
-    own : IsAcceptedProcedure program r.refused
-    own = a.each procedure r.refused r.here
+    own : IsAcceptedProcedure program r.p
+    own = a.each procedure r.p r.here
 
-    by : IsProcedureRefusal program r.refused number place → ⊥
+    by : IsProcedureRefusal program r.p number place → ⊥
     by (inl s) = let both : None ≡ Some number = sym (own.structured place) ∙ s.here in cc
-    by (inr (s, inl t)) = t.none (take (place + 1) own.typable.0) (well_typed_front program r.refused own.typable.0 (length r.refused.code) (place + 1) own.typable.1 (omega (arith, t.inside)))
+    by (inr (s, inl t)) = t.none (take (place + 1) own.typable.0) (well_typed_front program r.p own.typable.0 (length r.p.code) (place + 1) own.typable.1 (omega (arith, t.inside)))
     by (inr (s, inr (t, b))) =
         let over = b.over in
         let walk = over.2 in
@@ -75,8 +72,8 @@ is_memory : (cause : VerifyRefusal) → (cause ≡ refusal.Memory) ⊎ (cause �
 is_memory refusal.Memory = inl refl
 is_memory _ = inr (λ e. cc)
 
-pub refused_memory : (program : List Procedure) (cause : VerifyRefusal) (procedure place : ℕ) → IsRefusal program cause procedure place → IsAccepted program → cause ≡ refusal.Memory
-refused_memory program cause procedure place r a = by (is_memory cause)
+pub refusal_is_memory : (program : List Procedure) (cause : VerifyRefusal) (procedure place : ℕ) → IsRefusal program cause procedure place → IsAccepted program → cause ≡ refusal.Memory
+refusal_is_memory program cause procedure place r a = by (is_memory cause)
   where
     by : (cause ≡ refusal.Memory) ⊎ (cause ≢ refusal.Memory) → cause ≡ refusal.Memory
     by (inl is) = is
@@ -84,27 +81,25 @@ refused_memory program cause procedure place r a = by (is_memory cause)
 
 -- ---- a procedure that is refused refuses its program
 
-structure_number : (code : List Flow) (place number : ℕ) (o : Option Flow) → option_and_then (structure_refusal code place) o ≡ Some number → number < 18
-structure_number code place number None h = cc
-structure_number code place number (Some flow) h = refusal_number (structure_questions code place flow) number refl h
+names_a_place : (violation : Violation) → refusal_for violation ≡ refusal.Memory → ⊥
+names_a_place broken.UndeclaredValue e = cc
+names_a_place broken.WrongValueType e = cc
+names_a_place broken.WrongRight e = cc
+names_a_place broken.SkipLeavesBlock e = cc
+names_a_place broken.Unmatched e = cc
+names_a_place broken.TypingsDiffer e = cc
+names_a_place broken.TypingChanged e = cc
+names_a_place broken.Unreached e = cc
+names_a_place broken.RightLeft e = cc
+names_a_place broken.MisplacedRet e = cc
+names_a_place broken.BudgetTooLarge e = cc
 
-typing_number : (program : List Procedure) (p : Procedure) (typings : List Typing) (number place : ℕ) → IsRefusalAt program p typings number place → number < 18
-typing_number program p typings number place (inl u) = omega (arith, u.is)
-typing_number program p typings number place (inr (inl a)) = asks_number program p place a.instr a.typing number a.vain
-typing_number program p typings number place (inr (inr (inl d))) = omega (arith, d.is)
-typing_number program p typings number place (inr (inr (inr e))) = omega (arith, e.is)
-
-procedure_number : (program : List Procedure) (p : Procedure) (number place : ℕ) → IsProcedureRefusal program p number place → number < 18
-procedure_number program p number place (inl s) = structure_number (flows p.code) place number (slice_get (flows p.code) place) s.here
-procedure_number program p number place (inr (s, inl t)) = typing_number program p t.typings number place t.refused.refused
-procedure_number program p number place (inr (s, inr (t, b))) = omega (arith, b.is)
-
-pub refused_by : (program : List Procedure) (all : List Findings) (number : ℕ) (p : Procedure) (stop : Fault) → has_main_shape program ≡ true → AreTyped program all number → slice_get program number ≡ Some p → IfFault stop (IsProcedureRefusal program p)
+pub refusal_by : (program : List Procedure) (all : List Findings) (number : ℕ) (p : Procedure) (stop : Fault) → has_main_shape program ≡ true → AreTyped program all number → slice_get program number ≡ Some p → IfFault stop (IsProcedureRefusal program p)
     → IsRefusal program (refusal_of number stop).no (refusal_of number stop).procedure (refusal_of number stop).place
-refused_by program all number p fault.Memory main t at h = record { first = λ other. absurd (other refl); memory = λ is. (refl, refl) }
-refused_by program all number p (fault.At cause place) main t at h = record {
-  first = λ other. inr (record { main = main; before = λ k q below here. accepted_one program all number k q t below here; refused = p; here = at; refusal = h });
-  memory = λ is. absurd (omega (arith, procedure_number program p (verify_refusal_number cause) place h, ap verify_refusal_number is));
+refusal_by program all number p fault.Memory main t at h = record { first = λ other. absurd (other refl); memory = λ is. (refl, refl) }
+refusal_by program all number p (fault.At violation place) main t at h = record {
+  first = λ other. inr (record { main = main; before = λ k q below here. accepted_one program all number k q t below here; p = p; here = at; refusal = h });
+  memory = λ is. absurd (names_a_place violation is);
 }
 
 -- ---- one procedure more

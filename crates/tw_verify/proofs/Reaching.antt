@@ -1,19 +1,18 @@
 -- What has reached the places, outcome by outcome.
-use Rattle.std.proofs.Common.{◌≡◌, ◌≢◌, ℕ, zero, suc, ◌+◌, ◌<◌, ◌≤◌, ◌==◌, ◌⊎◌, inl, inr, Bool, true, false, not, ◌&&◌, ◌||◌, List, [], ◌∷◌, ◌++◌, length, drop, take, get_or, Option, Some, None, refl, sym, ap, ◌∙◌, subst, arith}
+use Rattle.std.proofs.Common.{◌≡◌, ◌≢◌, ℕ, zero, suc, ◌+◌, ◌<◌, ◌≤◌, ◌==◌, ◌⊎◌, inl, inr, Bool, true, false, not, ◌||◌, List, [], ◌∷◌, ◌++◌, length, drop, take, get_or, Option, Some, None, refl, sym, ap, ◌∙◌, subst, arith}
 use Rattle.std.specs.Prelude.{slice_get, if◌then◌else◌}
 use Rattle.std.specs.Bool.{Decides}
 use Rattle.std.specs.Option.{option_eq}
 use Rattle.std.proofs.Math.ListN.{drop_of_length-le}
 use Rattle.std.proofs.Math.Seq.{take-length}
-use Rattle.std.proofs.lemmas.Bool.{cases_lt, eqb-false, eqb-true}
+use Rattle.std.proofs.lemmas.Bool.{and_parts, cases_lt, eqb-false, eqb-true}
 use Rattle.std.proofs.lemmas.List.{append-nil}
 use Rattle.std.proofs.lemmas.Option.{slice_get_within, slice_get-get_or, same_Some}
 use Rattle.std.proofs.lemmas.Slice.Eq.{slice_eq-Decides}
-use Rattle.tw_types.specs.declared.data_type.Scalar.{Scalar}
-use Rattle.tw_types.specs.declared.data_type.Scalar.TheVariants as scalar
 use Rattle.tw_types.specs.declared.param.Mode.{Mode}
 use Rattle.tw_types.specs.declared.param.Mode.TheVariants.{Val, Closed, Ref, Write}
-use Rattle.tw_types.specs.DataType.{same_scalar}
+use Rattle.tw_types.specs.DataType.{same_type}
+use Rattle.tw_types.specs.Nesting.{NestedScalar}
 use Rattle.tw_code.specs.declared.flow.Way.{Way}
 use Rattle.tw_code.specs.declared.flow.Way.TheVariants.{Done, Refused}
 use Rattle.tw_code.specs.declared.instr.Instr.{Instr}
@@ -23,15 +22,14 @@ use Rattle.tw_code.specs.machine.Rights.{Right, Typing}
 use Rattle.tw_code.specs.accepting.Typing.{start_typing, after}
 use Rattle.tw_code.specs.accepting.WellTyped.{LeadsTo, Brings, IsReached}
 use Rattle.tw_verify.specs.declared.rows.Reached.{Reached}
-use Rattle.tw_types.specs.Actor.{rank_of}
-use Rattle.tw_verify.specs.Passes.{same_right, same_typing, is_place, noted, sent, first_row}
-use Rattle.tw_code.proofs.Lists.{get_front, get_last}
-use Rattle.tw_verify.proofs.Lowest.{and_true}
+use Rattle.tw_verify.specs.Passes.{mode_rank, same_right, same_typing, is_place, noted, sent, first_row}
+use Rattle.tw_verify.proofs.Lists.{get_front, get_last}
+use Rattle.tw_verify.proofs.Scalars.{same_types, type_itself}
 use Rattle.tw_verify.proofs.Typings.{onward_later}
 
 -- ---- the same typing
 
-same_mode : (a b : Mode) → (rank_of a == rank_of b) ≡ true → a ≡ b
+same_mode : (a b : Mode) → (mode_rank a == mode_rank b) ≡ true → a ≡ b
 same_mode Val Val h = refl
 same_mode Val Closed h = cc
 same_mode Val Ref h = cc
@@ -49,89 +47,67 @@ same_mode Write Closed h = cc
 same_mode Write Ref h = cc
 same_mode Write Write h = refl
 
-own_mode : (a : Mode) → (rank_of a == rank_of a) ≡ true
+own_mode : (a : Mode) → (mode_rank a == mode_rank a) ≡ true
 own_mode Val = refl
 own_mode Closed = refl
 own_mode Ref = refl
 own_mode Write = refl
 
-scalars_same : (a b : Scalar) → same_scalar a b ≡ true → a ≡ b
-scalars_same scalar.Int scalar.Int h = refl
-scalars_same scalar.Int scalar.Text h = cc
-scalars_same scalar.Text scalar.Int h = cc
-scalars_same scalar.Text scalar.Text h = refl
-
-own_scalar : (a : Scalar) → same_scalar a a ≡ true
-own_scalar scalar.Int = refl
-own_scalar scalar.Text = refl
-
-own_depth : (n : ℕ) → (n == n) ≡ true
-own_depth n = by (n == n) refl
-  where
-    by : (b : Bool) → (n == n) ≡ b → b ≡ true
-    by true e = refl
-    by false e = absurd (eqb-false n n e refl)
-
-right_told : (a b : Right) → Decides (same_right a b) (a ≡ b)
-right_told a b = (same, λ e. subst (λ (x : Right). same_right a x ≡ true) e own)
+right_decides : (a b : Right) → Decides (same_right a b) (a ≡ b)
+right_decides a b = (same, λ e. subst (λ (x : Right). same_right a x ≡ true) e own)
   where
     same : same_right a b ≡ true → a ≡ b
     same h =
-        let first = and_true (rank_of a.mode == rank_of b.mode) ((a.ty.depth == b.ty.depth) && same_scalar a.ty.scalar b.ty.scalar) h in
-        let second = and_true (a.ty.depth == b.ty.depth) (same_scalar a.ty.scalar b.ty.scalar) first.1 in
-        let mode = same_mode a.mode b.mode first.0 in
-        let depth = eqb-true a.ty.depth b.ty.depth second.0 in
-        let inner = scalars_same a.ty.scalar b.ty.scalar second.1 in
-        ap (λ (m : Mode). record { mode = m; ty = a.ty }) mode
-        ∙ ap (λ (n : ℕ). record { mode = b.mode; ty = record { depth = n; scalar = a.ty.scalar } }) depth
-        ∙ ap (λ (s : Scalar). record { mode = b.mode; ty = record { depth = b.ty.depth; scalar = s } }) inner
+        let both = and_parts (mode_rank a.mode == mode_rank b.mode) (same_type a.ty b.ty) h in
+        ap (λ (m : Mode). record { mode = m; ty = a.ty }) (same_mode a.mode b.mode both.0)
+        ∙ ap (λ (t : NestedScalar). record { mode = b.mode; ty = t }) (same_types a.ty b.ty both.1)
 
     own : same_right a a ≡ true
-    own = rw own_mode (rw own_depth (own_scalar a.ty.scalar))
+    own = rw (own_mode a.mode) (type_itself a.ty)
 
-slot_told : (a b : Option Right) → Decides (option_eq same_right a b) (a ≡ b)
-slot_told None None = (λ _. refl, λ _. refl)
-slot_told None (Some b) = (λ h. cc, λ h. cc)
-slot_told (Some a) None = (λ h. cc, λ h. cc)
-slot_told (Some a) (Some b) = (λ h. ap Some ((right_told a b).0 h), λ h. (right_told a b).1 (same_Some a b h))
+slot_decides : (a b : Option Right) → Decides (option_eq same_right a b) (a ≡ b)
+slot_decides None None = (λ _. refl, λ _. refl)
+slot_decides None (Some b) = (λ h. cc, λ h. cc)
+slot_decides (Some a) None = (λ h. cc, λ h. cc)
+slot_decides (Some a) (Some b) = (λ h. ap Some ((right_decides a b).0 h), λ h. (right_decides a b).1 (same_Some a b h))
 
-pub typing_told : (a b : Typing) → Decides (same_typing a b) (a ≡ b)
-typing_told a b = slice_eq-Decides slot_told a b (same_typing a b) refl
+pub typing_decides : (a b : Typing) → Decides (same_typing a b) (a ≡ b)
+typing_decides a b = slice_eq-Decides slot_decides a b (same_typing a b) refl
 
 -- ---- the outcomes in the order in which they are looked at
 
-abbrev pub turn_of : ℕ → Way → ℕ
-turn_of place Done = place + place
-turn_of place Refused = suc (place + place)
+abbrev pub outcome_number : ℕ → Way → ℕ
+outcome_number place Done = place + place
+outcome_number place Refused = suc (place + place)
 
 never_odd : (a b : ℕ) → a + a ≡ suc (b + b) → ⊥
 never_odd zero b h = absurd (omega arith)
 never_odd (suc a) zero h = absurd (omega arith)
 never_odd (suc a) (suc b) h = never_odd a b (omega arith)
 
-same_turn : (a b : ℕ) (v w : Way) → turn_of a v ≡ turn_of b w → (a ≡ b) × (v ≡ w)
-same_turn a b Done Done h = (omega arith, refl)
-same_turn a b Done Refused h = absurd (never_odd a b h)
-same_turn a b Refused Done h = absurd (never_odd b a (sym h))
-same_turn a b Refused Refused h = (omega arith, refl)
+same_outcome : (a b : ℕ) (v w : Way) → outcome_number a v ≡ outcome_number b w → (a ≡ b) × (v ≡ w)
+same_outcome a b Done Done h = (omega arith, refl)
+same_outcome a b Done Refused h = absurd (never_odd a b h)
+same_outcome a b Refused Done h = absurd (never_odd b a (sym h))
+same_outcome a b Refused Refused h = (omega arith, refl)
 
-earlier_turn : (a b : ℕ) (v w : Way) → a < b → turn_of a v < turn_of b w
-earlier_turn a b Done Done h = omega arith
-earlier_turn a b Done Refused h = omega arith
-earlier_turn a b Refused Done h = omega arith
-earlier_turn a b Refused Refused h = omega arith
+earlier_outcome : (a b : ℕ) (v w : Way) → a < b → outcome_number a v < outcome_number b w
+earlier_outcome a b Done Done h = omega arith
+earlier_outcome a b Done Refused h = omega arith
+earlier_outcome a b Refused Done h = omega arith
+earlier_outcome a b Refused Refused h = omega arith
 
 -- ---- rows
 
--- what has reached a place by the outcomes before a turn
-pub record HasReached (program : List Procedure) (p : Procedure) (typings : List Typing) (turn place : ℕ) (r : Reached) : Type 0 where
+-- what has reached a place by the outcomes before a number
+pub record HasReached (program : List Procedure) (p : Procedure) (typings : List Typing) (number place : ℕ) (r : Reached) : Type 0 where
   pub first : IsReached program p typings place r.typing
-  pub same : r.differs ≡ false → (before : ℕ) (other : Typing) (b : Brings program p typings before place other) → turn_of before b.step.way < turn → other ≡ r.typing
+  pub same : r.differs ≡ false → (before : ℕ) (other : Typing) (b : Brings program p typings before place other) → outcome_number before b.step.way < number → other ≡ r.typing
   pub another : r.differs ≡ true → (before : ℕ) × (other : Typing) × Brings program p typings before place other × (other ≢ r.typing)
 
 abbrev pub IsRow : List Procedure → Procedure → List Typing → ℕ → ℕ → Option Reached → Type 0
-IsRow program p typings turn place (Some r) = HasReached program p typings turn place r
-IsRow program p typings turn place None = (0 < place) × ((before : ℕ) (step : LeadsTo p.code before place) → turn_of before step.way < turn → ⊥)
+IsRow program p typings number place (Some r) = HasReached program p typings number place r
+IsRow program p typings number place None = (0 < place) × ((before : ℕ) (step : LeadsTo p.code before place) → outcome_number before step.way < number → ⊥)
 
 pub start_row : (program : List Procedure) (p : Procedure) (place : ℕ) → IsRow program p [] 0 place (first_row (start_typing p.params) place)
 start_row program p place = by (place == 0) refl
@@ -167,22 +143,22 @@ row_more program p ts us n place (Some r) long h = record {
   another = λ e. let o = h.another e in (o.0, o.1, brings_more program p ts us o.0 place o.1 o.2, o.3);
 }
   where
-    early : (before : ℕ) (way : Way) → turn_of before way < n + n → before < n
+    early : (before : ℕ) (way : Way) → outcome_number before way < n + n → before < n
     early before Done below = omega arith
     early before Refused below = omega arith
 
 -- ---- one outcome more
 
--- a step before the next turn is before this one, or is this one
-newest : (code : List Instr) (before place next turn : ℕ) (way : Way) (i : Instr) (step : LeadsTo code before next) → turn ≡ turn_of place way → slice_get code place ≡ Some i → turn_of before step.way < suc turn
-    → (turn_of before step.way < turn) ⊎ ((before ≡ place) × (step.way ≡ way) × (step.instr ≡ i))
-newest code before place next turn way i step now here below = by (cases_lt (turn_of before step.way) turn)
+-- a step before the next outcome is before this one, or is this one
+newest : (code : List Instr) (before place next number : ℕ) (way : Way) (i : Instr) (step : LeadsTo code before next) → number ≡ outcome_number place way → slice_get code place ≡ Some i → outcome_number before step.way < suc number
+    → (outcome_number before step.way < number) ⊎ ((before ≡ place) × (step.way ≡ way) × (step.instr ≡ i))
+newest code before place next number way i step now here below = by (cases_lt (outcome_number before step.way) number)
   where
-    by : (turn_of before step.way < turn) ⊎ (turn ≤ turn_of before step.way) → (turn_of before step.way < turn) ⊎ ((before ≡ place) × (step.way ≡ way) × (step.instr ≡ i))
+    by : (outcome_number before step.way < number) ⊎ (number ≤ outcome_number before step.way) → (outcome_number before step.way < number) ⊎ ((before ≡ place) × (step.way ≡ way) × (step.instr ≡ i))
     by (inl early) = inl early
     by (inr late) =
-        let same : turn_of before step.way ≡ turn_of place way = omega (arith, now) in
-        let both = same_turn before place step.way way same in
+        let same : outcome_number before step.way ≡ outcome_number place way = omega (arith, now) in
+        let both = same_outcome before place step.way way same in
         inr (both.0, both.1, same_Some step.instr i (sym step.here ∙ ap (slice_get code) both.0 ∙ here))
 
 is_there : (place : ℕ) (to : Option ℕ) → is_place place to ≡ true → to ≡ Some place
@@ -193,45 +169,45 @@ is_elsewhere : (place : ℕ) (to : Option ℕ) → is_place place to ≡ false �
 is_elsewhere place None h e = cc
 is_elsewhere place (Some to) h e = eqb-false to place h (same_Some to place e)
 
--- the instruction at a place, with its typing, and the outcome whose turn it is
-pub record IsTurn (p : Procedure) (typings : List Typing) (turn place : ℕ) (way : Way) (i : Instr) (t : Typing) : Type 0 where
-  pub now : turn ≡ turn_of place way
+-- the instruction at a place, with its typing, and one of its outcomes, by its number
+pub record IsOutcome (p : Procedure) (typings : List Typing) (number place : ℕ) (way : Way) (i : Instr) (t : Typing) : Type 0 where
+  pub now : number ≡ outcome_number place way
   pub here : slice_get p.code place ≡ Some i
   pub there : slice_get typings place ≡ Some t
 
--- an earlier turn brought it, or this one does
-brought : (program : List Procedure) (p : Procedure) (ts : List Typing) (turn place : ℕ) (way : Way) (i : Instr) (t : Typing) → IsTurn p ts turn place way i t → (before next : ℕ) (other : Typing) (b : Brings program p ts before next other) → turn_of before b.step.way < suc turn
-    → (turn_of before b.step.way < turn) ⊎ (other ≡ after program way i t)
-brought program p ts turn place way i t now before next other b below = by (newest p.code before place next turn way i b.step now.now now.here below)
+-- an earlier outcome brought it, or this one does
+brought : (program : List Procedure) (p : Procedure) (ts : List Typing) (number place : ℕ) (way : Way) (i : Instr) (t : Typing) → IsOutcome p ts number place way i t → (before next : ℕ) (other : Typing) (b : Brings program p ts before next other) → outcome_number before b.step.way < suc number
+    → (outcome_number before b.step.way < number) ⊎ (other ≡ after program way i t)
+brought program p ts number place way i t now before next other b below = by (newest p.code before place next number way i b.step now.now now.here below)
   where
-    by : (turn_of before b.step.way < turn) ⊎ ((before ≡ place) × (b.step.way ≡ way) × (b.step.instr ≡ i)) → (turn_of before b.step.way < turn) ⊎ (other ≡ after program way i t)
+    by : (outcome_number before b.step.way < number) ⊎ ((before ≡ place) × (b.step.way ≡ way) × (b.step.instr ≡ i)) → (outcome_number before b.step.way < number) ⊎ (other ≡ after program way i t)
     by (inl early) = inl early
     by (inr (same, is, instr)) =
         let from = same_Some b.from t (sym b.there ∙ ap (slice_get ts) same ∙ now.there) in
         inr (b.is ∙ ap (λ (w : Way). after program w b.step.instr b.from) is ∙ ap (λ (x : Instr). after program way x b.from) instr ∙ ap (after program way i) from)
 
 -- where it goes on elsewhere, nothing changes
-row_elsewhere : (program : List Procedure) (p : Procedure) (ts : List Typing) (turn place : ℕ) (way : Way) (i : Instr) (t : Typing) → IsTurn p ts turn place way i t → (next : ℕ) (row : Option Reached) → (onward way place (flow_of i) ≡ Some next → ⊥) → IsRow program p ts turn next row → IsRow program p ts (suc turn) next row
-row_elsewhere program p ts turn place way i t now next row away h = by row h
+row_elsewhere : (program : List Procedure) (p : Procedure) (ts : List Typing) (number place : ℕ) (way : Way) (i : Instr) (t : Typing) → IsOutcome p ts number place way i t → (next : ℕ) (row : Option Reached) → (onward way place (flow_of i) ≡ Some next → ⊥) → IsRow program p ts number next row → IsRow program p ts (suc number) next row
+row_elsewhere program p ts number place way i t now next row away h = by row h
   where
     not_now : (before : ℕ) (step : LeadsTo p.code before next) → (before ≡ place) × (step.way ≡ way) × (step.instr ≡ i) → ⊥
     not_now before step (same, is, instr) =
         away (sym (ap (λ (w : Way). onward w before (flow_of step.instr)) is ∙ ap (λ (n : ℕ). onward way n (flow_of step.instr)) same ∙ ap (λ (x : Instr). onward way place (flow_of x)) instr) ∙ step.goes_on)
 
-    early : (before : ℕ) (step : LeadsTo p.code before next) → turn_of before step.way < suc turn → turn_of before step.way < turn
-    early before step below = either (newest p.code before place next turn way i step now.now now.here below)
+    early : (before : ℕ) (step : LeadsTo p.code before next) → outcome_number before step.way < suc number → outcome_number before step.way < number
+    early before step below = either (newest p.code before place next number way i step now.now now.here below)
       where
-        either : (turn_of before step.way < turn) ⊎ ((before ≡ place) × (step.way ≡ way) × (step.instr ≡ i)) → turn_of before step.way < turn
+        either : (outcome_number before step.way < number) ⊎ ((before ≡ place) × (step.way ≡ way) × (step.instr ≡ i)) → outcome_number before step.way < number
         either (inl before_it) = before_it
         either (inr it) = absurd (not_now before step it)
 
-    by : (row : Option Reached) → IsRow program p ts turn next row → IsRow program p ts (suc turn) next row
+    by : (row : Option Reached) → IsRow program p ts number next row → IsRow program p ts (suc number) next row
     by None k = (k.0, λ before step below. k.1 before step (early before step below))
     by (Some r) k = record { first = k.first; same = λ e before other b below. k.same e before other b (early before b.step below); another = k.another }
 
 -- where it goes on here, its typing is noted
-row_here : (program : List Procedure) (p : Procedure) (ts : List Typing) (turn place : ℕ) (way : Way) (i : Instr) (t : Typing) → IsTurn p ts turn place way i t → (next : ℕ) (row : Option Reached) → onward way place (flow_of i) ≡ Some next → IsRow program p ts turn next row → IsRow program p ts (suc turn) next (noted row (after program way i t))
-row_here program p ts turn place way i t now next row goes h = by row h
+row_here : (program : List Procedure) (p : Procedure) (ts : List Typing) (number place : ℕ) (way : Way) (i : Instr) (t : Typing) → IsOutcome p ts number place way i t → (next : ℕ) (row : Option Reached) → onward way place (flow_of i) ≡ Some next → IsRow program p ts number next row → IsRow program p ts (suc number) next (noted row (after program way i t))
+row_here program p ts number place way i t now next row goes h = by row h
   where
     new : Typing
     new = after program way i t
@@ -242,45 +218,45 @@ row_here program p ts turn place way i t now next row goes h = by row h
     brings : Brings program p ts place next new
     brings = record { step = step; from = t; there = now.there; is = refl }
 
-    done : (w : Way) → turn ≡ turn_of place w → ((before : ℕ) (s : LeadsTo p.code before next) → turn_of before s.way < turn → ⊥) → onward Done place (flow_of i) ≡ Some next → w ≡ Done
+    done : (w : Way) → number ≡ outcome_number place w → ((before : ℕ) (s : LeadsTo p.code before next) → outcome_number before s.way < number → ⊥) → onward Done place (flow_of i) ≡ Some next → w ≡ Done
     done Done is none e = refl
     done Refused is none e = absurd (none place (record { earlier = onward_later Done place (flow_of i) next e; instr = i; here = now.here; way = Done; goes_on = e }) (omega (arith, is)))
 
-    again : (r : Reached) → HasReached program p ts turn next r → (d s : Bool) → r.differs ≡ d → same_typing r.typing new ≡ s → HasReached program p ts (suc turn) next (record { typing = r.typing; differs = d || not s })
+    again : (r : Reached) → HasReached program p ts number next r → (d s : Bool) → r.differs ≡ d → same_typing r.typing new ≡ s → HasReached program p ts (suc number) next (record { typing = r.typing; differs = d || not s })
     again r k true s e f = record { first = k.first; same = λ g. cc; another = λ g. k.another e }
     again r k false true e f = record {
       first = k.first;
-      same = λ g before other b below. either before other b (brought program p ts turn place way i t now before next other b below);
+      same = λ g before other b below. either before other b (brought program p ts number place way i t now before next other b below);
       another = λ g. cc;
     }
       where
-        either : (before : ℕ) (other : Typing) (b : Brings program p ts before next other) → (turn_of before b.step.way < turn) ⊎ (other ≡ new) → other ≡ r.typing
+        either : (before : ℕ) (other : Typing) (b : Brings program p ts before next other) → (outcome_number before b.step.way < number) ⊎ (other ≡ new) → other ≡ r.typing
         either before other b (inl early) = k.same e before other b early
-        either before other b (inr is) = is ∙ sym ((typing_told r.typing new).0 f)
+        either before other b (inr is) = is ∙ sym ((typing_decides r.typing new).0 f)
     again r k false false e f = record {
       first = k.first;
       same = λ g. cc;
-      another = λ g. (place, new, brings, λ is. let both : true ≡ false = sym ((typing_told r.typing new).1 (sym is)) ∙ f in cc);
+      another = λ g. (place, new, brings, λ is. let both : true ≡ false = sym ((typing_decides r.typing new).1 (sym is)) ∙ f in cc);
     }
 
-    by : (row : Option Reached) → IsRow program p ts turn next row → IsRow program p ts (suc turn) next (noted row new)
+    by : (row : Option Reached) → IsRow program p ts number next row → IsRow program p ts (suc number) next (noted row new)
     by None k = record {
-      first = inr (place, record { brings = brings; least = λ other below s. k.1 other s (omega (arith, now.now, earlier_turn other place s.way way below)); done = done way now.now k.1 });
-      same = λ g before other b below. either before other b (brought program p ts turn place way i t now before next other b below);
+      first = inr (place, record { brings = brings; least = λ other below s. k.1 other s (omega (arith, now.now, earlier_outcome other place s.way way below)); done = done way now.now k.1 });
+      same = λ g before other b below. either before other b (brought program p ts number place way i t now before next other b below);
       another = λ g. cc;
     }
       where
-        either : (before : ℕ) (other : Typing) (b : Brings program p ts before next other) → (turn_of before b.step.way < turn) ⊎ (other ≡ new) → other ≡ new
+        either : (before : ℕ) (other : Typing) (b : Brings program p ts before next other) → (outcome_number before b.step.way < number) ⊎ (other ≡ new) → other ≡ new
         either before other b (inl early) = absurd (k.1 before b.step early)
         either before other b (inr is) = is
     by (Some r) k = again r k r.differs (same_typing r.typing new) refl refl
 
-pub row_sent : (program : List Procedure) (p : Procedure) (ts : List Typing) (turn place : ℕ) (way : Way) (i : Instr) (t : Typing) → IsTurn p ts turn place way i t → (next : ℕ) (row : Option Reached) → IsRow program p ts turn next row → IsRow program p ts (suc turn) next (sent (onward way place (flow_of i)) (after program way i t) next row)
-row_sent program p ts turn place way i t now next row h = by (is_place next (onward way place (flow_of i))) refl
+pub row_sent : (program : List Procedure) (p : Procedure) (ts : List Typing) (number place : ℕ) (way : Way) (i : Instr) (t : Typing) → IsOutcome p ts number place way i t → (next : ℕ) (row : Option Reached) → IsRow program p ts number next row → IsRow program p ts (suc number) next (sent (onward way place (flow_of i)) (after program way i t) next row)
+row_sent program p ts number place way i t now next row h = by (is_place next (onward way place (flow_of i))) refl
   where
-    by : (b : Bool) → is_place next (onward way place (flow_of i)) ≡ b → IsRow program p ts (suc turn) next (if b then noted row (after program way i t) else row)
-    by true e = row_here program p ts turn place way i t now next row (is_there next (onward way place (flow_of i)) e) h
-    by false e = row_elsewhere program p ts turn place way i t now next row (is_elsewhere next (onward way place (flow_of i)) e) h
+    by : (b : Bool) → is_place next (onward way place (flow_of i)) ≡ b → IsRow program p ts (suc number) next (if b then noted row (after program way i t) else row)
+    by true e = row_here program p ts number place way i t now next row (is_there next (onward way place (flow_of i)) e) h
+    by false e = row_elsewhere program p ts number place way i t now next row (is_elsewhere next (onward way place (flow_of i)) e) h
 
 -- both outcomes of a place
 abbrev pub sent_both : List Procedure → ℕ → Instr → Typing → ℕ → Option Reached → Option Reached
@@ -298,9 +274,9 @@ rows_more program p ts place i t old new long here same step known k row at =
     let first = row_more program p ts (t ∷ []) place k before long (known k before was) in
     let second = row_sent program p (ts ++ t ∷ []) (place + place) place Done i t (record { now = refl; here = here; there = last }) k before first in
     let third = row_sent program p (ts ++ t ∷ []) (suc (place + place)) place Refused i t (record { now = refl; here = here; there = last }) k (sent (onward Done place (flow_of i)) (after program Done i t) k before) second in
-    let turns : suc (suc (place + place)) ≡ place + 1 + (place + 1) = omega arith in
+    let numbers : suc (suc (place + place)) ≡ place + 1 + (place + 1) = omega arith in
     subst (λ (x : Option Reached). IsRow program p (ts ++ t ∷ []) (place + 1 + (place + 1)) k x) is
-    (subst (λ (n : ℕ). IsRow program p (ts ++ t ∷ []) n k (sent_both program place i t k before)) turns third)
+    (subst (λ (n : ℕ). IsRow program p (ts ++ t ∷ []) n k (sent_both program place i t k before)) numbers third)
 
 -- a write through the slice of a whole vector
 pub whole_slice : {A : Type 0} (xs old : List A) (n : ℕ) → length xs ≡ length old → n ≡ length old → take n (xs ++ drop (length xs) old) ≡ xs

@@ -2,19 +2,19 @@
 use Rattle.std.proofs.Common.{◌≡◌, ℕ, zero, suc, true, List, [], ◌∷◌, length, slice_get, Option, Some, None, refl, subst}
 use Rattle.std.proofs.lemmas.Option.{same_Some}
 use Rattle.std.specs.List.{AllByRecursion}
+use Rattle.tw_types.specs.declared.input.Input.{Input}
 use Rattle.tw_types.specs.Layout.{ActorCounts}
 use Rattle.tw_code.specs.declared.procedure.Procedure.{Procedure}
 use Rattle.tw_code.specs.machine.State.{State}
-use Rattle.tw_code.specs.machine.Machine.{step, run}
-use Rattle.tw_code.specs.machine.Opening.{opening}
+use Rattle.tw_code.specs.machine.Machine.{step}
+use Rattle.tw_code.specs.machine.Opening.{opening, reached}
 use Rattle.tw_code.specs.format.Program.{IsProcedure, IsProgram}
 use Rattle.tw_code.specs.machine.Rights.{Typing}
 use Rattle.tw_code.specs.accepting.WellTyped.{IsWellTyped, IsAccepted}
-use Rattle.tw_budget.specs.Sound.{sound_flows}
+use Rattle.tw_budget.proofs.Sound.{sound_flows}
 use Rattle.tw_code.specs.machine.Holders.{Typings}
 use Rattle.tw_verify.specs.Invariant.{IsHeld}
-use Rattle.tw_verify.specs.Simple.{has_no_inputs}
-use Rattle.tw_verify.specs.NoTrap.{IsSafe, NoTrap}
+use Rattle.tw_verify.specs.NoTrap.{IsSafe, NoTrap, has_no_inputs}
 use Rattle.tw_verify.proofs.Events.{step_keeps, run_keeps, one_step, below}
 use Rattle.tw_verify.proofs.Moving.{Accepts}
 use Rattle.tw_verify.proofs.Opening.{opening_held}
@@ -54,12 +54,12 @@ module _ (program : List Procedure) (is : IsProgram program) (accepted : IsAccep
     below = λ a f at. below program typings accepts layout s a f held at;
   }
 
-  all_held : IsHeld program typings (opening program []) → NoTrap program
+  all_held : ((inputs : List Input) → IsHeld program typings (opening program inputs)) → NoTrap program
   all_held opened = record {
-    run_goes = λ layout events cause e. keeps_no_trap (run program layout events (opening program [])) (IsHeld program typings) cause (run_keeps program typings accepts layout events (opening program []) opened) e;
-    reached_is_safe = λ layout events s e. safe layout s (keeps_went (run program layout events (opening program [])) (IsHeld program typings) s (run_keeps program typings accepts layout events (opening program []) opened) e);
+    run_goes = λ inputs layout events cause given e. keeps_no_trap (reached program inputs layout events) (IsHeld program typings) cause (run_keeps program typings accepts layout events (opening program inputs) (opened inputs)) e;
+    reached_is_safe = λ inputs layout events s given e. safe layout s (keeps_went (reached program inputs layout events) (IsHeld program typings) s (run_keeps program typings accepts layout events (opening program inputs) (opened inputs)) e);
   }
 
 pub no_trap : (program : List Procedure) → IsProgram program → IsAccepted program → has_no_inputs program ≡ true → NoTrap program
 no_trap [] is accepted writes = let main = accepted.main in cc
-no_trap (main ∷ others) is accepted writes = all_held (main ∷ others) is accepted (opening_held main others (typings (main ∷ others) is accepted) is.1.0.params.1 writes)
+no_trap (main ∷ others) is accepted writes = all_held (main ∷ others) is accepted (λ inputs. opening_held main others (typings (main ∷ others) is accepted) inputs is.1.0.params.1 writes)

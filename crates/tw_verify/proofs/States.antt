@@ -117,7 +117,7 @@ module _ (program : List Procedure) (typings : Typings) (s : State) (a : Actor) 
 
   -- with another context, and so much spent
   abbrev pub gone_on : Context → ℕ → State
-  gone_on c n = with_frame (record s { store = c.store }) a (record f { position = c.position; rights = c.rights; spent = n })
+  gone_on c n = with_frame (record s { store = c.store; notices = c.notices }) a (record f { position = c.position; rights = c.rights; spent = n })
 
   module _ (p : Procedure) (here : slice_get program f.procedure ≡ Some p) (c : Context) (n : ℕ) (stands : Stands p n c.position)
       (settles : Settles (typing_at typings f.procedure c.position.place) (context_of s f) (other_reads program typings s a) (other_writes program typings s a) c) where

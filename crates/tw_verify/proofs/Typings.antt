@@ -15,7 +15,7 @@ use Rattle.tw_code.specs.machine.Position.{goal_of}
 use Rattle.tw_code.specs.machine.Rights.{Typing}
 use Rattle.tw_code.specs.accepting.Typing.{after}
 use Rattle.tw_code.specs.accepting.WellTyped.{Brings, IsWellTyped, IsReached}
-use Rattle.tw_code.proofs.Lists.{get-take}
+use Rattle.tw_verify.proofs.Lists.{get-take}
 
 -- the later place of an outcome is later
 pub onward_later : (way : Way) (place : ℕ) (flow : Flow) (next : ℕ) → onward way place flow ≡ Some next → place < next

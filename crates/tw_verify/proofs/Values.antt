@@ -1,6 +1,6 @@
 -- The local instructions that are asked for go, and keep the types of the values.
 use Rattle.std.proofs.Common.{◌≡◌, ℕ, zero, suc, Bool, true, false, List, [], ◌∷◌, ◌++◌, length, ℤ, pos, slice_get, slice_set, Option, Some, None, refl, sym, ap, ◌∙◌, if◌then◌else◌, bytes_eq}
-use Rattle.std.specs.Prelude.{int_lt}
+use Rattle.std.specs.Prelude.{int_lt, Ok}
 use Rattle.std.specs.Fmt.{signed_decimal}
 use Rattle.std.specs.Option.{option_map, ok_or}
 use Rattle.std.specs.Ordering.{int_eq}
@@ -9,7 +9,6 @@ use Rattle.tw_types.specs.declared.data_type.Scalar.{Scalar}
 use Rattle.tw_types.specs.declared.data_type.Scalar.TheVariants as scalar
 use Rattle.tw_types.specs.declared.value.Value.{Value}
 use Rattle.tw_types.specs.declared.value.Value.TheVariants as value
-use Rattle.tw_types.specs.Outcome.{Went}
 use Rattle.tw_types.specs.DataType.{same_scalar}
 use Rattle.tw_types.specs.Value.{scalar_of}
 use Rattle.tw_code.specs.declared.flow.Flow.{Flow}
@@ -17,13 +16,16 @@ use Rattle.tw_code.specs.declared.flow.Flow.TheVariants.{Straight, Branch, Jump,
 use Rattle.tw_code.specs.declared.flow.Way.{Way}
 use Rattle.tw_code.specs.declared.flow.Way.TheVariants.{Done, Refused}
 use Rattle.tw_code.specs.declared.instr.Arithmetic.{Arithmetic}
-use Rattle.tw_code.specs.declared.instr.Instr.TheVariants as instr
+use Rattle.tw_code.specs.declared.instr.LocalInstr.{LocalInstr}
+use Rattle.tw_code.specs.declared.instr.LocalInstr.TheVariants as local
 use Rattle.tw_code.specs.machine.Position.{Position, value_at, int_in, text_in, int_at, text_at, must_have_type, at_next_place, at_goal, with_value, with_result, Cursor, after_end}
 use Rattle.tw_code.specs.machine.Local.{result_of, joined, int_shown_as, same_value, local_instr}
 use Rattle.tw_code.specs.accepting.Question.{Question, refusal_in, passes}
-use Rattle.tw_code.specs.accepting.Typing.{asks_value, asks_alike, asks_values}
+use Rattle.tw_code.specs.accepting.Typing.{asks_value, asks_alike, asks_values, asks_local}
+use Rattle.tw_code.specs.accepting.Flow.{local_flow}
 use Rattle.tw_code.specs.accepting.Walk.{moved}
 use Rattle.tw_verify.specs.Invariant.{ValuesFit}
+use Rattle.tw_verify.proofs.Scalars.{same_scalars, scalar_itself}
 use Rattle.tw_verify.proofs.Steps.{Goes, goes, goes_then, at_some}
 
 -- ---- questions
@@ -42,21 +44,7 @@ pub yes_behind : (first second : List Question) → AllYes (first ++ second) →
 yes_behind [] second h = h
 yes_behind (q ∷ first) second h = yes_behind first second h.1
 
-pub yes_before : (first second : List Question) → AllYes (first ++ second) → AllYes first
-yes_before [] second h = tt
-yes_before (q ∷ first) second h = (h.0, yes_before first second h.1)
-
 -- ---- types
-
-pub same_scalars : (a b : Scalar) → same_scalar a b ≡ true → a ≡ b
-same_scalars scalar.Int scalar.Int e = refl
-same_scalars scalar.Text scalar.Text e = refl
-same_scalars scalar.Int scalar.Text e = cc
-same_scalars scalar.Text scalar.Int e = cc
-
-pub scalar_itself : (a : Scalar) → same_scalar a a ≡ true
-scalar_itself scalar.Int = refl
-scalar_itself scalar.Text = refl
 
 -- a register that passes the question of its type is declared of that type
 pub declared_as : (o : Option Scalar) (ty : Scalar) → passes (λ declared. same_scalar declared ty) o ≡ true → o ≡ Some ty
@@ -89,27 +77,27 @@ pub record Moves (registers : List Scalar) (flow : Flow) (at next : Position) : 
   pub values : ValuesFit registers next.values
 
 module _ (registers : List Scalar) (at : Position) (fits : ValuesFit registers at.values) where
-  has_type : (register : ℕ) (ty : Scalar) → slice_get registers register ≡ Some ty → must_have_type at register ty ≡ Went tt
+  has_type : (register : ℕ) (ty : Scalar) → slice_get registers register ≡ Some ty → must_have_type at register ty ≡ Ok tt
   has_type register ty e =
       let found = value_found registers at.values register ty fits e in
       let same : same_scalar (scalar_of found.0) ty ≡ true = ap (λ (u : Scalar). same_scalar u ty) found.2 ∙ scalar_itself ty in
       rw found.1 (rw same refl)
 
-  int_goes : (x : Value) → scalar_of x ≡ scalar.Int → (n : ℤ) × (int_in x ≡ Went n)
+  int_goes : (x : Value) → scalar_of x ≡ scalar.Int → (n : ℤ) × (int_in x ≡ Ok n)
   int_goes (value.Int n) e = (n, refl)
   int_goes (value.Text text) e = cc
 
-  text_goes : (x : Value) → scalar_of x ≡ scalar.Text → (text : List ℕ) × (text_in x ≡ Went text)
+  text_goes : (x : Value) → scalar_of x ≡ scalar.Text → (text : List ℕ) × (text_in x ≡ Ok text)
   text_goes (value.Int n) e = cc
   text_goes (value.Text text) e = (text, refl)
 
-  int_there : (register : ℕ) → slice_get registers register ≡ Some scalar.Int → (n : ℤ) × (int_at at register ≡ Went n)
+  int_there : (register : ℕ) → slice_get registers register ≡ Some scalar.Int → (n : ℤ) × (int_at at register ≡ Ok n)
   int_there register e =
       let found = value_found registers at.values register scalar.Int fits e in
       let is = int_goes found.0 found.2 in
       (is.0, rw found.1 is.1)
 
-  text_there : (register : ℕ) → slice_get registers register ≡ Some scalar.Text → (text : List ℕ) × (text_at at register ≡ Went text)
+  text_there : (register : ℕ) → slice_get registers register ≡ Some scalar.Text → (text : List ℕ) × (text_at at register ≡ Ok text)
   text_there register e =
       let found = value_found registers at.values register scalar.Text fits e in
       let is = text_goes found.0 found.2 in
@@ -126,7 +114,7 @@ module _ (registers : List Scalar) (at : Position) (fits : ValuesFit registers a
   branch_moves true skip = record { way = Refused; goes_on = refl; values = fits }
   branch_moves false skip = record { way = Done; goes_on = refl; values = fits }
 
-  same_goes : (x y : Value) → scalar_of x ≡ scalar_of y → (b : Bool) × (same_value x y ≡ Went b)
+  same_goes : (x y : Value) → scalar_of x ≡ scalar_of y → (b : Bool) × (same_value x y ≡ Ok b)
   same_goes (value.Int a) (value.Int b) e = (int_eq a b, refl)
   same_goes (value.Text a) (value.Text b) e = (bytes_eq a b, refl)
   same_goes (value.Int a) (value.Text b) e = cc
@@ -139,17 +127,17 @@ HasLoop at = (cursor : Cursor) × (after_end at.place at.loops ≡ Some cursor)
 -- ---- a lemma a local instruction
 
 module _ (registers : List Scalar) (at : Position) (fits : ValuesFit registers at.values) where
-  pub int_moves : (to : ℕ) (n : ℤ) → AllYes (asks_value registers to scalar.Int) → Goes (local_instr (instr.Int to n) at) (Moves registers Straight at)
+  int_moves : (to : ℕ) (n : ℤ) → AllYes (asks_value registers to scalar.Int) → Goes (local_instr (local.Int to n) at) (Moves registers Straight at)
   int_moves to n met =
       let declared = declared_as (slice_get registers to) scalar.Int met.1.0 in
       goes_then (must_have_type at to scalar.Int) _ _ (has_type registers at fits to scalar.Int declared) (set_moves registers at fits to scalar.Int (value.Int n) declared refl)
 
-  pub text_moves : (to : ℕ) (text : List ℕ) → AllYes (asks_value registers to scalar.Text) → Goes (local_instr (instr.Text to text) at) (Moves registers Straight at)
+  text_moves : (to : ℕ) (text : List ℕ) → AllYes (asks_value registers to scalar.Text) → Goes (local_instr (local.Text to text) at) (Moves registers Straight at)
   text_moves to text met =
       let declared = declared_as (slice_get registers to) scalar.Text met.1.0 in
       goes_then (must_have_type at to scalar.Text) _ _ (has_type registers at fits to scalar.Text declared) (set_moves registers at fits to scalar.Text (value.Text text) declared refl)
 
-  pub copy_moves : (to from : ℕ) → AllYes (asks_alike registers to from) → Goes (local_instr (instr.Copy to from) at) (Moves registers Straight at)
+  copy_moves : (to from : ℕ) → AllYes (asks_alike registers to from) → Goes (local_instr (local.Copy to from) at) (Moves registers Straight at)
   copy_moves to from met =
       let both = declared_alike (slice_get registers to) (slice_get registers from) met.1.1.0 in
       let found = value_found registers at.values from both.0 fits both.2 in
@@ -157,7 +145,7 @@ module _ (registers : List Scalar) (at : Position) (fits : ValuesFit registers a
       goes (value_at at from) _ _ found.0 (at_some (slice_get at.values from) WrongRegister found.0 found.1)
       (goes_then (must_have_type at to (scalar_of found.0)) _ _ (has_type registers at fits to (scalar_of found.0) declared) (set_moves registers at fits to (scalar_of found.0) found.0 declared refl))
 
-  pub compute_moves : (operation : Arithmetic) (to left right skip : ℕ) → AllYes (asks_values registers to left right scalar.Int) → Goes (local_instr (instr.Compute operation to left right skip) at) (Moves registers (Branch skip) at)
+  compute_moves : (operation : Arithmetic) (to left right skip : ℕ) → AllYes (asks_values registers to left right scalar.Int) → Goes (local_instr (local.Compute operation to left right skip) at) (Moves registers (Branch skip) at)
   compute_moves operation to left right skip met =
       let declared = declared_as (slice_get registers to) scalar.Int met.1.0 in
       let a = int_there registers at fits left (declared_as (slice_get registers left) scalar.Int met.1.1.1.0) in
@@ -167,7 +155,7 @@ module _ (registers : List Scalar) (at : Position) (fits : ValuesFit registers a
       (goes (int_at at right) _ _ b.0 b.1
       (result_moves registers at fits value.Int (result_of operation a.0 b.0) to skip scalar.Int declared (λ n. refl))))
 
-  pub concatenate_moves : (to left right skip : ℕ) → AllYes (asks_values registers to left right scalar.Text) → Goes (local_instr (instr.Concatenate to left right skip) at) (Moves registers (Branch skip) at)
+  concatenate_moves : (to left right skip : ℕ) → AllYes (asks_values registers to left right scalar.Text) → Goes (local_instr (local.Concatenate to left right skip) at) (Moves registers (Branch skip) at)
   concatenate_moves to left right skip met =
       let declared = declared_as (slice_get registers to) scalar.Text met.1.0 in
       let a = text_there registers at fits left (declared_as (slice_get registers left) scalar.Text met.1.1.1.0) in
@@ -177,7 +165,7 @@ module _ (registers : List Scalar) (at : Position) (fits : ValuesFit registers a
       (goes (text_at at right) _ _ b.0 b.1
       (result_moves registers at fits value.Text (joined a.0 b.0) to skip scalar.Text declared (λ text. refl))))
 
-  pub length_moves : (to from : ℕ) → AllYes (asks_value registers to scalar.Int ++ asks_value registers from scalar.Text) → Goes (local_instr (instr.Length to from) at) (Moves registers Straight at)
+  length_moves : (to from : ℕ) → AllYes (asks_value registers to scalar.Int ++ asks_value registers from scalar.Text) → Goes (local_instr (local.Length to from) at) (Moves registers Straight at)
   length_moves to from met =
       let declared = declared_as (slice_get registers to) scalar.Int met.1.0 in
       let a = text_there registers at fits from (declared_as (slice_get registers from) scalar.Text met.1.1.1.0) in
@@ -185,7 +173,7 @@ module _ (registers : List Scalar) (at : Position) (fits : ValuesFit registers a
       (goes (text_at at from) _ _ a.0 a.1
       (set_moves registers at fits to scalar.Int (value.Int (pos (length a.0))) declared refl))
 
-  pub show_moves : (to from : ℕ) → AllYes (asks_value registers to scalar.Text ++ asks_value registers from scalar.Int) → Goes (local_instr (instr.Show to from) at) (Moves registers Straight at)
+  show_moves : (to from : ℕ) → AllYes (asks_value registers to scalar.Text ++ asks_value registers from scalar.Int) → Goes (local_instr (local.Show to from) at) (Moves registers Straight at)
   show_moves to from met =
       let declared = declared_as (slice_get registers to) scalar.Text met.1.0 in
       let a = int_there registers at fits from (declared_as (slice_get registers from) scalar.Int met.1.1.1.0) in
@@ -193,7 +181,7 @@ module _ (registers : List Scalar) (at : Position) (fits : ValuesFit registers a
       (goes (int_at at from) _ _ a.0 a.1
       (set_moves registers at fits to scalar.Text (value.Text (signed_decimal a.0)) declared refl))
 
-  pub read_moves : (to from skip : ℕ) → AllYes (asks_value registers to scalar.Int ++ asks_value registers from scalar.Text) → Goes (local_instr (instr.ReadInt to from skip) at) (Moves registers (Branch skip) at)
+  read_moves : (to from skip : ℕ) → AllYes (asks_value registers to scalar.Int ++ asks_value registers from scalar.Text) → Goes (local_instr (local.ReadInt to from skip) at) (Moves registers (Branch skip) at)
   read_moves to from skip met =
       let declared = declared_as (slice_get registers to) scalar.Int met.1.0 in
       let a = text_there registers at fits from (declared_as (slice_get registers from) scalar.Text met.1.1.1.0) in
@@ -201,10 +189,10 @@ module _ (registers : List Scalar) (at : Position) (fits : ValuesFit registers a
       (goes (text_at at from) _ _ a.0 a.1
       (result_moves registers at fits value.Int (int_shown_as a.0) to skip scalar.Int declared (λ n. refl)))
 
-  pub jump_moves : (skip : ℕ) → Goes (local_instr (instr.Jump skip) at) (Moves registers (Jump skip) at)
+  jump_moves : (skip : ℕ) → Goes (local_instr (local.Jump skip) at) (Moves registers (Jump skip) at)
   jump_moves skip = record { way = Done; goes_on = refl; values = fits }
 
-  pub equal_moves : (left right skip : ℕ) → AllYes (asks_alike registers left right) → Goes (local_instr (instr.JumpEqual left right skip) at) (Moves registers (Branch skip) at)
+  equal_moves : (left right skip : ℕ) → AllYes (asks_alike registers left right) → Goes (local_instr (local.JumpEqual left right skip) at) (Moves registers (Branch skip) at)
   equal_moves left right skip met =
       let both = declared_alike (slice_get registers left) (slice_get registers right) met.1.1.0 in
       let a = value_found registers at.values left both.0 fits both.1 in
@@ -215,7 +203,7 @@ module _ (registers : List Scalar) (at : Position) (fits : ValuesFit registers a
       (goes (same_value a.0 b.0) _ _ same.0 same.1
       (branch_moves registers at fits same.0 skip)))
 
-  pub less_moves : (left right skip : ℕ) → AllYes (asks_value registers left scalar.Int ++ asks_value registers right scalar.Int) → Goes (local_instr (instr.JumpLess left right skip) at) (Moves registers (Branch skip) at)
+  less_moves : (left right skip : ℕ) → AllYes (asks_value registers left scalar.Int ++ asks_value registers right scalar.Int) → Goes (local_instr (local.JumpLess left right skip) at) (Moves registers (Branch skip) at)
   less_moves left right skip met =
       let a = int_there registers at fits left (declared_as (slice_get registers left) scalar.Int met.1.0) in
       let b = int_there registers at fits right (declared_as (slice_get registers right) scalar.Int met.1.1.1.0) in
@@ -223,8 +211,24 @@ module _ (registers : List Scalar) (at : Position) (fits : ValuesFit registers a
       (goes (int_at at right) _ _ b.0 b.1
       (branch_moves registers at fits (int_lt a.0 b.0) skip))
 
-  pub repeat_moves : (turns : ℕ) → Goes (local_instr (instr.Repeat turns) at) (Moves registers (Begin turns) at)
+  repeat_moves : (turns : ℕ) → Goes (local_instr (local.Repeat turns) at) (Moves registers (Begin turns) at)
   repeat_moves turns = record { way = Done; goes_on = refl; values = fits }
 
-  pub end_moves : HasLoop at → Goes (local_instr instr.End at) (Moves registers Close at)
+  end_moves : HasLoop at → Goes (local_instr local.End at) (Moves registers Close at)
   end_moves (cursor, e) = goes (ok_or (after_end at.place at.loops) NoLoop) _ _ cursor (at_some (after_end at.place at.loops) NoLoop cursor e) (record { way = Done; goes_on = e; values = fits })
+
+  -- each of them, a line an instruction
+  pub local_moves : (i : LocalInstr) → AllYes (asks_local registers i) → (local_flow i ≡ Close → HasLoop at) → Goes (local_instr i at) (Moves registers (local_flow i) at)
+  local_moves (local.Int to n) met loop = int_moves to n met
+  local_moves (local.Text to text) met loop = text_moves to text met
+  local_moves (local.Copy to from) met loop = copy_moves to from met
+  local_moves (local.Compute operation to left right skip) met loop = compute_moves operation to left right skip met
+  local_moves (local.Concatenate to left right skip) met loop = concatenate_moves to left right skip met
+  local_moves (local.Length to from) met loop = length_moves to from met
+  local_moves (local.Show to from) met loop = show_moves to from met
+  local_moves (local.ReadInt to from skip) met loop = read_moves to from skip met
+  local_moves (local.Jump skip) met loop = jump_moves skip
+  local_moves (local.JumpEqual left right skip) met loop = equal_moves left right skip met
+  local_moves (local.JumpLess left right skip) met loop = less_moves left right skip met
+  local_moves (local.Repeat turns) met loop = repeat_moves turns
+  local_moves local.End met loop = end_moves (loop refl)

@@ -1,20 +1,22 @@
 -- Accepted programs reach no trap, and each task of theirs goes on to its end within its budget.
-use Rattle.std.specs.Prelude.{◌≡◌, ◌⊎◌, ℕ, ◌<◌, Bool, List, [], Some, slice_get}
+use Rattle.std.specs.Prelude.{◌≡◌, ◌⊎◌, ℕ, ◌<◌, Bool, List, Some, slice_get}
 use Rattle.std.specs.List.{list_all}
 use Rattle.std.specs.FinMap.{get}
 use Rattle.tw_types.specs.declared.actor.Actor.{Actor}
 use Rattle.tw_types.specs.declared.cause.Cause.{Cause}
 use Rattle.tw_types.specs.declared.event.Event.{Event}
 use Rattle.tw_types.specs.declared.event.Event.TheVariants.{Local, Call, End}
+use Rattle.tw_types.specs.declared.input.Input.{Input}
 use Rattle.tw_types.specs.Layout.{ActorCounts}
+use Rattle.tw_types.specs.Mode.{is_write}
 use Rattle.tw_types.specs.Outcome.{Outcome, Went, NotEnabled, Trap}
 use Rattle.tw_code.specs.declared.procedure.Procedure.{Procedure}
 use Rattle.tw_code.specs.accepting.Flow.{flows}
-use Rattle.tw_code.specs.machine.State.{State, Frame}
-use Rattle.tw_code.specs.machine.Machine.{step, run}
-use Rattle.tw_code.specs.machine.Opening.{opening, main_params}
-use Rattle.tw_types.specs.Mode.{is_write}
 use Rattle.tw_code.specs.accepting.Walk.{IsBudget}
+use Rattle.tw_code.specs.machine.Inputs.{AreInputsOf}
+use Rattle.tw_code.specs.machine.Machine.{step}
+use Rattle.tw_code.specs.machine.Opening.{main_params, reached}
+use Rattle.tw_code.specs.machine.State.{State, Frame}
 
 -- main is given nothing but outputs
 abbrev pub has_no_inputs : List Procedure → Bool
@@ -48,7 +50,8 @@ pub record IsSafe (program : List Procedure) (layout : ActorCounts) (s : State) 
   pub one_step : (actor : Actor) (frame : Frame) → get s.frames actor ≡ Some frame → HasOneStep program layout s actor
   pub below : (actor : Actor) (frame : Frame) → get s.frames actor ≡ Some frame → IsBelowBudget program frame
 
--- whatever the layout and the events: the run doesn't trap, and the state that it reaches is safe
+-- whatever the inputs of the signature, the layout and the events: the run doesn't trap, and the state that it reaches
+-- is safe
 pub record NoTrap (program : List Procedure) : Type 0 where
-  pub run_goes : (layout : ActorCounts) (events : List Event) (cause : Cause) → run program layout events (opening program []) ≡ Trap cause → ⊥
-  pub reached_is_safe : (layout : ActorCounts) (events : List Event) (s : State) → run program layout events (opening program []) ≡ Went s → IsSafe program layout s
+  pub run_goes : (inputs : List Input) (layout : ActorCounts) (events : List Event) (cause : Cause) → AreInputsOf program inputs → reached program inputs layout events ≡ Trap cause → ⊥
+  pub reached_is_safe : (inputs : List Input) (layout : ActorCounts) (events : List Event) (s : State) → AreInputsOf program inputs → reached program inputs layout events ≡ Went s → IsSafe program layout s

@@ -4,17 +4,17 @@ use Rattle.tw_verify.specs.declared.refusal.VerifyRefusal.{VerifyRefusal}
 use Rattle.tw_verify.specs.declared.refusal.VerifyRefusal.TheVariants.{UndeclaredValue, WrongValueType, WrongRight, SkipLeavesBlock, Unmatched, TypingsDiffer, TypingChanged, Unreached, RightLeft, MisplacedRet, MainShape, BudgetTooLarge, Memory}
 
 -- the number behind the letter V
-abbrev pub number_of : VerifyRefusal → ℕ
-number_of UndeclaredValue = 1
-number_of WrongValueType = 2
-number_of WrongRight = 4
-number_of SkipLeavesBlock = 5
-number_of Unmatched = 6
-number_of TypingsDiffer = 7
-number_of TypingChanged = 8
-number_of Unreached = 9
-number_of RightLeft = 10
-number_of MisplacedRet = 11
-number_of MainShape = 16
-number_of BudgetTooLarge = 17
-number_of Memory = 18
+abbrev pub verify_refusal_number : VerifyRefusal → ℕ
+verify_refusal_number UndeclaredValue = 1
+verify_refusal_number WrongValueType = 2
+verify_refusal_number WrongRight = 4
+verify_refusal_number SkipLeavesBlock = 5
+verify_refusal_number Unmatched = 6
+verify_refusal_number TypingsDiffer = 7
+verify_refusal_number TypingChanged = 8
+verify_refusal_number Unreached = 9
+verify_refusal_number RightLeft = 10
+verify_refusal_number MisplacedRet = 11
+verify_refusal_number MainShape = 16
+verify_refusal_number BudgetTooLarge = 17
+verify_refusal_number Memory = 18

@@ -5,12 +5,13 @@ ghost use Rattle.tw_verify.specs.Passes.{refusal_of};
 ghost use Rattle.tw_verify.specs.declared.fault.Fault.TheVariants.{Memory as NoMemory};
 
 use crate::refusal::VerifyRefusal;
+use crate::violation::Violation;
 use std::alloc::AllocError;
 
 /// Why a pass over one procedure stops.
 #[derive(Clone, Copy)]
 pub(crate) enum Fault {
-    At { no: VerifyRefusal, place: usize },
+    At { violation: Violation, place: usize },
     Memory,
 }
 
@@ -44,8 +45,8 @@ impl Refusal {
         ensures { result ≡ refusal_of procedure fault }
     {
         match fault {
-            Fault::At { no, place } => Refusal {
-                no,
+            Fault::At { violation, place } => Refusal {
+                no: violation.refusal(),
                 procedure,
                 place,
             },

@@ -1,8 +1,7 @@
 //! What holds of accepted programs when they run.
 
 ghost use Rattle.std.specs.Prelude.{◌≡◌, true};
-ghost use Rattle.tw_verify.specs.NoTrap.{NoTrap};
-ghost use Rattle.tw_verify.specs.Simple.{has_no_inputs};
+ghost use Rattle.tw_verify.specs.NoTrap.{NoTrap, has_no_inputs};
 
 use crate::verified::Verified;
 

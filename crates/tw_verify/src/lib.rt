@@ -8,16 +8,15 @@ mod fault;
 mod findings;
 mod laws;
 mod loops;
-mod params;
 mod pass;
 mod questions;
 mod refusal;
 mod rows;
-mod shape;
 mod structure;
 mod typing;
 mod verified;
 mod verifier;
+mod violation;
 
 pub use laws::no_trap;
 pub use refusal::{Refused, VerifyRefusal};

@@ -11,18 +11,17 @@ ghost use Rattle.tw_code.specs.accepting.Typing.{asks_at};
 ghost use Rattle.tw_code.specs.accepting.Walk.{IsBudget, greatest_budget};
 ghost use Rattle.tw_code.specs.accepting.WellTyped.{IsEndOf, IsWellTyped, IsTypingRefusal, IsBudgetRefusal, IsProcedureRefusal};
 ghost use Rattle.tw_verify.specs.Loops.{AreLoops};
-ghost use Rattle.tw_verify.specs.Passes.{IfFault, HasChanged, lowest_at};
-ghost use Rattle.tw_verify.specs.Refusal.{verify_refusal_number};
+ghost use Rattle.tw_verify.specs.Passes.{IfFault, HasChanged, lowest_at, violation_number};
 ghost use Rattle.tw_verify.specs.Verified.{AreFindings};
 
 use crate::fault::{Fault, keep};
 use crate::findings::Findings;
 use crate::loops::Loops;
 use crate::questions::{lowest, place_refusal};
-use crate::refusal::VerifyRefusal;
 use crate::rows::{Reached, first_rows, row_at, send_both};
 use crate::structure::ask_structure;
 use crate::typing::Typing;
+use crate::violation::Violation;
 use std::alloc::Global;
 use tw_budget::{BudgetRefusal, budgets};
 use tw_code::{Instr, Procedure};
@@ -65,15 +64,15 @@ fn typing_refusal(
     instr: &Instr,
     reached: &Reached,
     changed: bool,
-) -> Option<VerifyRefusal>
+) -> Option<Violation>
     requires { IsInstr instr.now }
-    ensures { option_map verify_refusal_number result ≡ lowest_at
+    ensures { option_map violation_number result ≡ lowest_at
         (refusal_in (asks_at procedures.now procedure.now place instr.now reached.now.typing))
         reached.now.differs changed }
 {
     let own = place_refusal(procedures, procedure, place, instr, &reached.typing);
-    let differs = reached.differs.then_some(VerifyRefusal::TypingsDiffer);
-    let changed = changed.then_some(VerifyRefusal::TypingChanged);
+    let differs = reached.differs.then_some(Violation::TypingsDiffer);
+    let changed = changed.then_some(Violation::TypingChanged);
     lowest(lowest(own, differs), changed)
 }
 
@@ -102,13 +101,15 @@ fn typings(
     for (place, instr) in code.iter().enumerate() {
         let Some(reached) = row_at(&rows, place) else {
             return Err(Fault::At {
-                no: VerifyRefusal::Unreached,
+                violation: Violation::Unreached,
                 place,
             });
         };
         let changed = is_changed(code, loops, &all, place, &reached.typing);
-        if let Some(no) = typing_refusal(procedures, procedure, place, instr, &reached, changed) {
-            return Err(Fault::At { no, place });
+        if let Some(violation) = typing_refusal(
+            procedures, procedure, place, instr, &reached, changed,
+        ) {
+            return Err(Fault::At { violation, place });
         }
         keep(&mut all, reached.typing)?;
         send_both(&mut rows, procedures, place, instr, reached.typing);
@@ -127,7 +128,7 @@ fn budget(alloc: Global, procedure: &Procedure) -> Result<u64, Fault>
     match budgets(alloc, procedure) {
         Ok(budget) => Ok(budget),
         Err(BudgetRefusal::TooLarge) => Err(Fault::At {
-            no: VerifyRefusal::BudgetTooLarge,
+            violation: Violation::BudgetTooLarge,
             place: 0,
         }),
         Err(BudgetRefusal::Memory) => Err(Fault::Memory),

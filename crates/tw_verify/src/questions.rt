@@ -4,26 +4,21 @@
 ghost use Rattle.std.specs.Prelude.{◌≡◌, ◌++◌, Bool, true, slice_get};
 ghost use Rattle.std.specs.Option.{option_map, option_map_or};
 ghost use Rattle.tw_types.specs.DataType.{same_scalar};
-ghost use Rattle.tw_code.specs.format.Program.{IsInstr};
+ghost use Rattle.tw_code.specs.format.Program.{IsDataInstr, IsInstr};
 ghost use Rattle.tw_code.specs.accepting.Question.{passes, refusal_in};
 ghost use Rattle.tw_code.specs.machine.Rights.{Right};
-ghost use Rattle.tw_code.specs.accepting.Typing.{asks_value, asks_alike, asks_values, asks_value_of, asks, asks_params, asks_at, writes_scalar};
-ghost use Rattle.tw_verify.specs.Passes.{lowest_of};
-ghost use Rattle.tw_verify.specs.Refusal.{verify_refusal_number};
+ghost use Rattle.tw_code.specs.accepting.Typing.{asks_value, asks_alike, asks_values, asks_value_of, asks_local, asks_data, asks, asks_params, asks_at, writes_scalar};
+ghost use Rattle.tw_verify.specs.Passes.{lowest_of, violation_number};
 
-use crate::params::is_value;
-use crate::refusal::VerifyRefusal;
 use crate::typing::{Right, Typing};
-use tw_code::{Instr, Procedure};
+use crate::violation::Violation;
+use tw_code::{DataInstr, Instr, LocalInstr, Procedure};
 use tw_types::Scalar;
 
 /// The lower of two refusals, of which each may be missing.
-pub(crate) fn lowest(
-    first: Option<VerifyRefusal>,
-    second: Option<VerifyRefusal>,
-) -> Option<VerifyRefusal>
-    ensures { option_map verify_refusal_number result
-        ≡ lowest_of (option_map verify_refusal_number first) (option_map verify_refusal_number second) }
+pub(crate) fn lowest(first: Option<Violation>, second: Option<Violation>) -> Option<Violation>
+    ensures { option_map violation_number result
+        ≡ lowest_of (option_map violation_number first) (option_map violation_number second) }
 {
     match (first, second) {
         (Some(a), Some(b)) => Some(if b.number() < a.number() { b } else { a }),
@@ -33,12 +28,12 @@ pub(crate) fn lowest(
 }
 
 /// A value register must be declared, and be of this type.
-fn value_refusal(registers: &[Scalar], register: u8, ty: Scalar) -> Option<VerifyRefusal>
-    ensures { option_map verify_refusal_number result ≡ refusal_in (asks_value registers.now register ty) }
+fn value_refusal(registers: &[Scalar], register: u8, ty: Scalar) -> Option<Violation>
+    ensures { option_map violation_number result ≡ refusal_in (asks_value registers.now register ty) }
 {
     match registers.get(register as usize) {
-        None => Some(VerifyRefusal::UndeclaredValue),
-        Some(declared) => (*declared != ty).then_some(VerifyRefusal::WrongValueType),
+        None => Some(Violation::UndeclaredValue),
+        Some(declared) => (*declared != ty).then_some(Violation::WrongValueType),
     }
 }
 
@@ -49,8 +44,8 @@ fn both_refusal(
     first_ty: Scalar,
     second: u8,
     second_ty: Scalar,
-) -> Option<VerifyRefusal>
-    ensures { option_map verify_refusal_number result
+) -> Option<Violation>
+    ensures { option_map violation_number result
         ≡ refusal_in (asks_value registers.now first first_ty ++ asks_value registers.now second second_ty) }
 {
     lowest(
@@ -66,8 +61,8 @@ fn values_refusal(
     second: u8,
     third: u8,
     ty: Scalar,
-) -> Option<VerifyRefusal>
-    ensures { option_map verify_refusal_number result
+) -> Option<Violation>
+    ensures { option_map violation_number result
         ≡ refusal_in (asks_values registers.now first second third ty) }
 {
     lowest(
@@ -77,11 +72,11 @@ fn values_refusal(
 }
 
 /// Two value registers must be declared, and be of the same type.
-fn alike_refusal(registers: &[Scalar], first: u8, second: u8) -> Option<VerifyRefusal>
-    ensures { option_map verify_refusal_number result ≡ refusal_in (asks_alike registers.now first second) }
+fn alike_refusal(registers: &[Scalar], first: u8, second: u8) -> Option<Violation>
+    ensures { option_map violation_number result ≡ refusal_in (asks_alike registers.now first second) }
 {
     match registers.get(first as usize) {
-        None => Some(VerifyRefusal::UndeclaredValue),
+        None => Some(Violation::UndeclaredValue),
         Some(ty) => value_refusal(registers, second, *ty),
     }
 }
@@ -93,19 +88,19 @@ fn value_of_refusal(
     register: u8,
     right: &Option<Right>,
     fits: bool,
-) -> Option<VerifyRefusal>
+) -> Option<Violation>
     ensures { (test : Right → Bool) → fits ≡ passes test right.now
-        → option_map verify_refusal_number result
+        → option_map violation_number result
         ≡ refusal_in (asks_value_of registers.now register test right.now) }
 {
     let Some(declared) = registers.get(register as usize) else {
-        return Some(VerifyRefusal::UndeclaredValue);
+        return Some(Violation::UndeclaredValue);
     };
     match right {
         Some(right) if fits => (*declared != right.ty().scalar()).then_some(
-            VerifyRefusal::WrongValueType,
+            Violation::WrongValueType,
         ),
-        _ => Some(VerifyRefusal::WrongRight),
+        _ => Some(Violation::WrongRight),
     }
 }
 
@@ -118,64 +113,82 @@ fn is_scalar_write(right: &Option<Right>) -> bool
     }
 }
 
-/// What an instruction asks at a typing, a line an instruction.
-fn instr_refusal(
-    procedures: &[Procedure],
-    procedure: &Procedure,
-    instr: &Instr,
-    typing: &Typing,
-) -> Option<VerifyRefusal>
-    requires { IsInstr instr.now }
-    ensures { option_map verify_refusal_number result
-        ≡ refusal_in (asks procedures.now procedure.now instr.now typing.now) }
+/// What a local instruction asks, a line an instruction.
+fn local_refusal(registers: &[Scalar], instr: &LocalInstr) -> Option<Violation>
+    ensures { option_map violation_number result ≡ refusal_in (asks_local registers.now instr.now) }
 {
-    let registers = procedure.registers.as_slice();
     match instr {
-        Instr::Int { to, .. } => value_refusal(registers, *to, Scalar::Int),
-        Instr::Text { to, .. } => value_refusal(registers, *to, Scalar::Text),
-        Instr::Copy { to, from } => alike_refusal(registers, *to, *from),
-        Instr::Compute {
+        LocalInstr::Int { to, .. } => value_refusal(registers, *to, Scalar::Int),
+        LocalInstr::Text { to, .. } => value_refusal(registers, *to, Scalar::Text),
+        LocalInstr::Copy { to, from } => alike_refusal(registers, *to, *from),
+        LocalInstr::Compute {
             to,
             left,
             right,
             ..
         } => values_refusal(registers, *to, *left, *right, Scalar::Int),
-        Instr::Concatenate {
+        LocalInstr::Concatenate {
             to,
             left,
             right,
             ..
         } => values_refusal(registers, *to, *left, *right, Scalar::Text),
-        Instr::Length { to, from } => both_refusal(
+        LocalInstr::Length { to, from } | LocalInstr::ReadInt { to, from, .. } => both_refusal(
             registers,
             *to,
             Scalar::Int,
             *from,
             Scalar::Text,
         ),
-        Instr::Show { to, from } => both_refusal(registers, *to, Scalar::Text, *from, Scalar::Int),
-        Instr::ReadInt { to, from, .. } => both_refusal(
+        LocalInstr::Show { to, from } => both_refusal(
             registers,
             *to,
-            Scalar::Int,
-            *from,
             Scalar::Text,
+            *from,
+            Scalar::Int,
         ),
-        Instr::JumpEqual { left, right, .. } => alike_refusal(registers, *left, *right),
-        Instr::JumpLess { left, right, .. } => both_refusal(
+        LocalInstr::JumpEqual { left, right, .. } => alike_refusal(registers, *left, *right),
+        LocalInstr::JumpLess { left, right, .. } => both_refusal(
             registers,
             *left,
             Scalar::Int,
             *right,
             Scalar::Int,
         ),
-        Instr::Jump { .. } | Instr::Repeat { .. } | Instr::End => None,
-        Instr::Store { datum, from } => {
-            let right = typing.right_in(*datum);
+        LocalInstr::Jump { .. } | LocalInstr::Repeat { .. } | LocalInstr::End => None,
+    }
+}
+
+/// What an instruction on data asks at a typing, a line an instruction.
+fn data_refusal(registers: &[Scalar], instr: DataInstr, typing: &Typing) -> Option<Violation>
+    requires { IsDataInstr instr }
+    ensures { option_map violation_number result ≡ refusal_in (asks_data registers.now instr typing.now) }
+{
+    match instr {
+        DataInstr::Store { datum, from } => {
+            let right = typing.right_at(datum);
             let fits = is_scalar_write(&right);
-            value_of_refusal(registers, *from, &right, fits)
+            value_of_refusal(registers, from, &right, fits)
         }
-        Instr::Ret => (!typing.is_empty()).then_some(VerifyRefusal::RightLeft),
+    }
+}
+
+/// What an instruction asks at a typing.
+fn instr_refusal(
+    procedures: &[Procedure],
+    procedure: &Procedure,
+    instr: &Instr,
+    typing: &Typing,
+) -> Option<Violation>
+    requires { IsInstr instr.now }
+    ensures { option_map violation_number result
+        ≡ refusal_in (asks procedures.now procedure.now instr.now typing.now) }
+{
+    let registers = procedure.registers.as_slice();
+    match instr {
+        Instr::Local(instr) => local_refusal(registers, instr),
+        Instr::Data(instr) => data_refusal(registers, *instr, typing),
+        Instr::Ret => (!typing.is_empty()).then_some(Violation::RightLeft),
     }
 }
 
@@ -191,22 +204,22 @@ fn is_open_or_of(registers: &[Scalar], register: usize, ty: Scalar) -> bool
 }
 
 /// The value parameters must have registers, of their types.
-fn params_refusal(procedure: &Procedure) -> Option<VerifyRefusal>
-    ensures { option_map verify_refusal_number result ≡ refusal_in (asks_params procedure.now) }
+fn params_refusal(procedure: &Procedure) -> Option<Violation>
+    ensures { option_map violation_number result ≡ refusal_in (asks_params procedure.now) }
 {
     let registers = procedure.registers.as_slice();
     let mut given = 0;
     let mut fits = true;
     for param in procedure.params.as_slice() {
-        if is_value(param) {
+        if param.mode.is_val() {
             fits &= is_open_or_of(registers, given, param.ty.scalar());
             given += 1;
         }
     }
     if given > registers.len() {
-        Some(VerifyRefusal::UndeclaredValue)
+        Some(Violation::UndeclaredValue)
     } else {
-        (!fits).then_some(VerifyRefusal::WrongValueType)
+        (!fits).then_some(Violation::WrongValueType)
     }
 }
 
@@ -217,9 +230,9 @@ pub(crate) fn place_refusal(
     place: usize,
     instr: &Instr,
     typing: &Typing,
-) -> Option<VerifyRefusal>
+) -> Option<Violation>
     requires { IsInstr instr.now }
-    ensures { option_map verify_refusal_number result
+    ensures { option_map violation_number result
         ≡ refusal_in (asks_at procedures.now procedure.now place instr.now typing.now) }
 {
     let own = instr_refusal(procedures, procedure, instr, typing);

@@ -5,12 +5,11 @@ ghost use Rattle.std.specs.Option.{option_map};
 ghost use Rattle.tw_code.specs.accepting.Flow.{flows};
 ghost use Rattle.tw_code.specs.accepting.Structure.{same_block, is_in_block, skips_in_block, is_matched, ends_well, structure_refusal_at, IsStructured, IsStructureRefusal};
 ghost use Rattle.tw_verify.specs.Loops.{AreLoops};
-ghost use Rattle.tw_verify.specs.Passes.{IfFault};
-ghost use Rattle.tw_verify.specs.Refusal.{verify_refusal_number};
+ghost use Rattle.tw_verify.specs.Passes.{IfFault, violation_number};
 
 use crate::fault::Fault;
 use crate::loops::{Loops, flow_at};
-use crate::refusal::VerifyRefusal;
+use crate::violation::Violation;
 use tw_code::{Flow, Instr};
 
 /// How many loops may stand in one another.
@@ -76,21 +75,21 @@ fn is_ending_well(code: &[Instr], loops: &Loops, place: usize, flow: Flow) -> bo
 }
 
 /// The lowest number that is refused at a place.
-fn structure_refusal(code: &[Instr], loops: &Loops, place: usize) -> Option<VerifyRefusal>
+fn structure_refusal(code: &[Instr], loops: &Loops, place: usize) -> Option<Violation>
     requires known { AreLoops code.now loops.now }
     requires within { place < length code.now }
     requires short { length code.now < 2 ^ 32 }
-    ensures { option_map verify_refusal_number result ≡ structure_refusal_at (flows code.now) place }
+    ensures { option_map violation_number result ≡ structure_refusal_at (flows code.now) place }
 {
     let flow = flow_at(code, place);
     if !is_skip_in_block(code, loops, place, flow) {
-        return Some(VerifyRefusal::SkipLeavesBlock);
+        return Some(Violation::SkipLeavesBlock);
     }
     if !has_partner(code, loops, place, flow) {
-        return Some(VerifyRefusal::Unmatched);
+        return Some(Violation::Unmatched);
     }
     if !is_ending_well(code, loops, place, flow) {
-        return Some(VerifyRefusal::MisplacedRet);
+        return Some(Violation::MisplacedRet);
     }
     None
 }
@@ -103,8 +102,8 @@ pub(crate) fn ask_structure(code: &[Instr], loops: &Loops) -> Result<(), Fault>
     ensures refused { IfErr result (λ fault. IfFault fault (IsStructureRefusal code.now)) }
 {
     for place in 0..code.len() {
-        if let Some(no) = structure_refusal(code, loops, place) {
-            return Err(Fault::At { no, place });
+        if let Some(violation) = structure_refusal(code, loops, place) {
+            return Err(Fault::At { violation, place });
         }
     }
     Ok(())

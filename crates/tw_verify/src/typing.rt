@@ -7,9 +7,8 @@ ghost use Rattle.tw_code.specs.machine.Rights.{right_at};
 ghost use Rattle.tw_code.specs.accepting.Typing.{start_typing, writes_scalar, after};
 ghost use Rattle.tw_verify.specs.Passes.{same_typing};
 
-use crate::params::is_value;
 use std::marker::Model;
-use tw_code::{Instr, Procedure, Way};
+use tw_code::{DataInstr, Instr, Procedure, Way};
 use tw_types::{DataType, Mode, Param};
 
 /// A right on a datum of a type.
@@ -47,7 +46,7 @@ impl Right {
     pub(crate) fn writes_scalar(self) -> bool
         ensures { result ≡ writes_scalar self }
     {
-        self.mode == Mode::Write && self.ty.depth() == 0
+        self.mode.is_write() && self.ty.is_scalar()
     }
 }
 
@@ -77,7 +76,7 @@ impl Typing {
         let mut rights = [None; 16];
         let mut given = 0;
         for param in params {
-            if !is_value(param) {
+            if !param.mode.is_val() {
                 rights[given] = Some(Right {
                     mode: param.mode,
                     ty: param.ty,
@@ -117,27 +116,14 @@ impl Typing {
         self
     }
 
-    /// The typing after an instruction that goes on by this outcome, a line an instruction.
+    /// The typing after an instruction that goes on by this outcome, a line an instruction on data.
     pub(crate) fn after(self, procedures: &[Procedure], way: Way, instr: &Instr) -> Typing
         requires { IsInstr instr.now }
         ensures { result ≡ after procedures.now way instr.now self }
     {
         match instr {
-            Instr::Int { .. }
-            | Instr::Text { .. }
-            | Instr::Copy { .. }
-            | Instr::Compute { .. }
-            | Instr::Concatenate { .. }
-            | Instr::Length { .. }
-            | Instr::Show { .. }
-            | Instr::ReadInt { .. }
-            | Instr::Jump { .. }
-            | Instr::JumpEqual { .. }
-            | Instr::JumpLess { .. }
-            | Instr::Repeat { .. }
-            | Instr::End
-            | Instr::Ret => self,
-            Instr::Store { datum, .. } => self.without(*datum),
+            Instr::Local(_) | Instr::Ret => self,
+            Instr::Data(DataInstr::Store { datum, .. }) => self.without(*datum),
         }
     }
 }

@@ -12,10 +12,9 @@ use crate::fault::{Refusal, keep};
 use crate::findings::Findings;
 use crate::pass::procedure_findings;
 use crate::refusal::{Refused, VerifyRefusal};
-use crate::shape::starts_with_main;
 use crate::verified::Verified;
 use std::alloc::Global;
-use tw_code::{Procedure, Program};
+use tw_code::{Procedure, Program, has_main_shape};
 use tw_types::Items;
 
 /// What is found out about each procedure of an accepted program.
@@ -24,7 +23,7 @@ fn all_findings(alloc: Global, procedures: &[Procedure]) -> Result<Items<Finding
     ensures accepted { IfOk result (IsTyped procedures.now) }
     ensures refused { IfErr result (λ r. IsRefusal procedures.now r.no r.procedure r.place) }
 {
-    if !starts_with_main(procedures) {
+    if !has_main_shape(procedures) {
         return Err(Refusal {
             no: VerifyRefusal::MainShape,
             procedure: 0,

@@ -2,7 +2,7 @@ use Rattle.std.proofs.Common.{ℕ, ◌+◌, List, sym, ap, ◌∙◌, subst, ari
 use Rattle.tw_code.specs.accepting.Flow.{flows}
 use Rattle.tw_code.specs.accepting.Structure.{depth_after}
 use Rattle.tw_verify.specs.Loops.{DepthsTo}
-use Rattle.tw_budget.specs.Places.{depth_next}
+use Rattle.tw_budget.proofs.Places.{depth_next}
 use Rattle.tw_verify.proofs.Places.{depths_more}
 use Rattle.tw_verify.proofs.loops.all_depths.Goals as goal
 

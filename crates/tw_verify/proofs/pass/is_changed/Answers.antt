@@ -1,7 +1,7 @@
 use Rattle.std.proofs.Common.{◌≡◌, Some, None, Bool, true, false, not, refl, sym, ap, ◌∙◌}
 use Rattle.std.specs.Prelude.{slice_get}
 use Rattle.std.proofs.lemmas.Option.{same_Some}
-use Rattle.tw_verify.proofs.Reaching.{typing_told}
+use Rattle.tw_verify.proofs.Reaching.{typing_decides}
 use Rattle.tw_verify.proofs.pass.is_changed.Goals as goal
 
 pub returns-in_default-clause-all : goal.returns-in_default-clause-all
@@ -23,7 +23,7 @@ returns-in-Some-typing_at-clause-found c = λ told. record {
   begun = c.in-Some-typing_at.begun;
   there = sym c.typing_at.ensures ∙ c.in-Some-typing_at.is;
   differs = λ same.
-      let both : true ≡ false = sym ((typing_told c.args.typing.now c.in-Some-typing_at.begun).1 same) ∙ sym c.is_same.ensures ∙ opposite c.is_same.result told in
+      let both : true ≡ false = sym ((typing_decides c.args.typing.now c.in-Some-typing_at.begun).1 same) ∙ sym c.is_same.ensures ∙ opposite c.is_same.result told in
       cc;
 }
 
@@ -31,7 +31,7 @@ pub returns-in-Some-typing_at-clause-all : goal.returns-in-Some-typing_at-clause
 returns-in-Some-typing_at-clause-all c = λ first begun told end there.
     let here = same_Some c.in-Some.first first (sym c.in-Some.is ∙ c.first.ensures.all first end) in
     let at = sym c.typing_at.ensures ∙ c.in-Some-typing_at.is in
-    let same = (typing_told c.args.typing.now c.in-Some-typing_at.begun).0 (sym c.is_same.ensures ∙ so c.is_same.result told) in
+    let same = (typing_decides c.args.typing.now c.in-Some-typing_at.begun).0 (sym c.is_same.ensures ∙ so c.is_same.result told) in
     same ∙ same_Some c.in-Some-typing_at.begun begun (sym at ∙ ap (slice_get c.args.typings.now) here ∙ there)
 
 pub returns-in-None-clause-all : goal.returns-in-None-clause-all

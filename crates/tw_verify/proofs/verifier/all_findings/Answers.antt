@@ -4,7 +4,7 @@ use Rattle.tw_verify.specs.declared.fault.Refusal.{Refusal}
 use Rattle.tw_verify.specs.declared.findings.Findings.{Findings}
 use Rattle.tw_verify.specs.Passes.{IsRefusal}
 use Rattle.tw_verify.specs.Verified.{AreTyped}
-use Rattle.tw_verify.proofs.Programs.{refused_by, one_more}
+use Rattle.tw_verify.proofs.Programs.{refusal_by, one_more}
 use Rattle.tw_verify.proofs.verifier.all_findings.Goals as goal
 
 pub returns-in-Err-clause-refused : goal.returns-in-Err-clause-refused
@@ -13,9 +13,9 @@ returns-in-Err-clause-refused c =
     let number = c.loop-number.number in
     let p = c.index-procedures-number.result in
     let here = slice_get_read program (length program) number p refl c.loop-number-test.true c.index-procedures-number.is in
-    let main = sym c.starts_with_main.ensures ∙ c.if-not-starts_with_main.false in
+    let main = sym c.has_main_shape.ensures ∙ c.if-not-has_main_shape.false in
     subst (λ (r : Refusal). IsRefusal program r.no r.procedure r.place) (sym c.new.ensures)
-    (refused_by program c.loop-number.all.items number p c.in-Err.fault main c.loop-number.invariant here c.in-Err.ensures.refused)
+    (refusal_by program c.loop-number.all.items number p c.in-Err.fault main c.loop-number.invariant here c.in-Err.ensures.refused)
 
 pub loop-number-preserved : goal.loop-number-preserved
 loop-number-preserved c =

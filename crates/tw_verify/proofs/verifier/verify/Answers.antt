@@ -2,7 +2,7 @@ use Rattle.std.proofs.Common.{List, subst}
 use Rattle.tw_code.specs.declared.procedure.Procedure.{Procedure}
 use Rattle.tw_code.specs.accepting.WellTyped.{IsAccepted}
 use Rattle.tw_verify.specs.Passes.{IsRefusal}
-use Rattle.tw_verify.proofs.Programs.{accepted, refused_memory}
+use Rattle.tw_verify.proofs.Programs.{accepted, refusal_is_memory}
 use Rattle.tw_verify.proofs.verifier.verify.Goals as goal
 
 pub returns-in-Ok-clause-sound : goal.returns-in-Ok-clause-sound
@@ -11,4 +11,4 @@ returns-in-Ok-clause-sound c = subst IsAccepted c.procedures.ensures.is (accepte
 pub returns-in-Err-clause-complete : goal.returns-in-Err-clause-complete
 returns-in-Err-clause-complete c = λ a.
     let r = c.in-Err.refusal in
-    refused_memory c.args.program r.no r.procedure r.place (subst (λ (program : List Procedure). IsRefusal program r.no r.procedure r.place) c.procedures.ensures.is c.in-Err.ensures.refused) a
+    refusal_is_memory c.args.program r.no r.procedure r.place (subst (λ (program : List Procedure). IsRefusal program r.no r.procedure r.place) c.procedures.ensures.is c.in-Err.ensures.refused) a

@@ -1,7 +1,7 @@
 use Rattle.std.proofs.Common.{sym, ◌∙◌, arith}
 use Rattle.std.proofs.lemmas.List.{length-map}
 use Rattle.tw_code.specs.accepting.Flow.{flow_of, flows}
-use Rattle.tw_budget.specs.Places.{end_within}
+use Rattle.tw_budget.proofs.Places.{end_within}
 use Rattle.tw_verify.proofs.loops.Loops.block.Goals as goal
 
 pub depth-requires-clause-within : goal.depth-requires-clause-within

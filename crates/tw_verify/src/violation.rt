@@ -1,0 +1,50 @@
+//! What a procedure may break.
+
+ghost use Rattle.std.specs.Prelude.{◌≡◌};
+ghost use Rattle.tw_verify.specs.Passes.{refusal_for, violation_number};
+
+use crate::refusal::VerifyRefusal;
+
+/// The refusals that name a place of a procedure: neither main's shape nor want of memory is among them.
+#[derive(Clone, Copy)]
+pub(crate) enum Violation {
+    UndeclaredValue,
+    WrongValueType,
+    WrongRight,
+    SkipLeavesBlock,
+    Unmatched,
+    TypingsDiffer,
+    TypingChanged,
+    Unreached,
+    RightLeft,
+    MisplacedRet,
+    BudgetTooLarge,
+}
+
+impl Violation {
+    /// The refusal by it.
+    pub(crate) fn refusal(self) -> VerifyRefusal
+        ensures { result ≡ refusal_for self }
+    {
+        match self {
+            Violation::UndeclaredValue => VerifyRefusal::UndeclaredValue,
+            Violation::WrongValueType => VerifyRefusal::WrongValueType,
+            Violation::WrongRight => VerifyRefusal::WrongRight,
+            Violation::SkipLeavesBlock => VerifyRefusal::SkipLeavesBlock,
+            Violation::Unmatched => VerifyRefusal::Unmatched,
+            Violation::TypingsDiffer => VerifyRefusal::TypingsDiffer,
+            Violation::TypingChanged => VerifyRefusal::TypingChanged,
+            Violation::Unreached => VerifyRefusal::Unreached,
+            Violation::RightLeft => VerifyRefusal::RightLeft,
+            Violation::MisplacedRet => VerifyRefusal::MisplacedRet,
+            Violation::BudgetTooLarge => VerifyRefusal::BudgetTooLarge,
+        }
+    }
+
+    /// The number of the refusal.
+    pub(crate) fn number(self) -> u8
+        ensures { result ≡ violation_number self }
+    {
+        self.refusal().number()
+    }
+}
