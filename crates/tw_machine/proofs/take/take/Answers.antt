@@ -6,7 +6,7 @@ use Rattle.tw_types.specs.Outcome.{Went}
 use Rattle.tw_machine.specs.Parts.{frames_of, tasks_of, with_frames, with_tasks}
 use Rattle.tw_types.proofs.ActorOrder.{actor_cmp_total, actor_cmp-IsAntisymmetric}
 use Rattle.tw_types.proofs.Maps.{found_view, inserted_view, removed_view}
-use Rattle.tw_machine.proofs.Takes.{take_outside, take_busy, take_none, take_refused, take_goes}
+use Rattle.tw_machine.proofs.Takes.{take_outside, take_busy, take_none, take_stopped, take_goes}
 use Rattle.tw_machine.proofs.take.take.Goals as goal
 use Rattle.tw_machine.proofs.take.take.Goals.{then-not-is_in-via-then-not-is_in, then-not-is_in-via-else-not-is_in+then-contains_key}
 
@@ -31,7 +31,7 @@ returns-in_err-frame c = λ s.
     let old = with_frames (with_tasks s (tasks_of c.args.tasks.now.entries)) (frames_of c.args.frames.now.entries) in
     let at = found_view actor_cmp_total actor_cmp-IsAntisymmetric c.args.frames.now c.args.actor _ refl in
     let p = err_from_is_err_and c.from_residual.result c.from_residual.ensures.1 in
-    rw (p.1, p.2) (take_refused c.args.program.now c.args.layout c.args.actor old (sym c.if-not-is_in.ensures) (ap is_some at ∙ sym c.if-contains_key.ensures) _ _ (sym c.in-Some.ensures) c.in_err-frame.ensures, refl)
+    rw (p.1, p.2) (take_stopped c.args.program.now c.args.layout c.args.actor old (sym c.if-not-is_in.ensures) (ap is_some at ∙ sym c.if-contains_key.ensures) _ _ (sym c.in-Some.ensures) c.in_err-frame.ensures, refl)
 
 pub returns : goal.returns
 returns c = λ s.
