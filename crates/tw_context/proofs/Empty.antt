@@ -1,5 +1,5 @@
 -- Whether a list makes the empty set.
-use Rattle.std.proofs.Common.{◌≡◌, ◌==◌, ◌||◌, ℕ, Bool, true, false, List, [], ◌∷◌, length, refl, sym, ap, ◌∙◌, arith, nat_eq, IsTrue, ◌↔◌}
+use Rattle.std.proofs.Common.{◌≡◌, ◌==◌, ◌||◌, ℕ, Bool, true, false, List, [], ◌∷◌, length, refl, sym, ap, ◌∙◌, arith, nat_eq}
 use Rattle.std.proofs.lemmas.Bool.Decides.{nat_tests}
 use Rattle.std.specs.Cmp.{tied_itself}
 use Rattle.std.specs.FinSet.{contains, contains-empty, contains-insert, empty_of_len, from_list, insert, len, len-empty}
@@ -15,11 +15,9 @@ len_insert s n e =
     let some : contains (insert s n) n ≡ true = contains-insert notice_cmp_total s n n ∙ ap (λ r. is_eq r || contains s n) (tied_itself notice_cmp_total n) in
     cc
 
-pub is_empty_set : (b : Bool) (ns : List Notice) → IsTrue b ↔ (length ns ≡ 0) → b ≡ (len (from_list {R = notice_cmp} ns) == 0)
-is_empty_set true [] h = sym (ap (λ n. n == 0) (len-empty notice_cmp))
-is_empty_set false [] h = let e : false ≡ true = h.1 refl in cc
-is_empty_set true (n ∷ ns) h = absurd (omega (arith, h.0 refl))
-is_empty_set false (n ∷ ns) h = sym (by (len (insert (from_list ns) n)) (len_insert (from_list ns) n))
-  where
-    by : (k : ℕ) → (k ≡ 0 → ⊥) → (k == 0) ≡ false
-    by k h = grind (arith, nat_tests)
+is_none : (k : ℕ) → (k ≡ 0 → ⊥) → (k == 0) ≡ false
+is_none k h = grind (arith, nat_tests)
+
+pub is_empty_set : (b : Bool) (k : ℕ) (ns : List Notice) → k ≡ length ns → b ≡ (k == 0) → b ≡ (len (from_list {R = notice_cmp} ns) == 0)
+is_empty_set b k [] count h = h ∙ ap (λ n. n == 0) (count ∙ sym (len-empty notice_cmp))
+is_empty_set b k (n ∷ ns) count h = h ∙ is_none k (λ e. omega (arith, e, count)) ∙ sym (is_none (len (insert (from_list ns) n)) (len_insert (from_list ns) n))

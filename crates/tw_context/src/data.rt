@@ -1,11 +1,12 @@
 //! The instructions on data.
 
 ghost use Rattle.std.specs.Prelude.{◌≡◌, ◌<◌, ◌^◌};
-ghost use Rattle.std.specs.Option.{option_copied};
+ghost use Rattle.std.specs.FinMap.{get};
+ghost use Rattle.std.specs.Option.{option_and_then, option_copied};
 ghost use Rattle.tw_code.specs.declared.instr.DataInstr.TheVariants.{Store as STORE};
-ghost use Rattle.tw_code.specs.machine.Data.{data_instr, datum_at, suits};
-ghost use Rattle.tw_types.specs.Notices.{Notices as NoticeSet};
-ghost use Rattle.tw_context.specs.Contexts.{context, Does};
+ghost use Rattle.tw_code.specs.machine.Data.{data_instr, suits};
+ghost use Rattle.tw_code.specs.machine.Rights.{right_at};
+ghost use Rattle.tw_context.specs.Contexts.{Does};
 
 use crate::datum::{may_store, Datum};
 use crate::failure::Failure;
@@ -28,7 +29,7 @@ fn suits(value: &Value, datum: Option<&Datum>) -> bool
 
 /// The datum of a right register, if it is live.
 fn datum_at<'a>(store: &'a Store, frame: &Frame, register: u8) -> Option<&'a Datum>
-    ensures { (n : NoticeSet) → option_copied result ≡ datum_at (context store.now n frame.now) register }
+    ensures { option_copied result ≡ option_and_then (get store.now.live) (right_at frame.now.rights register) }
 {
     store.datum(frame.right(register)?)
 }

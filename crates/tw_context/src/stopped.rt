@@ -1,7 +1,7 @@
 //! Why an event isn't made.
 
 use crate::failure::Failure;
-use std::alloc::AllocFailed;
+use std::alloc::{AllocError, AllocFailed};
 use tw_types::Cause;
 
 /// Why an event, or a part of one, isn't made.
@@ -23,6 +23,17 @@ impl From<Failure> for Stopped {
             Failure::Trap(cause) => Stopped::Trap(cause),
             Failure::NoMemory => Stopped::NoMemory,
         }
+    }
+}
+
+impl From<AllocError> for Stopped {
+    ghost use Rattle.std.specs.Prelude.{◌≡◌};
+    ghost use Rattle.tw_context.specs.declared.stopped.Stopped.TheVariants.{NoMemory};
+
+    ghost from_gives = { λ _ stopped. stopped ≡ NoMemory };
+
+    fn from(_: AllocError) -> Stopped {
+        Stopped::NoMemory
     }
 }
 

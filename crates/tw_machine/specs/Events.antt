@@ -1,14 +1,26 @@
 -- Events, over the parts that they change, whatever else is in the state.
-use Rattle.std.specs.Prelude.{◌≡◌, Some, Result, Ok, Err}
+use Rattle.std.specs.Prelude.{◌≡◌, List, Some, Result, Ok, Err}
 use Rattle.std.specs.FinMap.{get}
 use Rattle.tw_types.specs.declared.actor.Actor.{Actor}
+use Rattle.tw_types.specs.declared.cause.Cause.{Cause}
 use Rattle.tw_types.specs.Notices.{Notices}
 use Rattle.tw_types.specs.Outcome.{Outcome, Went}
+use Rattle.tw_types.specs.Result.{◌>>=◌}
 use Rattle.tw_types.specs.Store.{Store}
+use Rattle.tw_code.specs.declared.instr.Instr.{Instr}
+use Rattle.tw_code.specs.declared.procedure.Procedure.{Procedure}
+use Rattle.tw_code.specs.machine.Arguments.{procedure_of}
+use Rattle.tw_code.specs.machine.Machine.{instr_at}
 use Rattle.tw_code.specs.machine.State.{Frame, Frames, State, with_frame}
 use Rattle.tw_context.specs.declared.stopped.Stopped.{Stopped}
 use Rattle.tw_context.specs.Attempts.{Changes, IsStopped}
 use Rattle.tw_machine.specs.Parts.{with_store, with_frames}
+
+-- the instruction at the place of a frame
+abbrev pub instr_of : List Procedure → Frame → Result Instr Cause
+instr_of program frame = do
+  p ← procedure_of program frame.procedure
+  instr_at p.code frame.position.place
 
 -- what comes of it in each state where the actor has this frame: the state with the other frame, or what stops it and no
 -- change

@@ -1,13 +1,13 @@
 //! The events of an actor's frame.
 
-ghost use Rattle.std.specs.Prelude.{◌≡◌, ◌<◌, ◌^◌, IfSome, MatchResult, OnOk, Some};
+ghost use Rattle.std.specs.Prelude.{◌≡◌, ◌<◌, ◌^◌, IfSome, MatchResult, Ok, OnOk, Some};
 ghost use Rattle.std.specs.FinMap.{get, remove};
 ghost use Rattle.tw_types.specs.declared.actor.Actor.{Actor as AnActor};
 ghost use Rattle.tw_types.specs.Outcome.{Went};
-ghost use Rattle.tw_code.specs.machine.Machine.{call_event, end_event, local_event, standing_of};
+ghost use Rattle.tw_code.specs.machine.Machine.{call_event, end_event, local_event};
 ghost use Rattle.tw_code.specs.machine.State.{State as Meaning};
-ghost use Rattle.tw_context.specs.Attempts.{Changes, IsStopped, stopped_by};
-ghost use Rattle.tw_machine.specs.Events.{ContextComes, FrameComes, FramesCome};
+ghost use Rattle.tw_context.specs.Attempts.{Changes, Fails, IsStopped};
+ghost use Rattle.tw_machine.specs.Events.{ContextComes, FrameComes, FramesCome, instr_of};
 ghost use Rattle.tw_machine.specs.Parts.{frames_of, with_frames, with_store};
 
 use std::alloc::Global;
@@ -56,17 +56,13 @@ fn local_of(
     Ok(())
 }
 
-/// The procedure of a frame, and the instruction at its place.
-fn standing_of<'a>(
-    program: &'a [Procedure],
-    frame: &Frame,
-) -> Result<(&'a Procedure, &'a Instr), Failure>
-    ensures gives { (s : Meaning) (actor : AnActor) → get s.frames actor ≡ Some frame.now → MatchResult result (λ at. standing_of program.now actor s ≡ Went (record { frame = frame.now; procedure = at.0.now; instr = at.1.now })) (λ why. IsStopped (standing_of program.now actor s) (stopped_by why)) }
+/// The instruction at the place of a frame.
+fn instr_of<'a>(program: &'a [Procedure], frame: &Frame) -> Result<&'a Instr, Failure>
+    ensures gives { MatchResult result (λ instr. instr_of program.now frame.now ≡ Ok instr.now) (Fails (instr_of program.now frame.now)) }
     ensures inside { OnOk result (frame.now.position.place < 2 ^ 63) }
 {
     let procedure = procedure_of(program, frame.procedure())?;
-    let instr = instr_at(procedure.code.as_slice(), frame.place())?;
-    Ok((procedure, instr))
+    instr_at(procedure.code.as_slice(), frame.place())
 }
 
 fn call_of(
@@ -79,11 +75,11 @@ fn call_of(
     requires { frame.old.spent < 2 ^ 63 }
     ensures { ContextComes (λ actor. call_event program.now actor) store.old notices.old frame.old result store.new notices.new frame.new }
 {
-    let (_, instr) = standing_of(program, frame)?;
-    let Instr::Data(instr) = instr else {
+    let instr = instr_of(program, frame)?;
+    let Instr::Data(on_data) = instr else {
         return Err(Stopped::NotEnabled);
     };
-    data_instr(alloc, *instr, store, notices, frame)?;
+    data_instr(alloc, *on_data, store, notices, frame)?;
     frame.count();
     Ok(())
 }
@@ -92,7 +88,7 @@ fn call_of(
 fn may_end(program: &[Procedure], frame: &Frame) -> Result<(), Stopped>
     ensures { (s : Meaning) (actor : AnActor) → get s.frames actor ≡ Some frame.now → MatchResult result (λ _. end_event program.now actor s ≡ Went (with_frames s (remove s.frames actor))) (IsStopped (end_event program.now actor s)) }
 {
-    let (_, instr) = standing_of(program, frame)?;
+    let instr = instr_of(program, frame)?;
     let Instr::Ret = instr else {
         return Err(Stopped::NotEnabled);
     };
