@@ -64,8 +64,11 @@ module _ (program : List Procedure) (actor : Actor) (s : State) (free : get s.fr
 -- ---- an actor with this frame, and the instruction at its place
 
 module _ (program : List Procedure) (actor : Actor) (s : State) (frame : Frame) (here : get s.frames actor ≡ Some frame) where
+  stood : (p : Procedure) (i : Instr) → procedure_of program frame.procedure ≡ Ok p → instr_at p.code frame.position.place ≡ Ok i → standing_of program actor s ≡ Went (record { frame = frame; procedure = p; instr = i })
+  stood p i e f = rw (here, e, f) refl
+
   standing_is : (i : Instr) → instr_of program frame ≡ Ok i → (p : Procedure) × (standing_of program actor s ≡ Went (record { frame = frame; procedure = p; instr = i }))
-  standing_is i e = let at = ok_first (procedure_of program frame.procedure) (λ p. instr_at p.code frame.position.place) i e in (at.0, rw (here, at.1, at.2) refl)
+  standing_is i e = let at = ok_first (procedure_of program frame.procedure) (λ p. instr_at p.code frame.position.place) i e in (at.0, stood at.0 i at.1 at.2)
 
   standing_fails : (why : Failure) → Fails (instr_of program frame) why → IsStopped (standing_of program actor s) (stopped_by why)
   standing_fails failure.NoMemory h = tt

@@ -62,14 +62,16 @@ module _ (program : List Procedure) (inputs : List Input) (none : refusal_of pro
   -- and main takes no inputs
   takes_none : (params : List Param) → list_all (λ p. is_write p.mode) params ≡ true → input_params params ≡ []
   takes_none [] e = refl
-  takes_none (p ∷ params) e = by (is_write p.mode) refl e
+  takes_none (p ∷ params) e = by (is_write p.mode) refl e (takes_none params)
     where
-      by : (b : Bool) → is_write p.mode ≡ b → b && list_all (λ q. is_write q.mode) params ≡ true → input_params (p ∷ params) ≡ []
-      by true is rest = rw is (takes_none params rest)
-      by false is rest = cc
+      by : (b : Bool) → is_write p.mode ≡ b → b && list_all (λ q. is_write q.mode) params ≡ true → (list_all (λ q. is_write q.mode) params ≡ true → input_params params ≡ []) → input_params (p ∷ params) ≡ []
+      by true is rest others = rw is (others rest)
+      by false is rest others = cc
 
   are_inputs : AreInputsOf program inputs
-  are_inputs = rw (no_inputs, takes_none (main_params program) outputs_alone) (record { count = refl; fit = refl })
+  are_inputs =
+      let none = takes_none (main_params program) outputs_alone in
+      subst (λ (xs : List Input). AreInputsOf program xs) (sym no_inputs) (record { count = rw none refl; fit = rw none refl })
 
   pub is_small : IsProgram program → AreBelow opening_bound (opening program inputs)
   is_small within = opening_is_small program inputs within are_inputs
