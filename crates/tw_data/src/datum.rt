@@ -146,7 +146,9 @@ impl Datum {
     pub fn subscript(&self, index: i64) -> Option<i64>
         ensures { result ≡ subscript_after index (map.keys (members_in self.now.content)) }
     {
-        let index = usize::try_from(index).ok()?;
+        let Ok(index) = usize::try_from(index) else {
+            return None;
+        };
         let (subscript, _) = self.member(index)?;
         Some(subscript)
     }
