@@ -3,11 +3,13 @@ use Rattle.std.proofs.Common.{◌≡◌, ◌<◌, ℕ, ℤ, Bool, true, false, c
 use Rattle.std.specs.declared.option.Option.{Option}
 use Rattle.std.specs.declared.result.Result.{Result}
 use Rattle.std.specs.declared.result.Result.TheVariants.{Ok, Err}
+use Rattle.std.specs.FinMap as map
 use Rattle.std.specs.FinMap.{get, insert}
 use Rattle.tw_types.specs.Store.{Data, Datum, Store, notice_to, is_closed}
-use Rattle.tw_types.specs.StoreCalls.{changed, members_at, members_in, subscript_after, one_write_less, notices_of_stored, notices_of_write_dropped}
+use Rattle.tw_types.specs.StoreCalls.{changed, members_at, subscript_after, one_write_less, notices_of_stored, notices_of_write_dropped}
 use Rattle.tw_types.specs.declared.notice.Subscriber.{Subscriber}
 use Rattle.tw_types.specs.declared.value.Value.{Value}
+use Rattle.tw_data.proofs.Members.{no_members, none_after}
 use Rattle.tw_data.specs.Room.{HasReadRoom, HasWriteRoom}
 
 abbrev pub with_live : ℕ → Data → Store
@@ -69,3 +71,12 @@ module _ (s : Store) (id : ℕ) where
 
   pub drop_unheard : get s.live id ≡ None → [] ≡ notices_of_write_dropped s id
   drop_unheard e = rw e refl
+
+-- ---- no members where the datum isn't live
+
+module _ (s : Store) (id : ℕ) where
+  pub no_size : get s.live id ≡ None → 0 ≡ map.len (members_at s id)
+  no_size e = rw e (sym no_members)
+
+  pub no_subscript : (index : ℤ) → get s.live id ≡ None → None ≡ subscript_after index (map.keys (members_at s id))
+  no_subscript index e = rw e (none_after index)

@@ -116,7 +116,7 @@ impl Data {
     pub fn heard_by_set(&self, id: DatumId) -> &[Subscriber]
         ensures { (value : ValueMeaning) → each (notice_to id) result.now ≡ notices_of_stored self.now id value }
     {
-        match self.live.get(&id.number()) {
+        match self.datum(id) {
             Some(datum) => datum.subscribers(),
             None => &[],
         }
@@ -134,7 +134,7 @@ impl Data {
     pub fn heard_by_drop_write(&self, id: DatumId) -> &[Subscriber]
         ensures { each (notice_to id) result.now ≡ notices_of_write_dropped self.now id }
     {
-        match self.live.get(&id.number()) {
+        match self.datum(id) {
             Some(datum) => datum.heard_by_drop_write(),
             None => &[],
         }
@@ -213,7 +213,10 @@ impl Data {
     pub fn subscript_at(&self, id: DatumId, index: i64) -> Option<i64>
         ensures { result ≡ subscript_after index (map.keys (members_at self.now id)) }
     {
-        self.datum(id)?.subscript(index)
+        match self.datum(id) {
+            Some(datum) => datum.subscript(index),
+            None => None,
+        }
     }
 }
 
