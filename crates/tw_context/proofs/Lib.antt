@@ -1,7 +1,6 @@
 pub mod Empty
-pub mod Failures
-pub mod Setting
 pub mod Stops
 pub mod Steps
+pub mod Told
 pub mod Turns
 pub mod Stretches

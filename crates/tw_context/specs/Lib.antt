@@ -3,5 +3,4 @@
 -- and frame its context.
 pub mod Attempts
 pub mod Contexts
-pub mod Data
 pub mod Stretch

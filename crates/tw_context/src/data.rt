@@ -1,21 +1,23 @@
 //! The instructions on data.
 
-ghost use Rattle.std.specs.Prelude.{◌≡◌, ◌<◌, ◌^◌};
+ghost use Rattle.std.specs.Prelude.{◌≡◌, ◌<◌, ◌^◌, Ok, OnErr, OnOk};
 ghost use Rattle.std.specs.FinMap.{get};
 ghost use Rattle.std.specs.Option.{option_and_then, option_copied};
 ghost use Rattle.tw_code.specs.declared.instr.DataInstr.TheVariants.{Store as STORE};
 ghost use Rattle.tw_code.specs.machine.Data.{data_instr, suits};
 ghost use Rattle.tw_code.specs.machine.Rights.{right_at};
+ghost use Rattle.tw_types.specs.Notices.{with_notices};
+ghost use Rattle.tw_types.specs.StoreCalls.{notices_of_stored, stored};
+ghost use Rattle.tw_types.specs.StoreChecks.{may_store};
 ghost use Rattle.tw_context.specs.Contexts.{Does};
 
-use crate::datum::{may_store, Datum};
 use crate::failure::Failure;
 use crate::frame::Frame;
 use crate::notices::Notices;
-use crate::store::Store;
-use std::alloc::Global;
+use std::alloc::{AllocError, Global};
 use tw_code::DataInstr;
-use tw_types::{Cause, Value};
+use tw_data::{Data, Datum};
+use tw_types::{Cause, DatumId, Value};
 
 /// Whether a value is of the type of a datum, where that is a live scalar.
 fn suits(value: &Value, datum: Option<&Datum>) -> bool
@@ -28,15 +30,32 @@ fn suits(value: &Value, datum: Option<&Datum>) -> bool
 }
 
 /// The datum of a right register, if it is live.
-fn datum_at<'a>(store: &'a Store, frame: &Frame, register: u8) -> Option<&'a Datum>
+fn datum_at<'a>(store: &'a Data, frame: &Frame, register: u8) -> Option<&'a Datum>
     ensures { option_copied result ≡ option_and_then (get store.now.live) (right_at frame.now.rights register) }
 {
     store.datum(frame.right(register)?)
 }
 
+/// Sets a scalar, and adds the notices of those who hear of it; or changes nothing where memory is refused.
+fn set(
+    store: &mut Data,
+    notices: &mut Notices,
+    id: DatumId,
+    value: Value,
+) -> Result<(), AllocError>
+    requires { may_store value (get store.old.live id) ≡ Ok tt }
+    ensures set { OnOk result (store.new ≡ stored store.old id value) }
+    ensures told { OnOk result (notices.new ≡ with_notices notices.old (notices_of_stored store.old id value)) }
+    ensures refused { OnErr result ((store.new ≡ store.old) × (notices.new ≡ notices.old)) }
+{
+    notices.tell(id, store.heard_by_set(id))?;
+    store.set(id, value);
+    Ok(())
+}
+
 fn store(
     alloc: Global,
-    store: &mut Store,
+    store: &mut Data,
     notices: &mut Notices,
     frame: &mut Frame,
     datum: u8,
@@ -55,9 +74,11 @@ fn store(
     let id = frame
         .right(datum)
         .ok_or(Failure::Trap(Cause::EmptyRegister))?;
-    may_store(value, store.datum(id))?;
+    if let Err(cause) = store.may_store(id, value) {
+        return Err(Failure::Trap(cause));
+    }
     let value = value.try_clone(alloc)?;
-    store.set(id, value);
+    set(store, notices, id, value)?;
     frame.empty(datum);
     frame.go_on();
     Ok(())
@@ -67,7 +88,7 @@ fn store(
 pub fn data_instr(
     alloc: Global,
     instr: DataInstr,
-    store: &mut Store,
+    store: &mut Data,
     notices: &mut Notices,
     frame: &mut Frame,
 ) -> Result<(), Failure>

@@ -6,23 +6,18 @@
 
 mod code;
 mod data;
-mod datum;
 mod failure;
 mod frame;
 mod local;
-mod members;
 mod notices;
 mod position;
 mod stopped;
-mod store;
 
 pub use code::{instr_at, procedure_of};
 pub use data::data_instr;
-pub use datum::Datum;
 pub use failure::Failure;
 pub use frame::Frame;
 pub use local::local_steps;
 pub use notices::Notices;
 pub use position::Position;
 pub use stopped::Stopped;
-pub use store::Store;

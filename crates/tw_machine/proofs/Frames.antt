@@ -1,38 +1,24 @@
 -- From the event of one frame to all frames.
-use Rattle.std.proofs.Common.{◌≡◌, ◌<◌, ℕ, Bool, true, false, nat_eq, is_none, List, refl, sym, ap, subst, ◌∙◌, IfSome}
+use Rattle.std.proofs.Common.{◌≡◌, ◌<◌, ℕ, Bool, true, false, nat_eq, List, refl, sym, ap, subst, ◌∙◌, IfSome}
 use Rattle.std.specs.declared.option.Option.{Option}
 use Rattle.std.specs.declared.option.Option.TheVariants.{None, Some}
 use Rattle.std.specs.Prelude.{Result, Ok, Err}
-use Rattle.std.specs.FinMap.{get, insert, remove}
-use Rattle.std.specs.List.{list_all}
+use Rattle.std.specs.FinMap.{get, insert}
 use Rattle.std.specs.BTreeMap.{BTreeMap, get_by, WritesThrough}
 use Rattle.tw_types.specs.declared.actor.Actor.{Actor}
-use Rattle.tw_types.specs.declared.cause.Cause.TheVariants.{RightLeft}
 use Rattle.tw_types.specs.Actor.{actor_cmp}
-use Rattle.tw_types.specs.Outcome.{Outcome, Went, NotEnabled, Trap}
+use Rattle.tw_types.specs.Outcome.{Outcome, Went, NotEnabled}
 use Rattle.tw_types.specs.Notices.{Notices}
 use Rattle.tw_types.specs.Store.{Store}
 use Rattle.tw_code.specs.declared.procedure.Procedure.{Procedure}
 use Rattle.tw_code.specs.machine.Bounds.{AreBelow}
 use Rattle.tw_code.specs.machine.State.{Frame, State}
-use Rattle.tw_code.specs.machine.State.{after_context, context_of}
-use Rattle.tw_code.specs.machine.Arguments.{procedure_of}
-use Rattle.tw_code.specs.machine.Data.{Context, data_instr}
-use Rattle.tw_code.specs.machine.Machine.{call_event, end_event, instr_at, local_event, standing_of}
-use Rattle.tw_code.specs.declared.instr.DataInstr.{DataInstr}
-use Rattle.tw_code.specs.declared.instr.Instr.{Instr}
-use Rattle.tw_code.specs.declared.instr.Instr.TheVariants as instr
-use Rattle.tw_code.specs.declared.instr.LocalInstr.{LocalInstr}
-use Rattle.tw_context.specs.declared.failure.Failure.{Failure}
-use Rattle.tw_context.specs.declared.failure.Failure.TheVariants as failure
-use Rattle.tw_context.proofs.Failures.{fails_by}
-use Rattle.tw_context.proofs.Stops.{fails_then, stopped_then}
+use Rattle.tw_code.specs.machine.Machine.{call_event, end_event, local_event}
 use Rattle.tw_context.specs.declared.stopped.Stopped.{Stopped}
-use Rattle.tw_context.specs.Attempts.{Changes, Fails, IsStopped, stopped_by}
-use Rattle.tw_machine.specs.Events.{ContextComes, FrameComes, FramesCome, instr_of}
+use Rattle.tw_context.specs.Attempts.{Changes}
+use Rattle.tw_machine.specs.Events.{ContextComes, FrameComes, FramesCome}
 use Rattle.tw_machine.specs.Parts.{frames_of, with_frames, with_store}
 use Rattle.tw_types.proofs.ActorOrder.{actor_cmp_total, actor_cmp-IsAntisymmetric}
-use Rattle.tw_types.proofs.Results.{ok_first}
 use Rattle.tw_types.proofs.Maps.{found_view, insert_same, written_view}
 
 pub is_few : (o : Option Frame) (f : Frame) (bound : ℕ) → o ≡ Some f → IfSome o (λ g. g.spent < bound) → f.spent < bound
@@ -61,50 +47,7 @@ module _ (program : List Procedure) (actor : Actor) (s : State) (free : get s.fr
   pub end_idle : end_event program actor s ≡ NotEnabled
   end_idle = rw free refl
 
--- ---- an actor with this frame, and the instruction at its place
-
-module _ (program : List Procedure) (actor : Actor) (s : State) (frame : Frame) (here : get s.frames actor ≡ Some frame) where
-  stood : (p : Procedure) (i : Instr) → procedure_of program frame.procedure ≡ Ok p → instr_at p.code frame.position.place ≡ Ok i → standing_of program actor s ≡ Went (record { frame = frame; procedure = p; instr = i })
-  stood p i e f = rw (here, e, f) refl
-
-  standing_is : (i : Instr) → instr_of program frame ≡ Ok i → (p : Procedure) × (standing_of program actor s ≡ Went (record { frame = frame; procedure = p; instr = i }))
-  standing_is i e = let at = ok_first (procedure_of program frame.procedure) (λ p. instr_at p.code frame.position.place) i e in (at.0, stood at.0 i at.1 at.2)
-
-  standing_fails : (why : Failure) → Fails (instr_of program frame) why → IsStopped (standing_of program actor s) (stopped_by why)
-  standing_fails failure.NoMemory h = tt
-  standing_fails (failure.Trap cause) h = fails_by (procedure_of program frame.procedure) (λ p. instr_at p.code frame.position.place) cause h (λ p e f. rw (here, e, f) refl) (λ e. rw (here, e) refl)
-
-  pub call_fails : (why : Failure) → Fails (instr_of program frame) why → IsStopped (call_event program actor s) (stopped_by why)
-  call_fails why h = stopped_then (standing_of program actor s) _ (stopped_by why) (standing_fails why h)
-
-  pub end_fails : (why : Failure) → Fails (instr_of program frame) why → IsStopped (end_event program actor s) (stopped_by why)
-  end_fails why h = stopped_then (standing_of program actor s) _ (stopped_by why) (standing_fails why h)
-
-  pub call_goes : (i : DataInstr) (c : Context) → instr_of program frame ≡ Ok (instr.Data i) → data_instr i (context_of s frame) ≡ Ok c → call_event program actor s ≡ Went (after_context s actor frame c)
-  call_goes i c e went = rw ((standing_is (instr.Data i) e).1, went) refl
-
-  pub call_stops : (i : DataInstr) (why : Failure) → instr_of program frame ≡ Ok (instr.Data i) → Fails (data_instr i (context_of s frame)) why → IsStopped (call_event program actor s) (stopped_by why)
-  call_stops i why e h = subst (λ o. IsStopped o (stopped_by why)) (sym (rw (standing_is (instr.Data i) e).1 refl)) (fails_then (data_instr i (context_of s frame)) (λ c. Went (after_context s actor frame c)) why h)
-
-  pub call_not_local : (i : LocalInstr) → instr_of program frame ≡ Ok (instr.Local i) → call_event program actor s ≡ NotEnabled
-  call_not_local i e = rw (standing_is (instr.Local i) e).1 refl
-
-  pub call_not_ret : instr_of program frame ≡ Ok instr.Ret → call_event program actor s ≡ NotEnabled
-  call_not_ret e = rw (standing_is instr.Ret e).1 refl
-
-  pub end_not_local : (i : LocalInstr) → instr_of program frame ≡ Ok (instr.Local i) → end_event program actor s ≡ NotEnabled
-  end_not_local i e = rw (standing_is (instr.Local i) e).1 refl
-
-  pub end_not_data : (i : DataInstr) → instr_of program frame ≡ Ok (instr.Data i) → end_event program actor s ≡ NotEnabled
-  end_not_data i e = rw (standing_is (instr.Data i) e).1 refl
-
-  pub end_left : instr_of program frame ≡ Ok instr.Ret → list_all is_none frame.rights ≡ false → end_event program actor s ≡ Trap RightLeft
-  end_left e left = rw ((standing_is instr.Ret e).1, left) refl
-
-  pub end_goes : instr_of program frame ≡ Ok instr.Ret → list_all is_none frame.rights ≡ true → end_event program actor s ≡ Went (with_frames s (remove s.frames actor))
-  end_goes e clear = rw ((standing_is instr.Ret e).1, clear) refl
-
--- ---- an actor with this frame, in a map
+-- ---- an actor with this frame
 
 module _ (m n : BTreeMap Actor Frame) (actor : Actor) (f g : Frame) (here : Some f ≡ get_by (actor_cmp actor) m) (wrote : WritesThrough actor_cmp (actor_cmp actor) m g n) where
   there : get (frames_of m.entries) actor ≡ Some f

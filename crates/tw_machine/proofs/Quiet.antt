@@ -15,12 +15,12 @@ use Rattle.tw_machine.specs.Parts.{frames_of, tasks_of, with_frames, with_tasks}
 use Rattle.tw_types.proofs.ActorOrder.{actor_cmp_total, actor_cmp-IsAntisymmetric}
 use Rattle.tw_types.proofs.Maps.{is_empty_view}
 
-and_both : (a b c : Bool) → (a && b && c) ≡ (a && (b && c))
+and_both : (a b c : Bool) → ((a && b) && c) ≡ (a && (b && c))
 and_both true b c = refl
 and_both false b c = refl
 
 module _ (s : State) (frames : BTreeMap Actor Frame) (tasks : BTreeMap ℕ Task) (f t n : Bool) where
-  pub quiet_is : (quiet : Bool) → IsTrue f ↔ (btree_map_len frames ≡ 0) → IsTrue t ↔ (btree_map_len tasks ≡ 0) → n ≡ (set.len s.notices == 0) → quiet ≡ (f && t && n)
+  pub quiet_is : (quiet : Bool) → IsTrue f ↔ (btree_map_len frames ≡ 0) → IsTrue t ↔ (btree_map_len tasks ≡ 0) → n ≡ (set.len s.notices == 0) → quiet ≡ ((f && t) && n)
       → then_some quiet Quiet ≡ ending (with_frames (with_tasks s (tasks_of tasks.entries)) (frames_of frames.entries))
   quiet_is quiet no_frame no_task no_notice is =
       let e = is_empty_view actor_cmp_total actor_cmp-IsAntisymmetric f frames.entries no_frame in

@@ -14,8 +14,9 @@ use std::alloc::Global;
 use std::collections::BTreeMap;
 use tw_code::{Instr, Procedure};
 use tw_context::{
-    data_instr, instr_at, local_steps, procedure_of, Failure, Frame, Notices, Stopped, Store,
+    data_instr, instr_at, local_steps, procedure_of, Failure, Frame, Notices, Stopped,
 };
+use tw_data::Data;
 use tw_types::{Actor, Cause};
 
 /// The actor's task does so many local instructions.
@@ -68,7 +69,7 @@ fn instr_of<'a>(program: &'a [Procedure], frame: &Frame) -> Result<&'a Instr, Fa
 fn call_of(
     alloc: Global,
     program: &[Procedure],
-    store: &mut Store,
+    store: &mut Data,
     notices: &mut Notices,
     frame: &mut Frame,
 ) -> Result<(), Stopped>
@@ -102,7 +103,7 @@ fn may_end(program: &[Procedure], frame: &Frame) -> Result<(), Stopped>
 pub fn call(
     alloc: Global,
     program: &[Procedure],
-    store: &mut Store,
+    store: &mut Data,
     notices: &mut Notices,
     frames: &mut BTreeMap<Actor, Frame>,
     actor: Actor,

@@ -17,4 +17,5 @@ pub use plain::Plain;
 pub use refusal::{OpenRefusal, OpenRefused};
 pub use state::State;
 pub use stepped::Stepped;
-pub use tw_context::{Datum, Frame};
+pub use tw_context::Frame;
+pub use tw_data::Datum;

@@ -18,13 +18,14 @@ use std::alloc::{AllocError, Global};
 use std::collections::BTreeMap;
 use std::marker::Model;
 use tw_code::Procedure;
-use tw_context::{Datum, Frame, Notices, Stopped, Store};
+use tw_context::{Frame, Notices, Stopped};
+use tw_data::{Data, Datum};
 use tw_types::{Actor, DatumId, Ending, Event, Layout, Param};
 
 /// The store, the tasks that wait, the tasks that run, the notices that wait, and the outputs.
 #[derive(Drop)]
 pub struct State {
-    store: Store,
+    store: Data,
     tasks: BTreeMap<u64, Task>,
     next_task: u64,
     frames: BTreeMap<Actor, Frame>,
@@ -66,7 +67,7 @@ impl State {
         requires few { length params.now ≤ 8 }
         ensures { IfOk result (λ state. state ≡ opening_of (opened nothing_opened params.now [])) }
     {
-        let mut store = Store::new(alloc);
+        let mut store = Data::new(alloc);
         let mut outputs = Vec::new(alloc);
         for param in params {
             outputs.push(store.create(alloc, param.ty)?)?;
@@ -111,7 +112,9 @@ impl State {
         let no_frame = self.frames.is_empty();
         let no_task = self.tasks.is_empty();
         let no_notice = self.notices.is_empty();
-        (no_frame && no_task && no_notice).then_some(Ending::Quiet)
+        let no_work = no_frame && no_task;
+        let is_quiet = no_work && no_notice;
+        is_quiet.then_some(Ending::Quiet)
     }
 
     /// Makes one event, or says why not; then all is as it was.
