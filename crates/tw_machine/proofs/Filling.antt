@@ -4,7 +4,9 @@ use Rattle.std.specs.declared.option.Option.{Option}
 use Rattle.std.specs.declared.option.Option.TheVariants.{None, Some}
 use Rattle.std.proofs.lemmas.List.{append-nil, map-append, take_more}
 use Rattle.tw_types.specs.declared.value.Value.{Value}
-use Rattle.tw_types.specs.Outcome.{Outcome, Went, ◌>>=◌}
+use Rattle.std.specs.Prelude.{Result, Ok}
+use Rattle.tw_types.specs.declared.cause.Cause.{Cause}
+use Rattle.tw_types.specs.Result.{◌>>=◌}
 use Rattle.tw_types.specs.Task as task
 use Rattle.tw_code.specs.machine.State.{ids_in}
 use Rattle.tw_code.specs.machine.Rights.{first_rights}
@@ -13,8 +15,8 @@ use Rattle.tw_machine.specs.declared.task.Arg.TheVariants as arg
 use Rattle.tw_machine.specs.Args.{arg_of}
 
 -- these values, and then what comes of the others
-abbrev pub after : List Value → Outcome (List Value) → Outcome (List Value)
-after firsts o = o >>= λ others. Went (firsts ++ others)
+abbrev pub after : List Value → Result (List Value) Cause → Result (List Value) Cause
+after firsts r = r >>= λ others. Ok (firsts ++ others)
 
 -- rights
 
@@ -33,8 +35,8 @@ set_next : (ids : List ℕ) (m id : ℕ) → set (map Some ids ++ replicate (suc
 set_next [] m id = refl
 set_next (i ∷ ids) m id = ap (λ xs. Some i ∷ xs) (set_next ids m id)
 
-sixteen_more : (ids : List ℕ) (id : ℕ) → length ids < 16 → set (first_rights ids) (length ids) (Some id) ≡ first_rights (ids ++ id ∷ [])
-sixteen_more ids id h =
+first_rights_more : (ids : List ℕ) (id : ℕ) → length ids < 16 → set (first_rights ids) (length ids) (Some id) ≡ first_rights (ids ++ id ∷ [])
+first_rights_more ids id h =
     let m = 16 - length (ids ++ id ∷ []) in
     let e : 16 - length ids ≡ suc m = omega (arith, length-append ids (id ∷ [])) in
     ap (λ n. set (map Some ids ++ replicate n None) (length ids) (Some id)) e ∙ set_next ids m id
@@ -47,7 +49,7 @@ rights_more args k count rights left x id h at is few so_far counted now =
     let ids = ids_among (take k args) in
     let more : ids_among (take (k + 1) args) ≡ ids ++ id ∷ [] = ids_more args k x h at ∙ ap (λ y. ids ++ ids_in (arg_of y ∷ [])) is in
     let room : length ids < 16 = omega arith in (
-      now ∙ ap (λ r. set r count (Some id)) so_far ∙ ap (λ n. set (first_rights ids) n (Some id)) counted ∙ sixteen_more ids id room ∙ ap first_rights (sym more),
+      now ∙ ap (λ r. set r count (Some id)) so_far ∙ ap (λ n. set (first_rights ids) n (Some id)) counted ∙ first_rights_more ids id room ∙ ap first_rights (sym more),
       rw more (omega (arith, length-append ids (id ∷ []))),
     )
 

@@ -2,20 +2,20 @@
 use Rattle.std.proofs.Common.{◌≡◌, ◌<◌, ℕ, Bool, true, false, nat_eq, List, refl, sym, ap, subst, ◌∙◌, IfSome}
 use Rattle.std.specs.declared.option.Option.{Option}
 use Rattle.std.specs.declared.option.Option.TheVariants.{None, Some}
-use Rattle.std.specs.declared.result.Result.{Result}
-use Rattle.std.specs.declared.result.Result.TheVariants.{Ok, Err}
+use Rattle.std.specs.Prelude.{Result, Ok, Err}
 use Rattle.std.specs.FinMap.{get, insert}
 use Rattle.std.specs.BTreeMap.{BTreeMap, get_by, WritesThrough}
 use Rattle.tw_types.specs.declared.actor.Actor.{Actor}
 use Rattle.tw_types.specs.Actor.{actor_cmp}
 use Rattle.tw_types.specs.Outcome.{Outcome, Went, NotEnabled}
+use Rattle.tw_types.specs.Notices.{Notices}
 use Rattle.tw_types.specs.Store.{Store}
 use Rattle.tw_code.specs.declared.procedure.Procedure.{Procedure}
 use Rattle.tw_code.specs.machine.Bounds.{AreBelow}
 use Rattle.tw_code.specs.machine.State.{Frame, State}
 use Rattle.tw_code.specs.machine.Machine.{call_event, end_event, local_event}
-use Rattle.tw_machine.specs.declared.refused.Refused.{Refused}
-use Rattle.tw_machine.specs.Attempts.{Changes}
+use Rattle.tw_context.specs.declared.stopped.Stopped.{Stopped}
+use Rattle.tw_context.specs.Attempts.{Changes}
 use Rattle.tw_machine.specs.Events.{ContextComes, FrameComes, FramesCome}
 use Rattle.tw_machine.specs.Parts.{frames_of, with_frames, with_store}
 use Rattle.tw_types.proofs.ActorOrder.{actor_cmp_total, actor_cmp-IsAntisymmetric}
@@ -59,17 +59,17 @@ module _ (m n : BTreeMap Actor Frame) (actor : Actor) (f g : Frame) (here : Some
   unchanged : g ≡ f → frames_of n.entries ≡ frames_of m.entries
   unchanged e = written ∙ ap (insert (frames_of m.entries) actor) e ∙ insert_same actor_cmp_total actor_cmp-IsAntisymmetric (frames_of m.entries) actor f there
 
-  pub frames_come : (event : Actor → State → Outcome State) (result : Result (Unit {0}) Refused) → FrameComes event f result g → FramesCome (event actor) (frames_of m.entries) result (frames_of n.entries)
+  pub frames_come : (event : Actor → State → Outcome State) (result : Result (Unit {0}) Stopped) → FrameComes event f result g → FramesCome (event actor) (frames_of m.entries) result (frames_of n.entries)
   frames_come event (Ok x) h = λ s. h (with_frames s (frames_of m.entries)) actor there ∙ ap (λ fs. Went (with_frames s fs)) (sym written)
   frames_come event (Err why) h = λ s. (h.0 (with_frames s (frames_of m.entries)) actor there, ap (with_frames s) (unchanged h.1))
 
-  abbrev state : State → Store → State
-  state s store = with_frames (with_store s store) (frames_of m.entries)
+  abbrev state : State → Store → Notices → State
+  state s store notices = with_frames (with_store s store notices) (frames_of m.entries)
 
-  pub context_comes : (event : Actor → State → Outcome State) (store left : Store) (result : Result (Unit {0}) Refused) (s : State) → ContextComes event store f result left g
-      → Changes (event actor (state s store)) (state s store) result (with_frames (with_store s left) (frames_of n.entries))
-  context_comes event store left (Ok x) s h = h (with_frames s (frames_of m.entries)) actor there ∙ ap (λ fs. Went (with_frames (with_store s left) fs)) (sym written)
-  context_comes event store left (Err why) s h = (
+  pub context_comes : (event : Actor → State → Outcome State) (store left : Store) (notices more : Notices) (result : Result (Unit {0}) Stopped) (s : State) → ContextComes event store notices f result left more g
+      → Changes (event actor (state s store notices)) (state s store notices) result (with_frames (with_store s left more) (frames_of n.entries))
+  context_comes event store left notices more (Ok x) s h = h (with_frames s (frames_of m.entries)) actor there ∙ ap (λ fs. Went (with_frames (with_store s left more) fs)) (sym written)
+  context_comes event store left notices more (Err why) s h = (
     h.0 (with_frames s (frames_of m.entries)) actor there,
-    ap (λ x. with_frames (with_store s x) (frames_of n.entries)) h.1 ∙ ap (with_frames (with_store s store)) (unchanged h.2),
+    ap (λ x. with_frames (with_store s x more) (frames_of n.entries)) h.1 ∙ ap (λ x. with_frames (with_store s store x) (frames_of n.entries)) h.2 ∙ ap (with_frames (with_store s store notices)) (unchanged h.3),
   )

@@ -1,13 +1,7 @@
-pub mod Setting
 pub mod Filling
-pub mod Refusals
-pub mod Steps
 pub mod Frames
 pub mod Bests
 pub mod Takes
 pub mod Quiet
 pub mod Opened
 pub mod Growth
-pub mod Computing
-pub mod Turns
-pub mod Stretches

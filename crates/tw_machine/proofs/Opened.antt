@@ -6,9 +6,10 @@ use Rattle.tw_types.specs.declared.input.Input.{Input}
 use Rattle.tw_types.specs.declared.param.Param.{Param}
 use Rattle.tw_types.specs.Store.{Store}
 use Rattle.tw_code.specs.declared.procedure.Procedure.{Procedure}
-use Rattle.tw_code.specs.machine.Bounds.{AreBelow}
+use Rattle.tw_code.specs.machine.Bounds.{AreBelow, opening_bound}
 use Rattle.tw_code.proofs.Growth.{opening_is_small}
 use Rattle.tw_code.specs.machine.State.{State}
+use Rattle.tw_code.specs.machine.Inputs.{AreInputsOf, input_params}
 use Rattle.tw_code.specs.machine.Opening.{Opened, main_params, opened, opening, opening_of}
 use Rattle.tw_code.specs.accepting.MainShape.{has_main_shape}
 use Rattle.tw_types.specs.Mode.{is_write}
@@ -58,8 +59,22 @@ module _ (program : List Procedure) (inputs : List Input) (none : refusal_of pro
   unfolding opening
   is_opening = ap (λ xs. opening_of (opened nothing_opened (main_params program) xs)) (sym no_inputs)
 
-  pub is_small : IsProgram program → AreBelow 64 (opening program inputs)
-  is_small within = subst (λ (xs : List Input). AreBelow 64 (opening program xs)) (sym no_inputs) (opening_is_small program (few_params program within))
+  -- and main takes no inputs
+  takes_none : (params : List Param) → list_all (λ p. is_write p.mode) params ≡ true → input_params params ≡ []
+  takes_none [] e = refl
+  takes_none (p ∷ params) e = by (is_write p.mode) refl e (takes_none params)
+    where
+      by : (b : Bool) → is_write p.mode ≡ b → b && list_all (λ q. is_write q.mode) params ≡ true → (list_all (λ q. is_write q.mode) params ≡ true → input_params params ≡ []) → input_params (p ∷ params) ≡ []
+      by true is rest others = rw is (others rest)
+      by false is rest others = cc
+
+  are_inputs : AreInputsOf program inputs
+  are_inputs =
+      let none = takes_none (main_params program) outputs_alone in
+      subst (λ (xs : List Input). AreInputsOf program xs) (sym no_inputs) (record { count = rw none refl; fit = rw none refl })
+
+  pub is_small : IsProgram program → AreBelow opening_bound (opening program inputs)
+  is_small within = opening_is_small program inputs within are_inputs
 
 -- the same, as the code asks and opens
 

@@ -1,20 +1,21 @@
 -- What comes of a take.
 use Rattle.std.proofs.Common.{◌≡◌, ℕ, true, false, List, refl, sym, ap, subst, ◌∙◌, is_some}
+use Rattle.std.specs.Prelude.{Ok}
 use Rattle.std.specs.declared.option.Option.{Option}
 use Rattle.std.specs.declared.option.Option.TheVariants.{None, Some}
 use Rattle.std.specs.FinMap.{get, remove}
 use Rattle.tw_types.specs.declared.actor.Actor.{Actor}
 use Rattle.tw_types.specs.Actor.{is_in}
 use Rattle.tw_types.specs.Layout.{ActorCounts}
-use Rattle.tw_types.specs.Outcome.{Went, NotEnabled, ◌>>=◌}
+use Rattle.tw_types.specs.Outcome.{Went, NotEnabled, ◌>>=◌, outcome_of}
 use Rattle.tw_types.specs.Task.{Task, best}
 use Rattle.tw_code.specs.declared.procedure.Procedure.{Procedure}
 use Rattle.tw_code.specs.machine.State.{Frame, State, frame_of, with_frame}
 use Rattle.tw_code.specs.machine.Machine.{take_event}
-use Rattle.tw_machine.specs.declared.refused.Refused.{Refused}
-use Rattle.tw_machine.specs.Attempts.{IsRefused}
+use Rattle.tw_context.specs.declared.failure.Failure.{Failure}
+use Rattle.tw_context.specs.Attempts.{Fails, IsStopped, stopped_by}
 use Rattle.tw_machine.specs.Parts.{with_tasks}
-use Rattle.tw_machine.proofs.Refusals.{refused_then}
+use Rattle.tw_context.proofs.Stops.{fails_then}
 
 module _ (program : List Procedure) (layout : ActorCounts) (actor : Actor) (s : State) where
   pub take_outside : is_in layout actor ≡ false → take_event program layout actor s ≡ NotEnabled
@@ -30,11 +31,11 @@ module _ (program : List Procedure) (layout : ActorCounts) (actor : Actor) (s : 
 
     module _ (free : is_some (get s.frames actor) ≡ false) where
       begins : (e : ℕ × Task) → best actor s.tasks ≡ Some e
-          → take_event program layout actor s ≡ (frame_of program e.0 e.1 >>= λ frame. Went (with_frame (with_tasks s (remove s.tasks e.0)) actor frame))
+          → take_event program layout actor s ≡ (outcome_of (frame_of program e.0 e.1) >>= λ frame. Went (with_frame (with_tasks s (remove s.tasks e.0)) actor frame))
       begins e first = by (get s.frames actor) refl free
         where
           by : (o : Option Frame) → get s.frames actor ≡ o → is_some o ≡ false
-              → take_event program layout actor s ≡ (frame_of program e.0 e.1 >>= λ frame. Went (with_frame (with_tasks s (remove s.tasks e.0)) actor frame))
+              → take_event program layout actor s ≡ (outcome_of (frame_of program e.0 e.1) >>= λ frame. Went (with_frame (with_tasks s (remove s.tasks e.0)) actor frame))
           by None is b = rw (inside, is, first) refl
           by (Some f) is b = cc
 
@@ -45,9 +46,9 @@ module _ (program : List Procedure) (layout : ActorCounts) (actor : Actor) (s : 
           by None is b = rw (inside, is, empty) refl
           by (Some f) is b = cc
 
-      pub take_refused : (e : ℕ × Task) (why : Refused) → best actor s.tasks ≡ Some e → IsRefused (frame_of program e.0 e.1) why → IsRefused (take_event program layout actor s) why
-      take_refused e why first refusal = subst (λ o. IsRefused o why) (sym (begins e first)) (refused_then _ _ why refusal)
+      pub take_stopped : (e : ℕ × Task) (why : Failure) → best actor s.tasks ≡ Some e → Fails (frame_of program e.0 e.1) why → IsStopped (take_event program layout actor s) (stopped_by why)
+      take_stopped e why first fails = subst (λ o. IsStopped o (stopped_by why)) (sym (begins e first)) (fails_then _ _ why fails)
 
-      pub take_goes : (e : ℕ × Task) (frame : Frame) → best actor s.tasks ≡ Some e → frame_of program e.0 e.1 ≡ Went frame
+      pub take_goes : (e : ℕ × Task) (frame : Frame) → best actor s.tasks ≡ Some e → frame_of program e.0 e.1 ≡ Ok frame
           → take_event program layout actor s ≡ Went (with_frame (with_tasks s (remove s.tasks e.0)) actor frame)
-      take_goes e frame first goes = begins e first ∙ ap (λ o. o >>= λ f. Went (with_frame (with_tasks s (remove s.tasks e.0)) actor f)) goes
+      take_goes e frame first goes = begins e first ∙ ap (λ r. outcome_of r >>= λ f. Went (with_frame (with_tasks s (remove s.tasks e.0)) actor f)) goes

@@ -1,13 +1,12 @@
 -- What is told of an attempt at an event.
-use Rattle.std.specs.declared.result.Result.{Result}
-use Rattle.std.specs.declared.result.Result.TheVariants.{Ok, Err}
-use Rattle.tw_machine.specs.declared.refused.Refused.{Refused}
-use Rattle.tw_machine.specs.declared.refused.Refused.TheVariants as refused
+use Rattle.std.specs.Prelude.{Result, Ok, Err}
+use Rattle.tw_context.specs.declared.stopped.Stopped.{Stopped}
+use Rattle.tw_context.specs.declared.stopped.Stopped.TheVariants as stopped
 use Rattle.tw_machine.specs.declared.stepped.Stepped.{Stepped}
 use Rattle.tw_machine.specs.declared.stepped.Stepped.TheVariants as stepped
 
-abbrev pub stepped_of : Result (Unit {0}) Refused → Stepped
+abbrev pub stepped_of : Result (Unit {0}) Stopped → Stepped
 stepped_of (Ok _) = stepped.Went
-stepped_of (Err refused.NotEnabled) = stepped.NotEnabled
-stepped_of (Err (refused.Trap cause)) = stepped.Trap cause
-stepped_of (Err refused.NoMemory) = stepped.NoMemory
+stepped_of (Err stopped.NotEnabled) = stepped.NotEnabled
+stepped_of (Err (stopped.Trap cause)) = stepped.Trap cause
+stepped_of (Err stopped.NoMemory) = stepped.NoMemory

@@ -11,10 +11,10 @@ use Rattle.tw_machine.specs.declared.refusal.OpenRefusal.{OpenRefusal}
 use Rattle.tw_machine.specs.declared.refusal.OpenRefusal.TheVariants.{InputCount, Memory, MainShape}
 
 -- the number behind the letter O
-abbrev pub number_of : OpenRefusal → ℕ
-number_of InputCount = 1
-number_of Memory = 5
-number_of MainShape = 6
+abbrev pub open_refusal_number : OpenRefusal → ℕ
+open_refusal_number InputCount = 1
+open_refusal_number Memory = 5
+open_refusal_number MainShape = 6
 
 -- before the first of main's parameters
 abbrev pub nothing_opened : Opened

@@ -4,12 +4,10 @@ use Rattle.std.specs.Ordering.{nat_cmp}
 use Rattle.std.specs.FinMap.{from_entries}
 use Rattle.tw_types.specs.declared.actor.Actor.{Actor}
 use Rattle.tw_types.specs.Actor.{actor_cmp}
-use Rattle.tw_types.specs.Store.{Datum, Data, Store}
+use Rattle.tw_types.specs.Notices.{Notices}
+use Rattle.tw_types.specs.Store.{Store}
 use Rattle.tw_types.specs.Task.{Task, Tasks}
 use Rattle.tw_code.specs.machine.State.{Frame, Frames, State}
-
-abbrev pub data_of : List (ℕ × Datum) → Data
-data_of es = from_entries {R = nat_cmp} es
 
 abbrev pub tasks_of : List (ℕ × Task) → Tasks
 tasks_of es = from_entries {R = nat_cmp} es
@@ -19,8 +17,8 @@ frames_of es = from_entries {R = actor_cmp} es
 
 -- a state with another of its parts
 
-abbrev pub with_store : State → Store → State
-with_store s store = record s { store = store }
+abbrev pub with_store : State → Store → Notices → State
+with_store s store notices = record s { store = store; notices = notices }
 
 abbrev pub with_tasks : State → Tasks → State
 with_tasks s tasks = record s { tasks = tasks }

@@ -4,29 +4,18 @@
 //! data, so a program that breaks the rules of rights is met with a trap and not refused beforehand.
 #![tactic(auto)]
 
-mod code;
-mod compute;
-mod data;
-mod datum;
 mod events;
-mod frame;
-mod local;
-mod members;
 mod opening;
 mod plain;
-mod position;
 mod refusal;
-mod refused;
 mod state;
 mod stepped;
-mod store;
 mod take;
 mod task;
-mod value;
 
-pub use datum::Datum;
-pub use frame::Frame;
 pub use plain::Plain;
 pub use refusal::{OpenRefusal, OpenRefused};
 pub use state::State;
 pub use stepped::Stepped;
+pub use tw_context::Frame;
+pub use tw_data::Datum;

@@ -1,19 +1,19 @@
 //! The plain machine.
 
 ghost use Rattle.std.specs.Prelude.{◌≡◌, ℕ, ◌<◌, ◌+◌, ◌^◌, IfErr, IfOk, MatchResult, None};
-ghost use Rattle.tw_code.specs.machine.Bounds.{AreBelow, size_of};
+ghost use Rattle.tw_code.specs.machine.Bounds.{AreBelow, opening_bound, size_of};
 ghost use Rattle.tw_code.specs.machine.Ending.{ending};
 ghost use Rattle.tw_code.specs.machine.Opening.{opening};
 ghost use Rattle.tw_machine.specs.Opening.{IsTold, refusal_of};
 ghost use Rattle.tw_machine.specs.PlainView.{Steps};
 
-use crate::opening::{main_params, refusal_of};
+use crate::opening::refusal_of;
 use crate::refusal::{OpenRefusal, OpenRefused};
 use crate::state::State;
 use crate::stepped::Stepped;
 use std::alloc::Global;
 use std::marker::Model;
-use tw_code::Program;
+use tw_code::{main_params, Program};
 use tw_types::{Ending, Event, Input, Layout};
 
 /// A program that runs on the actors of a layout, one event at a time.
@@ -30,7 +30,9 @@ impl Model for Plain {
     ghost use Rattle.tw_types.specs.Store.{Datum as DatumMeaning};
     ghost use Rattle.tw_types.specs.Task.{Task as TaskMeaning};
     ghost use Rattle.tw_code.specs.machine.State.{Frame as FrameMeaning};
+    ghost use Rattle.tw_types.specs.Notices.{notice_cmp};
     ghost use Rattle.std.specs.FinMap.{code};
+    ghost use Rattle.std.specs.FinSet.{code as set_code};
     ghost use Rattle.std.specs.Ordering.{int_cmp, nat_cmp};
     ghost use Rattle.std.specs.Coded.{codes, coded_ℕ, coded_ℤ};
     ghost use Rattle.tw_machine.specs.PlainView.{PlainView};
@@ -42,6 +44,7 @@ impl Model for Plain {
       code {X = DatumMeaning} {R = nat_cmp} coded_ℕ (Prim.hlevel (codes, code {R = int_cmp} coded_ℤ coded_ℕ)),
       code {X = TaskMeaning} {R = nat_cmp} coded_ℕ (Prim.hlevel codes),
       code {X = FrameMeaning} {R = actor_cmp} (Prim.hlevel codes) (Prim.hlevel codes),
+      set_code {R = notice_cmp} (Prim.hlevel codes),
     ) };
 
     ghost view = { λ p. record { program = p.program; layout = p.layout; state = p.state } };
@@ -59,7 +62,7 @@ impl Plain {
         ensures opened { IfOk result (λ plain. plain ≡ record { program = program; layout = layout; state = opening program inputs.now }) }
         ensures asked { MatchResult result (λ _. refusal_of program inputs.now ≡ None) (λ refused. IsTold (refusal_of program inputs.now) refused.no) }
         ensures back { IfErr result (λ refused. refused.program ≡ program) }
-        ensures below { IfOk result (λ plain. AreBelow 64 plain.state) }
+        ensures below { IfOk result (λ plain. AreBelow opening_bound plain.state) }
     {
         if let Some(no) = refusal_of(program.procedures(), inputs) {
             return Err(OpenRefused { program, no });

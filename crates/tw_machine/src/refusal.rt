@@ -1,7 +1,7 @@
 //! Refused openings.
 
 ghost use Rattle.std.specs.Prelude.{◌≡◌};
-ghost use Rattle.tw_machine.specs.Opening.{number_of};
+ghost use Rattle.tw_machine.specs.Opening.{open_refusal_number};
 
 use std::fmt;
 use thiserror::Error;
@@ -21,7 +21,7 @@ pub enum OpenRefusal {
 impl OpenRefusal {
     /// The number behind the letter O.
     pub fn number(self) -> u8
-        ensures { result ≡ number_of self }
+        ensures { result ≡ open_refusal_number self }
     {
         match self {
             OpenRefusal::InputCount => 1,

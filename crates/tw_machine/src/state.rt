@@ -9,28 +9,27 @@ ghost use Rattle.tw_code.specs.machine.Ending.{ending};
 ghost use Rattle.tw_code.specs.machine.Machine.{step};
 ghost use Rattle.tw_types.specs.Mode.{is_write};
 ghost use Rattle.tw_code.specs.machine.Opening.{opened, opening_of};
+ghost use Rattle.tw_context.specs.Attempts.{Changes};
 ghost use Rattle.tw_machine.specs.Opening.{nothing_opened};
-ghost use Rattle.tw_machine.specs.Attempts.{Changes};
 
-use crate::datum::Datum;
-use crate::frame::Frame;
-use crate::refused::Refused;
-use crate::store::Store;
 use crate::task::Task;
 use crate::{events, take};
 use std::alloc::{AllocError, Global};
 use std::collections::BTreeMap;
 use std::marker::Model;
 use tw_code::Procedure;
+use tw_context::{Frame, Notices, Stopped};
+use tw_data::{Data, Datum};
 use tw_types::{Actor, DatumId, Ending, Event, Layout, Param};
 
-/// The store, the tasks that wait, the tasks that run, and the outputs.
+/// The store, the tasks that wait, the tasks that run, the notices that wait, and the outputs.
 #[derive(Drop)]
 pub struct State {
-    store: Store,
+    store: Data,
     tasks: BTreeMap<u64, Task>,
     next_task: u64,
     frames: BTreeMap<Actor, Frame>,
+    notices: Notices,
     outputs: Vec<DatumId>,
 }
 
@@ -40,7 +39,9 @@ impl Model for State {
     ghost use Rattle.tw_types.specs.Store.{Datum as DatumMeaning};
     ghost use Rattle.tw_types.specs.Task.{Task as TaskMeaning};
     ghost use Rattle.tw_code.specs.machine.State.{State as Meaning, Frame as FrameMeaning};
+    ghost use Rattle.tw_types.specs.Notices.{notice_cmp};
     ghost use Rattle.std.specs.FinMap.{code};
+    ghost use Rattle.std.specs.FinSet.{code as set_code};
     ghost use Rattle.std.specs.Ordering.{int_cmp, nat_cmp};
     ghost use Rattle.std.specs.Coded.{codes, coded_ℕ, coded_ℤ};
 
@@ -51,11 +52,12 @@ impl Model for State {
       code {X = DatumMeaning} {R = nat_cmp} coded_ℕ (Prim.hlevel (codes, code {R = int_cmp} coded_ℤ coded_ℕ)),
       code {X = TaskMeaning} {R = nat_cmp} coded_ℕ (Prim.hlevel codes),
       code {X = FrameMeaning} {R = actor_cmp} (Prim.hlevel codes) (Prim.hlevel codes),
+      set_code {R = notice_cmp} (Prim.hlevel codes),
     ) };
 
     ghost use Rattle.tw_machine.specs.Parts.{tasks_of, frames_of};
 
-    ghost view = { λ s. record { store = s.store; tasks = tasks_of s.tasks.entries; next_task = s.next_task; frames = frames_of s.frames.entries; outputs = s.outputs.items } };
+    ghost view = { λ s. record { store = s.store; tasks = tasks_of s.tasks.entries; next_task = s.next_task; frames = frames_of s.frames.entries; notices = s.notices; outputs = s.outputs.items } };
 }
 
 impl State {
@@ -65,7 +67,7 @@ impl State {
         requires few { length params.now ≤ 8 }
         ensures { IfOk result (λ state. state ≡ opening_of (opened nothing_opened params.now [])) }
     {
-        let mut store = Store::new(alloc);
+        let mut store = Data::new(alloc);
         let mut outputs = Vec::new(alloc);
         for param in params {
             outputs.push(store.create(alloc, param.ty)?)?;
@@ -77,6 +79,7 @@ impl State {
             tasks,
             next_task: 2,
             frames: BTreeMap::new(alloc),
+            notices: Notices::new(alloc),
             outputs,
         })
     }
@@ -108,7 +111,10 @@ impl State {
     {
         let no_frame = self.frames.is_empty();
         let no_task = self.tasks.is_empty();
-        (no_frame && no_task).then_some(Ending::Quiet)
+        let no_notice = self.notices.is_empty();
+        let no_work = no_frame && no_task;
+        let is_quiet = no_work && no_notice;
+        is_quiet.then_some(Ending::Quiet)
     }
 
     /// Makes one event, or says why not; then all is as it was.
@@ -118,7 +124,7 @@ impl State {
         program: &[Procedure],
         layout: Layout,
         event: Event,
-    ) -> Result<(), Refused>
+    ) -> Result<(), Stopped>
         requires small { AreBelow (2 ^ 63) self.old }
         requires size { size_of event < 2 ^ 63 }
         ensures { Changes (step program.now layout event self.old) self.old result self.new }
@@ -135,11 +141,16 @@ impl State {
             Event::Local(actor, steps) => {
                 events::local(alloc, program, &mut self.frames, actor, steps)
             }
-            Event::Call(actor) => {
-                events::call(alloc, program, &mut self.store, &mut self.frames, actor)
-            }
+            Event::Call(actor) => events::call(
+                alloc,
+                program,
+                &mut self.store,
+                &mut self.notices,
+                &mut self.frames,
+                actor,
+            ),
             Event::End(actor) => events::end(program, &mut self.frames, actor),
-            Event::Ask(..) | Event::Deliver(..) | Event::Release(..) => Err(Refused::NotEnabled),
+            Event::Ask(..) | Event::Deliver(..) | Event::Release(..) => Err(Stopped::NotEnabled),
         }
     }
 }

@@ -1,6 +1,6 @@
 //! Answers to events.
 
-use crate::refused::Refused;
+use tw_context::Stopped;
 use tw_types::Cause;
 
 /// What an event came to.
@@ -16,18 +16,18 @@ pub enum Stepped {
     NoMemory,
 }
 
-impl From<Result<(), Refused>> for Stepped {
+impl From<Result<(), Stopped>> for Stepped {
     ghost use Rattle.std.specs.Prelude.{◌≡◌};
     ghost use Rattle.tw_machine.specs.Answers.{stepped_of};
 
     ghost from_gives = { λ made stepped. stepped ≡ stepped_of made };
 
-    fn from(made: Result<(), Refused>) -> Stepped {
+    fn from(made: Result<(), Stopped>) -> Stepped {
         match made {
             Ok(()) => Stepped::Went,
-            Err(Refused::NotEnabled) => Stepped::NotEnabled,
-            Err(Refused::Trap(cause)) => Stepped::Trap(cause),
-            Err(Refused::NoMemory) => Stepped::NoMemory,
+            Err(Stopped::NotEnabled) => Stepped::NotEnabled,
+            Err(Stopped::Trap(cause)) => Stepped::Trap(cause),
+            Err(Stopped::NoMemory) => Stepped::NoMemory,
         }
     }
 }

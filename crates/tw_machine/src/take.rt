@@ -2,32 +2,19 @@
 
 ghost use Rattle.std.specs.Prelude.{◌≡◌, option_map, ◌&&◌, is_none, int_lt, Some, None};
 ghost use Rattle.std.specs.FinMap.{get};
-ghost use Rattle.tw_types.specs.Actor.{is_in};
 ghost use Rattle.tw_types.specs.Task.{best};
 ghost use Rattle.tw_code.specs.machine.Machine.{take_event};
 ghost use Rattle.tw_code.specs.machine.State.{State as Meaning};
-ghost use Rattle.tw_machine.specs.Attempts.{Changes};
+ghost use Rattle.tw_context.specs.Attempts.{Changes};
 ghost use Rattle.tw_machine.specs.Best.{is_better};
 ghost use Rattle.tw_machine.specs.Parts.{frames_of, tasks_of, with_frames, with_tasks};
 
-use crate::frame::Frame;
-use crate::refused::Refused;
 use crate::task::Task;
 use std::alloc::Global;
 use std::collections::BTreeMap;
 use tw_code::Procedure;
+use tw_context::{Frame, Stopped};
 use tw_types::{Actor, Layout};
-
-/// Whether there is this actor.
-fn is_in(layout: Layout, actor: Actor) -> bool
-    ensures { result ≡ is_in layout actor }
-{
-    match actor {
-        Actor::Engine(number) => number < layout.engines(),
-        Actor::Server(number) => number < layout.servers(),
-        Actor::Worker(number) => number < layout.workers(),
-    }
-}
 
 /// The task that the actor takes, with its number: of those that it may take the one with the greatest priority, and
 /// among these the one with the least number.
@@ -61,16 +48,16 @@ pub fn take(
     tasks: &mut BTreeMap<u64, Task>,
     frames: &mut BTreeMap<Actor, Frame>,
     actor: Actor,
-) -> Result<(), Refused>
+) -> Result<(), Stopped>
     ensures { (s : Meaning) → let old = with_frames (with_tasks s (tasks_of tasks.old.entries)) (frames_of frames.old.entries) in Changes (take_event program.now layout actor old) old result (with_frames (with_tasks s (tasks_of tasks.new.entries)) (frames_of frames.new.entries)) }
 {
-    if !is_in(layout, actor) || frames.contains_key(&actor) {
-        return Err(Refused::NotEnabled);
+    if !layout.has(actor) || frames.contains_key(&actor) {
+        return Err(Stopped::NotEnabled);
     }
     let Some((number, task)) = best(tasks, actor) else {
-        return Err(Refused::NotEnabled);
+        return Err(Stopped::NotEnabled);
     };
-    let frame = Frame::start(alloc, program, number, task)?;
+    let frame = task.begin(alloc, program, number)?;
     frames.insert(actor, frame)?;
     let _taken = tasks.remove(&number);
     Ok(())

@@ -1,22 +1,19 @@
 //! Tasks that wait.
 
-ghost use Rattle.std.specs.Prelude.{◌≡◌, ◌<◌, ◌≤◌, ◌++◌, length, drop, map, MatchResult, IfOk, OnOk};
-ghost use Rattle.std.specs.Option.{option_copied};
-ghost use Rattle.tw_types.specs.Outcome.{Went};
+ghost use Rattle.std.specs.Prelude.{◌≡◌, ◌<◌, ◌≤◌, ◌++◌, length, drop, map, MatchResult, Ok, IfOk, OnOk};
 ghost use Rattle.tw_types.specs.Task.{is_eligible, is_for};
-ghost use Rattle.tw_types.specs.Actor.{may_take};
-ghost use Rattle.tw_code.specs.machine.State.{filled, ids_in, values_in};
+ghost use Rattle.tw_code.specs.machine.State.{filled, frame_of, ids_in, values_in};
 ghost use Rattle.tw_code.specs.machine.Rights.{first_rights};
 ghost use Rattle.tw_code.specs.machine.Opening.{main_task};
 ghost use Rattle.tw_types.specs.Value.{blank_of};
+ghost use Rattle.tw_context.specs.Attempts.{Fails, Gives};
 ghost use Rattle.tw_machine.specs.Args.{arg_of};
-ghost use Rattle.tw_machine.specs.Attempts.{IsRefused};
 
-use crate::refused::Refused;
-use crate::value::blank_of;
 use std::alloc::{AllocError, Global};
 use std::marker::Model;
-use tw_types::{Actor, Cause, DatumId, Kind, Scalar, Value};
+use tw_code::Procedure;
+use tw_context::{procedure_of, Failure, Frame};
+use tw_types::{Actor, Cause, DatumId, Kind, Scalar, TaskNo, Value};
 
 /// An argument: a value, or a right on a datum.
 #[derive(Drop)]
@@ -67,12 +64,6 @@ impl Task {
         })
     }
 
-    pub fn procedure(&self) -> u8
-        ensures { result ≡ self.now.procedure }
-    {
-        self.procedure
-    }
-
     pub fn priority(&self) -> i64
         ensures { result ≡ self.now.priority }
     {
@@ -83,27 +74,29 @@ impl Task {
     pub fn is_eligible(&self, actor: Actor) -> bool
         ensures { result ≡ is_eligible actor self.now }
     {
-        may_take(actor, self.kind) && is_for(self.target, actor.number())
+        actor.may_take(self.kind) && is_for(self.target, actor.number())
     }
 
-    /// The value registers at its start: its values in their order fill the first ones, which must be of their types, and
-    /// the others are blank.
-    pub fn values(&self, alloc: Global, registers: &[Scalar]) -> Result<Vec<Value>, Refused>
-        ensures { MatchResult result (λ values. filled (values_in self.now.args) registers.now ≡ Went values.items) (IsRefused (filled (values_in self.now.args) registers.now)) }
+    /// The task of the number, at its start: its values in their order fill the first value registers, which must be of
+    /// their types, and the others are blank; the ids of its rights fill the first right registers.
+    pub fn begin(
+        &self,
+        alloc: Global,
+        program: &[Procedure],
+        number: u64,
+    ) -> Result<Frame, Failure>
+        ensures { Gives (frame_of program.now number self.now) result }
     {
-        filled(alloc, &self.args, registers)
-    }
-
-    /// The right registers at its start: the ids of its rights in their order, and then empty ones.
-    pub fn rights(&self) -> [Option<DatumId>; 16]
-        ensures { result ≡ first_rights (ids_in self.now.args) }
-    {
-        first_rights(&self.args)
+        let procedure = procedure_of(program, self.procedure)?;
+        let values = filled(alloc, &self.args, procedure.registers.as_slice())?;
+        let rights = first_rights(&self.args);
+        let number = TaskNo::new(number);
+        Ok(Frame::first(alloc, number, self.procedure, values, rights))
     }
 }
 
-fn filled(alloc: Global, args: &[Arg], registers: &[Scalar]) -> Result<Vec<Value>, Refused>
-    ensures { MatchResult result (λ values. filled (values_in (map arg_of args.now)) registers.now ≡ Went values.items) (IsRefused (filled (values_in (map arg_of args.now)) registers.now)) }
+fn filled(alloc: Global, args: &[Arg], registers: &[Scalar]) -> Result<Vec<Value>, Failure>
+    ensures { MatchResult result (λ values. filled (values_in (map arg_of args.now)) registers.now ≡ Ok values.items) (Fails (filled (values_in (map arg_of args.now)) registers.now)) }
 {
     let mut values = first_values(alloc, args, registers)?;
     let others = &registers[values.len()..];
@@ -111,8 +104,8 @@ fn filled(alloc: Global, args: &[Arg], registers: &[Scalar]) -> Result<Vec<Value
     Ok(values)
 }
 
-fn first_values(alloc: Global, args: &[Arg], registers: &[Scalar]) -> Result<Vec<Value>, Refused>
-    ensures filled { MatchResult result (λ values. filled (values_in (map arg_of args.now)) registers.now ≡ Went (values.items ++ map blank_of (drop (length values.items) registers.now))) (IsRefused (filled (values_in (map arg_of args.now)) registers.now)) }
+fn first_values(alloc: Global, args: &[Arg], registers: &[Scalar]) -> Result<Vec<Value>, Failure>
+    ensures filled { MatchResult result (λ values. filled (values_in (map arg_of args.now)) registers.now ≡ Ok (values.items ++ map blank_of (drop (length values.items) registers.now))) (Fails (filled (values_in (map arg_of args.now)) registers.now)) }
     ensures short { IfOk result (λ values. length values.items ≤ length registers.now) }
 {
     let mut values = Vec::new(alloc);
@@ -120,7 +113,7 @@ fn first_values(alloc: Global, args: &[Arg], registers: &[Scalar]) -> Result<Vec
         if let Arg::Value(value) = arg {
             let declared = registers.get(values.len()).copied();
             if declared != Some(value.scalar()) {
-                return Err(Refused::Trap(Cause::WrongRegister));
+                return Err(Failure::Trap(Cause::WrongRegister));
             }
             values.push(value.try_clone(alloc)?)?;
         }
@@ -136,7 +129,7 @@ fn add_blanks(
     ensures { OnOk result (values.new.items ≡ values.old.items ++ map blank_of registers.now) }
 {
     for ty in registers {
-        values.push(blank_of(alloc, *ty))?;
+        values.push(Value::blank(alloc, *ty))?;
     }
     Ok(())
 }
@@ -156,18 +149,7 @@ fn first_rights(args: &[Arg]) -> [Option<DatumId>; 16]
     rights
 }
 
-/// Engines take control tasks, workers leaf tasks, servers none.
-fn may_take(actor: Actor, kind: Kind) -> bool
-    ensures { result ≡ may_take actor kind }
-{
-    match (actor, kind) {
-        (Actor::Engine(_), Kind::Control) | (Actor::Worker(_), Kind::Leaf) => true,
-        (Actor::Engine(_), Kind::Leaf)
-        | (Actor::Worker(_), Kind::Control)
-        | (Actor::Server(_), _) => false,
-    }
-}
-
+/// Whether a task with this target is for the actor of the number.
 fn is_for(target: Option<u8>, number: u8) -> bool
     ensures { result ≡ is_for target number }
 {

@@ -10,8 +10,8 @@ use Rattle.tw_machine.proofs.events.call.Goals as goal
 pub returns-in_default : goal.returns-in_default
 returns-in_default c = λ s.
     let free = found_view actor_cmp_total actor_cmp-IsAntisymmetric c.args.frames.now c.args.actor None c.in_default.ensures.value in (
-      call_idle c.args.program.now c.args.actor (with_frames (with_store s c.args.store.now) (frames_of c.args.frames.now.entries)) free,
-      ap (λ m. with_frames (with_store s c.args.store.now) (frames_of m.entries)) c.get_mut.follows.holds-at-none,
+      call_idle c.args.program.now c.args.actor (with_frames (with_store s c.args.store.now c.args.notices.now) (frames_of c.args.frames.now.entries)) free,
+      ap (λ m. with_frames (with_store s c.args.store.now c.args.notices.now) (frames_of m.entries)) c.get_mut.follows.holds-at-none,
     )
 
 pub call_of-requires : goal.call_of-requires
@@ -20,4 +20,4 @@ call_of-requires c = is_few _ _ _ (found_view actor_cmp_total actor_cmp-IsAntisy
 pub returns : goal.returns
 returns c = λ s.
     context_comes c.args.frames.now (c.get_mut.follows.lender c.call_of.new.frame) c.args.actor c.in-Some.frame.now c.call_of.new.frame c.in-Some.ensures.value (c.get_mut.follows.holds c.call_of.new.frame)
-    (λ actor. call_event c.args.program.now actor) c.args.store.now c.call_of.new.store c.call_of.result s c.call_of.ensures
+    (λ actor. call_event c.args.program.now actor) c.args.store.now c.call_of.new.store c.args.notices.now c.call_of.new.notices c.call_of.result s c.call_of.ensures

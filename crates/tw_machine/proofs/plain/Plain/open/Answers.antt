@@ -1,5 +1,5 @@
 use Rattle.std.proofs.Common.{sym, ap, subst}
-use Rattle.tw_code.specs.machine.Bounds.{AreBelow}
+use Rattle.tw_code.specs.machine.Bounds.{AreBelow, opening_bound}
 use Rattle.tw_code.specs.machine.State.{State}
 use Rattle.tw_machine.specs.PlainView.{PlainView}
 use Rattle.tw_machine.proofs.Opened.{is_small, none_of, opened_as}
@@ -16,4 +16,4 @@ pub returns-in-Ok-clause-below : goal.returns-in-Ok-clause-below
 returns-in-Ok-clause-below c =
     let none = none_of c.args.program c.procedures.result.now c.args.inputs.now c.procedures.ensures.is c.in_default.ensures in
     let same = opened_as c.args.program c.procedures-2.result.now c.main_params.result.now c.args.inputs.now c.in-Ok.state none c.procedures-2.ensures.is c.main_params.ensures c.in-Ok.ensures in
-    subst (λ (s : State). AreBelow 64 s) (sym same) (is_small c.args.program c.args.inputs.now none c.procedures.ensures.within)
+    subst (λ (s : State). AreBelow opening_bound s) (sym same) (is_small c.args.program c.args.inputs.now none c.procedures.ensures.within)

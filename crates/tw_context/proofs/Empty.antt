@@ -1,0 +1,23 @@
+-- Whether a list makes the empty set.
+use Rattle.std.proofs.Common.{◌≡◌, ◌==◌, ◌||◌, ℕ, Bool, true, false, List, [], ◌∷◌, length, refl, sym, ap, ◌∙◌, arith, nat_eq}
+use Rattle.std.proofs.lemmas.Bool.Decides.{nat_tests}
+use Rattle.std.specs.Cmp.{tied_itself}
+use Rattle.std.specs.FinSet.{contains, contains-empty, contains-insert, empty_of_len, from_list, insert, len, len-empty}
+use Rattle.std.specs.Ordering.{is_eq}
+use Rattle.tw_types.specs.declared.notice.Notice.{Notice}
+use Rattle.tw_types.specs.Notices.{Notices, notice_cmp}
+use Rattle.tw_types.proofs.NoticeOrder.{notice_cmp_total}
+
+-- an insertion isn't empty
+len_insert : (s : Notices) (n : Notice) → len (insert s n) ≡ 0 → ⊥
+len_insert s n e =
+    let none : contains (insert s n) n ≡ false = ap (λ (t : Notices). contains t n) (empty_of_len _ e) ∙ contains-empty notice_cmp n in
+    let some : contains (insert s n) n ≡ true = contains-insert notice_cmp_total s n n ∙ ap (λ r. is_eq r || contains s n) (tied_itself notice_cmp_total n) in
+    cc
+
+is_none : (k : ℕ) → (k ≡ 0 → ⊥) → (k == 0) ≡ false
+is_none k h = grind (arith, nat_tests)
+
+pub is_empty_set : (b : Bool) (k : ℕ) (ns : List Notice) → k ≡ length ns → b ≡ (k == 0) → b ≡ (len (from_list {R = notice_cmp} ns) == 0)
+is_empty_set b k [] count h = h ∙ ap (λ n. n == 0) (count ∙ sym (len-empty notice_cmp))
+is_empty_set b k (n ∷ ns) count h = h ∙ is_none k (λ e. omega (arith, e, count)) ∙ sym (is_none (len (insert (from_list ns) n)) (len_insert (from_list ns) n))

@@ -1,0 +1,6 @@
+pub mod Empty
+pub mod Stops
+pub mod Steps
+pub mod Told
+pub mod Turns
+pub mod Stretches

@@ -1,0 +1,159 @@
+//! Tasks that run.
+
+ghost use Rattle.std.specs.Prelude.{◌≡◌, ◌<◌, ◌^◌, ◌+◌, IfOk, None, is_none, slice_set, []};
+ghost use Rattle.std.specs.List.{list_all};
+ghost use Rattle.tw_code.specs.machine.Rights.{right_at};
+ghost use Rattle.tw_code.specs.machine.Position.{at_next_place};
+ghost use Rattle.tw_context.specs.Stretch.{IsStretch};
+
+use crate::local::count_local;
+use crate::position::Position;
+use std::alloc::{AllocError, Global};
+use std::marker::Model;
+use tw_code::Procedure;
+use tw_types::{DatumId, TaskNo, Value};
+
+/// A task that runs: where it stands, its right registers, and how many instructions it has done.
+#[derive(Drop)]
+pub struct Frame {
+    task: TaskNo,
+    procedure: u8,
+    position: Position,
+    rights: [Option<DatumId>; 16],
+    spent: u64,
+}
+
+impl Model for Frame {
+    ghost use Rattle.tw_code.specs.machine.State.{Frame as Meaning};
+
+    ghost Value = { Meaning };
+
+    ghost view = { λ f. record { task = f.task; procedure = f.procedure; position = f.position; rights = f.rights; spent = f.spent } };
+}
+
+impl Frame {
+    /// The task of the number, at the beginning of its procedure's code, with these registers.
+    pub fn first(
+        alloc: Global,
+        task: TaskNo,
+        procedure: u8,
+        values: Vec<Value>,
+        rights: [Option<DatumId>; 16],
+    ) -> Frame
+        ensures { result ≡ record { task = task; procedure = procedure; position = record { place = 0; values = values.items; loops = [] }; rights = rights; spent = 0 } }
+    {
+        Frame {
+            task,
+            procedure,
+            position: Position::first(alloc, values),
+            rights,
+            spent: 0,
+        }
+    }
+
+    pub fn task(&self) -> TaskNo
+        ensures { result ≡ self.now.task }
+    {
+        self.task
+    }
+
+    /// The number of its procedure in the program.
+    pub fn procedure(&self) -> u8
+        ensures { result ≡ self.now.procedure }
+    {
+        self.procedure
+    }
+
+    /// The place of the instruction that comes next.
+    pub fn place(&self) -> usize
+        ensures { result ≡ self.now.position.place }
+    {
+        self.position.place()
+    }
+
+    /// How many instructions it has done.
+    pub fn spent(&self) -> u64
+        ensures { result ≡ self.now.spent }
+    {
+        self.spent
+    }
+
+    /// How many local instructions its task does from here, before one that isn't local or can't be done; at most so
+    /// many.
+    pub fn local_steps(
+        &self,
+        alloc: Global,
+        program: &[Procedure],
+        most: u64,
+    ) -> Result<u64, AllocError>
+        ensures { IfOk result (IsStretch program.now self.now most) }
+    {
+        let Some(procedure) = program.get(usize::from(self.procedure)) else {
+            return Ok(0);
+        };
+        let mut position = self.position.try_clone(alloc)?;
+        count_local(alloc, procedure.code.as_slice(), &mut position, most)
+    }
+
+    pub fn position(&self) -> &Position
+        ensures { result.now ≡ self.now.position }
+    {
+        &self.position
+    }
+
+    /// The id in a right register, if it has one.
+    pub fn right(&self, register: u8) -> Option<DatumId>
+        ensures { result ≡ right_at self.now.rights register }
+    {
+        self.rights.get(usize::from(register)).copied().flatten()
+    }
+
+    /// Whether every right register is empty.
+    pub fn is_clear(&self) -> bool
+        ensures { result ≡ list_all is_none self.now.rights }
+    {
+        self.rights.iter().all(|right| right.is_none())
+    }
+
+    /// Empties a right register.
+    pub fn empty(&mut self, register: u8)
+        ensures { self.new ≡ record self.old { rights = slice_set self.old.rights register None } }
+    {
+        empty_in(&mut self.rights, register);
+    }
+
+    /// Goes on to the next place.
+    pub fn go_on(&mut self)
+        requires { self.old.position.place < 2 ^ 63 }
+        ensures { self.new ≡ record self.old { position = at_next_place self.old.position } }
+    {
+        self.position.go_on();
+    }
+
+    /// Counts one instruction more.
+    pub fn count(&mut self)
+        requires { self.old.spent < 2 ^ 63 }
+        ensures { self.new ≡ record self.old { spent = self.old.spent + 1 } }
+    {
+        self.spent += 1;
+    }
+
+    /// Moves it there by so many instructions.
+    pub fn move_to(&mut self, position: Position, steps: u64)
+        requires steps { steps < 2 ^ 63 }
+        requires spent { self.old.spent < 2 ^ 63 }
+        ensures { self.new ≡ record self.old { position = position; spent = self.old.spent + steps } }
+    {
+        self.position = position;
+        self.spent += steps;
+    }
+}
+
+fn empty_in(rights: &mut [Option<DatumId>], register: u8)
+    ensures { rights.new ≡ slice_set rights.old register None }
+{
+    let register = usize::from(register);
+    if register < rights.len() {
+        rights[register] = None;
+    }
+}

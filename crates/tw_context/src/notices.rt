@@ -1,0 +1,75 @@
+//! Notices.
+
+ghost use Rattle.std.specs.Prelude.{◌≡◌, ◌==◌, ◌++◌, map, OnErr, OnOk};
+ghost use Rattle.std.specs.FinSet.{empty, len};
+ghost use Rattle.tw_types.specs.Notices.{with_notices};
+ghost use Rattle.tw_types.specs.Store.{notice_to};
+
+use std::alloc::{AllocError, Global};
+use std::marker::Model;
+use tw_types::{DatumId, Notice, Subscriber};
+
+/// Notices that wait to be delivered; contracts see them as a set.
+#[derive(Drop)]
+pub struct Notices {
+    list: Vec<Notice>,
+}
+
+impl Model for Notices {
+    ghost use Rattle.tw_types.specs.Notices.{Notices as Meaning, notice_cmp};
+    ghost use Rattle.std.specs.FinSet.{code, from_list};
+    ghost use Rattle.std.specs.Coded.{codes};
+
+    ghost Value = { Meaning };
+
+    ghost coded = { code {R = notice_cmp} (Prim.hlevel codes) };
+
+    ghost view = { λ n. from_list {R = notice_cmp} n.list.items };
+}
+
+impl Notices {
+    pub fn new(alloc: Global) -> Notices
+        ensures { result ≡ empty }
+    {
+        Notices {
+            list: Vec::new(alloc),
+        }
+    }
+
+    pub fn is_empty(&self) -> bool
+        ensures { result ≡ (len self.now == 0) }
+    {
+        self.list.is_empty()
+    }
+
+    /// Adds a notice of the datum for each subscriber, or none where memory is refused.
+    pub fn tell(&mut self, id: DatumId, subscribers: &[Subscriber]) -> Result<(), AllocError>
+        ensures told { OnOk result (self.new ≡ with_notices self.old (map (notice_to id) subscribers.now)) }
+        ensures refused { OnErr result (self.new ≡ self.old) }
+    {
+        tell_in(&mut self.list, id, subscribers)
+    }
+}
+
+fn tell_in(
+    list: &mut Vec<Notice>,
+    id: DatumId,
+    subscribers: &[Subscriber],
+) -> Result<(), AllocError>
+    ensures told { OnOk result (list.new.items ≡ list.old.items ++ map (notice_to id) subscribers.now) }
+    ensures refused { OnErr result (list.new.items ≡ list.old.items) }
+{
+    let before = list.len();
+    for subscriber in subscribers {
+        let notice = Notice {
+            datum: id,
+            rule: subscriber.rule,
+            parameter: subscriber.parameter,
+        };
+        if list.push(notice).is_err() {
+            list.truncate(before);
+            return Err(AllocError);
+        }
+    }
+    Ok(())
+}

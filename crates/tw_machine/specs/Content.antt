@@ -1,9 +1,0 @@
--- What is in a datum, as the code keeps it.
-use Rattle.tw_types.specs.Store.{Content as Meaning, Unset, Set, Contains}
-use Rattle.tw_machine.specs.declared.datum.Content.{Content}
-use Rattle.tw_machine.specs.declared.datum.Content.TheVariants as content
-
-abbrev pub content_of : Content → Meaning
-content_of content.Unset = Unset
-content_of (content.Set value) = Set value
-content_of (content.Contains members) = Contains members

@@ -1,0 +1,4 @@
+pub mod Rising
+pub mod Order
+pub mod TreeAt
+pub mod Entries
