@@ -35,7 +35,7 @@ use Rattle.tw_code.specs.machine.Opening.{opening, opened, main_params, main_tas
 use Rattle.tw_code.specs.machine.Position.{Position}
 use Rattle.tw_code.specs.machine.Rights.{first_rights}
 use Rattle.tw_code.specs.machine.State.{State, Frame, values_in, ids_in, with_frame, context_of, after_context}
-use Rattle.tw_machine.specs.Stretch.{steps_from}
+use Rattle.tw_context.specs.Stretch.{steps_from}
 use Rattle.tw_session.specs.Run.{plain_setup}
 use Rattle.tw_session.specs.driver.Driving.{IsAlone, IsDone}
 use Rattle.tw_session.specs.driver.Next.{engine, instr_here, single, IsNext, IsDue}

@@ -8,7 +8,7 @@ use Rattle.tw_types.specs.Mode.{is_write}
 use Rattle.tw_code.specs.machine.Opening.{main_params}
 use Rattle.tw_machine.specs.declared.refusal.OpenRefusal.{OpenRefusal}
 use Rattle.tw_machine.specs.declared.refusal.OpenRefusal.TheVariants.{InputCount, Memory, MainShape}
-use Rattle.tw_machine.specs.Opening.{IsTold, number_of, refusal_of}
+use Rattle.tw_machine.specs.Opening.{IsTold, open_refusal_number, refusal_of}
 use Rattle.std.specs.Prelude.{MatchBool}
 use Rattle.tw_code.specs.machine.State.{State}
 use Rattle.tw_session.specs.declared.run.RunEnd.{RunEnd}
@@ -33,12 +33,12 @@ pub no_inputs : (program : List Procedure) → refusal_of program [] ≡ None �
 unfolding told_by are_outputs
 no_inputs program e = nothing_told (has_main_shape program) (are_outputs program) e
 
-inputs_are : (outputs : Bool) (why : OpenRefusal) → IsTold (told_by true outputs) why → (why ≡ Memory → ⊥) → (not outputs ≡ true) × (number_of why ≡ 1)
+inputs_are : (outputs : Bool) (why : OpenRefusal) → IsTold (told_by true outputs) why → (why ≡ Memory → ⊥) → (not outputs ≡ true) × (open_refusal_number why ≡ 1)
 unfolding told_by
 inputs_are true why told other = absurd (other told)
-inputs_are false why told other = (refl, ap number_of told)
+inputs_are false why told other = (refl, ap open_refusal_number told)
 
-pub inputs_told : (program : List Procedure) (why : OpenRefusal) → has_main_shape program ≡ true → IsTold (refusal_of program []) why → (why ≡ Memory → ⊥) → (has_inputs program ≡ true) × (number_of why ≡ 1)
+pub inputs_told : (program : List Procedure) (why : OpenRefusal) → has_main_shape program ≡ true → IsTold (refusal_of program []) why → (why ≡ Memory → ⊥) → (has_inputs program ≡ true) × (open_refusal_number why ≡ 1)
 unfolding told_by are_outputs
 inputs_told program why shape told other =
     inputs_are (are_outputs program) why (subst (λ (s : Bool). IsTold (told_by s (are_outputs program)) why) shape told) other
@@ -50,7 +50,7 @@ replies_by_run program r s end none run is =
 
 -- the line of a refused opening, where there are some
 pub replies_refused : (program : List Procedure) (why : OpenRefusal) (number : ℕ) (old text : List ℕ) → has_main_shape program ≡ true → IsTold (refusal_of program []) why → (why ≡ Memory → ⊥)
-    → number ≡ number_of why → old ≡ [] → text ≡ old ++ opening_line number → RepliesByOpening program (reply text Refused)
+    → number ≡ open_refusal_number why → old ≡ [] → text ≡ old ++ opening_line number → RepliesByOpening program (reply text Refused)
 replies_refused program why number old text shape told other is empty written =
     let known = inputs_told program why shape told other in
     let one : text ≡ opening_line 1 = written ∙ ap (λ (t : List ℕ). t ++ opening_line number) empty ∙ ap opening_line (is ∙ known.1) in

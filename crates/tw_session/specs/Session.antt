@@ -75,7 +75,7 @@ RepliesByProgram order program r =
 -- the bytes spell a program, or have a first fault
 abbrev pub RepliesByBytes : Order → Result (List Procedure) Fault → Reply → Type 0
 RepliesByBytes order (Ok program) r = RepliesByProgram order program r
-RepliesByBytes order (Err f) r = r ≡ reply (fault_line (fault.number_of f.no) f.offset) Refused
+RepliesByBytes order (Err f) r = r ≡ reply (fault_line (fault.fault_number f.no) f.offset) Refused
 
 -- the text is hex digits, two a byte, or isn't
 abbrev pub RepliesByText : Order → Result (List ℕ) FromHexError → Reply → Type 0

@@ -18,7 +18,7 @@ fn put_container_head(out: &mut Vec<u8>, datum: &Datum) -> Result<(), AllocError
         Scalar::Int => put(out, "int")?,
         Scalar::Text => put(out, "text")?,
     }
-    if datum.is_closed() {
+    if datum.closed() {
         put(out, " closed ")
     } else {
         put(out, " open ")
@@ -35,13 +35,11 @@ fn put_datum(alloc: Global, out: &mut Vec<u8>, datum: Option<&Datum>) -> Result<
     if let Some(value) = datum.value() {
         return put_value(alloc, out, value);
     }
-    match datum.member_count() {
-        Some(count) => {
-            put_container_head(out, datum)?;
-            put_decimal(alloc, out, count)
-        }
-        None => put(out, "unset"),
+    if datum.is_unset() {
+        return put(out, "unset");
     }
+    put_container_head(out, datum)?;
+    put_decimal(alloc, out, datum.len())
 }
 
 /// Adds the line of an output.

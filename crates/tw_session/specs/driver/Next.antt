@@ -10,7 +10,7 @@ use Rattle.tw_code.specs.declared.procedure.Procedure.{Procedure}
 use Rattle.tw_code.specs.declared.instr.Instr.{Instr}
 use Rattle.tw_code.specs.declared.instr.Instr.TheVariants as instr
 use Rattle.tw_code.specs.machine.State.{State, Frame}
-use Rattle.tw_machine.specs.Stretch.{IsStretch}
+use Rattle.tw_context.specs.Stretch.{IsStretch}
 
 abbrev pub engine : Actor
 engine = Engine 0

@@ -1,3 +1,4 @@
+use Rattle.tw_code.specs.machine.Bounds.{opening_bound}
 use Rattle.std.proofs.Common.{◌≡◌, ◌+◌, ◌*◌, List, Some, sym, ap, subst, ◌∙◌}
 use Rattle.std.specs.FinMap as fin
 use Rattle.tw_code.specs.declared.procedure.Procedure.{Procedure}

@@ -1,3 +1,4 @@
+use Rattle.tw_code.specs.machine.Bounds.{opening_bound}
 use Rattle.std.proofs.Common.{◌^◌, arith}
 use Rattle.tw_code.proofs.Growth.{below_more}
 use Rattle.tw_session.proofs.Never.{not_disabled}
