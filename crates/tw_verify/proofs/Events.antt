@@ -28,14 +28,14 @@ use Rattle.tw_code.specs.machine.Position.{Position}
 use Rattle.tw_code.specs.accepting.Typing.{value_types, start_typing, values_fit, asks_at}
 use Rattle.tw_budget.proofs.FrameLaws.{starts_within, below_budget}
 use Rattle.tw_code.specs.machine.Holders.{read_by, write_by, over, Typings, typing_of}
-use Rattle.tw_verify.specs.Invariant.{RightsFit, TypesHeld, CountsHeld, BudgetsHeld, IsHeld}
+use Rattle.tw_verify.specs.Invariant.{RightsFit, IsHeld}
 use Rattle.tw_code.specs.machine.Arguments.{params_in}
 use Rattle.tw_verify.specs.NoTrap.{ExactlyOne, HasOneStep, IsBelowBudget}
 use Rattle.tw_verify.proofs.Moving.{Accepts, Stands, IsLeftBy, inside, instr_there, its_turn, stands_on, typing_on, at_other, step_goes, steps_keep}
 use Rattle.tw_verify.proofs.Over.{over_params}
 use Rattle.tw_verify.proofs.Registers.{Undisturbed, Settles}
 use Rattle.tw_verify.proofs.States.{other_reads, other_writes, fits_of, held_on, all_empty, held_end, held_taken}
-use Rattle.tw_verify.proofs.Steps.{Happens, Keeps, goes_on, happens_went, happens_keeps, keeps_more, ok_keeps, keeps_went, waits_keeps, enabled_keeps, only_if_keeps}
+use Rattle.tw_verify.proofs.Steps.{Happens, Keeps, goes_on, happens_went, happens_keeps, keeps_more, ok_keeps, waits_keeps, enabled_keeps, only_if_keeps}
 use Rattle.tw_verify.proofs.Taking.{best_waits, filled_fits, args_values, start_fits, over_start}
 use Rattle.tw_verify.proofs.Turns.{IsLocal, IsCall, IsEnd, IsTurn, Leaves}
 use Rattle.tw_verify.proofs.Values.{all_yes}
@@ -267,17 +267,6 @@ module _ (program : List Procedure) (typings : Typings) (accepts : (k : ℕ) (p 
     step_keeps (Ask engine rule parameter) s held = tt
     step_keeps (Deliver server datum rule parameter) s held = tt
     step_keeps (Release engine rule) s held = tt
-
-    -- ---- a law a part: an event that goes keeps it, where all parts are held before
-
-    pub types_kept : (event : Event) (s next : State) → IsHeld program typings s → step program layout event s ≡ Went next → TypesHeld program typings next
-    types_kept event s next held e = (keeps_went (step program layout event s) (IsHeld program typings) next (step_keeps event s held) e).types
-
-    pub counts_kept : (event : Event) (s next : State) → IsHeld program typings s → step program layout event s ≡ Went next → CountsHeld program typings next
-    counts_kept event s next held e = (keeps_went (step program layout event s) (IsHeld program typings) next (step_keeps event s held) e).counts
-
-    pub budgets_kept : (event : Event) (s next : State) → IsHeld program typings s → step program layout event s ≡ Went next → BudgetsHeld program next
-    budgets_kept event s next held e = (keeps_went (step program layout event s) (IsHeld program typings) next (step_keeps event s held) e).budgets
 
     -- ---- runs
 

@@ -39,10 +39,10 @@ none_typed program p = record {
 }
 
 -- one place more
-pub one_more : (program : List Procedure) (p : Procedure) (typings : List Typing) (place : ℕ) (r : Reached) (i : Instr) → IsWellTyped program p typings place → HasReached program p typings (place + place) place r → slice_get p.code place ≡ Some i
+pub typed_more : (program : List Procedure) (p : Procedure) (typings : List Typing) (place : ℕ) (r : Reached) (i : Instr) → IsWellTyped program p typings place → HasReached program p typings (place + place) place r → slice_get p.code place ≡ Some i
     → refusal_in (asks_at program p place i r.typing) ≡ None → r.differs ≡ false → ((first : ℕ) (begun : Typing) → IsEndOf p.code first place → slice_get typings first ≡ Some begun → r.typing ≡ begun)
     → IsWellTyped program p (typings ++ r.typing ∷ []) (place + 1)
-one_more program p typings place r i w h here fine alike kept = record {
+typed_more program p typings place r i w h here fine alike kept = record {
   long = omega (arith, length-append typings (r.typing ∷ []), w.long);
   begins = λ u at. begins u h.first (get_pushed typings r.typing place 0 u w.long at);
   asks = λ k j u there at. asks k j u there (get_pushed typings r.typing place k u w.long at);

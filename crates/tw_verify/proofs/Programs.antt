@@ -107,8 +107,8 @@ refusal_by program all number p (fault.At violation place) main t at h = record 
 pub none_typed : (program : List Procedure) → AreTyped program [] 0
 none_typed program = record { long = refl; each = λ k p own at there. cc }
 
-pub one_more : (program : List Procedure) (all : List Findings) (number : ℕ) (p : Procedure) (own : Findings) → AreTyped program all number → slice_get program number ≡ Some p → AreFindings program p own → AreTyped program (all ++ own ∷ []) (number + 1)
-one_more program all number p own t here a = record {
+pub accepted_more : (program : List Procedure) (all : List Findings) (number : ℕ) (p : Procedure) (own : Findings) → AreTyped program all number → slice_get program number ≡ Some p → AreFindings program p own → AreTyped program (all ++ own ∷ []) (number + 1)
+accepted_more program all number p own t here a = record {
   long = omega (arith, length-append all (own ∷ []), t.long);
   each = λ k q found at there. each k q found at (get_pushed all own number k found t.long there);
 }

@@ -29,7 +29,7 @@ impl Model for Right {
 }
 
 impl Right {
-    /// How it is held; never `Val`.
+    /// How it is held.
     pub fn mode(self) -> Mode
         ensures { result ≡ self.mode }
     {

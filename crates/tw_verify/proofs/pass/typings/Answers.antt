@@ -10,7 +10,7 @@ use Rattle.tw_code.specs.accepting.WellTyped.{IsEndOf, IsWellTyped}
 use Rattle.tw_verify.specs.declared.rows.Reached.{Reached}
 use Rattle.tw_verify.specs.Passes.{first_row, HasChanged, lowest_at, violation_number}
 use Rattle.tw_verify.proofs.Lowest.{nothing_at}
-use Rattle.tw_verify.proofs.Mistakes.{none_typed, one_more, unreached, refusal_at}
+use Rattle.tw_verify.proofs.Mistakes.{none_typed, typed_more, unreached, refusal_at}
 use Rattle.tw_verify.proofs.Reaching.{IsRow, HasReached, start_row, rows_more, whole_slice}
 use Rattle.tw_verify.proofs.pass.typings.Goals as goal
 
@@ -75,7 +75,7 @@ loop-place-preserved c =
     let kept : c.keep.new.list.items ≡ all ++ r.typing ∷ [] = c.in_ok-keep.ensures in
     let same : length new ≡ length old = c.send_both.auto.rows ∙ ap length c.deref_mut.ensures.value in
     let whole : take c.loop-place.rows.len (new ++ drop (length new) old) ≡ new = whole_slice new old c.loop-place.rows.len same c.loop-place.rows.ok.0 in
-    let typed = one_more program p all place r i c.loop-place.invariant.typed row here nothing.0 nothing.1 (λ first begun end there. c.is_changed-changed.ensures.all first begun nothing.2 (subst (λ (xs : List Instr). IsEndOf xs first place) (sym c.as_slice-code.ensures) end) (subst (λ (ts : List Typing). slice_get ts first ≡ Some begun) (sym c.deref-in-loop-place.ensures.value) there)) in
+    let typed = typed_more program p all place r i c.loop-place.invariant.typed row here nothing.0 nothing.1 (λ first begun end there. c.is_changed-changed.ensures.all first begun nothing.2 (subst (λ (xs : List Instr). IsEndOf xs first place) (sym c.as_slice-code.ensures) end) (subst (λ (ts : List Typing). slice_get ts first ≡ Some begun) (sym c.deref-in-loop-place.ensures.value) there)) in
     let rows = rows_more program p all place i r.typing old new c.loop-place.invariant.typed.long here same (λ k x was. c.send_both.ensures k x (subst (λ (xs : List (Option Reached)). slice_get xs k ≡ Some x) (sym c.deref_mut.ensures.value) was)) c.loop-place.invariant.rows in
     record {
       typed = subst (λ (xs : List Typing). IsWellTyped program p xs (place + 1)) (sym kept) typed;

@@ -4,7 +4,7 @@ use Rattle.tw_verify.specs.declared.fault.Refusal.{Refusal}
 use Rattle.tw_verify.specs.declared.findings.Findings.{Findings}
 use Rattle.tw_verify.specs.Passes.{IsRefusal}
 use Rattle.tw_verify.specs.Verified.{AreTyped}
-use Rattle.tw_verify.proofs.Programs.{refusal_by, one_more}
+use Rattle.tw_verify.proofs.Programs.{refusal_by, accepted_more}
 use Rattle.tw_verify.proofs.verifier.all_findings.Goals as goal
 
 pub returns-in-Err-clause-refused : goal.returns-in-Err-clause-refused
@@ -26,4 +26,4 @@ loop-number-preserved c =
     let here = slice_get_read program (length program) number p refl c.loop-number-test.true c.index-procedures-number.is in
     let kept : c.keep.new.list.items ≡ c.loop-number.all.items ++ own ∷ [] = c.in_ok-keep.ensures in
     subst (λ (all : List Findings). AreTyped program all (number + 1)) (sym kept)
-    (one_more program c.loop-number.all.items number p own c.loop-number.invariant here c.in-Ok.ensures.accepted)
+    (accepted_more program c.loop-number.all.items number p own c.loop-number.invariant here c.in-Ok.ensures.accepted)
