@@ -1,5 +1,5 @@
 -- What a step leaves of the store, and what is read of it.
-use Rattle.std.proofs.Common.{◌≡◌, ◌<◌, ℕ, ℤ, Bool, true, false, cond, List, [], Some, None, refl, sym, ap, subst, ◌∙◌, IfSome, OnOk, OnErr, map as each}
+use Rattle.std.proofs.Common.{◌≡◌, ◌<◌, ℕ, ℤ, Bool, true, false, cond, List, [], Some, None, refl, sym, ap, subst, ◌∙◌, OnOk, OnErr, map as each}
 use Rattle.std.specs.declared.option.Option.{Option}
 use Rattle.std.specs.declared.result.Result.{Result}
 use Rattle.std.specs.declared.result.Result.TheVariants.{Ok, Err}
@@ -36,12 +36,6 @@ read_room r x e h = subst HasReadRoom e h
 
 pub write_room : (r : Option Datum) (x : Datum) → r ≡ Some x → HasWriteRoom r → x.writes < 9223372036854775808
 write_room r x e h = subst HasWriteRoom e h
-
-pub if_none : {A : Type 0} (r : Option A) (P : A → Type 0) → r ≡ None → IfSome r P
-if_none r P e = subst (λ o. IfSome o P) (sym e) tt
-
-pub if_some : {A : Type 0} (r : Option A) (x : A) (P : A → Type 0) → r ≡ Some x → P x → IfSome r P
-if_some r x P e h = subst (λ o. IfSome o P) (sym e) h
 
 -- what follows where it went, or where it was refused
 

@@ -148,12 +148,7 @@ impl Data {
     }
 
     /// Puts a member, with its read, at a subscript of a container, in place of one that is there.
-    pub fn insert(
-        &mut self,
-        id: DatumId,
-        subscript: i64,
-        member: DatumId,
-    ) -> Result<(), AllocError>
+    pub fn insert(&mut self, id: DatumId, subscript: i64, member: DatumId) -> Result<(), AllocError>
         requires { may_insert (get self.old.live id) (get self.old.live member) ≡ Ok tt }
         ensures inserted { OnOk result (self.new ≡ inserted self.old id subscript member) }
         ensures refused { OnErr result (self.new ≡ self.old) }

@@ -128,12 +128,7 @@ impl<V: Copy> Tree<V> {
     }
 
     /// Puts a value at a key.
-    pub fn insert(
-        &mut self,
-        alloc: Global,
-        key: i64,
-        value: V,
-    ) -> Result<(), AllocError>
+    pub fn insert(&mut self, alloc: Global, key: i64, value: V) -> Result<(), AllocError>
         requires room { length self.old.entries < 2 ^ 64 - 1 }
         ensures added { OnOk result (self.new.entries ≡ put int_cmp key value self.old.entries) }
         ensures refused { OnErr result (self.new ≡ self.old) }

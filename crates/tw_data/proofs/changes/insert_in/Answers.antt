@@ -1,4 +1,4 @@
-use Rattle.std.proofs.Common.{◌≡◌, ap, ◌∙◌, arith, to_z-of_z, to_z, of_z, w64, Some, None, OnOk, OnErr}
+use Rattle.std.proofs.Common.{◌≡◌, ap, ◌∙◌, arith, to_z-of_z, to_z, of_z, w64, Some, None}
 use Rattle.tw_data.specs.Parts.{data_of}
 use Rattle.tw_data.proofs.Live.{found, written, same}
 use Rattle.std.specs.FinMap.{insert}
@@ -18,7 +18,7 @@ returns-clause-inserted c =
     let key : to_z w64 (of_z w64 c.args.subscript) ≡ c.args.subscript = grind (arith, to_z-of_z) in
     let changes = written c.args.live.now (c.get_mut.follows.lender c.add_member.new.self) c.args.id c.in-Some.datum.now c.add_member.new.self c.in-Some.ensures.value (c.get_mut.follows.holds c.add_member.new.self) in
     on_ok c.add_member.result c.add_member.ensures.added (λ added. λ s view. changed_is s _ _ c.args.id c.in-Some.datum.now (with_member c.args.subscript c.args.member) view (found c.args.live.now c.args.id (Some c.in-Some.datum.now) c.in-Some.ensures.value)
-        (changes ∙ ap (insert (data_of c.args.live.now.entries) c.args.id) (added ∙ ap (λ k. with_member k c.args.member c.in-Some.datum.now) key)))
+    (changes ∙ ap (insert (data_of c.args.live.now.entries) c.args.id) (added ∙ ap (λ k. with_member k c.args.member c.in-Some.datum.now) key)))
 
 pub returns-clause-refused : goal.returns-clause-refused
 returns-clause-refused c =

@@ -13,7 +13,7 @@ pub returns-clause-noted : goal.returns-clause-noted
 returns-clause-noted c =
     let changes = written c.args.live.now (c.get_mut.follows.lender c.add_subscriber.new.self) c.args.id c.in-Some.datum.now c.add_subscriber.new.self c.in-Some.ensures.value (c.get_mut.follows.holds c.add_subscriber.new.self) in
     on_ok c.add_subscriber.result c.add_subscriber.ensures.added (λ added. λ s view. changed_is s _ _ c.args.id c.in-Some.datum.now (with_subscriber c.args.subscriber) view (found c.args.live.now c.args.id (Some c.in-Some.datum.now) c.in-Some.ensures.value)
-        (changes ∙ ap (insert (data_of c.args.live.now.entries) c.args.id) added))
+    (changes ∙ ap (insert (data_of c.args.live.now.entries) c.args.id) added))
 
 pub returns-clause-refused : goal.returns-clause-refused
 returns-clause-refused c =
