@@ -77,8 +77,8 @@ impl Task {
         actor.may_take(self.kind) && is_for(self.target, actor.number())
     }
 
-    /// The task of the number, at its start: its values in their order fill the first value registers, which must be of
-    /// their types, and the others are blank; the ids of its rights fill the first right registers.
+    /// The task of the number, at its start: its values in their order fill the first value registers, which must
+    /// be of their types, and the others are blank; the ids of its rights fill the first right registers.
     pub fn begin(&self, alloc: Global, program: &[Procedure], number: u64) -> Result<Frame, Failure>
         ensures { Gives (frame_of program.now number self.now) result }
     {
