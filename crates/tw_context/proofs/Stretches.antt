@@ -7,7 +7,6 @@ use Rattle.tw_types.proofs.Outcomes.{same_went, went_first}
 use Rattle.tw_code.specs.declared.instr.Instr.{Instr}
 use Rattle.tw_code.specs.declared.procedure.Procedure.{Procedure}
 use Rattle.tw_code.specs.machine.State.{Frame}
-use Rattle.tw_code.specs.machine.Arguments.{procedure_of}
 use Rattle.tw_code.specs.machine.Position.{Position}
 use Rattle.tw_code.specs.machine.Machine.{local_step, local_steps}
 use Rattle.tw_context.specs.Stretch.{IsStretch, steps_from}

@@ -12,8 +12,8 @@ use Rattle.tw_context.specs.Attempts.{Fails}
 abbrev pub context : Store → Notices → Frame → Context
 context s notices f = record { store = s; notices = notices; rights = f.rights; position = f.position }
 
--- store, notices and frame are left as the instruction's context is, with the same task in the frame; one that fails leaves
--- all as it was
+-- store, notices and frame are left as the instruction's context is, with the same task in the frame; one that
+-- fails leaves all as it was
 abbrev pub Does : DataInstr → Store → Notices → Frame → Result (Unit {0}) Failure → Store → Notices → Frame → Type 0
 Does i s n f (Ok _) t m g = (data_instr i (context s n f) ≡ Ok (context t m g)) × (g ≡ record f { position = g.position; rights = g.rights })
 Does i s n f (Err why) t m g = Fails (data_instr i (context s n f)) why × (t ≡ s) × (m ≡ n) × (g ≡ f)

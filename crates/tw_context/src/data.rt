@@ -37,12 +37,7 @@ fn datum_at<'a>(store: &'a Data, frame: &Frame, register: u8) -> Option<&'a Datu
 }
 
 /// Sets a scalar, and adds the notices of those who hear of it; or changes nothing where memory is refused.
-fn set(
-    store: &mut Data,
-    notices: &mut Notices,
-    id: DatumId,
-    value: Value,
-) -> Result<(), AllocError>
+fn set(store: &mut Data, notices: &mut Notices, id: DatumId, value: Value) -> Result<(), AllocError>
     requires { may_store value (get store.old.live id) ≡ Ok tt }
     ensures set { OnOk result (store.new ≡ stored store.old id value) }
     ensures told { OnOk result (notices.new ≡ with_notices notices.old (notices_of_stored store.old id value)) }

@@ -102,7 +102,7 @@ impl Frame {
     }
 
     /// The id in a right register, if it has one.
-    pub fn right(&self, register: u8) -> Option<DatumId>
+    pub(crate) fn right(&self, register: u8) -> Option<DatumId>
         ensures { result ≡ right_at self.now.rights register }
     {
         self.rights.get(usize::from(register)).copied().flatten()
@@ -116,14 +116,14 @@ impl Frame {
     }
 
     /// Empties a right register.
-    pub fn empty(&mut self, register: u8)
+    pub(crate) fn empty(&mut self, register: u8)
         ensures { self.new ≡ record self.old { rights = slice_set self.old.rights register None } }
     {
         empty_in(&mut self.rights, register);
     }
 
     /// Goes on to the next place.
-    pub fn go_on(&mut self)
+    pub(crate) fn go_on(&mut self)
         requires { self.old.position.place < 2 ^ 63 }
         ensures { self.new ≡ record self.old { position = at_next_place self.old.position } }
     {

@@ -1,7 +1,8 @@
 //! A task that runs, by itself and on data: the instructions of the plain machine, one function each.
 //!
-//! A local instruction changes a `Position`, one on data also the store, its notices and the right registers. Each goes, or
-//! says why not: a cause of the machine, or want of memory. Only what is asked of an event can also be not enabled.
+//! A local instruction changes a `Position`, one on data also the store, its notices and the right registers. Each
+//! goes, or says why not: a cause of the machine, or want of memory. Only what is asked of an event can also be not
+//! enabled.
 #![tactic(auto)]
 
 mod code;

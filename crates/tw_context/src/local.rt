@@ -231,11 +231,7 @@ fn end(position: &mut Position) -> Result<(), Failure>
     }
 }
 
-fn local_instr(
-    alloc: Global,
-    instr: &LocalInstr,
-    position: &mut Position,
-) -> Result<(), Failure>
+fn local_instr(alloc: Global, instr: &LocalInstr, position: &mut Position) -> Result<(), Failure>
     requires { position.old.place < 2 ^ 63 }
     ensures { Leaves (local_instr instr.now position.old) position.old result position.new }
 {

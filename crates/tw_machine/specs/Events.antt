@@ -22,8 +22,8 @@ instr_of program frame = do
   p ← procedure_of program frame.procedure
   instr_at p.code frame.position.place
 
--- what comes of it in each state where the actor has this frame: the state with the other frame, or what stops it and no
--- change
+-- what comes of it in each state where the actor has this frame: the state with the other frame, or what stops it
+-- and no change
 abbrev pub FrameComes : (Actor → State → Outcome State) → Frame → Result (Unit {0}) Stopped → Frame → Type 0
 FrameComes event f (Ok _) g = (s : State) (actor : Actor) → get s.frames actor ≡ Some f → event actor s ≡ Went (with_frame s actor g)
 FrameComes event f (Err why) g = ((s : State) (actor : Actor) → get s.frames actor ≡ Some f → IsStopped (event actor s) why) × (g ≡ f)

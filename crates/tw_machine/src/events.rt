@@ -14,7 +14,7 @@ use std::alloc::Global;
 use std::collections::BTreeMap;
 use tw_code::{Instr, Procedure};
 use tw_context::{
-    data_instr, instr_at, local_steps, procedure_of, Failure, Frame, Notices, Stopped,
+    Failure, Frame, Notices, Stopped, data_instr, instr_at, local_steps, procedure_of,
 };
 use tw_data::Data;
 use tw_types::{Actor, Cause};

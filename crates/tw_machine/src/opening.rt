@@ -6,7 +6,7 @@ ghost use Rattle.tw_types.specs.Mode.{is_write};
 ghost use Rattle.tw_machine.specs.Opening.{has_no_input, refusal_of};
 
 use crate::refusal::OpenRefusal;
-use tw_code::{has_main_shape, main_params, Procedure};
+use tw_code::{Procedure, has_main_shape, main_params};
 use tw_types::{Input, Param};
 
 /// What refuses an opening, if anything but want of memory does.

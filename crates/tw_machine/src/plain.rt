@@ -13,7 +13,7 @@ use crate::state::State;
 use crate::stepped::Stepped;
 use std::alloc::Global;
 use std::marker::Model;
-use tw_code::{main_params, Program};
+use tw_code::{Program, main_params};
 use tw_types::{Ending, Event, Input, Layout};
 
 /// A program that runs on the actors of a layout, one event at a time.

@@ -12,7 +12,7 @@ ghost use Rattle.tw_machine.specs.Args.{arg_of};
 use std::alloc::{AllocError, Global};
 use std::marker::Model;
 use tw_code::Procedure;
-use tw_context::{procedure_of, Failure, Frame};
+use tw_context::{Failure, Frame, procedure_of};
 use tw_types::{Actor, Cause, DatumId, Kind, Scalar, TaskNo, Value};
 
 /// An argument: a value, or a right on a datum.
@@ -77,14 +77,9 @@ impl Task {
         actor.may_take(self.kind) && is_for(self.target, actor.number())
     }
 
-    /// The task of the number, at its start: its values in their order fill the first value registers, which must be of
-    /// their types, and the others are blank; the ids of its rights fill the first right registers.
-    pub fn begin(
-        &self,
-        alloc: Global,
-        program: &[Procedure],
-        number: u64,
-    ) -> Result<Frame, Failure>
+    /// The task of the number, at its start: its values in their order fill the first value registers, which must
+    /// be of their types, and the others are blank; the ids of its rights fill the first right registers.
+    pub fn begin(&self, alloc: Global, program: &[Procedure], number: u64) -> Result<Frame, Failure>
         ensures { Gives (frame_of program.now number self.now) result }
     {
         let procedure = procedure_of(program, self.procedure)?;
