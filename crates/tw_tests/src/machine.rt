@@ -50,9 +50,8 @@ fn number_in(datum: Option<&Datum>) -> Option<i64> {
 }
 
 /// Takes main and does its INT; whether both went.
-#[tactic(auto, using(tw_code::specs::Growth::below_more))]
 fn begun(alloc: Global, plain: &mut Plain) -> bool
-    requires { AreBelow 64 plain.old.state }
+    requires below { AreBelow 64 plain.old.state }
 {
     let taken = plain.step(alloc, Event::Take(ENGINE));
     let done = plain.step(alloc, Event::Local(ENGINE, 1));
@@ -65,7 +64,10 @@ fn an_opened_machine(rt: HostRuntime) -> Result<(), Fail> {
     let state = plain.state();
     let is_first = state.outputs() == [DatumId::new(1)].as_slice();
     let output = counts(state.datum(DatumId::new(1)));
-    let told = (plain.program().procedures().len(), plain.layout() == Layout::new(2, 2, 2)?);
+    let told = (
+        plain.program().procedures().len(),
+        plain.layout() == Layout::new(2, 2, 2)?,
+    );
     assert_eq!(rt; (is_first, output), (true, Some((1, 1, false))));
     assert_eq!(rt; told, (1, true));
     Ok(())

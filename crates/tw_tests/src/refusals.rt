@@ -30,7 +30,8 @@ fn faults_are_told(rt: HostRuntime) -> Result<(), Fail> {
 #[test]
 fn limits_are_told(rt: HostRuntime) -> Result<(), Fail> {
     let alloc = rt.alloc();
-    let text = format!(in alloc; "{}; {}; {}; {}",
+    let text = format!(in alloc;
+        "{}; {}; {}; {}",
         BudgetRefusal::TooLarge,
         BudgetRefusal::Memory,
         NoMemory,

@@ -99,5 +99,8 @@ fn the_last_argument_is_popped(rt: HostRuntime) {
     );
     let len = bundle.len();
     bundle.shut();
-    assert_eq!(rt; (taken, last, len), ((true, true), (Some(3), Some(7), None), 0));
+    assert_eq!(rt;
+        (taken, last, len),
+        ((true, true), (Some(3), Some(7), None), 0)
+    );
 }

@@ -3,9 +3,7 @@
 use std::alloc::Global;
 use std::io;
 use std::io::{ErrorKind, Read};
-use std::sync::Wait;
 use std::test::Fail;
-use std::thread::Threads;
 use tw_session::{session, without_words};
 
 /// `examples/store_seven.hex`.
@@ -21,7 +19,7 @@ pub fn words(alloc: Global, line: &str) -> Result<Vec<String>, Fail> {
 }
 
 /// The status and the text of a session.
-fn answer<H: AllocGlobal + Threads + Wait + Sync>(rt: &H, line: &str, input: &str) -> Result<(u8, String), Fail> {
+fn answer(rt: &impl AllocGlobal, line: &str, input: &str) -> Result<(u8, String), Fail> {
     let words = words(rt.alloc(), line)?;
     let mut reader = input.as_bytes();
     let mut writer = Vec::new(rt.alloc());
@@ -57,7 +55,7 @@ fn help_of_a_command(rt: HostRuntime) -> Result<(), Fail> {
 }
 
 /// The status, the text and what is left of the input, where there are no words.
-fn wordless<H: AllocGlobal + Threads + Wait + Sync>(rt: &H) -> (u8, usize) {
+fn wordless(rt: &impl AllocGlobal) -> (u8, usize) {
     let mut reader = STORE_SEVEN.as_bytes();
     let mut writer = Vec::new(rt.alloc());
     let status = session(rt, &[], &mut reader, &mut writer).code();
@@ -65,7 +63,7 @@ fn wordless<H: AllocGlobal + Threads + Wait + Sync>(rt: &H) -> (u8, usize) {
 }
 
 /// How much of the input is left after a session.
-fn unread<H: AllocGlobal + Threads + Wait + Sync>(rt: &H, line: &str) -> Result<(u8, usize), Fail> {
+fn unread(rt: &impl AllocGlobal, line: &str) -> Result<(u8, usize), Fail> {
     let words = words(rt.alloc(), line)?;
     let mut reader = STORE_SEVEN.as_bytes();
     let mut writer = Vec::new(rt.alloc());
@@ -84,7 +82,7 @@ fn refused_words_read_nothing(rt: HostRuntime) -> Result<(), Fail> {
 }
 
 /// The status and the text of a run whose input is so many times one byte.
-fn long_run<H: AllocGlobal + Threads + Wait + Sync>(rt: &H, byte: u8, length: u64) -> Result<(u8, String), Fail> {
+fn long_run(rt: &impl AllocGlobal, byte: u8, length: u64) -> Result<(u8, String), Fail> {
     let words = words(rt.alloc(), "run")?;
     let mut reader = io::repeat(byte).take(length);
     let mut writer = Vec::new(rt.alloc());

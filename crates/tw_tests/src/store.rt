@@ -170,7 +170,10 @@ fn notices_come_in_the_order_of_asking(rt: HostRuntime) -> Result<(), Fail> {
         are_in_order = are_in_order && note(&mut store, 1) == Some((1, 1, parameter));
     }
     let last = note(&mut store, 1);
-    assert_eq!(rt; (are_noted, is_dropped, are_in_order, last), (true, true, true, None));
+    assert_eq!(rt;
+        (are_noted, is_dropped, are_in_order, last),
+        (true, true, true, None)
+    );
     Ok(())
 }
 
@@ -184,7 +187,11 @@ fn a_freed_container_frees_its_member(rt: HostRuntime) -> Result<(), Fail> {
     );
     let before = (is_live(&store, 1), is_live(&store, 2));
     let is_dropped = read_dropped(&mut store, 1);
-    let after = (is_live(&store, 1), is_live(&store, 2), store.next().number());
+    let after = (
+        is_live(&store, 1),
+        is_live(&store, 2),
+        store.next().number(),
+    );
     assert_eq!(rt; (went, before), ((true, None, true), (true, true)));
     assert_eq!(rt; (is_dropped, after), (true, (false, false, 4)));
     Ok(())
@@ -197,7 +204,10 @@ fn insert_twice(rt: HostRuntime) -> Result<(), Fail> {
     let other = counts(store.view(DatumId::new(3)));
     let container = members(store.view(DatumId::new(1)));
     assert_eq!(rt; answers, (None, Some(3)));
-    assert_eq!(rt; (other, container), (Some((1, 1, false)), Some((true, 1, 5, 2))));
+    assert_eq!(rt;
+        (other, container),
+        (Some((1, 1, false)), Some((true, 1, 5, 2)))
+    );
     Ok(())
 }
 
@@ -208,6 +218,9 @@ fn freed_at_the_store_and_not_before(rt: HostRuntime) -> Result<(), Fail> {
     let before = is_live(&store, 1);
     let is_stored = stored(&mut store, 1, 7);
     let after = is_live(&store, 1);
-    assert_eq!(rt; (is_dropped, before, is_stored, after), (true, true, true, false));
+    assert_eq!(rt;
+        (is_dropped, before, is_stored, after),
+        (true, true, true, false)
+    );
     Ok(())
 }

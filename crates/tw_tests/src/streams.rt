@@ -5,16 +5,14 @@ ghost use Rattle.std.specs.Prelude.{Some};
 use crate::sessions::{STORE_SEVEN, words};
 use std::io;
 use std::io::{ErrorKind, Read, Write};
-use std::sync::Wait;
 use std::test::Fail;
-use std::thread::Threads;
 use tw_session::session;
 
 /// What a run of `STORE_SEVEN` writes.
 const REPORT: &str = "out 0 int 7\nquiet\n";
 
 /// The status and the text of a run over a reader.
-fn run_over<H: AllocGlobal + Threads + Wait + Sync, R: Read>(rt: &H, reader: &mut R) -> Result<(u8, String), Fail> {
+fn run_over<R: Read>(rt: &impl AllocGlobal, reader: &mut R) -> Result<(u8, String), Fail> {
     let words = words(rt.alloc(), "run")?;
     let mut writer = Vec::new(rt.alloc());
     let status = session(rt, words.as_slice(), reader, &mut writer).code();
@@ -22,7 +20,7 @@ fn run_over<H: AllocGlobal + Threads + Wait + Sync, R: Read>(rt: &H, reader: &mu
 }
 
 /// The status of a run into a writer.
-fn run_into<H: AllocGlobal + Threads + Wait + Sync, W: Write>(rt: &H, writer: &mut W) -> Result<u8, Fail> {
+fn run_into<W: Write>(rt: &impl AllocGlobal, writer: &mut W) -> Result<u8, Fail> {
     let words = words(rt.alloc(), "run")?;
     let mut reader = STORE_SEVEN.as_bytes();
     Ok(session(rt, words.as_slice(), &mut reader, writer).code())
@@ -137,15 +135,15 @@ impl Write for Full {
 
 /// The status of a run into a writer with so much room, how often it was called after it was full, and whether it has
 /// the report's front.
-fn run_with_room<H: AllocGlobal + Threads + Wait + Sync>(rt: &H, room: usize) -> Result<(u8, usize, bool), Fail> {
+fn run_with_room(rt: &impl AllocGlobal, room: usize) -> Result<(u8, usize, bool), Fail> {
     let mut writer = Full {
         taken: Vec::new(rt.alloc()),
         calls_after: 0,
         room,
     };
     let status = run_into(rt, &mut writer)?;
-    let is_front =
-        writer.taken.len() == room && REPORT.as_bytes().starts_with(writer.taken.as_slice());
+    let is_front = writer.taken.len() == room
+        && REPORT.as_bytes().starts_with(writer.taken.as_slice());
     Ok((status, writer.calls_after, is_front))
 }
 

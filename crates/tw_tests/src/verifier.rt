@@ -33,7 +33,11 @@ fn has_output(typing: Option<&Typing>) -> Option<bool> {
 fn a_signature_and_needs(rt: HostRuntime) -> Result<(), Fail> {
     let verified = store_seven(rt.alloc())?;
     let signature = verified.signature();
-    let told = (signature.len(), writes_int(signature.first()), verified.needs());
+    let told = (
+        signature.len(),
+        writes_int(signature.first()),
+        verified.needs(),
+    );
     assert_eq!(rt; told, (1, Some(true), (0, 0)));
     Ok(())
 }

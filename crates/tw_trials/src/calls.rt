@@ -284,4 +284,3 @@ pub fn expected(model: &mut Model, alloc: Global, call: Call) -> Result<Answer, 
         Call::TakeNote(server) => model.take_note(u64::from(server)),
     })
 }
-

@@ -61,11 +61,19 @@ fn verifier_trials(rt: &HostRuntime) -> io::Result<()> {
     let alloc = rt.alloc();
     for (digits, count) in [(1, 11), (2, 121), (3, 1_331), (4, 14_641)] {
         print!(rt; "{digits} instructions, ")?;
-        tell(rt, "the verifier and all walks", search::all_code(alloc, digits, count))?;
+        tell(
+            rt,
+            "the verifier and all walks",
+            search::all_code(alloc, digits, count),
+        )?;
     }
     for (digits, count) in [(4, 14_641), (5, 161_051)] {
         print!(rt; "{digits} instructions and RET, ")?;
-        tell(rt, "the verifier and all walks", search::structured_code(alloc, digits, count))?;
+        tell(
+            rt,
+            "the verifier and all walks",
+            search::structured_code(alloc, digits, count),
+        )?;
     }
     Ok(())
 }
@@ -81,7 +89,11 @@ fn long_trials(rt: &HostRuntime) -> io::Result<()> {
         None => println!(rt; "each front of a program lacks bytes: agrees")?,
         Some(length) => println!(rt; "each front of a program lacks bytes: not that of {length}")?,
     }
-    tell_whether(rt, "a million turns in one event", Ok(runs::million_turns_go(alloc)))
+    tell_whether(
+        rt,
+        "a million turns in one event",
+        Ok(runs::million_turns_go(alloc)),
+    )
 }
 
 fn main(rt: HostRuntime) -> io::Result<()> {

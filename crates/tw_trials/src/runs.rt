@@ -32,9 +32,8 @@ fn told(frame: Option<&Frame>) -> Option<(usize, u64)> {
 }
 
 /// What main has done after so many local instructions, and whether its end then makes the machine quiet.
-#[tactic(auto, using(tw_code::specs::Growth::below_more))]
 fn run(alloc: Global, plain: &mut Plain) -> (Option<(usize, u64)>, bool)
-    requires { AreBelow 64 plain.old.state }
+    requires below { AreBelow 64 plain.old.state }
 {
     let taken = plain.step(alloc, Event::Take(ENGINE));
     let stretch = plain.step(alloc, Event::Local(ENGINE, 1_002_001));
