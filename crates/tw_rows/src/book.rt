@@ -1,7 +1,7 @@
 //! What earlier lines have named.
 
 use crate::complaint::Complaint;
-use std::alloc::{AllocFailed, Global};
+use std::alloc::{AllocError, Global};
 use std::collections::{BTreeMap, BTreeSet};
 
 /// The bytes that earlier lines named, and the names of the cases so far.
@@ -28,7 +28,7 @@ impl Book {
     pub fn named(&self, name: &str) -> Result<&[u8], Complaint> {
         match self.bytes.get(name) {
             Some(bytes) => Ok(bytes.as_slice()),
-            None => Err(Complaint("no earlier line names these bytes")),
+            None => Err(Complaint::UnknownName),
         }
     }
 
@@ -36,12 +36,13 @@ impl Book {
     pub fn name(&mut self, name: String, bytes: Vec<u8>) -> Result<(), Complaint> {
         match self.bytes.insert(name, bytes)? {
             None => Ok(()),
-            Some(_) => Err(Complaint("the name is taken")),
+            Some(_) => Err(Complaint::TakenName),
         }
     }
 
-    /// Notes a case, and tells whether no earlier one has its name.
-    pub fn note(&mut self, name: String) -> Result<bool, AllocFailed<String>> {
-        self.cases.insert(name)
+    /// Notes a case, and tells whether it has a name that no earlier one has.
+    pub fn note(&mut self, alloc: Global, name: &str) -> Result<bool, AllocError> {
+        let is_new = self.cases.insert(name.to_string(alloc)?)?;
+        Ok(is_new && !name.is_empty())
     }
 }

@@ -16,7 +16,7 @@ pub fn read_bytes(alloc: Global, book: &Book, text: &str) -> Result<Vec<u8>, Com
 fn first_of(mut bytes: Vec<u8>, count: &str) -> Result<Vec<u8>, Complaint> {
     let count = count.parse::<usize>()?;
     if count > bytes.len() {
-        return Err(Complaint("there are fewer bytes than are to be left"));
+        return Err(Complaint::CutPastEnd);
     }
     bytes.truncate(count);
     Ok(bytes)
@@ -40,7 +40,7 @@ fn changed(mut bytes: Vec<u8>, changes: &str) -> Result<Vec<u8>, Complaint> {
 /// Writes over one byte, at a place that counts from 0.
 fn write_over(bytes: &mut Vec<u8>, change: &str) -> Result<(), Complaint> {
     let Some((place, digits)) = change.split_once('=') else {
-        return Err(Complaint("a change is PLACE=DIGITS"));
+        return Err(Complaint::Change);
     };
     let place = place.parse::<usize>()?;
     let byte = u8::from_str_radix(digits, 16)?;
@@ -49,7 +49,7 @@ fn write_over(bytes: &mut Vec<u8>, change: &str) -> Result<(), Complaint> {
             *slot = byte;
             Ok(())
         }
-        None => Err(Complaint("no byte is at the place of a change")),
+        None => Err(Complaint::ChangePastEnd),
     }
 }
 

@@ -26,13 +26,16 @@ pub fn play_line<H: AllocGlobal>(
 fn name_line(alloc: Global, book: &mut Book, text: &str) -> Result<Option<String>, AllocError> {
     match name_bytes(alloc, book, text) {
         Ok(()) => Ok(None),
-        Err(Complaint(why)) => Ok(Some(format!(in alloc; "let {text}: {why}")?)),
+        Err(complaint) => {
+            let why = complaint.text();
+            Ok(Some(format!(in alloc; "let {text}: {why}")?))
+        }
     }
 }
 
 fn name_bytes(alloc: Global, book: &mut Book, text: &str) -> Result<(), Complaint> {
     let Some((name, digits)) = text.split_once(" = ") else {
-        return Err(Complaint("a name is given as NAME = BYTES"));
+        return Err(Complaint::Naming);
     };
     let bytes = read_bytes(alloc, book, digits)?;
     book.name(name.to_string(alloc)?, bytes)
@@ -43,8 +46,8 @@ fn case_line<H: AllocGlobal>(rt: &H, book: &mut Book, line: &str) -> Result<Stri
     let alloc = rt.alloc();
     let (name, rest) = first_field(line);
     let (inputs, wanted) = last_field(rest);
-    if !book.note(name.to_string(alloc)?)? {
-        return format!(in alloc; "{name}: an earlier case has this name");
+    if !book.note(alloc, name)? {
+        return format!(in alloc; "{name}: the case has no name of its own");
     }
     told(alloc, name, wanted, outcome(rt, book, inputs))
 }
@@ -57,7 +60,10 @@ fn told(
 ) -> Result<String, AllocError> {
     match outcome {
         Ok(got) => compared(alloc, name, wanted, got.as_str()),
-        Err(Complaint(why)) => format!(in alloc; "{name}: {why}"),
+        Err(complaint) => {
+            let why = complaint.text();
+            format!(in alloc; "{name}: {why}")
+        }
     }
 }
 

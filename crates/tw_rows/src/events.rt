@@ -26,13 +26,12 @@ fn read_event(text: &str) -> Result<Event, Complaint> {
         "ask" => read_ask(rest),
         "deliver" => read_deliver(rest),
         "release" => read_release(rest),
-        _ => Err(Complaint("there is no such event")),
+        _ => Err(Complaint::UnknownEvent),
     }
 }
 
 fn first_word(text: &str) -> Result<(&str, &str), Complaint> {
-    text.split_once(' ')
-        .ok_or(Complaint("an event lacks a word"))
+    text.split_once(' ').ok_or(Complaint::MissingWord)
 }
 
 fn read_actor(text: &str) -> Result<Actor, Complaint> {
@@ -44,21 +43,21 @@ fn read_actor(text: &str) -> Result<Actor, Complaint> {
     }
     match text.strip_prefix('w') {
         Some(number) => Ok(Actor::Worker(number.parse::<u8>()?)),
-        None => Err(Complaint("an actor is e, s or w and a number")),
+        None => Err(Complaint::Actor),
     }
 }
 
 fn read_engine(text: &str) -> Result<u8, Complaint> {
     match read_actor(text)? {
         Actor::Engine(number) => Ok(number),
-        Actor::Server(_) | Actor::Worker(_) => Err(Complaint("this event is an engine's")),
+        Actor::Server(_) | Actor::Worker(_) => Err(Complaint::NotEngine),
     }
 }
 
 fn read_server(text: &str) -> Result<u8, Complaint> {
     match read_actor(text)? {
         Actor::Server(number) => Ok(number),
-        Actor::Engine(_) | Actor::Worker(_) => Err(Complaint("this event is a server's")),
+        Actor::Engine(_) | Actor::Worker(_) => Err(Complaint::NotServer),
     }
 }
 

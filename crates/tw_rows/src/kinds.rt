@@ -66,7 +66,7 @@ fn program(
     rest: &str,
 ) -> Result<String, Complaint> {
     if !rest.is_empty() {
-        return Err(Complaint("this case has a field too many"));
+        return Err(Complaint::ExtraField);
     }
     match kind {
         "decode" => decode_text(alloc, bytes),
@@ -75,6 +75,6 @@ fn program(
         "signature" => signature_text(alloc, bytes),
         "rights" => rights_text(alloc, words, bytes),
         "open" => open_text(alloc, words, bytes),
-        _ => Err(Complaint("there is no such kind of case")),
+        _ => Err(Complaint::UnknownKind),
     }
 }

@@ -16,16 +16,16 @@ pub fn read_layout(text: &str) -> Result<Layout, Complaint> {
 pub fn layout_of((engines, servers, workers): (u8, u8, u8)) -> Result<Layout, Complaint> {
     match Layout::new(engines, servers, workers) {
         Ok(layout) => Ok(layout),
-        Err(_) => Err(Complaint("the layout is out of its limits")),
+        Err(_) => Err(Complaint::LayoutLimits),
     }
 }
 
 fn read_numbers(text: &str) -> Result<(u8, u8, u8), Complaint> {
     let Some((engines, rest)) = text.split_once(' ') else {
-        return Err(Complaint("a layout has three numbers"));
+        return Err(Complaint::LayoutNumbers);
     };
     let Some((servers, workers)) = rest.split_once(' ') else {
-        return Err(Complaint("a layout has three numbers"));
+        return Err(Complaint::LayoutNumbers);
     };
     Ok((
         engines.parse::<u8>()?,

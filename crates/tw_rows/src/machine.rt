@@ -19,7 +19,7 @@ fn opened(alloc: Global, bytes: &[u8], layout: Layout) -> Result<Plain, Complain
 {
     match Plain::open(alloc, read_program(alloc, bytes)?, &[], layout) {
         Ok(plain) => Ok(plain),
-        Err(_) => Err(Complaint("the program isn't opened")),
+        Err(_) => Err(Complaint::NotOpened),
     }
 }
 
@@ -40,7 +40,7 @@ pub fn machine_text(
     let played = run(alloc, layout, bytes, events)?;
     match played.answers.as_slice().split_last() {
         Some((last, others)) => Ok(answers_text(alloc, *last, others)?),
-        None => Err(Complaint("this case has no events")),
+        None => Err(Complaint::NoEvents),
     }
 }
 
@@ -105,7 +105,7 @@ pub fn steps_text(
 fn local_steps(alloc: Global, plain: &Plain, most: u64) -> Result<u64, Complaint> {
     match plain.state().frame(Actor::Engine(0)) {
         Some(frame) => Ok(frame.local_steps(alloc, plain.program().procedures(), most)?),
-        None => Err(Complaint("engine 0 runs nothing")),
+        None => Err(Complaint::NoFrame),
     }
 }
 
@@ -149,6 +149,6 @@ fn read_input(alloc: Global, word: &str) -> Result<Input, Complaint> {
     }
     match word.strip_prefix("text:") {
         Some(text) => Ok(Input::Text(InputText::from(text.to_string(alloc)?))),
-        None => Err(Complaint("an input is int:NUMBER or text:TEXT")),
+        None => Err(Complaint::Input),
     }
 }

@@ -31,7 +31,7 @@ pub fn played(alloc: Global, first: Plain, events: &[Event]) -> Result<Course, C
     requires { AreBelow 64 first.state }
 {
     if events.len() > 10_000 {
-        return Err(Complaint("a case has at most 10,000 events"));
+        return Err(Complaint::ManyEvents);
     }
     play(alloc, first, events)
 }
@@ -44,7 +44,7 @@ fn play(alloc: Global, first: Plain, events: &[Event]) -> Result<Course, Complai
     let mut answers = Vec::new(alloc);
     for event in events {
         if !is_short(*event) {
-            return Err(Complaint("an event does at most 1,000,000,000 instructions"));
+            return Err(Complaint::LongEvent);
         }
         answers.push(plain.step(alloc, *event))?;
     }

@@ -10,7 +10,7 @@ use tw_verify::{Refused, Typing, Verified, verify};
 pub fn read_program(alloc: Global, bytes: &[u8]) -> Result<Program, Complaint> {
     match decode(alloc, bytes) {
         Ok(program) => Ok(program),
-        Err(_) => Err(Complaint("the bytes are no program")),
+        Err(_) => Err(Complaint::NoProgram),
     }
 }
 
@@ -88,7 +88,7 @@ fn budgets(alloc: Global, verified: &Verified) -> Result<String, AllocError> {
 pub fn signature_text(alloc: Global, bytes: &[u8]) -> Result<String, Complaint> {
     match verify(alloc, read_program(alloc, bytes)?) {
         Ok(verified) => Ok(signature(alloc, &verified)?),
-        Err(_) => Err(Complaint("the program isn't accepted")),
+        Err(_) => Err(Complaint::NotAccepted),
     }
 }
 
@@ -132,13 +132,13 @@ pub fn rights_text(alloc: Global, procedure: &str, bytes: &[u8]) -> Result<Strin
     let procedure = procedure.parse::<usize>()?;
     match verify(alloc, read_program(alloc, bytes)?) {
         Ok(verified) => rights(alloc, &verified, procedure),
-        Err(_) => Err(Complaint("the program isn't accepted")),
+        Err(_) => Err(Complaint::NotAccepted),
     }
 }
 
 fn rights(alloc: Global, verified: &Verified, procedure: usize) -> Result<String, Complaint> {
     if procedure >= verified.program().procedures().len() {
-        return Err(Complaint("the program has no such procedure"));
+        return Err(Complaint::NoProcedure);
     }
     let mut parts = Vec::new(alloc);
     for typing in verified.typings(procedure) {

@@ -39,7 +39,7 @@ pub fn phrases_text<H: AllocGlobal>(
     let (code, _, written) = ended(rt, words.as_slice(), &[]);
     match String::from_utf8(written) {
         Ok(text) => Ok(lacks_text(rt.alloc(), code, text.as_str(), phrases)?),
-        Err(_) => Err(Complaint("the session wrote what is no text")),
+        Err(_) => Err(Complaint::WrittenBytes),
     }
 }
 
@@ -82,7 +82,7 @@ fn session_text(
     is_unread: bool,
 ) -> Result<String, Complaint> {
     let Ok(text) = String::from_utf8(written) else {
-        return Err(Complaint("the session wrote what is no text"));
+        return Err(Complaint::WrittenBytes);
     };
     let text = one_line(alloc, text.as_str())?;
     let unread = if is_unread { " unread" } else { "" };

@@ -40,10 +40,10 @@ fn escape(piece: &str) -> Result<(u8, &str), Complaint> {
 
 fn hex_escape(piece: &str) -> Result<(u8, &str), Complaint> {
     let Some((digits, rest)) = piece.split_at_checked(3) else {
-        return Err(Complaint("an escape is \\t, \\r, \\n or \\xHH"));
+        return Err(Complaint::Escape);
     };
     let Some(digits) = digits.strip_prefix('x') else {
-        return Err(Complaint("an escape is \\t, \\r, \\n or \\xHH"));
+        return Err(Complaint::Escape);
     };
     Ok((u8::from_str_radix(digits, 16)?, rest))
 }
@@ -63,6 +63,6 @@ fn read_word(alloc: Global, word: &str) -> Result<String, Complaint> {
     }
     match String::from_utf8(unescaped(alloc, word)?) {
         Ok(word) => Ok(word),
-        Err(_) => Err(Complaint("a word isn't UTF-8")),
+        Err(_) => Err(Complaint::WordBytes),
     }
 }
