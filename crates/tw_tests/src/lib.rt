@@ -2,20 +2,10 @@
 #![tactic(auto)]
 
 #[cfg(test)]
-mod code;
-#[cfg(test)]
-mod machine;
-#[cfg(test)]
-mod refusals;
+mod laws;
 #[cfg(test)]
 mod rights;
-#[cfg(test)]
-mod sessions;
-#[cfg(test)]
-mod store;
 #[cfg(test)]
 mod streams;
 #[cfg(test)]
 mod types;
-#[cfg(test)]
-mod verifier;

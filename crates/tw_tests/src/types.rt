@@ -1,9 +1,8 @@
 //! Types, values, names of actors and numbers.
 
 use std::alloc::Global;
-use std::test::Fail;
 use tw_types::{
-    Actor, Cause, DataType, DatumId, InputText, Items, Layout, RuleNo, Scalar, TaskNo, Text, Value,
+    Actor, Cause, DataType, DatumId, InputText, Items, RuleNo, Scalar, TaskNo, Text, Value,
 };
 
 /// Three containers round an int: their number, whether the int is found again, and whether a fourth fits.
@@ -24,55 +23,38 @@ fn three_containers_and_no_fourth(rt: HostRuntime) {
     );
 }
 
-/// The numbers of a layout, if they make one.
-fn counts(engines: u8, servers: u8, workers: u8) -> Option<(u8, u8, u8)> {
-    let layout = Layout::new(engines, servers, workers).ok()?;
-    Some((layout.engines(), layout.servers(), layout.workers()))
+/// A text of so many letters, if there is one.
+fn text_of(alloc: Global, letters: usize) -> Option<Text> {
+    Text::new("x".repeat(alloc, letters).ok()?).ok()
+}
+
+fn length(text: Option<Text>) -> Option<usize> {
+    Some(text?.as_str().len())
 }
 
 #[test]
-fn layouts_within_their_limits(rt: HostRuntime) {
-    for (engines, servers, workers) in [(1, 1, 1), (4, 4, 16), (2, 3, 5)] {
-        assert_eq!(rt;
-            counts(engines, servers, workers),
-            Some((engines, servers, workers))
-        );
-    }
-    for (engines, servers, workers) in [
-        (0, 1, 1),
-        (5, 1, 1),
-        (1, 0, 1),
-        (1, 5, 1),
-        (1, 1, 0),
-        (1, 1, 17),
-    ] {
-        assert_eq!(rt; counts(engines, servers, workers), None);
-    }
-}
-
-/// The length of a text of so many letters, if there is one.
-fn text_length(alloc: Global, length: usize) -> Result<Option<usize>, Fail> {
-    let letters = String::from_utf8(vec![in alloc; b'x'; length]?)
-        .ok()
-        .ok_or("letters")?;
-    Ok(Text::new(letters).ok().map(|text| text.as_str().len()))
-}
-
-#[test]
-fn texts_up_to_4096_bytes(rt: HostRuntime) -> Result<(), Fail> {
+fn texts_up_to_4096_bytes(rt: HostRuntime) {
     let alloc = rt.alloc();
-    let lengths = (text_length(alloc, 4096)?, text_length(alloc, 4097)?);
+    let lengths = (length(text_of(alloc, 4096)), length(text_of(alloc, 4097)));
     assert_eq!(rt; lengths, (Some(4096), None));
-    Ok(())
+}
+
+/// Whether a text that is handed in is held.
+fn text_is_held(alloc: Global) -> Option<bool> {
+    let text = InputText::from("a\"b".to_string(alloc).ok()?);
+    Some(text.as_str() == "a\"b")
+}
+
+/// Whether pairs that are handed in are held.
+fn pairs_are_held(alloc: Global) -> Option<bool> {
+    let pairs = Items::from(vec![in alloc; (1_i64, 7_i64), (5, -3)].ok()?);
+    Some(pairs.as_slice() == [(1, 7), (5, -3)].as_slice())
 }
 
 #[test]
-fn inputs_hold_what_was_handed_in(rt: HostRuntime) -> Result<(), Fail> {
-    let text = InputText::from(String::from_str(rt.alloc(), "a\"b")?);
-    let pairs = Items::from(vec![in rt.alloc(); (1_i64, 7_i64), (5, -3)]?);
-    assert_eq!(rt; text.as_str(), "a\"b");
-    assert_eq!(rt; pairs.as_slice(), [(1, 7), (5, -3)].as_slice());
-    Ok(())
+fn inputs_hold_what_was_handed_in(rt: HostRuntime) {
+    let told = (text_is_held(rt.alloc()), pairs_are_held(rt.alloc()));
+    assert_eq!(rt; told, (Some(true), Some(true)));
 }
 
 #[test]
@@ -106,30 +88,27 @@ fn actors_come_engines_first(rt: HostRuntime) {
     }
 }
 
-/// A value's copy as text, with the value's type.
-fn copied(alloc: Global, value: &Value) -> Result<(bool, String), Fail> {
-    let is_int = value.scalar() == Scalar::Int;
-    let text = match value.try_clone(alloc)? {
-        Value::Int(number) => format!(in alloc; "{number}")?,
-        Value::Text(text) => String::from_str(alloc, text.as_str())?,
-    };
-    Ok((is_int, text))
+/// The number of a value's copy.
+fn copied_number(alloc: Global, value: &Value) -> Option<i64> {
+    match value.try_clone(alloc).ok()? {
+        Value::Int(number) => Some(number),
+        Value::Text(_) => None,
+    }
+}
+
+/// Whether a text's copy is the text.
+fn text_is_copied(alloc: Global) -> Option<bool> {
+    let value = Value::Text(text_of(alloc, 2)?);
+    let is_text = value.scalar() == Scalar::Text;
+    match value.try_clone(alloc).ok()? {
+        Value::Text(copy) => Some(is_text && copy.as_str() == "xx"),
+        Value::Int(_) => None,
+    }
 }
 
 #[test]
-fn an_int_is_copied(rt: HostRuntime) -> Result<(), Fail> {
-    let (is_int, text) = copied(rt.alloc(), &Value::Int(-7))?;
-    assert_eq!(rt; (is_int, text.as_str()), (true, "-7"));
-    Ok(())
-}
-
-#[test]
-fn a_text_is_copied(rt: HostRuntime) -> Result<(), Fail> {
-    let alloc = rt.alloc();
-    let text = Text::new(String::from_str(alloc, "ab")?)
-        .ok()
-        .ok_or("a short text")?;
-    let (is_int, copy) = copied(alloc, &Value::Text(text))?;
-    assert_eq!(rt; (is_int, copy.as_str()), (false, "ab"));
-    Ok(())
+fn values_are_copied(rt: HostRuntime) {
+    let number = copied_number(rt.alloc(), &Value::Int(-7));
+    let text = text_is_copied(rt.alloc());
+    assert_eq!(rt; (number, text), (Some(-7), Some(true)));
 }
