@@ -5,7 +5,7 @@ ghost use Rattle.std.specs.FinMap.{get};
 ghost use Rattle.tw_store.specs.Calls.{HasReadRoom, HasWriteRoom, HasMemberRoom};
 
 use crate::model::{Answer, Model, Plain};
-use std::alloc::{AllocError, Global};
+use std::alloc::Global;
 use tw_rights::{ReadRight, WriteRight};
 use tw_store::{Asked, Inserted, Refused, Store};
 use tw_types::{DataType, DatumId, RuleNo, Text, Value};
@@ -43,14 +43,11 @@ fn write_of(id: u64) -> WriteRight
     WriteRight::of(DatumId::new(id))
 }
 
-/// The value, if a short text is one.
-fn value_of(alloc: Global, plain: Plain) -> Result<Option<Value>, AllocError> {
+/// The value, where memory isn't refused.
+fn value_of(alloc: Global, plain: Plain) -> Option<Value> {
     match plain {
-        Plain::Number(number) => Ok(Some(Value::Int(number))),
-        Plain::Letter => {
-            let letter = String::from_str(alloc, "a")?;
-            Ok(Text::new(letter).ok().map(Value::Text))
-        }
+        Plain::Number(number) => Some(Value::Int(number)),
+        Plain::Letter => Some(Value::Text(Text::new("a".to_string(alloc).ok()?).ok()?)),
     }
 }
 
@@ -63,12 +60,7 @@ fn if_back(id: u64, back: DatumId, answer: Answer) -> Answer {
     }
 }
 
-fn create(
-    store: &mut Store,
-    alloc: Global,
-    depth: u8,
-    of_text: bool,
-) -> Result<Answer, AllocError> {
+fn type_of(depth: u8, of_text: bool) -> DataType {
     let mut ty = if of_text {
         DataType::text()
     } else {
@@ -77,12 +69,20 @@ fn create(
     for _ in 0..depth {
         ty = ty.cont().unwrap_or(ty);
     }
+    ty
+}
+
+fn create(store: &mut Store, alloc: Global, ty: DataType) -> Answer {
     if store.next().number() >= FAR {
-        return Ok(Answer::Strange);
+        return Answer::Strange;
     }
-    let (write, read) = store.create(alloc, ty)?;
-    let id = write.spend().number();
-    Ok(if_back(id, read.spend(), Answer::Id(id)))
+    match store.create(alloc, ty) {
+        Ok((write, read)) => {
+            let id = write.spend().number();
+            if_back(id, read.spend(), Answer::Id(id))
+        }
+        Err(_) => Answer::Strange,
+    }
 }
 
 fn set(store: &mut Store, id: u64, value: Value) -> Answer {
@@ -245,10 +245,10 @@ fn take_note(store: &mut Store, server: u8) -> Answer {
 }
 
 /// What the store answers to a call.
-pub fn answered(store: &mut Store, alloc: Global, call: Call) -> Result<Answer, AllocError> {
-    Ok(match call {
-        Call::Create(depth, of_text) => create(store, alloc, depth, of_text)?,
-        Call::Store(id, plain) => match value_of(alloc, plain)? {
+pub fn answered(store: &mut Store, alloc: Global, call: Call) -> Answer {
+    match call {
+        Call::Create(depth, of_text) => create(store, alloc, type_of(depth, of_text)),
+        Call::Store(id, plain) => match value_of(alloc, plain) {
             Some(value) => set(store, id, value),
             None => Answer::Strange,
         },
@@ -263,24 +263,24 @@ pub fn answered(store: &mut Store, alloc: Global, call: Call) -> Result<Answer, 
         Call::DropWrite(id) => drop_write(store, id),
         Call::Ask(id, rule, parameter) => ask(store, id, rule, parameter),
         Call::TakeNote(server) => take_note(store, server),
-    })
+    }
 }
 
 /// What the model answers to a call.
-pub fn expected(model: &mut Model, alloc: Global, call: Call) -> Result<Answer, AllocError> {
-    Ok(match call {
-        Call::Create(depth, of_text) => model.create(alloc, depth, of_text)?,
-        Call::Store(id, value) => model.store(alloc, id, value)?,
+pub fn expected(model: &mut Model, alloc: Global, call: Call) -> Answer {
+    match call {
+        Call::Create(depth, of_text) => model.create(alloc, depth, of_text),
+        Call::Store(id, value) => model.store(alloc, id, value),
         Call::Retrieve(id) => model.retrieve(id),
-        Call::Insert(id, subscript, member) => model.insert(id, subscript, member)?,
+        Call::Insert(id, subscript, member) => model.insert(id, subscript, member),
         Call::Look(id, subscript) => model.look(id, subscript),
         Call::Size(id) => model.size(id),
         Call::SubscriptAt(id, index) => model.subscript_at(id, index),
         Call::CopyRead(id) => model.copy_read(id),
         Call::CopyWrite(id) => model.copy_write(id),
-        Call::DropRead(id) => model.drop_read(alloc, id)?,
-        Call::DropWrite(id) => model.drop_write(alloc, id)?,
-        Call::Ask(id, rule, parameter) => model.ask(id, rule, parameter)?,
+        Call::DropRead(id) => model.drop_read(alloc, id),
+        Call::DropWrite(id) => model.drop_write(alloc, id),
+        Call::Ask(id, rule, parameter) => model.ask(id, rule, parameter),
         Call::TakeNote(server) => model.take_note(u64::from(server)),
-    })
+    }
 }

@@ -2,54 +2,41 @@
 
 use crate::calls::{Call, answered};
 use crate::model::{Answer, Plain};
-use std::alloc::{AllocError, Global};
+use std::alloc::Global;
 use tw_store::{Datum, Store};
 use tw_types::DatumId;
 
 /// Whether a call answers this.
-fn answers(
-    alloc: Global,
-    store: &mut Store,
-    call: Call,
-    answer: Answer,
-) -> Result<bool, AllocError> {
-    Ok(answered(store, alloc, call)? == answer)
+fn answers(alloc: Global, store: &mut Store, call: Call, answer: Answer) -> bool {
+    answered(store, alloc, call) == answer
 }
 
-/// Makes a container of ints, datum 1, and data 2 to 1,001 at the subscripts that `subscript_of` gives to 0 to 999;
-/// whether all that went.
-fn filled(alloc: Global, store: &mut Store, factor: i64) -> Result<bool, AllocError> {
-    let mut went = answers(alloc, store, Call::Create(1, false), Answer::Id(1))?;
+/// Makes a container of ints, datum 1, and data 2 to 1,001, at the multiples of the factor below 1,000; whether all
+/// that went.
+fn filled(alloc: Global, store: &mut Store, factor: i64) -> bool {
+    let mut went = answers(alloc, store, Call::Create(1, false), Answer::Id(1));
     for turn in 0..1_000_i64 {
-        went = went && member_added(alloc, store, turn, turn.wrapping_mul(factor) % 1_000)?;
+        went = member_added(alloc, store, turn, turn.wrapping_mul(factor) % 1_000) && went;
     }
-    Ok(went)
+    went
 }
 
 /// Makes the next datum, sets it to the turn, and adds it there.
-fn member_added(
-    alloc: Global,
-    store: &mut Store,
-    turn: i64,
-    subscript: i64,
-) -> Result<bool, AllocError> {
+fn member_added(alloc: Global, store: &mut Store, turn: i64, subscript: i64) -> bool {
     let id = store.next().number();
-    let made = answers(alloc, store, Call::Create(0, false), Answer::Id(id))?;
-    let set = answers(
-        alloc,
-        store,
-        Call::Store(id, Plain::Number(turn)),
-        Answer::Done,
-    )?;
-    let added = answers(alloc, store, Call::Insert(1, subscript, id), Answer::Done)?;
-    Ok(made && set && added)
+    let set = Call::Store(id, Plain::Number(turn));
+    answers(alloc, store, Call::Create(0, false), Answer::Id(id))
+        && answers(alloc, store, set, Answer::Done)
+        && answers(alloc, store, Call::Insert(1, subscript, id), Answer::Done)
 }
 
 /// Whether the container has its members at their subscripts, and at indices that are the subscripts.
 fn has_thousand(container: &Datum) -> bool {
-    container.len() == 1_000
-        && container.member(1_000).is_none()
-        && (0..1_000_i64).all(|subscript| is_at(container, subscript))
+    let mut are_there = container.len() == 1_000 && container.member(1_000).is_none();
+    for subscript in 0..1_000_i64 {
+        are_there = are_there && is_at(container, subscript);
+    }
+    are_there
 }
 
 fn is_at(container: &Datum, subscript: i64) -> bool {
@@ -62,26 +49,38 @@ fn is_at(container: &Datum, subscript: i64) -> bool {
 
 /// A thousand members, added in mixed order, are found at their indices and subscripts. Since 7 and 1,000 have no
 /// divisor in common, each subscript below 1,000 comes once.
-pub fn thousand_are_found(alloc: Global) -> Result<bool, AllocError> {
-    let mut store = Store::new(alloc, 1)?;
-    let went = filled(alloc, &mut store, 7)?;
-    Ok(went && store.view(DatumId::new(1)).is_some_and(has_thousand))
+pub fn thousand_are_found(alloc: Global) -> bool {
+    match Store::new(alloc, 1) {
+        Ok(mut store) => {
+            filled(alloc, &mut store, 7) && store.view(DatumId::new(1)).is_some_and(has_thousand)
+        }
+        Err(_) => false,
+    }
 }
 
-fn are_live(store: &Store) -> bool {
-    (1..1_002).all(|id| store.view(DatumId::new(id)).is_some())
-}
-
-fn are_freed(store: &Store) -> bool {
-    (1..1_002).all(|id| store.view(DatumId::new(id)).is_none())
+/// How many of the container and its members are live.
+fn live(store: &Store) -> u64 {
+    let mut count = 0_u64;
+    for id in 1..1_002_u64 {
+        if store.view(DatumId::new(id)).is_some() {
+            count = count.wrapping_add(1);
+        }
+    }
+    count
 }
 
 /// A thousand members are freed at once with their container.
-pub fn thousand_are_freed(alloc: Global) -> Result<bool, AllocError> {
-    let mut store = Store::new(alloc, 1)?;
-    let went = filled(alloc, &mut store, 1)?;
-    let closed = answers(alloc, &mut store, Call::DropWrite(1), Answer::Done)?;
-    let were_live = are_live(&store);
-    let dropped = answers(alloc, &mut store, Call::DropRead(1), Answer::Done)?;
-    Ok(went && closed && were_live && dropped && are_freed(&store))
+pub fn thousand_are_freed(alloc: Global) -> bool {
+    match Store::new(alloc, 1) {
+        Ok(mut store) => are_filled_and_freed(alloc, &mut store),
+        Err(_) => false,
+    }
+}
+
+fn are_filled_and_freed(alloc: Global, store: &mut Store) -> bool {
+    filled(alloc, store, 1)
+        && answers(alloc, store, Call::DropWrite(1), Answer::Done)
+        && live(store) == 1_001
+        && answers(alloc, store, Call::DropRead(1), Answer::Done)
+        && live(store) == 0
 }

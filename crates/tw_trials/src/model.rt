@@ -1,7 +1,7 @@
 //! A small model of the store, as plain maps, and what it and the store answer to one call.
 //!
 //! The model has been written apart from the definitions. It keeps bare numbers, and frees by a list of what is still to
-//! lose a read.
+//! lose a read. A call first asks what is known of the data, in plain numbers, and only then writes.
 
 use std::alloc::{AllocError, Global};
 use std::collections::BTreeMap;
@@ -31,15 +31,21 @@ pub enum Plain {
     Letter,
 }
 
-/// A datum: `depth` containers around an int or a text.
-#[derive(Drop)]
-pub struct Datum {
+/// What is known of a datum: `depth` containers around an int or a text, its value and its counts.
+#[derive(Clone, Copy)]
+pub struct Facts {
     pub depth: u8,
     pub of_text: bool,
     pub value: Option<Plain>,
-    pub members: BTreeMap<i64, u64>,
     pub reads: u64,
     pub writes: u64,
+}
+
+/// A datum, with its members and with the rules and parameters that wait for it.
+#[derive(Drop)]
+pub struct Datum {
+    pub facts: Facts,
+    pub members: BTreeMap<i64, u64>,
     pub waiting: Vec<(u64, u8)>,
 }
 
@@ -52,272 +58,370 @@ pub struct Model {
     pub servers: u64,
 }
 
-fn is_closed(datum: &Datum) -> bool {
-    if datum.depth == 0 {
-        datum.value.is_some()
-    } else {
-        datum.writes == 0
+/// The answer where memory was not refused.
+fn done(answer: Answer, outcome: Result<(), AllocError>) -> Answer {
+    match outcome {
+        Ok(()) => answer,
+        Err(_) => Answer::Strange,
     }
 }
 
-/// The value's type is the datum's.
-fn takes(datum: &Datum, value: Plain) -> bool {
-    datum.depth == 0 && datum.of_text == (value == Plain::Letter)
+impl Facts {
+    fn is_closed(self) -> bool {
+        if self.depth == 0 {
+            self.value.is_some()
+        } else {
+            self.writes == 0
+        }
+    }
+
+    /// Why a value can't be stored.
+    fn refuses_store(self, value: Plain) -> Option<Cause> {
+        if self.depth != 0 || self.of_text != (value == Plain::Letter) {
+            Some(Cause::WrongType)
+        } else if self.value.is_some() {
+            Some(Cause::AlreadySet)
+        } else if self.writes == 0 {
+            Some(Cause::NoWriteCount)
+        } else {
+            None
+        }
+    }
+
+    /// Why a member of these facts can't be added.
+    fn refuses_member(self, member: Facts) -> Option<Cause> {
+        if self.depth != member.depth.wrapping_add(1) || self.of_text != member.of_text {
+            Some(Cause::WrongType)
+        } else if self.writes == 0 {
+            Some(Cause::ClosedContainer)
+        } else {
+            None
+        }
+    }
+
+    /// Why the members can't be read.
+    fn refuses_reading(self) -> Option<Cause> {
+        if self.depth == 0 {
+            Some(Cause::WrongType)
+        } else if self.writes != 0 {
+            Some(Cause::OpenContainer)
+        } else {
+            None
+        }
+    }
+
+    /// Why a write can't be dropped.
+    fn refuses_drop(self) -> Option<Cause> {
+        if self.depth == 0 {
+            Some(Cause::WrongType)
+        } else if self.writes == 0 {
+            Some(Cause::NoWriteCount)
+        } else {
+            None
+        }
+    }
+
+    fn retrieved(self) -> Answer {
+        match self.value {
+            _ if self.depth != 0 => Answer::Misuse(Cause::WrongType),
+            None => Answer::Misuse(Cause::UnsetDatum),
+            Some(Plain::Number(number)) => Answer::Number(number),
+            Some(Plain::Letter) => Answer::Letter,
+        }
+    }
+
+    fn with_value(self, value: Plain) -> Facts {
+        Facts {
+            depth: self.depth,
+            of_text: self.of_text,
+            value: Some(value),
+            reads: self.reads,
+            writes: self.writes,
+        }
+    }
+
+    fn with_counts(self, reads: u64, writes: u64) -> Facts {
+        Facts {
+            depth: self.depth,
+            of_text: self.of_text,
+            value: self.value,
+            reads,
+            writes,
+        }
+    }
+
+    fn more_reads(self) -> Facts {
+        self.with_counts(self.reads.wrapping_add(1), self.writes)
+    }
+
+    fn more_writes(self) -> Facts {
+        self.with_counts(self.reads, self.writes.wrapping_add(1))
+    }
+
+    fn less_writes(self) -> Facts {
+        self.with_counts(self.reads, self.writes.wrapping_sub(1))
+    }
 }
 
 impl Model {
-    pub fn create(
-        &mut self,
-        alloc: Global,
-        depth: u8,
-        of_text: bool,
-    ) -> Result<Answer, AllocError> {
+    pub fn new(alloc: Global, servers: u64) -> Model {
+        Model {
+            live: BTreeMap::new(alloc),
+            next: 1,
+            notices: Vec::new(alloc),
+            servers,
+        }
+    }
+
+    fn facts(&self, id: u64) -> Option<Facts> {
+        Some(self.live.get(&id)?.facts)
+    }
+
+    fn set(&mut self, id: u64, facts: Facts) {
+        if let Some(datum) = self.live.get_mut(&id) {
+            datum.facts = facts;
+        }
+    }
+
+    pub fn create(&mut self, alloc: Global, depth: u8, of_text: bool) -> Answer {
         let id = self.next;
-        let datum = Datum {
+        let facts = Facts {
             depth,
             of_text,
             value: None,
-            members: BTreeMap::new(alloc),
             reads: 1,
             writes: 1,
+        };
+        let datum = Datum {
+            facts,
+            members: BTreeMap::new(alloc),
             waiting: Vec::new(alloc),
         };
-        self.live.insert(id, datum)?;
         self.next = id.wrapping_add(1);
-        Ok(Answer::Id(id))
+        match self.live.insert(id, datum) {
+            Ok(_) => Answer::Id(id),
+            Err(_) => Answer::Strange,
+        }
     }
 
-    pub fn store(&mut self, alloc: Global, id: u64, value: Plain) -> Result<Answer, AllocError> {
-        let Some(datum) = self.live.get_mut(&id) else {
-            return Ok(Answer::Misuse(Cause::FreedDatum));
+    pub fn store(&mut self, alloc: Global, id: u64, value: Plain) -> Answer {
+        let Some(facts) = self.facts(id) else {
+            return Answer::Misuse(Cause::FreedDatum);
         };
-        if !takes(datum, value) {
-            return Ok(Answer::Misuse(Cause::WrongType));
+        match facts.refuses_store(value) {
+            Some(cause) => Answer::Misuse(cause),
+            None => {
+                self.set(id, facts.with_value(value).less_writes());
+                done(Answer::Done, self.close(alloc, id))
+            }
         }
-        if datum.value.is_some() {
-            return Ok(Answer::Misuse(Cause::AlreadySet));
-        }
-        if datum.writes == 0 {
-            return Ok(Answer::Misuse(Cause::NoWriteCount));
-        }
-        datum.value = Some(value);
-        datum.writes = datum.writes.wrapping_sub(1);
-        self.tell(id)?;
-        self.free(alloc, id)?;
-        Ok(Answer::Done)
     }
 
     pub fn retrieve(&self, id: u64) -> Answer {
-        match self.live.get(&id) {
+        match self.facts(id) {
+            Some(facts) => facts.retrieved(),
             None => Answer::Misuse(Cause::FreedDatum),
-            Some(datum) if datum.depth != 0 => Answer::Misuse(Cause::WrongType),
-            Some(datum) => match datum.value {
-                None => Answer::Misuse(Cause::UnsetDatum),
-                Some(Plain::Number(number)) => Answer::Number(number),
-                Some(Plain::Letter) => Answer::Letter,
-            },
         }
     }
 
-    pub fn insert(&mut self, id: u64, subscript: i64, member: u64) -> Result<Answer, AllocError> {
-        let Some((depth, of_text)) = self.live.get(&member).map(|m| (m.depth, m.of_text)) else {
-            return Ok(Answer::Misuse(Cause::FreedDatum));
-        };
-        let Some(datum) = self.live.get_mut(&id) else {
-            return Ok(Answer::Misuse(Cause::FreedDatum));
-        };
-        if datum.depth != depth.wrapping_add(1) || datum.of_text != of_text {
-            return Ok(Answer::Misuse(Cause::WrongType));
+    pub fn insert(&mut self, id: u64, subscript: i64, member: u64) -> Answer {
+        match (self.facts(id), self.facts(member)) {
+            (Some(facts), Some(other)) => match facts.refuses_member(other) {
+                Some(cause) => Answer::Misuse(cause),
+                None => self.add(id, subscript, member),
+            },
+            _ => Answer::Misuse(Cause::FreedDatum),
         }
-        if datum.writes == 0 {
-            return Ok(Answer::Misuse(Cause::ClosedContainer));
+    }
+
+    fn add(&mut self, id: u64, subscript: i64, member: u64) -> Answer {
+        match self.live.get_mut(&id) {
+            Some(datum) if datum.members.contains_key(&subscript) => Answer::Present,
+            Some(datum) => match datum.members.insert(subscript, member) {
+                Ok(_) => Answer::Done,
+                Err(_) => Answer::Strange,
+            },
+            None => Answer::Strange,
         }
-        if datum.members.contains_key(&subscript) {
-            return Ok(Answer::Present);
+    }
+
+    /// The container, if its members can be read.
+    fn container(&self, id: u64) -> Result<&Datum, Cause> {
+        match self.live.get(&id) {
+            Some(datum) => match datum.facts.refuses_reading() {
+                Some(cause) => Err(cause),
+                None => Ok(datum),
+            },
+            None => Err(Cause::FreedDatum),
         }
-        datum.members.insert(subscript, member)?;
-        Ok(Answer::Done)
+    }
+
+    /// The member at a subscript.
+    fn member(&self, id: u64, subscript: i64) -> Result<Option<u64>, Cause> {
+        match self.container(id) {
+            Ok(datum) => Ok(datum.members.get(&subscript).copied()),
+            Err(cause) => Err(cause),
+        }
     }
 
     pub fn look(&mut self, id: u64, subscript: i64) -> Answer {
-        if let Some(refused) = self.refuses_reading(id) {
-            return refused;
-        }
-        let Some(member) = self
-            .live
-            .get(&id)
-            .and_then(|datum| datum.members.get(&subscript).copied())
-        else {
-            return Answer::Nothing;
-        };
-        match self.live.get_mut(&member) {
-            None => Answer::Misuse(Cause::FreedDatum),
-            Some(datum) => {
-                datum.reads = datum.reads.wrapping_add(1);
-                Answer::Id(member)
-            }
+        match self.member(id, subscript) {
+            Ok(Some(member)) => self.copy_read(member),
+            Ok(None) => Answer::Nothing,
+            Err(cause) => Answer::Misuse(cause),
         }
     }
 
     pub fn size(&self, id: u64) -> Answer {
-        match (self.refuses_reading(id), self.live.get(&id)) {
-            (None, Some(datum)) => Answer::Number(datum.members.len() as i64),
-            (Some(refused), _) => refused,
-            (None, None) => Answer::Strange,
+        match self.container(id) {
+            Ok(datum) => Answer::Number(datum.members.len() as i64),
+            Err(cause) => Answer::Misuse(cause),
         }
     }
 
     pub fn subscript_at(&self, id: u64, index: i64) -> Answer {
-        if let Some(refused) = self.refuses_reading(id) {
-            return refused;
+        match self.container(id) {
+            Ok(datum) => subscript_in(datum, index),
+            Err(cause) => Answer::Misuse(cause),
         }
-        let Some(datum) = self.live.get(&id) else {
-            return Answer::Strange;
-        };
-        let mut place = 0;
-        for (subscript, _) in &datum.members {
-            if place == index {
-                return Answer::Number(*subscript);
-            }
-            place = i64::wrapping_add(place, 1);
-        }
-        Answer::Nothing
     }
 
     pub fn copy_read(&mut self, id: u64) -> Answer {
-        match self.live.get_mut(&id) {
+        match self.facts(id) {
             None => Answer::Misuse(Cause::FreedDatum),
-            Some(datum) => {
-                datum.reads = datum.reads.wrapping_add(1);
+            Some(facts) => {
+                self.set(id, facts.more_reads());
                 Answer::Id(id)
             }
         }
     }
 
     pub fn copy_write(&mut self, id: u64) -> Answer {
-        match self.live.get_mut(&id) {
+        match self.facts(id) {
             None => Answer::Misuse(Cause::FreedDatum),
-            Some(datum) if datum.depth == 0 => Answer::Misuse(Cause::WrongType),
-            Some(datum) => {
-                datum.writes = datum.writes.wrapping_add(1);
+            Some(facts) if facts.depth == 0 => Answer::Misuse(Cause::WrongType),
+            Some(facts) => {
+                self.set(id, facts.more_writes());
                 Answer::Id(id)
             }
         }
     }
 
-    pub fn drop_read(&mut self, alloc: Global, id: u64) -> Result<Answer, AllocError> {
-        match self.live.get(&id).map(|datum| datum.reads) {
-            None => Ok(Answer::Misuse(Cause::FreedDatum)),
-            Some(0) => Ok(Answer::Misuse(Cause::NoReadCount)),
-            Some(_) => {
-                let mut losing = Vec::new(alloc);
-                losing.push(id)?;
-                self.lose(losing)?;
-                Ok(Answer::Done)
-            }
+    pub fn drop_read(&mut self, alloc: Global, id: u64) -> Answer {
+        match self.facts(id) {
+            None => Answer::Misuse(Cause::FreedDatum),
+            Some(facts) if facts.reads == 0 => Answer::Misuse(Cause::NoReadCount),
+            Some(_) => done(Answer::Done, self.lose_first(alloc, id)),
         }
     }
 
-    pub fn drop_write(&mut self, alloc: Global, id: u64) -> Result<Answer, AllocError> {
-        let Some(datum) = self.live.get_mut(&id) else {
-            return Ok(Answer::Misuse(Cause::FreedDatum));
+    pub fn drop_write(&mut self, alloc: Global, id: u64) -> Answer {
+        let Some(facts) = self.facts(id) else {
+            return Answer::Misuse(Cause::FreedDatum);
         };
-        if datum.depth == 0 {
-            return Ok(Answer::Misuse(Cause::WrongType));
+        match facts.refuses_drop() {
+            Some(cause) => Answer::Misuse(cause),
+            None => {
+                self.set(id, facts.less_writes());
+                done(Answer::Done, self.close(alloc, id))
+            }
         }
-        if datum.writes == 0 {
-            return Ok(Answer::Misuse(Cause::NoWriteCount));
-        }
-        datum.writes = datum.writes.wrapping_sub(1);
-        if datum.writes == 0 {
-            self.tell(id)?;
-        }
-        self.free(alloc, id)?;
-        Ok(Answer::Done)
     }
 
-    pub fn ask(&mut self, id: u64, rule: u64, parameter: u8) -> Result<Answer, AllocError> {
+    pub fn ask(&mut self, id: u64, rule: u64, parameter: u8) -> Answer {
         match self.live.get_mut(&id) {
-            None => Ok(Answer::Misuse(Cause::FreedDatum)),
-            Some(datum) if is_closed(datum) => Ok(Answer::Closed),
-            Some(datum) => {
-                datum.waiting.push((rule, parameter))?;
-                Ok(Answer::Noted)
-            }
+            None => Answer::Misuse(Cause::FreedDatum),
+            Some(datum) if datum.facts.is_closed() => Answer::Closed,
+            Some(datum) => match datum.waiting.push((rule, parameter)) {
+                Ok(()) => Answer::Noted,
+                Err(_) => Answer::Strange,
+            },
         }
     }
 
     /// The oldest notice of a server.
     pub fn take_note(&mut self, server: u64) -> Answer {
-        if self.servers == 0 {
-            return Answer::Strange;
-        }
-        let servers = self.servers;
-        match self
-            .notices
-            .iter()
-            .position(|notice| notice.0 % servers == server)
-        {
+        match self.place_of_note(server) {
             None => Answer::Nothing,
-            Some(place) => {
+            Some(place) if place < self.notices.len() => {
                 let (datum, rule, parameter) = self.notices.remove(place);
                 Answer::Notice(datum, rule, parameter)
             }
+            Some(_) => Answer::Strange,
         }
     }
 
-    /// Why the members of a container can't be read.
-    fn refuses_reading(&self, id: u64) -> Option<Answer> {
-        match self.live.get(&id) {
-            None => Some(Answer::Misuse(Cause::FreedDatum)),
-            Some(datum) if datum.depth == 0 => Some(Answer::Misuse(Cause::WrongType)),
-            Some(datum) if datum.writes != 0 => Some(Answer::Misuse(Cause::OpenContainer)),
-            Some(_) => None,
+    fn place_of_note(&self, server: u64) -> Option<usize> {
+        let servers = self.servers;
+        for (place, notice) in self.notices.iter().enumerate() {
+            if servers != 0 && notice.0 % servers == server {
+                return Some(place);
+            }
         }
+        None
     }
 
-    /// Those who wait for a datum hear of it.
-    fn tell(&mut self, id: u64) -> Result<(), AllocError> {
+    /// Behind a write that is gone: those who wait for the datum hear of it if it is closed, and it may be freed.
+    fn close(&mut self, alloc: Global, id: u64) -> Result<(), AllocError> {
         let Some(datum) = self.live.get_mut(&id) else {
             return Ok(());
         };
-        for (rule, parameter) in &datum.waiting {
-            self.notices.push((id, *rule, *parameter))?;
+        if datum.facts.is_closed() {
+            for (rule, parameter) in &datum.waiting {
+                self.notices.push((id, *rule, *parameter))?;
+            }
+            datum.waiting.clear();
         }
-        datum.waiting.clear();
-        Ok(())
+        let facts = datum.facts;
+        self.set(id, facts.more_reads());
+        self.lose_first(alloc, id)
     }
 
-    /// A datum without counts goes, and its members lose a read.
-    fn free(&mut self, alloc: Global, id: u64) -> Result<(), AllocError> {
-        let Some(datum) = self.live.get_mut(&id) else {
-            return Ok(());
-        };
-        datum.reads = datum.reads.wrapping_add(1);
+    fn lose_first(&mut self, alloc: Global, id: u64) -> Result<(), AllocError> {
         let mut losing = Vec::new(alloc);
         losing.push(id)?;
-        self.lose(losing)
-    }
-
-    /// Each of these loses a read, and what is freed by that.
-    fn lose(&mut self, mut losing: Vec<u64>) -> Result<(), AllocError> {
         for _ in 0..100_000 {
             let Some(id) = losing.pop() else {
                 return Ok(());
             };
-            let Some(datum) = self.live.get_mut(&id) else {
-                continue;
-            };
-            if datum.reads != 0 {
-                datum.reads = datum.reads.wrapping_sub(1);
-                if datum.reads == 0 && datum.writes == 0 {
-                    for (_, member) in &datum.members {
-                        losing.push(*member)?;
-                    }
-                    let _gone = self.live.remove(&id);
-                }
-            }
+            self.lose(&mut losing, id)?;
         }
         Ok(())
     }
+
+    /// A datum loses a read. One without counts goes, and its members are to lose a read.
+    fn lose(&mut self, losing: &mut Vec<u64>, id: u64) -> Result<(), AllocError> {
+        match self.facts(id) {
+            Some(facts) if facts.reads == 1 && facts.writes == 0 => self.free(losing, id),
+            Some(facts) if facts.reads != 0 => {
+                self.set(
+                    id,
+                    facts.with_counts(facts.reads.wrapping_sub(1), facts.writes),
+                );
+                Ok(())
+            }
+            _ => Ok(()),
+        }
+    }
+
+    fn free(&mut self, losing: &mut Vec<u64>, id: u64) -> Result<(), AllocError> {
+        let Some(datum) = self.live.remove(&id) else {
+            return Ok(());
+        };
+        for (_, member) in &datum.members {
+            losing.push(*member)?;
+        }
+        Ok(())
+    }
+}
+
+fn subscript_in(datum: &Datum, index: i64) -> Answer {
+    let mut place = 0;
+    for (subscript, _) in &datum.members {
+        if place == index {
+            return Answer::Number(*subscript);
+        }
+        place = i64::wrapping_add(place, 1);
+    }
+    Answer::Nothing
 }

@@ -5,8 +5,7 @@ ghost use Rattle.std.specs.Prelude.{◌<◌};
 use crate::calls::{Call, answered, expected};
 use crate::model::{Answer, Model, Plain};
 use crate::same::is_same;
-use std::alloc::{AllocError, Global};
-use std::collections::BTreeMap;
+use std::alloc::Global;
 use tw_store::Store;
 
 /// The next number of the sequence, below the bound.
@@ -74,40 +73,31 @@ impl Tally {
     }
 
     /// The first kind that came less than five times. Each cause from C2 to C9 and each kind of answer is to come.
-    fn first_rare(&self) -> Option<usize> {
-        (2..19).find(|kind| self.counts.get(*kind).copied().unwrap_or(0) < 5)
-    }
-}
-
-fn model(alloc: Global) -> Model {
-    Model {
-        live: BTreeMap::new(alloc),
-        next: 1,
-        notices: Vec::new(alloc),
-        servers: 3,
+    fn first_rare(&self) -> Option<u64> {
+        for kind in 2..19_u64 {
+            if self.counts.get(kind as usize).copied().unwrap_or(0) < 5 {
+                return Some(kind);
+            }
+        }
+        None
     }
 }
 
 /// Whether the latest data are the same.
 fn are_latest_same(store: &Store, model: &Model) -> bool {
-    let next = model.next;
-    (0..14).all(|back| is_same(store, model, next.saturating_sub(back)))
+    let mut are_same = true;
+    for back in 0..14 {
+        are_same = are_same && is_same(store, model, model.next.saturating_sub(back));
+    }
+    are_same
 }
 
-/// One call of both: the kind of their answer, if they agree.
-fn one_call(
-    alloc: Global,
-    store: &mut Store,
-    model: &mut Model,
-    call: Call,
-) -> Result<Option<u8>, AllocError> {
-    let got = answered(store, alloc, call)?;
-    let want = expected(model, alloc, call)?;
-    if got == want && got != Answer::Strange && are_latest_same(store, model) {
-        Ok(Some(kind_of(got)))
-    } else {
-        Ok(None)
-    }
+/// One call of both: their answer, if they agree.
+pub fn one_call(alloc: Global, store: &mut Store, model: &mut Model, call: Call) -> Option<Answer> {
+    let got = answered(store, alloc, call);
+    let want = expected(model, alloc, call);
+    let agrees = got == want && got != Answer::Strange && are_latest_same(store, model);
+    agrees.then_some(got)
 }
 
 /// The number of the first call that differs, if one does.
@@ -116,51 +106,41 @@ fn first_different(
     store: &mut Store,
     model: &mut Model,
     tally: &mut Tally,
-) -> Result<Option<u64>, AllocError> {
+) -> Option<u64> {
     let mut seed = 20_251_122;
     for number in 0..10_000 {
         let call = call_of(&mut seed, model.next);
-        match one_call(alloc, store, model, call)? {
-            Some(kind) => tally.count(kind),
-            None => return Ok(Some(number)),
+        match one_call(alloc, store, model, call) {
+            Some(answer) => tally.count(kind_of(answer)),
+            None => return Some(number),
         }
     }
-    Ok(None)
+    None
 }
 
 /// The least id whose datum differs, if one does.
 fn first_other_datum(store: &Store, model: &Model) -> Option<u64> {
-    (0..=model.next).find(|id| !is_same(store, model, *id))
+    for id in 0..=model.next {
+        if !is_same(store, model, id) {
+            return Some(id);
+        }
+    }
+    None
 }
 
-/// 10,000 calls of the store and of the model answer the same and leave the same.
-pub fn calls_are_the_models(alloc: Global) -> Result<Option<String>, AllocError> {
-    let mut store = Store::new(alloc, 3)?;
-    let mut model = model(alloc);
+/// 10,000 calls of the store and of the model answer the same and leave the same. What differs first: the number of a
+/// call, the id of a datum, or a kind of answer that is rare.
+pub fn calls_are_the_models(alloc: Global) -> Option<(&'static str, u64)> {
+    let Ok(mut store) = Store::new(alloc, 3) else {
+        return Some(("memory ran out at store", 0));
+    };
+    let mut model = Model::new(alloc, 3);
     let mut tally = Tally { counts: [0; 20] };
-    let different = first_different(alloc, &mut store, &mut model, &mut tally)?;
-    told(
-        alloc,
-        different,
-        first_other_datum(&store, &model),
-        tally.first_rare(),
-    )
-}
-
-fn told(
-    alloc: Global,
-    call: Option<u64>,
-    datum: Option<u64>,
-    kind: Option<usize>,
-) -> Result<Option<String>, AllocError> {
-    if let Some(call) = call {
-        return Ok(Some(format!(in alloc; "call {call} differs")?));
+    if let Some(call) = first_different(alloc, &mut store, &mut model, &mut tally) {
+        return Some(("call", call));
     }
-    if let Some(datum) = datum {
-        return Ok(Some(format!(in alloc; "datum {datum} differs")?));
+    if let Some(datum) = first_other_datum(&store, &model) {
+        return Some(("datum", datum));
     }
-    match kind {
-        Some(kind) => Ok(Some(format!(in alloc; "answers of kind {kind} are rare")?)),
-        None => Ok(None),
-    }
+    Some(("kind", tally.first_rare()?))
 }

@@ -10,10 +10,10 @@ pub fn is_same(store: &Store, model: &Model, id: u64) -> bool {
     match (store.view(DatumId::new(id)), model.live.get(&id)) {
         (None, None) => true,
         (Some(datum), Some(other)) => {
-            datum.reads() == other.reads
-                && datum.writes() == other.writes
-                && datum.ty().depth() == other.depth
-                && has_value(datum.value(), other.value)
+            datum.reads() == other.facts.reads
+                && datum.writes() == other.facts.writes
+                && datum.ty().depth() == other.facts.depth
+                && has_value(datum.value(), other.facts.value)
                 && has_members(datum, &other.members)
         }
         (Some(_), None) | (None, Some(_)) => false,
@@ -21,11 +21,10 @@ pub fn is_same(store: &Store, model: &Model, id: u64) -> bool {
 }
 
 fn has_value(value: Option<&Value>, plain: Option<Plain>) -> bool {
-    match (value, plain) {
-        (None, None) => true,
-        (Some(Value::Int(number)), Some(Plain::Number(other))) => *number == other,
-        (Some(Value::Text(text)), Some(Plain::Letter)) => text.as_str() == "a",
-        _ => false,
+    match value {
+        None => plain.is_none(),
+        Some(Value::Int(number)) => plain == Some(Plain::Number(*number)),
+        Some(Value::Text(text)) => text.as_str() == "a" && plain == Some(Plain::Letter),
     }
 }
 

@@ -18,76 +18,61 @@ pub fn budget_of(verified: &Verified) -> Option<u64> {
 /// Whether the verifier says of the code what the search and the test of its structure say.
 fn agrees(alloc: Global, code: &[Letter]) -> Result<bool, AllocError> {
     let bytes = spelled(alloc, code)?;
-    let Ok(program) = decode(alloc, &bytes) else {
-        return Ok(false);
-    };
-    match verify(alloc, program) {
-        Ok(verified) => {
-            let budget = budget_of(&verified);
-            is_rightly_accepted(alloc, code, budget)
-        }
-        Err(refused) => Ok(is_rightly_refused(code, refused.no.number())),
-    }
+    let longest = longest_walk(alloc, code)?;
+    let is_structured = is_structured_code(code);
+    Ok(match verified(alloc, &bytes) {
+        Some(Ok(budget)) => is_structured && longest.is_some() && budget == longest,
+        Some(Err(number)) => is_rightly_refused(is_structured, number),
+        None => false,
+    })
 }
 
-fn is_rightly_accepted(
-    alloc: Global,
-    code: &[Letter],
-    budget: Option<u64>,
-) -> Result<bool, AllocError> {
-    let longest = longest_walk(alloc, code)?;
-    Ok(is_structured_code(code) && longest.is_some() && budget == longest)
+/// What the verifier says of a program: the budget of main, or the number of the refusal.
+fn verified(alloc: Global, bytes: &[u8]) -> Option<Result<Option<u64>, u8>> {
+    let program = decode(alloc, bytes).ok()?;
+    Some(match verify(alloc, program) {
+        Ok(verified) => Ok(budget_of(&verified)),
+        Err(refused) => Err(refused.no.number()),
+    })
 }
 
 /// V05, V06 and V11 are of the structure. A place that no other leads to is the one thing else that such code may be
 /// refused for.
-fn is_rightly_refused(code: &[Letter], number: u8) -> bool {
+fn is_rightly_refused(is_structured: bool, number: u8) -> bool {
     let is_loose = matches!(number, 5 | 6 | 11);
-    is_loose != is_structured_code(code) && (is_loose || number == 9)
+    is_loose != is_structured && (is_loose || number == 9)
 }
 
-/// All code of so many instructions: the first number at which they differ.
-fn first_of_all(alloc: Global, digits: u32, count: u32) -> Result<Option<u32>, AllocError> {
-    for number in 0..count {
-        let code = code_of(alloc, digits, number)?;
-        if !agrees(alloc, &code)? {
-            return Ok(Some(number));
-        }
-    }
-    Ok(None)
-}
-
-/// All structured code of so many instructions and RET: the first number at which they differ.
-fn first_of_structured(alloc: Global, digits: u32, count: u32) -> Result<Option<u32>, AllocError> {
-    for number in 0..count {
-        let mut code = code_of(alloc, digits, number)?;
+/// Whether they agree on the code of a number; on code with RET behind it only where that is structured.
+fn agrees_on(
+    alloc: Global,
+    digits: u32,
+    number: u32,
+    is_structured: bool,
+) -> Result<bool, AllocError> {
+    let mut code = code_of(alloc, digits, number)?;
+    if is_structured {
         code.push(Letter::Ret)?;
-        if is_structured_code(&code) && !agrees(alloc, &code)? {
-            return Ok(Some(number));
+        if !is_structured_code(&code) {
+            return Ok(true);
         }
     }
-    Ok(None)
+    agrees(alloc, &code)
 }
 
-fn told(alloc: Global, number: Option<u32>) -> Result<Option<String>, AllocError> {
-    match number {
-        Some(number) => Ok(Some(format!(in alloc; "code {number} differs")?)),
-        None => Ok(None),
-    }
-}
-
-/// Of all code of so many instructions, `count` in number, the verifier says what the search says.
-pub fn all_code(alloc: Global, digits: u32, count: u32) -> Result<Option<String>, AllocError> {
-    let number = first_of_all(alloc, digits, count)?;
-    told(alloc, number)
-}
-
-/// So it does of all structured code of so many instructions and RET.
-pub fn structured_code(
+/// Of all code of so many instructions, `count` in number, the verifier says what the search says; or it does of all
+/// structured code of so many and RET. The first number at which they differ, or at which memory ran out.
+pub fn first_code(
     alloc: Global,
     digits: u32,
     count: u32,
-) -> Result<Option<String>, AllocError> {
-    let number = first_of_structured(alloc, digits, count)?;
-    told(alloc, number)
+    is_structured: bool,
+) -> Option<(&'static str, u64)> {
+    for number in 0..count {
+        match agrees_on(alloc, digits, number, is_structured) {
+            Ok(true) => {}
+            Ok(false) | Err(_) => return Some(("code", u64::from(number))),
+        }
+    }
+    None
 }

@@ -3,84 +3,47 @@
 use crate::letters::Letter;
 use std::alloc::{AllocError, Global};
 
-/// A loop that is begun: its first place, and the turns left.
-#[derive(Clone, Copy)]
-struct Turns {
-    first: usize,
-    left: u8,
-}
-
-/// Where a walk has come to, after so many places. Code of six instructions has at most two loops in one another.
+/// Where a walk has come to, after so many places, with the first place of each loop that is begun, and the turns left,
+/// 0 where there is none. Code of six instructions has at most two loops in one another.
 #[derive(Clone, Copy)]
 struct Walker {
     place: usize,
-    inner: Option<Turns>,
-    outer: Option<Turns>,
+    inner: (usize, u8),
+    outer: (usize, u8),
     passed: u64,
 }
 
 impl Walker {
-    fn first() -> Walker {
-        Walker {
-            place: 0,
-            inner: None,
-            outer: None,
-            passed: 0,
-        }
-    }
-
-    fn at(self, place: usize) -> Walker {
+    fn at(self, place: usize, inner: (usize, u8), outer: (usize, u8)) -> Walker {
         Walker {
             place,
-            inner: self.inner,
-            outer: self.outer,
+            inner,
+            outer,
             passed: self.passed.saturating_add(1),
         }
     }
 
     fn next(self) -> Walker {
-        self.at(self.place.saturating_add(1))
+        self.skipping(0)
     }
 
     fn skipping(self, skip: u8) -> Walker {
-        self.at(self.place.saturating_add(1).saturating_add(skip as usize))
+        let place = self.place.saturating_add(1).saturating_add(skip as usize);
+        self.at(place, self.inner, self.outer)
     }
 
-    fn beginning(self, left: u8) -> Walker {
-        let next = self.next();
-        let inner = Some(Turns {
-            first: next.place,
-            left,
-        });
-        Walker {
-            place: next.place,
-            inner,
-            outer: self.inner,
-            passed: next.passed,
-        }
+    fn beginning(self, turns: u8) -> Walker {
+        let first = self.place.saturating_add(1);
+        self.at(first, (first, turns), self.inner)
     }
 
     /// After the END of the innermost loop.
-    fn turning(self, turns: Turns) -> Walker {
-        if turns.left > 1 {
-            let inner = Some(Turns {
-                first: turns.first,
-                left: turns.left - 1,
-            });
-            let back = self.at(turns.first);
-            return Walker {
-                place: back.place,
-                inner,
-                outer: self.outer,
-                passed: back.passed,
-            };
-        }
-        let next = self.next();
-        Walker {
-            place: next.place,
-            inner: self.outer,
-            outer: None,
-            passed: next.passed,
+    fn turning(self) -> Walker {
+        let (first, left) = self.inner;
+        if left > 1 {
+            self.at(first, (first, left - 1), self.outer)
+        } else {
+            self.at(self.place.saturating_add(1), self.outer, (0, 0))
         }
     }
 }
@@ -110,9 +73,10 @@ fn ways_on(code: &[Letter], walker: Walker) -> Option<Ways> {
             second: Some(walker.skipping(skip)),
         },
         Letter::Jump(skip) => Ways::one(walker.skipping(skip)),
-        Letter::Repeat(_) if walker.outer.is_some() => return None,
+        Letter::Repeat(_) if walker.outer.1 != 0 => return None,
         Letter::Repeat(turns) => Ways::one(walker.beginning(turns)),
-        Letter::End => Ways::one(walker.turning(walker.inner?)),
+        Letter::End if walker.inner.1 == 0 => return None,
+        Letter::End => Ways::one(walker.turning()),
         Letter::Ret => Ways {
             first: None,
             second: None,
@@ -131,7 +95,12 @@ fn push_if(walkers: &mut Vec<Walker>, walker: Option<Walker>) -> Result<(), Allo
 pub fn longest_walk(alloc: Global, code: &[Letter]) -> Result<Option<u64>, AllocError> {
     let mut longest = 0;
     let mut walkers = Vec::new(alloc);
-    walkers.push(Walker::first())?;
+    walkers.push(Walker {
+        place: 0,
+        inner: (0, 0),
+        outer: (0, 0),
+        passed: 0,
+    })?;
     for _ in 0..100_000 {
         let Some(walker) = walkers.pop() else {
             return Ok(Some(longest));
