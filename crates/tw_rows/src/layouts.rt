@@ -34,16 +34,17 @@ fn read_numbers(text: &str) -> Result<(u8, u8, u8), Complaint> {
     ))
 }
 
-/// What a layout of three numbers has, or `refused`.
+/// What a layout of three numbers has, or why there is none.
 pub fn layout_text(alloc: Global, text: &str) -> Result<String, Complaint> {
     let (engines, servers, workers) = read_numbers(text)?;
     match Layout::new(engines, servers, workers) {
         Ok(layout) => Ok(numbers_text(alloc, layout)?),
-        Err(_) => Ok("refused".to_string(alloc)?),
+        Err(refusal) => Ok(refusal.to_string(alloc)?),
     }
 }
 
-fn numbers_text(alloc: Global, layout: Layout) -> Result<String, AllocError> {
+/// A layout as `engines 1 servers 1 workers 4`.
+pub fn numbers_text(alloc: Global, layout: Layout) -> Result<String, AllocError> {
     let engines = layout.engines();
     let servers = layout.servers();
     let workers = layout.workers();

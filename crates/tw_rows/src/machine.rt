@@ -5,7 +5,7 @@ ghost use Rattle.tw_code.specs.Bounds.{AreBelow};
 
 use crate::complaint::Complaint;
 use crate::events::read_events;
-use crate::layouts::{layout_of, read_layout};
+use crate::layouts::{layout_of, numbers_text, read_layout};
 use crate::play::{Course, played};
 use crate::programs::{read_program, with_bytes};
 use crate::state::put_state;
@@ -109,7 +109,7 @@ fn local_steps(alloc: Global, plain: &Plain, most: u64) -> Result<u64, Complaint
     }
 }
 
-/// `opened`, or the number of the refusal. The program comes back in both cases.
+/// `opened` and the layout, or the refusal as it is debugged, which is as it is displayed. The program comes back in both cases.
 pub fn open_text(alloc: Global, inputs: &str, bytes: &[u8]) -> Result<String, Complaint> {
     let layout = layout_of((1, 1, 1))?;
     let inputs = read_inputs(alloc, inputs)?;
@@ -125,12 +125,13 @@ pub fn open_text(alloc: Global, inputs: &str, bytes: &[u8]) -> Result<String, Co
 }
 
 fn opened_text(alloc: Global, plain: &Plain, bytes: &[u8]) -> Result<String, Complaint> {
-    with_bytes(alloc, "opened".to_string(alloc)?, plain.program(), bytes)
+    let layout = numbers_text(alloc, plain.layout())?;
+    let text = format!(in alloc; "opened {layout}")?;
+    with_bytes(alloc, text, plain.program(), bytes)
 }
 
 fn unopened_text(alloc: Global, refused: &OpenRefused, bytes: &[u8]) -> Result<String, Complaint> {
-    let number = refused.no.number();
-    let text = format!(in alloc; "O{number:02}")?;
+    let text = format!(in alloc; "{refused:?}")?;
     with_bytes(alloc, text, &refused.program, bytes)
 }
 

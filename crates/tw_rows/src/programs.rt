@@ -29,7 +29,7 @@ pub fn with_bytes(
     Ok(format!(in alloc; "{text} but the program is {digits}")?)
 }
 
-/// `program`, or the number and the offset of the fault.
+/// `program`, or the fault as it is displayed.
 pub fn decode_text(alloc: Global, bytes: &[u8]) -> Result<String, Complaint> {
     match decode(alloc, bytes) {
         Ok(program) => with_bytes(alloc, "program".to_string(alloc)?, &program, bytes),
@@ -38,12 +38,10 @@ pub fn decode_text(alloc: Global, bytes: &[u8]) -> Result<String, Complaint> {
 }
 
 fn fault_text(alloc: Global, fault: Fault) -> Result<String, AllocError> {
-    let number = fault.no.number();
-    let offset = fault.offset;
-    format!(in alloc; "F{number:02} at byte {offset}")
+    format!(in alloc; "{fault}")
 }
 
-/// `accepted`, or the number and the place of the refusal. The program comes back in both cases.
+/// `accepted`, or the refusal as it is displayed. The program comes back in both cases.
 pub fn verify_text(alloc: Global, bytes: &[u8]) -> Result<String, Complaint> {
     match verify(alloc, read_program(alloc, bytes)?) {
         Ok(verified) => with_bytes(
@@ -62,17 +60,14 @@ pub fn verify_text(alloc: Global, bytes: &[u8]) -> Result<String, Complaint> {
 }
 
 fn refusal_text(alloc: Global, refused: &Refused) -> Result<String, AllocError> {
-    let number = refused.no.number();
-    let procedure = refused.procedure;
-    let place = refused.place;
-    format!(in alloc; "V{number:02} in procedure {procedure} at place {place}")
+    format!(in alloc; "{refused}")
 }
 
-/// The budget of each procedure, or the refusal.
+/// The budget of each procedure, or the refusal as it is debugged, which is as it is displayed.
 pub fn budget_text(alloc: Global, bytes: &[u8]) -> Result<String, Complaint> {
     match verify(alloc, read_program(alloc, bytes)?) {
         Ok(verified) => Ok(budgets(alloc, &verified)?),
-        Err(refused) => Ok(refusal_text(alloc, &refused)?),
+        Err(refused) => Ok(format!(in alloc; "{refused:?}")?),
     }
 }
 
@@ -155,10 +150,14 @@ fn typing_text(alloc: Global, typing: &Typing) -> Result<String, AllocError> {
     let mut parts = Vec::new(alloc);
     for register in 0..16u8 {
         if let Some(right) = typing.right_in(register) {
-            let mode = mode_word(right.mode());
-            let ty = type_text(alloc, right.ty())?;
-            parts.push(format!(in alloc; "d{register} {mode} {ty}")?)?;
+            parts.push(right_text(alloc, register, right.mode(), right.ty())?)?;
         }
     }
     parts.as_slice().join(alloc, ", ")
+}
+
+fn right_text(alloc: Global, register: u8, mode: Mode, ty: DataType) -> Result<String, AllocError> {
+    let mode = mode_word(mode);
+    let ty = type_text(alloc, ty)?;
+    format!(in alloc; "d{register} {mode} {ty}")
 }
