@@ -1,0 +1,92 @@
+//! Bytes as a line tells them: digits and names, with single bytes changed, and cut.
+
+use crate::book::Book;
+use crate::complaint::Complaint;
+use std::alloc::Global;
+
+/// The bytes of a text such as `@every with 26=10 27=01` or `545742 @code 61*4096 first 31`.
+pub fn read_bytes(alloc: Global, book: &Book, text: &str) -> Result<Vec<u8>, Complaint> {
+    match text.rsplit_once(" first ") {
+        Some((whole, count)) => first_of(read_changed(alloc, book, whole)?, count),
+        None => read_changed(alloc, book, text),
+    }
+}
+
+/// The first so many of the bytes.
+fn first_of(mut bytes: Vec<u8>, count: &str) -> Result<Vec<u8>, Complaint> {
+    let count = count.parse::<usize>()?;
+    if count > bytes.len() {
+        return Err(Complaint::CutPastEnd);
+    }
+    bytes.truncate(count);
+    Ok(bytes)
+}
+
+fn read_changed(alloc: Global, book: &Book, text: &str) -> Result<Vec<u8>, Complaint> {
+    match text.split_once(" with ") {
+        Some((whole, changes)) => changed(read_pieces(alloc, book, whole)?, changes),
+        None => read_pieces(alloc, book, text),
+    }
+}
+
+/// The bytes with some of them written over.
+fn changed(mut bytes: Vec<u8>, changes: &str) -> Result<Vec<u8>, Complaint> {
+    for change in changes.split_whitespace() {
+        write_over(&mut bytes, change)?;
+    }
+    Ok(bytes)
+}
+
+/// Writes over one byte, at a place that counts from 0.
+fn write_over(bytes: &mut Vec<u8>, change: &str) -> Result<(), Complaint> {
+    let Some((place, digits)) = change.split_once('=') else {
+        return Err(Complaint::Change);
+    };
+    let place = place.parse::<usize>()?;
+    let byte = u8::from_str_radix(digits, 16)?;
+    match bytes.get_mut(place) {
+        Some(slot) => {
+            *slot = byte;
+            Ok(())
+        }
+        None => Err(Complaint::ChangePastEnd),
+    }
+}
+
+/// The bytes of the pieces one after the other.
+fn read_pieces(alloc: Global, book: &Book, text: &str) -> Result<Vec<u8>, Complaint> {
+    let mut bytes = Vec::new(alloc);
+    for piece in text.split_whitespace() {
+        put_piece(alloc, book, &mut bytes, piece)?;
+    }
+    Ok(bytes)
+}
+
+/// Adds named bytes, bytes in digits, or such bytes several times.
+fn put_piece(
+    alloc: Global,
+    book: &Book,
+    bytes: &mut Vec<u8>,
+    piece: &str,
+) -> Result<(), Complaint> {
+    if let Some(name) = piece.strip_prefix('@') {
+        bytes.extend_from_slice(book.named(name)?)?;
+        return Ok(());
+    }
+    match piece.split_once('*') {
+        Some((digits, times)) => put_digits(alloc, bytes, digits, times.parse::<usize>()?),
+        None => put_digits(alloc, bytes, piece, 1),
+    }
+}
+
+fn put_digits(
+    alloc: Global,
+    bytes: &mut Vec<u8>,
+    digits: &str,
+    times: usize,
+) -> Result<(), Complaint> {
+    let piece = hex::decode(alloc, digits)?;
+    let pieces = piece.as_slice().repeat(alloc, times)?;
+    bytes.extend_from_slice(pieces.as_slice())?;
+    Ok(())
+}

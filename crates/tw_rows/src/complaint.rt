@@ -1,0 +1,108 @@
+//! Why a line can't be played.
+
+use hex::FromHexError;
+use std::alloc::{AllocError, AllocFailed};
+use std::num::ParseIntError;
+use tw_code::NoMemory;
+
+/// What is wrong with a line, or that memory ran out; never an answer that a case may want.
+#[derive(Clone, Copy)]
+pub enum Complaint {
+    Memory,
+    Number,
+    Digits,
+    UnknownName,
+    TakenName,
+    CutPastEnd,
+    Change,
+    ChangePastEnd,
+    Escape,
+    WordBytes,
+    Naming,
+    ExtraField,
+    UnknownKind,
+    WrittenBytes,
+    NoProgram,
+    NotAccepted,
+    NoProcedure,
+    UnknownEvent,
+    MissingWord,
+    Actor,
+    NotEngine,
+    NotServer,
+    LayoutLimits,
+    LayoutNumbers,
+    ManyEvents,
+    LongEvent,
+    NotOpened,
+    NoEvents,
+    NoFrame,
+    Input,
+}
+
+impl Complaint {
+    pub fn text(self) -> &'static str {
+        match self {
+            Complaint::Memory => "memory ran out",
+            Complaint::Number => "this is no number, or a number out of its range",
+            Complaint::Digits => "these are no bytes in hexadecimal digits",
+            Complaint::UnknownName => "no earlier line names these bytes",
+            Complaint::TakenName => "the name is taken",
+            Complaint::CutPastEnd => "there are fewer bytes than are to be left",
+            Complaint::Change => "a change is PLACE=DIGITS",
+            Complaint::ChangePastEnd => "no byte is at the place of a change",
+            Complaint::Escape => "an escape is \\t, \\r, \\n or \\xHH",
+            Complaint::WordBytes => "a word isn't UTF-8",
+            Complaint::Naming => "a name is given as NAME = BYTES",
+            Complaint::ExtraField => "this case has a field too many",
+            Complaint::UnknownKind => "there is no such kind of case",
+            Complaint::WrittenBytes => "the session wrote what is no text",
+            Complaint::NoProgram => "the bytes are no program",
+            Complaint::NotAccepted => "the program isn't accepted",
+            Complaint::NoProcedure => "the program has no such procedure",
+            Complaint::UnknownEvent => "there is no such event",
+            Complaint::MissingWord => "an event lacks a word",
+            Complaint::Actor => "an actor is e, s or w and a number",
+            Complaint::NotEngine => "this event is an engine's",
+            Complaint::NotServer => "this event is a server's",
+            Complaint::LayoutLimits => "the layout is out of its limits",
+            Complaint::LayoutNumbers => "a layout has three numbers",
+            Complaint::ManyEvents => "a case has at most 10,000 events",
+            Complaint::LongEvent => "an event does at most 1,000,000,000 instructions",
+            Complaint::NotOpened => "the program isn't opened",
+            Complaint::NoEvents => "this case has no events",
+            Complaint::NoFrame => "engine 0 runs nothing",
+            Complaint::Input => "an input is int:NUMBER or text:TEXT",
+        }
+    }
+}
+
+impl From<AllocError> for Complaint {
+    fn from(_error: AllocError) -> Complaint {
+        Complaint::Memory
+    }
+}
+
+impl<T: Drop> From<AllocFailed<T>> for Complaint {
+    fn from(_error: AllocFailed<T>) -> Complaint {
+        Complaint::Memory
+    }
+}
+
+impl From<NoMemory> for Complaint {
+    fn from(_error: NoMemory) -> Complaint {
+        Complaint::Memory
+    }
+}
+
+impl From<ParseIntError> for Complaint {
+    fn from(_error: ParseIntError) -> Complaint {
+        Complaint::Number
+    }
+}
+
+impl From<FromHexError> for Complaint {
+    fn from(_error: FromHexError) -> Complaint {
+        Complaint::Digits
+    }
+}

@@ -1,0 +1,52 @@
+//! Layouts as a line tells them.
+
+use crate::complaint::Complaint;
+use std::alloc::{AllocError, Global};
+use tw_types::Layout;
+
+/// The layout of a text such as `1 1 4`; without words two of each kind.
+pub fn read_layout(text: &str) -> Result<Layout, Complaint> {
+    if text.is_empty() {
+        return layout_of((2, 2, 2));
+    }
+    layout_of(read_numbers(text)?)
+}
+
+/// The layout of these numbers of engines, servers and workers.
+pub fn layout_of((engines, servers, workers): (u8, u8, u8)) -> Result<Layout, Complaint> {
+    match Layout::new(engines, servers, workers) {
+        Ok(layout) => Ok(layout),
+        Err(_) => Err(Complaint::LayoutLimits),
+    }
+}
+
+fn read_numbers(text: &str) -> Result<(u8, u8, u8), Complaint> {
+    let Some((engines, rest)) = text.split_once(' ') else {
+        return Err(Complaint::LayoutNumbers);
+    };
+    let Some((servers, workers)) = rest.split_once(' ') else {
+        return Err(Complaint::LayoutNumbers);
+    };
+    Ok((
+        engines.parse::<u8>()?,
+        servers.parse::<u8>()?,
+        workers.parse::<u8>()?,
+    ))
+}
+
+/// What a layout of three numbers has, or why there is none.
+pub fn layout_text(alloc: Global, text: &str) -> Result<String, Complaint> {
+    let (engines, servers, workers) = read_numbers(text)?;
+    match Layout::new(engines, servers, workers) {
+        Ok(layout) => Ok(numbers_text(alloc, layout)?),
+        Err(refusal) => Ok(refusal.to_string(alloc)?),
+    }
+}
+
+/// A layout as `engines 1 servers 1 workers 4`.
+pub fn numbers_text(alloc: Global, layout: Layout) -> Result<String, AllocError> {
+    let engines = layout.engines();
+    let servers = layout.servers();
+    let workers = layout.workers();
+    format!(in alloc; "engines {engines} servers {servers} workers {workers}")
+}

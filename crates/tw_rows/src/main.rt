@@ -1,0 +1,36 @@
+//! Plays the cases of its input, one a line, and tells of each whether it came to what the line wants.
+//!
+//! `README.md` says how a case is written, and `kinds` has the kinds of cases.
+#![tactic(auto)]
+
+mod book;
+mod bytes;
+mod case;
+mod complaint;
+mod events;
+mod kinds;
+mod layouts;
+mod machine;
+mod play;
+mod programs;
+mod sessions;
+mod state;
+mod words;
+
+use crate::book::Book;
+use crate::case::play_line;
+use std::io;
+
+fn main(rt: HostRuntime) -> io::Result<()> {
+    let mut book = Book::new(rt.alloc());
+    for line in rt.lines(rt.alloc()) {
+        let line = line?;
+        if let Some(text) = play_line(&rt, &mut book, line.as_str())? {
+            println!(rt; "{text}")?;
+        }
+    }
+    if book.is_empty() {
+        println!(rt; "there are no cases")?;
+    }
+    Ok(())
+}

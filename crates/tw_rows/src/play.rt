@@ -1,0 +1,52 @@
+//! Events on the plain machine.
+
+ghost use Rattle.std.specs.Prelude.{◌↔◌, ◌≤◌, length, IsTrue};
+ghost use Rattle.tw_code.specs.Bounds.{size_of, AreBelow};
+
+use crate::complaint::Complaint;
+use std::alloc::Global;
+use tw_machine::{Plain, Stepped};
+use tw_types::Event;
+
+/// The machine after some events, and what each of them came to.
+#[derive(Drop)]
+pub struct Course {
+    pub plain: Plain,
+    pub answers: Vec<Stepped>,
+}
+
+/// Whether an event does at most a thousand million instructions.
+fn is_short(event: Event) -> bool
+    ensures { IsTrue result ↔ (size_of event ≤ 1000000000) }
+{
+    match event {
+        Event::Local(_, steps) => steps <= 1_000_000_000,
+        Event::Take(_) | Event::Call(_) | Event::End(_) => true,
+        Event::Ask(..) | Event::Deliver(..) | Event::Release(..) => true,
+    }
+}
+
+/// Plays at most 10,000 events, those after one that didn't go too.
+pub fn played(alloc: Global, first: Plain, events: &[Event]) -> Result<Course, Complaint>
+    requires { AreBelow 64 first.state }
+{
+    if events.len() > 10_000 {
+        return Err(Complaint::ManyEvents);
+    }
+    play(alloc, first, events)
+}
+
+fn play(alloc: Global, first: Plain, events: &[Event]) -> Result<Course, Complaint>
+    requires few { length events.now ≤ 10000 }
+    requires low { AreBelow 64 first.state }
+{
+    let mut plain = first;
+    let mut answers = Vec::new(alloc);
+    for event in events {
+        if !is_short(*event) {
+            return Err(Complaint::LongEvent);
+        }
+        answers.push(plain.step(alloc, *event))?;
+    }
+    Ok(Course { plain, answers })
+}

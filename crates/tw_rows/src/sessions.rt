@@ -1,0 +1,98 @@
+//! Cases of whole sessions.
+
+use crate::book::Book;
+use crate::bytes::read_bytes;
+use crate::complaint::Complaint;
+use crate::words::{read_words, unescaped};
+use std::alloc::{AllocError, Global};
+use tw_session::session;
+
+/// The status and the whole text of a session with these words and this input.
+pub fn tw_text<H: AllocGlobal>(
+    rt: &H,
+    book: &Book,
+    words: &str,
+    input: &str,
+) -> Result<String, Complaint> {
+    let words = read_words(rt.alloc(), words)?;
+    let input = read_input(rt.alloc(), book, input)?;
+    let (code, left, written) = ended(rt, words.as_slice(), input.as_slice());
+    let is_unread = left == input.len() && !input.is_empty();
+    session_text(rt.alloc(), code, written, is_unread)
+}
+
+/// The status of a session, how many bytes it left unread, and what it wrote.
+fn ended<H: AllocGlobal>(rt: &H, words: &[String], input: &[u8]) -> (u8, usize, Vec<u8>) {
+    let mut reader = input;
+    let mut writer = Vec::new(rt.alloc());
+    let status = session(rt, words, &mut reader, &mut writer);
+    (status.code(), reader.len(), writer)
+}
+
+/// The status of a session without input, and which of these phrases its text lacks.
+pub fn phrases_text<H: AllocGlobal>(
+    rt: &H,
+    words: &str,
+    phrases: &str,
+) -> Result<String, Complaint> {
+    let words = read_words(rt.alloc(), words)?;
+    let (code, _, written) = ended(rt, words.as_slice(), &[]);
+    match String::from_utf8(written) {
+        Ok(text) => Ok(lacks_text(rt.alloc(), code, text.as_str(), phrases)?),
+        Err(_) => Err(Complaint::WrittenBytes),
+    }
+}
+
+fn lacks_text(alloc: Global, code: u8, text: &str, phrases: &str) -> Result<String, AllocError> {
+    let mut told = code.to_string(alloc)?;
+    for phrase in phrases.split(" / ") {
+        if !text.contains(phrase) {
+            told.push_str(" without ")?;
+            told.push_str(phrase)?;
+        }
+    }
+    Ok(told)
+}
+
+/// Text as it stands, text so many times, or the digits of named bytes.
+fn read_input(alloc: Global, book: &Book, text: &str) -> Result<Vec<u8>, Complaint> {
+    if text.starts_with('@') {
+        return digits_of(alloc, read_bytes(alloc, book, text)?.as_slice());
+    }
+    match text.split_once(" times ") {
+        Some((times, text)) => repeated(alloc, times.parse::<usize>()?, text),
+        None => unescaped(alloc, text),
+    }
+}
+
+fn digits_of(alloc: Global, bytes: &[u8]) -> Result<Vec<u8>, Complaint> {
+    Ok(hex::encode(alloc, bytes)?.into_bytes())
+}
+
+fn repeated(alloc: Global, times: usize, text: &str) -> Result<Vec<u8>, Complaint> {
+    let text = unescaped(alloc, text)?;
+    Ok(text.as_slice().repeat(alloc, times)?)
+}
+
+/// The status, whether the input was left unread, and the text, in one line.
+fn session_text(
+    alloc: Global,
+    code: u8,
+    written: Vec<u8>,
+    is_unread: bool,
+) -> Result<String, Complaint> {
+    let Ok(text) = String::from_utf8(written) else {
+        return Err(Complaint::WrittenBytes);
+    };
+    let text = one_line(alloc, text.as_str())?;
+    let unread = if is_unread { " unread" } else { "" };
+    Ok(format!(in alloc; "{code}{unread} {text}")?)
+}
+
+/// The text with a slash for each line end but the last.
+fn one_line(alloc: Global, text: &str) -> Result<String, Complaint> {
+    match text.strip_suffix('\n') {
+        Some(lines) => Ok(lines.replace(alloc, "\n", " / ")?),
+        None => Ok(format!(in alloc; "{text} (without a line end)")?),
+    }
+}

@@ -1,0 +1,68 @@
+//! Text as a line tells it, with escapes for what a line can't have.
+
+use crate::complaint::Complaint;
+use std::alloc::Global;
+
+/// The bytes of a text in which `\t`, `\r`, `\n` and `\xHH` stand for bytes.
+pub fn unescaped(alloc: Global, text: &str) -> Result<Vec<u8>, Complaint> {
+    let mut bytes = Vec::new(alloc);
+    let mut pieces = text.split('\\');
+    if let Some(first) = pieces.next() {
+        bytes.extend_from_slice(first.as_bytes())?;
+    }
+    for piece in pieces {
+        put_escaped(&mut bytes, piece)?;
+    }
+    Ok(bytes)
+}
+
+/// Adds a piece that stands behind a backslash.
+fn put_escaped(bytes: &mut Vec<u8>, piece: &str) -> Result<(), Complaint> {
+    let (byte, rest) = escape(piece)?;
+    bytes.push(byte)?;
+    bytes.extend_from_slice(rest.as_bytes())?;
+    Ok(())
+}
+
+/// The byte that an escape stands for, and what follows.
+fn escape(piece: &str) -> Result<(u8, &str), Complaint> {
+    if let Some(rest) = piece.strip_prefix('t') {
+        return Ok((b'\t', rest));
+    }
+    if let Some(rest) = piece.strip_prefix('r') {
+        return Ok((b'\r', rest));
+    }
+    if let Some(rest) = piece.strip_prefix('n') {
+        return Ok((b'\n', rest));
+    }
+    hex_escape(piece)
+}
+
+fn hex_escape(piece: &str) -> Result<(u8, &str), Complaint> {
+    let Some((digits, rest)) = piece.split_at_checked(3) else {
+        return Err(Complaint::Escape);
+    };
+    let Some(digits) = digits.strip_prefix('x') else {
+        return Err(Complaint::Escape);
+    };
+    Ok((u8::from_str_radix(digits, 16)?, rest))
+}
+
+/// The words of a command line. A pair of quotes stands for the empty word.
+pub fn read_words(alloc: Global, text: &str) -> Result<Vec<String>, Complaint> {
+    let mut words = Vec::new(alloc);
+    for word in text.split_whitespace() {
+        words.push(read_word(alloc, word)?)?;
+    }
+    Ok(words)
+}
+
+fn read_word(alloc: Global, word: &str) -> Result<String, Complaint> {
+    if word == "\"\"" {
+        return Ok(String::new(alloc));
+    }
+    match String::from_utf8(unescaped(alloc, word)?) {
+        Ok(word) => Ok(word),
+        Err(_) => Err(Complaint::WordBytes),
+    }
+}

@@ -1,0 +1,11 @@
+//! Tests of the public calls of every crate, of what a row of data can't say.
+#![tactic(auto)]
+
+#[cfg(test)]
+mod laws;
+#[cfg(test)]
+mod rights;
+#[cfg(test)]
+mod streams;
+#[cfg(test)]
+mod types;

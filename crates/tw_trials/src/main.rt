@@ -1,0 +1,63 @@
+//! Trials that run long: each prints one line, `agrees` or its first difference.
+#![tactic(auto)]
+
+mod calls;
+mod letters;
+mod members;
+mod model;
+mod parts;
+mod random;
+mod same;
+mod search;
+mod walks;
+mod worked;
+
+use std::io;
+
+/// The line of a trial: what differs first, if something does.
+fn tell(rt: &HostRuntime, name: &str, difference: Option<(&'static str, u64)>) -> io::Result<()> {
+    match difference {
+        None => println!(rt; "{name}: agrees"),
+        Some((what, number)) => println!(rt; "{name}: {what} {number} differs"),
+    }
+}
+
+/// What differs in a trial that has one answer only.
+fn whole(agrees: bool) -> Option<(&'static str, u64)> {
+    if agrees { None } else { Some(("its end", 0)) }
+}
+
+fn store_trials(rt: &HostRuntime) -> io::Result<()> {
+    let alloc = rt.alloc();
+    let random = random::calls_are_the_models(alloc);
+    tell(rt, "10,000 calls of the store and of its model", random)?;
+    let worked = worked::worked_calls_go(alloc);
+    tell(rt, "the worked calls of the store", worked)?;
+    let found = whole(members::thousand_are_found(alloc));
+    tell(rt, "a thousand members are found", found)?;
+    let freed = whole(members::thousand_are_freed(alloc));
+    tell(rt, "a thousand members are freed", freed)
+}
+
+fn verifier_trials(rt: &HostRuntime) -> io::Result<()> {
+    for (digits, count, behind) in [
+        (1, 11, ""),
+        (2, 121, ""),
+        (3, 1_331, ""),
+        (4, 14_641, ""),
+        (4, 14_641, " and RET"),
+        (5, 161_051, " and RET"),
+    ] {
+        let difference = search::first_code(rt.alloc(), digits, count, !behind.is_empty());
+        print!(rt; "{digits} instructions{behind}, ")?;
+        tell(rt, "the verifier and all walks", difference)?;
+    }
+    Ok(())
+}
+
+fn main(rt: HostRuntime) -> io::Result<()> {
+    store_trials(&rt)?;
+    verifier_trials(&rt)?;
+    let parts = parts::first_other_instruction(rt.alloc());
+    tell(&rt, "the parts of every instruction", parts)
+}

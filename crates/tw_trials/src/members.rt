@@ -1,0 +1,86 @@
+//! A container of a thousand members.
+
+use crate::calls::{Call, answered};
+use crate::model::{Answer, Plain};
+use std::alloc::Global;
+use tw_store::{Datum, Store};
+use tw_types::DatumId;
+
+/// Whether a call answers this.
+fn answers(alloc: Global, store: &mut Store, call: Call, answer: Answer) -> bool {
+    answered(store, alloc, call) == answer
+}
+
+/// Makes a container of ints, datum 1, and data 2 to 1,001, at the multiples of the factor below 1,000; whether all
+/// that went.
+fn filled(alloc: Global, store: &mut Store, factor: i64) -> bool {
+    let mut went = answers(alloc, store, Call::Create(1, false), Answer::Id(1));
+    for turn in 0..1_000_i64 {
+        went = member_added(alloc, store, turn, turn.wrapping_mul(factor) % 1_000) && went;
+    }
+    went
+}
+
+/// Makes the next datum, sets it to the turn, and adds it there.
+fn member_added(alloc: Global, store: &mut Store, turn: i64, subscript: i64) -> bool {
+    let id = store.next().number();
+    let set = Call::Store(id, Plain::Number(turn));
+    answers(alloc, store, Call::Create(0, false), Answer::Id(id))
+        && answers(alloc, store, set, Answer::Done)
+        && answers(alloc, store, Call::Insert(1, subscript, id), Answer::Done)
+}
+
+/// Whether the container has its members at their subscripts, and at indices that are the subscripts.
+fn has_thousand(container: &Datum) -> bool {
+    let mut are_there = container.len() == 1_000 && container.member(1_000).is_none();
+    for subscript in 0..1_000_i64 {
+        are_there = are_there && is_at(container, subscript);
+    }
+    are_there
+}
+
+fn is_at(container: &Datum, subscript: i64) -> bool {
+    let index = usize::try_from(subscript).unwrap_or(1_000);
+    match (container.member(index), container.member_at(subscript)) {
+        (Some((found, member)), Some(other)) => found == subscript && member == other,
+        _ => false,
+    }
+}
+
+/// A thousand members, added in mixed order, are found at their indices and subscripts. Since 7 and 1,000 have no
+/// divisor in common, each subscript below 1,000 comes once.
+pub fn thousand_are_found(alloc: Global) -> bool {
+    match Store::new(alloc, 1) {
+        Ok(mut store) => {
+            filled(alloc, &mut store, 7) && store.view(DatumId::new(1)).is_some_and(has_thousand)
+        }
+        Err(_) => false,
+    }
+}
+
+/// How many of the container and its members are live.
+fn live(store: &Store) -> u64 {
+    let mut count = 0_u64;
+    for id in 1..1_002_u64 {
+        if store.view(DatumId::new(id)).is_some() {
+            count = count.wrapping_add(1);
+        }
+    }
+    count
+}
+
+/// A thousand members are freed at once with their container.
+pub fn thousand_are_freed(alloc: Global) -> bool {
+    match Store::new(alloc, 1) {
+        Ok(mut store) => are_filled_and_freed(alloc, &mut store),
+        Err(_) => false,
+    }
+}
+
+fn are_filled_and_freed(alloc: Global, store: &mut Store) -> bool {
+    filled(alloc, store, 1)
+        && answers(alloc, store, Call::DropWrite(1), Answer::Done)
+        && live(store) == 1_001
+        && answers(alloc, store, Call::DropRead(1), Answer::Done)
+        && live(store) == 0
+}

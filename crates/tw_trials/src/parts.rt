@@ -1,0 +1,100 @@
+//! The parts of a program's instructions.
+
+use std::alloc::Global;
+use tw_code::{Instr, decode};
+
+/// One procedure with an instruction of each code, in the order of the codes.
+const EVERY: [u8; 102] = [
+    // The header, and the procedure up to its code of 19 instructions.
+    0x54, 0x57, 0x42, 0x01, 0x01, 0x00, 0x01, 0x04, 0x01, 0x02, 0x01, 0x02, 0x00, 0x13,
+    // INT, TEXT and COPY.
+    0x01, 0x00, 0xff, 0xff, 0xff, 0xff, 0xff, 0xff, 0xff, 0xfe, 0x02, 0x01, 0x00, 0x03, 0x61, 0xc3,
+    0xa9, 0x03, 0x02, 0x03,
+    // ADD, SUB, MUL, DIV and REM.
+    0x10, 0x00, 0x01, 0x02, 0x00, 0x05, 0x11, 0x03, 0x04, 0x05, 0x01, 0x00, 0x12, 0x06, 0x07, 0x08,
+    0xff, 0xff, 0x13, 0x09, 0x0a, 0x0b, 0x00, 0x00, 0x14, 0x0c, 0x0d, 0x0e, 0x00, 0x01,
+    // CAT, LEN, SHOW and READI.
+    0x18, 0x0f, 0x00, 0x01, 0x00, 0x02, 0x19, 0x02, 0x03, 0x1a, 0x04, 0x05, 0x1b, 0x06, 0x07, 0x00,
+    0x03,
+    // JMP, JEQ, JLT, REPEAT and END.
+    0x20, 0x00, 0x04, 0x21, 0x08, 0x09, 0x00, 0x05, 0x22, 0x0a, 0x0b, 0x00, 0x06, 0x23, 0x03, 0xe8,
+    0x24, // STORE and RET.
+    0x31, 0x0c, 0x0d, 0x42,
+];
+
+/// Registers, and a skip or a number of turns, in the order of the bytes; 0 where an instruction has fewer.
+fn parts(instr: &Instr) -> (u8, u8, u8, u16) {
+    match *instr {
+        Instr::Int { to, value: _ } | Instr::Text { to, text: _ } => (to, 0, 0, 0),
+        Instr::Copy { to, from } | Instr::Length { to, from } | Instr::Show { to, from } => {
+            (to, from, 0, 0)
+        }
+        Instr::Compute {
+            operation: _,
+            to,
+            left,
+            right,
+            skip,
+        }
+        | Instr::Concatenate {
+            to,
+            left,
+            right,
+            skip,
+        } => (to, left, right, skip),
+        Instr::ReadInt { to, from, skip } => (to, from, 0, skip),
+        Instr::Jump { skip } => (0, 0, 0, skip),
+        Instr::JumpEqual { left, right, skip } | Instr::JumpLess { left, right, skip } => {
+            (left, right, 0, skip)
+        }
+        Instr::Repeat { turns } => (0, 0, 0, turns),
+        Instr::Store { datum, from } => (datum, from, 0, 0),
+        Instr::End | Instr::Ret => (0, 0, 0, 0),
+    }
+}
+
+/// The parts of the instructions of `EVERY`.
+const PARTS: [(u8, u8, u8, u16); 19] = [
+    (0, 0, 0, 0),
+    (1, 0, 0, 0),
+    (2, 3, 0, 0),
+    (0, 1, 2, 5),
+    (3, 4, 5, 256),
+    (6, 7, 8, 65_535),
+    (9, 10, 11, 0),
+    (12, 13, 14, 1),
+    (15, 0, 1, 2),
+    (2, 3, 0, 0),
+    (4, 5, 0, 0),
+    (6, 7, 0, 3),
+    (0, 0, 0, 4),
+    (8, 9, 0, 5),
+    (10, 11, 0, 6),
+    (0, 0, 0, 1000),
+    (0, 0, 0, 0),
+    (12, 13, 0, 0),
+    (0, 0, 0, 0),
+];
+
+/// The first place at which code has other parts than these.
+fn first_other_part(code: &[Instr]) -> Option<u64> {
+    let mut place = 0_u64;
+    for wanted in &PARTS {
+        if code.get(place as usize).map(parts) != Some(*wanted) {
+            return Some(place);
+        }
+        place = place.wrapping_add(1);
+    }
+    None
+}
+
+/// The first instruction of the program whose parts are read otherwise.
+pub fn first_other_instruction(alloc: Global) -> Option<(&'static str, u64)> {
+    let Ok(program) = decode(alloc, &EVERY) else {
+        return Some(("program", 0));
+    };
+    match program.procedures().first() {
+        Some(procedure) => Some(("instruction", first_other_part(procedure.code.as_slice())?)),
+        None => Some(("program", 1)),
+    }
+}
