@@ -1,7 +1,7 @@
 //! Cases of the plain machine.
 
 ghost use Rattle.std.specs.Prelude.{IfOk};
-ghost use Rattle.tw_code.specs.Bounds.{AreBelow};
+ghost use Rattle.tw_code.specs.machine.Bounds.{AreBelow, opening_bound};
 
 use crate::complaint::Complaint;
 use crate::events::read_events;
@@ -15,7 +15,7 @@ use tw_types::{Actor, Input, InputText, Layout};
 
 /// The machine of a program without inputs.
 fn opened(alloc: Global, bytes: &[u8], layout: Layout) -> Result<Plain, Complaint>
-    ensures { IfOk result (λ plain. AreBelow 64 plain.state) }
+    ensures { IfOk result (λ plain. AreBelow opening_bound plain.state) }
 {
     match Plain::open(alloc, read_program(alloc, bytes)?, &[], layout) {
         Ok(plain) => Ok(plain),

@@ -1,7 +1,7 @@
 //! Events on the plain machine.
 
 ghost use Rattle.std.specs.Prelude.{◌↔◌, ◌≤◌, length, IsTrue};
-ghost use Rattle.tw_code.specs.Bounds.{size_of, AreBelow};
+ghost use Rattle.tw_code.specs.machine.Bounds.{AreBelow, opening_bound, size_of};
 
 use crate::complaint::Complaint;
 use std::alloc::Global;
@@ -28,7 +28,7 @@ fn is_short(event: Event) -> bool
 
 /// Plays at most 10,000 events, those after one that didn't go too.
 pub fn played(alloc: Global, first: Plain, events: &[Event]) -> Result<Course, Complaint>
-    requires { AreBelow 64 first.state }
+    requires { AreBelow opening_bound first.state }
 {
     if events.len() > 10_000 {
         return Err(Complaint::ManyEvents);
@@ -38,7 +38,7 @@ pub fn played(alloc: Global, first: Plain, events: &[Event]) -> Result<Course, C
 
 fn play(alloc: Global, first: Plain, events: &[Event]) -> Result<Course, Complaint>
     requires few { length events.now ≤ 10000 }
-    requires low { AreBelow 64 first.state }
+    requires low { AreBelow opening_bound first.state }
 {
     let mut plain = first;
     let mut answers = Vec::new(alloc);

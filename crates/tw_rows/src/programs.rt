@@ -149,7 +149,7 @@ fn typing_text(alloc: Global, typing: &Typing) -> Result<String, AllocError> {
     }
     let mut parts = Vec::new(alloc);
     for register in 0..16u8 {
-        if let Some(right) = typing.right_in(register) {
+        if let Some(right) = typing.right_at(register) {
             parts.push(right_text(alloc, register, right.mode(), right.ty())?)?;
         }
     }

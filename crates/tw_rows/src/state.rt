@@ -94,12 +94,13 @@ fn datum_text(alloc: Global, number: u64, datum: &Datum) -> Result<String, Alloc
     let content = content_text(alloc, datum)?;
     let reads = datum.reads();
     let writes = datum.writes();
-    let closed = if datum.is_closed() { "closed" } else { "open" };
+    let closed = if datum.closed() { "closed" } else { "open" };
     format!(in alloc; "d{number} {ty} {content} reads {reads} writes {writes} {closed}")
 }
 
 fn content_text(alloc: Global, datum: &Datum) -> Result<String, AllocError> {
-    if let Some(count) = datum.member_count() {
+    if datum.ty().depth() > 0 {
+        let count = datum.len();
         return format!(in alloc; "members {count}");
     }
     match datum.value() {

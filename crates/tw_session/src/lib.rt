@@ -14,5 +14,7 @@ mod run;
 mod shell;
 mod status;
 
+pub use command::Order;
+pub use reply::{Reply, reply_to};
 pub use shell::{session, without_words};
 pub use status::{Close, Status};

@@ -1,7 +1,7 @@
 //! The parts of a program's instructions.
 
 use std::alloc::Global;
-use tw_code::{Instr, decode};
+use tw_code::{DataInstr, Instr, LocalInstr, decode};
 
 /// One procedure with an instruction of each code, in the order of the codes.
 const EVERY: [u8; 102] = [
@@ -24,32 +24,44 @@ const EVERY: [u8; 102] = [
 
 /// Registers, and a skip or a number of turns, in the order of the bytes; 0 where an instruction has fewer.
 fn parts(instr: &Instr) -> (u8, u8, u8, u16) {
+    match instr {
+        Instr::Local(local) => local_parts(local),
+        Instr::Data(data) => data_parts(*data),
+        Instr::Ret => (0, 0, 0, 0),
+    }
+}
+
+fn data_parts(instr: DataInstr) -> (u8, u8, u8, u16) {
+    match instr {
+        DataInstr::Store { datum, from } => (datum, from, 0, 0),
+    }
+}
+
+fn local_parts(instr: &LocalInstr) -> (u8, u8, u8, u16) {
     match *instr {
-        Instr::Int { to, value: _ } | Instr::Text { to, text: _ } => (to, 0, 0, 0),
-        Instr::Copy { to, from } | Instr::Length { to, from } | Instr::Show { to, from } => {
-            (to, from, 0, 0)
-        }
-        Instr::Compute {
+        LocalInstr::Int { to, value: _ } | LocalInstr::Text { to, text: _ } => (to, 0, 0, 0),
+        LocalInstr::Copy { to, from }
+        | LocalInstr::Length { to, from }
+        | LocalInstr::Show { to, from } => (to, from, 0, 0),
+        LocalInstr::Compute {
             operation: _,
             to,
             left,
             right,
             skip,
         }
-        | Instr::Concatenate {
+        | LocalInstr::Concatenate {
             to,
             left,
             right,
             skip,
         } => (to, left, right, skip),
-        Instr::ReadInt { to, from, skip } => (to, from, 0, skip),
-        Instr::Jump { skip } => (0, 0, 0, skip),
-        Instr::JumpEqual { left, right, skip } | Instr::JumpLess { left, right, skip } => {
-            (left, right, 0, skip)
-        }
-        Instr::Repeat { turns } => (0, 0, 0, turns),
-        Instr::Store { datum, from } => (datum, from, 0, 0),
-        Instr::End | Instr::Ret => (0, 0, 0, 0),
+        LocalInstr::ReadInt { to, from, skip } => (to, from, 0, skip),
+        LocalInstr::Jump { skip } => (0, 0, 0, skip),
+        LocalInstr::JumpEqual { left, right, skip } | LocalInstr::JumpLess { left, right, skip } =>
+            (left, right, 0, skip),
+        LocalInstr::Repeat { turns } => (0, 0, 0, turns),
+        LocalInstr::End => (0, 0, 0, 0),
     }
 }
 

@@ -1,10 +1,10 @@
 use Rattle.std.proofs.Common.{◌+◌, ◌*◌, ◌≤◌, arith}
-use Rattle.tw_code.specs.Bounds.{size_of}
-use Rattle.tw_code.specs.Growth.{below_more}
+use Rattle.tw_code.specs.machine.Bounds.{size_of, opening_bound}
+use Rattle.tw_code.proofs.Growth.{below_more}
 use Rattle.tw_rows.proofs.play.play.Goals as goal
 
 pub loop-event-preserved : goal.loop-event-preserved
 loop-event-preserved c =
-    let n = 64 + 1000000000 * c.loop-event.event-index in
+    let n = opening_bound + 1000000000 * c.loop-event.event-index in
     let short : size_of c.event-item.result ≤ 1000000000 = c.is_short.ensures.0 c.if-not-is_short.false in
     below_more _ _ _ (omega arith) (c.step.ensures.below n c.loop-event.invariant)
