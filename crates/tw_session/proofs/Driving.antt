@@ -1,11 +1,11 @@
 -- One engine runs main alone: which of its events are enabled, and what they leave.
-use Rattle.std.proofs.Common.{◌≡◌, ◌<◌, ◌+◌, ◌-◌, ℕ, true, false, not, eqb, cond, List, [], ◌∷◌, length, refl, sym, ap, subst, ◌∙◌, ◌⊎◌, inl, inr, arith, is_some, is_none, Option, Some, None, map, slice_get}
+use Rattle.std.proofs.Common.{◌≡◌, ◌<◌, ◌+◌, ◌-◌, ℕ, true, not, eqb, cond, List, [], ◌∷◌, length, refl, sym, ap, subst, ◌∙◌, ◌⊎◌, inl, inr, arith, is_some, is_none, Option, Some, None, map, slice_get}
 use Rattle.std.specs.Prelude.{Result, Ok, Err}
 use Rattle.std.proofs.lemmas.Bool.Decides.{nat_tests}
 use Rattle.std.specs.List.{list_all}
 use Rattle.std.specs.Option.{option_and_then}
 use Rattle.std.specs.Ordering.{nat_cmp}
-use Rattle.std.specs.Cmp.{IsTotalOrder, nat_cmp_total}
+use Rattle.std.specs.Cmp.{nat_cmp_total}
 use Rattle.std.specs.FinMap as fin
 use Rattle.std.specs.FinMap.{FinMap, get-empty, get-insert, len-empty, len-insert, len-remove, entries-insert, put, len-entries}
 use Rattle.std.specs.FinSet as set
@@ -16,7 +16,7 @@ use Rattle.tw_types.specs.declared.event.Event.{Event}
 use Rattle.tw_types.specs.declared.event.Event.TheVariants.{Take, Local, Call, End}
 use Rattle.tw_types.specs.Actor.{actor_cmp}
 use Rattle.tw_types.specs.Notices.{Notices, notice_cmp}
-use Rattle.tw_types.specs.Outcome.{Outcome, Went, ◌>>=◌, ◌>>◌, only_if, outcome_of}
+use Rattle.tw_types.specs.Outcome.{Went, ◌>>=◌, ◌>>◌, only_if, outcome_of}
 use Rattle.tw_types.specs.Result.{must}
 use Rattle.tw_types.specs.Store.{Store, empty_store}
 use Rattle.tw_types.specs.Task.{RightArg, Task, best}

@@ -1,5 +1,5 @@
 -- Events that are enabled: they go, or they trap.
-use Rattle.std.proofs.Common.{◌≡◌, Bool, true, false, Option, Some, None, refl}
+use Rattle.std.proofs.Common.{◌≡◌}
 use Rattle.std.specs.Prelude.{Result, Ok, Err}
 use Rattle.tw_types.specs.declared.cause.Cause.{Cause}
 use Rattle.tw_types.specs.Outcome.{Outcome, Went, NotEnabled, Trap, ◌>>=◌, ◌>>◌, outcome_of}

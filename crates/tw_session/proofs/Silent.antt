@@ -1,7 +1,6 @@
 -- Nothing waits in any state that a run reaches, as no instruction subscribes yet: no datum has a subscriber, and there are
 -- no notices.
-use Rattle.std.proofs.Common.{◌≡◌, ℕ, Bool, true, false, ◌+◌, ◌&&◌, eqb, if◌then◌else◌, List, [], ◌∷◌, ◌++◌, Option, Some, None, refl, sym, ap, subst, ◌∙◌, inl, inr, nat_cmp, map, fold}
-use Rattle.std.specs.Prelude.{Result, Ok, Err}
+use Rattle.std.proofs.Common.{◌≡◌, ℕ, Bool, true, false, ◌+◌, ◌&&◌, eqb, if◌then◌else◌, List, [], ◌∷◌, Option, Some, None, refl, sym, ap, subst, ◌∙◌, inl, inr, nat_cmp, fold}
 use Rattle.std.proofs.lemmas.Bool.{cases_eq}
 use Rattle.std.proofs.lemmas.Option.{same_Some}
 use Rattle.std.specs.FinMap.{get, insert, remove, get-empty}
@@ -9,26 +8,24 @@ use Rattle.std.specs.FinSet as set
 use Rattle.std.specs.Prelude.{is_none, not}
 use Rattle.std.specs.List.{list_all}
 use Rattle.tw_types.specs.declared.actor.Actor.{Actor}
-use Rattle.tw_types.specs.declared.cause.Cause.{Cause}
 use Rattle.tw_types.specs.declared.cause.Cause.TheVariants.{RightLeft, WrongRegister}
 use Rattle.tw_types.specs.declared.event.Event.{Event}
 use Rattle.tw_types.specs.declared.event.Event.TheVariants.{Take, Local, Call, End, Ask, Deliver, Release}
-use Rattle.tw_types.specs.declared.notice.Notice.{Notice}
 use Rattle.tw_types.specs.declared.param.Param.{Param}
 use Rattle.tw_types.specs.declared.value.Value.{Value}
 use Rattle.tw_types.specs.Actor.{is_in}
 use Rattle.tw_types.specs.Layout.{ActorCounts}
 use Rattle.tw_types.specs.Mode.{is_write}
-use Rattle.tw_types.specs.Notices.{Notices, with_notices}
-use Rattle.tw_types.specs.Outcome.{Outcome, Went, NotEnabled, Trap, ◌>>=◌, ◌>>◌, outcome_of}
+use Rattle.tw_types.specs.Notices.{with_notices}
+use Rattle.tw_types.specs.Outcome.{Went, outcome_of}
 use Rattle.tw_types.specs.Result.{must}
-use Rattle.tw_types.specs.Store.{Data, Datum, Store, added, new_datum, empty_store, members_of, is_unheld, drop_read_within, settled}
+use Rattle.tw_types.specs.Store.{Data, Datum, Store, new_datum, empty_store, members_of, is_unheld, drop_read_within, settled}
 use Rattle.tw_types.specs.StoreChecks.{may_store}
 use Rattle.tw_types.specs.Task.{best}
 use Rattle.tw_types.specs.StoreCalls.{stored, notices_of_stored, set_to}
 use Rattle.tw_types.proofs.Freeing.{data_insert_same, data_insert_other, data_remove_same, data_remove_other}
-use Rattle.tw_types.proofs.Outcomes.{WentHas, IfWent, if_both, if_ok, if_then, if_enabled, if_only, went_first, went_of, same_went}
-use Rattle.tw_types.proofs.Results.{WhereOk, ok_both, ok_there, ok_then, ok_of}
+use Rattle.tw_types.proofs.Outcomes.{IfWent, if_both, if_ok, if_then, if_enabled, if_only, went_first, went_of, same_went}
+use Rattle.tw_types.proofs.Results.{WhereOk, ok_both, ok_then, ok_of}
 use Rattle.tw_code.specs.declared.instr.DataInstr.{DataInstr}
 use Rattle.tw_code.specs.declared.instr.DataInstr.TheVariants as on_data
 use Rattle.tw_code.specs.declared.instr.Instr.{Instr}

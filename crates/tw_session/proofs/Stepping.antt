@@ -7,7 +7,7 @@ use Rattle.tw_types.specs.declared.ending.Ending.TheVariants.{Quiet}
 use Rattle.tw_types.specs.declared.event.Event.{Event}
 use Rattle.tw_types.specs.declared.event.Event.TheVariants.{Take}
 use Rattle.tw_types.specs.Layout.{ActorCounts}
-use Rattle.tw_types.specs.Outcome.{Outcome, Went, NotEnabled, Trap}
+use Rattle.tw_types.specs.Outcome.{Went, Trap}
 use Rattle.tw_code.specs.declared.procedure.Procedure.{Procedure}
 use Rattle.tw_code.specs.machine.Bounds.{AreBelow, size_of, opening_bound}
 use Rattle.tw_code.specs.machine.Ending.{ending}
