@@ -61,7 +61,17 @@ impl DataInstr {
         ensures { result ≡ data_flow self }
     {
         match self {
-            DataInstr::Store { .. } => Flow::Straight,
+            DataInstr::New { .. }
+            | DataInstr::Store { .. }
+            | DataInstr::Get { .. }
+            | DataInstr::Size { .. }
+            | DataInstr::CopyRead { .. }
+            | DataInstr::CopyWrite { .. }
+            | DataInstr::DropRead { .. }
+            | DataInstr::DropWrite { .. } => Flow::Straight,
+            DataInstr::Insert { skip, .. }
+            | DataInstr::Look { skip, .. }
+            | DataInstr::SubscriptAt { skip, .. } => Flow::Branch(skip),
         }
     }
 }

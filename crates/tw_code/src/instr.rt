@@ -1,6 +1,6 @@
 //! Instructions.
 
-use tw_types::Text;
+use tw_types::{DataType, Text};
 
 /// What an instruction computes of two integers. The order is that of the opcodes.
 #[derive(Clone, Copy)]
@@ -95,9 +95,68 @@ pub enum LocalInstr {
 /// An instruction on data: it reads and changes besides the store, its notices and the task's right registers.
 #[derive(Clone, Copy)]
 pub enum DataInstr {
+    /// NEW: a datum is made; its write right goes to the right register `write`, its read right to `read`.
+    New {
+        write: u8,
+        read: u8,
+        ty: DataType,
+    },
     /// STORE: the datum whose write right is in the right register `datum` gets the value of the value register
     /// `from`, and the right is spent.
-    Store { datum: u8, from: u8 },
+    Store {
+        datum: u8,
+        from: u8,
+    },
+    /// GET: the value register `to` gets the value of the datum whose read right is in `datum`.
+    Get {
+        to: u8,
+        datum: u8,
+    },
+    /// INS: the container whose write right is in `container` gets the datum of `member` at the subscript that the
+    /// value register `subscript` has. Refused where that subscript is there.
+    Insert {
+        container: u8,
+        subscript: u8,
+        member: u8,
+        skip: u16,
+    },
+    /// LOOK: `member` gets a read right on the member at a subscript. Refused where there is none.
+    Look {
+        member: u8,
+        container: u8,
+        subscript: u8,
+        skip: u16,
+    },
+    /// SIZE: `to` gets the number of members.
+    Size {
+        to: u8,
+        container: u8,
+    },
+    /// SUBAT: `to` gets the subscript with exactly as many smaller ones as `index` says. Refused where there is none.
+    SubscriptAt {
+        to: u8,
+        container: u8,
+        index: u8,
+        skip: u16,
+    },
+    /// DUPR: `to` gets a second read right on the datum of `from`.
+    CopyRead {
+        to: u8,
+        from: u8,
+    },
+    /// DUPW: `to` gets a second write right on the container of `from`.
+    CopyWrite {
+        to: u8,
+        from: u8,
+    },
+    /// DROPR: the read right in `right` ends.
+    DropRead {
+        right: u8,
+    },
+    /// DROPW: the write right in `right` ends.
+    DropWrite {
+        right: u8,
+    },
 }
 
 /// An instruction, by what it reads and changes.

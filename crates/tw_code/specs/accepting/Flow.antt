@@ -28,7 +28,17 @@ local_flow (local.Repeat turns) = Begin turns
 local_flow local.End = Close
 
 abbrev pub data_flow : DataInstr → Flow
+data_flow (on_data.New write read ty) = Straight
 data_flow (on_data.Store datum from) = Straight
+data_flow (on_data.Get to datum) = Straight
+data_flow (on_data.Insert container subscript member skip) = Branch skip
+data_flow (on_data.Look member container subscript skip) = Branch skip
+data_flow (on_data.Size to container) = Straight
+data_flow (on_data.SubscriptAt to container index skip) = Branch skip
+data_flow (on_data.CopyRead to from) = Straight
+data_flow (on_data.CopyWrite to from) = Straight
+data_flow (on_data.DropRead right) = Straight
+data_flow (on_data.DropWrite right) = Straight
 
 abbrev pub flow_of : Instr → Flow
 flow_of (instr.Local i) = local_flow i

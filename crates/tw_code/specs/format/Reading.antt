@@ -165,9 +165,19 @@ operands_at =
     on 0x22 two_registers_and_skip_at (λ x. instr.Local (local.JumpLess x.0 x.1.0 x.1.1)) (
     on 0x23 (wide_at 1 1000) (λ x. instr.Local (local.Repeat x)) (
     on 0x24 nothing_at (λ _. instr.Local local.End) (
+    on 0x30 (both register_at (both register_at (type_at 3))) (λ x. instr.Data (on_data.New x.0 x.1.0 x.1.1)) (
     on 0x31 two_registers_at (λ x. instr.Data (on_data.Store x.0 x.1)) (
+    on 0x32 two_registers_at (λ x. instr.Data (on_data.Get x.0 x.1)) (
+    on 0x33 three_registers_and_skip_at (λ x. instr.Data (on_data.Insert x.0 x.1.0 x.1.1.0 x.1.1.1)) (
+    on 0x34 three_registers_and_skip_at (λ x. instr.Data (on_data.Look x.0 x.1.0 x.1.1.0 x.1.1.1)) (
+    on 0x35 two_registers_at (λ x. instr.Data (on_data.Size x.0 x.1)) (
+    on 0x36 three_registers_and_skip_at (λ x. instr.Data (on_data.SubscriptAt x.0 x.1.0 x.1.1.0 x.1.1.1)) (
+    on 0x37 two_registers_at (λ x. instr.Data (on_data.CopyRead x.0 x.1)) (
+    on 0x38 two_registers_at (λ x. instr.Data (on_data.CopyWrite x.0 x.1)) (
+    on 0x39 register_at (λ x. instr.Data (on_data.DropRead x)) (
+    on 0x3a register_at (λ x. instr.Data (on_data.DropWrite x)) (
     on 0x42 nothing_at (λ _. instr.Ret) (
-    no_other)))))))))))))))))))
+    no_other)))))))))))))))))))))))))))))
 
 unfoldable pub instr_at : Reading Instr
 instr_at [] = missing

@@ -97,7 +97,17 @@ local_items (local.Repeat turns) = byte 0x23 ∷ wide turns ∷ []
 local_items local.End = byte 0x24 ∷ []
 
 abbrev pub data_items : DataInstr → List Item
+data_items (on_data.New write read ty) = byte 0x30 ∷ byte write ∷ byte read ∷ type_items ty
 data_items (on_data.Store datum from) = byte 0x31 ∷ byte datum ∷ byte from ∷ []
+data_items (on_data.Get to datum) = byte 0x32 ∷ byte to ∷ byte datum ∷ []
+data_items (on_data.Insert container subscript member skip) = byte 0x33 ∷ byte container ∷ byte subscript ∷ byte member ∷ wide skip ∷ []
+data_items (on_data.Look member container subscript skip) = byte 0x34 ∷ byte member ∷ byte container ∷ byte subscript ∷ wide skip ∷ []
+data_items (on_data.Size to container) = byte 0x35 ∷ byte to ∷ byte container ∷ []
+data_items (on_data.SubscriptAt to container index skip) = byte 0x36 ∷ byte to ∷ byte container ∷ byte index ∷ wide skip ∷ []
+data_items (on_data.CopyRead to from) = byte 0x37 ∷ byte to ∷ byte from ∷ []
+data_items (on_data.CopyWrite to from) = byte 0x38 ∷ byte to ∷ byte from ∷ []
+data_items (on_data.DropRead right) = byte 0x39 ∷ byte right ∷ []
+data_items (on_data.DropWrite right) = byte 0x3a ∷ byte right ∷ []
 
 abbrev pub instr_items : Instr → List Item
 instr_items (instr.Local i) = local_items i
