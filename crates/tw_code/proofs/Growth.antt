@@ -1,6 +1,7 @@
 -- Numbers and counts start small, and each event makes them larger by at most its size.
-use Rattle.std.proofs.Common.{◌≡◌, ◌<◌, ◌≤◌, ◌+◌, ◌*◌, ◌==◌, ℕ, ℤ, Bool, true, false, cond, if◌then◌else◌, not, ◌&&◌, List, [], ◌∷◌, length, map, fold, drop, slice_get, Option, Some, None, refl, arith, is_none}
+use Rattle.std.proofs.Common.{◌≡◌, ◌<◌, ◌≤◌, ◌+◌, ◌-◌, ◌*◌, ◌==◌, ℕ, zero, suc, ℤ, Bool, true, false, cond, if◌then◌else◌, not, ◌&&◌, List, [], ◌∷◌, length, map, fold, drop, slice_get, Option, Some, None, refl, arith, is_none}
 use Rattle.std.specs.Prelude.{Ok}
+use Rattle.std.specs.Option.{ok_or}
 use Rattle.std.proofs.lemmas.Bool.{and_parts}
 use Rattle.std.proofs.lemmas.Bool.Decides.{nat_tests}
 use Rattle.std.proofs.lemmas.List.{length-map}
@@ -11,7 +12,7 @@ use Rattle.std.specs.FinMap.{contains_key, get, insert, remove, len, len-empty, 
 use Rattle.std.specs.Ordering.{nat_cmp, int_cmp}
 use Rattle.std.specs.Cmp.{int_cmp_total}
 use Rattle.tw_types.specs.declared.actor.Actor.{Actor}
-use Rattle.tw_types.specs.declared.cause.Cause.TheVariants.{RightLeft, WrongRegister}
+use Rattle.tw_types.specs.declared.cause.Cause.TheVariants.{RightLeft, UnsetDatum, WrongRegister}
 use Rattle.tw_types.specs.declared.data_type.Scalar.{Scalar}
 use Rattle.tw_types.specs.declared.data_type.Scalar.TheVariants as scalar
 use Rattle.tw_types.specs.declared.event.Event.{Event}
@@ -28,9 +29,10 @@ use Rattle.tw_types.specs.Mode.{is_write}
 use Rattle.tw_types.specs.Nesting.{NestedScalar}
 use Rattle.tw_types.specs.Outcome.{Went, outcome_of}
 use Rattle.tw_types.specs.Result.{must}
-use Rattle.tw_types.specs.Store.{Unset, Contains, Datum, Data, Store, added, empty_store, is_unheld, new_datum}
-use Rattle.tw_types.specs.StoreCalls.{members_in, set_to, stored}
-use Rattle.tw_types.specs.StoreChecks.{may_store}
+use Rattle.tw_types.specs.Store.{Members, Unset, Contains, Datum, Data, Store, added, drop_read_within, empty_store, is_closed, is_unheld, members_of, new_datum, read_taken_by, settled_by, subscribers_cleared}
+use Rattle.tw_types.specs.StoreCalls as store
+use Rattle.tw_types.specs.StoreCalls.{changed, created, inserted, member_at, members_in, one_read_more, one_write_less, one_write_more, read_copied, read_dropped, set_to, store_after, stored, with_member, write_copied, write_dropped}
+use Rattle.tw_types.specs.StoreChecks.{may_be_read, may_copy_write, may_drop_read, may_drop_write, may_insert, may_look, may_read_members, may_retrieve, may_store}
 use Rattle.tw_types.specs.Task.{Task, best}
 use Rattle.tw_types.proofs.ActorOrder.{actor_cmp_total}
 use Rattle.tw_types.proofs.Each.{Each, each_empty, each_insert, each_remove}
@@ -44,12 +46,12 @@ use Rattle.tw_code.specs.declared.procedure.Procedure.{Procedure}
 use Rattle.tw_code.specs.format.Program.{IsProgram}
 use Rattle.tw_code.specs.machine.Arguments.{procedure_of}
 use Rattle.tw_code.specs.machine.Bounds.{AreBelow, AreNumbersBelow, OpeningIsSmall, StepGrows, opening_bound, size_of}
-use Rattle.tw_code.specs.machine.Data.{Context, data_instr, datum_at, datum_of, suits}
+use Rattle.tw_code.specs.machine.Data.{Context, after_insert, after_look, data_instr, datum_at, datum_of, suits}
 use Rattle.tw_code.specs.machine.Inputs.{are_inputs_of, are_few, input_params, is_input_of, is_short, rises}
 use Rattle.tw_code.specs.machine.Machine.{Standing, call_by, call_event, end_event, instr_at, is_ret, local_event, local_steps, standing_of, step, take_event}
 use Rattle.tw_code.specs.machine.Opening.{Opened, closed_scalar, main_params, numbered, opened, opening, with_container, with_given, with_input, with_output}
-use Rattle.tw_code.specs.machine.Position.{value_at}
-use Rattle.tw_code.specs.machine.Rights.{held}
+use Rattle.tw_code.specs.machine.Position.{int_at, must_have_type, value_at}
+use Rattle.tw_code.specs.machine.Rights.{held, must_be_empty}
 use Rattle.tw_code.specs.machine.State.{Frame, State, context_of, filled, frame_of, values_in}
 
 -- ---- the store
@@ -58,38 +60,154 @@ use Rattle.tw_code.specs.machine.State.{Frame, State, context_of, filled, frame_
 abbrev HasCounts : ℕ → Datum → Type 0
 HasCounts bound x = (x.reads < bound) × (x.writes < bound) × (len (members_in x.content) < bound)
 
+one_more_member : (members : Members) (subscript : ℤ) (member : ℕ) → len (insert members subscript member) ≤ len members + 1
+one_more_member members subscript member = let l = len-insert int_cmp_total members subscript member in omega (arith, l, either (contains_key members subscript) (len members))
+  where
+    either : (b : Bool) (n : ℕ) → cond b n (n + 1) ≤ n + 1
+    either true n = omega arith
+    either false n = omega arith
+
+no_members : (b : Bool) → len (members_in (if b then Unset else Contains fin.empty)) ≡ 0
+no_members true = len-empty int_cmp ℕ
+no_members false = len-empty int_cmp ℕ
+
 -- a store comes of one call
 record StoreGrown (s t : Store) : Type 0 where
   next : t.next ≤ s.next + 1
-  counts : (bound : ℕ) → Each (HasCounts bound) s.live → Each (HasCounts (bound + 1)) t.live
+  counts : (bound : ℕ) → 0 < bound → Each (HasCounts bound) s.live → Each (HasCounts (bound + 1)) t.live
 
 more_counts : (bound : ℕ) (live : Data) → Each (HasCounts bound) live → Each (HasCounts (bound + 1)) live
 more_counts bound live all id x at = let h = all id x at in (omega (arith, h.0), omega (arith, h.1), omega (arith, h.2))
 
 same_store : (s : Store) → StoreGrown s s
-same_store s = record { next = omega arith; counts = λ bound all. more_counts bound s.live all }
+same_store s = record { next = omega arith; counts = λ bound some all. more_counts bound s.live all }
 
-module _ (s : Store) (id : ℕ) (x : Value) (d : Datum) where
-  abbrev left : Datum
-  left = record (set_to x d) { subscribers = [] }
+-- ---- freeing makes no count greater
 
-  each_left : (bound : ℕ) → get s.live id ≡ Some d → Each (HasCounts bound) s.live → (b : Bool) → Each (HasCounts (bound + 1)) (cond b (remove s.live id) (insert s.live id left))
-  each_left bound at all true = each_remove nat_cmp_total (HasCounts (bound + 1)) s.live (more_counts bound s.live all) id
-  each_left bound at all false =
-      let h = all id d at in
-      each_insert nat_cmp_total (HasCounts (bound + 1)) s.live (more_counts bound s.live all) id left (omega (arith, h.0), omega (arith, h.1), omega (arith, len-empty int_cmp ℕ))
+module _ (bound : ℕ) where
+  abbrev Keeps : (Data → ℕ → Data) → Type 0
+  Keeps drop = (live : Data) (id : ℕ) → Each (HasCounts bound) live → Each (HasCounts bound) (drop live id)
+
+  all_kept : (drop : Data → ℕ → Data) → Keeps drop → (ids : List ℕ) (live : Data) → Each (HasCounts bound) live → Each (HasCounts bound) (fold drop live ids)
+  all_kept drop keeps [] live all = all
+  all_kept drop keeps (id ∷ ids) live all = all_kept drop keeps ids (drop live id) (keeps live id all)
+
+  settled_kept : (drop : Data → ℕ → Data) → Keeps drop → (live : Data) (id : ℕ) (x : Datum) → HasCounts bound x → Each (HasCounts bound) live → Each (HasCounts bound) (settled_by drop live id x)
+  settled_kept drop keeps live id x few all = by (is_unheld x)
+    where
+      by : (b : Bool) → Each (HasCounts bound) (if b then fold drop (remove live id) (members_of x.content) else insert live id x)
+      by true = all_kept drop keeps (members_of x.content) (remove live id) (each_remove nat_cmp_total (HasCounts bound) live all id)
+      by false = each_insert nat_cmp_total (HasCounts bound) live all id x few
+
+  taken_kept : (drop : Data → ℕ → Data) → Keeps drop → Keeps (λ live id. read_taken_by drop live id (get live id))
+  taken_kept drop keeps live id all = found (get live id) refl
+    where
+      found : (o : Option Datum) → get live id ≡ o → Each (HasCounts bound) (read_taken_by drop live id o)
+      found None at = all
+      found (Some x) at = by (x.reads == 0)
+        where
+          less : Datum
+          less = record x { reads = x.reads - 1 }
+
+          by : (b : Bool) → Each (HasCounts bound) (if b then live else settled_by drop live id less)
+          by true = all
+          by false = let few = all id x at in settled_kept drop keeps live id less (omega (arith, few.0), few.1, few.2) all
+
+  drops_keep : (depth : ℕ) → Keeps (drop_read_within depth)
+  drops_keep zero = taken_kept (λ live _. live) (λ live id all. all)
+  drops_keep (suc depth) = taken_kept (drop_read_within depth) (drops_keep depth)
+
+-- ---- a datum changes
+
+-- counts grow by one at most
+abbrev Adds : (Datum → Datum) → Type 0
+Adds f = (bound : ℕ) (x : Datum) → HasCounts bound x → HasCounts (bound + 1) (f x)
+
+cleared_counts : (bound : ℕ) (x : Datum) → HasCounts bound x → HasCounts bound (subscribers_cleared x)
+cleared_counts bound x few = by (is_closed x)
+  where
+    by : (b : Bool) → HasCounts bound (if b then record x { subscribers = [] } else x)
+    by true = few
+    by false = few
+
+changed_grown : (s : Store) (id : ℕ) (f : Datum → Datum) → Adds f → StoreGrown s (changed s id f)
+changed_grown s id f adds = by (get s.live id) refl
+  where
+    by : (o : Option Datum) → get s.live id ≡ o → StoreGrown s (changed s id f)
+    by None at = rw at (same_store s)
+    by (Some x) at = rw at (record { next = omega arith; counts = λ bound some all. each_insert nat_cmp_total (HasCounts (bound + 1)) s.live (more_counts bound s.live all) id (f x) (adds bound x (all id x at)) })
+
+-- the same, where the datum may close by that, or be freed
+after_grown : (s : Store) (id : ℕ) (f : Datum → Datum) → Adds f → StoreGrown s (store_after s id f)
+after_grown s id f adds = by (get s.live id) refl
+  where
+    by : (o : Option Datum) → get s.live id ≡ o → StoreGrown s (store_after s id f)
+    by None at = rw at (same_store s)
+    by (Some x) at = rw at (record {
+      next = omega arith;
+      counts = λ bound some all. settled_kept (bound + 1) (drop_read_within 2) (drops_keep (bound + 1) 2) s.live id (subscribers_cleared (f x)) (cleared_counts (bound + 1) (f x) (adds bound x (all id x at))) (more_counts bound s.live all);
+    })
+
+-- ---- the calls of a store
+
+created_grown : (s : Store) (ty : NestedScalar) → StoreGrown s (created s ty)
+created_grown s ty = record {
+  next = omega arith;
+  counts = λ bound some all. each_insert nat_cmp_total (HasCounts (bound + 1)) s.live (more_counts bound s.live all) s.next (new_datum ty) (omega arith, omega arith, omega (arith, no_members (is_scalar ty)));
+}
 
 stored_grown : (s : Store) (id : ℕ) (x : Value) → StoreGrown s (stored s id x)
-stored_grown s id x = by (get s.live id) refl
-  where
-    by : (o : Option Datum) → get s.live id ≡ o → StoreGrown s (stored s id x)
-    by None at = rw at (same_store s)
-    by (Some d) at = rw at (record { next = omega arith; counts = λ bound all. each_left s id x d bound at all (is_unheld (left s id x d)) })
+stored_grown s id x = after_grown s id (set_to x) (λ bound d few. (omega (arith, few.0), omega (arith, few.1), omega (arith, len-empty int_cmp ℕ)))
 
--- one instruction on data
+inserted_grown : (s : Store) (id : ℕ) (subscript : ℤ) (member : ℕ) → StoreGrown s (inserted s id subscript member)
+inserted_grown s id subscript member = changed_grown s id (with_member subscript member) (λ bound d few. (omega (arith, few.0), omega (arith, few.1), omega (arith, one_more_member (members_in d.content) subscript member, few.2)))
+
+read_copied_grown : (s : Store) (id : ℕ) → StoreGrown s (read_copied s id)
+read_copied_grown s id = changed_grown s id one_read_more (λ bound d few. (omega (arith, few.0), omega (arith, few.1), omega (arith, few.2)))
+
+write_copied_grown : (s : Store) (id : ℕ) → StoreGrown s (write_copied s id)
+write_copied_grown s id = changed_grown s id one_write_more (λ bound d few. (omega (arith, few.0), omega (arith, few.1), omega (arith, few.2)))
+
+read_dropped_grown : (s : Store) (id : ℕ) → StoreGrown s (read_dropped s id)
+read_dropped_grown s id = record { next = omega arith; counts = λ bound some all. more_counts bound _ (drops_keep bound 3 s.live id all) }
+
+write_dropped_grown : (s : Store) (id : ℕ) → StoreGrown s (write_dropped s id)
+write_dropped_grown s id = after_grown s id one_write_less (λ bound d few. (omega (arith, few.0), omega (arith, few.1), omega (arith, few.2)))
+
+-- ---- the instructions on data
+
+insert_grown : (c : Context) (id : ℕ) (at : ℤ) (member register skip : ℕ) (found : Option ℕ) → StoreGrown c.store (after_insert c id at member register skip found).store
+insert_grown c id at member register skip None = inserted_grown c.store id at member
+insert_grown c id at member register skip (Some other) = same_store c.store
+
+look_grown : (c : Context) (register skip : ℕ) (found : Option ℕ) → StoreGrown c.store (after_look c register skip found).store
+look_grown c register skip None = same_store c.store
+look_grown c register skip (Some member) = read_copied_grown c.store member
+
+-- a line an instruction
 data_grown : (i : DataInstr) (c : Context) → WhereOk (data_instr i c) (λ e. StoreGrown c.store e.store)
+data_grown (on_data.New write read ty) c =
+    ok_then (must_be_empty c.rights write) (λ _. ok_then (must_be_empty c.rights read) (λ _. ok_then (must (not (write == read)) WrongRegister) (λ _. record { is = created_grown c.store ty })))
 data_grown (on_data.Store datum from) c =
     ok_both (value_at c.position from) (λ x _. ok_then (must (suits x (datum_at c datum)) WrongRegister) (λ _. ok_both (held c.rights datum) (λ id _. ok_then (may_store x (datum_of c id)) (λ _. record { is = stored_grown c.store id x }))))
+data_grown (on_data.Get to datum) c =
+    ok_both (value_at c.position to) (λ old _. ok_then (must (suits old (datum_at c datum)) WrongRegister) (λ _. ok_both (held c.rights datum) (λ id _. ok_then (may_retrieve (datum_of c id)) (λ _. ok_both (ok_or (store.value_at c.store id) UnsetDatum) (λ x _. record { is = same_store c.store })))))
+data_grown (on_data.Insert container subscript member skip) c =
+    ok_both (int_at c.position subscript) (λ at _. ok_both (held c.rights container) (λ id _. ok_both (held c.rights member) (λ inner _. ok_then (may_insert (datum_of c id) (datum_of c inner)) (λ _. record { is = insert_grown c id at inner member skip (member_at c.store id at) }))))
+data_grown (on_data.Look member container subscript skip) c =
+    ok_both (int_at c.position subscript) (λ at _. ok_then (must_be_empty c.rights member) (λ _. ok_both (held c.rights container) (λ id _. ok_then (may_look c.store id at) (λ _. record { is = look_grown c member skip (member_at c.store id at) }))))
+data_grown (on_data.Size to container) c =
+    ok_then (must_have_type c.position to scalar.Int) (λ _. ok_both (held c.rights container) (λ id _. ok_then (may_read_members (datum_of c id)) (λ _. record { is = same_store c.store })))
+data_grown (on_data.SubscriptAt to container index skip) c =
+    ok_then (must_have_type c.position to scalar.Int) (λ _. ok_both (int_at c.position index) (λ count _. ok_both (held c.rights container) (λ id _. ok_then (may_read_members (datum_of c id)) (λ _. record { is = same_store c.store }))))
+data_grown (on_data.CopyRead to from) c =
+    ok_then (must_be_empty c.rights to) (λ _. ok_both (held c.rights from) (λ id _. ok_then (may_be_read (datum_of c id)) (λ _. record { is = read_copied_grown c.store id })))
+data_grown (on_data.CopyWrite to from) c =
+    ok_then (must_be_empty c.rights to) (λ _. ok_both (held c.rights from) (λ id _. ok_then (may_copy_write (datum_of c id)) (λ _. record { is = write_copied_grown c.store id })))
+data_grown (on_data.DropRead right) c =
+    ok_both (held c.rights right) (λ id _. ok_then (may_drop_read (datum_of c id)) (λ _. record { is = read_dropped_grown c.store id }))
+data_grown (on_data.DropWrite right) c =
+    ok_both (held c.rights right) (λ id _. ok_then (may_drop_write (datum_of c id)) (λ _. record { is = write_dropped_grown c.store id }))
 
 -- ---- events
 
@@ -194,7 +312,7 @@ below_more bound more s h below = record {
 
 all_more : (bound : ℕ) (s t : State) (size : ℕ) → Grown size s t → AreBelow bound s → AreBelow (bound + size) t
 all_more bound s t size grown below =
-    let counts : Each (HasCounts (bound + 1)) t.store.live = grown.store.counts bound (λ id x e. (below.reads id x e, below.writes id x e, below.members id x e)) in
+    let counts : Each (HasCounts (bound + 1)) t.store.live = grown.store.counts bound (omega (arith, below.numbers.datum)) (λ id x e. (below.reads id x e, below.writes id x e, below.members id x e)) in
     let one = grown.some in
     record {
       numbers = numbers_wider (bound + 1) (bound + size) t (omega arith) (numbers_more bound s t size grown below.numbers);
@@ -238,11 +356,7 @@ fresh_scalars (e ∷ es) made s fresh = fresh_wider (made + 1 + length es) (made
 
 numbered_few : (es : List (ℤ × Value)) (id : ℕ) → len (numbered id es) ≤ length es
 numbered_few [] id = omega (arith, len-empty int_cmp ℕ)
-numbered_few (e ∷ es) id = let l = len-insert int_cmp_total (numbered (id + 1) es) e.0 id in omega (arith, l, either (contains_key (numbered (id + 1) es) e.0) (len (numbered (id + 1) es)), numbered_few es (id + 1))
-  where
-    either : (b : Bool) (n : ℕ) → cond b n (n + 1) ≤ n + 1
-    either true n = omega arith
-    either false n = omega arith
+numbered_few (e ∷ es) id = omega (arith, one_more_member (numbered (id + 1) es) e.0 id, numbered_few es (id + 1))
 
 fresh_container : (made : ℕ) (s : Store) (ty : Scalar) (es : List (ℤ × Value)) → length es ≤ 1000 → IsFresh made s → IsFresh (made + 1001) (with_container s ty es)
 fresh_container made s ty es short fresh =
@@ -262,11 +376,7 @@ fresh_input made s ty (input.Texts es) h fresh =
     fresh_container made s scalar.Text _ (few_members (λ e. (e.0, value.Text e.1)) es few) fresh
 
 fresh_output : (made : ℕ) (o : Opened) (ty : NestedScalar) → IsFresh made o.store → IsFresh (made + 1001) (with_output o ty).store
-fresh_output made o ty fresh = fresh_wider (made + 1) (made + 1001) _ (omega arith) (fresh_added made o.store (new_datum ty) (omega arith, omega arith, no_members (is_scalar ty)) fresh)
-  where
-    no_members : (b : Bool) → len (members_in (if b then Unset else Contains fin.empty)) ≤ 1000
-    no_members true = omega (arith, len-empty int_cmp ℕ)
-    no_members false = omega (arith, len-empty int_cmp ℕ)
+fresh_output made o ty fresh = fresh_wider (made + 1) (made + 1001) _ (omega arith) (fresh_added made o.store (new_datum ty) (omega arith, omega arith, omega (arith, no_members (is_scalar ty))) fresh)
 
 -- so many data at most as the parameters make
 abbrev room_of : List Param → ℕ
