@@ -11,15 +11,18 @@ use Rattle.tw_code.specs.declared.instr.DataInstr.TheVariants as on_data
 use Rattle.tw_code.specs.declared.instr.Instr.{Instr}
 use Rattle.tw_code.specs.declared.instr.Instr.TheVariants as instr
 use Rattle.tw_code.specs.declared.instr.LocalInstr.TheVariants as local
+use Rattle.tw_types.specs.DataType.{IsDataType}
+use Rattle.tw_types.specs.Nesting.{NestedScalar}
 use Rattle.tw_types.specs.Text.{IsText}
 use Rattle.tw_code.specs.format.Program.{IsInstr, IsRegister, IsSkip, IsWithin}
-use Rattle.tw_code.specs.format.Spelling.{Item, byte, text_items, instr_items}
-use Rattle.tw_code.specs.format.Reading.{Reading, as_is, both, on, register_at, number_at, wide_at, skip_at, text_at, two_registers_at, two_registers_and_skip_at, three_registers_and_skip_at, nothing_at, no_other, operands_at, instr_at}
+use Rattle.tw_code.specs.format.Spelling.{Item, byte, text_items, type_items, instr_items}
+use Rattle.tw_code.specs.format.Reading.{Reading, as_is, both, type_at, on, register_at, number_at, wide_at, skip_at, text_at, two_registers_at, two_registers_and_skip_at, three_registers_and_skip_at, nothing_at, no_other, operands_at, instr_at}
 use Rattle.tw_code.proofs.Formats.{IsBytes, IsBytes-rest, chosen, ok_is, Takes, as_is_takes, as_is_again}
 use Rattle.tw_code.proofs.Breaks.{IsStrict, FailsAt, GoesOn, carried, due_after, no_err, err_is, both_strict, as_is_fails}
 use Rattle.tw_code.proofs.Bytes.{a_byte, AnyOf, nothing_left, wrong_byte, register_strict}
 use Rattle.tw_code.proofs.Numbers.{a_number, a_wide, number_strict, wide_strict}
 use Rattle.tw_code.proofs.TextFormat.{text_strict}
+use Rattle.tw_code.proofs.Types.{type_strict}
 
 nothing_strict : IsStrict AnyOf (λ (x : Unit {0}). []) nothing_at
 nothing_strict = record {
@@ -118,6 +121,9 @@ two_registers_and_skip = both_strict register_strict (both_strict register_stric
 three_registers_and_skip : IsStrict (λ (x : ℕ × (ℕ × (ℕ × ℕ))). IsRegister x.0 × (IsRegister x.1.0 × (IsRegister x.1.1.0 × IsSkip x.1.1.1))) (λ x. a_byte x.0 ++ (a_byte x.1.0 ++ (a_byte x.1.1.0 ++ a_wide x.1.1.1))) three_registers_and_skip_at
 three_registers_and_skip = both_strict register_strict two_registers_and_skip
 
+new_strict : IsStrict (λ (x : ℕ × (ℕ × NestedScalar)). IsRegister x.0 × (IsRegister x.1.0 × IsDataType x.1.1)) (λ x. a_byte x.0 ++ (a_byte x.1.0 ++ type_items x.1.1)) (both register_at (both register_at (type_at 3)))
+new_strict = both_strict register_strict (both_strict register_strict (type_strict 3))
+
 -- a line an instruction
 operands : AreOperands operands_at
 operands =
@@ -138,9 +144,19 @@ operands =
     on_operands 0x22 two_registers_and_skip (λ x. instr.Local (local.JumpLess x.0 x.1.0 x.1.1)) (λ _. refl) (λ _ h. (h.0, h.1.0, h.1.1)) (
     on_operands 0x23 turns_strict (λ x. instr.Local (local.Repeat x)) (λ _. refl) (λ _ h. h) (
     on_operands 0x24 nothing_strict (λ _. instr.Local local.End) (λ _. refl) (λ _ h. h) (
+    on_operands 0x30 new_strict (λ x. instr.Data (on_data.New x.0 x.1.0 x.1.1)) (λ _. refl) (λ _ h. (h.0, h.1.0, h.1.1)) (
     on_operands 0x31 two_registers (λ x. instr.Data (on_data.Store x.0 x.1)) (λ _. refl) (λ _ h. h) (
+    on_operands 0x32 two_registers (λ x. instr.Data (on_data.Get x.0 x.1)) (λ _. refl) (λ _ h. h) (
+    on_operands 0x33 three_registers_and_skip (λ x. instr.Data (on_data.Insert x.0 x.1.0 x.1.1.0 x.1.1.1)) (λ _. refl) (λ _ h. (h.0, h.1.0, h.1.1.0, h.1.1.1)) (
+    on_operands 0x34 three_registers_and_skip (λ x. instr.Data (on_data.Look x.0 x.1.0 x.1.1.0 x.1.1.1)) (λ _. refl) (λ _ h. (h.0, h.1.0, h.1.1.0, h.1.1.1)) (
+    on_operands 0x35 two_registers (λ x. instr.Data (on_data.Size x.0 x.1)) (λ _. refl) (λ _ h. h) (
+    on_operands 0x36 three_registers_and_skip (λ x. instr.Data (on_data.SubscriptAt x.0 x.1.0 x.1.1.0 x.1.1.1)) (λ _. refl) (λ _ h. (h.0, h.1.0, h.1.1.0, h.1.1.1)) (
+    on_operands 0x37 two_registers (λ x. instr.Data (on_data.CopyRead x.0 x.1)) (λ _. refl) (λ _ h. h) (
+    on_operands 0x38 two_registers (λ x. instr.Data (on_data.CopyWrite x.0 x.1)) (λ _. refl) (λ _ h. h) (
+    on_operands 0x39 register_strict (λ x. instr.Data (on_data.DropRead x)) (λ _. refl) (λ _ h. h) (
+    on_operands 0x3a register_strict (λ x. instr.Data (on_data.DropWrite x)) (λ _. refl) (λ _ h. h) (
     on_operands 0x42 nothing_strict (λ _. instr.Ret) (λ _. refl) (λ _ h. h) (
-    no_others)))))))))))))))))))
+    no_others)))))))))))))))))))))))))))))
 
 -- a line an instruction
 instr_again : (x : Instr) (rest : List ℕ) → IsInstr x → instr_at (concat (instr_items x) ++ rest) ≡ Ok (x, rest)
@@ -162,7 +178,17 @@ instr_again (instr.Local (local.JumpEqual left right skip)) rest h = as_is_again
 instr_again (instr.Local (local.JumpLess left right skip)) rest h = as_is_again two_registers_and_skip.format (λ x. instr.Local (local.JumpLess x.0 x.1.0 x.1.1)) (left, (right, skip)) rest (h.0, (h.1, h.2))
 instr_again (instr.Local (local.Repeat turns)) rest h = as_is_again turns_strict.format (λ x. instr.Local (local.Repeat x)) turns rest h
 instr_again (instr.Local local.End) rest h = refl
+instr_again (instr.Data (on_data.New write read ty)) rest h = as_is_again new_strict.format (λ x. instr.Data (on_data.New x.0 x.1.0 x.1.1)) (write, (read, ty)) rest (h.0, (h.1, h.2))
 instr_again (instr.Data (on_data.Store datum from)) rest h = as_is_again two_registers.format (λ x. instr.Data (on_data.Store x.0 x.1)) (datum, from) rest h
+instr_again (instr.Data (on_data.Get to datum)) rest h = as_is_again two_registers.format (λ x. instr.Data (on_data.Get x.0 x.1)) (to, datum) rest h
+instr_again (instr.Data (on_data.Insert container subscript member skip)) rest h = as_is_again three_registers_and_skip.format (λ x. instr.Data (on_data.Insert x.0 x.1.0 x.1.1.0 x.1.1.1)) (container, (subscript, (member, skip))) rest (h.0, (h.1, (h.2, h.3)))
+instr_again (instr.Data (on_data.Look member container subscript skip)) rest h = as_is_again three_registers_and_skip.format (λ x. instr.Data (on_data.Look x.0 x.1.0 x.1.1.0 x.1.1.1)) (member, (container, (subscript, skip))) rest (h.0, (h.1, (h.2, h.3)))
+instr_again (instr.Data (on_data.Size to container)) rest h = as_is_again two_registers.format (λ x. instr.Data (on_data.Size x.0 x.1)) (to, container) rest h
+instr_again (instr.Data (on_data.SubscriptAt to container index skip)) rest h = as_is_again three_registers_and_skip.format (λ x. instr.Data (on_data.SubscriptAt x.0 x.1.0 x.1.1.0 x.1.1.1)) (to, (container, (index, skip))) rest (h.0, (h.1, (h.2, h.3)))
+instr_again (instr.Data (on_data.CopyRead to from)) rest h = as_is_again two_registers.format (λ x. instr.Data (on_data.CopyRead x.0 x.1)) (to, from) rest h
+instr_again (instr.Data (on_data.CopyWrite to from)) rest h = as_is_again two_registers.format (λ x. instr.Data (on_data.CopyWrite x.0 x.1)) (to, from) rest h
+instr_again (instr.Data (on_data.DropRead right)) rest h = as_is_again register_strict.format (λ x. instr.Data (on_data.DropRead x)) right rest h
+instr_again (instr.Data (on_data.DropWrite right)) rest h = as_is_again register_strict.format (λ x. instr.Data (on_data.DropWrite x)) right rest h
 instr_again instr.Ret rest h = refl
 
 -- behind a code that is known

@@ -10,6 +10,7 @@ use crate::instr::{Arithmetic, DataInstr, Instr, LocalInstr};
 use crate::items::*;
 use crate::texts::text_of;
 use std::alloc::Global;
+use tw_types::DataType;
 
 /// A register of either bank.
 fn register_of(bytes: &[u8]) -> Result<(u8, &[u8]), Stop>
@@ -158,11 +159,103 @@ fn repeat_of(bytes: &[u8]) -> Result<(Instr, &[u8]), Stop>
     Ok((Instr::Local(LocalInstr::Repeat { turns }), rest))
 }
 
+fn new_of(bytes: &[u8]) -> Result<(Instr, &[u8]), Stop>
+    ensures { Gives (λ x. (x.0, x.1.now)) result (operands_at 0x30 bytes.now) }
+{
+    let (write, rest) = register_of(bytes)?;
+    let (read, rest) = register_of(rest)?;
+    match type_of(DataType::MAX_DEPTH, rest) {
+        Ok((ty, rest)) => Ok((Instr::Data(DataInstr::New { write, read, ty }), rest)),
+        Err(e) => Err(e),
+    }
+}
+
 fn store_of(bytes: &[u8]) -> Result<(Instr, &[u8]), Stop>
     ensures { Gives (λ x. (x.0, x.1.now)) result (operands_at 0x31 bytes.now) }
 {
     let ((datum, from), rest) = two_registers_of(bytes)?;
     Ok((Instr::Data(DataInstr::Store { datum, from }), rest))
+}
+
+fn get_of(bytes: &[u8]) -> Result<(Instr, &[u8]), Stop>
+    ensures { Gives (λ x. (x.0, x.1.now)) result (operands_at 0x32 bytes.now) }
+{
+    let ((to, datum), rest) = two_registers_of(bytes)?;
+    Ok((Instr::Data(DataInstr::Get { to, datum }), rest))
+}
+
+fn insert_of(bytes: &[u8]) -> Result<(Instr, &[u8]), Stop>
+    ensures { Gives (λ x. (x.0, x.1.now)) result (operands_at 0x33 bytes.now) }
+{
+    let ((container, subscript, member, skip), rest) = three_registers_and_skip_of(bytes)?;
+    let insert = DataInstr::Insert {
+        container,
+        subscript,
+        member,
+        skip,
+    };
+    Ok((Instr::Data(insert), rest))
+}
+
+fn look_of(bytes: &[u8]) -> Result<(Instr, &[u8]), Stop>
+    ensures { Gives (λ x. (x.0, x.1.now)) result (operands_at 0x34 bytes.now) }
+{
+    let ((member, container, subscript, skip), rest) = three_registers_and_skip_of(bytes)?;
+    let look = DataInstr::Look {
+        member,
+        container,
+        subscript,
+        skip,
+    };
+    Ok((Instr::Data(look), rest))
+}
+
+fn size_of(bytes: &[u8]) -> Result<(Instr, &[u8]), Stop>
+    ensures { Gives (λ x. (x.0, x.1.now)) result (operands_at 0x35 bytes.now) }
+{
+    let ((to, container), rest) = two_registers_of(bytes)?;
+    Ok((Instr::Data(DataInstr::Size { to, container }), rest))
+}
+
+fn subscript_at_of(bytes: &[u8]) -> Result<(Instr, &[u8]), Stop>
+    ensures { Gives (λ x. (x.0, x.1.now)) result (operands_at 0x36 bytes.now) }
+{
+    let ((to, container, index, skip), rest) = three_registers_and_skip_of(bytes)?;
+    let subscript_at = DataInstr::SubscriptAt {
+        to,
+        container,
+        index,
+        skip,
+    };
+    Ok((Instr::Data(subscript_at), rest))
+}
+
+fn copy_read_of(bytes: &[u8]) -> Result<(Instr, &[u8]), Stop>
+    ensures { Gives (λ x. (x.0, x.1.now)) result (operands_at 0x37 bytes.now) }
+{
+    let ((to, from), rest) = two_registers_of(bytes)?;
+    Ok((Instr::Data(DataInstr::CopyRead { to, from }), rest))
+}
+
+fn copy_write_of(bytes: &[u8]) -> Result<(Instr, &[u8]), Stop>
+    ensures { Gives (λ x. (x.0, x.1.now)) result (operands_at 0x38 bytes.now) }
+{
+    let ((to, from), rest) = two_registers_of(bytes)?;
+    Ok((Instr::Data(DataInstr::CopyWrite { to, from }), rest))
+}
+
+fn drop_read_of(bytes: &[u8]) -> Result<(Instr, &[u8]), Stop>
+    ensures { Gives (λ x. (x.0, x.1.now)) result (operands_at 0x39 bytes.now) }
+{
+    let (right, rest) = register_of(bytes)?;
+    Ok((Instr::Data(DataInstr::DropRead { right }), rest))
+}
+
+fn drop_write_of(bytes: &[u8]) -> Result<(Instr, &[u8]), Stop>
+    ensures { Gives (λ x. (x.0, x.1.now)) result (operands_at 0x3a bytes.now) }
+{
+    let (right, rest) = register_of(bytes)?;
+    Ok((Instr::Data(DataInstr::DropWrite { right }), rest))
 }
 
 /// An instruction: its code, and behind it its operands. Only a text takes memory.
@@ -189,7 +282,17 @@ pub fn instr_of(alloc: Global, bytes: &[u8]) -> Result<(Instr, &[u8]), Stop>
         [0x22, rest @ ..] => jump_less_of(rest),
         [0x23, rest @ ..] => repeat_of(rest),
         [0x24, rest @ ..] => Ok((Instr::Local(LocalInstr::End), rest)),
+        [0x30, rest @ ..] => new_of(rest),
         [0x31, rest @ ..] => store_of(rest),
+        [0x32, rest @ ..] => get_of(rest),
+        [0x33, rest @ ..] => insert_of(rest),
+        [0x34, rest @ ..] => look_of(rest),
+        [0x35, rest @ ..] => size_of(rest),
+        [0x36, rest @ ..] => subscript_at_of(rest),
+        [0x37, rest @ ..] => copy_read_of(rest),
+        [0x38, rest @ ..] => copy_write_of(rest),
+        [0x39, rest @ ..] => drop_read_of(rest),
+        [0x3a, rest @ ..] => drop_write_of(rest),
         [0x42, rest @ ..] => Ok((Instr::Ret, rest)),
         _ => Err(Stop::wrong(FaultNo::Unknown, bytes)),
     }

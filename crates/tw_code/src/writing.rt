@@ -2,6 +2,7 @@
 
 ghost use Rattle.std.specs.Prelude.{◌≡◌, ◌++◌, ◌≤◌, length, OnOk, IfOk};
 ghost use Rattle.std.specs.List.{concat};
+ghost use Rattle.tw_code.specs.declared.instr.DataInstr.TheVariants as on_data;
 ghost use Rattle.tw_code.specs.declared.instr.LocalInstr.TheVariants as local;
 ghost use Rattle.tw_code.specs.format.Program.{IsInstr, IsList, IsLocalInstr, IsProcedure};
 ghost use Rattle.tw_code.specs.format.Spelling.{kind_code, mode_code, scalar_code, operation_code, byte, wide, type_items, param_items, scalar_items, local_items, data_items, instr_items, counted_items, procedure_items, spelling};
@@ -138,11 +139,44 @@ fn put_local(out: &mut Vec<u8>, instr: &LocalInstr) -> Result<(), AllocError>
     }
 }
 
+fn put_new(out: &mut Vec<u8>, write: u8, read: u8, ty: DataType) -> Result<(), AllocError>
+    ensures { OnOk result (out.new.items
+        ≡ out.old.items ++ concat (data_items (on_data.New write read ty))) }
+{
+    out.extend_from_slice(&[0x30, write, read])?;
+    put_type(out, ty)
+}
+
 fn put_data(out: &mut Vec<u8>, instr: DataInstr) -> Result<(), AllocError>
     ensures { OnOk result (out.new.items ≡ out.old.items ++ concat (data_items instr)) }
 {
     match instr {
+        DataInstr::New { write, read, ty } => put_new(out, write, read, ty),
         DataInstr::Store { datum, from } => out.extend_from_slice(&[0x31, datum, from]),
+        DataInstr::Get { to, datum } => out.extend_from_slice(&[0x32, to, datum]),
+        DataInstr::Insert {
+            container,
+            subscript,
+            member,
+            skip,
+        } => put_wide(out, &[0x33, container, subscript, member], skip),
+        DataInstr::Look {
+            member,
+            container,
+            subscript,
+            skip,
+        } => put_wide(out, &[0x34, member, container, subscript], skip),
+        DataInstr::Size { to, container } => out.extend_from_slice(&[0x35, to, container]),
+        DataInstr::SubscriptAt {
+            to,
+            container,
+            index,
+            skip,
+        } => put_wide(out, &[0x36, to, container, index], skip),
+        DataInstr::CopyRead { to, from } => out.extend_from_slice(&[0x37, to, from]),
+        DataInstr::CopyWrite { to, from } => out.extend_from_slice(&[0x38, to, from]),
+        DataInstr::DropRead { right } => out.extend_from_slice(&[0x39, right]),
+        DataInstr::DropWrite { right } => out.extend_from_slice(&[0x3a, right]),
     }
 }
 
