@@ -6,7 +6,7 @@ ghost use Rattle.tw_code.specs.machine.Position.{goal_of};
 ghost use Rattle.tw_budget.specs.Rows.{IsRow, RowsFrom, most_told};
 ghost use Rattle.tw_budget.specs.Sound.{IsSound};
 
-use tw_code::{Flow, Instr};
+use tw_code::{Flow, Instr, flow_at};
 
 /// The greatest budget.
 pub const GREATEST: u64 = 1_000_000_000;
@@ -24,13 +24,6 @@ fn told(length: u64) -> u64
     ensures { result ≡ min length most_told }
 {
     length.min(GREATEST + 1)
-}
-
-fn flow_at(code: &[Instr], place: usize) -> Flow
-    requires { place < length code.now }
-    ensures { slice_get (flows code.now) place ≡ Some result }
-{
-    code[place].flow()
 }
 
 pub fn row_of(code: &[Instr], rows: &[Row], from: usize, place: usize) -> Row

@@ -1,7 +1,7 @@
 //! What follows an instruction.
 
-ghost use Rattle.std.specs.Prelude.{◌≡◌, is_some};
-ghost use Rattle.tw_code.specs.accepting.Flow.{data_flow, flow_of, local_flow};
+ghost use Rattle.std.specs.Prelude.{◌≡◌, ◌<◌, Some, is_some, length, slice_get};
+ghost use Rattle.tw_code.specs.accepting.Flow.{data_flow, flow_of, flows, local_flow};
 ghost use Rattle.tw_code.specs.machine.Machine.{local_of};
 
 use crate::instr::{DataInstr, Instr, LocalInstr};
@@ -94,4 +94,12 @@ impl Instr {
     {
         matches!(self, Instr::Local(_))
     }
+}
+
+/// What follows the instruction at a place of the code.
+pub fn flow_at(code: &[Instr], place: usize) -> Flow
+    requires { place < length code.now }
+    ensures { slice_get (flows code.now) place ≡ Some result }
+{
+    code[place].flow()
 }

@@ -19,7 +19,7 @@ mod texts;
 mod writing;
 
 pub use fault::{Fault, FaultNo, NoMemory};
-pub use flow::{Flow, Way};
+pub use flow::{Flow, Way, flow_at};
 pub use instr::{Arithmetic, DataInstr, Instr, LocalInstr};
 pub use laws::shown_and_read;
 pub use main_shape::{has_main_shape, main_params};
