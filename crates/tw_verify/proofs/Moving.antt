@@ -1,19 +1,21 @@
 -- Where a task goes on: in the loops that it has begun, within its budget, and with the typing of the place.
-use Rattle.std.proofs.Common.{◌≡◌, ℕ, zero, suc, ◌+◌, ◌<◌, ◌==◌, ◌⊎◌, inl, inr, List, [], ◌∷◌, length, slice_get, get_or, Some, None, refl, sym, ap, subst, ◌∙◌, arith, if◌then◌else◌}
+use Rattle.std.proofs.Common.{◌≡◌, ℕ, zero, suc, ◌+◌, ◌<◌, ◌==◌, ◌⊎◌, inl, inr, true, List, [], ◌∷◌, length, slice_get, get_or, Some, None, refl, sym, ap, subst, ◌∙◌, arith, if◌then◌else◌}
 use Rattle.std.proofs.lemmas.List.{length-map}
 use Rattle.std.proofs.lemmas.Option.{slice_get-map, slice_get-get_or, slice_get_within, same_Some}
+use Rattle.std.specs.List.{list_all}
 use Rattle.std.specs.Option.{option_and_then, option_map}
 use Rattle.tw_types.specs.Outcome.{Outcome, NotEnabled, outcome_of}
 use Rattle.tw_code.specs.declared.flow.Flow.{Flow}
 use Rattle.tw_code.specs.declared.flow.Flow.TheVariants.{Straight, Branch, Jump, Begin, Close, Stop}
 use Rattle.tw_code.specs.declared.flow.Way.{Way}
 use Rattle.tw_code.specs.declared.flow.Way.TheVariants.{Done, Refused}
+use Rattle.tw_code.specs.declared.instr.DataInstr.{DataInstr}
 use Rattle.tw_code.specs.declared.instr.DataInstr.TheVariants as on_data
 use Rattle.tw_code.specs.declared.instr.LocalInstr.{LocalInstr}
 use Rattle.tw_code.specs.declared.instr.Instr.{Instr}
 use Rattle.tw_code.specs.declared.instr.Instr.TheVariants as instr
 use Rattle.tw_code.specs.declared.procedure.Procedure.{Procedure}
-use Rattle.tw_code.specs.accepting.Flow.{local_flow, flow_of, flows, onward}
+use Rattle.tw_code.specs.accepting.Flow.{data_flow, local_flow, flow_of, flows, onward}
 use Rattle.tw_code.specs.machine.Position.{Position, Loop, Cursor, turned}
 use Rattle.tw_code.specs.machine.Local.{local_instr}
 use Rattle.tw_code.specs.machine.Machine.{local_of, local_step, local_steps}
@@ -27,6 +29,8 @@ use Rattle.tw_budget.proofs.FrameLaws.{stays_within, end_goes_on}
 use Rattle.tw_budget.proofs.Places.{close_end}
 use Rattle.tw_budget.specs.Sound.{IsSound}
 use Rattle.tw_verify.specs.Invariant.{ValuesFit, AreBegun}
+use Rattle.tw_verify.specs.Simple.{is_simple_instr}
+use Rattle.tw_verify.proofs.Lists.{all_at}
 use Rattle.tw_verify.proofs.Steps.{Happens, Keeps, goes_happens, happens_keeps, keeps_more, waits_keeps}
 use Rattle.tw_verify.proofs.Turns.{IsLocal, IsTurn, turn}
 use Rattle.tw_verify.proofs.Values.{AllYes, all_yes, yes_behind, Moves, HasLoop}
@@ -83,18 +87,32 @@ forward_or_back place Close loops Refused to e = cc
 forward_or_back place Stop loops Done to e = cc
 forward_or_back place Stop loops Refused to e = cc
 
+no_close : (i : DataInstr) → data_flow i ≡ Close → ⊥
+no_close (on_data.New write read ty) e = cc
+no_close (on_data.Store datum from) e = cc
+no_close (on_data.Get to datum) e = cc
+no_close (on_data.Insert container subscript member skip) e = cc
+no_close (on_data.Look member container subscript skip) e = cc
+no_close (on_data.Size to container) e = cc
+no_close (on_data.SubscriptAt to container index skip) e = cc
+no_close (on_data.CopyRead to from) e = cc
+no_close (on_data.CopyWrite to from) e = cc
+no_close (on_data.DropRead right) e = cc
+no_close (on_data.DropWrite right) e = cc
+
 -- END leaves the typing as it is
 close_same : (program : List Procedure) (i : Instr) (way : Way) (typing : Typing) → flow_of i ≡ Close → after program way i typing ≡ typing
 close_same program (instr.Local i) way typing e = refl
-close_same program (instr.Data (on_data.Store datum from)) way typing e = cc
+close_same program (instr.Data i) way typing e = absurd (no_close i e)
 close_same program instr.Ret way typing e = cc
 
--- ---- a procedure of an accepted program
+-- ---- a procedure of an accepted program that is simple
 
 pub record Accepts (program : List Procedure) (typings : List Typing) (p : Procedure) : Type 0 where
   pub typed : IsWellTyped program p typings (length p.code)
   pub sound : IsSound (flows p.code)
   pub budget : (n : ℕ) × IsBudget (flows p.code) n
+  pub simple : list_all is_simple_instr p.code ≡ true
 
 -- a task stands in it
 pub record Stands (p : Procedure) (spent : ℕ) (at : Position) : Type 0 where
@@ -125,7 +143,7 @@ module _ (program : List Procedure) (typings : List Typing) (p : Procedure) (acc
       (all_yes (asks_at program p place i (get_or typings place [])) (accepts.typed.asks place i (get_or typings place []) here (typing_there place (slice_get_within p.code place i here))))
 
   pub its_turn : (place : ℕ) (i : Instr) → slice_get p.code place ≡ Some i → IsTurn p i (get_or typings place [])
-  its_turn place i here = turn program p i (get_or typings place []) (asked place i here)
+  its_turn place i here = turn program p i (get_or typings place []) (all_at is_simple_instr p.code place i accepts.simple here) (asked place i here)
 
   -- an END has a loop
   pub has_loop : (spent : ℕ) (at : Position) (i : Instr) → Stands p spent at → slice_get p.code at.place ≡ Some i → flow_of i ≡ Close → HasLoop at

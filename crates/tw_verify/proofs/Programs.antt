@@ -84,6 +84,7 @@ refusal_is_memory program cause procedure place r a = by (is_memory cause)
 names_a_place : (violation : Violation) → refusal_for violation ≡ refusal.Memory → ⊥
 names_a_place broken.UndeclaredValue e = cc
 names_a_place broken.WrongValueType e = cc
+names_a_place broken.RightNotEmpty e = cc
 names_a_place broken.WrongRight e = cc
 names_a_place broken.SkipLeavesBlock e = cc
 names_a_place broken.Unmatched e = cc
@@ -92,6 +93,7 @@ names_a_place broken.TypingChanged e = cc
 names_a_place broken.Unreached e = cc
 names_a_place broken.RightLeft e = cc
 names_a_place broken.MisplacedRet e = cc
+names_a_place broken.ScalarWrite e = cc
 names_a_place broken.BudgetTooLarge e = cc
 
 pub refusal_by : (program : List Procedure) (all : List Findings) (number : ℕ) (p : Procedure) (stop : Fault) → has_main_shape program ≡ true → AreTyped program all number → slice_get program number ≡ Some p → IfFault stop (IsProcedureRefusal program p)

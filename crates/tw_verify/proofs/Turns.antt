@@ -1,4 +1,4 @@
--- What each instruction that is asked for does: it goes on by itself, or on data, or ends the task.
+-- What each instruction that is asked for in a simple program does: it goes on by itself, or on data, or ends the task.
 use Rattle.std.proofs.Common.{◌≡◌, ℕ, ◌+◌, ◌<◌, ◌==◌, ◌⊎◌, inl, inr, Bool, true, false, not, ◌||◌, List, slice_get, slice_set, Option, Some, None, is_none, refl, sym, ap, ◌∙◌, arith}
 use Rattle.std.proofs.lemmas.Bool.{and_parts, ne_eqb}
 use Rattle.std.specs.FinMap.{get}
@@ -34,6 +34,7 @@ use Rattle.tw_code.specs.machine.Position.{Position}
 use Rattle.tw_code.specs.machine.Rights.{held, right_at, Right, Typing}
 use Rattle.tw_types.proofs.Freeing.{hits_same, hits_other}
 use Rattle.tw_verify.specs.Invariant.{ValuesFit}
+use Rattle.tw_verify.specs.Simple.{is_store, is_simple_instr}
 use Rattle.tw_verify.proofs.Aging.{Aged}
 use Rattle.tw_verify.proofs.Registers.{Fits, Settles, At, at_right, aged_context, emptied, rights_set}
 use Rattle.tw_verify.proofs.Scalars.{scalar_itself}
@@ -117,9 +118,19 @@ module _ (registers : List Scalar) (typing : Typing) (c : Context) (r w : ℕ �
           let found = value_found registers c.position.values from right.ty.scalar values (typed right first second) in
           store_at d from right found.0 both.0 both.1 found.1 found.2 (at_right d typing c r w right fits e)
 
-  -- each instruction on data, a line an instruction
-  data_leaves : (i : DataInstr) → AllYes (asks_data registers i typing) → Goes (data_instr i c) (Leaves registers i typing c r w)
-  data_leaves (on_data.Store d from) met = store_leaves d from met
+  -- each instruction on data, a line an instruction; only STORE stands in a simple program
+  data_leaves : (i : DataInstr) → is_store i ≡ true → AllYes (asks_data registers i typing) → Goes (data_instr i c) (Leaves registers i typing c r w)
+  data_leaves (on_data.New write read ty) store met = cc
+  data_leaves (on_data.Store d from) store met = store_leaves d from met
+  data_leaves (on_data.Get to datum) store met = cc
+  data_leaves (on_data.Insert container subscript member skip) store met = cc
+  data_leaves (on_data.Look member container subscript skip) store met = cc
+  data_leaves (on_data.Size to container) store met = cc
+  data_leaves (on_data.SubscriptAt to container index skip) store met = cc
+  data_leaves (on_data.CopyRead to from) store met = cc
+  data_leaves (on_data.CopyWrite to from) store met = cc
+  data_leaves (on_data.DropRead right) store met = cc
+  data_leaves (on_data.DropWrite right) store met = cc
 
 -- ---- the three kinds
 
@@ -143,7 +154,7 @@ pub record IsEnd (i : Instr) (typing : Typing) : Type 0 where
 abbrev pub IsTurn : Procedure → Instr → Typing → Type 0
 IsTurn p i typing = IsLocal p i ⊎ (IsCall p i typing ⊎ IsEnd i typing)
 
-pub turn : (program : List Procedure) (p : Procedure) (i : Instr) (typing : Typing) → AllYes (asks program p i typing) → IsTurn p i typing
-turn program p (instr.Local i) typing met = inl (record { local = i; is = refl; moves = λ at fits loop. local_moves p.registers at fits i met loop })
-turn program p (instr.Data i) typing met = inr (inl (record { on = i; is = refl; leaves = λ c r w fits values. data_leaves p.registers typing c r w fits values i met }))
-turn program p instr.Ret typing met = inr (inr (record { is = refl; empty = met.0 }))
+pub turn : (program : List Procedure) (p : Procedure) (i : Instr) (typing : Typing) → is_simple_instr i ≡ true → AllYes (asks program p i typing) → IsTurn p i typing
+turn program p (instr.Local i) typing simple met = inl (record { local = i; is = refl; moves = λ at fits loop. local_moves p.registers at fits i met loop })
+turn program p (instr.Data i) typing simple met = inr (inl (record { on = i; is = refl; leaves = λ c r w fits values. data_leaves p.registers typing c r w fits values i simple met }))
+turn program p instr.Ret typing simple met = inr (inr (record { is = refl; empty = met.0 }))

@@ -1,14 +1,14 @@
 //! What the instructions ask of a typing and of the declared value registers: of all that isn't met, the lowest
 //! refusal.
 
-ghost use Rattle.std.specs.Prelude.{◌≡◌, ◌++◌, Bool, true, slice_get};
+ghost use Rattle.std.specs.Prelude.{◌≡◌, ◌<◌, ◌∷◌, [], ◌++◌, Bool, true, slice_get};
 ghost use Rattle.std.specs.Option.{option_map, option_map_or};
 ghost use Rattle.tw_types.specs.DataType.{same_scalar};
 ghost use Rattle.tw_code.specs.format.Program.{IsDataInstr, IsInstr};
 ghost use Rattle.tw_code.specs.accepting.Question.{passes, refusal_in};
-ghost use Rattle.tw_code.specs.machine.Rights.{Right};
-ghost use Rattle.tw_code.specs.accepting.Typing.{asks_value, asks_alike, asks_values, asks_value_of, asks_local, asks_data, asks, asks_params, asks_at, writes_scalar};
-ghost use Rattle.tw_verify.specs.Passes.{lowest_of, violation_number};
+ghost use Rattle.tw_code.specs.machine.Rights.{Right, right_at};
+ghost use Rattle.tw_code.specs.accepting.Typing.{asks_value, asks_alike, asks_values, asks_value_of, asks_empty_pair, asks_container_write, asks_local, asks_data, asks, asks_params, asks_at, writes, writes_scalar, writes_container, reads, reads_closed_scalar, reads_closed_container, reads_member_of};
+ghost use Rattle.tw_verify.specs.Passes.{lowest_of, refusal_with, violation_number};
 
 use crate::typing::{Right, Typing};
 use crate::violation::Violation;
@@ -24,6 +24,18 @@ pub(crate) fn lowest(first: Option<Violation>, second: Option<Violation>) -> Opt
         (Some(a), Some(b)) => Some(if b.number() < a.number() { b } else { a }),
         (None, other) => other,
         (Some(a), None) => Some(a),
+    }
+}
+
+/// One question beside others: where its answer is no, the lower of its refusal and theirs.
+fn beside(met: bool, violation: Violation, others: Option<Violation>) -> Option<Violation>
+    ensures { option_map violation_number result
+        ≡ refusal_with (violation_number violation, met) (option_map violation_number others) }
+{
+    if met {
+        others
+    } else {
+        lowest(Some(violation), others)
     }
 }
 
@@ -104,12 +116,71 @@ fn value_of_refusal(
     }
 }
 
-fn is_scalar_write(right: &Option<Right>) -> bool
-    ensures { result ≡ passes writes_scalar right.now }
+/// Two right registers must be empty, and different.
+fn empty_pair_refusal(typing: &Typing, first: u8, second: u8) -> Option<Violation>
+    requires first { first < 16 }
+    requires second { second < 16 }
+    ensures { option_map violation_number result ≡ refusal_in (asks_empty_pair typing.now first second) }
 {
-    match right {
-        None => false,
-        Some(right) => right.writes_scalar(),
+    let fits = typing.is_free(first) && typing.is_free(second) && first != second;
+    (!fits).then_some(Violation::RightNotEmpty)
+}
+
+/// A right register must have a right to read.
+fn read_refusal(typing: &Typing, register: u8) -> Option<Violation>
+    requires { register < 16 }
+    ensures { option_map violation_number result
+        ≡ refusal_in ((4, passes reads (right_at typing.now register)) ∷ []) }
+{
+    let fits = typing.right_at(register).is_some_and(Right::reads);
+    (!fits).then_some(Violation::WrongRight)
+}
+
+/// A right register must have a right to write, and not a scalar's.
+fn container_write_refusal(typing: &Typing, register: u8) -> Option<Violation>
+    requires { register < 16 }
+    ensures { option_map violation_number result
+        ≡ refusal_in (asks_container_write (right_at typing.now register)) }
+{
+    match typing.right_at(register) {
+        Some(right) if right.writes() => right.writes_scalar().then_some(Violation::ScalarWrite),
+        _ => Some(Violation::WrongRight),
+    }
+}
+
+/// Beside other questions: a right register must have a right to read a closed container.
+fn members_refusal(typing: &Typing, register: u8, others: Option<Violation>) -> Option<Violation>
+    requires { register < 16 }
+    ensures { option_map violation_number result
+        ≡ refusal_with (4, passes reads_closed_container (right_at typing.now register))
+        (option_map violation_number others) }
+{
+    let fits = typing
+        .right_at(register)
+        .is_some_and(Right::reads_closed_container);
+    beside(fits, Violation::WrongRight, others)
+}
+
+/// Whether a right register has a right to write a container.
+fn is_container_write(typing: &Typing, register: u8) -> bool
+    requires { register < 16 }
+    ensures { result ≡ passes writes_container (right_at typing.now register) }
+{
+    typing
+        .right_at(register)
+        .is_some_and(Right::writes_container)
+}
+
+/// Whether a right register has a read of what the datum of another one has as members.
+fn is_member_read(typing: &Typing, container: u8, member: u8) -> bool
+    requires container { container < 16 }
+    requires member { member < 16 }
+    ensures { result ≡ passes (λ right. passes (reads_member_of right) (right_at typing.now member))
+        (right_at typing.now container) }
+{
+    match (typing.right_at(container), typing.right_at(member)) {
+        (Some(container), Some(member)) => member.reads_member_of(container),
+        _ => false,
     }
 }
 
@@ -165,11 +236,62 @@ fn data_refusal(registers: &[Scalar], instr: DataInstr, typing: &Typing) -> Opti
     ensures { option_map violation_number result ≡ refusal_in (asks_data registers.now instr typing.now) }
 {
     match instr {
+        DataInstr::New { write, read, .. } => empty_pair_refusal(typing, write, read),
         DataInstr::Store { datum, from } => {
             let right = typing.right_at(datum);
-            let fits = is_scalar_write(&right);
+            let fits = right.is_some_and(Right::writes_scalar);
             value_of_refusal(registers, from, &right, fits)
         }
+        DataInstr::Get { to, datum } => {
+            let right = typing.right_at(datum);
+            let fits = right.is_some_and(Right::reads_closed_scalar);
+            value_of_refusal(registers, to, &right, fits)
+        }
+        DataInstr::Insert {
+            container,
+            subscript,
+            member,
+            ..
+        } => {
+            let others = value_refusal(registers, subscript, Scalar::Int);
+            let fits = is_member_read(typing, container, member);
+            let others = beside(fits, Violation::WrongRight, others);
+            let writes = is_container_write(typing, container);
+            beside(writes, Violation::WrongRight, others)
+        }
+        DataInstr::Look {
+            member,
+            container,
+            subscript,
+            ..
+        } => {
+            let others = value_refusal(registers, subscript, Scalar::Int);
+            let others = members_refusal(typing, container, others);
+            beside(typing.is_free(member), Violation::RightNotEmpty, others)
+        }
+        DataInstr::Size { to, container } => {
+            let others = value_refusal(registers, to, Scalar::Int);
+            members_refusal(typing, container, others)
+        }
+        DataInstr::SubscriptAt {
+            to,
+            container,
+            index,
+            ..
+        } => {
+            let others = both_refusal(registers, to, Scalar::Int, index, Scalar::Int);
+            members_refusal(typing, container, others)
+        }
+        DataInstr::CopyRead { to, from } => {
+            let others = read_refusal(typing, from);
+            beside(typing.is_free(to), Violation::RightNotEmpty, others)
+        }
+        DataInstr::CopyWrite { to, from } => {
+            let others = container_write_refusal(typing, from);
+            beside(typing.is_free(to), Violation::RightNotEmpty, others)
+        }
+        DataInstr::DropRead { right } => read_refusal(typing, right),
+        DataInstr::DropWrite { right } => container_write_refusal(typing, right),
     }
 }
 

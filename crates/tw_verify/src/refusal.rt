@@ -14,6 +14,8 @@ pub enum VerifyRefusal {
     UndeclaredValue,
     /// V02.
     WrongValueType,
+    /// V03.
+    RightNotEmpty,
     /// V04.
     WrongRight,
     /// V05.
@@ -30,6 +32,8 @@ pub enum VerifyRefusal {
     RightLeft,
     /// V11.
     MisplacedRet,
+    /// V15.
+    ScalarWrite,
     /// V16.
     MainShape,
     /// V17.
@@ -46,6 +50,7 @@ impl VerifyRefusal {
         match self {
             VerifyRefusal::UndeclaredValue => 1,
             VerifyRefusal::WrongValueType => 2,
+            VerifyRefusal::RightNotEmpty => 3,
             VerifyRefusal::WrongRight => 4,
             VerifyRefusal::SkipLeavesBlock => 5,
             VerifyRefusal::Unmatched => 6,
@@ -54,6 +59,7 @@ impl VerifyRefusal {
             VerifyRefusal::Unreached => 9,
             VerifyRefusal::RightLeft => 10,
             VerifyRefusal::MisplacedRet => 11,
+            VerifyRefusal::ScalarWrite => 15,
             VerifyRefusal::MainShape => 16,
             VerifyRefusal::BudgetTooLarge => 17,
             VerifyRefusal::Memory => 18,

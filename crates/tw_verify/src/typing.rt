@@ -1,10 +1,12 @@
 //! What the right registers hold.
 
-ghost use Rattle.std.specs.Prelude.{◌≡◌, ◌≤◌, ◌<◌, length, None, is_none, slice_set};
+ghost use Rattle.std.specs.Prelude.{◌≡◌, ◌≤◌, ◌<◌, length, Some, is_none, slice_set};
 ghost use Rattle.std.specs.List.{list_all};
-ghost use Rattle.tw_code.specs.format.Program.{IsInstr};
+ghost use Rattle.std.specs.Option.{option_and_then};
+ghost use Rattle.tw_types.specs.DataType.{element_of};
+ghost use Rattle.tw_code.specs.format.Program.{IsDataInstr, IsInstr};
 ghost use Rattle.tw_code.specs.machine.Rights.{right_at};
-ghost use Rattle.tw_code.specs.accepting.Typing.{start_typing, writes_scalar, after};
+ghost use Rattle.tw_code.specs.accepting.Typing.{start_typing, is_free, writes, writes_scalar, writes_container, reads, reads_closed_scalar, reads_closed_container, reads_member_of, a_write, a_read, after_data, after};
 ghost use Rattle.tw_verify.specs.Passes.{same_typing};
 
 use std::marker::Model;
@@ -43,10 +45,74 @@ impl Right {
         self.ty
     }
 
+    /// To write a datum of the type.
+    fn write(ty: DataType) -> Right
+        ensures { a_write ty ≡ Some result }
+    {
+        Right {
+            mode: Mode::Write,
+            ty,
+        }
+    }
+
+    /// To read a datum of the type.
+    fn read(ty: DataType) -> Right
+        ensures { a_read ty ≡ Some result }
+    {
+        Right {
+            mode: Mode::Ref,
+            ty,
+        }
+    }
+
+    /// To read a member of its datum.
+    fn member_read(self) -> Option<Right>
+        ensures { result ≡ option_and_then a_read (element_of self.ty) }
+    {
+        self.ty.element().map(Right::read)
+    }
+
+    pub(crate) fn writes(self) -> bool
+        ensures { result ≡ writes self }
+    {
+        self.mode.is_write()
+    }
+
     pub(crate) fn writes_scalar(self) -> bool
         ensures { result ≡ writes_scalar self }
     {
         self.mode.is_write() && self.ty.is_scalar()
+    }
+
+    pub(crate) fn writes_container(self) -> bool
+        ensures { result ≡ writes_container self }
+    {
+        self.mode.is_write() && !self.ty.is_scalar()
+    }
+
+    pub(crate) fn reads(self) -> bool
+        ensures { result ≡ reads self }
+    {
+        matches!(self.mode, Mode::Closed | Mode::Ref)
+    }
+
+    pub(crate) fn reads_closed_scalar(self) -> bool
+        ensures { result ≡ reads_closed_scalar self }
+    {
+        self.mode == Mode::Closed && self.ty.is_scalar()
+    }
+
+    pub(crate) fn reads_closed_container(self) -> bool
+        ensures { result ≡ reads_closed_container self }
+    {
+        self.mode == Mode::Closed && !self.ty.is_scalar()
+    }
+
+    /// Whether it reads what that container has as members.
+    pub(crate) fn reads_member_of(self, container: Right) -> bool
+        ensures { result ≡ reads_member_of container self }
+    {
+        self.reads() && container.ty.element() == Some(self.ty)
     }
 }
 
@@ -95,6 +161,14 @@ impl Typing {
         self.rights[register as usize]
     }
 
+    /// Whether a register is empty.
+    pub(crate) fn is_free(&self, register: u8) -> bool
+        requires { register < 16 }
+        ensures { result ≡ is_free self.now register }
+    {
+        self.right_at(register).is_none()
+    }
+
     /// Whether every register is empty.
     pub fn is_empty(&self) -> bool
         ensures { result ≡ list_all is_none self.now }
@@ -108,22 +182,57 @@ impl Typing {
         self.rights == other.rights
     }
 
-    fn without(mut self, register: u8) -> Typing
+    fn with(mut self, register: u8, right: Option<Right>) -> Typing
         requires { register < 16 }
-        ensures { result ≡ slice_set self register None }
+        ensures { result ≡ slice_set self register right }
     {
-        self.rights[register as usize] = None;
+        self.rights[register as usize] = right;
         self
     }
 
-    /// The typing after an instruction that goes on by this outcome, a line an instruction on data.
+    /// The typing after an instruction on data that goes on by this outcome, a line an instruction.
+    fn after_data(self, way: Way, instr: DataInstr) -> Typing
+        requires { IsDataInstr instr }
+        ensures { result ≡ after_data way instr self }
+    {
+        match instr {
+            DataInstr::New { write, read, ty } => self
+                .with(write, Some(Right::write(ty)))
+                .with(read, Some(Right::read(ty))),
+            DataInstr::Store { datum, .. } => self.with(datum, None),
+            DataInstr::Insert { member, .. } => match way {
+                Way::Done => self.with(member, None),
+                Way::Refused => self,
+            },
+            DataInstr::Look {
+                member,
+                container,
+                ..
+            } => match way {
+                Way::Done => self.with(
+                    member,
+                    self.right_at(container).and_then(Right::member_read),
+                ),
+                Way::Refused => self,
+            },
+            DataInstr::CopyRead { to, from } | DataInstr::CopyWrite { to, from } => {
+                self.with(to, self.right_at(from))
+            }
+            DataInstr::DropRead { right } | DataInstr::DropWrite { right } => self.with(
+                right, None,
+            ),
+            DataInstr::Get { .. } | DataInstr::Size { .. } | DataInstr::SubscriptAt { .. } => self,
+        }
+    }
+
+    /// The typing after an instruction that goes on by this outcome.
     pub(crate) fn after(self, procedures: &[Procedure], way: Way, instr: &Instr) -> Typing
         requires { IsInstr instr.now }
         ensures { result ≡ after procedures.now way instr.now self }
     {
         match instr {
             Instr::Local(_) | Instr::Ret => self,
-            Instr::Data(DataInstr::Store { datum, .. }) => self.without(*datum),
+            Instr::Data(instr) => self.after_data(way, *instr),
         }
     }
 }

@@ -10,6 +10,7 @@ use crate::refusal::VerifyRefusal;
 pub(crate) enum Violation {
     UndeclaredValue,
     WrongValueType,
+    RightNotEmpty,
     WrongRight,
     SkipLeavesBlock,
     Unmatched,
@@ -18,6 +19,7 @@ pub(crate) enum Violation {
     Unreached,
     RightLeft,
     MisplacedRet,
+    ScalarWrite,
     BudgetTooLarge,
 }
 
@@ -29,6 +31,7 @@ impl Violation {
         match self {
             Violation::UndeclaredValue => VerifyRefusal::UndeclaredValue,
             Violation::WrongValueType => VerifyRefusal::WrongValueType,
+            Violation::RightNotEmpty => VerifyRefusal::RightNotEmpty,
             Violation::WrongRight => VerifyRefusal::WrongRight,
             Violation::SkipLeavesBlock => VerifyRefusal::SkipLeavesBlock,
             Violation::Unmatched => VerifyRefusal::Unmatched,
@@ -37,6 +40,7 @@ impl Violation {
             Violation::Unreached => VerifyRefusal::Unreached,
             Violation::RightLeft => VerifyRefusal::RightLeft,
             Violation::MisplacedRet => VerifyRefusal::MisplacedRet,
+            Violation::ScalarWrite => VerifyRefusal::ScalarWrite,
             Violation::BudgetTooLarge => VerifyRefusal::BudgetTooLarge,
         }
     }
