@@ -1,4 +1,5 @@
 -- Accepted programs reach no trap, and each task of theirs goes on to its end within its budget.
+-- The law has two premises: the program is simple (Simple), and its main has no inputs.
 use Rattle.std.specs.Prelude.{◌≡◌, ◌⊎◌, ℕ, ◌<◌, Bool, List, Some, slice_get}
 use Rattle.std.specs.List.{list_all}
 use Rattle.std.specs.FinMap.{get}

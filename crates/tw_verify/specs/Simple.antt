@@ -26,6 +26,6 @@ is_simple_instr (instr.Local i) = true
 is_simple_instr (instr.Data i) = is_store i
 is_simple_instr instr.Ret = true
 
--- no other instruction stands in it
+-- a program of such instructions alone
 abbrev pub is_simple : List Procedure → Bool
 is_simple program = list_all (λ p. list_all is_simple_instr p.code) program

@@ -7,7 +7,7 @@ ghost use Rattle.tw_types.specs.DataType.{same_scalar};
 ghost use Rattle.tw_code.specs.format.Program.{IsDataInstr, IsInstr};
 ghost use Rattle.tw_code.specs.accepting.Question.{passes, refusal_in};
 ghost use Rattle.tw_code.specs.machine.Rights.{Right, right_at};
-ghost use Rattle.tw_code.specs.accepting.Typing.{asks_value, asks_alike, asks_values, asks_value_of, asks_empty_pair, asks_container_write, asks_local, asks_data, asks, asks_params, asks_at, writes, writes_scalar, writes_container, reads, reads_closed_scalar, reads_closed_container, reads_member_of};
+ghost use Rattle.tw_code.specs.accepting.Typing.{asks_value, asks_alike, asks_values, asks_value_of, asks_empty_pair, asks_container_write, asks_local, asks_data, asks, asks_params, asks_at, writes_container, reads, reads_closed_container, reads_member_of};
 ghost use Rattle.tw_verify.specs.Passes.{lowest_of, refusal_with, violation_number};
 
 use crate::typing::{Right, Typing};
@@ -184,6 +184,30 @@ fn is_member_read(typing: &Typing, container: u8, member: u8) -> bool
     }
 }
 
+/// Beside other questions: a right register must have a right to write a container, and another one a right to read
+/// what that has as members.
+fn insert_refusal(
+    typing: &Typing,
+    container: u8,
+    member: u8,
+    others: Option<Violation>,
+) -> Option<Violation>
+    requires container { container < 16 }
+    requires member { member < 16 }
+    ensures { option_map violation_number result
+        ≡ refusal_with (4, passes writes_container (right_at typing.now container))
+        (refusal_with (
+          4,
+          passes (λ right. passes (reads_member_of right) (right_at typing.now member))
+              (right_at typing.now container),
+        ) (option_map violation_number others)) }
+{
+    let fits = is_member_read(typing, container, member);
+    let others = beside(fits, Violation::WrongRight, others);
+    let writes = is_container_write(typing, container);
+    beside(writes, Violation::WrongRight, others)
+}
+
 /// What a local instruction asks, a line an instruction.
 fn local_refusal(registers: &[Scalar], instr: &LocalInstr) -> Option<Violation>
     ensures { option_map violation_number result ≡ refusal_in (asks_local registers.now instr.now) }
@@ -230,7 +254,7 @@ fn local_refusal(registers: &[Scalar], instr: &LocalInstr) -> Option<Violation>
     }
 }
 
-/// What an instruction on data asks at a typing, a line an instruction.
+/// What an instruction on data asks at a typing, a case an instruction.
 fn data_refusal(registers: &[Scalar], instr: DataInstr, typing: &Typing) -> Option<Violation>
     requires { IsDataInstr instr }
     ensures { option_map violation_number result ≡ refusal_in (asks_data registers.now instr typing.now) }
@@ -254,10 +278,7 @@ fn data_refusal(registers: &[Scalar], instr: DataInstr, typing: &Typing) -> Opti
             ..
         } => {
             let others = value_refusal(registers, subscript, Scalar::Int);
-            let fits = is_member_read(typing, container, member);
-            let others = beside(fits, Violation::WrongRight, others);
-            let writes = is_container_write(typing, container);
-            beside(writes, Violation::WrongRight, others)
+            insert_refusal(typing, container, member, others)
         }
         DataInstr::Look {
             member,

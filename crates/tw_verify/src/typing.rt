@@ -45,7 +45,7 @@ impl Right {
         self.ty
     }
 
-    /// To write a datum of the type.
+    /// A right to write a datum of the type.
     fn write(ty: DataType) -> Right
         ensures { a_write ty ≡ Some result }
     {
@@ -55,7 +55,7 @@ impl Right {
         }
     }
 
-    /// To read a datum of the type.
+    /// A right to read a datum of the type.
     fn read(ty: DataType) -> Right
         ensures { a_read ty ≡ Some result }
     {
@@ -65,7 +65,7 @@ impl Right {
         }
     }
 
-    /// To read a member of its datum.
+    /// A right to read a member of its datum, where that has members.
     fn member_read(self) -> Option<Right>
         ensures { result ≡ option_and_then a_read (element_of self.ty) }
     {
@@ -190,7 +190,7 @@ impl Typing {
         self
     }
 
-    /// The typing after an instruction on data that goes on by this outcome, a line an instruction.
+    /// The typing after an instruction on data that goes on by this outcome, a case an instruction.
     fn after_data(self, way: Way, instr: DataInstr) -> Typing
         requires { IsDataInstr instr }
         ensures { result ≡ after_data way instr self }
