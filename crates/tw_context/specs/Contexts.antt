@@ -17,3 +17,7 @@ context s notices f = record { store = s; notices = notices; rights = f.rights; 
 abbrev pub Does : DataInstr → Store → Notices → Frame → Result (Unit {0}) Failure → Store → Notices → Frame → Type 0
 Does i s n f (Ok _) t m g = (data_instr i (context s n f) ≡ Ok (context t m g)) × (g ≡ record f { position = g.position; rights = g.rights })
 Does i s n f (Err why) t m g = Fails (data_instr i (context s n f)) why × (t ≡ s) × (m ≡ n) × (g ≡ f)
+
+-- the same of an instruction that leaves the notices, whatever they are
+abbrev pub DoesQuietly : DataInstr → Store → Frame → Result (Unit {0}) Failure → Store → Frame → Type 0
+DoesQuietly i s f result t g = (n : Notices) → Does i s n f result t n g

@@ -1,83 +1,16 @@
 //! The instructions on data.
 
-ghost use Rattle.std.specs.Prelude.{◌≡◌, ◌<◌, ◌^◌, Ok, OnErr, OnOk};
-ghost use Rattle.std.specs.FinMap.{get};
-ghost use Rattle.std.specs.Option.{option_and_then, option_copied};
-ghost use Rattle.tw_code.specs.declared.instr.DataInstr.TheVariants.{Store as STORE};
-ghost use Rattle.tw_code.specs.machine.Data.{data_instr, suits};
-ghost use Rattle.tw_code.specs.machine.Rights.{right_at};
-ghost use Rattle.tw_types.specs.Notices.{with_notices};
-ghost use Rattle.tw_types.specs.StoreCalls.{notices_of_stored, stored};
-ghost use Rattle.tw_types.specs.StoreChecks.{may_store};
+ghost use Rattle.std.specs.Prelude.{◌<◌, ◌^◌};
 ghost use Rattle.tw_context.specs.Contexts.{Does};
+ghost use Rattle.tw_context.specs.Room.{HasRoom};
 
 use crate::failure::Failure;
 use crate::frame::Frame;
 use crate::notices::Notices;
-use std::alloc::{AllocError, Global};
+use crate::{containers, rights, scalars};
+use std::alloc::Global;
 use tw_code::DataInstr;
-use tw_data::{Data, Datum};
-use tw_types::{Cause, DatumId, Value};
-
-/// Whether a value is of the type of a datum, where that is a live scalar.
-fn suits(value: &Value, datum: Option<&Datum>) -> bool
-    ensures { result ≡ suits value.now (option_copied datum.entry) }
-{
-    match datum {
-        Some(datum) => !datum.ty().is_scalar() || value.scalar() == datum.ty().scalar(),
-        None => true,
-    }
-}
-
-/// The datum of a right register, if it is live.
-fn datum_at<'a>(store: &'a Data, frame: &Frame, register: u8) -> Option<&'a Datum>
-    ensures { option_copied result ≡ option_and_then (get store.now.live) (right_at frame.now.rights register) }
-{
-    store.datum(frame.right(register)?)
-}
-
-/// Sets a scalar, and adds the notices of those who hear of it; or changes nothing where memory is refused.
-fn set(store: &mut Data, notices: &mut Notices, id: DatumId, value: Value) -> Result<(), AllocError>
-    requires { may_store value (get store.old.live id) ≡ Ok tt }
-    ensures set { OnOk result (store.new ≡ stored store.old id value) }
-    ensures told { OnOk result (notices.new ≡ with_notices notices.old (notices_of_stored store.old id value)) }
-    ensures refused { OnErr result ((store.new ≡ store.old) × (notices.new ≡ notices.old)) }
-{
-    notices.tell(id, store.heard_by_set(id))?;
-    store.set(id, value);
-    Ok(())
-}
-
-fn store(
-    alloc: Global,
-    store: &mut Data,
-    notices: &mut Notices,
-    frame: &mut Frame,
-    datum: u8,
-    from: u8,
-) -> Result<(), Failure>
-    requires { frame.old.position.place < 2 ^ 63 }
-    ensures { Does (STORE datum from) store.old notices.old frame.old result store.new notices.new frame.new }
-{
-    let value = frame
-        .position()
-        .value(from)
-        .ok_or(Failure::Trap(Cause::WrongRegister))?;
-    if !suits(value, datum_at(store, frame, datum)) {
-        return Err(Failure::Trap(Cause::WrongRegister));
-    }
-    let id = frame
-        .right(datum)
-        .ok_or(Failure::Trap(Cause::EmptyRegister))?;
-    if let Err(cause) = store.may_store(id, value) {
-        return Err(Failure::Trap(cause));
-    }
-    let value = value.try_clone(alloc)?;
-    set(store, notices, id, value)?;
-    frame.empty(datum);
-    frame.go_on();
-    Ok(())
-}
+use tw_data::Data;
 
 /// One instruction on data.
 pub fn data_instr(
@@ -87,12 +20,40 @@ pub fn data_instr(
     notices: &mut Notices,
     frame: &mut Frame,
 ) -> Result<(), Failure>
-    requires { frame.old.position.place < 2 ^ 63 }
+    requires place { frame.old.position.place < 2 ^ 63 }
+    requires room { HasRoom store.old }
     ensures { Does instr store.old notices.old frame.old result store.new notices.new frame.new }
 {
     match instr {
-        DataInstr::Store { datum, from } => {
-            self::store(alloc, store, notices, frame, datum, from)
+        DataInstr::New { write, read, ty } => {
+            rights::create(alloc, store, frame, write, read, ty)
         }
+        DataInstr::Store { datum, from } => {
+            scalars::store(alloc, store, notices, frame, datum, from)
+        }
+        DataInstr::Get { to, datum } => scalars::get(alloc, store, frame, to, datum),
+        DataInstr::Insert {
+            container,
+            subscript,
+            member,
+            skip,
+        } => containers::insert(store, frame, container, subscript, member, skip),
+        DataInstr::Look {
+            member,
+            container,
+            subscript,
+            skip,
+        } => containers::look(store, frame, member, container, subscript, skip),
+        DataInstr::Size { to, container } => { containers::size(store, frame, to, container) }
+        DataInstr::SubscriptAt {
+            to,
+            container,
+            index,
+            skip,
+        } => containers::subscript_at(store, frame, to, container, index, skip),
+        DataInstr::CopyRead { to, from } => rights::copy_read(store, frame, to, from),
+        DataInstr::CopyWrite { to, from } => rights::copy_write(store, frame, to, from),
+        DataInstr::DropRead { right } => rights::drop_read(store, frame, right),
+        DataInstr::DropWrite { right } => rights::drop_write(store, notices, frame, right),
     }
 }

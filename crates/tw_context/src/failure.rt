@@ -10,6 +10,17 @@ pub enum Failure {
     NoMemory,
 }
 
+impl From<Cause> for Failure {
+    ghost use Rattle.std.specs.Prelude.{◌≡◌};
+    ghost use Rattle.tw_context.specs.declared.failure.Failure.TheVariants.{Trap};
+
+    ghost from_gives = { λ cause failure. failure ≡ Trap cause };
+
+    fn from(cause: Cause) -> Failure {
+        Failure::Trap(cause)
+    }
+}
+
 impl From<AllocError> for Failure {
     ghost use Rattle.std.specs.Prelude.{◌≡◌};
     ghost use Rattle.tw_context.specs.declared.failure.Failure.TheVariants.{NoMemory};

@@ -1,9 +1,9 @@
 //! Tasks that run.
 
-ghost use Rattle.std.specs.Prelude.{◌≡◌, ◌<◌, ◌^◌, ◌+◌, IfOk, None, is_none, slice_set, []};
+ghost use Rattle.std.specs.Prelude.{◌≡◌, ◌<◌, ◌^◌, ◌+◌, IfOk, None, Some, is_none, length, slice_set, []};
 ghost use Rattle.std.specs.List.{list_all};
 ghost use Rattle.tw_code.specs.machine.Rights.{right_at};
-ghost use Rattle.tw_code.specs.machine.Position.{at_next_place};
+ghost use Rattle.tw_code.specs.machine.Position.{at_goal, at_next_place, with_value};
 ghost use Rattle.tw_context.specs.Stretch.{IsStretch};
 
 use crate::local::count_local;
@@ -119,7 +119,31 @@ impl Frame {
     pub(crate) fn empty(&mut self, register: u8)
         ensures { self.new ≡ record self.old { rights = slice_set self.old.rights register None } }
     {
-        empty_in(&mut self.rights, register);
+        set_in(&mut self.rights, register, None);
+    }
+
+    /// Puts an id into a right register.
+    pub(crate) fn fill(&mut self, register: u8, id: DatumId)
+        ensures { self.new ≡ record self.old { rights = slice_set self.old.rights register (Some id) } }
+    {
+        set_in(&mut self.rights, register, Some(id));
+    }
+
+    /// A value register gets the value, and the task goes on.
+    pub(crate) fn put(&mut self, register: u8, value: Value)
+        requires declared { register < length self.old.position.values }
+        requires inside { self.old.position.place < 2 ^ 63 }
+        ensures { self.new ≡ record self.old { position = at_next_place (with_value self.old.position register value) } }
+    {
+        self.position.put(register, value);
+    }
+
+    /// Goes on behind so many instructions after the next place.
+    pub(crate) fn skip(&mut self, skip: u16)
+        requires { self.old.position.place < 2 ^ 63 }
+        ensures { self.new ≡ record self.old { position = at_goal self.old.position skip } }
+    {
+        self.position.skip(skip);
     }
 
     /// Goes on to the next place.
@@ -149,11 +173,11 @@ impl Frame {
     }
 }
 
-fn empty_in(rights: &mut [Option<DatumId>], register: u8)
-    ensures { rights.new ≡ slice_set rights.old register None }
+fn set_in(rights: &mut [Option<DatumId>], register: u8, right: Option<DatumId>)
+    ensures { rights.new ≡ slice_set rights.old register right }
 {
     let register = usize::from(register);
     if register < rights.len() {
-        rights[register] = None;
+        rights[register] = right;
     }
 }

@@ -6,12 +6,16 @@
 #![tactic(auto)]
 
 mod code;
+mod containers;
 mod data;
 mod failure;
 mod frame;
 mod local;
 mod notices;
 mod position;
+mod registers;
+mod rights;
+mod scalars;
 mod stopped;
 
 pub use code::{instr_at, procedure_of};

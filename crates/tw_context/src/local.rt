@@ -1,63 +1,23 @@
 //! The instructions of a task by itself.
 
-ghost use Rattle.std.specs.Prelude.{◌≡◌, ◌<◌, ◌≤◌, ◌^◌, length, IfOk, MatchResult, Ok, OnOk, if◌then◌else◌};
+ghost use Rattle.std.specs.Prelude.{◌≡◌, ◌<◌, ◌≤◌, ◌^◌, IfOk, MatchResult, if◌then◌else◌};
 ghost use Rattle.tw_types.specs.Outcome.{Went};
 ghost use Rattle.tw_code.specs.declared.instr.LocalInstr.TheVariants.{Int as INT, Text as TEXT, Copy as COPY, Compute as COMPUTE, Concatenate as CAT, Length as LEN, Show as SHOW, ReadInt as READI, JumpEqual as JEQ, JumpLess as JLT, Repeat as REPEAT, End as END};
 ghost use Rattle.tw_code.specs.machine.Local.{local_instr, same_value};
 ghost use Rattle.tw_code.specs.machine.Machine.{local_step, local_steps};
-ghost use Rattle.tw_code.specs.machine.Position.{must_have_type, value_at, int_at, text_at, at_goal, at_next_place};
+ghost use Rattle.tw_code.specs.machine.Position.{at_goal, at_next_place};
 ghost use Rattle.tw_code.specs.machine.Position.{Position as Where};
-ghost use Rattle.tw_context.specs.Attempts.{Changes, Fails, Gives, IsStopped, Leaves};
+ghost use Rattle.tw_context.specs.Attempts.{Changes, Gives, IsStopped, Leaves};
 
 use crate::code::instr_at;
 use crate::failure::Failure;
 use crate::position::Position;
+use crate::registers::{int_at, must_have_type, text_at, value_at};
 use crate::stopped::Stopped;
 use std::alloc::{AllocError, Global};
 use tw_code::compute::{int_shown_as, joined, result_of, shown};
 use tw_code::{Arithmetic, Instr, LocalInstr};
 use tw_types::{Cause, Scalar, Text, Value};
-
-/// The value of a declared register.
-fn value_at(position: &Position, register: u8) -> Result<&Value, Failure>
-    ensures gives { MatchResult result (λ value. value_at position.now register ≡ Ok value.now) (Fails (value_at position.now register)) }
-    ensures declared { OnOk result (register < length position.now.values) }
-{
-    position
-        .value(register)
-        .ok_or(Failure::Trap(Cause::WrongRegister))
-}
-
-fn int_at(position: &Position, register: u8) -> Result<i64, Failure>
-    ensures { Gives (int_at position.now register) result }
-{
-    match value_at(position, register)? {
-        Value::Int(number) => Ok(*number),
-        Value::Text(_) => Err(Failure::Trap(Cause::WrongRegister)),
-    }
-}
-
-fn text_at(position: &Position, register: u8) -> Result<&Text, Failure>
-    ensures { MatchResult result (λ text. text_at position.now register ≡ Ok text.now) (Fails (text_at position.now register)) }
-{
-    match value_at(position, register)? {
-        Value::Int(_) => Err(Failure::Trap(Cause::WrongRegister)),
-        Value::Text(text) => Ok(text),
-    }
-}
-
-/// Fails where the register isn't declared, or has a value of another type.
-fn must_have_type(position: &Position, register: u8, ty: Scalar) -> Result<(), Failure>
-    ensures gives { Gives (must_have_type position.now register ty) result }
-    ensures declared { OnOk result (register < length position.now.values) }
-{
-    let value = value_at(position, register)?;
-    if value.scalar() == ty {
-        Ok(())
-    } else {
-        Err(Failure::Trap(Cause::WrongRegister))
-    }
-}
 
 /// Whether two values are the same; they must be of one type.
 fn same_value(left: &Value, right: &Value) -> Result<bool, Failure>
