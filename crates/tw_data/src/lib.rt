@@ -12,3 +12,4 @@ mod freeing;
 
 pub use data::Data;
 pub use datum::{Content, Datum};
+pub use tw_ranked::RankedMap;

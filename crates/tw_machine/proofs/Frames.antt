@@ -1,5 +1,5 @@
 -- From the event of one frame to all frames.
-use Rattle.std.proofs.Common.{◌≡◌, ◌<◌, ℕ, Bool, true, false, nat_eq, List, refl, sym, ap, subst, ◌∙◌, IfSome}
+use Rattle.std.proofs.Common.{◌≡◌, ◌<◌, ◌^◌, ℕ, Bool, true, false, nat_eq, List, refl, sym, ap, subst, ◌∙◌, IfSome}
 use Rattle.std.specs.declared.option.Option.{Option}
 use Rattle.std.specs.declared.option.Option.TheVariants.{None, Some}
 use Rattle.std.specs.Prelude.{Result, Ok, Err}
@@ -16,6 +16,7 @@ use Rattle.tw_code.specs.machine.State.{Frame, State}
 use Rattle.tw_code.specs.machine.Machine.{call_event, end_event, local_event}
 use Rattle.tw_context.specs.declared.stopped.Stopped.{Stopped}
 use Rattle.tw_context.specs.Attempts.{Changes}
+use Rattle.tw_context.specs.Room.{HasRoom}
 use Rattle.tw_machine.specs.Events.{ContextComes, FrameComes, FramesCome}
 use Rattle.tw_machine.specs.Parts.{frames_of, with_frames, with_store}
 use Rattle.tw_types.proofs.ActorOrder.{actor_cmp_total, actor_cmp-IsAntisymmetric}
@@ -30,6 +31,9 @@ few_at bound s actor below = by (get s.frames actor) (below.spent actor)
     by : (o : Option Frame) → ((f : Frame) → o ≡ Some f → f.spent < bound) → IfSome o (λ f. f.spent < bound)
     by None h = tt
     by (Some f) h = h f refl
+
+pub room_below : (s : State) → AreBelow (2 ^ 63) s → HasRoom s.store
+room_below s below = record { number = below.numbers.datum; reads = below.reads; writes = below.writes; members = below.members }
 
 -- ---- an actor without a frame
 

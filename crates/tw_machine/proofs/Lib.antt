@@ -3,5 +3,6 @@ pub mod Frames
 pub mod Bests
 pub mod Takes
 pub mod Quiet
-pub mod Opened
+pub mod InputData
+pub mod Parameters
 pub mod Growth

@@ -3,6 +3,7 @@
 -- what its inner functions promise of them.
 pub mod PlainView
 pub mod Opening
+pub mod Inputs
 pub mod Answers
 pub mod Parts
 pub mod Args

@@ -7,6 +7,7 @@ ghost use Rattle.tw_types.specs.Outcome.{Went};
 ghost use Rattle.tw_code.specs.machine.Machine.{call_event, end_event, local_event};
 ghost use Rattle.tw_code.specs.machine.State.{State as Meaning};
 ghost use Rattle.tw_context.specs.Attempts.{Changes, Fails, IsStopped};
+ghost use Rattle.tw_context.specs.Room.{HasRoom};
 ghost use Rattle.tw_machine.specs.Events.{ContextComes, FrameComes, FramesCome, instr_of};
 ghost use Rattle.tw_machine.specs.Parts.{frames_of, with_frames, with_store};
 
@@ -73,7 +74,8 @@ fn call_of(
     notices: &mut Notices,
     frame: &mut Frame,
 ) -> Result<(), Stopped>
-    requires { frame.old.spent < 2 ^ 63 }
+    requires spent { frame.old.spent < 2 ^ 63 }
+    requires room { HasRoom store.old }
     ensures { ContextComes (λ actor. call_event program.now actor) store.old notices.old frame.old result store.new notices.new frame.new }
 {
     let instr = instr_of(program, frame)?;
@@ -108,7 +110,8 @@ pub fn call(
     frames: &mut BTreeMap<Actor, Frame>,
     actor: Actor,
 ) -> Result<(), Stopped>
-    requires { IfSome (get (frames_of frames.old.entries) actor) (λ frame. frame.spent < 2 ^ 63) }
+    requires spent { IfSome (get (frames_of frames.old.entries) actor) (λ frame. frame.spent < 2 ^ 63) }
+    requires room { HasRoom store.old }
     ensures { (s : Meaning) → let old = with_frames (with_store s store.old notices.old) (frames_of frames.old.entries) in Changes (call_event program.now actor old) old result (with_frames (with_store s store.new notices.new) (frames_of frames.new.entries)) }
 {
     let Some(frame) = frames.get_mut(&actor) else {

@@ -5,6 +5,8 @@
 #![tactic(auto)]
 
 mod events;
+mod inputs;
+mod opened;
 mod opening;
 mod plain;
 mod refusal;

@@ -51,8 +51,8 @@ impl Model for Plain {
 }
 
 impl Plain {
-    /// A machine in which main waits. Main's shape is asked first, then whether there are inputs; a refusal hands the
-    /// program back.
+    /// A machine in which main waits, with the data of the inputs. Main's shape is asked first, then how many inputs
+    /// there are, then what they are; a refusal hands the program back.
     pub fn open(
         alloc: Global,
         program: Program,
@@ -67,7 +67,7 @@ impl Plain {
         if let Some(no) = refusal_of(program.procedures(), inputs) {
             return Err(OpenRefused { program, no });
         }
-        match State::open(alloc, main_params(program.procedures())) {
+        match State::open(alloc, main_params(program.procedures()), inputs) {
             Ok(state) => Ok(Plain {
                 program,
                 layout,

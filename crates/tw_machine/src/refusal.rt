@@ -10,8 +10,11 @@ use tw_code::Program;
 /// Why a program isn't opened.
 #[derive(Clone, Copy)]
 pub enum OpenRefusal {
-    /// O01.
+    /// O01: another number of inputs than main takes.
     InputCount,
+    /// O02: an input of another type than its parameter, with a text that is too long, or with members that are too
+    /// many or don't rise.
+    InputType,
     /// O05.
     Memory,
     /// O06.
@@ -25,6 +28,7 @@ impl OpenRefusal {
     {
         match self {
             OpenRefusal::InputCount => 1,
+            OpenRefusal::InputType => 2,
             OpenRefusal::Memory => 5,
             OpenRefusal::MainShape => 6,
         }

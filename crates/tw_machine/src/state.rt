@@ -1,17 +1,17 @@
 //! The state of the machine.
 
-ghost use Rattle.std.specs.Prelude.{◌≡◌, ◌<◌, ◌≤◌, ◌^◌, [], length, true, IfOk};
-ghost use Rattle.std.specs.List.{list_all};
+ghost use Rattle.std.specs.Prelude.{◌≡◌, ◌<◌, ◌≤◌, ◌^◌, length, true, IfOk};
 ghost use Rattle.std.specs.Option.{option_copied};
 ghost use Rattle.std.specs.FinMap.{get};
 ghost use Rattle.tw_code.specs.machine.Bounds.{AreBelow, size_of};
 ghost use Rattle.tw_code.specs.machine.Ending.{ending};
 ghost use Rattle.tw_code.specs.machine.Machine.{step};
-ghost use Rattle.tw_types.specs.Mode.{is_write};
+ghost use Rattle.tw_code.specs.machine.Inputs.{are_inputs_of, input_params};
 ghost use Rattle.tw_code.specs.machine.Opening.{opened, opening_of};
 ghost use Rattle.tw_context.specs.Attempts.{Changes};
 ghost use Rattle.tw_machine.specs.Opening.{nothing_opened};
 
+use crate::opened::Opened;
 use crate::task::Task;
 use crate::{events, take};
 use std::alloc::{AllocError, Global};
@@ -20,7 +20,7 @@ use std::marker::Model;
 use tw_code::Procedure;
 use tw_context::{Frame, Notices, Stopped};
 use tw_data::{Data, Datum};
-use tw_types::{Actor, DatumId, Ending, Event, Layout, Param};
+use tw_types::{Actor, DatumId, Ending, Event, Input, Layout, Param};
 
 /// The store, the tasks that wait, the tasks that run, the notices that wait, and the outputs.
 #[derive(Drop)]
@@ -61,19 +61,23 @@ impl Model for State {
 }
 
 impl State {
-    /// The state in which main waits, with an output for each of its parameters.
-    pub(crate) fn open(alloc: Global, params: &[Param]) -> Result<State, AllocError>
-        requires outputs { list_all (λ p. is_write p.mode) params.now ≡ true }
+    /// The state in which main waits, with the data of its parameters.
+    pub(crate) fn open(
+        alloc: Global,
+        params: &[Param],
+        inputs: &[Input],
+    ) -> Result<State, AllocError>
+        requires fit { are_inputs_of (input_params params.now) inputs.now ≡ true }
         requires few { length params.now ≤ 8 }
-        ensures { IfOk result (λ state. state ≡ opening_of (opened nothing_opened params.now [])) }
+        ensures { IfOk result (λ state. state ≡ opening_of (opened nothing_opened params.now inputs.now)) }
     {
-        let mut store = Data::new(alloc);
-        let mut outputs = Vec::new(alloc);
-        for param in params {
-            outputs.push(store.create(alloc, param.ty)?)?;
-        }
+        let Opened {
+            store,
+            rights,
+            outputs,
+        } = Opened::of(alloc, params, inputs)?;
         let mut tasks = BTreeMap::new(alloc);
-        tasks.insert(1, Task::main(alloc, &outputs)?)?;
+        tasks.insert(1, Task::main(alloc, &rights)?)?;
         Ok(State {
             store,
             tasks,

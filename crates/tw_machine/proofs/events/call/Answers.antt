@@ -14,8 +14,8 @@ returns-in_default c = λ s.
       ap (λ m. with_frames (with_store s c.args.store.now c.args.notices.now) (frames_of m.entries)) c.get_mut.follows.holds-at-none,
     )
 
-pub call_of-requires : goal.call_of-requires
-call_of-requires c = is_few _ _ _ (found_view actor_cmp_total actor_cmp-IsAntisymmetric c.args.frames.now c.args.actor (Some c.in-Some.frame.now) c.in-Some.ensures.value) c.requires
+pub call_of-requires-clause-spent : goal.call_of-requires-clause-spent
+call_of-requires-clause-spent c = is_few _ _ _ (found_view actor_cmp_total actor_cmp-IsAntisymmetric c.args.frames.now c.args.actor (Some c.in-Some.frame.now) c.in-Some.ensures.value) c.requires.spent
 
 pub returns : goal.returns
 returns c = λ s.

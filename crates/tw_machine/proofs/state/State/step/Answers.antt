@@ -3,14 +3,17 @@ use Rattle.tw_code.specs.machine.Bounds.{AreBelow}
 use Rattle.tw_code.specs.machine.State.{State}
 use Rattle.tw_code.specs.machine.Machine.{step}
 use Rattle.tw_machine.specs.contracts.state.State.{the_view}
-use Rattle.tw_machine.proofs.Frames.{few_at}
+use Rattle.tw_machine.proofs.Frames.{few_at, room_below}
 use Rattle.tw_machine.proofs.state.State.step.Goals as goal
 
 pub local-requires-clause-spent : goal.local-requires-clause-spent
 local-requires-clause-spent c = few_at (2 ^ 63) (the_view c.self.inside) c.in-Local.actor (subst (λ (s : State). AreBelow (2 ^ 63) s) (sym c.self.view_is) c.requires.small)
 
-pub call-requires : goal.call-requires
-call-requires c = few_at (2 ^ 63) (the_view c.self.inside) c.in-Call.actor (subst (λ (s : State). AreBelow (2 ^ 63) s) (sym c.self.view_is) c.requires.small)
+pub call-requires-clause-spent : goal.call-requires-clause-spent
+call-requires-clause-spent c = few_at (2 ^ 63) (the_view c.self.inside) c.in-Call.actor (subst (λ (s : State). AreBelow (2 ^ 63) s) (sym c.self.view_is) c.requires.small)
+
+pub call-requires-clause-room : goal.call-requires-clause-room
+call-requires-clause-room c = room_below (the_view c.self.inside) (subst (λ (s : State). AreBelow (2 ^ 63) s) (sym c.self.view_is) c.requires.small)
 
 pub returns-in-Take : goal.returns-in-Take
 unfolding step
