@@ -13,31 +13,34 @@ use std::alloc::{AllocError, Global};
 use tw_machine::{OpenRefused, Plain, Stepped};
 use tw_types::{Actor, Input, InputText, Layout};
 
-/// The machine of a program without inputs.
-fn opened(alloc: Global, bytes: &[u8], layout: Layout) -> Result<Plain, Complaint>
+/// The machine of a program, opened as the words of a case say: a layout, and behind `with` the inputs.
+fn opened(alloc: Global, words: &str, bytes: &[u8]) -> Result<Plain, Complaint>
     ensures { IfOk result (λ plain. AreBelow opening_bound plain.state) }
 {
-    match Plain::open(alloc, read_program(alloc, bytes)?, &[], layout) {
+    let (layout, inputs) = words.split_once("with").unwrap_or((words, ""));
+    let layout = read_layout(layout.trim())?;
+    let inputs = read_inputs(alloc, inputs)?;
+    let program = read_program(alloc, bytes)?;
+    match Plain::open(alloc, program, inputs.as_slice(), layout) {
         Ok(plain) => Ok(plain),
         Err(_) => Err(Complaint::NotOpened),
     }
 }
 
-fn run(alloc: Global, layout: &str, bytes: &[u8], events: &str) -> Result<Course, Complaint> {
-    let layout = read_layout(layout)?;
+fn run(alloc: Global, words: &str, bytes: &[u8], events: &str) -> Result<Course, Complaint> {
     let events = read_events(alloc, events)?;
-    let plain = opened(alloc, bytes, layout)?;
+    let plain = opened(alloc, words, bytes)?;
     played(alloc, plain, events.as_slice())
 }
 
 /// What the last event came to, behind each earlier one that didn't go.
 pub fn machine_text(
     alloc: Global,
-    layout: &str,
+    words: &str,
     bytes: &[u8],
     events: &str,
 ) -> Result<String, Complaint> {
-    let played = run(alloc, layout, bytes, events)?;
+    let played = run(alloc, words, bytes, events)?;
     match played.answers.as_slice().split_last() {
         Some((last, others)) => Ok(answers_text(alloc, *last, others)?),
         None => Err(Complaint::NoEvents),
@@ -79,11 +82,11 @@ fn stepped_text(alloc: Global, answer: Stepped) -> Result<String, AllocError> {
 /// The events that didn't go, and the state that is left.
 pub fn state_text(
     alloc: Global,
-    layout: &str,
+    words: &str,
     bytes: &[u8],
     events: &str,
 ) -> Result<String, Complaint> {
-    let played = run(alloc, layout, bytes, events)?;
+    let played = run(alloc, words, bytes, events)?;
     let mut parts = refused(alloc, played.answers.as_slice())?;
     put_state(alloc, &mut parts, played.plain.state())?;
     Ok(parts.as_slice().join(alloc, " / ")?)

@@ -100,8 +100,7 @@ fn datum_text(alloc: Global, number: u64, datum: &Datum) -> Result<String, Alloc
 
 fn content_text(alloc: Global, datum: &Datum) -> Result<String, AllocError> {
     if datum.ty().depth() > 0 {
-        let count = datum.len();
-        return format!(in alloc; "members {count}");
+        return members_text(alloc, datum);
     }
     match datum.value() {
         Some(Value::Int(number)) => number.to_string(alloc),
@@ -111,4 +110,17 @@ fn content_text(alloc: Global, datum: &Datum) -> Result<String, AllocError> {
         }
         None => "unset".to_string(alloc),
     }
+}
+
+/// Members by rising subscript, as `members 2 at -3 d5 at 8 d4`.
+fn members_text(alloc: Global, datum: &Datum) -> Result<String, AllocError> {
+    let count = datum.len();
+    let mut text = format!(in alloc; "members {count}")?;
+    for index in 0..count {
+        if let Some((subscript, member)) = datum.member(index) {
+            let number = member.number();
+            text.push_str(format!(in alloc; " at {subscript} d{number}")?.as_str())?;
+        }
+    }
+    Ok(text)
 }
