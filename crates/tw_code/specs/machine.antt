@@ -14,4 +14,7 @@ pub mod History
 -- What the laws of runs speak of.
 pub mod Holders
 pub mod Bounds
+pub mod Once
+pub mod Waiting
+pub mod Enabled
 pub mod Shown

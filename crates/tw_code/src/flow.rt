@@ -84,6 +84,7 @@ impl Instr {
         match self {
             Instr::Local(instr) => instr.flow(),
             Instr::Data(instr) => instr.flow(),
+            Instr::Rule(_) | Instr::Put(_) => Flow::Straight,
             Instr::Ret => Flow::Stop,
         }
     }

@@ -1,6 +1,6 @@
 //! Instructions.
 
-use tw_types::{DataType, Text};
+use tw_types::{DataType, Items, Text};
 
 /// What an instruction computes of two integers. The order is that of the opcodes.
 #[derive(Clone, Copy)]
@@ -15,6 +15,18 @@ pub enum Arithmetic {
     Divide,
     /// REM: what that division leaves.
     Remainder,
+}
+
+/// The task that RULE and PUT name.
+#[derive(Drop)]
+pub struct Action {
+    /// The number of its procedure in the program.
+    pub procedure: u8,
+    pub priority: i64,
+    /// The number of the one actor that may take it, if not any.
+    pub target: Option<u8>,
+    /// A register for each parameter; the parameter's mode says of which bank.
+    pub args: Items<u8>,
 }
 
 /// A local instruction: it changes nothing but its task's place, values and loops. Registers are named by their numbers, 0
@@ -164,6 +176,10 @@ pub enum DataInstr {
 pub enum Instr {
     Local(LocalInstr),
     Data(DataInstr),
+    /// RULE: a rule of this engine; its task waits until the data of the `closed` parameters are closed.
+    Rule(Action),
+    /// PUT: a task.
+    Put(Action),
     /// RET: the task ends.
     Ret,
 }

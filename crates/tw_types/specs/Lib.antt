@@ -16,6 +16,7 @@ pub mod StoreCalls
 pub mod StoreChecks
 pub mod Notices
 pub mod Task
+pub mod Rule
 pub mod Totals
 pub mod Counts
 pub mod TypedStore
