@@ -1,5 +1,5 @@
 -- Instructions: each is read as it was written, and where it is wrong or cut off the reading says so.
-use Rattle.std.proofs.Common.{◌≡◌, ℕ, ℤ, suc, ◌⊎◌, true, false, eqb, List, [], ◌∷◌, ◌++◌, length, Ok, Err, refl, sym, ap, subst, ◌∙◌, drop, arith, inl, inr}
+use Rattle.std.proofs.Common.{◌≡◌, ℕ, ℤ, zero, suc, Option, Some, None, ◌⊎◌, true, false, eqb, List, [], ◌∷◌, ◌++◌, length, Ok, Err, refl, sym, ap, subst, ◌∙◌, drop, arith, inl, inr}
 use Rattle.std.specs.Prelude.{FitsSigned}
 use Rattle.std.specs.Int.{w64}
 use Rattle.std.specs.List.{concat}
@@ -14,12 +14,12 @@ use Rattle.tw_code.specs.declared.instr.LocalInstr.TheVariants as local
 use Rattle.tw_types.specs.DataType.{IsDataType}
 use Rattle.tw_types.specs.Nesting.{NestedScalar}
 use Rattle.tw_types.specs.Text.{IsText}
-use Rattle.tw_code.specs.format.Program.{IsInstr, IsRegister, IsSkip, IsWithin}
-use Rattle.tw_code.specs.format.Spelling.{Item, byte, text_items, type_items, instr_items}
-use Rattle.tw_code.specs.format.Reading.{Reading, as_is, both, type_at, on, register_at, number_at, wide_at, skip_at, text_at, two_registers_at, two_registers_and_skip_at, three_registers_and_skip_at, nothing_at, no_other, operands_at, instr_at}
-use Rattle.tw_code.proofs.Formats.{IsBytes, IsBytes-rest, chosen, ok_is, Takes, as_is_takes, as_is_again}
-use Rattle.tw_code.proofs.Breaks.{IsStrict, FailsAt, GoesOn, carried, due_after, no_err, err_is, both_strict, as_is_fails}
-use Rattle.tw_code.proofs.Bytes.{a_byte, AnyOf, nothing_left, wrong_byte, register_strict}
+use Rattle.tw_code.specs.format.Program.{IsAction, IsInstr, IsList, IsRegister, IsSkip, IsTarget, IsWithin}
+use Rattle.tw_code.specs.format.Spelling.{Item, byte, text_items, type_items, counted_items, register_items, target_code, action_items, instr_items}
+use Rattle.tw_code.specs.format.Reading.{Reading, as_is, both, counted, byte_at, type_at, target_in, target_at, action_at, on, register_at, number_at, wide_at, skip_at, text_at, two_registers_at, two_registers_and_skip_at, three_registers_and_skip_at, nothing_at, no_other, operands_at, instr_at}
+use Rattle.tw_code.proofs.Formats.{IsBytes, IsBytes-rest, chosen, ok_is, Takes, IsMade, as_is_takes, as_is_again}
+use Rattle.tw_code.proofs.Breaks.{IsStrict, FailsAt, GoesOn, carried, due_after, no_err, err_is, both_strict, counted_strict, as_is_strict, as_is_fails}
+use Rattle.tw_code.proofs.Bytes.{a_byte, AnyOf, nothing_left, wrong_byte, byte_strict, register_strict}
 use Rattle.tw_code.proofs.Numbers.{a_number, a_wide, number_strict, wide_strict}
 use Rattle.tw_code.proofs.TextFormat.{text_strict}
 use Rattle.tw_code.proofs.Types.{type_strict}
@@ -124,6 +124,45 @@ three_registers_and_skip = both_strict register_strict two_registers_and_skip
 new_strict : IsStrict (λ (x : ℕ × (ℕ × NestedScalar)). IsRegister x.0 × (IsRegister x.1.0 × IsDataType x.1.1)) (λ x. a_byte x.0 ++ (a_byte x.1.0 ++ type_items x.1.1)) (both register_at (both register_at (type_at 3)))
 new_strict = both_strict register_strict (both_strict register_strict (type_strict 3))
 
+target_made : IsMade (IsWithin 0 16) IsTarget target_in target_code
+target_made = record { made = made; undone = undone; fits = fits; parts_fit = parts_fit } where
+  made : (t : Option ℕ) → target_in (target_code t) ≡ t
+  made None = refl
+  made (Some number) = refl
+
+  undone : (n : ℕ) → IsWithin 0 16 n → target_code (target_in n) ≡ n
+  undone zero h = refl
+  undone (suc n) h = omega arith
+
+  fits : (n : ℕ) → IsWithin 0 16 n → IsTarget (target_in n)
+  fits zero h = tt
+  fits (suc n) h = (omega (arith, h.1), omega (arith, h.1))
+
+  parts_fit : (t : Option ℕ) → IsTarget t → IsWithin 0 16 (target_code t)
+  parts_fit None h = (omega arith, omega arith)
+  parts_fit (Some number) h = (omega (arith, h.1), omega (arith, h.1))
+
+target_strict : IsStrict IsTarget (λ t. a_byte (target_code t)) target_at
+target_strict = as_is_strict target_made (byte_strict 0 16 (omega arith))
+
+args_strict : IsStrict (IsList 0 8 IsRegister) (counted_items byte register_items) (counted (byte_at 0 8) register_at)
+args_strict = counted_strict register_strict (byte_strict 0 8 (omega arith))
+
+abbrev ActionParts : Type 0
+ActionParts = ℕ × (ℤ × (Option ℕ × List ℕ))
+
+action_made : IsMade (λ (x : ActionParts). IsWithin 0 255 x.0 × (FitsSigned w64 x.1.0 × (IsTarget x.1.1.0 × IsList 0 8 IsRegister x.1.1.1))) IsAction
+    (λ x. record { procedure = x.0; priority = x.1.0; target = x.1.1.0; args = x.1.1.1 }) (λ a. (a.procedure, (a.priority, (a.target, a.args))))
+action_made = record {
+  made = λ a. refl;
+  undone = λ x h. refl;
+  fits = λ x h. record { procedure = h.0; priority = h.1.0; target = h.1.1.0; args = h.1.1.1 };
+  parts_fit = λ a h. (h.procedure, (h.priority, (h.target, h.args)));
+}
+
+action_strict : IsStrict IsAction action_items action_at
+action_strict = as_is_strict action_made (both_strict (byte_strict 0 255 (omega arith)) (both_strict number_strict (both_strict target_strict args_strict)))
+
 -- a line an instruction
 operands : AreOperands operands_at
 operands =
@@ -155,8 +194,10 @@ operands =
     on_operands 0x38 two_registers (λ x. instr.Data (on_data.CopyWrite x.0 x.1)) (λ _. refl) (λ _ h. h) (
     on_operands 0x39 register_strict (λ x. instr.Data (on_data.DropRead x)) (λ _. refl) (λ _ h. h) (
     on_operands 0x3a register_strict (λ x. instr.Data (on_data.DropWrite x)) (λ _. refl) (λ _ h. h) (
+    on_operands 0x40 action_strict (λ x. instr.Rule x) (λ _. refl) (λ _ h. h) (
+    on_operands 0x41 action_strict (λ x. instr.Put x) (λ _. refl) (λ _ h. h) (
     on_operands 0x42 nothing_strict (λ _. instr.Ret) (λ _. refl) (λ _ h. h) (
-    no_others)))))))))))))))))))))))))))))
+    no_others)))))))))))))))))))))))))))))))
 
 -- a line an instruction
 instr_again : (x : Instr) (rest : List ℕ) → IsInstr x → instr_at (concat (instr_items x) ++ rest) ≡ Ok (x, rest)
@@ -189,6 +230,8 @@ instr_again (instr.Data (on_data.CopyRead to from)) rest h = as_is_again two_reg
 instr_again (instr.Data (on_data.CopyWrite to from)) rest h = as_is_again two_registers.format (λ x. instr.Data (on_data.CopyWrite x.0 x.1)) (to, from) rest h
 instr_again (instr.Data (on_data.DropRead right)) rest h = as_is_again register_strict.format (λ x. instr.Data (on_data.DropRead x)) right rest h
 instr_again (instr.Data (on_data.DropWrite right)) rest h = as_is_again register_strict.format (λ x. instr.Data (on_data.DropWrite x)) right rest h
+instr_again (instr.Rule action) rest h = as_is_again action_strict.format (λ x. instr.Rule x) action rest h
+instr_again (instr.Put action) rest h = as_is_again action_strict.format (λ x. instr.Put x) action rest h
 instr_again instr.Ret rest h = refl
 
 -- behind a code that is known

@@ -1,7 +1,7 @@
 //! The items of a program's bytes, and types, from the front of what is left.
 
 ghost use Rattle.std.specs.Prelude.{◌≡◌, ◌≤◌, IfOk};
-ghost use Rattle.tw_code.specs.format.Reading.{Gives, byte_at, wide_at, number_at, exactly_at, kind_at, mode_at, scalar_at, type_at, as_is};
+ghost use Rattle.tw_code.specs.format.Reading.{Gives, byte_at, register_at, wide_at, number_at, exactly_at, kind_at, mode_at, scalar_at, type_at, as_is};
 ghost use Rattle.tw_types.specs.DataType.{scalar_type};
 
 use crate::fault::{FaultNo, Stop};
@@ -17,6 +17,13 @@ pub fn byte_of(low: u8, high: u8, bytes: &[u8]) -> Result<(u8, &[u8]), Stop>
         [b, rest @ ..] if low <= *b && *b <= high => Ok((*b, rest)),
         _ => Err(Stop::wrong(FaultNo::Limit, bytes)),
     }
+}
+
+/// A register of either bank.
+pub fn register_of(bytes: &[u8]) -> Result<(u8, &[u8]), Stop>
+    ensures { Gives (λ x. (x.0, x.1.now)) result (register_at bytes.now) }
+{
+    byte_of(0, 15, bytes)
 }
 
 /// Two bytes that make a number from `low` to `high`.

@@ -3,6 +3,7 @@
 //! Each program has one spelling. `decode` reads it, or says which fault stands first; `encode` writes it.
 #![tactic(auto)]
 
+mod actions;
 pub mod compute;
 mod fault;
 mod flow;

@@ -1,23 +1,17 @@
 //! Instructions from bytes, by the operands of each.
 
 ghost use Rattle.std.specs.Prelude.{◌≡◌};
-ghost use Rattle.tw_code.specs.format.Reading.{Gives, as_is, register_at, skip_at, two_registers_at, two_registers_and_skip_at, three_registers_and_skip_at, operands_at, instr_at};
+ghost use Rattle.tw_code.specs.format.Reading.{Gives, as_is, skip_at, two_registers_at, two_registers_and_skip_at, three_registers_and_skip_at, operands_at, instr_at};
 ghost use Rattle.tw_code.specs.declared.instr.Instr.TheVariants as instr;
 ghost use Rattle.tw_code.specs.declared.instr.LocalInstr.TheVariants as local;
 
+use crate::actions::action_of;
 use crate::fault::{FaultNo, Stop};
 use crate::instr::{Arithmetic, DataInstr, Instr, LocalInstr};
 use crate::items::*;
 use crate::texts::text_of;
 use std::alloc::Global;
 use tw_types::DataType;
-
-/// A register of either bank.
-fn register_of(bytes: &[u8]) -> Result<(u8, &[u8]), Stop>
-    ensures { Gives (λ x. (x.0, x.1.now)) result (register_at bytes.now) }
-{
-    byte_of(0, 15, bytes)
-}
 
 /// How many instructions to skip: any number of two bytes.
 fn skip_of(bytes: &[u8]) -> Result<(u16, &[u8]), Stop>
@@ -258,7 +252,25 @@ fn drop_write_of(bytes: &[u8]) -> Result<(Instr, &[u8]), Stop>
     Ok((Instr::Data(DataInstr::DropWrite { right }), rest))
 }
 
-/// An instruction: its code, and behind it its operands. Only a text takes memory.
+fn rule_of(alloc: Global, bytes: &[u8]) -> Result<(Instr, &[u8]), Stop>
+    ensures { Gives (λ x. (x.0, x.1.now)) result (operands_at 0x40 bytes.now) }
+{
+    match action_of(alloc, bytes) {
+        Ok((action, rest)) => Ok((Instr::Rule(action), rest)),
+        Err(e) => Err(e),
+    }
+}
+
+fn put_of(alloc: Global, bytes: &[u8]) -> Result<(Instr, &[u8]), Stop>
+    ensures { Gives (λ x. (x.0, x.1.now)) result (operands_at 0x41 bytes.now) }
+{
+    match action_of(alloc, bytes) {
+        Ok((action, rest)) => Ok((Instr::Put(action), rest)),
+        Err(e) => Err(e),
+    }
+}
+
+/// An instruction: its code, and behind it its operands. Only a text and a list of arguments take memory.
 #[tactic(auto, unfolding(crate::specs::format::Reading::instr_at))]
 pub fn instr_of(alloc: Global, bytes: &[u8]) -> Result<(Instr, &[u8]), Stop>
     ensures { Gives (λ x. (x.0, x.1.now)) result (instr_at bytes.now) }
@@ -293,6 +305,8 @@ pub fn instr_of(alloc: Global, bytes: &[u8]) -> Result<(Instr, &[u8]), Stop>
         [0x38, rest @ ..] => copy_write_of(rest),
         [0x39, rest @ ..] => drop_read_of(rest),
         [0x3a, rest @ ..] => drop_write_of(rest),
+        [0x40, rest @ ..] => rule_of(alloc, rest),
+        [0x41, rest @ ..] => put_of(alloc, rest),
         [0x42, rest @ ..] => Ok((Instr::Ret, rest)),
         _ => Err(Stop::wrong(FaultNo::Unknown, bytes)),
     }

@@ -4,11 +4,11 @@ ghost use Rattle.std.specs.Prelude.{◌≡◌, ◌++◌, ◌≤◌, length, OnOk
 ghost use Rattle.std.specs.List.{concat};
 ghost use Rattle.tw_code.specs.declared.instr.DataInstr.TheVariants as on_data;
 ghost use Rattle.tw_code.specs.declared.instr.LocalInstr.TheVariants as local;
-ghost use Rattle.tw_code.specs.format.Program.{IsInstr, IsList, IsLocalInstr, IsProcedure};
-ghost use Rattle.tw_code.specs.format.Spelling.{kind_code, mode_code, scalar_code, operation_code, byte, wide, type_items, param_items, scalar_items, local_items, data_items, instr_items, counted_items, procedure_items, spelling};
+ghost use Rattle.tw_code.specs.format.Program.{IsAction, IsInstr, IsList, IsLocalInstr, IsProcedure, IsTarget};
+ghost use Rattle.tw_code.specs.format.Spelling.{kind_code, mode_code, scalar_code, operation_code, target_code, byte, wide, type_items, param_items, scalar_items, register_items, action_items, local_items, data_items, instr_items, counted_items, procedure_items, spelling};
 
 use crate::fault::NoMemory;
-use crate::instr::{Arithmetic, DataInstr, Instr, LocalInstr};
+use crate::instr::{Action, Arithmetic, DataInstr, Instr, LocalInstr};
 use crate::procedure::Procedure;
 use crate::program::Program;
 use std::alloc::{AllocError, Global};
@@ -52,6 +52,17 @@ fn code_of_operation(operation: Arithmetic) -> u8
         Arithmetic::Multiply => 0x12,
         Arithmetic::Divide => 0x13,
         Arithmetic::Remainder => 0x14,
+    }
+}
+
+/// 0 for any actor, else one more than its number.
+fn code_of_target(target: Option<u8>) -> u8
+    requires { IsTarget target }
+    ensures { result ≡ target_code target }
+{
+    match target {
+        Some(number) => number + 1,
+        None => 0,
     }
 }
 
@@ -180,6 +191,28 @@ fn put_data(out: &mut Vec<u8>, instr: DataInstr) -> Result<(), AllocError>
     }
 }
 
+fn put_args(out: &mut Vec<u8>, args: &[u8]) -> Result<(), AllocError>
+    requires { length args.now ≤ 8 }
+    ensures { OnOk result (out.new.items
+        ≡ out.old.items ++ concat (counted_items byte register_items args.now)) }
+{
+    out.push(args.len() as u8)?;
+    out.extend_from_slice(args)?;
+    Ok(())
+}
+
+/// This code, and the operands of RULE and of PUT.
+fn put_action(out: &mut Vec<u8>, code: u8, action: &Action) -> Result<(), AllocError>
+    requires { IsAction action.now }
+    ensures { OnOk result (out.new.items ≡ out.old.items ++ (byte code ++ concat (action_items action.now))) }
+{
+    out.extend_from_slice(&[code, action.procedure])?;
+    out.extend_from_slice(&action.priority.to_be_bytes())?;
+    out.push(code_of_target(action.target))?;
+    put_args(out, action.args.as_slice())?;
+    Ok(())
+}
+
 fn put_instr(out: &mut Vec<u8>, instr: &Instr) -> Result<(), AllocError>
     requires { IsInstr instr.now }
     ensures { OnOk result (out.new.items ≡ out.old.items ++ concat (instr_items instr.now)) }
@@ -187,6 +220,8 @@ fn put_instr(out: &mut Vec<u8>, instr: &Instr) -> Result<(), AllocError>
     match instr {
         Instr::Local(instr) => put_local(out, instr),
         Instr::Data(instr) => put_data(out, *instr),
+        Instr::Rule(action) => put_action(out, 0x40, action),
+        Instr::Put(action) => put_action(out, 0x41, action),
         Instr::Ret => out.extend_from_slice(&[0x42]),
     }
 }
