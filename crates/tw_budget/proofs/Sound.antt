@@ -59,6 +59,8 @@ no_turns (on_data.DropWrite right) turns e = cc
 has_turns : (i : Instr) (turns : ℕ) → IsInstr i → flow_of i ≡ Begin turns → 0 < turns
 has_turns (instr.Local i) turns h e = local_turns i turns h e
 has_turns (instr.Data i) turns h e = absurd (no_turns i turns e)
+has_turns (instr.Rule action) turns h e = cc
+has_turns (instr.Put action) turns h e = cc
 has_turns instr.Ret turns h e = cc
 
 have_turns : (code : List Instr) → AllByRecursion IsInstr code → (place turns : ℕ) → slice_get (flows code) place ≡ Some (Begin turns) → 0 < turns
