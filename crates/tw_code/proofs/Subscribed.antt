@@ -1,0 +1,56 @@
+-- Who is named: sums over the subscribers of data, and notices of a parameter.
+use Rattle.std.proofs.Common.{◌≡◌, ℕ, ◌+◌, ◌≤◌, true, if◌then◌else◌, [], map, Option, Some, None, refl, ap, subst, ◌∙◌, arith, nat_cmp}
+use Rattle.std.specs.Cmp.{nat_cmp_total}
+use Rattle.std.specs.FinMap.{get, insert, nat_cmp-IsAntisymmetric}
+use Rattle.std.specs.FinSet as set
+use Rattle.tw_types.specs.declared.notice.Notice.{Notice}
+use Rattle.tw_types.specs.declared.stage.Stage.{Stage}
+use Rattle.tw_types.specs.declared.stage.Stage.TheVariants.{Free, Unasked, Waiting, Ready}
+use Rattle.tw_types.specs.Notices.{Notices, with_notices}
+use Rattle.tw_types.specs.Rule.{Rules}
+use Rattle.tw_types.specs.Store.{Data, Datum, notice_to}
+use Rattle.tw_types.specs.Task.{Arg, ValueArg, RightArg}
+use Rattle.tw_types.specs.Totals.{total}
+use Rattle.tw_code.specs.machine.Waiting.{times_subscribed, times_at, arg_at, times_noticed_by, times_noticed}
+use Rattle.tw_types.proofs.Totals.{part, total-insert, part-le-total}
+
+-- ---- sums of subscribers
+
+pub subscribed_put : (rule parameter : ℕ) (m : Data) (id : ℕ) (x y : Datum) → get m id ≡ Some x → total (times_subscribed rule parameter) (insert m id y) + times_subscribed rule parameter x ≡ total (times_subscribed rule parameter) m + times_subscribed rule parameter y
+subscribed_put rule parameter m id x y is = subst (λ o. total (times_subscribed rule parameter) (insert m id y) + part (times_subscribed rule parameter) o ≡ total (times_subscribed rule parameter) m + times_subscribed rule parameter y) is (total-insert nat_cmp nat_cmp_total (times_subscribed rule parameter) m id y)
+
+pub subscribed-le : (rule parameter : ℕ) (m : Data) (id : ℕ) (x : Datum) → get m id ≡ Some x → times_subscribed rule parameter x ≤ total (times_subscribed rule parameter) m
+subscribed-le rule parameter m id x is = subst (λ o. part (times_subscribed rule parameter) o ≤ total (times_subscribed rule parameter) m) is (part-le-total nat_cmp nat_cmp_total nat_cmp-IsAntisymmetric (times_subscribed rule parameter) m id)
+
+-- ---- what is 0 or 1
+
+pub waits-le : (o : Option Stage) → times_at o ≤ 1
+waits-le None = omega arith
+waits-le (Some Free) = omega arith
+waits-le (Some Unasked) = omega arith
+waits-le (Some Waiting) = omega arith
+waits-le (Some Ready) = omega arith
+
+-- a notice of the datum that stands for the parameter counts
+pub noticed_at : (s : Notices) (rules : Rules) (rule parameter id : ℕ) → arg_at (get rules rule) parameter ≡ Some (RightArg id)
+    → times_noticed s rules rule parameter ≡ (if set.contains s (record { datum = id; rule = rule; parameter = parameter }) then 1 else 0)
+noticed_at s rules rule parameter id e = ap (times_noticed_by s rule parameter) e
+
+pub noticed_one : (s : Notices) (rules : Rules) (n : Notice) → arg_at (get rules n.rule) n.parameter ≡ Some (RightArg n.datum) → set.contains s n ≡ true → times_noticed s rules n.rule n.parameter ≡ 1
+noticed_one s rules n e h = noticed_at s rules n.rule n.parameter n.datum e ∙ ap (λ b. if b then 1 else 0) h
+
+-- two sets that have the same notices of a parameter
+pub noticed_alike : (s t : Notices) (rule parameter : ℕ) (o : Option Arg)
+    → ((id : ℕ) → o ≡ Some (RightArg id) → set.contains t (record { datum = id; rule = rule; parameter = parameter }) ≡ set.contains s (record { datum = id; rule = rule; parameter = parameter }))
+    → times_noticed_by t rule parameter o ≡ times_noticed_by s rule parameter o
+noticed_alike s t rule parameter None h = refl
+noticed_alike s t rule parameter (Some (ValueArg x)) h = refl
+noticed_alike s t rule parameter (Some (RightArg id)) h = ap (λ b. if b then 1 else 0) (h id refl)
+
+-- ---- a datum whose subscribers become notices
+
+abbrev pub silenced : Datum → Datum
+silenced y = record y { subscribers = [] }
+
+abbrev pub and_told : Notices → ℕ → Datum → Notices
+and_told s id y = with_notices s (map (notice_to id) y.subscribers)
