@@ -19,6 +19,7 @@ pub mod Sets
 pub mod Shown
 pub mod Staged
 pub mod Subscribed
+pub mod Taken
 pub mod TextFormat
 pub mod Types
 pub mod Went

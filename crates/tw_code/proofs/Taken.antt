@@ -1,0 +1,256 @@
+-- The numbers that a run takes are distinct, and each is main's or was given by a PUT or a Release.
+use Rattle.std.proofs.Common.{◌≡◌, ℕ, ◌+◌, ◌<◌, ◌≤◌, ◌==◌, ◌⊎◌, inl, inr, Bool, true, false, not, ◌&&◌, nat_lt, if◌then◌else◌, List, [], ◌∷◌, ◌++◌, slice_get, is_none, Option, Some, None, refl, sym, ap, subst, ◌∙◌, arith}
+use Rattle.std.proofs.lemmas.Bool.{cases_Bool, eq-eqb, eqb-true, eqb-false, ne_eqb, or_cases, or_left, or_right}
+use Rattle.std.proofs.lemmas.List.Folds.{list_any-append}
+use Rattle.std.specs.Cmp.{nat_cmp_total}
+use Rattle.std.specs.FinMap.{get, get-empty, empty, insert, nat_cmp-IsAntisymmetric, remove}
+use Rattle.std.specs.FinSet as set
+use Rattle.std.specs.List.{list_all}
+use Rattle.std.specs.Ordering.{nat_cmp}
+use Rattle.tw_types.specs.declared.actor.Actor.{Actor}
+use Rattle.tw_types.specs.declared.cause.Cause.TheVariants.{FreedDatum, RightLeft}
+use Rattle.tw_types.specs.declared.event.Event.{Event}
+use Rattle.tw_types.specs.declared.event.Event.TheVariants.{Take, Local, Call, End, Ask, Deliver, Release}
+use Rattle.tw_types.specs.declared.input.Input.{Input}
+use Rattle.tw_types.specs.declared.notice.Notice.{Notice}
+use Rattle.tw_types.specs.declared.stage.Stage.TheVariants.{Ready, Waiting}
+use Rattle.tw_types.specs.Actor.{is_in}
+use Rattle.tw_types.specs.Layout.{ActorCounts}
+use Rattle.tw_types.specs.Outcome.{Outcome, Went, NotEnabled, Trap, outcome_of}
+use Rattle.tw_types.specs.Result.{must}
+use Rattle.tw_types.specs.Rule.{Rule, is_releasable, is_unasked}
+use Rattle.tw_types.specs.Store.{Datum, is_closed, server_of}
+use Rattle.tw_types.specs.StoreCalls.{subscribed}
+use Rattle.tw_types.specs.Task.{Task, Tasks, best}
+use Rattle.tw_types.proofs.Best.{best_waits}
+use Rattle.tw_types.proofs.Outcomes.{IfWent, if_both, if_enabled, if_ok, if_only, if_then, if_there, went_of}
+use Rattle.tw_types.proofs.Parts.{before_removal, put_or_before}
+use Rattle.tw_code.specs.declared.instr.Instr.{Instr}
+use Rattle.tw_code.specs.declared.instr.Instr.TheVariants as instr
+use Rattle.tw_code.specs.declared.procedure.Procedure.{Procedure}
+use Rattle.tw_code.specs.machine.Arguments.{called, procedure_of, put_called}
+use Rattle.tw_code.specs.machine.Data.{data_instr}
+use Rattle.tw_code.specs.machine.History.{if_went, put_between, puts, taken_by, takes}
+use Rattle.tw_code.specs.machine.Machine.{Standing, asked, ask_event, call_by, call_event, deliver_event, id_in, is_ret, local_steps, own_rule, ready_at, release_event, standing_of, step}
+use Rattle.tw_code.specs.machine.Once.{AreDistinct, TakesOnce, is_among}
+use Rattle.tw_code.specs.machine.Opening.{opening}
+use Rattle.tw_code.specs.machine.State.{State, context_of, frame_of, with_stage}
+
+-- ---- numbers among others
+
+among_one : (n m : ℕ) → is_among (m ∷ []) n ≡ true → m ≡ n
+among_one n m h = elim (or_cases (m == n) false h) [ inl e ↦ eqb-true m n e | inr e ↦ cc ]
+
+among_either : (ns ms : List ℕ) (n : ℕ) → is_among (ns ++ ms) n ≡ true → (is_among ns n ≡ true) ⊎ (is_among ms n ≡ true)
+among_either ns ms n h = or_cases (is_among ns n) (is_among ms n) (sym (list_any-append (λ m. m == n) ns ms) ∙ h)
+
+among_first : (ns ms : List ℕ) (n : ℕ) → is_among ns n ≡ true → is_among (ns ++ ms) n ≡ true
+among_first ns ms n h = list_any-append (λ m. m == n) ns ms ∙ or_left (is_among ns n) (is_among ms n) h
+
+among_second : (ns ms : List ℕ) (n : ℕ) → is_among ms n ≡ true → is_among (ns ++ ms) n ≡ true
+among_second ns ms n h = list_any-append (λ m. m == n) ns ms ∙ or_right (is_among ns n) (is_among ms n) h
+
+among_neither : (ns ms : List ℕ) (n : ℕ) → is_among ns n ≡ false → (is_among ms n ≡ true → ⊥) → is_among (ns ++ ms) n ≡ false
+among_neither ns ms n h other = elim (cases_Bool (is_among (ns ++ ms) n)) [
+  | inl e ↦ elim (among_either ns ms n e) [ inl f ↦ cc | inr f ↦ absurd (other f) ]
+  | inr e ↦ e
+]
+
+both_distinct : (ns ms : List ℕ) → AreDistinct ns → AreDistinct ms → ((n : ℕ) → is_among ns n ≡ true → is_among ms n ≡ true → ⊥) → AreDistinct (ns ++ ms)
+both_distinct [] ms d e apart = e
+both_distinct (n ∷ ns) ms d e apart = (
+  among_neither ns ms n d.0 (apart n (or_left (n == n) (is_among ns n) (eq-eqb n n refl))),
+  both_distinct ns ms d.1 e (λ k h. apart k (or_right (n == k) (is_among ns k) h)),
+)
+
+-- ---- one event
+
+abbrev Waits : State → ℕ → Type 0
+Waits s n = (task : Task) × (get s.tasks n ≡ Some task)
+
+-- each task that waits has an earlier number than the next one
+abbrev HasEarlier : State → Type 0
+HasEarlier s = (n : ℕ) (task : Task) → get s.tasks n ≡ Some task → n < s.next_task
+
+-- an event takes these: they waited, and no longer do; and what waits then waited before, or the event put it
+record Turns (taken : List ℕ) (s t : State) : Type 0 where
+  numbers : s.next_task ≤ t.next_task
+  waits : (n : ℕ) → Waits t n → Waits s n ⊎ (is_among (put_between s t) n ≡ true)
+  gone : (n : ℕ) → is_among taken n ≡ true → Waits s n × (Waits t n → ⊥)
+  distinct : AreDistinct taken
+
+-- what an event puts has the next number
+put_next : (s t : State) (n : ℕ) → s.next_task ≤ t.next_task → is_among (put_between s t) n ≡ true → (s.next_task ≡ n) × (n < t.next_task)
+put_next s t n grown = by (s.next_task == t.next_task) refl
+  where
+    by : (b : Bool) → (s.next_task == t.next_task) ≡ b → is_among (if b then [] else s.next_task ∷ []) n ≡ true → (s.next_task ≡ n) × (n < t.next_task)
+    by true e h = cc
+    by false e h =
+        let is = among_one n s.next_task h in
+        let more = eqb-false s.next_task t.next_task e in
+        (is, omega arith)
+
+earlier_still : (taken : List ℕ) (s t : State) → Turns taken s t → HasEarlier s → HasEarlier t
+earlier_still taken s t turn h n task at = elim (turn.waits n (task, at)) [
+  | inl before ↦ let below = h n before.0 before.1 in let grown = turn.numbers in omega arith
+  | inr now ↦ (put_next s t n turn.numbers now).1
+]
+
+module _ (s : State) where
+  -- no task comes or goes
+  same_tasks : (t : State) → t.tasks ≡ s.tasks → t.next_task ≡ s.next_task → Turns [] s t
+  same_tasks t same next = record {
+    numbers = omega arith;
+    waits = λ n h. inl (h.0, sym (ap (λ (m : Tasks). get m n) same) ∙ h.1);
+    gone = λ n h. cc;
+    distinct = tt;
+  }
+
+  -- one comes
+  one_put : (t : State) (task : Task) → t.tasks ≡ insert s.tasks s.next_task task → t.next_task ≡ s.next_task + 1 → Turns [] s t
+  one_put t task more next = record {
+    numbers = omega arith;
+    waits = λ n h. elim (put_or_before nat_cmp_total nat_cmp-IsAntisymmetric s.tasks s.next_task task n h.0 (sym (ap (λ (m : Tasks). get m n) more) ∙ h.1)) [
+      | inl here ↦ inr (put_here n here.0)
+      | inr before ↦ inl (h.0, before)
+    ];
+    gone = λ n h. cc;
+    distinct = tt;
+  }
+    where
+      put_here : (n : ℕ) → n ≡ s.next_task → is_among (put_between s t) n ≡ true
+      put_here n is = rw (ne_eqb s.next_task t.next_task (λ e. omega arith), eq-eqb s.next_task n (sym is)) refl
+
+  -- one goes
+  one_taken : (t : State) (e : ℕ × Task) → get s.tasks e.0 ≡ Some e.1 → t.tasks ≡ remove s.tasks e.0 → t.next_task ≡ s.next_task → Turns (e.0 ∷ []) s t
+  one_taken t e waited less next = record {
+    numbers = omega arith;
+    waits = λ n h. inl (h.0, (left n h).1);
+    gone = λ n h. let is = among_one n e.0 h in ((e.1, subst (λ k. get s.tasks k ≡ Some e.1) is waited), λ still. (left n still).0 (sym is));
+    distinct = (refl, tt);
+  }
+    where
+      left : (n : ℕ) (h : Waits t n) → (n ≡ e.0 → ⊥) × (get s.tasks n ≡ Some h.0)
+      left n h = before_removal nat_cmp_total nat_cmp-IsAntisymmetric s.tasks e.0 n h.0 (sym (ap (λ (m : Tasks). get m n) less) ∙ h.1)
+
+  module _ (program : List Procedure) where
+    called_turns : (actor : Actor) (at : Standing) (i : Instr) → IfWent (call_by program s actor at i) (Turns [] s)
+    called_turns actor at (instr.Local i) = record { is = tt }
+    called_turns actor at (instr.Data i) = if_ok (data_instr i (context_of s at.frame)) (λ c _. record { is = same_tasks _ refl refl })
+    called_turns actor at (instr.Rule action) = if_ok (called program at.procedure.kind (context_of s at.frame) action) (λ call _. record { is = same_tasks _ refl refl })
+    called_turns actor at (instr.Put action) = if_ok (put_called program at.procedure.kind (context_of s at.frame) action) (λ call _. record { is = one_put _ call.task refl refl })
+    called_turns actor at instr.Ret = record { is = tt }
+
+    call_turns : (actor : Actor) → IfWent (call_event program actor s) (Turns [] s)
+    call_turns actor = if_both (standing_of program actor s) (λ at _. called_turns actor at at.instr)
+
+    release_turns : (engine number : ℕ) → IfWent (release_event program engine number s) (Turns [] s)
+    release_turns engine number =
+        if_both (own_rule engine number s) (λ rule _. if_only (is_releasable rule) (λ _. if_ok (procedure_of program rule.procedure) (λ p _. record { is = one_put _ _ refl refl })))
+
+  asked_turns : (number : ℕ) (rule : Rule) (parameter id : ℕ) (x : Datum) → Turns [] s (asked s number rule parameter id x)
+  asked_turns number rule parameter id x = by (is_closed x)
+    where
+      by : (b : Bool) → Turns [] s (if b then with_stage s number rule parameter Ready else with_stage (record s { store = subscribed s.store id (record { rule = number; parameter = parameter }) }) number rule parameter Waiting)
+      by true = same_tasks _ refl refl
+      by false = same_tasks _ refl refl
+
+  ask_turns : (engine number parameter : ℕ) → IfWent (ask_event engine number parameter s) (Turns [] s)
+  ask_turns engine number parameter =
+      if_both (own_rule engine number s) (λ rule _.
+      if_enabled (slice_get rule.stages parameter) (λ stage _.
+      if_only (is_unasked stage) (λ _.
+      if_both (id_in (slice_get rule.args parameter)) (λ id _.
+      if_there (get s.store.live id) FreedDatum (λ x _. record { is = asked_turns number rule parameter id x })))))
+
+  deliver_turns : (layout : ActorCounts) (server : ℕ) (n : Notice) → IfWent (deliver_event layout server n s) (Turns [] s)
+  deliver_turns layout server n =
+      if_only (nat_lt server layout.servers && (server_of layout.servers n.datum == server)) (λ _.
+      if_only (set.contains s.notices n) (λ _. record { is = by (get s.rules n.rule) }))
+    where
+      by : (found : Option Rule) → Turns [] s (ready_at (record s { notices = set.remove s.notices n }) n found)
+      by None = same_tasks _ refl refl
+      by (Some rule) = same_tasks _ refl refl
+
+  event_turns : (program : List Procedure) (layout : ActorCounts) (event : Event) → IfWent (step program layout event s) (Turns (taken_by event s) s)
+  unfolding step
+  event_turns program layout (Take actor) = if_only (is_in layout actor && is_none (get s.frames actor)) (λ _. if_enabled (best actor s.tasks) (λ e first. if_ok (frame_of program e.0 e.1) (λ frame _. record {
+    is = rw first (one_taken _ e (best_waits actor s.tasks e first) refl refl);
+  })))
+  event_turns program layout (Local actor n) = if_only (not (n == 0)) (λ _. if_enabled (get s.frames actor) (λ frame _. if_ok (procedure_of program frame.procedure) (λ p _. if_both (local_steps n p.code frame.position) (λ at _. record { is = same_tasks _ refl refl }))))
+  event_turns program layout (Call actor) = call_turns program actor
+  event_turns program layout (End actor) = if_both (standing_of program actor s) (λ at _. if_only (is_ret at.instr) (λ _. if_then (outcome_of (must (list_all is_none at.frame.rights) RightLeft)) (λ _. record { is = same_tasks _ refl refl })))
+  event_turns program layout (Ask engine rule parameter) = ask_turns engine rule parameter
+  event_turns program layout (Deliver server datum rule parameter) = deliver_turns layout server (record { datum = datum; rule = rule; parameter = parameter })
+  event_turns program layout (Release engine rule) = release_turns program engine rule
+
+-- ---- runs
+
+-- what a run from here takes, where it puts these
+record Follows (taken put : List ℕ) (s : State) : Type 0 where
+  waited : (n : ℕ) → is_among taken n ≡ true → Waits s n ⊎ (is_among put n ≡ true)
+  later : (n : ℕ) → is_among put n ≡ true → s.next_task ≤ n
+  distinct : AreDistinct taken
+
+nothing_follows : (s : State) → Follows [] [] s
+nothing_follows s = record { waited = λ n h. cc; later = λ n h. cc; distinct = tt }
+
+-- an event, and what follows it
+joined : (now taken put : List ℕ) (s t : State) → HasEarlier s → Turns now s t → Follows taken put t → Follows (now ++ taken) (put_between s t ++ put) s
+joined now taken put s t h turn rest = record {
+  waited = λ n among. elim (among_either now taken n among) [
+    | inl first ↦ inl (turn.gone n first).0
+    | inr second ↦ elim (rest.waited n second) [
+      | inl waits ↦ elim (turn.waits n waits) [ inl before ↦ inl before | inr here ↦ inr (among_first (put_between s t) put n here) ]
+      | inr here ↦ inr (among_second (put_between s t) put n here)
+    ]
+  ];
+  later = λ n among. elim (among_either (put_between s t) put n among) [
+    | inl first ↦ let is = (put_next s t n turn.numbers first).0 in omega arith
+    | inr second ↦ let above = rest.later n second in let grown = turn.numbers in omega arith
+  ];
+  distinct = both_distinct now taken turn.distinct rest.distinct (λ n first second. elim (rest.waited n second) [
+    | inl waits ↦ (turn.gone n first).1 waits
+    | inr here ↦
+        let waited = (turn.gone n first).0 in
+        let below = h n waited.0 waited.1 in
+        let above = rest.later n here in
+        let grown = turn.numbers in
+        absurd (omega arith)
+  ]);
+}
+
+module _ (program : List Procedure) (layout : ActorCounts) where
+  run_follows : (events : List Event) (s : State) → HasEarlier s → Follows (takes program layout events s) (puts program layout events s) s
+  run_follows [] s h = nothing_follows s
+  run_follows (event ∷ events) s h = by (step program layout event s) (λ t e. went_of (step program layout event s) (Turns (taken_by event s) s) t (event_turns s program layout event) e) (λ t later. run_follows events t later)
+    where
+      by : (o : Outcome State) → ((t : State) → o ≡ Went t → Turns (taken_by event s) s t) → ((t : State) → HasEarlier t → Follows (takes program layout events t) (puts program layout events t) t)
+          → Follows (if_went o (λ t. taken_by event s ++ takes program layout events t)) (if_went o (λ t. put_between s t ++ puts program layout events t)) s
+      by (Went t) turn rest = joined (taken_by event s) (takes program layout events t) (puts program layout events t) s t h (turn t refl) (rest t (earlier_still (taken_by event s) s t (turn t refl) h))
+      by NotEnabled turn rest = nothing_follows s
+      by (Trap cause) turn rest = nothing_follows s
+
+-- main alone waits
+main_waits : (program : List Procedure) (inputs : List Input) (n : ℕ) (task : Task) → get (opening program inputs).tasks n ≡ Some task → n ≡ 1
+unfolding opening
+main_waits program inputs n task at = elim (put_or_before nat_cmp_total nat_cmp-IsAntisymmetric empty 1 _ n task at) [
+  | inl here ↦ here.0
+  | inr before ↦ let none : None ≡ Some task = sym (get-empty nat_cmp n) ∙ before in cc
+]
+
+opening_next : (program : List Procedure) (inputs : List Input) → (opening program inputs).next_task ≡ 2
+unfolding opening
+opening_next program inputs = refl
+
+-- of any program
+pub takes_once : (program : List Procedure) (inputs : List Input) (layout : ActorCounts) (events : List Event) → TakesOnce program inputs layout events
+takes_once program inputs layout events =
+    let follows = run_follows program layout events (opening program inputs) (λ n task at. let one = main_waits program inputs n task at in let next = opening_next program inputs in omega arith) in
+    record {
+      distinct = follows.distinct;
+      put = λ n among. elim (follows.waited n among) [
+        | inl waits ↦ or_left (1 == n) _ (eq-eqb 1 n (sym (main_waits program inputs n waits.0 waits.1)))
+        | inr here ↦ or_right (1 == n) _ here
+      ];
+    }
