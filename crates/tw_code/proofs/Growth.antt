@@ -1,5 +1,5 @@
 -- Numbers and counts start small, and each event makes them larger by at most its size.
-use Rattle.std.proofs.Common.{◌≡◌, ◌<◌, ◌≤◌, ◌+◌, ◌-◌, ◌*◌, ◌==◌, ℕ, zero, suc, ℤ, Bool, true, false, cond, if◌then◌else◌, not, ◌&&◌, List, [], ◌∷◌, length, map, fold, drop, slice_get, Option, Some, None, refl, arith, is_none, nat_lt, subst, sym}
+use Rattle.std.proofs.Common.{◌≡◌, ◌<◌, ◌≤◌, ◌+◌, ◌-◌, ◌*◌, ◌==◌, ℕ, zero, suc, ℤ, Bool, true, false, cond, if◌then◌else◌, not, ◌&&◌, List, [], ◌∷◌, length, map, fold, drop, slice_get, Option, Some, None, refl, arith, subst, sym}
 use Rattle.std.specs.Prelude.{Ok}
 use Rattle.std.specs.Option.{ok_or}
 use Rattle.std.proofs.lemmas.Bool.{and_parts}
@@ -8,12 +8,11 @@ use Rattle.std.proofs.lemmas.List.{length-map}
 use Rattle.std.specs.List.{list_all}
 use Rattle.std.specs.Cmp.{nat_cmp_total}
 use Rattle.std.specs.FinMap as fin
-use Rattle.std.specs.FinSet as set
 use Rattle.std.specs.FinMap.{contains_key, get, insert, remove, len, len-empty, len-insert}
 use Rattle.std.specs.Ordering.{nat_cmp, int_cmp}
 use Rattle.std.specs.Cmp.{int_cmp_total}
 use Rattle.tw_types.specs.declared.actor.Actor.{Actor}
-use Rattle.tw_types.specs.declared.cause.Cause.TheVariants.{RightLeft, UnsetDatum, WrongRegister, FreedDatum}
+use Rattle.tw_types.specs.declared.cause.Cause.TheVariants.{UnsetDatum, WrongRegister}
 use Rattle.tw_types.specs.declared.data_type.Scalar.{Scalar}
 use Rattle.tw_types.specs.declared.data_type.Scalar.TheVariants as scalar
 use Rattle.tw_types.specs.declared.event.Event.{Event}
@@ -23,42 +22,37 @@ use Rattle.tw_types.specs.declared.input.Input.TheVariants as input
 use Rattle.tw_types.specs.declared.param.Param.{Param}
 use Rattle.tw_types.specs.declared.value.Value.{Value}
 use Rattle.tw_types.specs.declared.value.Value.TheVariants as value
-use Rattle.tw_types.specs.Actor.{actor_cmp, is_in, number_in_kind}
+use Rattle.tw_types.specs.Actor.{actor_cmp, number_in_kind}
 use Rattle.tw_types.specs.DataType.{container_of, is_scalar, same_type, scalar_type}
 use Rattle.tw_types.specs.Layout.{ActorCounts}
 use Rattle.tw_types.specs.Mode.{is_write}
 use Rattle.tw_types.specs.Nesting.{NestedScalar}
-use Rattle.tw_types.specs.Outcome.{Went, outcome_of}
+use Rattle.tw_types.specs.Outcome.{Went}
 use Rattle.tw_types.specs.Result.{must}
-use Rattle.tw_types.specs.Store.{Members, Unset, Contains, Datum, Data, Store, added, drop_read_within, empty_store, is_closed, is_unheld, members_of, new_datum, read_taken_by, settled_by, subscribers_cleared, server_of}
+use Rattle.tw_types.specs.Store.{Members, Unset, Contains, Datum, Data, Store, added, drop_read_within, empty_store, is_closed, is_unheld, members_of, new_datum, read_taken_by, settled_by, subscribers_cleared}
 use Rattle.tw_types.specs.StoreCalls as store
 use Rattle.tw_types.specs.StoreCalls.{changed, created, inserted, member_at, members_in, one_read_more, one_write_less, one_write_more, read_copied, read_dropped, set_to, store_after, stored, with_member, write_copied, write_dropped, subscribed, with_subscriber}
 use Rattle.tw_types.specs.StoreChecks.{may_be_read, may_copy_write, may_drop_read, may_drop_write, may_insert, may_look, may_read_members, may_retrieve, may_store}
-use Rattle.tw_types.specs.Task.{Task, best}
+use Rattle.tw_types.specs.Task.{Task}
+use Rattle.tw_types.specs.declared.notice.Subscriber.{Subscriber}
 use Rattle.tw_types.proofs.ActorOrder.{actor_cmp_total}
 use Rattle.tw_types.proofs.Each.{Each, each_empty, each_insert, each_remove}
-use Rattle.tw_types.proofs.Outcomes.{IfWent, if_both, if_enabled, if_ok, if_only, if_then, went_of, if_there}
+use Rattle.tw_types.proofs.Outcomes.{IfWent, went_of}
 use Rattle.tw_types.proofs.Results.{WhereOk, ok_both, ok_of, ok_then}
 use Rattle.tw_code.specs.declared.instr.DataInstr.{DataInstr}
 use Rattle.tw_code.specs.declared.instr.DataInstr.TheVariants as on_data
-use Rattle.tw_code.specs.declared.instr.Instr.{Instr}
-use Rattle.tw_code.specs.declared.instr.Instr.TheVariants as instr
 use Rattle.tw_code.specs.declared.procedure.Procedure.{Procedure}
 use Rattle.tw_code.specs.format.Program.{IsProgram}
-use Rattle.tw_code.specs.machine.Arguments.{procedure_of, called, put_called}
+use Rattle.tw_code.specs.machine.Arguments.{procedure_of}
 use Rattle.tw_code.specs.machine.Bounds.{AreBelow, AreNumbersBelow, OpeningIsSmall, StepGrows, opening_bound, size_of}
 use Rattle.tw_code.specs.machine.Data.{Context, after_insert, after_look, data_instr, datum_at, datum_of, suits}
 use Rattle.tw_code.specs.machine.Inputs.{are_inputs_of, are_few, input_params, is_input_of, is_short, rises}
-use Rattle.tw_code.specs.machine.Machine.{Standing, call_by, call_event, end_event, is_ret, local_event, local_steps, standing_of, step, take_event, asked, ask_event, deliver_event, id_in, own_rule, ready_at, release_event}
+use Rattle.tw_code.specs.machine.Machine.{Standing, step}
 use Rattle.tw_code.specs.machine.Opening.{Opened, closed_scalar, main_params, numbered, opened, opening, with_container, with_given, with_input, with_output}
 use Rattle.tw_code.specs.machine.Position.{int_at, must_have_type, value_at}
 use Rattle.tw_code.specs.machine.Rights.{Rights, held, must_be_empty}
-use Rattle.tw_code.specs.machine.State.{Frame, Frames, State, context_of, filled, frame_of, values_in, gone_behind, with_frame, with_rule, with_stage, with_task, new_rule}
-use Rattle.tw_types.specs.Rule.{Rule, is_releasable, is_unasked}
-use Rattle.tw_types.specs.Notices.{Notices}
-use Rattle.tw_types.specs.declared.notice.Notice.{Notice}
-use Rattle.tw_types.specs.declared.stage.Stage.TheVariants.{Ready, Waiting}
-use Rattle.tw_code.proofs.Went.{stood}
+use Rattle.tw_code.specs.machine.State.{Frame, Frames, State, context_of, filled, frame_of, values_in, gone_behind, with_frame, with_rule, with_task, new_rule}
+use Rattle.tw_code.proofs.Leaving.{take_leaves, local_leaves, call_leaves, end_leaves, ask_leaves, deliver_leaves, release_leaves}
 
 -- ---- the store
 
@@ -245,32 +239,10 @@ begun_spent : (program : List Procedure) (number : ℕ) (task : Task) (frame : F
 begun_spent program number task frame = ok_of (frame_of program number task) (λ f. f.spent ≡ 0) frame
     (ok_both (procedure_of program task.procedure) (λ p _. ok_both (filled (values_in task.args) p.registers) (λ values _. record { is = refl })))
 
-module _ (program : List Procedure) (actor : Actor) (s : State) where
+module _ (actor : Actor) (s : State) where
   -- a frame takes the place of another, which it outdoes by the size, or is new
   framed : (bound size : ℕ) (frame : Frame) → frame.spent < bound + size → Each (HasSpent bound) s.frames → Each (HasSpent (bound + size)) (insert s.frames actor frame)
   framed bound size frame few all = each_insert actor_cmp_total (HasSpent (bound + size)) s.frames (more_spent bound size s all) actor frame few
-
-  take_grown : (layout : ActorCounts) → IfWent (take_event program layout actor s) (Grown 1 s)
-  take_grown layout = if_only (is_in layout actor && is_none (get s.frames actor)) (λ _. if_enabled (best actor s.tasks) (λ task _. if_ok (frame_of program task.0 task.1) (λ frame begun. record {
-    is = record {
-      some = omega arith;
-      store = same_store s.store;
-      task = omega arith;
-      rule = omega arith;
-      spent = λ bound all. framed bound 1 frame (let none = begun_spent program task.0 task.1 frame begun in omega arith) all;
-    };
-  })))
-
-  local_grown : (n : ℕ) → IfWent (local_event program actor n s) (Grown n s)
-  local_grown n = if_only (not (n == 0)) (λ some. if_enabled (get s.frames actor) (λ frame at. if_ok (procedure_of program frame.procedure) (λ p _. if_both (local_steps n p.code frame.position) (λ position _. record {
-    is = record {
-      some = grind (arith, nat_tests, some);
-      store = same_store s.store;
-      task = omega arith;
-      rule = omega arith;
-      spent = λ bound all. framed bound n (record frame { position = position; spent = frame.spent + n }) (let few = all actor frame at in omega arith) all;
-    };
-  }))))
 
   -- the frame stands behind a RULE or PUT
   behind : (at : Standing) → get s.frames actor ≡ Some at.frame → (rights : Rights) (t : State) → Grown 1 s t → t.frames ≡ s.frames → Grown 1 s (with_frame t actor (gone_behind at.frame rights))
@@ -282,82 +254,49 @@ module _ (program : List Procedure) (actor : Actor) (s : State) where
     spent = λ bound all. subst (λ (m : Frames). Each (HasSpent (bound + 1)) (insert m actor (gone_behind at.frame rights))) (sym same) (framed bound 1 (gone_behind at.frame rights) (let few = all actor at.frame here in omega arith) all);
   }
 
-  called_grown : (at : Standing) → get s.frames actor ≡ Some at.frame → (i : Instr) → IfWent (call_by program s actor at i) (Grown 1 s)
-  called_grown at here (instr.Local i) = record { is = tt }
-  called_grown at here (instr.Data i) = if_ok (data_instr i (context_of s at.frame)) (λ c went. record {
-    is = record {
+one_subscriber_more : (s : Store) (id : ℕ) (subscriber : Subscriber) → StoreGrown s (subscribed s id subscriber)
+one_subscriber_more s id subscriber = changed_grown s id (with_subscriber subscriber) (λ bound d few. (omega (arith, few.0), omega (arith, few.1), omega (arith, few.2)))
+
+event_grown : (program : List Procedure) (layout : ActorCounts) (event : Event) (s : State) → IfWent (step program layout event s) (Grown (size_of event) s)
+unfolding step
+event_grown program layout (Take actor) s = take_leaves program actor s layout (λ task frame _ begun. record {
+  some = omega arith;
+  store = same_store s.store;
+  task = omega arith;
+  rule = omega arith;
+  spent = λ bound all. framed actor s bound 1 frame (let none = begun_spent program task.0 task.1 frame begun in omega arith) all;
+})
+event_grown program layout (Local actor n) s = local_leaves program actor s n (λ frame at some here. record {
+  some = grind (arith, nat_tests, some);
+  store = same_store s.store;
+  task = omega arith;
+  rule = omega arith;
+  spent = λ bound all. framed actor s bound n (record frame { position = at; spent = frame.spent + n }) (let few = all actor frame here in omega arith) all;
+})
+event_grown program layout (Call actor) s = call_leaves program actor s
+    (λ at i c here went. record {
       some = omega arith;
       store = ok_of (data_instr i (context_of s at.frame)) (λ e. StoreGrown s.store e.store) c (data_grown i (context_of s at.frame)) went;
       task = omega arith;
       rule = omega arith;
-      spent = λ bound all. framed bound 1 _ (let few = all actor at.frame here in omega arith) all;
-    };
-  })
-  called_grown at here (instr.Rule action) = if_ok (called program at.procedure.kind (context_of s at.frame) action) (λ call _. record { is = behind at here call.rights (with_rule s (new_rule (number_in_kind actor) call.params call.task)) (same_frames s _ (same_store s.store) (omega arith) (omega arith) refl) refl })
-  called_grown at here (instr.Put action) = if_ok (put_called program at.procedure.kind (context_of s at.frame) action) (λ call _. record { is = behind at here call.rights (with_task s call.task) (same_frames s _ (same_store s.store) (omega arith) (omega arith) refl) refl })
-  called_grown at here instr.Ret = record { is = tt }
-
-  call_grown : IfWent (call_event program actor s) (Grown 1 s)
-  call_grown = if_both (standing_of program actor s) (λ at stands. called_grown at (stood program actor s at stands).frame at.instr)
-
-  end_grown : IfWent (end_event program actor s) (Grown 1 s)
-  end_grown = if_both (standing_of program actor s) (λ at _. if_only (is_ret at.instr) (λ _. if_then (outcome_of (must (list_all is_none at.frame.rights) RightLeft)) (λ _. record {
-    is = record {
-      some = omega arith;
-      store = same_store s.store;
-      task = omega arith;
-      rule = omega arith;
-      spent = λ bound all. each_remove actor_cmp_total (HasSpent (bound + 1)) s.frames (more_spent bound 1 s all) actor;
-    };
-  })))
-
--- ---- rules and notices
-
-module _ (s : State) where
-  asked_grown : (number : ℕ) (rule : Rule) (parameter id : ℕ) (x : Datum) → Grown 1 s (asked s number rule parameter id x)
-  asked_grown number rule parameter id x = by (is_closed x)
-    where
-      one_subscriber_more : StoreGrown s.store (subscribed s.store id (record { rule = number; parameter = parameter }))
-      one_subscriber_more = changed_grown s.store id (with_subscriber (record { rule = number; parameter = parameter })) (λ bound d few. (omega (arith, few.0), omega (arith, few.1), omega (arith, few.2)))
-
-      by : (b : Bool) → Grown 1 s (if b then with_stage s number rule parameter Ready else with_stage (record s { store = subscribed s.store id (record { rule = number; parameter = parameter }) }) number rule parameter Waiting)
-      by true = same_frames s _ (same_store s.store) (omega arith) (omega arith) refl
-      by false = same_frames s _ one_subscriber_more (omega arith) (omega arith) refl
-
-  ask_grown : (engine number parameter : ℕ) → IfWent (ask_event engine number parameter s) (Grown 1 s)
-  ask_grown engine number parameter =
-      if_both (own_rule engine number s) (λ rule _.
-      if_enabled (slice_get rule.stages parameter) (λ stage _.
-      if_only (is_unasked stage) (λ _.
-      if_both (id_in (slice_get rule.args parameter)) (λ id _.
-      if_there (get s.store.live id) FreedDatum (λ x _. record { is = asked_grown number rule parameter id x })))))
-
-  ready_grown : (notices : Notices) (n : Notice) (found : Option Rule) → Grown 1 s (ready_at (record s { notices = notices }) n found)
-  ready_grown notices n None = same_frames s _ (same_store s.store) (omega arith) (omega arith) refl
-  ready_grown notices n (Some rule) = same_frames s _ (same_store s.store) (omega arith) (omega arith) refl
-
-  deliver_grown : (layout : ActorCounts) (server : ℕ) (n : Notice) → IfWent (deliver_event layout server n s) (Grown 1 s)
-  deliver_grown layout server n =
-      if_only (nat_lt server layout.servers && (server_of layout.servers n.datum == server)) (λ _.
-      if_only (set.contains s.notices n) (λ _. record { is = ready_grown (set.remove s.notices n) n (get s.rules n.rule) }))
-
-  release_grown : (program : List Procedure) (engine number : ℕ) → IfWent (release_event program engine number s) (Grown 1 s)
-  release_grown program engine number =
-      if_both (own_rule engine number s) (λ rule _.
-      if_only (is_releasable rule) (λ _.
-      if_ok (procedure_of program rule.procedure) (λ p _. record {
-        is = same_frames s _ (same_store s.store) (omega arith) (omega arith) refl;
-      })))
-
-event_grown : (program : List Procedure) (layout : ActorCounts) (event : Event) (s : State) → IfWent (step program layout event s) (Grown (size_of event) s)
-unfolding step
-event_grown program layout (Take actor) s = take_grown program actor s layout
-event_grown program layout (Local actor n) s = local_grown program actor s n
-event_grown program layout (Call actor) s = call_grown program actor s
-event_grown program layout (End actor) s = end_grown program actor s
-event_grown program layout (Ask engine rule parameter) s = ask_grown s engine rule parameter
-event_grown program layout (Deliver server datum rule parameter) s = deliver_grown s layout server (record { datum = datum; rule = rule; parameter = parameter })
-event_grown program layout (Release engine rule) s = release_grown s program engine rule
+      spent = λ bound all. framed actor s bound 1 _ (let few = all actor at.frame here.frame in omega arith) all;
+    })
+    (λ at action call here _. behind actor s at here.frame call.rights (with_rule s (new_rule (number_in_kind actor) call.params call.task)) (same_frames s _ (same_store s.store) (omega arith) (omega arith) refl) refl)
+    (λ at action call here _. behind actor s at here.frame call.rights (with_task s call.task) (same_frames s _ (same_store s.store) (omega arith) (omega arith) refl) refl)
+event_grown program layout (End actor) s = end_leaves program actor s (record {
+  some = omega arith;
+  store = same_store s.store;
+  task = omega arith;
+  rule = omega arith;
+  spent = λ bound all. each_remove actor_cmp_total (HasSpent (bound + 1)) s.frames (more_spent bound 1 s all) actor;
+})
+event_grown program layout (Ask engine number parameter) s = ask_leaves s engine number parameter
+    (λ rule id x _. same_frames s _ (same_store s.store) (omega arith) (omega arith) refl)
+    (λ rule id x _. same_frames s _ (one_subscriber_more s.store id (record { rule = number; parameter = parameter })) (omega arith) (omega arith) refl)
+event_grown program layout (Deliver server datum rule parameter) s = deliver_leaves s layout server (record { datum = datum; rule = rule; parameter = parameter })
+    (λ _ _. same_frames s _ (same_store s.store) (omega arith) (omega arith) refl)
+    (λ rule _ _. same_frames s _ (same_store s.store) (omega arith) (omega arith) refl)
+event_grown program layout (Release engine number) s = release_leaves s program engine number (λ rule p _ _. same_frames s _ (same_store s.store) (omega arith) (omega arith) refl)
 
 -- ---- the law of events
 

@@ -6,6 +6,7 @@ pub mod Formats
 pub mod Growth
 pub mod Instructions
 pub mod Joined
+pub mod Leaving
 pub mod Lists
 pub mod Loop
 pub mod Losing
@@ -22,4 +23,3 @@ pub mod Subscribed
 pub mod Taken
 pub mod TextFormat
 pub mod Types
-pub mod Went

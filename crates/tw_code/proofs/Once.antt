@@ -16,13 +16,13 @@ use Rattle.tw_types.specs.Store.{Data, Datum, is_closed, subscribers_cleared, no
 use Rattle.tw_types.specs.StoreCalls.{with_subscriber}
 use Rattle.tw_types.specs.Task.{Arg, ValueArg, RightArg}
 use Rattle.tw_types.specs.Totals.{total}
+use Rattle.tw_types.proofs.Parts.{total-le}
+use Rattle.tw_types.proofs.Totals.{part, total-empty}
+use Rattle.tw_types.proofs.Freeing.{data_insert_same, data_insert_other}
 use Rattle.tw_code.specs.machine.Waiting.{times_among, times_subscribed, stage_at, times_at, times_waiting, arg_at, times_noticed_by, times_noticed, times_named}
 use Rattle.tw_code.proofs.Staged.{NothingWaits, staged, staged_arg, staged_noticed, staged_here, was_here, staged_other, that_or_other, rule_other, rule_gone, rule_kept}
 use Rattle.tw_code.proofs.Subscribed.{subscribed_put, subscribed-le, waits-le, noticed_at, noticed_one, noticed_alike, silenced, and_told}
 use Rattle.tw_code.proofs.Sets.{told_keeps, told_has, told_only, gone_has, gone_other, gone_only, is_that, that_itself, that_other, named-append}
-use Rattle.tw_types.proofs.Parts.{total-le}
-use Rattle.tw_types.proofs.Totals.{part, total-empty}
-use Rattle.tw_types.proofs.Freeing.{data_insert_same, data_insert_other}
 
 pub record MayBeNamed (live : Data) (waits : Notices) (rules : Rules) : Type 0 where
   pub once : (rule parameter : ℕ) → times_named live waits rules rule parameter ≤ times_waiting rules rule parameter

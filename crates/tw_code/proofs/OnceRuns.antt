@@ -1,58 +1,50 @@
 -- In each state that a run of any program reaches, a parameter is named at most once, and only while it waits.
-use Rattle.std.proofs.Common.{◌≡◌, ℕ, ◌<◌, ◌≤◌, ◌==◌, ℤ, true, not, ◌&&◌, nat_lt, List, [], ◌∷◌, slice_get, is_none, Option, Some, None, refl, sym, ap, subst, ◌∙◌, arith, inl, inr, nat_cmp}
-use Rattle.std.proofs.lemmas.Bool.{cases_eq, cases_Bool}
+use Rattle.std.proofs.Common.{◌≡◌, ℕ, ◌<◌, ◌≤◌, ◌==◌, ℤ, not, List, [], ◌∷◌, Option, Some, None, refl, sym, ap, subst, ◌∙◌, arith, inl, inr, nat_cmp}
+use Rattle.std.proofs.lemmas.Bool.{cases_eq}
 use Rattle.std.proofs.lemmas.Option.{same_Some}
 use Rattle.std.specs.Cmp.{nat_cmp_total}
 use Rattle.std.specs.FinMap.{get, insert, get-empty, nat_cmp-IsAntisymmetric}
-use Rattle.std.specs.FinSet as set
-use Rattle.std.specs.List.{list_all}
-use Rattle.tw_types.specs.declared.actor.Actor.{Actor}
+use Rattle.std.specs.Prelude.{Ok}
+use Rattle.std.specs.Option.{ok_or}
 use Rattle.tw_types.specs.declared.cause.Cause.{Cause}
-use Rattle.tw_types.specs.declared.cause.Cause.TheVariants.{FreedDatum, WrongCall, RightLeft, WrongRegister, UnsetDatum}
+use Rattle.tw_types.specs.declared.cause.Cause.TheVariants.{FreedDatum, WrongRegister, UnsetDatum}
 use Rattle.tw_types.specs.declared.data_type.Scalar.TheVariants as scalar
 use Rattle.tw_types.specs.declared.event.Event.{Event}
 use Rattle.tw_types.specs.declared.event.Event.TheVariants.{Take, Local, Call, End, Ask, Deliver, Release}
 use Rattle.tw_types.specs.declared.input.Input.{Input}
 use Rattle.tw_types.specs.declared.stage.Stage.{Stage}
 use Rattle.tw_types.specs.declared.stage.Stage.TheVariants.{Unasked, Waiting, Ready}
-use Rattle.tw_types.specs.Actor.{is_in, number_in_kind}
+use Rattle.tw_types.specs.Actor.{number_in_kind}
 use Rattle.tw_types.specs.Layout.{ActorCounts}
-use Rattle.tw_types.specs.Outcome.{outcome_of}
-use Rattle.std.specs.Prelude.{Ok}
-use Rattle.std.specs.Option.{ok_or}
 use Rattle.tw_types.specs.Result.{must}
 use Rattle.tw_types.specs.Notices.{with_notices}
-use Rattle.tw_types.specs.Rule.{Rule, Rules, is_unasked, is_releasable, at_stage}
-use Rattle.tw_types.specs.Store.{Data, Datum, Store, is_closed, subscribers_cleared, settled, new_datum, notices_of, server_of}
+use Rattle.tw_types.specs.Rule.{Rule, Rules, at_stage}
+use Rattle.tw_types.specs.Store.{Data, Datum, Store, subscribers_cleared, settled, new_datum, notices_of}
 use Rattle.tw_types.specs.StoreCalls as store
 use Rattle.tw_types.specs.StoreCalls.{set_to, one_write_less, one_write_more, one_read_more, with_member, member_at, changed, store_after, notices_after, read_dropped, with_subscriber}
 use Rattle.tw_types.specs.StoreChecks.{may_store, may_retrieve, may_insert, may_look, may_read_members, may_be_read, may_copy_write, may_drop_read, may_drop_write}
-use Rattle.tw_types.specs.Task.{RightArg, best}
-use Rattle.tw_code.specs.declared.instr.Action.{Action}
-use Rattle.tw_code.specs.declared.instr.Instr.{Instr}
-use Rattle.tw_code.specs.declared.instr.Instr.TheVariants as instr
+use Rattle.tw_types.specs.Task.{RightArg}
+use Rattle.tw_types.specs.declared.notice.Notice.{Notice}
+use Rattle.tw_types.proofs.Outcomes.{IfWent, if_both, went_of}
+use Rattle.tw_types.proofs.Results.{WhereOk, ok_both, ok_then, ok_of, there_then}
+use Rattle.tw_types.proofs.Freeing.{data_insert_same, data_insert_other}
+use Rattle.tw_types.proofs.Parts.{put_or_before, before_removal}
+use Rattle.tw_types.proofs.Totals.{part}
 use Rattle.tw_code.specs.declared.procedure.Procedure.{Procedure}
-use Rattle.tw_code.specs.machine.Arguments.{called, put_called}
 use Rattle.tw_code.specs.machine.Data.{Context, datum_of, datum_at, suits, after_insert, after_look, data_instr}
 use Rattle.tw_code.specs.machine.Rights.{held, must_be_empty}
-use Rattle.tw_code.specs.machine.State.{State, frame_of, context_of, new_rule}
-use Rattle.tw_code.specs.machine.Machine.{Standing, standing_of, data_event, put_event, rule_event, call_by, call_event, own_rule, id_in, asked, ask_event, ready_at, deliver_event, release_event, step, run, local_steps, is_ret}
+use Rattle.tw_code.specs.machine.State.{State, context_of, new_rule}
+use Rattle.tw_code.specs.machine.Machine.{deliver_event, step, run}
 use Rattle.tw_code.specs.machine.Opening.{opening}
 use Rattle.tw_code.specs.declared.instr.DataInstr.{DataInstr}
 use Rattle.tw_code.specs.declared.instr.DataInstr.TheVariants as on_data
-use Rattle.tw_types.specs.declared.notice.Notice.{Notice}
 use Rattle.tw_code.specs.machine.Position.{value_at, int_at, must_have_type}
-use Rattle.tw_code.specs.machine.Waiting.{times_among, times_subscribed, times_at, arg_at, NamedOnce}
+use Rattle.tw_code.specs.machine.Waiting.{times_among, times_subscribed, arg_at, NamedOnce}
 use Rattle.tw_code.proofs.Staged.{settled_waits, first_waits}
-use Rattle.tw_code.proofs.Went.{owned, unasked, id_there}
-use Rattle.tw_types.proofs.Outcomes.{IfWent, if_both, if_ok, if_there, if_then, if_enabled, if_only, went_of}
-use Rattle.tw_types.proofs.Results.{WhereOk, ok_both, ok_then, ok_of, there_then}
+use Rattle.tw_code.proofs.Leaving.{take_leaves, local_leaves, call_leaves, end_leaves, ask_leaves, deliver_leaves, release_leaves}
 use Rattle.tw_code.proofs.Opened.{opening_silent}
-use Rattle.tw_types.proofs.Freeing.{data_insert_same, data_insert_other}
 use Rattle.tw_code.proofs.Losing.{IsKept, settled_kept, within_kept}
 use Rattle.tw_code.proofs.Once.{MayBeNamed, once_less, once_told, once_staged, once_asked, once_delivered, once_new, once_released, once_silent}
-use Rattle.tw_types.proofs.Parts.{put_or_before, before_removal}
-use Rattle.tw_types.proofs.Totals.{part}
 
 -- ---- a datum with the subscribers of one that was, or none
 
@@ -183,83 +175,34 @@ module _ (program : List Procedure) (layout : ActorCounts) (s : State) (h : Once
     | inr old ↦ h.rules m r old
   ]
 
-  data_went : (actor : Actor) (at : Standing) (i : DataInstr) → IfWent (data_event s actor at i) OnceHeld
-  data_went actor at i = if_ok (data_instr i (context_of s at.frame)) (λ c e. record {
-    is = record {
-      named = ok_of (data_instr i (context_of s at.frame)) _ c (data_once s.rules (context_of s at.frame) h.named i) e;
-      rules = h.rules;
-    };
-  })
-
-  ruled : (actor : Actor) (at : Standing) (action : Action) → IfWent (rule_event program s actor at action) OnceHeld
-  ruled actor at action = if_ok (called program at.procedure.kind (context_of s at.frame) action) (λ call _. record {
-    is = record {
-      named = once_new s.store.live s.notices s.rules h.named s.next_rule (new_rule (number_in_kind actor) call.params call.task) fresh_rule (first_waits call.params);
-      rules = λ m r e. elim (put_or_before nat_cmp_total nat_cmp-IsAntisymmetric s.rules s.next_rule (new_rule (number_in_kind actor) call.params call.task) m r e) [
-        | inl f ↦ let m_is = f.0 in omega arith
-        | inr old ↦ let l = h.rules m r old in omega arith
-      ];
-    };
-  })
-
-  put : (actor : Actor) (at : Standing) (action : Action) → IfWent (put_event program s actor at action) OnceHeld
-  put actor at action = if_ok (put_called program at.procedure.kind (context_of s at.frame) action) (λ call _. record { is = record { named = h.named; rules = h.rules } })
-
-  called_so : (actor : Actor) → IfWent (call_event program actor s) OnceHeld
-  called_so actor = if_both (standing_of program actor s) (λ at e. by at at.instr)
-    where
-      by : (at : Standing) (i : Instr) → IfWent (call_by program s actor at i) OnceHeld
-      by at (instr.Local i) = record { is = tt }
-      by at (instr.Data i) = data_went actor at i
-      by at (instr.Rule action) = ruled actor at action
-      by at (instr.Put action) = put actor at action
-      by at instr.Ret = record { is = tt }
-
-  asked_so : (engine number parameter : ℕ) → IfWent (ask_event engine number parameter s) OnceHeld
-  asked_so engine number parameter =
-      if_both (own_rule engine number s) (λ rule o.
-      if_enabled (slice_get rule.stages parameter) (λ stage at.
-      if_only (is_unasked stage) (λ u.
-      if_both (id_in (slice_get rule.args parameter)) (λ id i.
-      if_there (get s.store.live id) FreedDatum (λ x there.
-      record { is = by rule stage id x (owned engine number s rule o) at (unasked stage u) (id_there (slice_get rule.args parameter) id i) there })))))
-    where
-      by : (rule : Rule) (stage : Stage) (id : ℕ) (x : Datum) → get s.rules number ≡ Some rule → slice_get rule.stages parameter ≡ Some stage → stage ≡ Unasked → slice_get rule.args parameter ≡ Some (RightArg id) → get s.store.live id ≡ Some x → OnceHeld (asked s number rule parameter id x)
-      by rule stage id x is at u arg there = elim (cases_Bool (is_closed x)) [
-        | inl closed ↦ rw closed (record { named = once_staged s.store.live s.notices s.rules h.named number rule is parameter stage at Ready (sym (ap (λ z. times_at (Some z)) u)); rules = staged_numbers number rule is parameter Ready })
-        | inr is_open ↦ rw (is_open, there) (record { named = once_asked s.store.live s.notices s.rules h.named number rule is parameter stage at id x u arg there; rules = staged_numbers number rule is parameter Waiting })
-      ]
-
   delivered : (server : ℕ) (n : Notice) → IfWent (deliver_event layout server n s) OnceHeld
-  delivered server n =
-      if_only (nat_lt server layout.servers && (server_of layout.servers n.datum == server)) (λ _.
-      if_only (set.contains s.notices n) (λ has.
-      record { is = by (get s.rules n.rule) refl has }))
-    where
-      by : (o : Option Rule) → get s.rules n.rule ≡ o → set.contains s.notices n ≡ true → OnceHeld (ready_at (record s { notices = set.remove s.notices n }) n o)
-      by None e has = let z : None ≡ Some (RightArg n.datum) = sym (ap (λ o. arg_at o n.parameter) e) ∙ h.named.notices n has in cc
-      by (Some rule) e has = record { named = once_delivered s.store.live s.notices s.rules n h.named has rule e; rules = staged_numbers n.rule rule e n.parameter Ready }
-
-  released : (engine number : ℕ) → IfWent (release_event program engine number s) OnceHeld
-  released engine number =
-      if_both (own_rule engine number s) (λ rule o.
-      if_only (is_releasable rule) (λ settled_all.
-      if_there (slice_get program rule.procedure) WrongCall (λ p _. record {
-        is = record {
-          named = once_released s.store.live s.notices s.rules h.named number rule (owned engine number s rule o) (settled_waits rule.stages settled_all);
-          rules = λ m r at. h.rules m r ((before_removal nat_cmp_total nat_cmp-IsAntisymmetric s.rules number m r at).1);
-        };
-      })))
+  delivered server n = deliver_leaves s layout server n
+      (λ has none. let z : None ≡ Some (RightArg n.datum) = sym (ap (λ o. arg_at o n.parameter) none) ∙ h.named.notices n has in cc)
+      (λ rule has is. record { named = once_delivered s.store.live s.notices s.rules n h.named has rule is; rules = staged_numbers n.rule rule is n.parameter Ready })
 
   pub once_step : (event : Event) → IfWent (step program layout event s) OnceHeld
   unfolding step
-  once_step (Take actor) = if_only (is_in layout actor && is_none (get s.frames actor)) (λ _. if_enabled (best actor s.tasks) (λ t _. if_ok (frame_of program t.0 t.1) (λ f _. record { is = record { named = h.named; rules = h.rules } })))
-  once_step (Local actor n) = if_only (not (n == 0)) (λ _. if_enabled (get s.frames actor) (λ f _. if_there (slice_get program f.procedure) WrongCall (λ p _. if_both (local_steps n p.code f.position) (λ k _. record { is = record { named = h.named; rules = h.rules } }))))
-  once_step (Call actor) = called_so actor
-  once_step (End actor) = if_both (standing_of program actor s) (λ at _. if_only (is_ret at.instr) (λ _. if_then (outcome_of (must (list_all is_none at.frame.rights) RightLeft)) (λ _. record { is = record { named = h.named; rules = h.rules } })))
-  once_step (Ask engine rule parameter) = asked_so engine rule parameter
+  once_step (Take actor) = take_leaves program actor s layout (λ e frame _ _. record { named = h.named; rules = h.rules })
+  once_step (Local actor n) = local_leaves program actor s n (λ frame at _ _. record { named = h.named; rules = h.rules })
+  once_step (Call actor) = call_leaves program actor s
+      (λ at i c _ e. record { named = ok_of (data_instr i (context_of s at.frame)) _ c (data_once s.rules (context_of s at.frame) h.named i) e; rules = h.rules })
+      (λ at action call _ _. record {
+        named = once_new s.store.live s.notices s.rules h.named s.next_rule (new_rule (number_in_kind actor) call.params call.task) fresh_rule (first_waits call.params);
+        rules = λ m r e. elim (put_or_before nat_cmp_total nat_cmp-IsAntisymmetric s.rules s.next_rule (new_rule (number_in_kind actor) call.params call.task) m r e) [
+          | inl f ↦ let m_is = f.0 in omega arith
+          | inr old ↦ let l = h.rules m r old in omega arith
+        ];
+      })
+      (λ at action call _ _. record { named = h.named; rules = h.rules })
+  once_step (End actor) = end_leaves program actor s (record { named = h.named; rules = h.rules })
+  once_step (Ask engine number parameter) = ask_leaves s engine number parameter
+      (λ rule id x u. record { named = once_staged s.store.live s.notices s.rules h.named number rule u.pending parameter Unasked u.stage Ready refl; rules = staged_numbers number rule u.pending parameter Ready })
+      (λ rule id x u. rw u.live (record { named = once_asked s.store.live s.notices s.rules h.named number rule u.pending parameter Unasked u.stage id x refl u.arg u.live; rules = staged_numbers number rule u.pending parameter Waiting }))
   once_step (Deliver server datum rule parameter) = delivered server (record { datum = datum; rule = rule; parameter = parameter })
-  once_step (Release engine rule) = released engine rule
+  once_step (Release engine number) = release_leaves s program engine number (λ rule p is settled. record {
+    named = once_released s.store.live s.notices s.rules h.named number rule is (settled_waits rule.stages settled);
+    rules = λ m r at. h.rules m r ((before_removal nat_cmp_total nat_cmp-IsAntisymmetric s.rules number m r at).1);
+  })
 
 -- ---- runs
 

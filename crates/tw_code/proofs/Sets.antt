@@ -7,8 +7,8 @@ use Rattle.std.specs.FinSet as set
 use Rattle.tw_types.specs.declared.notice.Notice.{Notice}
 use Rattle.tw_types.specs.declared.notice.Subscriber.{Subscriber}
 use Rattle.tw_types.specs.Notices.{Notices, notice_cmp, with_notices}
-use Rattle.tw_types.proofs.NoticeOrder.{notice_cmp_total, notice_cmp-IsAntisymmetric}
 use Rattle.tw_types.specs.Store.{notice_to}
+use Rattle.tw_types.proofs.NoticeOrder.{notice_cmp_total, notice_cmp-IsAntisymmetric}
 use Rattle.tw_code.specs.machine.Waiting.{times_among}
 
 -- ---- notices in a set

@@ -11,8 +11,8 @@ use Rattle.tw_types.specs.Rule.{Rules}
 use Rattle.tw_types.specs.Store.{Data, Datum, notice_to}
 use Rattle.tw_types.specs.Task.{Arg, ValueArg, RightArg}
 use Rattle.tw_types.specs.Totals.{total}
-use Rattle.tw_code.specs.machine.Waiting.{times_subscribed, times_at, arg_at, times_noticed_by, times_noticed}
 use Rattle.tw_types.proofs.Totals.{part, total-insert, part-le-total}
+use Rattle.tw_code.specs.machine.Waiting.{times_subscribed, times_at, arg_at, times_noticed_by, times_noticed}
 
 -- ---- sums of subscribers
 

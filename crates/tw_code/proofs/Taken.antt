@@ -1,40 +1,27 @@
 -- The numbers that a run takes are distinct, and each is main's or was given by a PUT or a Release.
-use Rattle.std.proofs.Common.{◌≡◌, ℕ, ◌+◌, ◌<◌, ◌≤◌, ◌==◌, ◌⊎◌, inl, inr, Bool, true, false, not, ◌&&◌, nat_lt, if◌then◌else◌, List, [], ◌∷◌, ◌++◌, slice_get, is_none, Option, Some, None, refl, sym, ap, subst, ◌∙◌, arith}
+use Rattle.std.proofs.Common.{◌≡◌, ℕ, ◌+◌, ◌<◌, ◌≤◌, ◌==◌, ◌⊎◌, inl, inr, Bool, true, false, if◌then◌else◌, List, [], ◌∷◌, ◌++◌, Some, None, refl, sym, ap, subst, ◌∙◌, arith}
 use Rattle.std.proofs.lemmas.Bool.{cases_Bool, eq-eqb, eqb-true, eqb-false, ne_eqb, or_cases, or_left, or_right}
 use Rattle.std.proofs.lemmas.List.Folds.{list_any-append}
 use Rattle.std.specs.Cmp.{nat_cmp_total}
 use Rattle.std.specs.FinMap.{get, get-empty, empty, insert, nat_cmp-IsAntisymmetric, remove}
-use Rattle.std.specs.FinSet as set
-use Rattle.std.specs.List.{list_all}
 use Rattle.std.specs.Ordering.{nat_cmp}
-use Rattle.tw_types.specs.declared.actor.Actor.{Actor}
-use Rattle.tw_types.specs.declared.cause.Cause.TheVariants.{FreedDatum, RightLeft}
 use Rattle.tw_types.specs.declared.event.Event.{Event}
 use Rattle.tw_types.specs.declared.event.Event.TheVariants.{Take, Local, Call, End, Ask, Deliver, Release}
 use Rattle.tw_types.specs.declared.input.Input.{Input}
-use Rattle.tw_types.specs.declared.notice.Notice.{Notice}
-use Rattle.tw_types.specs.declared.stage.Stage.TheVariants.{Ready, Waiting}
-use Rattle.tw_types.specs.Actor.{is_in}
 use Rattle.tw_types.specs.Layout.{ActorCounts}
-use Rattle.tw_types.specs.Outcome.{Outcome, Went, NotEnabled, Trap, outcome_of}
-use Rattle.tw_types.specs.Result.{must}
-use Rattle.tw_types.specs.Rule.{Rule, is_releasable, is_unasked}
-use Rattle.tw_types.specs.Store.{Datum, is_closed, server_of}
-use Rattle.tw_types.specs.StoreCalls.{subscribed}
-use Rattle.tw_types.specs.Task.{Task, Tasks, best}
+use Rattle.tw_types.specs.Outcome.{Outcome, Went, NotEnabled, Trap}
+use Rattle.tw_types.specs.Rule.{task_from}
+use Rattle.tw_types.specs.Task.{Task, Tasks}
 use Rattle.tw_types.proofs.Best.{best_waits}
-use Rattle.tw_types.proofs.Outcomes.{IfWent, if_both, if_enabled, if_ok, if_only, if_then, if_there, went_of}
+use Rattle.tw_types.proofs.Outcomes.{IfWent, went_of}
 use Rattle.tw_types.proofs.Parts.{before_removal, put_or_before}
-use Rattle.tw_code.specs.declared.instr.Instr.{Instr}
-use Rattle.tw_code.specs.declared.instr.Instr.TheVariants as instr
 use Rattle.tw_code.specs.declared.procedure.Procedure.{Procedure}
-use Rattle.tw_code.specs.machine.Arguments.{called, procedure_of, put_called}
-use Rattle.tw_code.specs.machine.Data.{data_instr}
 use Rattle.tw_code.specs.machine.History.{if_went, put_between, puts, taken_by, takes}
-use Rattle.tw_code.specs.machine.Machine.{Standing, asked, ask_event, call_by, call_event, deliver_event, id_in, is_ret, local_steps, own_rule, ready_at, release_event, standing_of, step}
+use Rattle.tw_code.specs.machine.Machine.{step}
 use Rattle.tw_code.specs.machine.Once.{AreDistinct, TakesOnce, is_among}
 use Rattle.tw_code.specs.machine.Opening.{opening}
-use Rattle.tw_code.specs.machine.State.{State, context_of, frame_of, with_stage}
+use Rattle.tw_code.specs.machine.State.{State}
+use Rattle.tw_code.proofs.Leaving.{take_leaves, local_leaves, call_leaves, end_leaves, ask_leaves, deliver_leaves, release_leaves}
 
 -- ---- numbers among others
 
@@ -133,56 +120,15 @@ module _ (s : State) where
       left : (n : ℕ) (h : Waits t n) → (n ≡ e.0 → ⊥) × (get s.tasks n ≡ Some h.0)
       left n h = before_removal nat_cmp_total nat_cmp-IsAntisymmetric s.tasks e.0 n h.0 (sym (ap (λ (m : Tasks). get m n) less) ∙ h.1)
 
-  module _ (program : List Procedure) where
-    called_turns : (actor : Actor) (at : Standing) (i : Instr) → IfWent (call_by program s actor at i) (Turns [] s)
-    called_turns actor at (instr.Local i) = record { is = tt }
-    called_turns actor at (instr.Data i) = if_ok (data_instr i (context_of s at.frame)) (λ c _. record { is = same_tasks _ refl refl })
-    called_turns actor at (instr.Rule action) = if_ok (called program at.procedure.kind (context_of s at.frame) action) (λ call _. record { is = same_tasks _ refl refl })
-    called_turns actor at (instr.Put action) = if_ok (put_called program at.procedure.kind (context_of s at.frame) action) (λ call _. record { is = one_put _ call.task refl refl })
-    called_turns actor at instr.Ret = record { is = tt }
-
-    call_turns : (actor : Actor) → IfWent (call_event program actor s) (Turns [] s)
-    call_turns actor = if_both (standing_of program actor s) (λ at _. called_turns actor at at.instr)
-
-    release_turns : (engine number : ℕ) → IfWent (release_event program engine number s) (Turns [] s)
-    release_turns engine number =
-        if_both (own_rule engine number s) (λ rule _. if_only (is_releasable rule) (λ _. if_ok (procedure_of program rule.procedure) (λ p _. record { is = one_put _ _ refl refl })))
-
-  asked_turns : (number : ℕ) (rule : Rule) (parameter id : ℕ) (x : Datum) → Turns [] s (asked s number rule parameter id x)
-  asked_turns number rule parameter id x = by (is_closed x)
-    where
-      by : (b : Bool) → Turns [] s (if b then with_stage s number rule parameter Ready else with_stage (record s { store = subscribed s.store id (record { rule = number; parameter = parameter }) }) number rule parameter Waiting)
-      by true = same_tasks _ refl refl
-      by false = same_tasks _ refl refl
-
-  ask_turns : (engine number parameter : ℕ) → IfWent (ask_event engine number parameter s) (Turns [] s)
-  ask_turns engine number parameter =
-      if_both (own_rule engine number s) (λ rule _.
-      if_enabled (slice_get rule.stages parameter) (λ stage _.
-      if_only (is_unasked stage) (λ _.
-      if_both (id_in (slice_get rule.args parameter)) (λ id _.
-      if_there (get s.store.live id) FreedDatum (λ x _. record { is = asked_turns number rule parameter id x })))))
-
-  deliver_turns : (layout : ActorCounts) (server : ℕ) (n : Notice) → IfWent (deliver_event layout server n s) (Turns [] s)
-  deliver_turns layout server n =
-      if_only (nat_lt server layout.servers && (server_of layout.servers n.datum == server)) (λ _.
-      if_only (set.contains s.notices n) (λ _. record { is = by (get s.rules n.rule) }))
-    where
-      by : (found : Option Rule) → Turns [] s (ready_at (record s { notices = set.remove s.notices n }) n found)
-      by None = same_tasks _ refl refl
-      by (Some rule) = same_tasks _ refl refl
-
   event_turns : (program : List Procedure) (layout : ActorCounts) (event : Event) → IfWent (step program layout event s) (Turns (taken_by event s) s)
   unfolding step
-  event_turns program layout (Take actor) = if_only (is_in layout actor && is_none (get s.frames actor)) (λ _. if_enabled (best actor s.tasks) (λ e first. if_ok (frame_of program e.0 e.1) (λ frame _. record {
-    is = rw first (one_taken _ e (best_waits actor s.tasks e first) refl refl);
-  })))
-  event_turns program layout (Local actor n) = if_only (not (n == 0)) (λ _. if_enabled (get s.frames actor) (λ frame _. if_ok (procedure_of program frame.procedure) (λ p _. if_both (local_steps n p.code frame.position) (λ at _. record { is = same_tasks _ refl refl }))))
-  event_turns program layout (Call actor) = call_turns program actor
-  event_turns program layout (End actor) = if_both (standing_of program actor s) (λ at _. if_only (is_ret at.instr) (λ _. if_then (outcome_of (must (list_all is_none at.frame.rights) RightLeft)) (λ _. record { is = same_tasks _ refl refl })))
-  event_turns program layout (Ask engine rule parameter) = ask_turns engine rule parameter
-  event_turns program layout (Deliver server datum rule parameter) = deliver_turns layout server (record { datum = datum; rule = rule; parameter = parameter })
-  event_turns program layout (Release engine rule) = release_turns program engine rule
+  event_turns program layout (Take actor) = take_leaves program actor s layout (λ e frame first _. rw first (one_taken _ e (best_waits actor s.tasks e first) refl refl))
+  event_turns program layout (Local actor n) = local_leaves program actor s n (λ frame at _ _. same_tasks _ refl refl)
+  event_turns program layout (Call actor) = call_leaves program actor s (λ at i c _ _. same_tasks _ refl refl) (λ at action call _ _. same_tasks _ refl refl) (λ at action call _ _. one_put _ call.task refl refl)
+  event_turns program layout (End actor) = end_leaves program actor s (same_tasks _ refl refl)
+  event_turns program layout (Ask engine rule parameter) = ask_leaves s engine rule parameter (λ rule id x _. same_tasks _ refl refl) (λ rule id x _. same_tasks _ refl refl)
+  event_turns program layout (Deliver server datum rule parameter) = deliver_leaves s layout server (record { datum = datum; rule = rule; parameter = parameter }) (λ _ _. same_tasks _ refl refl) (λ rule _ _. same_tasks _ refl refl)
+  event_turns program layout (Release engine rule) = release_leaves s program engine rule (λ rule p _ _. one_put _ (task_from p.kind rule) refl refl)
 
 -- ---- runs
 
