@@ -38,7 +38,7 @@ pub record Stood (program : List Procedure) (actor : Actor) (s : State) (at : St
   pub procedure : slice_get program at.frame.procedure ≡ Some at.procedure
   pub instr : slice_get at.procedure.code at.frame.position.place ≡ Some at.instr
 
-stood : (program : List Procedure) (actor : Actor) (s : State) (at : Standing) → standing_of program actor s ≡ Went at → Stood program actor s at
+pub stood : (program : List Procedure) (actor : Actor) (s : State) (at : Standing) → standing_of program actor s ≡ Went at → Stood program actor s at
 stood program actor s at = went_of (standing_of program actor s) (Stood program actor s) at
     (if_enabled (get s.frames actor) (λ f a. if_there (slice_get program f.procedure) WrongCall (λ p b. if_there (slice_get p.code f.position.place) OutsideCode (λ i c. record { is = record { frame = a; procedure = b; instr = c } }))))
 
@@ -49,11 +49,11 @@ pub record IsUnasked (s : State) (number parameter : ℕ) (rule : Rule) (id : �
   pub arg : slice_get rule.args parameter ≡ Some (RightArg id)
   pub live : get s.store.live id ≡ Some x
 
-owned : (engine number : ℕ) (s : State) (rule : Rule) → own_rule engine number s ≡ Went rule → get s.rules number ≡ Some rule
+pub owned : (engine number : ℕ) (s : State) (rule : Rule) → own_rule engine number s ≡ Went rule → get s.rules number ≡ Some rule
 owned engine number s rule = went_of (own_rule engine number s) (λ r. get s.rules number ≡ Some r) rule
     (if_only (is_none (get s.frames (Engine engine))) (λ _. if_enabled (get s.rules number) (λ r e. if_only (r.engine == engine) (λ _. record { is = e }))))
 
-unasked : (stage : Stage) → is_unasked stage ≡ true → stage ≡ Unasked
+pub unasked : (stage : Stage) → is_unasked stage ≡ true → stage ≡ Unasked
 unasked Free e = cc
 unasked Unasked e = refl
 unasked Waiting e = cc

@@ -1,8 +1,10 @@
 pub mod Breaks
 pub mod Bytes
 pub mod Computing
+pub mod Ever
 pub mod FirstFault
 pub mod Formats
+pub mod Found
 pub mod Growth
 pub mod Instructions
 pub mod Joined
@@ -10,10 +12,12 @@ pub mod Leaving
 pub mod Lists
 pub mod Loop
 pub mod Losing
+pub mod Next
 pub mod Numbers
 pub mod Once
 pub mod OnceRuns
 pub mod Opened
+pub mod Placed
 pub mod Programs
 pub mod Range
 pub mod Sets
