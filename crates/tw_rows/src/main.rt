@@ -15,6 +15,7 @@ mod play;
 mod programs;
 mod sessions;
 mod state;
+mod waiting;
 mod words;
 
 use crate::book::Book;

@@ -1,14 +1,16 @@
 //! The state of the plain machine as a text.
 
 use crate::programs::type_text;
+use crate::waiting::put_waiting;
 use std::alloc::{AllocError, Global};
 use tw_machine::{Datum, Frame, State};
 use tw_types::{Actor, DatumId, Ending, Value};
 
-/// Adds how the run has ended, the tasks that run, the outputs, and the data of the first 99 numbers.
+/// Adds how the run has ended, the tasks that run, what waits, the outputs, and the data of the first 99 numbers.
 pub fn put_state(alloc: Global, parts: &mut Vec<String>, state: &State) -> Result<(), AllocError> {
     put_ending(alloc, parts, state.ending())?;
     put_frames(alloc, parts, state)?;
+    put_waiting(alloc, parts, state)?;
     parts.push(outputs_text(alloc, state.outputs())?)?;
     put_data(alloc, parts, state)
 }
