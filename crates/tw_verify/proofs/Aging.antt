@@ -1,5 +1,6 @@
--- What data become: of the same type, with the same members, closed where they were, and right in content and writers.
-use Rattle.std.proofs.Common.{ℕ, suc, ◌+◌, ◌≤◌, ◌≡◌, true, Some, refl, ◌∙◌}
+-- What data become: of the same type, with the same members, closed where they were, right in content and writers, and
+-- with no new subscribers.
+use Rattle.std.proofs.Common.{ℕ, suc, ◌+◌, ◌≤◌, ◌≡◌, true, [], Some, refl, ◌∙◌}
 use Rattle.std.specs.FinMap.{get}
 use Rattle.tw_types.specs.Counts.{AreNested, Balanced, HasWriters, inside}
 use Rattle.tw_types.specs.Store.{Datum, Data, is_closed, members_of, settled_by, drop_read_within}
@@ -14,14 +15,15 @@ pub record Aged (x y : Datum) : Type 0 where
   pub closed : is_closed x ≡ true → is_closed y ≡ true
   pub content : IsOfType x.ty x.content → IsOfType y.ty y.content
   pub writers : HasWriters x.content x.writes → HasWriters y.content y.writes
+  pub silent : x.subscribers ≡ [] → y.subscribers ≡ []
 
 pub aging : IsAging Aged
 aging = record {
   ty = λ x y a. a.ty;
   members = λ x y a. a.members;
-  itself = λ x. record { ty = refl; members = refl; closed = λ c. c; content = λ h. h; writers = λ h. h };
-  after = λ x y z a b. record { ty = b.ty ∙ a.ty; members = b.members ∙ a.members; closed = λ c. b.closed (a.closed c); content = λ h. b.content (a.content h); writers = λ h. b.writers (a.writers h) };
-  less = λ x. record { ty = refl; members = refl; closed = λ c. c; content = λ h. h; writers = λ h. h };
+  itself = λ x. record { ty = refl; members = refl; closed = λ c. c; content = λ h. h; writers = λ h. h; silent = λ h. h };
+  after = λ x y z a b. record { ty = b.ty ∙ a.ty; members = b.members ∙ a.members; closed = λ c. b.closed (a.closed c); content = λ h. b.content (a.content h); writers = λ h. b.writers (a.writers h); silent = λ h. b.silent (a.silent h) };
+  less = λ x. record { ty = refl; members = refl; closed = λ c. c; content = λ h. h; writers = λ h. h; silent = λ h. h };
 }
 
 -- each datum of the first map is what one of the second has become

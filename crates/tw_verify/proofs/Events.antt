@@ -1,28 +1,33 @@
 -- One event of an accepted program keeps what is held, and doesn't trap.
-use Rattle.std.proofs.Common.{◌≡◌, ℕ, ◌+◌, ◌<◌, ◌≤◌, ◌==◌, inl, inr, Bool, true, false, not, ◌&&◌, List, [], ◌∷◌, length, slice_get, get_or, Option, Some, None, is_none, refl, sym, ap, subst, ◌∙◌, arith}
+use Rattle.std.proofs.Common.{◌≡◌, ℕ, ◌+◌, ◌<◌, ◌≤◌, ◌==◌, inl, inr, Bool, true, false, not, ◌&&◌, List, [], ◌∷◌, length, slice_get, get_or, Option, Some, None, is_none, refl, sym, ap, subst, ◌∙◌, arith, nat_cmp}
 use Rattle.std.proofs.lemmas.Bool.{and_parts, leb-true}
 use Rattle.std.proofs.lemmas.List.{length-map}
 use Rattle.std.proofs.lemmas.Option.{slice_get-get_or, slice_get_within}
-use Rattle.std.specs.FinMap.{get, remove}
+use Rattle.std.specs.FinMap.{get, remove, get-empty}
+use Rattle.std.specs.FinSet as set
 use Rattle.std.specs.List.{list_all}
 use Rattle.tw_types.specs.declared.actor.Actor.{Actor}
+use Rattle.tw_types.specs.declared.actor.Actor.TheVariants.{Engine}
 use Rattle.tw_types.specs.declared.cause.Cause.TheVariants.{RightLeft}
 use Rattle.tw_types.specs.declared.event.Event.{Event}
 use Rattle.tw_types.specs.declared.event.Event.TheVariants.{Take, Local, Call, End, Ask, Deliver, Release}
+use Rattle.tw_types.specs.declared.notice.Notice.{Notice}
 use Rattle.tw_types.specs.Actor.{is_in}
 use Rattle.tw_types.specs.Layout.{ActorCounts}
 use Rattle.tw_types.specs.Outcome.{Outcome, Went, NotEnabled, Trap, ◌>>=◌, ◌>>◌, outcome_of, only_if}
+use Rattle.tw_types.specs.Notices.{Notices, notice_cmp}
 use Rattle.tw_types.specs.Result.{must}
-use Rattle.tw_types.specs.Store.{Store}
+use Rattle.tw_types.specs.Rule.{Rule, Rules}
+use Rattle.tw_types.specs.Store.{Store, server_of}
 use Rattle.tw_types.specs.Task.{Task, best}
-use Rattle.std.specs.Prelude.{Ok}
+use Rattle.std.specs.Prelude.{Ok, nat_lt}
 use Rattle.tw_code.specs.declared.instr.Instr.{Instr}
 use Rattle.tw_code.specs.declared.instr.Instr.TheVariants as instr
 use Rattle.tw_code.specs.declared.procedure.Procedure.{Procedure}
 use Rattle.tw_code.specs.machine.Data.{data_instr}
 use Rattle.tw_code.specs.accepting.Flow.{flow_of, flows}
 use Rattle.tw_code.specs.machine.State.{Frame, State, values_in, ids_in, frame_of, with_frame, context_of, after_context}
-use Rattle.tw_code.specs.machine.Machine.{Standing, local_of, is_ret, take_event, local_event, standing_of, call_by, call_event, end_event, step, run, local_step, local_steps}
+use Rattle.tw_code.specs.machine.Machine.{Standing, local_of, is_ret, take_event, local_event, standing_of, call_by, call_event, end_event, own_rule, ask_event, deliver_event, release_event, ready_at, step, run, local_step, local_steps}
 use Rattle.tw_code.specs.machine.Rights.{first_rights, Typing}
 use Rattle.tw_code.specs.machine.Position.{Position}
 use Rattle.tw_code.specs.accepting.Typing.{value_types, start_typing, values_fit, asks_at}
@@ -86,7 +91,7 @@ module _ (program : List Procedure) (typings : Typings) (accepts : (k : ℕ) (p 
         let fits = fits_of program typings s a f held is in
         held_on program typings s a f held is k.procedure k.here (record { store = s.store; notices = s.notices; rights = f.rights; position = at }) (f.spent + n) left.stands
         (subst (λ (t : Typing). Settles t (context_of s f) (other_reads program typings s a) (other_writes program typings s a) (record { store = s.store; notices = s.notices; rights = f.rights; position = at })) (sym left.typing_there)
-        (record { fits = record { balanced = fits.balanced; writers = fits.writers; store = fits.store; rights = fits.rights }; others = undisturbed_itself s.store }))
+        (record { fits = record { balanced = fits.balanced; writers = fits.writers; store = fits.store; rights = fits.rights }; others = undisturbed_itself s.store; silent = λ silent. silent; notices = λ silent. refl }))
 
     local_is : (n : ℕ) → not (n == 0) ≡ true → local_event program a n s ≡ (local_steps n k.procedure.code f.position >>= λ at. Went (with_frame s a (record f { position = at; spent = f.spent + n })))
     local_is n some = rw (some, is, k.here) refl
@@ -103,8 +108,8 @@ module _ (program : List Procedure) (typings : Typings) (accepts : (k : ℕ) (p 
     standing_is : standing_of program a s ≡ Went standing
     standing_is = rw (is, k.here, k.at) refl
 
-    call_is : call_event program a s ≡ call_by s a standing k.instr
-    call_is = ap (λ (o : Outcome Standing). o >>= λ at. call_by s a at at.instr) standing_is
+    call_is : call_event program a s ≡ call_by program s a standing k.instr
+    call_is = ap (λ (o : Outcome Standing). o >>= λ at. call_by program s a at at.instr) standing_is
 
     abbrev ended : Instr → Outcome State
     ended i = only_if (is_ret i) >> (outcome_of (must (list_all is_none f.rights) RightLeft) >> Went (record s { frames = remove s.frames a }))
@@ -131,7 +136,7 @@ module _ (program : List Procedure) (typings : Typings) (accepts : (k : ℕ) (p 
         (at_other program (typings f.procedure) k.procedure acc f.position k.instr k.at none)
 
     pub call_goes : IsCall k.procedure k.instr (typing_of typings f) → Happens (call_event program a s) (IsHeld program typings)
-    call_goes call = subst (λ (o : Outcome State). Happens o (IsHeld program typings)) (sym (call_is ∙ ap (call_by s a standing) call.is))
+    call_goes call = subst (λ (o : Outcome State). Happens o (IsHeld program typings)) (sym (call_is ∙ ap (call_by program s a standing) call.is))
         (goes_on (data_instr call.on (context_of s f)) (after_context s a f) (Leaves k.procedure.registers call.on (typing_of typings f) (context_of s f) (other_reads program typings s a) (other_writes program typings s a)) (IsHeld program typings)
         (call.leaves (context_of s f) (other_reads program typings s a) (other_writes program typings s a) (fits_of program typings s a f held is) k.stands.values)
         (λ c left. held_on program typings s a f held is k.procedure k.here c (f.spent + 1)
@@ -142,8 +147,8 @@ module _ (program : List Procedure) (typings : Typings) (accepts : (k : ℕ) (p 
         own = k.at ∙ ap Some call.is
 
     -- one that isn't on data isn't called
-    call_waits : (i : Instr) → k.instr ≡ i → call_by s a standing i ≡ NotEnabled → call_event program a s ≡ NotEnabled
-    call_waits i e waits = call_is ∙ ap (call_by s a standing) e ∙ waits
+    call_waits : (i : Instr) → k.instr ≡ i → call_by program s a standing i ≡ NotEnabled → call_event program a s ≡ NotEnabled
+    call_waits i e waits = call_is ∙ ap (call_by program s a standing) e ∙ waits
 
     pub end_goes : IsEnd k.instr (typing_of typings f) → Happens (end_event program a s) (IsHeld program typings)
     end_goes end = subst (λ (o : Outcome State). Happens o (IsHeld program typings)) (sym (end_is ∙ ap ended end.is))
@@ -258,15 +263,42 @@ module _ (program : List Procedure) (typings : Typings) (accepts : (k : ℕ) (p 
         by None e = waits_keeps (end_event program a s) (IsHeld program typings) (rw e refl)
         by (Some f) e = end_keeps_on s a f held e (known s a f held e)
 
+    -- there are no rules and no notices
+    no_rule : (s : State) (number : ℕ) → IsHeld program typings s → get s.rules number ≡ None
+    no_rule s number held = ap (λ (rules : Rules). get rules number) held.waits.rules ∙ get-empty nat_cmp number
+
+    no_own : (s : State) (engine number : ℕ) → IsHeld program typings s → own_rule engine number s ≡ NotEnabled
+    no_own s engine number held = rw (no_rule s number held) (by (is_none (get s.frames (Engine engine))))
+      where
+        by : (b : Bool) → (only_if b >> (NotEnabled >>= λ (rule : Rule). only_if (rule.engine == engine) >> Went rule)) ≡ NotEnabled
+        by true = refl
+        by false = refl
+
+    ask_keeps : (s : State) (engine number parameter : ℕ) → IsHeld program typings s → Keeps (ask_event engine number parameter s) (IsHeld program typings)
+    ask_keeps s engine number parameter held = waits_keeps (ask_event engine number parameter s) (IsHeld program typings) (rw (no_own s engine number held) refl)
+
+    release_keeps : (s : State) (engine number : ℕ) → IsHeld program typings s → Keeps (release_event program engine number s) (IsHeld program typings)
+    release_keeps s engine number held = waits_keeps (release_event program engine number s) (IsHeld program typings) (rw (no_own s engine number held) refl)
+
+    deliver_keeps : (s : State) (server : ℕ) (notice : Notice) → IsHeld program typings s → Keeps (deliver_event layout server notice s) (IsHeld program typings)
+    deliver_keeps s server notice held =
+        let told : Outcome State = Went (ready_at (record s { notices = set.remove s.notices notice }) notice (get s.rules notice.rule)) in
+        only_if_keeps (nat_lt server layout.servers && (server_of layout.servers notice.datum == server)) (only_if (set.contains s.notices notice) >> told) (IsHeld program typings)
+        (λ own. only_if_keeps (set.contains s.notices notice) told (IsHeld program typings)
+        (λ some. let none : set.contains s.notices notice ≡ false = ap (λ (notices : Notices). set.contains notices notice) held.waits.notices ∙ set.contains-empty notice_cmp notice in absurd (true_false (sym some ∙ none))))
+      where
+        true_false : true ≡ false → ⊥
+        true_false e = cc
+
     pub step_keeps : (event : Event) (s : State) → IsHeld program typings s → Keeps (step program layout event s) (IsHeld program typings)
     unfolding step
     step_keeps (Take actor) s held = take_keeps s actor held
     step_keeps (Local actor n) s held = local_keeps s actor n held
     step_keeps (Call actor) s held = call_keeps s actor held
     step_keeps (End actor) s held = end_keeps s actor held
-    step_keeps (Ask engine rule parameter) s held = tt
-    step_keeps (Deliver server datum rule parameter) s held = tt
-    step_keeps (Release engine rule) s held = tt
+    step_keeps (Ask engine rule parameter) s held = ask_keeps s engine rule parameter held
+    step_keeps (Deliver server datum rule parameter) s held = deliver_keeps s server (record { datum = datum; rule = rule; parameter = parameter }) held
+    step_keeps (Release engine rule) s held = release_keeps s engine rule held
 
     -- ---- runs
 

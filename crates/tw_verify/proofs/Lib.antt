@@ -1,12 +1,12 @@
 pub mod OneMore
 pub mod Lowest
+pub mod Asking
 pub mod Lists
 pub mod Places
 pub mod Typings
 pub mod Reaching
 pub mod Mistakes
 pub mod Programs
-pub mod Needs
 pub mod Scalars
 pub mod Aging
 pub mod Over

@@ -18,6 +18,14 @@ lower-lowest n None second = refl
 lower-lowest n (Some m) None = refl
 lower-lowest n (Some m) (Some k) = lower_twice n m k
 
+pub lowest_nothing : (first : Option ℕ) → lowest_of first None ≡ first
+lowest_nothing None = refl
+lowest_nothing (Some n) = refl
+
+pub lowest_of_three : (first second third : Option ℕ) → lowest_of (lowest_of first second) third ≡ lowest_of first (lowest_of second third)
+lowest_of_three None second third = refl
+lowest_of_three (Some n) second third = ap Some (sym (lower-lowest n second third))
+
 pub refusal_in-append : (xs ys : List Question) → refusal_in (xs ++ ys) ≡ lowest_of (refusal_in xs) (refusal_in ys)
 refusal_in-append [] ys = refl
 refusal_in-append (q ∷ xs) ys =

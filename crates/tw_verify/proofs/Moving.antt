@@ -104,6 +104,8 @@ no_close (on_data.DropWrite right) e = cc
 close_same : (program : List Procedure) (i : Instr) (way : Way) (typing : Typing) → flow_of i ≡ Close → after program way i typing ≡ typing
 close_same program (instr.Local i) way typing e = refl
 close_same program (instr.Data i) way typing e = absurd (no_close i e)
+close_same program (instr.Rule action) way typing e = cc
+close_same program (instr.Put action) way typing e = cc
 close_same program instr.Ret way typing e = cc
 
 -- ---- a procedure of an accepted program that is simple

@@ -15,6 +15,7 @@ use Rattle.tw_types.specs.declared.param.Param.{Param}
 use Rattle.tw_types.specs.Actor.{actor_cmp}
 use Rattle.tw_types.specs.DataType.{IsDataType, container_of, is_scalar}
 use Rattle.tw_types.specs.Nesting.{NestedScalar}
+use Rattle.tw_types.specs.Rule.{Rule}
 use Rattle.tw_types.specs.Store.{Unset, Contains, Datum, Store, empty_store, empty_content, new_datum, added, members_of}
 use Rattle.tw_types.specs.Task.{Arg, RightArg, Task}
 use Rattle.tw_code.specs.declared.procedure.Procedure.{Procedure}
@@ -24,9 +25,9 @@ use Rattle.tw_code.specs.machine.Opening.{Opened, with_output, opened, main_task
 use Rattle.tw_code.specs.format.Program.{IsTypeUnder, IsParam}
 use Rattle.tw_code.specs.machine.Rights.{Right, right_of}
 use Rattle.tw_types.specs.Counts.{hits, count_of, subscripts_in, inside, Balanced, BalancedAt, HasWriters, HaveWriters}
-use Rattle.tw_code.specs.machine.Holders.{read_by, write_by, Typings, task_reads, task_writes, frame_reads, frame_writes}
+use Rattle.tw_code.specs.machine.Holders.{read_by, write_by, Typings, task_reads, task_writes, rule_reads, rule_writes, frame_reads, frame_writes}
 use Rattle.tw_types.specs.TypedStore.{IsOfType, IsTypedStore}
-use Rattle.tw_verify.specs.Invariant.{Holds, ArgFits, ArgsFit, IsHeld}
+use Rattle.tw_verify.specs.Invariant.{Holds, ArgFits, ArgsFit, IsSilent, IsHeld}
 use Rattle.tw_types.specs.Totals.{total}
 use Rattle.tw_types.proofs.Freeing.{hits_same, hits_other, balanced_none, balanced_same, new_balanced, data_insert_same, data_insert_other}
 use Rattle.tw_verify.proofs.Over.{over_params}
@@ -97,6 +98,7 @@ pub record IsOpened (params : List Param) (o : Opened) : Type 0 where
   pub balanced : Balanced o.store.live (λ d. count_of d o.outputs) (λ d. count_of d o.rights)
   pub writers : HaveWriters o.store.live
   pub args : ArgsFit o.store params (map RightArg o.rights)
+  pub silent : IsSilent o.store
 
 args_joined : (s : Store) (params : List Param) (args : List Arg) (p : Param) (arg : Arg) → ArgsFit s params args → ArgFits s p (right_of p) arg → ArgsFit s (params ++ p ∷ []) (args ++ arg ∷ [])
 args_joined s [] [] p arg h f = (f, tt)
@@ -162,6 +164,12 @@ module _ (s : Store) (t : IsTypedStore s) (ty : NestedScalar) (deep : IsDataType
     | inr old ↦ written d x old.1
   ]
 
+  pub silent_new : IsSilent s → IsSilent (added s (new_datum ty))
+  silent_new silent = λ d x at. elim (new_or_before d x at) [
+    | inl new ↦ ap (λ (y : Datum). y.subscribers) (sym new.1)
+    | inr old ↦ silent d x old.1
+  ]
+
 -- an output more
 opened_more : (params : List Param) (o : Opened) (p : Param) → IsOpened params o → is_write p.mode ≡ true → IsParam p → IsOpened (params ++ p ∷ []) (with_output o p.ty)
 opened_more params o p h writes param =
@@ -177,6 +185,7 @@ opened_more params o p h writes param =
     } in
     record {
       store = typed_new o.store h.store p.ty deep (λ d. count_of d o.outputs) (λ d. count_of d o.rights) h.balanced;
+      silent = silent_new o.store h.store p.ty deep (λ d. count_of d o.outputs) (λ d. count_of d o.rights) h.balanced h.silent;
       writers = writers_new o.store h.store p.ty deep (λ d. count_of d o.outputs) (λ d. count_of d o.rights) h.balanced h.writers;
       balanced = new_balanced o.store.live (λ d. count_of d o.outputs) (λ d. count_of d o.rights) (λ d. count_of d (o.outputs ++ id ∷ [])) (λ d. count_of d (o.rights ++ id ∷ [])) id (new_datum p.ty)
           (not_yet o.store h.store) h.balanced (no_members p.ty)
@@ -213,6 +222,7 @@ start_opened = record {
   writers = λ d x e. absurd (nothing_live d x e);
   balanced = record { at = λ d. subst (λ (o : Option Datum). BalancedAt o (inside empty d) 0 0) (sym (get-empty nat_cmp d)) (total-empty nat_cmp (subscripts_in d), refl, refl) };
   args = tt;
+  silent = λ d x e. absurd (nothing_live d x e);
 }
 
 -- ---- the state
@@ -267,12 +277,15 @@ module _ (main : Procedure) (others : List Procedure) (typings : Typings) (o : O
           let w = total_one (task_writes (main ∷ others) d) (main_task o.rights) in
           let no_r : total (frame_reads typings d) (empty {X = Frame} {R = actor_cmp}) ≡ 0 = total-empty actor_cmp (frame_reads typings d) in
           let no_w : total (frame_writes typings d) (empty {X = Frame} {R = actor_cmp}) ≡ 0 = total-empty actor_cmp (frame_writes typings d) in
+          let no_rule_r : total (rule_reads (main ∷ others) d) (empty {X = Rule} {R = nat_cmp}) ≡ 0 = total-empty nat_cmp (rule_reads (main ∷ others) d) in
+          let no_rule_w : total (rule_writes (main ∷ others) d) (empty {X = Rule} {R = nat_cmp}) ≡ 0 = total-empty nat_cmp (rule_writes (main ∷ others) d) in
           (omega (arith, held.0), omega (arith, held.1)));
     };
     budgets = record {
       begun = λ a f p at here. absurd (no_frame a f at);
       within = λ a f p budget at here most. absurd (no_frame a f at);
     };
+    waits = record { rules = refl; notices = refl; silent = h.silent };
   }
     where
       args : (n : ℕ) (u : Task) (p : Procedure) → main_task o.rights ≡ u → slice_get (main ∷ others) u.procedure ≡ Some p → ArgsFit o.store p.params u.args

@@ -93,6 +93,9 @@ names_a_place broken.TypingChanged e = cc
 names_a_place broken.Unreached e = cc
 names_a_place broken.RightLeft e = cc
 names_a_place broken.MisplacedRet e = cc
+names_a_place broken.UnknownProcedure e = cc
+names_a_place broken.ArgumentCount e = cc
+names_a_place broken.ActionInLeaf e = cc
 names_a_place broken.ScalarWrite e = cc
 names_a_place broken.BudgetTooLarge e = cc
 

@@ -21,8 +21,8 @@ use Rattle.tw_code.specs.machine.State.{State, Frame, Frames, with_frame, contex
 use Rattle.tw_code.specs.accepting.Walk.{IsBudget}
 use Rattle.tw_budget.specs.Frames.{IsWithinBudget}
 use Rattle.tw_types.specs.Counts.{count_of}
-use Rattle.tw_code.specs.machine.Holders.{read_by, write_by, over, Typings, typing_at, typing_of, task_reads, task_writes, frame_reads, frame_writes}
-use Rattle.tw_verify.specs.Invariant.{RightsFit, ValuesFit, ArgFits, ArgsFit, AreBegun, ProceduresHeld, TypesHeld, CountsHeld, BudgetsHeld, IsHeld}
+use Rattle.tw_code.specs.machine.Holders.{read_by, write_by, over, Typings, typing_at, typing_of, task_reads, task_writes, rule_reads, rule_writes, frame_reads, frame_writes}
+use Rattle.tw_verify.specs.Invariant.{RightsFit, ValuesFit, ArgFits, ArgsFit, AreBegun, ProceduresHeld, TypesHeld, CountsHeld, BudgetsHeld, NothingWaits, IsHeld}
 use Rattle.tw_types.specs.Totals.{total}
 use Rattle.tw_types.proofs.Freeing.{balanced_same}
 use Rattle.tw_verify.proofs.Moving.{Stands}
@@ -97,10 +97,10 @@ args_kept s t u (p ∷ params) (arg ∷ args) h = (one (right_of p) arg h.0, arg
 
 -- what the others hold
 abbrev pub other_reads : List Procedure → Typings → State → Actor → ℕ → ℕ
-other_reads program typings s a d = total (frame_reads typings d) (remove s.frames a) + (total (task_reads program d) s.tasks + count_of d s.outputs)
+other_reads program typings s a d = total (frame_reads typings d) (remove s.frames a) + (total (task_reads program d) s.tasks + (total (rule_reads program d) s.rules + count_of d s.outputs))
 
 abbrev pub other_writes : List Procedure → Typings → State → Actor → ℕ → ℕ
-other_writes program typings s a d = total (frame_writes typings d) (remove s.frames a) + total (task_writes program d) s.tasks
+other_writes program typings s a d = total (frame_writes typings d) (remove s.frames a) + (total (task_writes program d) s.tasks + total (rule_writes program d) s.rules)
 
 module _ (program : List Procedure) (typings : Typings) (s : State) (a : Actor) (f : Frame) (held : IsHeld program typings s) (is : get s.frames a ≡ Some f) where
   -- its context fits
@@ -179,8 +179,11 @@ module _ (program : List Procedure) (typings : Typings) (s : State) (a : Actor) 
       ];
     }
 
+    waits_on : NothingWaits (gone_on c n)
+    waits_on = record { rules = held.waits.rules; notices = settles.notices held.waits.silent ∙ held.waits.notices; silent = settles.silent held.waits.silent }
+
     pub held_on : IsHeld program typings (gone_on c n)
-    held_on = record { types = types_on; counts = counts_on; budgets = budgets_on }
+    held_on = record { types = types_on; counts = counts_on; budgets = budgets_on; waits = waits_on }
 
   -- ---- a task ends
 
@@ -229,7 +232,7 @@ module _ (program : List Procedure) (typings : Typings) (s : State) (a : Actor) 
     }
 
     pub held_end : IsHeld program typings (record s { frames = remove s.frames a })
-    held_end = record { types = types_end; counts = counts_end; budgets = budgets_end }
+    held_end = record { types = types_end; counts = counts_end; budgets = budgets_end; waits = record { rules = held.waits.rules; notices = held.waits.notices; silent = held.waits.silent } }
 
 -- ---- a task is taken
 
@@ -299,4 +302,4 @@ module _ (program : List Procedure) (typings : Typings) (s : State) (a : Actor) 
   }
 
   pub held_taken : IsHeld program typings taken
-  held_taken = record { types = types_taken; counts = counts_taken; budgets = budgets_taken }
+  held_taken = record { types = types_taken; counts = counts_taken; budgets = budgets_taken; waits = record { rules = held.waits.rules; notices = held.waits.notices; silent = held.waits.silent } }

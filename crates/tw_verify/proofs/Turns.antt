@@ -1,5 +1,5 @@
 -- What each instruction that is asked for in a simple program does: it goes on by itself, or on data, or ends the task.
-use Rattle.std.proofs.Common.{◌≡◌, ℕ, ◌+◌, ◌<◌, ◌==◌, ◌⊎◌, inl, inr, Bool, true, false, not, ◌||◌, List, slice_get, slice_set, Option, Some, None, is_none, refl, sym, ap, ◌∙◌, arith}
+use Rattle.std.proofs.Common.{◌≡◌, ℕ, ◌+◌, ◌<◌, ◌==◌, ◌⊎◌, inl, inr, Bool, true, false, not, ◌||◌, List, [], if◌then◌else◌, map as each, slice_get, slice_set, Option, Some, None, is_none, refl, sym, ap, ◌∙◌, arith}
 use Rattle.std.proofs.lemmas.Bool.{and_parts, ne_eqb}
 use Rattle.std.specs.FinMap.{get}
 use Rattle.std.specs.List.{list_all}
@@ -10,9 +10,11 @@ use Rattle.tw_types.specs.declared.value.Value.{Value}
 use Rattle.tw_types.specs.Nesting.{NestedScalar}
 use Rattle.tw_types.specs.Counts.{hits, HasWriters}
 use Rattle.tw_types.specs.DataType.{is_scalar, same_scalar}
+use Rattle.tw_types.specs.declared.notice.Subscriber.{Subscriber}
 use Rattle.tw_types.specs.Mode.{is_write}
-use Rattle.tw_types.specs.Store.{Content, Unset, Set, Contains, Datum, is_closed, members_of, settled, subscribers_cleared}
-use Rattle.tw_types.specs.StoreCalls.{set_to, store_after}
+use Rattle.tw_types.specs.Notices.{Notices, with_notices}
+use Rattle.tw_types.specs.Store.{Content, Unset, Set, Contains, Datum, Store, is_closed, members_of, notice_to, settled, subscribers_cleared}
+use Rattle.tw_types.specs.StoreCalls.{set_to, store_after, notices_of_stored}
 use Rattle.tw_types.specs.StoreChecks.{is_unset, may_store}
 use Rattle.tw_types.specs.TypedStore.{IsOfType}
 use Rattle.tw_types.specs.Value.{scalar_of}
@@ -33,7 +35,7 @@ use Rattle.tw_code.specs.machine.Local.{local_instr}
 use Rattle.tw_code.specs.machine.Position.{Position}
 use Rattle.tw_code.specs.machine.Rights.{held, right_at, Right, Typing}
 use Rattle.tw_types.proofs.Freeing.{hits_same, hits_other}
-use Rattle.tw_verify.specs.Invariant.{ValuesFit}
+use Rattle.tw_verify.specs.Invariant.{ValuesFit, IsSilent}
 use Rattle.tw_verify.specs.Simple.{is_store, is_simple_instr}
 use Rattle.tw_verify.proofs.Aging.{Aged}
 use Rattle.tw_verify.proofs.Registers.{Fits, Settles, At, at_right, aged_context, emptied, rights_set}
@@ -52,7 +54,7 @@ cleared_aged : (x y : Datum) → Aged x y → Aged x (subscribers_cleared y)
 cleared_aged x y a = by (is_closed y) refl
   where
     by : (b : Bool) → is_closed y ≡ b → Aged x (subscribers_cleared y)
-    by true e = rw e (record { ty = a.ty; members = a.members; closed = λ t. e; content = a.content; writers = a.writers })
+    by true e = rw e (record { ty = a.ty; members = a.members; closed = λ t. e; content = a.content; writers = a.writers; silent = λ z. refl })
     by false e = rw e a
 
 cleared_counts : (y : Datum) → ((subscribers_cleared y).reads ≡ y.reads) × ((subscribers_cleared y).writes ≡ y.writes)
@@ -61,6 +63,14 @@ cleared_counts y = by (is_closed y) refl
     by : (b : Bool) → is_closed y ≡ b → ((subscribers_cleared y).reads ≡ y.reads) × ((subscribers_cleared y).writes ≡ y.writes)
     by true e = rw e (refl, refl)
     by false e = rw e (refl, refl)
+
+-- none becomes a notice where there is none
+nothing_told : (s : Store) (notices : Notices) (id : ℕ) (value : Value) (x : Datum) → get s.live id ≡ Some x → x.subscribers ≡ [] → with_notices notices (notices_of_stored s id value) ≡ notices
+nothing_told s notices id value x live none = rw live (by (is_closed (set_to value x)))
+  where
+    by : (b : Bool) → with_notices notices (if b then each (notice_to id) x.subscribers else []) ≡ notices
+    by true = ap (λ (xs : List Subscriber). with_notices notices (each (notice_to id) xs)) none
+    by false = refl
 
 -- ---- STORE
 
@@ -90,6 +100,7 @@ module _ (registers : List Scalar) (typing : Typing) (c : Context) (r w : ℕ �
       let live : (store_after c.store h.id (set_to x)).live ≡ settled c.store.live h.id (subscribers_cleared (set_to x h.x)) = rw h.live refl in
       let next : (store_after c.store h.id (set_to x)).next ≡ c.store.next = rw h.live refl in
       let here : datum_at c d ≡ Some h.x = ap (λ o. option_and_then (get c.store.live) (option_flatten o)) h.register ∙ h.live in
+      let unsaid : IsSilent c.store → with_notices c.notices (notices_of_stored c.store h.id x) ≡ c.notices = λ silent. nothing_told c.store c.notices h.id x h.x h.live (silent h.id h.x h.live) in
       let fine : suits x (datum_at c d) ≡ true = ap (suits x) here ∙ rw (x_scalar, same) refl in
       goes (ok_or (slice_get c.position.values from) WrongRegister) _ _ x (at_some _ WrongRegister x at_from)
       (goes_must (suits x (datum_at c d)) WrongRegister _ _ fine
@@ -98,9 +109,9 @@ module _ (registers : List Scalar) (typing : Typing) (c : Context) (r w : ℕ �
       (record {
         moves = record { way = Done; goes_on = refl; values = values };
         settles = aged_context typing (slice_set typing d None) c _ r w h.id h.x (subscribers_cleared (set_to x h.x)) fits h.live
-            (cleared_aged h.x (set_to x h.x) (record { ty = refl; members = ap members_of (sym unset.0); closed = λ z. refl; content = λ z. (x_scalar, of_x); writers = λ z. omega (arith, unset.1) }))
+            (cleared_aged h.x (set_to x h.x) (record { ty = refl; members = ap members_of (sym unset.0); closed = λ z. refl; content = λ z. (x_scalar, of_x); writers = λ z. omega (arith, unset.1); silent = λ z. z }))
             (λ e ne. (let s = sum_r e in omega arith, let no_hit = hits_other e h.id (λ z. ne (sym z)) in let s = sum_w e in omega arith))
-            (omega (arith, h.reads, counts.0)) (omega (arith, h.writes, counts.1)) live next (rights_set c.store typing c.rights d None None fits.rights tt);
+            (omega (arith, h.reads, counts.0)) (omega (arith, h.writes, counts.1)) live next (rights_set c.store typing c.rights d None None fits.rights tt) unsaid;
       }))))
 
   store_leaves : (d from : ℕ) → AllYes (asks_data registers (on_data.Store d from) typing) → Goes (data_instr (on_data.Store d from) c) (Leaves registers (on_data.Store d from) typing c r w)
@@ -157,4 +168,6 @@ IsTurn p i typing = IsLocal p i ⊎ (IsCall p i typing ⊎ IsEnd i typing)
 pub turn : (program : List Procedure) (p : Procedure) (i : Instr) (typing : Typing) → is_simple_instr i ≡ true → AllYes (asks program p i typing) → IsTurn p i typing
 turn program p (instr.Local i) typing simple met = inl (record { local = i; is = refl; moves = λ at fits loop. local_moves p.registers at fits i met loop })
 turn program p (instr.Data i) typing simple met = inr (inl (record { on = i; is = refl; leaves = λ c r w fits values. data_leaves p.registers typing c r w fits values i simple met }))
+turn program p (instr.Rule action) typing simple met = cc
+turn program p (instr.Put action) typing simple met = cc
 turn program p instr.Ret typing simple met = inr (inr (record { is = refl; empty = met.0 }))

@@ -1,6 +1,7 @@
 -- What holds of each state that an accepted program reaches, in parts.
 use Rattle.std.specs.Prelude.{◌≡◌, ℕ, ◌+◌, ◌<◌, true, List, [], ◌∷◌, Option, Some, None, slice_get}
-use Rattle.std.specs.FinMap.{get}
+use Rattle.std.specs.FinMap.{get, empty}
+use Rattle.std.specs.FinSet as set
 use Rattle.tw_types.specs.declared.actor.Actor.{Actor}
 use Rattle.tw_types.specs.declared.data_type.Scalar.{Scalar}
 use Rattle.tw_types.specs.declared.param.Param.{Param}
@@ -69,6 +70,10 @@ abbrev pub AreBegun : List Flow → List Loop → Type 0
 AreBegun code [] = Unit {0}
 AreBegun code (inner ∷ outer) = ((begin : ℕ) × (turns : ℕ) × (inner.first ≡ begin + 1) × (slice_get code begin ≡ Some (Begin turns))) × AreBegun code outer
 
+-- no datum has a subscriber
+abbrev pub IsSilent : Store → Type 0
+IsSilent s = (id : ℕ) (x : Datum) → get s.live id ≡ Some x → x.subscribers ≡ []
+
 -- ---- the parts
 
 -- each task that runs or waits is of a procedure
@@ -95,8 +100,15 @@ pub record BudgetsHeld (program : List Procedure) (s : State) : Type 0 where
   pub within : (actor : Actor) (frame : Frame) (p : Procedure) (budget : ℕ) → get s.frames actor ≡ Some frame → slice_get program frame.procedure ≡ Some p → IsBudget (flows p.code) budget
       → IsWithinBudget (flows p.code) budget frame.spent frame.position.place frame.position.loops
 
+-- there are no rules and no notices, and no datum has a subscriber
+pub record NothingWaits (s : State) : Type 0 where
+  pub rules : s.rules ≡ empty
+  pub notices : s.notices ≡ set.empty
+  pub silent : IsSilent s.store
+
 -- all of them
 pub record IsHeld (program : List Procedure) (typings : Typings) (s : State) : Type 0 where
   pub types : TypesHeld program typings s
   pub counts : CountsHeld program typings s
   pub budgets : BudgetsHeld program s
+  pub waits : NothingWaits s

@@ -24,6 +24,8 @@ is_store (on_data.DropWrite right) = false
 abbrev pub is_simple_instr : Instr → Bool
 is_simple_instr (instr.Local i) = true
 is_simple_instr (instr.Data i) = is_store i
+is_simple_instr (instr.Rule action) = false
+is_simple_instr (instr.Put action) = false
 is_simple_instr instr.Ret = true
 
 -- a program of such instructions alone

@@ -4,10 +4,13 @@
 //! place, and a budget, how many instructions a task may do; a refused one comes back with its first refusal.
 #![tactic(auto)]
 
+mod arguments;
 mod fault;
 mod findings;
+mod instructions;
 mod laws;
 mod loops;
+mod needs;
 mod pass;
 mod questions;
 mod refusal;

@@ -1,21 +1,13 @@
 //! Where loops begin and end.
 
-ghost use Rattle.std.specs.Prelude.{◌≡◌, ℕ, ◌+◌, ◌<◌, ◌≤◌, [], ◌∷◌, Some, length, slice_get, IfOk, ◌^◌};
+ghost use Rattle.std.specs.Prelude.{◌≡◌, ℕ, ◌+◌, ◌<◌, ◌≤◌, [], ◌∷◌, Some, length, IfOk, ◌^◌};
 ghost use Rattle.tw_code.specs.accepting.Flow.{flows};
 ghost use Rattle.tw_code.specs.accepting.Structure.{end_of, depth_after, depth_of, block_of};
 ghost use Rattle.tw_code.specs.accepting.WellTyped.{IsEndOf};
 ghost use Rattle.tw_verify.specs.Loops.{EndsFrom, DepthsTo, AreFirsts, AreLoops};
 
 use std::alloc::{AllocError, Global};
-use tw_code::{Flow, Instr};
-
-/// What follows the instruction at a place.
-pub(crate) fn flow_at(code: &[Instr], place: usize) -> Flow
-    requires { place < length code.now }
-    ensures { slice_get (flows code.now) place ≡ Some result }
-{
-    code[place].flow()
-}
+use tw_code::{Flow, Instr, flow_at};
 
 fn end_known(code: &[Instr], ends: &[Option<usize>], from: usize, place: usize) -> Option<usize>
     requires ahead { from ≤ place }

@@ -16,8 +16,9 @@ ghost use Rattle.tw_verify.specs.Verified.{AreFindings};
 
 use crate::fault::{Fault, keep};
 use crate::findings::Findings;
+use crate::instructions::place_refusal;
 use crate::loops::Loops;
-use crate::questions::{lowest, place_refusal};
+use crate::questions::lowest;
 use crate::rows::{Reached, first_rows, row_at, send_both};
 use crate::structure::ask_structure;
 use crate::typing::Typing;

@@ -32,6 +32,12 @@ pub enum VerifyRefusal {
     RightLeft,
     /// V11.
     MisplacedRet,
+    /// V12.
+    UnknownProcedure,
+    /// V13.
+    ArgumentCount,
+    /// V14.
+    ActionInLeaf,
     /// V15.
     ScalarWrite,
     /// V16.
@@ -59,6 +65,9 @@ impl VerifyRefusal {
             VerifyRefusal::Unreached => 9,
             VerifyRefusal::RightLeft => 10,
             VerifyRefusal::MisplacedRet => 11,
+            VerifyRefusal::UnknownProcedure => 12,
+            VerifyRefusal::ArgumentCount => 13,
+            VerifyRefusal::ActionInLeaf => 14,
             VerifyRefusal::ScalarWrite => 15,
             VerifyRefusal::MainShape => 16,
             VerifyRefusal::BudgetTooLarge => 17,

@@ -8,9 +8,9 @@ ghost use Rattle.tw_verify.specs.Loops.{AreLoops};
 ghost use Rattle.tw_verify.specs.Passes.{IfFault, violation_number};
 
 use crate::fault::Fault;
-use crate::loops::{Loops, flow_at};
+use crate::loops::Loops;
 use crate::violation::Violation;
-use tw_code::{Flow, Instr};
+use tw_code::{Flow, Instr, flow_at};
 
 /// How many loops may stand in one another.
 const MAX_DEPTH: usize = 4;

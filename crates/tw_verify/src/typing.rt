@@ -1,16 +1,17 @@
 //! What the right registers hold.
 
-ghost use Rattle.std.specs.Prelude.{◌≡◌, ◌≤◌, ◌<◌, length, Some, is_none, slice_set};
-ghost use Rattle.std.specs.List.{list_all};
+ghost use Rattle.std.specs.Prelude.{◌≡◌, ◌≤◌, ◌<◌, ◌∷◌, [], length, Some, is_none, slice_set};
+ghost use Rattle.std.specs.List.{list_all, AllByRecursion};
 ghost use Rattle.std.specs.Option.{option_and_then};
 ghost use Rattle.tw_types.specs.DataType.{element_of};
-ghost use Rattle.tw_code.specs.format.Program.{IsDataInstr, IsInstr};
+ghost use Rattle.tw_code.specs.format.Program.{IsAction, IsDataInstr, IsInstr, IsRegister};
+ghost use Rattle.tw_code.specs.machine.Arguments.{params_of};
 ghost use Rattle.tw_code.specs.machine.Rights.{right_at};
-ghost use Rattle.tw_code.specs.accepting.Typing.{start_typing, is_free, writes, writes_scalar, writes_container, reads, reads_closed_scalar, reads_closed_container, reads_member_of, a_write, a_read, after_data, after};
+ghost use Rattle.tw_code.specs.accepting.Typing.{start_typing, is_free, writes, writes_scalar, writes_container, reads, reads_closed_scalar, reads_closed_container, reads_member_of, a_write, a_read, may_stand_for, after_data, without_args, after};
 ghost use Rattle.tw_verify.specs.Passes.{same_typing};
 
 use std::marker::Model;
-use tw_code::{DataInstr, Instr, Procedure, Way};
+use tw_code::{Action, DataInstr, Instr, Procedure, Way};
 use tw_types::{DataType, Mode, Param};
 
 /// A right on a datum of a type.
@@ -106,6 +107,20 @@ impl Right {
         ensures { result ≡ reads_closed_container self }
     {
         self.mode == Mode::Closed && !self.ty.is_scalar()
+    }
+
+    /// Whether it may be given for a parameter. For a `closed` one any read may be, if the task waits for its data.
+    pub(crate) fn may_stand_for(self, waits: bool, param: Param) -> bool
+        ensures { result ≡ may_stand_for waits param self }
+    {
+        let suits = match param.mode {
+            Mode::Val => false,
+            Mode::Closed if waits => self.reads(),
+            Mode::Closed => self.mode == Mode::Closed,
+            Mode::Ref => self.reads(),
+            Mode::Write => self.mode.is_write(),
+        };
+        suits && self.ty == param.ty
     }
 
     /// Whether it reads what that container has as members.
@@ -225,6 +240,41 @@ impl Typing {
         }
     }
 
+    /// Without the argument that stands for a parameter, if that is a right.
+    pub(crate) fn without(self, param: Param, arg: u8) -> Typing
+        requires { IsRegister arg }
+        ensures { result ≡ without_args (param ∷ []) (arg ∷ []) self }
+    {
+        if param.mode.is_val() {
+            self
+        } else {
+            self.with(arg, None)
+        }
+    }
+
+    /// Without the arguments that are rights.
+    fn without_args(self, params: &[Param], args: &[u8]) -> Typing
+        requires { AllByRecursion IsRegister args.now }
+        ensures { result ≡ without_args params.now args.now self }
+    {
+        let mut left = self;
+        for (param, arg) in params.iter().zip(args) {
+            left = left.without(*param, *arg);
+        }
+        left
+    }
+
+    /// The typing after RULE and PUT: the rights among the arguments are given away.
+    fn after_action(self, procedures: &[Procedure], action: &Action) -> Typing
+        requires { IsAction action.now }
+        ensures { result ≡ without_args (params_of procedures.now action.now.procedure) action.now.args self }
+    {
+        match procedures.get(action.procedure as usize) {
+            Some(callee) => self.without_args(callee.params.as_slice(), action.args.as_slice()),
+            None => self,
+        }
+    }
+
     /// The typing after an instruction that goes on by this outcome.
     pub(crate) fn after(self, procedures: &[Procedure], way: Way, instr: &Instr) -> Typing
         requires { IsInstr instr.now }
@@ -233,6 +283,7 @@ impl Typing {
         match instr {
             Instr::Local(_) | Instr::Ret => self,
             Instr::Data(instr) => self.after_data(way, *instr),
+            Instr::Rule(action) | Instr::Put(action) => self.after_action(procedures, action),
         }
     }
 }

@@ -19,6 +19,9 @@ pub(crate) enum Violation {
     Unreached,
     RightLeft,
     MisplacedRet,
+    UnknownProcedure,
+    ArgumentCount,
+    ActionInLeaf,
     ScalarWrite,
     BudgetTooLarge,
 }
@@ -40,6 +43,9 @@ impl Violation {
             Violation::Unreached => VerifyRefusal::Unreached,
             Violation::RightLeft => VerifyRefusal::RightLeft,
             Violation::MisplacedRet => VerifyRefusal::MisplacedRet,
+            Violation::UnknownProcedure => VerifyRefusal::UnknownProcedure,
+            Violation::ArgumentCount => VerifyRefusal::ArgumentCount,
+            Violation::ActionInLeaf => VerifyRefusal::ActionInLeaf,
             Violation::ScalarWrite => VerifyRefusal::ScalarWrite,
             Violation::BudgetTooLarge => VerifyRefusal::BudgetTooLarge,
         }

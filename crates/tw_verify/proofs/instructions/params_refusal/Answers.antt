@@ -5,8 +5,8 @@ use Rattle.tw_types.specs.declared.data_type.Scalar.{Scalar}
 use Rattle.tw_types.specs.DataType.{same_scalar}
 use Rattle.tw_code.specs.accepting.Typing.{value_types, values_fit}
 use Rattle.tw_verify.proofs.OneMore.{next_value, next_right, next_fits}
-use Rattle.tw_verify.proofs.questions.params_refusal.Goals as goal
-use Rattle.tw_verify.proofs.questions.params_refusal.Goals.{then-is_val, else-is_val}
+use Rattle.tw_verify.proofs.instructions.params_refusal.Goals as goal
+use Rattle.tw_verify.proofs.instructions.params_refusal.Goals.{then-is_val, else-is_val}
 
 pub loop-param-preserved : goal.loop-param-preserved
 loop-param-preserved c =

@@ -1,6 +1,6 @@
 use Rattle.std.proofs.Common.{◌≡◌, ◌≤◌, length, take}
 use Rattle.tw_code.specs.accepting.Typing.{value_types, values_fit}
-use Rattle.tw_verify.proofs.questions.params_refusal.Given as goal
+use Rattle.tw_verify.proofs.instructions.params_refusal.Given as goal
 
 -- the value parameters so far
 abbrev pub invariant-loop-param : goal.invariant-loop-param

@@ -4,7 +4,7 @@ use Rattle.tw_code.specs.accepting.Question.{refusal_in}
 use Rattle.tw_code.specs.accepting.Typing.{asks_params, asks, asks_at}
 use Rattle.tw_verify.specs.Passes.{lowest_of, violation_number}
 use Rattle.tw_verify.proofs.Lowest.{refusal_in-append}
-use Rattle.tw_verify.proofs.questions.place_refusal.Goals as goal
+use Rattle.tw_verify.proofs.instructions.place_refusal.Goals as goal
 
 pub returns-then-place-eq0 : goal.returns-then-place-eq0
 returns-then-place-eq0 c =
