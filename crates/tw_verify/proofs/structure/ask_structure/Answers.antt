@@ -1,0 +1,26 @@
+use Rattle.std.proofs.Common.{◌≡◌, ℕ, ◌+◌, ◌<◌, ◌≤◌, ◌⊎◌, inl, inr, length, None, ap, subst, sym, ◌∙◌, arith}
+use Rattle.std.proofs.lemmas.Bool.{cases_lt}
+use Rattle.std.proofs.lemmas.List.{length-map}
+use Rattle.std.proofs.lemmas.Option.{slice_get_past}
+use Rattle.std.specs.Option.{option_and_then, option_map}
+use Rattle.tw_code.specs.accepting.Flow.{flow_of, flows}
+use Rattle.tw_code.specs.accepting.Structure.{structure_refusal, structure_refusal_at}
+use Rattle.tw_verify.specs.Passes.{violation_number}
+use Rattle.tw_verify.proofs.structure.ask_structure.Goals as goal
+
+pub loop-place-preserved : goal.loop-place-preserved
+loop-place-preserved c = λ k before. by k before (cases_lt k c.loop-place.place)
+  where
+    here : structure_refusal_at (flows c.args.code.now) c.loop-place.place ≡ None
+    here = sym c.structure_refusal.ensures ∙ ap (option_map violation_number) c.in_default.is
+
+    by : (k : ℕ) → k < c.loop-place.place + 1 → (k < c.loop-place.place) ⊎ (c.loop-place.place ≤ k) → structure_refusal_at (flows c.args.code.now) k ≡ None
+    by k before (inl earlier) = c.loop-place.invariant k earlier
+    by k before (inr later) = let same : c.loop-place.place ≡ k = omega arith in subst (λ (n : ℕ). structure_refusal_at (flows c.args.code.now) n ≡ None) same here
+
+pub returns-clause-accepted : goal.returns-clause-accepted
+returns-clause-accepted c = λ place. by place (cases_lt place c.loop-place.place)
+  where
+    by : (place : ℕ) → (place < c.loop-place.place) ⊎ (c.loop-place.place ≤ place) → structure_refusal_at (flows c.args.code.now) place ≡ None
+    by place (inl within) = c.loop-place.invariant place within
+    by place (inr past) = ap (option_and_then (structure_refusal (flows c.args.code.now) place)) (slice_get_past (flows c.args.code.now) place (omega (arith, length-map c.args.code.now flow_of, c.loop-place-test.false)))
