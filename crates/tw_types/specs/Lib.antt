@@ -1,6 +1,7 @@
 -- What a reader must believe of types, values and the store, in the order in which the files stand on one another: the
 -- limits of types, texts and layouts, the order of the actors, what each call of a store asks and leaves, which task an
--- actor takes. For the law on counts besides: Totals and Counts. TypedStore serves the laws of the crates above.
+-- actor takes, what an engine asks and releases next. For the law on counts besides: Totals and Counts. TypedStore serves
+-- the laws of the crates above.
 pub mod Nesting
 pub mod DataType
 pub mod Text
