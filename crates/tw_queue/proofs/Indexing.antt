@@ -1,0 +1,249 @@
+-- How the index of the ranks is kept where a task comes or goes.
+use Rattle.std.proofs.Common.{◌≡◌, ◌⊎◌, inl, inr, ℕ, Bool, true, false, ◌∷◌, refl, sym, subst, ◌∙◌, map, nat_eq, arith}
+use Rattle.std.specs.declared.option.Option.{Option}
+use Rattle.std.specs.declared.option.Option.TheVariants.{None, Some}
+use Rattle.std.specs.List.{Contains, IsDistinct}
+use Rattle.std.specs.List.Sorted.{IsPermutation}
+use Rattle.std.proofs.lemmas.List.Sorted.{Contains-permutation, IsPermutation-sym, IsPermutation-map}
+use Rattle.std.proofs.lemmas.Map.Keys.{IsDistinct-IsPermutation, IsDistinct-cons, IsDistinct-head, IsDistinct-tail}
+use Rattle.std.proofs.lemmas.Bool.Decides.{nat_tests}
+use Rattle.tw_types.specs.declared.actor.Kind.{Kind}
+use Rattle.tw_queue.specs.declared.rank.Rank.{Rank}
+use Rattle.tw_queue.specs.declared.queues.Waiting.{Waiting}
+use Rattle.tw_queue.specs.Lists.{place_of}
+use Rattle.tw_queue.specs.Index.{Ranking, IsHereOrSame}
+use Rattle.tw_queue.specs.Queues.{IsTarget}
+use Rattle.tw_queue.specs.Indexed.{IsIndex, IsEntryAt, rank_of}
+use Rattle.tw_queue.proofs.Members.{contains_here, contains_later, contains_cases, all_numbers, all_at, mapped_has}
+
+-- the task of a number
+abbrev pub Entries : Type 0
+Entries = ℕ → Option Waiting
+
+abbrev pub number_of : Rank → ℕ
+number_of rank = rank.number
+
+pub nat_apart : (a b : ℕ) → (a ≡ b → ⊥) → nat_eq a b ≡ false
+nat_apart a b h = grind (arith, nat_tests)
+
+pub nat_same : (a b : ℕ) → nat_eq a b ≡ true → a ≡ b
+nat_same a b h = grind (arith, nat_tests)
+
+pub nat_itself : (a : ℕ) → nat_eq a a ≡ true
+nat_itself a = grind (arith, nat_tests)
+
+pub nat_flips : (a b : ℕ) → nat_eq a b ≡ nat_eq b a
+nat_flips a b = by (nat_eq a b) (nat_eq b a) refl refl
+  where
+    by : (p q : Bool) → nat_eq a b ≡ p → nat_eq b a ≡ q → p ≡ q
+    by true true h k = refl
+    by false false h k = refl
+    by true false h k =
+        let t = nat_itself a in
+        let u : nat_eq b a ≡ true = subst (λ x. nat_eq x a ≡ true) (nat_same a b h) t in
+        cc
+    by false true h k =
+        let t = nat_itself b in
+        let u : nat_eq a b ≡ true = subst (λ x. nat_eq x b ≡ true) (nat_same b a k) t in
+        cc
+
+entry_is : (kind : Kind) (place : ℕ) (rank : Rank) (o : Option Waiting) (w : Waiting) → IsEntryAt kind place rank o → o ≡ Some w → IsEntryAt kind place rank (Some w)
+entry_is kind place rank o w h e = subst (IsEntryAt kind place rank) e h
+
+no_entry : (kind : Kind) (place : ℕ) (rank : Rank) (o : Option Waiting) → IsEntryAt kind place rank o → o ≡ None → ⊥
+no_entry kind place rank o h e = subst (IsEntryAt kind place rank) e h
+
+-- another entry at this number alone
+pub record IsUpdated (number : ℕ) (w : Option Waiting) (old new : Entries) : Type 0 where
+  pub here : new number ≡ w
+  pub others : (q : ℕ) → (number ≡ q → ⊥) → new q ≡ old q
+
+moved_here : (ranks : Ranking) (kind k : Kind) (place p : ℕ) (rank : Rank) → k ≡ kind → p ≡ place → Contains (ranks k p) rank → Contains (ranks kind place) rank
+moved_here ranks kind k place p rank ek ep c = subst (λ x. Contains (ranks x place) rank) ek (subst (λ x. Contains (ranks k x) rank) ep c)
+
+moved_back : (ranks : Ranking) (kind k : Kind) (place p : ℕ) (rank : Rank) → k ≡ kind → p ≡ place → Contains (ranks kind place) rank → Contains (ranks k p) rank
+moved_back ranks kind k place p rank ek ep c = subst (λ x. Contains (ranks x p) rank) (sym ek) (subst (λ x. Contains (ranks kind x) rank) (sym ep) c)
+
+distinct_at : (ranks : Ranking) (kind k : Kind) (place p : ℕ) → k ≡ kind → p ≡ place → IsDistinct nat_eq (map number_of (ranks kind place)) → IsDistinct nat_eq (map number_of (ranks k p))
+distinct_at ranks kind k place p ek ep d = subst (λ x. IsDistinct nat_eq (map number_of (ranks x p))) (sym ek) (subst (λ x. IsDistinct nat_eq (map number_of (ranks kind x))) (sym ep) d)
+
+-- ---- a task comes
+
+module _ (old new : Entries) (less more : Ranking) (is : IsIndex old less) (kind : Kind) (place : ℕ)
+    (number : ℕ) (w : Waiting) (others : IsHereOrSame kind place less more) (added : IsPermutation (rank_of number w ∷ less kind place) (more kind place)) (updated : IsUpdated number (Some w) old new) (free : old number ≡ None)
+    (at_kind : w.kind ≡ kind) (at_place : place_of w.target ≡ place) where
+  other_number : (k : Kind) (p : ℕ) (rank : Rank) → Contains (less k p) rank → number ≡ rank.number → ⊥
+  other_number k p rank c e = no_entry k p rank (old rank.number) (is.sound k p rank c) (subst (λ q. old q ≡ None) e free)
+
+  was_sound : (k : Kind) (p : ℕ) (rank : Rank) → Contains (less k p) rank → IsEntryAt k p rank (new rank.number)
+  was_sound k p rank c = subst (IsEntryAt k p rank) (sym (updated.others rank.number (other_number k p rank c))) (is.sound k p rank c)
+
+  grown_cases : (rank : Rank) → Contains (more kind place) rank → (rank_of number w ≡ rank) ⊎ Contains (less kind place) rank
+  grown_cases rank c = contains_cases (rank_of number w) (less kind place) rank (Contains-permutation _ _ rank (IsPermutation-sym _ _ added) c)
+
+  grown_has : (rank : Rank) → Contains (rank_of number w ∷ less kind place) rank → Contains (more kind place) rank
+  grown_has rank c = Contains-permutation _ _ rank added c
+
+  still_there : (k : Kind) (p : ℕ) (rank : Rank) → Contains (less k p) rank → Contains (more k p) rank
+  still_there k p rank c = by (others k p)
+    where
+      by : ((k ≡ kind) × (p ≡ place)) ⊎ (more k p ≡ less k p) → Contains (more k p) rank
+      by (inl at) = moved_back more kind k place p rank at.0 at.1 (grown_has rank (contains_later (rank_of number w) (less kind place) rank (moved_here less kind k place p rank at.0 at.1 c)))
+      by (inr same) = subst (λ xs. Contains xs rank) (sym same) c
+
+  own_entry : IsEntryAt kind place (rank_of number w) (new number)
+  own_entry = subst (IsEntryAt kind place (rank_of number w)) (sym updated.here) (at_kind, at_place, refl)
+
+  put_sound : (k : Kind) (p : ℕ) (rank : Rank) → Contains (more k p) rank → IsEntryAt k p rank (new rank.number)
+  put_sound k p rank c = by (others k p)
+    where
+      own : (rank_of number w ≡ rank) ⊎ Contains (less kind place) rank → IsEntryAt kind place rank (new rank.number)
+      own (inl e) = subst (λ r. IsEntryAt kind place r (new r.number)) e own_entry
+      own (inr d) = was_sound kind place rank d
+
+      by : ((k ≡ kind) × (p ≡ place)) ⊎ (more k p ≡ less k p) → IsEntryAt k p rank (new rank.number)
+      by (inl at) = subst (λ x. IsEntryAt x p rank (new rank.number)) (sym at.0) (subst (λ x. IsEntryAt kind x rank (new rank.number)) (sym at.1)
+          (own (grown_cases rank (moved_here more kind k place p rank at.0 at.1 c))))
+      by (inr same) = was_sound k p rank (subst (λ xs. Contains xs rank) same c)
+
+  put_complete : (q : ℕ) (v : Waiting) → new q ≡ Some v → Contains (more v.kind (place_of v.target)) (rank_of q v)
+  put_complete q v e = by (nat_eq number q) refl
+    where
+      by : (b : Bool) → nat_eq number q ≡ b → Contains (more v.kind (place_of v.target)) (rank_of q v)
+      by true t =
+          let one : number ≡ q = nat_same number q t in
+          let here = updated.here in
+          let there : new number ≡ Some v = subst (λ x. new x ≡ Some v) (sym one) e in
+          let same : w ≡ v = cc in
+          subst (λ x. Contains (more v.kind (place_of v.target)) (rank_of x v)) one
+          (subst (λ x. Contains (more x.kind (place_of x.target)) (rank_of number x)) same
+          (moved_back more kind w.kind place (place_of w.target) (rank_of number w) at_kind at_place (grown_has (rank_of number w) (contains_here (rank_of number w) (less kind place)))))
+      by false t =
+          let apart : number ≡ q → ⊥ = λ h. let u = nat_itself q in let z : nat_eq number q ≡ true = subst (λ x. nat_eq x q ≡ true) (sym h) u in cc in
+          still_there v.kind (place_of v.target) (rank_of q v) (is.complete q v (sym (updated.others q apart) ∙ e))
+
+  put_distinct : (k : Kind) (p : ℕ) → IsDistinct nat_eq (map number_of (more k p))
+  put_distinct k p = by (others k p)
+    where
+      by : ((k ≡ kind) × (p ≡ place)) ⊎ (more k p ≡ less k p) → IsDistinct nat_eq (map number_of (more k p))
+      by (inl at) = distinct_at more kind k place p at.0 at.1
+          (IsDistinct-IsPermutation nat_eq nat_flips _ _ (IsPermutation-map number_of _ _ added)
+          (IsDistinct-cons nat_eq number (map number_of (less kind place)) (all_numbers (λ q. nat_eq number q ≡ false) number_of (less kind place) (λ rank c. nat_apart number rank.number (other_number kind place rank c)))
+          (is.distinct kind place)))
+      by (inr same) = subst (λ xs. IsDistinct nat_eq (map number_of xs)) (sym same) (is.distinct k p)
+
+  pub put_index : w.task.no ≡ number → IsTarget w.target → IsIndex new more
+  put_index named target = record {
+    sound = put_sound;
+    complete = put_complete;
+    distinct = put_distinct;
+    named = put_named;
+  }
+    where
+      put_named : (q : ℕ) (v : Waiting) → new q ≡ Some v → (v.task.no ≡ q) × IsTarget v.target
+      put_named q v e = by (nat_eq number q) refl
+        where
+          by : (b : Bool) → nat_eq number q ≡ b → (v.task.no ≡ q) × IsTarget v.target
+          by true t =
+              let one : number ≡ q = nat_same number q t in
+              let here = updated.here in
+              let there : new number ≡ Some v = subst (λ x. new x ≡ Some v) (sym one) e in
+              let same : w ≡ v = cc in
+              subst (λ x. (x.task.no ≡ q) × IsTarget x.target) same (named ∙ one, target)
+          by false t =
+              let apart : number ≡ q → ⊥ = λ h. let u = nat_itself q in let z : nat_eq number q ≡ true = subst (λ x. nat_eq x q ≡ true) (sym h) u in cc in
+              is.named q v (sym (updated.others q apart) ∙ e)
+
+-- ---- a task goes
+
+module _ (old new : Entries) (less more : Ranking) (is : IsIndex old more) (kind : Kind) (place : ℕ) (rank : Rank)
+    (gone_others : IsHereOrSame kind place less more) (added : IsPermutation (rank ∷ less kind place) (more kind place)) (updated : IsUpdated rank.number None old new) where
+  flipped : (k : Kind) (p : ℕ) → ((k ≡ kind) × (p ≡ place)) ⊎ (more k p ≡ less k p) → ((k ≡ kind) × (p ≡ place)) ⊎ (less k p ≡ more k p)
+  flipped k p (inl at) = inl at
+  flipped k p (inr same) = inr (sym same)
+
+  others : (k : Kind) (p : ℕ) → ((k ≡ kind) × (p ≡ place)) ⊎ (less k p ≡ more k p)
+  others k p = flipped k p (gone_others k p)
+
+  own_there : Contains (more kind place) rank
+  own_there = Contains-permutation _ _ rank added (contains_here rank (less kind place))
+
+  was_there : (k : Kind) (p : ℕ) (r : Rank) → Contains (less k p) r → Contains (more k p) r
+  was_there k p r c = by (others k p)
+    where
+      by : ((k ≡ kind) × (p ≡ place)) ⊎ (less k p ≡ more k p) → Contains (more k p) r
+      by (inl at) = moved_back more kind k place p r at.0 at.1 (Contains-permutation _ _ r added (contains_later rank (less kind place) r (moved_here less kind k place p r at.0 at.1 c)))
+      by (inr same) = subst (λ xs. Contains xs r) same c
+
+  numbers : IsDistinct nat_eq (rank.number ∷ map number_of (less kind place))
+  numbers = IsDistinct-IsPermutation nat_eq nat_flips _ _ (IsPermutation-sym _ _ (IsPermutation-map number_of _ _ added)) (is.distinct kind place)
+
+  -- the number has left with its rank
+  left_here : (r : Rank) → Contains (less kind place) r → rank.number ≡ r.number → ⊥
+  left_here r c e =
+      let apart = all_at (λ q. nat_eq rank.number q ≡ false) (map number_of (less kind place)) r.number (IsDistinct-head nat_eq rank.number (map number_of (less kind place)) numbers) (mapped_has number_of (less kind place) r c) in
+      let u = nat_itself r.number in
+      let z : nat_eq rank.number r.number ≡ true = subst (λ x. nat_eq x r.number ≡ true) (sym e) u in
+      cc
+
+  left : (k : Kind) (p : ℕ) (r : Rank) → Contains (less k p) r → rank.number ≡ r.number → ⊥
+  left k p r c e = by (old rank.number) refl
+    where
+      by : (o : Option Waiting) → old rank.number ≡ o → ⊥
+      by None none = no_entry kind place rank (old rank.number) (is.sound kind place rank own_there) none
+      by (Some w) some =
+          let own = entry_is kind place rank (old rank.number) w (is.sound kind place rank own_there) some in
+          let other = entry_is k p r (old r.number) w (is.sound k p r (was_there k p r c)) (subst (λ q. old q ≡ Some w) e some) in
+          left_here r (moved_here less kind k place p r (sym other.0 ∙ own.0) (sym other.1 ∙ own.1) c) e
+
+  gone_sound : (k : Kind) (p : ℕ) (r : Rank) → Contains (less k p) r → IsEntryAt k p r (new r.number)
+  gone_sound k p r c = subst (IsEntryAt k p r) (sym (updated.others r.number (left k p r c))) (is.sound k p r (was_there k p r c))
+
+  here_left : (q : ℕ) (v : Waiting) → new q ≡ Some v → rank.number ≡ q → ⊥
+  here_left q v e one =
+      let here = updated.here in
+      let there : new rank.number ≡ Some v = subst (λ x. new x ≡ Some v) (sym one) e in
+      cc
+
+  was_entry : (q : ℕ) (v : Waiting) → new q ≡ Some v → old q ≡ Some v
+  was_entry q v e = sym (updated.others q (here_left q v e)) ∙ e
+
+  gone_complete : (q : ℕ) (v : Waiting) → new q ≡ Some v → Contains (less v.kind (place_of v.target)) (rank_of q v)
+  gone_complete q v e = by (others v.kind (place_of v.target))
+    where
+      there : Contains (more v.kind (place_of v.target)) (rank_of q v)
+      there = is.complete q v (was_entry q v e)
+
+      rest : (rank ≡ rank_of q v) ⊎ Contains (less kind place) (rank_of q v) → Contains (less kind place) (rank_of q v)
+      rest (inl one) = absurd (here_left q v e (subst (λ r. rank.number ≡ r.number) one refl))
+      rest (inr c) = c
+
+      by : ((v.kind ≡ kind) × (place_of v.target ≡ place)) ⊎ (less v.kind (place_of v.target) ≡ more v.kind (place_of v.target)) → Contains (less v.kind (place_of v.target)) (rank_of q v)
+      by (inl at) = moved_back less kind v.kind place (place_of v.target) (rank_of q v) at.0 at.1
+          (rest (contains_cases rank (less kind place) (rank_of q v) (Contains-permutation _ _ (rank_of q v) (IsPermutation-sym _ _ added) (moved_here more kind v.kind place (place_of v.target) (rank_of q v) at.0 at.1 there))))
+      by (inr same) = subst (λ xs. Contains xs (rank_of q v)) (sym same) there
+
+  gone_distinct : (k : Kind) (p : ℕ) → IsDistinct nat_eq (map number_of (less k p))
+  gone_distinct k p = by (others k p)
+    where
+      by : ((k ≡ kind) × (p ≡ place)) ⊎ (less k p ≡ more k p) → IsDistinct nat_eq (map number_of (less k p))
+      by (inl at) = distinct_at less kind k place p at.0 at.1 (IsDistinct-tail nat_eq rank.number (map number_of (less kind place)) numbers)
+      by (inr same) = subst (λ xs. IsDistinct nat_eq (map number_of xs)) (sym same) (is.distinct k p)
+
+  pub taken_index : IsIndex new less
+  taken_index = record {
+    sound = gone_sound;
+    complete = gone_complete;
+    distinct = gone_distinct;
+    named = λ q v e. is.named q v (was_entry q v e);
+  }
+
+-- ---- the same tasks
+
+pub same_index : (old new : Entries) (ranks : Ranking) → IsIndex old ranks → ((q : ℕ) → new q ≡ old q) → IsIndex new ranks
+same_index old new ranks is same = record {
+  sound = λ kind place rank c. subst (IsEntryAt kind place rank) (sym (same rank.number)) (is.sound kind place rank c);
+  complete = λ q v e. is.complete q v (sym (same q) ∙ e);
+  distinct = is.distinct;
+  named = λ q v e. is.named q v (sym (same q) ∙ e);
+}

@@ -1,0 +1,9 @@
+pub mod Bests
+pub mod Members
+pub mod Order
+pub mod Heaps
+pub mod Ranking
+pub mod Rooms
+pub mod Indexing
+pub mod Entries
+pub mod Telling

@@ -1,0 +1,133 @@
+-- The index tells the best task.
+use Rattle.std.proofs.Common.{◌≡◌, ◌⊎◌, inl, inr, ℕ, Bool, true, false, ◌&&◌, refl, sym, ap, subst, ◌∙◌, option_map, nat_eq, arith}
+use Rattle.std.specs.declared.option.Option.{Option}
+use Rattle.std.specs.declared.option.Option.TheVariants.{None, Some}
+use Rattle.std.specs.List.{Contains}
+use Rattle.std.specs.FinMap.{get}
+use Rattle.std.specs.Ordering.{is_lt, int_cmp, nat_cmp, ordering_then}
+use Rattle.tw_types.specs.declared.actor.Actor.{Actor}
+use Rattle.tw_types.specs.declared.actor.Actor.TheVariants.{Engine, Server, Worker}
+use Rattle.tw_types.specs.declared.actor.Kind.{Kind}
+use Rattle.tw_types.specs.declared.actor.Kind.TheVariants.{Control, Leaf}
+use Rattle.tw_types.specs.Actor.{may_take, number_in_kind}
+use Rattle.tw_types.specs.Task.{TaskOf, TasksOf, best, is_eligible, is_for}
+use Rattle.tw_rights.specs.declared.arg.Arg.{Arg}
+use Rattle.tw_queue.specs.declared.rank.Rank.{Rank}
+use Rattle.tw_queue.specs.declared.queues.Waiting.{Waiting}
+use Rattle.tw_queue.specs.Ranks.{rank_cmp}
+use Rattle.tw_queue.specs.Lists.{place_of, IsBest, IsOwnPlace}
+use Rattle.tw_queue.specs.Queues.{IsTarget, handed_out}
+use Rattle.tw_queue.specs.Index.{Ranking, IsRankBest}
+use Rattle.tw_queue.specs.Indexed.{IsIndex, IsEntryAt, rank_of, task_in}
+use Rattle.tw_queue.proofs.Bests.{IsAhead, best_is, best_none}
+use Rattle.tw_queue.proofs.Heaps.{left_true, right_true}
+use Rattle.tw_queue.proofs.Members.{all_at, contains_none}
+use Rattle.tw_queue.proofs.Indexing.{Entries, nat_itself, nat_same}
+
+-- the entry of the best rank is the best task's
+pub record Tells (actor : Actor) (entry : Entries) (tasks : TasksOf Arg) (rank : Rank) : Type 0 where
+  pub waiting : Waiting
+  pub there : entry rank.number ≡ Some waiting
+  pub best_is : best actor tasks ≡ Some (rank.number, task_in waiting)
+
+for_itself : (target : Option ℕ) (number place : ℕ) → IsTarget target → place_of target ≡ place → IsOwnPlace number place → is_for target number ≡ true
+for_itself None number place few at own = refl
+for_itself (Some t) number place few at (inl last) = absurd (omega arith)
+for_itself (Some t) number place few at (inr same) = subst (λ n. nat_eq t n ≡ true) (at ∙ same) (nat_itself t)
+
+own_place : (target : Option ℕ) (number : ℕ) → is_for target number ≡ true → IsOwnPlace number (place_of target)
+own_place None number e = inl refl
+own_place (Some t) number e = inr (nat_same t number e)
+
+module _ (entry : Entries) (ranks : Ranking) (is : IsIndex entry ranks) (tasks : TasksOf Arg) (seen : (q : ℕ) → get tasks q ≡ option_map task_in (entry q)) where
+  seen_entry : (q : ℕ) (other : TaskOf Arg) (o : Option Waiting) → entry q ≡ o → option_map task_in o ≡ Some other → (v : Waiting) × (entry q ≡ Some v) × (task_in v ≡ other)
+  seen_entry q other None e h = cc
+  seen_entry q other (Some v) e h = (v, e, cc)
+
+  module _ (actor : Actor) (kind : Kind) (number : ℕ) (own : (k : Kind) → may_take actor k ≡ true → k ≡ kind) (may : may_take actor kind ≡ true) (is_number : number_in_kind actor ≡ number) where
+    -- the rank of each task that the actor may take is one of those
+    candidate : (q : ℕ) (v : Waiting) → entry q ≡ Some v → is_eligible actor (task_in v) ≡ true → Contains (ranks kind 16) (rank_of q v) ⊎ Contains (ranks kind number) (rank_of q v)
+    candidate q v e eligible = by (own_place v.target number (subst (λ n. is_for v.target n ≡ true) is_number (right_true (may_take actor v.kind) _ eligible)))
+      where
+        there : Contains (ranks kind (place_of v.target)) (rank_of q v)
+        there = subst (λ k. Contains (ranks k (place_of v.target)) (rank_of q v)) (own v.kind (left_true (may_take actor v.kind) _ eligible)) (is.complete q v e)
+
+        by : IsOwnPlace number (place_of v.target) → Contains (ranks kind 16) (rank_of q v) ⊎ Contains (ranks kind number) (rank_of q v)
+        by (inl any) = inl (subst (λ p. Contains (ranks kind p) (rank_of q v)) any there)
+        by (inr same) = inr (subst (λ p. Contains (ranks kind p) (rank_of q v)) same there)
+
+    none_eligible : IsBest number (ranks kind) None → best actor tasks ≡ None
+    none_eligible empty = best_none actor tasks (λ q other e. by q other (is_eligible actor other) refl (seen_entry q other (entry q) refl (sym (seen q) ∙ e)))
+      where
+        nobody : (q : ℕ) (v : Waiting) → Contains (ranks kind 16) (rank_of q v) ⊎ Contains (ranks kind number) (rank_of q v) → ⊥
+        nobody q v (inl c) = contains_none (rank_of q v) (subst (λ xs. Contains xs (rank_of q v)) empty.0 c)
+        nobody q v (inr c) = contains_none (rank_of q v) (subst (λ xs. Contains xs (rank_of q v)) empty.1 c)
+
+        by : (q : ℕ) (other : TaskOf Arg) (b : Bool) → is_eligible actor other ≡ b → (v : Waiting) × (entry q ≡ Some v) × (task_in v ≡ other) → is_eligible actor other ≡ false
+        by q other false e found = e
+        by q other true e found = absurd (nobody q found.0 (candidate q found.0 found.1 (ap (is_eligible actor) found.2 ∙ e)))
+
+    tells : (rank : Rank) → IsBest number (ranks kind) (Some rank) → Tells actor entry tasks rank
+    tells rank first = by (entry rank.number) refl (is.sound kind first.0 rank first.2)
+      where
+        behind : (v : Waiting) (q : ℕ) → Contains (ranks kind 16) (rank_of q v) ⊎ Contains (ranks kind number) (rank_of q v) → is_lt (rank_cmp rank (rank_of q v)) ≡ false
+        behind v q (inl c) = all_at (λ y. is_lt (rank_cmp rank y) ≡ false) (ranks kind 16) (rank_of q v) first.3.0 c
+        behind v q (inr c) = all_at (λ y. is_lt (rank_cmp rank y) ≡ false) (ranks kind number) (rank_of q v) first.3.1 c
+
+        ahead : (w : Waiting) → w.priority ≡ rank.priority → (q : ℕ) (other : TaskOf Arg) → is_eligible actor other ≡ true → (v : Waiting) × (entry q ≡ Some v) × (task_in v ≡ other) → IsAhead (rank.number, task_in w) (q, other)
+        ahead w same q other eligible found =
+            let v = found.0 in
+            let low = behind v q (candidate q v found.1 (ap (is_eligible actor) found.2 ∙ eligible)) in
+            subst (λ t. is_lt (ordering_then (int_cmp w.priority t.priority) (nat_cmp q rank.number)) ≡ false) found.2
+            (subst (λ p. is_lt (ordering_then (int_cmp p v.priority) (nat_cmp q rank.number)) ≡ false) (sym same) low)
+
+        by : (o : Option Waiting) → entry rank.number ≡ o → IsEntryAt kind first.0 rank o → Tells actor entry tasks rank
+        by None e at = absurd at
+        by (Some w) e at =
+            let target = (is.named rank.number w e).1 in
+            let for_it : is_for w.target (number_in_kind actor) ≡ true = subst (λ n. is_for w.target n ≡ true) (sym is_number) (for_itself w.target number first.0 target at.1 first.1) in
+            let may_it : may_take actor w.kind ≡ true = subst (λ k. may_take actor k ≡ true) (sym at.0) may in
+            let eligible : is_eligible actor (task_in w) ≡ true = rw (may_it, for_it) refl in
+            record {
+              waiting = w;
+              there = e;
+              best_is = best_is actor tasks (rank.number, task_in w) (seen rank.number ∙ ap (option_map task_in) e) eligible
+                  (λ q other f may_q. ahead w at.2 q other may_q (seen_entry q other (entry q) refl (sym (seen q) ∙ f)));
+            }
+
+  engine_takes : (number : ℕ) (k : Kind) → may_take (Engine number) k ≡ true → k ≡ Control
+  engine_takes number Control e = refl
+  engine_takes number Leaf e = cc
+
+  worker_takes : (number : ℕ) (k : Kind) → may_take (Worker number) k ≡ true → k ≡ Leaf
+  worker_takes number Control e = cc
+  worker_takes number Leaf e = refl
+
+  server_takes : (number : ℕ) (task : TaskOf Arg) → is_eligible (Server number) task ≡ false
+  server_takes number task = by task.kind
+    where
+      by : (k : Kind) → (may_take (Server number) k && is_for task.target number) ≡ false
+      by Control = refl
+      by Leaf = refl
+
+  -- ---- for each actor
+
+  pub index_tells : (actor : Actor) (rank : Rank) → IsRankBest actor ranks (Some rank) → Tells actor entry tasks rank
+  index_tells (Engine number) rank first = tells (Engine number) Control number (engine_takes number) refl refl rank first
+  index_tells (Server number) rank first = cc
+  index_tells (Worker number) rank first = tells (Worker number) Leaf number (worker_takes number) refl refl rank first
+
+  pub index_none : (actor : Actor) → IsRankBest actor ranks None → best actor tasks ≡ None
+  index_none (Engine number) empty = none_eligible (Engine number) Control number (engine_takes number) refl refl empty
+  index_none (Server number) empty = best_none (Server number) tasks (λ q other e. server_takes number other)
+  index_none (Worker number) empty = none_eligible (Worker number) Leaf number (worker_takes number) refl refl empty
+
+-- ---- what is handed out
+
+handed : (w : Waiting) (number : ℕ) → w.task.no ≡ number → handed_out (number, task_in w) ≡ w.task
+handed w number e = subst (λ n. handed_out (n, task_in w) ≡ w.task) e refl
+
+-- the task of the best rank is handed out
+pub handed_best : (entry : Entries) (ranks : Ranking) (tasks : TasksOf Arg) (actor : Actor) (rank : Rank) → IsIndex entry ranks → (t : Tells actor entry tasks rank)
+    → option_map handed_out (best actor tasks) ≡ Some t.waiting.task
+handed_best entry ranks tasks actor rank is t = ap (option_map handed_out) t.best_is ∙ ap Some (handed t.waiting rank.number (is.named rank.number t.waiting t.there).0)

@@ -1,0 +1,38 @@
+use Rattle.std.proofs.Common.{◌≡◌, inl, inr, true, false, rules, refl, subst, arith}
+use Rattle.std.specs.Ordering.{is_lt}
+use Rattle.std.specs.BinaryHeap.{IsUpperBound}
+use Rattle.tw_queue.specs.Ranks.{rank_cmp}
+use Rattle.tw_queue.specs.Lists.{ranks_at}
+use Rattle.tw_queue.proofs.Order.{not_back, upper_over}
+use Rattle.tw_queue.proofs.lists.Lists.best_place.Goals as goal
+
+pub returns-then-lt : goal.returns-then-lt
+returns-then-lt c =
+    let own : c.from-own.result ≡ c.args.number = search rules in
+    let any = c.in-Some-Some.ensures in
+    let first = c.in-Some-Some.ensures' in
+    let lower : is_lt (rank_cmp c.in-Some-Some.any c.in-Some-Some.rank) ≡ true = search rules in (
+      first.0,
+      inr own,
+      first.1,
+      (
+        upper_over c.in-Some-Some.rank c.in-Some-Some.any (ranks_at c.args.self.now.heaps 16) (not_back c.in-Some-Some.any c.in-Some-Some.rank lower) any.2,
+        subst (λ p. IsUpperBound rank_cmp c.in-Some-Some.rank (ranks_at c.args.self.now.heaps p)) own first.2,
+      ),
+    )
+
+pub returns-else-lt : goal.returns-else-lt
+returns-else-lt c =
+    let own : c.from-own.result ≡ c.args.number = search rules in
+    let any = c.in-Some-Some.ensures in
+    let first = c.in-Some-Some.ensures' in
+    let higher : is_lt (rank_cmp c.in-Some-Some.any c.in-Some-Some.rank) ≡ false = search rules in (
+      omega arith,
+      inl refl,
+      any.1,
+      (
+        any.2,
+        upper_over c.in-Some-Some.any c.in-Some-Some.rank (ranks_at c.args.self.now.heaps c.args.number) higher
+            (subst (λ p. IsUpperBound rank_cmp c.in-Some-Some.rank (ranks_at c.args.self.now.heaps p)) own first.2),
+      ),
+    )

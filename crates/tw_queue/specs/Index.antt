@@ -1,0 +1,43 @@
+-- What the index of the ranks has, and how it changes.
+use Rattle.std.specs.Prelude.{◌≡◌, ◌⊎◌, ℕ, Bool, List, ◌∷◌, Option, None}
+use Rattle.std.specs.List.Sorted.{IsPermutation}
+use Rattle.tw_types.specs.declared.actor.Actor.{Actor}
+use Rattle.tw_types.specs.declared.actor.Actor.TheVariants.{Engine, Server, Worker}
+use Rattle.tw_types.specs.declared.actor.Kind.{Kind}
+use Rattle.tw_types.specs.declared.actor.Kind.TheVariants.{Control, Leaf}
+use Rattle.tw_queue.specs.declared.index.Index.{Index}
+use Rattle.tw_queue.specs.declared.rank.Rank.{Rank}
+use Rattle.tw_queue.specs.Lists.{Listed, ranks_at, IsBest}
+
+-- the ranks of a kind at a place
+abbrev pub Ranking : Type 0
+Ranking = Kind → ℕ → List Rank
+
+abbrev pub listed : Kind → Index → Listed
+listed Control index = index.control
+listed Leaf index = index.leaf
+
+abbrev pub ranks_of : Index → Ranking
+ranks_of index kind place = ranks_at (listed kind index).heaps place
+
+abbrev pub has_room_for : Kind → Index → Bool
+has_room_for kind index = (listed kind index).has_room
+
+-- only this kind at this place has others
+abbrev pub IsHereOrSame : Kind → ℕ → Ranking → Ranking → Type 0
+IsHereOrSame kind place old new = (k : Kind) (p : ℕ) → ((k ≡ kind) × (p ≡ place)) ⊎ (new k p ≡ old k p)
+
+-- the first has there one rank more than the second
+pub record IsRankAdded (kind : Kind) (place : ℕ) (rank : Rank) (more less : Ranking) : Type 0 where
+  pub here : IsPermutation (rank ∷ less kind place) (more kind place)
+  pub others : IsHereOrSame kind place less more
+
+-- the rank has left its kind and place
+abbrev pub IsRankGone : Rank → Ranking → Ranking → Type 0
+IsRankGone rank old new = (kind : Kind) × (place : ℕ) × IsRankAdded kind place rank old new
+
+-- the first rank of those that the actor may take
+abbrev pub IsRankBest : Actor → Ranking → Option Rank → Type 0
+IsRankBest (Engine number) ranks best = IsBest number (ranks Control) best
+IsRankBest (Server number) ranks best = best ≡ None
+IsRankBest (Worker number) ranks best = IsBest number (ranks Leaf) best

@@ -1,0 +1,80 @@
+//! The ranks of all tasks that wait.
+
+ghost use Rattle.std.specs.Prelude.{◌≡◌, ℕ, [], IfNone, IfOk, IfSome, IsOk, OnErr, OnOk, true};
+ghost use Rattle.tw_types.specs.declared.actor.Kind.{Kind};
+ghost use Rattle.tw_queue.specs.Lists.{place_of};
+ghost use Rattle.tw_queue.specs.Index.{ranks_of, has_room_for, IsRankBest, IsRankAdded, IsRankGone};
+ghost use Rattle.tw_queue.specs.Queues.{IsTarget};
+
+use crate::lists::Lists;
+use crate::rank::Rank;
+use std::alloc::{AllocError, Global};
+use tw_types::{Actor, Kind};
+
+/// The ranks of the tasks of each kind.
+#[derive(Drop)]
+pub struct Index {
+    pub control: Lists,
+    pub leaf: Lists,
+}
+
+impl Index {
+    /// No ranks.
+    pub fn new(alloc: Global) -> Result<Index, AllocError>
+        ensures { IfOk result (λ index. (kind : Kind) (place : ℕ) → ranks_of index kind place ≡ []) }
+    {
+        let control = Lists::new(alloc)?;
+        let leaf = Lists::new(alloc)?;
+        Ok(Index { control, leaf })
+    }
+
+    /// Makes room for one rank of a kind, for whatever target.
+    pub fn reserve(&mut self, kind: Kind) -> Result<(), AllocError>
+        ensures same { ranks_of self.new ≡ ranks_of self.old }
+        ensures room { OnOk result (has_room_for kind self.new ≡ true) }
+        ensures kept { (other : Kind) → has_room_for other self.old ≡ true → has_room_for other self.new ≡ true }
+    {
+        match kind {
+            Kind::Control => self.control.reserve(),
+            Kind::Leaf => self.leaf.reserve(),
+        }
+    }
+
+    /// Adds the rank of a task.
+    pub fn push(&mut self, kind: Kind, target: Option<u8>, rank: Rank) -> Result<(), AllocError>
+        requires { IsTarget target }
+        ensures pushed { OnOk result (IsRankAdded kind (place_of target) rank (ranks_of self.new) (ranks_of self.old)) }
+        ensures refused { OnErr result (ranks_of self.new ≡ ranks_of self.old) }
+        ensures reserved { has_room_for kind self.old ≡ true → IsOk result }
+    {
+        match kind {
+            Kind::Control => self.control.push(target, rank),
+            Kind::Leaf => self.leaf.push(target, rank),
+        }
+    }
+
+    /// The first of the ranks that an actor may take.
+    pub fn best(&self, actor: Actor) -> Option<Rank>
+        ensures { IsRankBest actor (ranks_of self.now) result }
+    {
+        match actor {
+            Actor::Engine(number) => self.control.best(number),
+            Actor::Worker(number) => self.leaf.best(number),
+            Actor::Server(_) => None,
+        }
+    }
+
+    /// Takes it.
+    pub fn take(&mut self, actor: Actor) -> Option<Rank>
+        ensures best { IsRankBest actor (ranks_of self.old) result }
+        ensures taken { IfSome result (λ rank. IsRankGone rank (ranks_of self.old) (ranks_of self.new)) }
+        ensures none { IfNone result (ranks_of self.new ≡ ranks_of self.old) }
+        ensures room { (kind : Kind) → has_room_for kind self.old ≡ true → has_room_for kind self.new ≡ true }
+    {
+        match actor {
+            Actor::Engine(number) => self.control.take(number),
+            Actor::Worker(number) => self.leaf.take(number),
+            Actor::Server(_) => None,
+        }
+    }
+}

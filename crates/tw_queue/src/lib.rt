@@ -1,0 +1,11 @@
+//! The tasks that wait for an actor, with the best one for each at hand.
+#![tactic(auto)]
+
+mod index;
+mod lists;
+mod queues;
+mod rank;
+mod task;
+
+pub use queues::TaskQueues;
+pub use task::Task;

@@ -1,0 +1,191 @@
+//! The queues.
+
+ghost use Rattle.std.specs.Prelude.{◌≡◌, ◌<◌, [], IsOk, IsSome, IfOk, IfErr, MatchOption, OnOk, OnErr, None, true, option_map};
+ghost use Rattle.std.specs.FinMap as map;
+ghost use Rattle.std.specs.FinMap.{get};
+ghost use Rattle.std.specs.Option.{option_copied};
+ghost use Rattle.tw_types.specs.Task.{best};
+ghost use Rattle.tw_types.specs.declared.actor.Kind.{Kind};
+ghost use Rattle.tw_queue.specs.Indexed.{entry_of};
+ghost use Rattle.tw_queue.specs.Queues.{IsTarget, handed_out, room_for, waiting, without};
+
+use crate::index::Index;
+use crate::rank::Rank;
+use crate::task::Task;
+use std::alloc::{AllocError, Global};
+use std::collections::HashMap;
+use std::marker::Model;
+use tw_types::{Actor, Kind};
+
+/// A task that waits, and what it waits by.
+pub struct Waiting {
+    kind: Kind,
+    priority: i64,
+    target: Option<u8>,
+    task: Task,
+}
+
+/// The tasks that wait, by their numbers, and an index of them by kind, target and rank.
+pub struct TaskQueues {
+    tasks: HashMap<u64, Waiting>,
+    index: Index,
+}
+
+impl Model for TaskQueues {
+    ghost use Rattle.std.specs.Prelude.{◌&&◌, nat_lt};
+    ghost use Rattle.std.specs.HashMap.{spare};
+    ghost use Rattle.tw_queue.specs.Queues.{Queues};
+    ghost use Rattle.std.specs.Coded.{codes, coded_ℕ};
+    ghost use Rattle.std.specs.FinMap.{code};
+    ghost use Rattle.std.specs.Ordering.{nat_cmp};
+    ghost use Rattle.tw_rights.specs.declared.arg.Arg.{Arg};
+    ghost use Rattle.tw_types.specs.Task.{TaskOf};
+
+    ghost Value = { Queues };
+
+    ghost coded = { Prim.hlevel (codes, code {X = TaskOf Arg} {R = nat_cmp} coded_ℕ (Prim.hlevel codes)) };
+
+    ghost use Rattle.tw_queue.specs.Index.{ranks_of};
+    ghost use Rattle.tw_queue.specs.Indexed.{tasks_in, entry_of, IsIndex};
+
+    ghost view = { λ q. record {
+      tasks = tasks_in q.tasks.entries;
+      control_room = nat_lt 0 (spare q.tasks) && q.index.control.has_room;
+      leaf_room = nat_lt 0 (spare q.tasks) && q.index.leaf.has_room;
+    } };
+
+    ghost invariant = { λ q. IsIndex (entry_of q.tasks.entries) (ranks_of q.index) };
+}
+
+impl TaskQueues {
+    /// No tasks.
+    pub fn new(alloc: Global) -> Result<TaskQueues, AllocError>
+        ensures { IfOk result (λ queues. queues.tasks ≡ map.empty) }
+    {
+        let index = Index::new(alloc)?;
+        Ok(TaskQueues {
+            tasks: HashMap::new(alloc),
+            index,
+        })
+    }
+
+    /// The number of tasks.
+    pub fn len(&self) -> usize
+        ensures { result ≡ map.len self.now.tasks }
+    {
+        self.tasks.len()
+    }
+
+    /// Makes room for one task of a kind, for whatever target.
+    pub fn reserve(&mut self, kind: Kind) -> Result<(), AllocError>
+        ensures same { self.new.tasks ≡ self.old.tasks }
+        ensures room { OnOk result (room_for kind self.new ≡ true) }
+        ensures kept { (other : Kind) → room_for other self.old ≡ true → room_for other self.new ≡ true }
+    {
+        self.tasks.reserve(1)?;
+        self.index.reserve(kind)
+    }
+
+    /// Puts a task, or hands it back where memory is refused.
+    pub fn put(
+        &mut self,
+        kind: Kind,
+        priority: i64,
+        target: Option<u8>,
+        task: Task,
+    ) -> Result<(), Task>
+        requires new { get self.old.tasks task.no ≡ None }
+        requires target { IsTarget target }
+        ensures put { OnOk result (self.new.tasks ≡ map.insert self.old.tasks task.no (waiting kind priority target task)) }
+        ensures refused { OnErr result (self.new.tasks ≡ self.old.tasks) }
+        ensures back { IfErr result (λ back. back ≡ task) }
+        ensures reserved { room_for kind self.old ≡ true → IsOk result }
+    {
+        let number = task.no.number();
+        if self.tasks.reserve(1).is_err() {
+            return Err(task);
+        }
+        let rank = Rank { priority, number };
+        let Ok(()) = self.index.push(kind, target, rank) else {
+            return Err(task);
+        };
+        let waiting = Waiting {
+            kind,
+            priority,
+            target,
+            task,
+        };
+        match self.tasks.insert(number, waiting) {
+            Ok(None) => Ok(()),
+            Ok(Some(_old)) => unreachable!(),
+            Err(_refused) => unreachable!(),
+        }
+    }
+
+    /// The task that the actor takes next, if there is one.
+    pub fn best(&self, actor: Actor) -> Option<&Task>
+        ensures { option_copied result ≡ option_map handed_out (best actor self.now.tasks) }
+    {
+        let rank = self.index.best(actor)?;
+        let Some(waiting) = self.tasks.get(&rank.number) else {
+            unreachable!();
+        };
+        Some(&waiting.task)
+    }
+
+    /// Takes it.
+    pub fn take(&mut self, actor: Actor) -> Option<Task>
+        ensures taken { result ≡ option_map handed_out (best actor self.old.tasks) }
+        ensures rest { self.new.tasks ≡ without (best actor self.old.tasks) self.old.tasks }
+        ensures room { (kind : Kind) → room_for kind self.old ≡ true → room_for kind self.new ≡ true }
+    {
+        let rank = self.index.take(actor)?;
+        let Some(waiting) = self.tasks.remove(&rank.number) else {
+            unreachable!();
+        };
+        let Waiting {
+            kind: _,
+            priority: _,
+            target: _,
+            task,
+        } = waiting;
+        Some(task)
+    }
+
+    /// Spends every right of every task.
+    pub fn shut(self) {
+        let TaskQueues {
+            mut tasks,
+            index: _,
+        } = self;
+        while let Some(number) = first_number(&tasks) {
+            let Some(waiting) = tasks.remove(&number) else {
+                unreachable!();
+            };
+            spend(waiting);
+        }
+        tasks.destroy_empty();
+    }
+}
+
+/// A number that is there, if there is one.
+fn first_number(tasks: &HashMap<u64, Waiting>) -> Option<u64>
+    ensures { MatchOption result (tasks.now.entries ≡ []) (λ number. IsSome (entry_of tasks.now.entries number)) }
+{
+    tasks.keys().next().copied()
+}
+
+fn spend(waiting: Waiting) {
+    let Waiting {
+        kind: _,
+        priority: _,
+        target: _,
+        task,
+    } = waiting;
+    let Task {
+        no: _,
+        procedure: _,
+        args,
+    } = task;
+    args.shut();
+}

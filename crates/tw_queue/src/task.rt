@@ -1,0 +1,11 @@
+//! Tasks.
+
+use tw_rights::Bundle;
+use tw_types::TaskNo;
+
+/// A task: its number, its procedure and its arguments.
+pub struct Task {
+    pub no: TaskNo,
+    pub procedure: u8,
+    pub args: Bundle,
+}
