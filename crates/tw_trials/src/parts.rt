@@ -1,12 +1,12 @@
 //! The parts of a program's instructions.
 
 use std::alloc::Global;
-use tw_code::{DataInstr, Instr, LocalInstr, decode};
+use tw_code::{Action, DataInstr, Instr, LocalInstr, decode};
 
 /// One procedure with an instruction of each code, in the order of the codes.
-const EVERY: [u8; 102] = [
-    // The header, and the procedure up to its code of 19 instructions.
-    0x54, 0x57, 0x42, 0x01, 0x01, 0x00, 0x01, 0x04, 0x01, 0x02, 0x01, 0x02, 0x00, 0x13,
+const EVERY: [u8; 167] = [
+    // The header, and the procedure up to its code of 31 instructions.
+    0x54, 0x57, 0x42, 0x01, 0x01, 0x00, 0x01, 0x04, 0x01, 0x02, 0x01, 0x02, 0x00, 0x1f,
     // INT, TEXT and COPY.
     0x01, 0x00, 0xff, 0xff, 0xff, 0xff, 0xff, 0xff, 0xff, 0xfe, 0x02, 0x01, 0x00, 0x03, 0x61, 0xc3,
     0xa9, 0x03, 0x02, 0x03,
@@ -18,23 +18,63 @@ const EVERY: [u8; 102] = [
     0x03,
     // JMP, JEQ, JLT, REPEAT and END.
     0x20, 0x00, 0x04, 0x21, 0x08, 0x09, 0x00, 0x05, 0x22, 0x0a, 0x0b, 0x00, 0x06, 0x23, 0x03, 0xe8,
-    0x24, // STORE and RET.
-    0x31, 0x0c, 0x0d, 0x42,
+    0x24, // NEW, STORE, GET, INS and LOOK.
+    0x30, 0x00, 0x01, 0x03, 0x02, 0x31, 0x0c, 0x0d, 0x32, 0x0e, 0x0f, 0x33, 0x00, 0x01, 0x02, 0x00,
+    0x07, 0x34, 0x03, 0x04, 0x05, 0x00, 0x08, // SIZE, SUBAT, DUPR, DUPW, DROPR and DROPW.
+    0x35, 0x06, 0x07, 0x36, 0x08, 0x09, 0x0a, 0x00, 0x09, 0x37, 0x0b, 0x0c, 0x38, 0x0d, 0x0e, 0x39,
+    0x0f, 0x3a, 0x00, // RULE, PUT and RET.
+    0x40, 0x01, 0x00, 0x00, 0x00, 0x00, 0x00, 0x00, 0x00, 0x05, 0x00, 0x02, 0x02, 0x00, 0x41, 0x02,
+    0xff, 0xff, 0xff, 0xff, 0xff, 0xff, 0xff, 0xff, 0x04, 0x00, 0x42,
 ];
 
-/// Registers, and a skip or a number of turns, in the order of the bytes; 0 where an instruction has fewer.
+/// Registers, and a skip or a number of turns, in the order of the bytes; 0 where an instruction has fewer. Of a task
+/// that is named: its procedure, its first argument, how many it has, and one more than its target.
 fn parts(instr: &Instr) -> (u8, u8, u8, u16) {
     match instr {
         Instr::Local(local) => local_parts(local),
         Instr::Data(data) => data_parts(*data),
+        Instr::Rule(action) | Instr::Put(action) => action_parts(action),
         Instr::Ret => (0, 0, 0, 0),
     }
 }
 
 fn data_parts(instr: DataInstr) -> (u8, u8, u8, u16) {
     match instr {
+        DataInstr::New { write, read, ty } => (write, read, ty.depth(), 0),
         DataInstr::Store { datum, from } => (datum, from, 0, 0),
+        DataInstr::Get { to, datum } => (to, datum, 0, 0),
+        DataInstr::Insert {
+            container,
+            subscript,
+            member,
+            skip,
+        } => (container, subscript, member, skip),
+        DataInstr::Look {
+            member,
+            container,
+            subscript,
+            skip,
+        } => (member, container, subscript, skip),
+        DataInstr::Size { to, container } => (to, container, 0, 0),
+        DataInstr::SubscriptAt {
+            to,
+            container,
+            index,
+            skip,
+        } => (to, container, index, skip),
+        DataInstr::CopyRead { to, from } | DataInstr::CopyWrite { to, from } => (to, from, 0, 0),
+        DataInstr::DropRead { right } | DataInstr::DropWrite { right } => (right, 0, 0, 0),
     }
+}
+
+fn action_parts(action: &Action) -> (u8, u8, u8, u16) {
+    let args = action.args.as_slice();
+    let first = args.first().copied().unwrap_or(0);
+    let target = match action.target {
+        Some(number) => u16::from(number).wrapping_add(1),
+        None => 0,
+    };
+    (action.procedure, first, args.len() as u8, target)
 }
 
 fn local_parts(instr: &LocalInstr) -> (u8, u8, u8, u16) {
@@ -66,7 +106,7 @@ fn local_parts(instr: &LocalInstr) -> (u8, u8, u8, u16) {
 }
 
 /// The parts of the instructions of `EVERY`.
-const PARTS: [(u8, u8, u8, u16); 19] = [
+const PARTS: [(u8, u8, u8, u16); 31] = [
     (0, 0, 0, 0),
     (1, 0, 0, 0),
     (2, 3, 0, 0),
@@ -84,7 +124,19 @@ const PARTS: [(u8, u8, u8, u16); 19] = [
     (10, 11, 0, 6),
     (0, 0, 0, 1000),
     (0, 0, 0, 0),
+    (0, 1, 1, 0),
     (12, 13, 0, 0),
+    (14, 15, 0, 0),
+    (0, 1, 2, 7),
+    (3, 4, 5, 8),
+    (6, 7, 0, 0),
+    (8, 9, 10, 9),
+    (11, 12, 0, 0),
+    (13, 14, 0, 0),
+    (15, 0, 0, 0),
+    (0, 0, 0, 0),
+    (1, 2, 2, 0),
+    (2, 0, 0, 4),
     (0, 0, 0, 0),
 ];
 
