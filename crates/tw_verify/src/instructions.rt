@@ -1,6 +1,6 @@
 //! What each instruction asks of a typing and of the declared value registers.
 
-ghost use Rattle.std.specs.Prelude.{◌≡◌, ◌<◌, ◌∷◌, [], true, slice_get};
+ghost use Rattle.std.specs.Prelude.{◌≡◌, ◌<◌, [], true, slice_get};
 ghost use Rattle.std.specs.Option.{option_map, option_map_or};
 ghost use Rattle.tw_types.specs.DataType.{same_scalar};
 ghost use Rattle.tw_code.specs.format.Program.{IsDataInstr, IsInstr};

@@ -1,12 +1,12 @@
 //! The actors that the targets of a program name.
 
-ghost use Rattle.std.specs.Prelude.{◌≡◌, ◌≤◌};
+ghost use Rattle.std.specs.Prelude.{◌≡◌};
 ghost use Rattle.std.specs.List.{AllByRecursion};
 ghost use Rattle.std.specs.Option.{option_copied};
-ghost use Rattle.tw_code.specs.accepting.Needs.{needed, needed_by_all, needed_by_code, needed_by_instr, needed_for};
-ghost use Rattle.tw_code.specs.format.Program.{IsInstr, IsProcedure, IsProgram, IsTarget};
+ghost use Rattle.tw_code.specs.accepting.Needs.{needed, needed_by_code, needed_by_instr, needed_for};
+ghost use Rattle.tw_code.specs.format.Program.{IsInstr, IsProgram, IsTarget};
 
-use tw_code::{Action, Instr, Procedure};
+use tw_code::{Instr, Procedure};
 use tw_types::Kind;
 
 /// The actors up to a target, where it is for the procedure that is named and that is of the kind.
