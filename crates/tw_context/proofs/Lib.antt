@@ -4,3 +4,5 @@ pub mod Steps
 pub mod Told
 pub mod Turns
 pub mod Stretches
+pub mod Named
+pub mod Removed

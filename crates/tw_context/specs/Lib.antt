@@ -3,5 +3,6 @@
 -- notices and frame its context, and Room says where one more can be counted.
 pub mod Attempts
 pub mod Contexts
+pub mod Arguments
 pub mod Room
 pub mod Stretch

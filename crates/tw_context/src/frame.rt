@@ -4,6 +4,7 @@ ghost use Rattle.std.specs.Prelude.{◌≡◌, ◌<◌, ◌^◌, ◌+◌, IfOk, 
 ghost use Rattle.std.specs.List.{list_all};
 ghost use Rattle.tw_code.specs.machine.Rights.{right_at};
 ghost use Rattle.tw_code.specs.machine.Position.{at_goal, at_next_place, with_value};
+ghost use Rattle.tw_code.specs.machine.State.{gone_behind};
 ghost use Rattle.tw_context.specs.Stretch.{IsStretch};
 
 use crate::local::count_local;
@@ -101,6 +102,15 @@ impl Frame {
         &self.position
     }
 
+    /// A copy of the right registers.
+    pub(crate) fn rights(&self) -> [Option<DatumId>; 16]
+        ensures { result ≡ self.now.rights }
+    {
+        let mut copy = [None; 16];
+        copy.copy_from_slice(&self.rights);
+        copy
+    }
+
     /// The id in a right register, if it has one.
     pub(crate) fn right(&self, register: u8) -> Option<DatumId>
         ensures { result ≡ right_at self.now.rights register }
@@ -152,6 +162,17 @@ impl Frame {
         ensures { self.new ≡ record self.old { position = at_next_place self.old.position } }
     {
         self.position.go_on();
+    }
+
+    /// Goes on behind a RULE or PUT, which counts, with these right registers.
+    pub fn go_behind(&mut self, rights: [Option<DatumId>; 16])
+        requires place { self.old.position.place < 2 ^ 63 }
+        requires spent { self.old.spent < 2 ^ 63 }
+        ensures { self.new ≡ gone_behind self.old rights }
+    {
+        self.position.go_on();
+        self.rights = rights;
+        self.spent += 1;
     }
 
     /// Counts one instruction more.

@@ -5,6 +5,7 @@
 //! enabled.
 #![tactic(auto)]
 
+mod arguments;
 mod code;
 mod containers;
 mod data;
@@ -18,6 +19,7 @@ mod rights;
 mod scalars;
 mod stopped;
 
+pub use arguments::{Arg, Call, called, put_called};
 pub use code::{instr_at, procedure_of};
 pub use data::data_instr;
 pub use failure::Failure;

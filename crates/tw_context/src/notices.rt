@@ -1,8 +1,10 @@
 //! Notices.
 
-ghost use Rattle.std.specs.Prelude.{◌≡◌, ◌==◌, ◌++◌, map, OnErr, OnOk};
-ghost use Rattle.std.specs.FinSet.{empty, len};
-ghost use Rattle.tw_types.specs.Notices.{with_notices};
+ghost use Rattle.std.specs.Prelude.{◌≡◌, ◌==◌, ◌++◌, filter, map, not, OnErr, OnOk};
+ghost use Rattle.std.specs.FinSet.{contains, empty, from_list, len, remove};
+ghost use Rattle.std.specs.List.{list_any};
+ghost use Rattle.std.specs.Ordering.{eq_by_cmp};
+ghost use Rattle.tw_types.specs.Notices.{notice_cmp, with_notices};
 ghost use Rattle.tw_types.specs.Store.{notice_to};
 
 use std::alloc::{AllocError, Global};
@@ -42,6 +44,26 @@ impl Notices {
         self.list.is_empty()
     }
 
+    /// All of them, in the order in which they came.
+    pub fn as_slice(&self) -> &[Notice]
+        ensures { from_list result.now ≡ self.now }
+    {
+        &self.list
+    }
+
+    pub fn contains(&self, notice: Notice) -> bool
+        ensures { result ≡ contains self.now notice }
+    {
+        is_among(&self.list, notice)
+    }
+
+    /// Takes a notice out.
+    pub fn remove(&mut self, notice: Notice)
+        ensures { self.new ≡ remove self.old notice }
+    {
+        remove_in(&mut self.list, notice);
+    }
+
     /// Adds a notice of the datum for each subscriber, or none where memory is refused.
     pub fn tell(&mut self, id: DatumId, subscribers: &[Subscriber]) -> Result<(), AllocError>
         ensures told { OnOk result (self.new ≡ with_notices self.old (map (notice_to id) subscribers.now)) }
@@ -72,4 +94,22 @@ fn tell_in(
         }
     }
     Ok(())
+}
+
+fn are_same(notice: Notice, other: Notice) -> bool
+    ensures { result ≡ eq_by_cmp notice_cmp notice other }
+{
+    notice == other
+}
+
+fn is_among(list: &[Notice], notice: Notice) -> bool
+    ensures { result ≡ list_any (eq_by_cmp notice_cmp notice) list.now }
+{
+    list.iter().any(|other| are_same(notice, *other))
+}
+
+fn remove_in(list: &mut Vec<Notice>, notice: Notice)
+    ensures { list.new.items ≡ filter (λ other. not (eq_by_cmp notice_cmp notice other)) list.old.items }
+{
+    list.retain(|other| !are_same(notice, *other));
 }
