@@ -51,15 +51,15 @@ impl Notices {
         &self.list
     }
 
-    pub fn contains(&self, notice: Notice) -> bool
-        ensures { result ≡ contains self.now notice }
+    pub fn contains(&self, notice: &Notice) -> bool
+        ensures { result ≡ contains self.now notice.now }
     {
         is_among(&self.list, notice)
     }
 
     /// Takes a notice out.
-    pub fn remove(&mut self, notice: Notice)
-        ensures { self.new ≡ remove self.old notice }
+    pub fn remove(&mut self, notice: &Notice)
+        ensures { self.new ≡ remove self.old notice.now }
     {
         remove_in(&mut self.list, notice);
     }
@@ -96,20 +96,20 @@ fn tell_in(
     Ok(())
 }
 
-fn are_same(notice: Notice, other: Notice) -> bool
-    ensures { result ≡ eq_by_cmp notice_cmp notice other }
+fn are_same(notice: &Notice, other: &Notice) -> bool
+    ensures { result ≡ eq_by_cmp notice_cmp notice.now other.now }
 {
     notice == other
 }
 
-fn is_among(list: &[Notice], notice: Notice) -> bool
-    ensures { result ≡ list_any (eq_by_cmp notice_cmp notice) list.now }
+fn is_among(list: &[Notice], notice: &Notice) -> bool
+    ensures { result ≡ list_any (eq_by_cmp notice_cmp notice.now) list.now }
 {
-    list.iter().any(|other| are_same(notice, *other))
+    list.iter().any(|other| are_same(notice, other))
 }
 
-fn remove_in(list: &mut Vec<Notice>, notice: Notice)
-    ensures { list.new.items ≡ filter (λ other. not (eq_by_cmp notice_cmp notice other)) list.old.items }
+fn remove_in(list: &mut Vec<Notice>, notice: &Notice)
+    ensures { list.new.items ≡ filter (λ other. not (eq_by_cmp notice_cmp notice.now other)) list.old.items }
 {
-    list.retain(|other| !are_same(notice, *other));
+    list.retain(|other| !are_same(notice, other));
 }

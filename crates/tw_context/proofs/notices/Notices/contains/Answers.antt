@@ -9,6 +9,6 @@ use Rattle.tw_context.proofs.notices.Notices.contains.Goals as goal
 pub returns : goal.returns
 returns c =
     c.is_among.ensures
-    ∙ ap (λ list. list_any (eq_by_cmp notice_cmp c.args.notice) list) c.deref.ensures.value
-    ∙ sym (contains-from_list notice_cmp_total c.self.inside.list.items c.args.notice)
-    ∙ ap (λ (s : Notices). contains s c.args.notice) c.self.view_is
+    ∙ ap (λ list. list_any (eq_by_cmp notice_cmp c.args.notice.now) list) c.deref.ensures.value
+    ∙ sym (contains-from_list notice_cmp_total c.self.inside.list.items c.args.notice.now)
+    ∙ ap (λ (s : Notices). contains s c.args.notice.now) c.self.view_is
