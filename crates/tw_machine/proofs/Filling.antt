@@ -10,9 +10,9 @@ use Rattle.tw_types.specs.Result.{◌>>=◌}
 use Rattle.tw_types.specs.Task as task
 use Rattle.tw_code.specs.machine.State.{ids_in}
 use Rattle.tw_code.specs.machine.Rights.{first_rights}
-use Rattle.tw_machine.specs.declared.task.Arg.{Arg}
-use Rattle.tw_machine.specs.declared.task.Arg.TheVariants as arg
-use Rattle.tw_machine.specs.Args.{arg_of}
+use Rattle.tw_context.specs.declared.arguments.Arg.{Arg}
+use Rattle.tw_context.specs.declared.arguments.Arg.TheVariants as arg
+use Rattle.tw_context.specs.Arguments.{arg_of}
 
 -- these values, and then what comes of the others
 abbrev pub after : List Value → Result (List Value) Cause → Result (List Value) Cause

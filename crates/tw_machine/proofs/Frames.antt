@@ -8,17 +8,15 @@ use Rattle.std.specs.BTreeMap.{BTreeMap, get_by, WritesThrough}
 use Rattle.tw_types.specs.declared.actor.Actor.{Actor}
 use Rattle.tw_types.specs.Actor.{actor_cmp}
 use Rattle.tw_types.specs.Outcome.{Outcome, Went, NotEnabled}
-use Rattle.tw_types.specs.Notices.{Notices}
-use Rattle.tw_types.specs.Store.{Store}
 use Rattle.tw_code.specs.declared.procedure.Procedure.{Procedure}
 use Rattle.tw_code.specs.machine.Bounds.{AreBelow}
 use Rattle.tw_code.specs.machine.State.{Frame, State}
 use Rattle.tw_code.specs.machine.Machine.{call_event, end_event, local_event}
 use Rattle.tw_context.specs.declared.stopped.Stopped.{Stopped}
 use Rattle.tw_context.specs.Attempts.{Changes}
-use Rattle.tw_context.specs.Room.{HasRoom}
-use Rattle.tw_machine.specs.Events.{ContextComes, FrameComes, FramesCome}
-use Rattle.tw_machine.specs.Parts.{frames_of, with_frames, with_store}
+use Rattle.tw_machine.specs.declared.tables.Tables.{Tables}
+use Rattle.tw_machine.specs.Events.{FrameComes, FramesCome, HaveRoom, TablesCome, with_frames, with_tables}
+use Rattle.tw_machine.specs.Parts.{frames_of}
 use Rattle.tw_types.proofs.ActorOrder.{actor_cmp_total, actor_cmp-IsAntisymmetric}
 use Rattle.tw_types.proofs.Maps.{found_view, insert_same, written_view}
 
@@ -32,8 +30,12 @@ few_at bound s actor below = by (get s.frames actor) (below.spent actor)
     by None h = tt
     by (Some f) h = h f refl
 
-pub room_below : (s : State) → AreBelow (2 ^ 63) s → HasRoom s.store
-room_below s below = record { number = below.numbers.datum; reads = below.reads; writes = below.writes; members = below.members }
+pub room_below : (s : State) (t : Tables) → AreBelow (2 ^ 63) (with_tables s t) → HaveRoom t
+room_below s t below = record {
+  store = record { number = below.numbers.datum; reads = below.reads; writes = below.writes; members = below.members };
+  rule = below.numbers.rule;
+  task = below.numbers.task;
+}
 
 -- ---- an actor without a frame
 
@@ -67,13 +69,13 @@ module _ (m n : BTreeMap Actor Frame) (actor : Actor) (f g : Frame) (here : Some
   frames_come event (Ok x) h = λ s. h (with_frames s (frames_of m.entries)) actor there ∙ ap (λ fs. Went (with_frames s fs)) (sym written)
   frames_come event (Err why) h = λ s. (h.0 (with_frames s (frames_of m.entries)) actor there, ap (with_frames s) (unchanged h.1))
 
-  abbrev state : State → Store → Notices → State
-  state s store notices = with_frames (with_store s store notices) (frames_of m.entries)
+  abbrev state : State → Tables → State
+  state s t = with_frames (with_tables s t) (frames_of m.entries)
 
-  pub context_comes : (event : Actor → State → Outcome State) (store left : Store) (notices more : Notices) (result : Result (Unit {0}) Stopped) (s : State) → ContextComes event store notices f result left more g
-      → Changes (event actor (state s store notices)) (state s store notices) result (with_frames (with_store s left more) (frames_of n.entries))
-  context_comes event store left notices more (Ok x) s h = h (with_frames s (frames_of m.entries)) actor there ∙ ap (λ fs. Went (with_frames (with_store s left more) fs)) (sym written)
-  context_comes event store left notices more (Err why) s h = (
-    h.0 (with_frames s (frames_of m.entries)) actor there,
-    ap (λ x. with_frames (with_store s x more) (frames_of n.entries)) h.1 ∙ ap (λ x. with_frames (with_store s store x) (frames_of n.entries)) h.2 ∙ ap (with_frames (with_store s store notices)) (unchanged h.3),
+  pub tables_come : (event : State → Outcome State) (t u : Tables) (result : Result (Unit {0}) Stopped) (s : State) → TablesCome event actor t f result u g
+      → Changes (event (state s t)) (state s t) result (with_frames (with_tables s u) (frames_of n.entries))
+  tables_come event t u (Ok x) s h = h (with_frames s (frames_of m.entries)) there ∙ ap (λ fs. Went (with_frames (with_tables s u) fs)) (sym written)
+  tables_come event t u (Err why) s h = (
+    h.0 (with_frames s (frames_of m.entries)) there,
+    ap (λ x. with_frames (with_tables s x) (frames_of n.entries)) h.1 ∙ ap (with_frames (with_tables s t)) (unchanged h.2),
   )

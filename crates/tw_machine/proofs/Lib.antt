@@ -5,4 +5,8 @@ pub mod Takes
 pub mod Quiet
 pub mod InputData
 pub mod Parameters
+pub mod Numbered
+pub mod Standing
+pub mod Pending
+pub mod Due
 pub mod Growth

@@ -14,8 +14,11 @@ use Rattle.tw_code.specs.machine.State.{Frame, State, frame_of, with_frame}
 use Rattle.tw_code.specs.machine.Machine.{take_event}
 use Rattle.tw_context.specs.declared.failure.Failure.{Failure}
 use Rattle.tw_context.specs.Attempts.{Fails, IsStopped, stopped_by}
-use Rattle.tw_machine.specs.Parts.{with_tasks}
 use Rattle.tw_context.proofs.Stops.{fails_then}
+
+-- the state without a task
+abbrev pub without : State → ℕ → State
+without s number = record s { tasks = remove s.tasks number }
 
 module _ (program : List Procedure) (layout : ActorCounts) (actor : Actor) (s : State) where
   pub take_outside : is_in layout actor ≡ false → take_event program layout actor s ≡ NotEnabled
@@ -31,11 +34,11 @@ module _ (program : List Procedure) (layout : ActorCounts) (actor : Actor) (s : 
 
     module _ (free : is_some (get s.frames actor) ≡ false) where
       begins : (e : ℕ × Task) → best actor s.tasks ≡ Some e
-          → take_event program layout actor s ≡ (outcome_of (frame_of program e.0 e.1) >>= λ frame. Went (with_frame (with_tasks s (remove s.tasks e.0)) actor frame))
+          → take_event program layout actor s ≡ (outcome_of (frame_of program e.0 e.1) >>= λ frame. Went (with_frame (without s e.0) actor frame))
       begins e first = by (get s.frames actor) refl free
         where
           by : (o : Option Frame) → get s.frames actor ≡ o → is_some o ≡ false
-              → take_event program layout actor s ≡ (outcome_of (frame_of program e.0 e.1) >>= λ frame. Went (with_frame (with_tasks s (remove s.tasks e.0)) actor frame))
+              → take_event program layout actor s ≡ (outcome_of (frame_of program e.0 e.1) >>= λ frame. Went (with_frame (without s e.0) actor frame))
           by None is b = rw (inside, is, first) refl
           by (Some f) is b = cc
 
@@ -50,5 +53,5 @@ module _ (program : List Procedure) (layout : ActorCounts) (actor : Actor) (s : 
       take_stopped e why first fails = subst (λ o. IsStopped o (stopped_by why)) (sym (begins e first)) (fails_then _ _ why fails)
 
       pub take_goes : (e : ℕ × Task) (frame : Frame) → best actor s.tasks ≡ Some e → frame_of program e.0 e.1 ≡ Ok frame
-          → take_event program layout actor s ≡ Went (with_frame (with_tasks s (remove s.tasks e.0)) actor frame)
-      take_goes e frame first goes = begins e first ∙ ap (λ r. outcome_of r >>= λ f. Went (with_frame (with_tasks s (remove s.tasks e.0)) actor f)) goes
+          → take_event program layout actor s ≡ Went (with_frame (without s e.0) actor frame)
+      take_goes e frame first goes = begins e first ∙ ap (λ r. outcome_of r >>= λ f. Went (with_frame (without s e.0) actor f)) goes

@@ -1,20 +1,39 @@
 -- Events, over the parts that they change, whatever else is in the state.
-use Rattle.std.specs.Prelude.{◌≡◌, List, Some, Result, Ok, Err}
+use Rattle.std.specs.Prelude.{◌≡◌, ◌<◌, ◌^◌, List, Some, Result, Ok, Err}
 use Rattle.std.specs.FinMap.{get}
 use Rattle.tw_types.specs.declared.actor.Actor.{Actor}
 use Rattle.tw_types.specs.declared.cause.Cause.{Cause}
-use Rattle.tw_types.specs.Notices.{Notices}
 use Rattle.tw_types.specs.Outcome.{Outcome, Went}
 use Rattle.tw_types.specs.Result.{◌>>=◌}
-use Rattle.tw_types.specs.Store.{Store}
 use Rattle.tw_code.specs.declared.instr.Instr.{Instr}
 use Rattle.tw_code.specs.declared.procedure.Procedure.{Procedure}
 use Rattle.tw_code.specs.machine.Arguments.{procedure_of}
-use Rattle.tw_code.specs.machine.Machine.{instr_at}
+use Rattle.tw_code.specs.machine.Machine.{call_by, instr_at}
 use Rattle.tw_code.specs.machine.State.{Frame, Frames, State, with_frame}
 use Rattle.tw_context.specs.declared.stopped.Stopped.{Stopped}
 use Rattle.tw_context.specs.Attempts.{Changes, IsStopped}
-use Rattle.tw_machine.specs.Parts.{with_store, with_frames}
+use Rattle.tw_context.specs.Room.{HasRoom}
+use Rattle.tw_machine.specs.declared.tables.Tables.{Tables}
+use Rattle.tw_machine.specs.Waiting.{TaskTable}
+
+-- ---- a state with other parts
+
+abbrev pub with_frames : State → Frames → State
+with_frames s frames = record s { frames = frames }
+
+abbrev pub with_tasks : State → TaskTable → State
+with_tasks s tasks = record s { tasks = tasks.waiting; next_task = tasks.next }
+
+abbrev pub with_tables : State → Tables → State
+with_tables s t = record s { store = t.store; rules = t.rules.pending; next_rule = t.rules.next; tasks = t.tasks.waiting; next_task = t.tasks.next; notices = t.notices }
+
+-- the next numbers, counts and numbers of members are below 2^63
+pub record HaveRoom (t : Tables) : Type 0 where
+  pub store : HasRoom t.store
+  pub rule : t.rules.next < 2 ^ 63
+  pub task : t.tasks.next < 2 ^ 63
+
+-- ---- what comes of a frame's events
 
 -- the instruction at the place of a frame
 abbrev pub instr_of : List Procedure → Frame → Result Instr Cause
@@ -28,13 +47,21 @@ abbrev pub FrameComes : (Actor → State → Outcome State) → Frame → Result
 FrameComes event f (Ok _) g = (s : State) (actor : Actor) → get s.frames actor ≡ Some f → event actor s ≡ Went (with_frame s actor g)
 FrameComes event f (Err why) g = ((s : State) (actor : Actor) → get s.frames actor ≡ Some f → IsStopped (event actor s) why) × (g ≡ f)
 
--- the same of an event that changes the store and the notices too
-abbrev pub ContextComes : (Actor → State → Outcome State) → Store → Notices → Frame → Result (Unit {0}) Stopped → Store → Notices → Frame → Type 0
-ContextComes event store n f (Ok _) left m g =
-    (s : State) (actor : Actor) → get s.frames actor ≡ Some f → event actor (with_store s store n) ≡ Went (with_frame (with_store s left m) actor g)
-ContextComes event store n f (Err why) left m g =
-    ((s : State) (actor : Actor) → get s.frames actor ≡ Some f → IsStopped (event actor (with_store s store n)) why) × (left ≡ store) × (m ≡ n) × (g ≡ f)
+-- what comes of an instruction that the actor's frame has come to, over tables and frame
+abbrev pub CallComes : List Procedure → Actor → Procedure → Instr → Tables → Frame → Result (Unit {0}) Stopped → Tables → Frame → Type 0
+CallComes program actor p i t f (Ok _) u g = (s : State) → call_by program (with_tables s t) actor (record { frame = f; procedure = p; instr = i }) i ≡ Went (with_frame (with_tables s u) actor g)
+CallComes program actor p i t f (Err why) u g = ((s : State) → IsStopped (call_by program (with_tables s t) actor (record { frame = f; procedure = p; instr = i }) i) why) × (u ≡ t) × (g ≡ f)
 
--- what comes of an event in each state that has these frames
+-- what comes of an event in each state where the actor has this frame, with these tables
+abbrev pub TablesCome : (State → Outcome State) → Actor → Tables → Frame → Result (Unit {0}) Stopped → Tables → Frame → Type 0
+TablesCome event actor t f (Ok _) u g = (s : State) → get s.frames actor ≡ Some f → event (with_tables s t) ≡ Went (with_frame (with_tables s u) actor g)
+TablesCome event actor t f (Err why) u g = ((s : State) → get s.frames actor ≡ Some f → IsStopped (event (with_tables s t)) why) × (u ≡ t) × (g ≡ f)
+
+-- ---- what comes of events in each state with these parts
+
 abbrev pub FramesCome : (State → Outcome State) → Frames → Result (Unit {0}) Stopped → Frames → Type 0
 FramesCome event frames result left = (s : State) → Changes (event (with_frames s frames)) (with_frames s frames) result (with_frames s left)
+
+-- of an event that leaves the frames
+abbrev pub TablesChange : (State → Outcome State) → Frames → Tables → Result (Unit {0}) Stopped → Tables → Type 0
+TablesChange event frames t result u = (s : State) → Changes (event (with_frames (with_tables s t) frames)) (with_frames (with_tables s t) frames) result (with_frames (with_tables s u) frames)

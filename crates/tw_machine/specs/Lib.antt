@@ -5,7 +5,7 @@ pub mod PlainView
 pub mod Opening
 pub mod Inputs
 pub mod Answers
+pub mod Waiting
 pub mod Parts
-pub mod Args
 pub mod Events
 pub mod Best

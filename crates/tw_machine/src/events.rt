@@ -4,20 +4,16 @@ ghost use Rattle.std.specs.Prelude.{◌≡◌, ◌<◌, ◌^◌, IfSome, MatchRe
 ghost use Rattle.std.specs.FinMap.{get, remove};
 ghost use Rattle.tw_types.specs.declared.actor.Actor.{Actor as AnActor};
 ghost use Rattle.tw_types.specs.Outcome.{Went};
-ghost use Rattle.tw_code.specs.machine.Machine.{call_event, end_event, local_event};
+ghost use Rattle.tw_code.specs.machine.Machine.{end_event, local_event};
 ghost use Rattle.tw_code.specs.machine.State.{State as Meaning};
-ghost use Rattle.tw_context.specs.Attempts.{Changes, Fails, IsStopped};
-ghost use Rattle.tw_context.specs.Room.{HasRoom};
-ghost use Rattle.tw_machine.specs.Events.{ContextComes, FrameComes, FramesCome, instr_of};
-ghost use Rattle.tw_machine.specs.Parts.{frames_of, with_frames, with_store};
+ghost use Rattle.tw_context.specs.Attempts.{Fails, IsStopped};
+ghost use Rattle.tw_machine.specs.Events.{FrameComes, FramesCome, instr_of, with_frames};
+ghost use Rattle.tw_machine.specs.Parts.{frames_of};
 
 use std::alloc::Global;
 use std::collections::BTreeMap;
 use tw_code::{Instr, Procedure};
-use tw_context::{
-    Failure, Frame, Notices, Stopped, data_instr, instr_at, local_steps, procedure_of,
-};
-use tw_data::Data;
+use tw_context::{Failure, Frame, Stopped, instr_at, local_steps, procedure_of};
 use tw_types::{Actor, Cause};
 
 /// The actor's task does so many local instructions.
@@ -67,26 +63,6 @@ fn instr_of<'a>(program: &'a [Procedure], frame: &Frame) -> Result<&'a Instr, Fa
     instr_at(procedure.code.as_slice(), frame.place())
 }
 
-fn call_of(
-    alloc: Global,
-    program: &[Procedure],
-    store: &mut Data,
-    notices: &mut Notices,
-    frame: &mut Frame,
-) -> Result<(), Stopped>
-    requires spent { frame.old.spent < 2 ^ 63 }
-    requires room { HasRoom store.old }
-    ensures { ContextComes (λ actor. call_event program.now actor) store.old notices.old frame.old result store.new notices.new frame.new }
-{
-    let instr = instr_of(program, frame)?;
-    let Instr::Data(on_data) = instr else {
-        return Err(Stopped::NotEnabled);
-    };
-    data_instr(alloc, *on_data, store, notices, frame)?;
-    frame.count();
-    Ok(())
-}
-
 /// Stopped where the actor's task can't end.
 fn may_end(program: &[Procedure], frame: &Frame) -> Result<(), Stopped>
     ensures { (s : Meaning) (actor : AnActor) → get s.frames actor ≡ Some frame.now → MatchResult result (λ _. end_event program.now actor s ≡ Went (with_frames s (remove s.frames actor))) (IsStopped (end_event program.now actor s)) }
@@ -99,25 +75,6 @@ fn may_end(program: &[Procedure], frame: &Frame) -> Result<(), Stopped>
         return Err(Stopped::Trap(Cause::RightLeft));
     }
     Ok(())
-}
-
-/// The actor's task does one instruction on data.
-pub fn call(
-    alloc: Global,
-    program: &[Procedure],
-    store: &mut Data,
-    notices: &mut Notices,
-    frames: &mut BTreeMap<Actor, Frame>,
-    actor: Actor,
-) -> Result<(), Stopped>
-    requires spent { IfSome (get (frames_of frames.old.entries) actor) (λ frame. frame.spent < 2 ^ 63) }
-    requires room { HasRoom store.old }
-    ensures { (s : Meaning) → let old = with_frames (with_store s store.old notices.old) (frames_of frames.old.entries) in Changes (call_event program.now actor old) old result (with_frames (with_store s store.new notices.new) (frames_of frames.new.entries)) }
-{
-    let Some(frame) = frames.get_mut(&actor) else {
-        return Err(Stopped::NotEnabled);
-    };
-    call_of(alloc, program, store, notices, frame)
 }
 
 /// The actor's task ends.

@@ -4,20 +4,28 @@
 //! data, so a program that breaks the rules of rights is met with a trap and not refused beforehand.
 #![tactic(auto)]
 
+mod calls;
 mod events;
 mod inputs;
 mod opened;
 mod opening;
 mod plain;
 mod refusal;
+mod rule;
+mod rule_events;
+mod rules;
 mod state;
 mod stepped;
+mod tables;
 mod take;
 mod task;
+mod tasks;
 
 pub use plain::Plain;
 pub use refusal::{OpenRefusal, OpenRefused};
+pub use rule::Rule;
 pub use state::State;
 pub use stepped::Stepped;
-pub use tw_context::Frame;
+pub use task::Task;
+pub use tw_context::{Arg, Frame};
 pub use tw_data::Datum;

@@ -28,6 +28,7 @@ impl Model for Plain {
     ghost use Rattle.tw_types.specs.declared.actor.Actor.{Actor as AnActor};
     ghost use Rattle.tw_types.specs.Actor.{actor_cmp};
     ghost use Rattle.tw_types.specs.Store.{Datum as DatumMeaning};
+    ghost use Rattle.tw_types.specs.Rule.{Rule as RuleMeaning};
     ghost use Rattle.tw_types.specs.Task.{Task as TaskMeaning};
     ghost use Rattle.tw_code.specs.machine.State.{Frame as FrameMeaning};
     ghost use Rattle.tw_types.specs.Notices.{notice_cmp};
@@ -42,6 +43,7 @@ impl Model for Plain {
     ghost coded = { Prim.hlevel (
       codes,
       code {X = DatumMeaning} {R = nat_cmp} coded_ℕ (Prim.hlevel (codes, code {R = int_cmp} coded_ℤ coded_ℕ)),
+      code {X = RuleMeaning} {R = nat_cmp} coded_ℕ (Prim.hlevel codes),
       code {X = TaskMeaning} {R = nat_cmp} coded_ℕ (Prim.hlevel codes),
       code {X = FrameMeaning} {R = actor_cmp} (Prim.hlevel codes) (Prim.hlevel codes),
       set_code {R = notice_cmp} (Prim.hlevel codes),

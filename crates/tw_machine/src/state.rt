@@ -1,35 +1,43 @@
 //! The state of the machine.
 
-ghost use Rattle.std.specs.Prelude.{◌≡◌, ◌<◌, ◌≤◌, ◌^◌, length, true, IfOk};
-ghost use Rattle.std.specs.Option.{option_copied};
+ghost use Rattle.std.specs.Prelude.{◌≡◌, ◌<◌, ◌≤◌, ◌^◌, length, option_map, true, false, IfOk};
+ghost use Rattle.std.specs.Option.{MatchOption, option_copied};
 ghost use Rattle.std.specs.FinMap.{get};
+ghost use Rattle.std.specs.FinSet.{from_list};
+ghost use Rattle.tw_types.specs.declared.notice.Notice.{Notice as ANotice};
+ghost use Rattle.tw_types.specs.Rule.{next_ask, next_release};
+ghost use Rattle.tw_types.specs.Task.{best};
+ghost use Rattle.tw_code.specs.format.Program.{IsProgram};
 ghost use Rattle.tw_code.specs.machine.Bounds.{AreBelow, size_of};
-ghost use Rattle.tw_code.specs.machine.Ending.{ending};
+ghost use Rattle.tw_code.specs.machine.Ending.{ending, is_quiet};
 ghost use Rattle.tw_code.specs.machine.Machine.{step};
 ghost use Rattle.tw_code.specs.machine.Inputs.{are_inputs_of, input_params};
 ghost use Rattle.tw_code.specs.machine.Opening.{opened, opening_of};
 ghost use Rattle.tw_context.specs.Attempts.{Changes};
 ghost use Rattle.tw_machine.specs.Opening.{nothing_opened};
+ghost use Rattle.tw_machine.specs.Parts.{frames_of, rules_of, tasks_of};
+ghost use Rattle.tw_machine.specs.Waiting.{is_due};
 
 use crate::opened::Opened;
+use crate::rule::Rule;
+use crate::rules::Rules;
+use crate::tables::Tables;
 use crate::task::Task;
-use crate::{events, take};
+use crate::tasks::Tasks;
+use crate::{calls, events, rule_events, take};
 use std::alloc::{AllocError, Global};
 use std::collections::BTreeMap;
 use std::marker::Model;
 use tw_code::Procedure;
 use tw_context::{Frame, Notices, Stopped};
-use tw_data::{Data, Datum};
-use tw_types::{Actor, DatumId, Ending, Event, Input, Layout, Param};
+use tw_data::Datum;
+use tw_types::{Actor, DatumId, Ending, Event, Input, Layout, Notice, Param, RuleNo, TaskNo};
 
-/// The store, the tasks that wait, the tasks that run, the notices that wait, and the outputs.
+/// The data, the rules, the tasks that wait, the notices, the tasks that run, and the outputs.
 #[derive(Drop)]
 pub struct State {
-    store: Data,
-    tasks: BTreeMap<u64, Task>,
-    next_task: u64,
+    tables: Tables,
     frames: BTreeMap<Actor, Frame>,
-    notices: Notices,
     outputs: Vec<DatumId>,
 }
 
@@ -37,6 +45,7 @@ impl Model for State {
     ghost use Rattle.tw_types.specs.declared.actor.Actor.{Actor as AnActor};
     ghost use Rattle.tw_types.specs.Actor.{actor_cmp};
     ghost use Rattle.tw_types.specs.Store.{Datum as DatumMeaning};
+    ghost use Rattle.tw_types.specs.Rule.{Rule as RuleMeaning};
     ghost use Rattle.tw_types.specs.Task.{Task as TaskMeaning};
     ghost use Rattle.tw_code.specs.machine.State.{State as Meaning, Frame as FrameMeaning};
     ghost use Rattle.tw_types.specs.Notices.{notice_cmp};
@@ -50,14 +59,24 @@ impl Model for State {
     ghost coded = { Prim.hlevel (
       codes,
       code {X = DatumMeaning} {R = nat_cmp} coded_ℕ (Prim.hlevel (codes, code {R = int_cmp} coded_ℤ coded_ℕ)),
+      code {X = RuleMeaning} {R = nat_cmp} coded_ℕ (Prim.hlevel codes),
       code {X = TaskMeaning} {R = nat_cmp} coded_ℕ (Prim.hlevel codes),
       code {X = FrameMeaning} {R = actor_cmp} (Prim.hlevel codes) (Prim.hlevel codes),
       set_code {R = notice_cmp} (Prim.hlevel codes),
     ) };
 
-    ghost use Rattle.tw_machine.specs.Parts.{tasks_of, frames_of};
+    ghost use Rattle.tw_machine.specs.Parts.{frames_of};
 
-    ghost view = { λ s. record { store = s.store; tasks = tasks_of s.tasks.entries; next_task = s.next_task; frames = frames_of s.frames.entries; notices = s.notices; outputs = s.outputs.items } };
+    ghost view = { λ s. record {
+      store = s.tables.store;
+      rules = s.tables.rules.pending;
+      next_rule = s.tables.rules.next;
+      tasks = s.tables.tasks.waiting;
+      next_task = s.tables.tasks.next;
+      frames = frames_of s.frames.entries;
+      notices = s.tables.notices;
+      outputs = s.outputs.items;
+    } };
 }
 
 impl State {
@@ -76,14 +95,17 @@ impl State {
             rights,
             outputs,
         } = Opened::of(alloc, params, inputs)?;
-        let mut tasks = BTreeMap::new(alloc);
-        tasks.insert(1, Task::main(alloc, &rights)?)?;
-        Ok(State {
+        let mut tasks = Tasks::new(alloc);
+        tasks.put(Task::main(alloc, &rights)?)?;
+        let tables = Tables {
             store,
+            rules: Rules::new(alloc),
             tasks,
-            next_task: 2,
-            frames: BTreeMap::new(alloc),
             notices: Notices::new(alloc),
+        };
+        Ok(State {
+            tables,
+            frames: BTreeMap::new(alloc),
             outputs,
         })
     }
@@ -99,7 +121,7 @@ impl State {
     pub fn datum(&self, id: DatumId) -> Option<&Datum>
         ensures { option_copied result ≡ get self.now.store.live id }
     {
-        self.store.datum(id)
+        self.tables.store.datum(id)
     }
 
     /// The task that an actor runs, if it runs one.
@@ -109,16 +131,87 @@ impl State {
         self.frames.get(&actor)
     }
 
+    /// The tasks that run, by their actors.
+    pub fn frames(&self) -> &BTreeMap<Actor, Frame>
+        ensures { frames_of result.now.entries ≡ self.now.frames }
+    {
+        &self.frames
+    }
+
+    /// The rules that are pending, by their numbers.
+    pub fn rules(&self) -> &BTreeMap<u64, Rule>
+        ensures { rules_of result.now.entries ≡ self.now.rules }
+    {
+        self.tables.rules.pending()
+    }
+
+    /// The tasks that wait, by their numbers.
+    pub fn tasks(&self) -> &BTreeMap<u64, Task>
+        ensures { tasks_of result.now.entries ≡ self.now.tasks }
+    {
+        self.tables.tasks.waiting()
+    }
+
+    /// The notices that wait, in the order in which they came.
+    pub fn notices(&self) -> &[Notice]
+        ensures { from_list result.now ≡ self.now.notices }
+    {
+        self.tables.notices.as_slice()
+    }
+
+    /// The task that an actor takes next, if there is one for it.
+    pub fn best_task(&self, actor: Actor) -> Option<TaskNo>
+        ensures { result ≡ option_map (λ e. e.0) (best actor self.now.tasks) }
+    {
+        let (number, _) = self.tables.tasks.best(actor)?;
+        Some(TaskNo::new(number))
+    }
+
+    /// The rule and the parameter that an engine asks for next.
+    pub fn next_ask(&self, engine: u8) -> Option<(RuleNo, u8)>
+        ensures { result ≡ next_ask engine self.now.rules }
+    {
+        self.tables.rules.next_ask(engine)
+    }
+
+    /// The rule that an engine releases next.
+    pub fn next_release(&self, engine: u8) -> Option<RuleNo>
+        ensures { result ≡ next_release engine self.now.rules }
+    {
+        self.tables.rules.next_release(engine)
+    }
+
+    /// The oldest notice that a server of the layout delivers, if one waits.
+    pub fn oldest_notice(&self, layout: Layout, server: u8) -> Option<Notice>
+        ensures { MatchOption result ((n : ANotice) → is_due layout server self.now.notices n ≡ false) (λ n. is_due layout server self.now.notices n ≡ true) }
+    {
+        rule_events::oldest_notice(layout, server, &self.tables.notices)
+    }
+
+    /// Whether no task runs and none waits, no notice is to be delivered, and the rules are idle.
+    fn is_quiet(&self) -> bool
+        ensures { result ≡ is_quiet self.now }
+    {
+        let no_frame = self.frames.is_empty();
+        let no_task = self.tables.tasks.is_empty();
+        let no_notice = self.tables.notices.is_empty();
+        let are_idle = self.tables.rules.are_idle();
+        no_frame & no_task & no_notice & are_idle
+    }
+
     /// How the run has ended, if it has.
     pub fn ending(&self) -> Option<Ending>
         ensures { result ≡ ending self.now }
     {
-        let no_frame = self.frames.is_empty();
-        let no_task = self.tasks.is_empty();
-        let no_notice = self.notices.is_empty();
-        let no_work = no_frame && no_task;
-        let is_quiet = no_work && no_notice;
-        is_quiet.then_some(Ending::Quiet)
+        if !self.is_quiet() {
+            return None;
+        }
+        let pending = self.tables.rules.len();
+        if pending == 0 {
+            Some(Ending::Quiet)
+        } else {
+            Some(Ending::Stuck(pending))
+        }
     }
 
     /// Makes one event, or says why not; then all is as it was.
@@ -129,32 +222,51 @@ impl State {
         layout: Layout,
         event: Event,
     ) -> Result<(), Stopped>
+        requires program { IsProgram program.now }
         requires small { AreBelow (2 ^ 63) self.old }
         requires size { size_of event < 2 ^ 63 }
         ensures { Changes (step program.now layout event self.old) self.old result self.new }
     {
         match event {
-            Event::Take(actor) => take::take(
+            Event::Take(actor) => {
+                take::take(
+                    alloc,
+                    program,
+                    layout,
+                    &mut self.tables.tasks,
+                    &mut self.frames,
+                    actor,
+                )
+            }
+            Event::Local(actor, steps) => events::local(
                 alloc,
                 program,
-                layout,
-                &mut self.tasks,
                 &mut self.frames,
                 actor,
+                steps,
             ),
-            Event::Local(actor, steps) => {
-                events::local(alloc, program, &mut self.frames, actor, steps)
-            }
-            Event::Call(actor) => events::call(
+            Event::Call(actor) => calls::call(
                 alloc,
                 program,
-                &mut self.store,
-                &mut self.notices,
+                &mut self.tables,
                 &mut self.frames,
                 actor,
             ),
             Event::End(actor) => events::end(program, &mut self.frames, actor),
-            Event::Ask(..) | Event::Deliver(..) | Event::Release(..) => Err(Stopped::NotEnabled),
+            Event::Ask(engine, rule, parameter) => {
+                rule_events::ask(&mut self.tables, &self.frames, engine, rule, parameter)
+            }
+            Event::Deliver(server, datum, rule, parameter) => {
+                let notice = Notice {
+                    datum,
+                    rule,
+                    parameter,
+                };
+                rule_events::deliver(layout, &mut self.tables, server, &notice)
+            }
+            Event::Release(engine, rule) => {
+                rule_events::release(alloc, program, &mut self.tables, &self.frames, engine, rule)
+            }
         }
     }
 }

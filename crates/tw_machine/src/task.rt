@@ -7,29 +7,22 @@ ghost use Rattle.tw_code.specs.machine.Rights.{first_rights};
 ghost use Rattle.tw_code.specs.machine.Opening.{main_task};
 ghost use Rattle.tw_types.specs.Value.{blank_of};
 ghost use Rattle.tw_context.specs.Attempts.{Fails, Gives};
-ghost use Rattle.tw_machine.specs.Args.{arg_of};
+ghost use Rattle.tw_context.specs.Arguments.{arg_of};
 
 use std::alloc::{AllocError, Global};
 use std::marker::Model;
 use tw_code::Procedure;
-use tw_context::{Failure, Frame, procedure_of};
+use tw_context::{Arg, Failure, Frame, procedure_of};
 use tw_types::{Actor, Cause, DatumId, Kind, Scalar, TaskNo, Value};
-
-/// An argument: a value, or a right on a datum.
-#[derive(Drop)]
-pub enum Arg {
-    Value(Value),
-    Right(DatumId),
-}
 
 /// A task: its procedure with the kind of that, the target if it has one, and at most eight arguments.
 #[derive(Drop)]
 pub struct Task {
-    kind: Kind,
-    procedure: u8,
-    priority: i64,
-    target: Option<u8>,
-    args: Vec<Arg>,
+    pub(crate) kind: Kind,
+    pub(crate) procedure: u8,
+    pub(crate) priority: i64,
+    pub(crate) target: Option<u8>,
+    pub(crate) args: Vec<Arg>,
 }
 
 impl Model for Task {
@@ -38,7 +31,7 @@ impl Model for Task {
 
     ghost Value = { Meaning };
 
-    ghost use Rattle.tw_machine.specs.Args.{arg_of};
+    ghost use Rattle.tw_context.specs.Arguments.{arg_of};
 
     ghost view = { λ t. record { kind = t.kind; procedure = t.procedure; priority = t.priority; target = t.target; args = map arg_of t.args.items } };
 
@@ -64,10 +57,49 @@ impl Task {
         })
     }
 
+    pub(crate) fn new(
+        kind: Kind,
+        procedure: u8,
+        priority: i64,
+        target: Option<u8>,
+        args: Vec<Arg>,
+    ) -> Task
+        requires { length args.items ≤ 8 }
+        ensures { result ≡ record { kind = kind; procedure = procedure; priority = priority; target = target; args = map arg_of args.items } }
+    {
+        Task {
+            kind,
+            procedure,
+            priority,
+            target,
+            args,
+        }
+    }
+
+    /// The number of its procedure in the program.
+    pub fn procedure(&self) -> u8
+        ensures { result ≡ self.now.procedure }
+    {
+        self.procedure
+    }
+
     pub fn priority(&self) -> i64
         ensures { result ≡ self.now.priority }
     {
         self.priority
+    }
+
+    /// The number of the one actor that may take it, if not any.
+    pub fn target(&self) -> Option<u8>
+        ensures { result ≡ self.now.target }
+    {
+        self.target
+    }
+
+    pub fn args(&self) -> &[Arg]
+        ensures { map arg_of result.now ≡ self.now.args }
+    {
+        &self.args
     }
 
     /// Whether the actor may take it.

@@ -1,7 +1,7 @@
 use Rattle.std.proofs.Common.{◌≡◌, ◌≤◌, take, length, map}
 use Rattle.tw_code.specs.machine.State.{ids_in}
 use Rattle.tw_code.specs.machine.Rights.{first_rights}
-use Rattle.tw_machine.specs.Args.{arg_of}
+use Rattle.tw_context.specs.Arguments.{arg_of}
 use Rattle.tw_machine.proofs.task.first_rights.Given as goal
 
 abbrev pub invariant-loop-arg : goal.invariant-loop-arg

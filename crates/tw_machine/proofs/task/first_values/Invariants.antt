@@ -1,6 +1,6 @@
 use Rattle.std.proofs.Common.{◌≡◌, ◌≤◌, drop, length, map}
 use Rattle.tw_code.specs.machine.State.{filled, values_in}
-use Rattle.tw_machine.specs.Args.{arg_of}
+use Rattle.tw_context.specs.Arguments.{arg_of}
 use Rattle.tw_machine.proofs.Filling.{after}
 use Rattle.tw_machine.proofs.task.first_values.Given as goal
 

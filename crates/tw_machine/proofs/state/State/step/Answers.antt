@@ -1,4 +1,4 @@
-use Rattle.std.proofs.Common.{◌^◌, rules, subst, sym}
+use Rattle.std.proofs.Common.{◌^◌, subst, sym}
 use Rattle.tw_code.specs.machine.Bounds.{AreBelow}
 use Rattle.tw_code.specs.machine.State.{State}
 use Rattle.tw_code.specs.machine.Machine.{step}
@@ -13,7 +13,7 @@ pub call-requires-clause-spent : goal.call-requires-clause-spent
 call-requires-clause-spent c = few_at (2 ^ 63) (the_view c.self.inside) c.in-Call.actor (subst (λ (s : State). AreBelow (2 ^ 63) s) (sym c.self.view_is) c.requires.small)
 
 pub call-requires-clause-room : goal.call-requires-clause-room
-call-requires-clause-room c = room_below (the_view c.self.inside) (subst (λ (s : State). AreBelow (2 ^ 63) s) (sym c.self.view_is) c.requires.small)
+call-requires-clause-room c = room_below (the_view c.self.inside) c.self.inside.tables (subst (λ (s : State). AreBelow (2 ^ 63) s) (sym c.self.view_is) c.requires.small)
 
 pub returns-in-Take : goal.returns-in-Take
 unfolding step
@@ -33,4 +33,12 @@ returns-in-End c = rw (c.in-End.is, ← c.self.view_is) (c.end.ensures (the_view
 
 pub returns-in-Ask : goal.returns-in-Ask
 unfolding step
-returns-in-Ask c = search rules
+returns-in-Ask c = rw (c.in-Ask.is, ← c.self.view_is) (c.ask.ensures (the_view c.self.inside))
+
+pub returns-in-Deliver : goal.returns-in-Deliver
+unfolding step
+returns-in-Deliver c = rw (c.in-Deliver.is, ← c.self.view_is) (c.deliver.ensures (the_view c.self.inside))
+
+pub returns-in-Release : goal.returns-in-Release
+unfolding step
+returns-in-Release c = rw (c.in-Release.is, ← c.self.view_is) (c.release.ensures (the_view c.self.inside))

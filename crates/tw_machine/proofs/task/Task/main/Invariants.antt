@@ -1,6 +1,6 @@
 use Rattle.std.proofs.Common.{◌≡◌, take, map}
 use Rattle.tw_types.specs.Task.{RightArg}
-use Rattle.tw_machine.specs.Args.{arg_of}
+use Rattle.tw_context.specs.Arguments.{arg_of}
 use Rattle.tw_machine.proofs.task.Task.main.Given as goal
 
 abbrev pub invariant-loop-id : goal.invariant-loop-id

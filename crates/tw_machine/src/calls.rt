@@ -1,0 +1,165 @@
+//! The instructions that are neither local nor RET: those on data, RULE and PUT.
+
+ghost use Rattle.std.specs.Prelude.{◌≡◌, ◌<◌, ◌^◌, IfSome, List};
+ghost use Rattle.std.specs.FinMap.{get};
+ghost use Rattle.tw_types.specs.declared.actor.Actor.{Actor as AnActor};
+ghost use Rattle.tw_code.specs.declared.instr.Instr.TheVariants.{Data as DATA, Put as PUT, Rule as RULE};
+ghost use Rattle.tw_code.specs.declared.procedure.Procedure.{Procedure as AProcedure};
+ghost use Rattle.tw_code.specs.format.Program.{IsProgram};
+ghost use Rattle.tw_code.specs.machine.Machine.{call_event};
+ghost use Rattle.tw_code.specs.machine.State.{State as Meaning};
+ghost use Rattle.tw_context.specs.Attempts.{Changes};
+ghost use Rattle.tw_context.specs.Room.{HasRoom};
+ghost use Rattle.tw_machine.specs.Events.{CallComes, HaveRoom, TablesCome, with_frames, with_tables};
+ghost use Rattle.tw_machine.specs.Parts.{frames_of};
+
+use crate::rule::Rule;
+use crate::tables::Tables;
+use crate::task::Task;
+use std::alloc::Global;
+use std::collections::BTreeMap;
+use tw_code::{Action, DataInstr, Instr, Procedure};
+use tw_context::{Call, Frame, Stopped, called, data_instr, instr_at, procedure_of, put_called};
+use tw_types::{Actor, Kind};
+
+/// The frame's task does a RULE.
+fn make_rule(
+    alloc: Global,
+    program: &[Procedure],
+    kind: Kind,
+    actor: Actor,
+    tables: &mut Tables,
+    frame: &mut Frame,
+    action: &Action,
+) -> Result<(), Stopped>
+    requires program { IsProgram program.now }
+    requires place { frame.old.position.place < 2 ^ 63 }
+    requires spent { frame.old.spent < 2 ^ 63 }
+    requires room { HaveRoom tables.old }
+    ensures { (procedure : AProcedure) → procedure.kind ≡ kind → CallComes program.now actor procedure (RULE action.now) tables.old frame.old result tables.new frame.new }
+{
+    let Call {
+        kind,
+        procedure,
+        priority,
+        target,
+        args,
+        params,
+        rights,
+    } = called(alloc, program, kind, &tables.store, frame, action)?;
+    let task = Task::new(kind, procedure, priority, target, args);
+    let rule = Rule::new(alloc, actor.number(), params, task)?;
+    tables.rules.add(rule)?;
+    frame.go_behind(rights);
+    Ok(())
+}
+
+/// The frame's task does a PUT.
+fn put_task(
+    alloc: Global,
+    program: &[Procedure],
+    kind: Kind,
+    actor: Actor,
+    tables: &mut Tables,
+    frame: &mut Frame,
+    action: &Action,
+) -> Result<(), Stopped>
+    requires program { IsProgram program.now }
+    requires place { frame.old.position.place < 2 ^ 63 }
+    requires spent { frame.old.spent < 2 ^ 63 }
+    requires room { HaveRoom tables.old }
+    ensures { (procedure : AProcedure) → procedure.kind ≡ kind → CallComes program.now actor procedure (PUT action.now) tables.old frame.old result tables.new frame.new }
+{
+    let Call {
+        kind,
+        procedure,
+        priority,
+        target,
+        args,
+        params: _,
+        rights,
+    } = put_called(alloc, program, kind, &tables.store, frame, action)?;
+    let task = Task::new(kind, procedure, priority, target, args);
+    tables.tasks.put(task)?;
+    frame.go_behind(rights);
+    Ok(())
+}
+
+/// The frame's task does an instruction on data.
+fn do_data(
+    alloc: Global,
+    on_data: DataInstr,
+    tables: &mut Tables,
+    frame: &mut Frame,
+) -> Result<(), Stopped>
+    requires place { frame.old.position.place < 2 ^ 63 }
+    requires spent { frame.old.spent < 2 ^ 63 }
+    requires room { HasRoom tables.old.store }
+    ensures { (program : List AProcedure) (actor : AnActor) (procedure : AProcedure) → CallComes program actor procedure (DATA on_data) tables.old frame.old result tables.new frame.new }
+{
+    data_instr(
+        alloc,
+        on_data,
+        &mut tables.store,
+        &mut tables.notices,
+        frame,
+    )?;
+    frame.count();
+    Ok(())
+}
+
+fn call_of(
+    alloc: Global,
+    program: &[Procedure],
+    actor: Actor,
+    tables: &mut Tables,
+    frame: &mut Frame,
+) -> Result<(), Stopped>
+    requires program { IsProgram program.now }
+    requires spent { frame.old.spent < 2 ^ 63 }
+    requires room { HaveRoom tables.old }
+    ensures { TablesCome (call_event program.now actor) actor tables.old frame.old result tables.new frame.new }
+{
+    let procedure = procedure_of(program, frame.procedure())?;
+    match instr_at(procedure.code.as_slice(), frame.place())? {
+        Instr::Data(on_data) => do_data(alloc, *on_data, tables, frame),
+        Instr::Rule(action) => make_rule(
+            alloc,
+            program,
+            procedure.kind,
+            actor,
+            tables,
+            frame,
+            action,
+        ),
+        Instr::Put(action) => put_task(
+            alloc,
+            program,
+            procedure.kind,
+            actor,
+            tables,
+            frame,
+            action,
+        ),
+        Instr::Local(_) | Instr::Ret => Err(Stopped::NotEnabled),
+    }
+}
+
+/// The actor's task does one instruction that is neither local nor RET.
+pub fn call(
+    alloc: Global,
+    program: &[Procedure],
+    tables: &mut Tables,
+    frames: &mut BTreeMap<Actor, Frame>,
+    actor: Actor,
+) -> Result<(), Stopped>
+    requires program { IsProgram program.now }
+    requires spent { IfSome (get (frames_of frames.old.entries) actor) (λ frame. frame.spent < 2 ^ 63) }
+    requires room { HaveRoom tables.old }
+    ensures { (s : Meaning) → let old = with_frames (with_tables s tables.old) (frames_of frames.old.entries) in Changes (call_event program.now actor old) old result (with_frames (with_tables s tables.new) (frames_of frames.new.entries)) }
+{
+    let Some(frame) = frames.get_mut(&actor) else {
+        return Err(Stopped::NotEnabled);
+    };
+    call_of(alloc, program, actor, tables, frame)
+}

@@ -1,0 +1,145 @@
+//! The events of rules and notices.
+
+ghost use Rattle.std.specs.Prelude.{◌≡◌, ◌<◌, ◌^◌, ◌==◌, ◌&&◌, nat_lt, false, true};
+ghost use Rattle.std.specs.FinSet.{from_list};
+ghost use Rattle.std.specs.Option.{MatchOption, option_copied};
+ghost use Rattle.tw_types.specs.declared.notice.Notice.{Notice as ANotice};
+ghost use Rattle.tw_types.specs.Outcome.{enabled};
+ghost use Rattle.tw_types.specs.Store.{server_of};
+ghost use Rattle.tw_code.specs.machine.Machine.{ask_event, deliver_event, own_rule, release_event};
+ghost use Rattle.tw_code.specs.machine.State.{State as Meaning};
+ghost use Rattle.tw_context.specs.Attempts.{Changes};
+ghost use Rattle.tw_machine.specs.Events.{TablesChange, with_frames, with_tables};
+ghost use Rattle.tw_machine.specs.Parts.{frames_of};
+ghost use Rattle.tw_machine.specs.Waiting.{is_due};
+
+use crate::rule::Rule;
+use crate::tables::Tables;
+use std::alloc::Global;
+use std::collections::BTreeMap;
+use tw_code::Procedure;
+use tw_context::{Frame, Notices, Stopped, procedure_of};
+use tw_types::{Actor, Cause, DatumId, Layout, Notice, RuleNo, Stage, Subscriber};
+
+/// The rule of the number, if the engine holds it and runs no task.
+fn own_rule<'a>(
+    tables: &'a Tables,
+    frames: &BTreeMap<Actor, Frame>,
+    engine: u8,
+    number: RuleNo,
+) -> Option<&'a Rule>
+    ensures { (s : Meaning) → own_rule engine number (with_frames (with_tables s tables.now) (frames_of frames.now.entries)) ≡ enabled (option_copied result) }
+{
+    if frames.contains_key(&Actor::Engine(engine)) {
+        return None;
+    }
+    let Some(rule) = tables.rules.get(number) else {
+        return None;
+    };
+    if rule.engine() != engine {
+        return None;
+    }
+    Some(rule)
+}
+
+/// The engine asks for a parameter of a rule: it is ready where its datum is closed, else the rule waits for that.
+pub fn ask(
+    tables: &mut Tables,
+    frames: &BTreeMap<Actor, Frame>,
+    engine: u8,
+    number: RuleNo,
+    parameter: u8,
+) -> Result<(), Stopped>
+    ensures { TablesChange (ask_event engine number parameter) (frames_of frames.now.entries) tables.old result tables.new }
+{
+    let Some(rule) = own_rule(tables, frames, engine, number) else {
+        return Err(Stopped::NotEnabled);
+    };
+    let Some(id) = rule.unasked_id(parameter) else {
+        return Err(Stopped::NotEnabled);
+    };
+    let Some(datum) = tables.store.datum(id) else {
+        return Err(Stopped::Trap(Cause::FreedDatum));
+    };
+    if datum.closed() {
+        tables.rules.set_stage(number, parameter, Stage::Ready);
+    } else {
+        let subscriber = Subscriber {
+            rule: number,
+            parameter,
+        };
+        tables.store.subscribe(id, subscriber)?;
+        tables.rules.set_stage(number, parameter, Stage::Waiting);
+    }
+    Ok(())
+}
+
+/// Whether a server of the layout delivers the notices of a datum.
+fn is_of_server(layout: Layout, server: u8, id: DatumId) -> bool
+    ensures { result ≡ (nat_lt server layout.servers && (server_of layout.servers id == server)) }
+{
+    let servers = layout.servers();
+    server < servers && id.number() % u64::from(servers) == u64::from(server)
+}
+
+/// The oldest notice that the server delivers, if one waits.
+pub fn oldest_notice(layout: Layout, server: u8, notices: &Notices) -> Option<Notice>
+    ensures { MatchOption result ((n : ANotice) → is_due layout server notices.now n ≡ false) (λ n. is_due layout server notices.now n ≡ true) }
+{
+    oldest_of(layout, server, notices.as_slice())
+}
+
+fn oldest_of(layout: Layout, server: u8, notices: &[Notice]) -> Option<Notice>
+    ensures { MatchOption result ((n : ANotice) → is_due layout server (from_list notices.now) n ≡ false) (λ n. is_due layout server (from_list notices.now) n ≡ true) }
+{
+    for notice in notices {
+        if is_of_server(layout, server, notice.datum) {
+            return Some(*notice);
+        }
+    }
+    None
+}
+
+/// The server delivers a notice: the parameter that it names is ready, if the rule is pending.
+pub fn deliver(
+    layout: Layout,
+    tables: &mut Tables,
+    server: u8,
+    notice: &Notice,
+) -> Result<(), Stopped>
+    ensures { (s : Meaning) → Changes (deliver_event layout server notice.now (with_tables s tables.old)) (with_tables s tables.old) result (with_tables s tables.new) }
+{
+    if !is_of_server(layout, server, notice.datum) || !tables.notices.contains(notice) {
+        return Err(Stopped::NotEnabled);
+    }
+    tables.notices.remove(notice);
+    tables
+        .rules
+        .set_stage(notice.rule, notice.parameter, Stage::Ready);
+    Ok(())
+}
+
+/// The engine releases a rule: it becomes a task.
+pub fn release(
+    alloc: Global,
+    program: &[Procedure],
+    tables: &mut Tables,
+    frames: &BTreeMap<Actor, Frame>,
+    engine: u8,
+    number: RuleNo,
+) -> Result<(), Stopped>
+    requires { tables.old.tasks.next < 2 ^ 63 }
+    ensures { TablesChange (release_event program.now engine number) (frames_of frames.now.entries) tables.old result tables.new }
+{
+    let Some(rule) = own_rule(tables, frames, engine, number) else {
+        return Err(Stopped::NotEnabled);
+    };
+    if !rule.is_releasable() {
+        return Err(Stopped::NotEnabled);
+    }
+    let procedure = procedure_of(program, rule.procedure())?;
+    let task = rule.task(alloc, procedure.kind)?;
+    tables.tasks.put(task)?;
+    tables.rules.remove(number);
+    Ok(())
+}

@@ -1,0 +1,15 @@
+//! All of the state but the tasks that run.
+
+use crate::rules::Rules;
+use crate::tasks::Tasks;
+use tw_context::Notices;
+use tw_data::Data;
+
+/// The data, the rules, the tasks and the notices.
+#[derive(Drop)]
+pub struct Tables {
+    pub store: Data,
+    pub rules: Rules,
+    pub tasks: Tasks,
+    pub notices: Notices,
+}
