@@ -1,0 +1,2 @@
+//! What holds of every state that an accepted program reaches.
+#![tactic(auto)]
