@@ -18,7 +18,8 @@ use Rattle.tw_code.specs.machine.Holders.{read_by, write_by, over}
 use Rattle.tw_invariant.proofs.Over.{over_params}
 use Rattle.tw_invariant.specs.Invariant.{ValuesFit}
 use Rattle.tw_types.proofs.Freeing.{held_is_there}
-use Rattle.tw_invariant.proofs.Given.{AllYes, GivenSo, moved_goes, values_met, all_live, all_typed, all_closed}
+use Rattle.tw_invariant.proofs.Given.{GivenSo, moved_goes, values_met, all_live, all_typed, all_closed}
+use Rattle.tw_invariant.proofs.Values.{AllYes}
 use Rattle.tw_invariant.proofs.Registers.{Fits}
 use Rattle.tw_invariant.proofs.Steps.{Goes, goes, goes_must, goes_more}
 

@@ -32,17 +32,15 @@ use Rattle.tw_types.specs.TypedStore.{IsOfType}
 use Rattle.tw_invariant.specs.Invariant.{ValuesFit}
 use Rattle.tw_invariant.proofs.Aging.{Aged}
 use Rattle.tw_types.proofs.Freeing.{hits_same, hits_other}
-use Rattle.tw_invariant.proofs.Given.{AllYes}
+use Rattle.tw_invariant.proofs.Values.{AllYes}
 use Rattle.tw_invariant.proofs.Registers.{Fits, Settles, At, at_right, aged_context, emptied, rights_set}
 use Rattle.tw_invariant.proofs.Steps.{Goes, goes, goes_must, goes_then}
+use Rattle.tw_invariant.proofs.Values.{Moves}
 
 -- what an instruction on data leaves
 pub record Leaves (registers : List Scalar) (i : DataInstr) (typing : Typing) (old : Context) (r w : ℕ → ℕ) (new : Context) : Type 0 where
-  pub way : Way
-  pub place : onward way old.position.place (data_flow i) ≡ Some new.position.place
-  pub loops : new.position.loops ≡ old.position.loops
-  pub values : ValuesFit registers new.position.values
-  pub settles : Settles (after_data way i typing) old r w new
+  pub moves : Moves registers (data_flow i) old.position new.position
+  pub settles : Settles (after_data moves.way i typing) old r w new
 
 pub met_right : (test : Right → Bool) (o : Option Right) → passes test o ≡ true → (q : Right) × (o ≡ Some q) × (test q ≡ true)
 met_right test None e = cc
@@ -71,10 +69,7 @@ module _ (p : Procedure) (typing : Typing) (c : Context) (r w : ℕ → ℕ) (fi
       goes (held c.rights d) _ _ h.id (ap (λ o. ok_or (option_flatten o) EmptyRegister) h.register)
       (goes_then (may_drop_read (datum_of c h.id)) _ _ (rw (h.live, kept) refl)
       (record {
-        way = Done;
-        place = refl;
-        loops = refl;
-        values = values;
+        moves = record { way = Done; goes_on = refl; values = values };
         settles = aged_context typing (slice_set typing d None) c _ r w h.id h.x (record h.x { reads = h.x.reads - 1 }) fits h.live
             (record { ty = refl; members = refl; closed = λ t. t; content = λ t. t; writers = λ t. t })
             (λ e ne. (let no_hit = hits_other e h.id (λ z. ne (sym z)) in let s = sum_r e in omega arith, let s = sum_w e in omega arith))
@@ -127,10 +122,7 @@ module _ (p : Procedure) (typing : Typing) (c : Context) (r w : ℕ → ℕ) (fi
       goes (held c.rights d) _ _ h.id (ap (λ o. ok_or (option_flatten o) EmptyRegister) h.register)
       (goes_then (may_drop_write (datum_of c h.id)) _ _ (rw (h.live, deep_x, kept) refl)
       (record {
-        way = Done;
-        place = refl;
-        loops = refl;
-        values = values;
+        moves = record { way = Done; goes_on = refl; values = values };
         settles = aged_context typing (slice_set typing d None) c _ r w h.id h.x (subscribers_cleared (one_write_less h.x)) fits h.live
             (told_aged h.x (one_write_less h.x) (less_aged h.x deep_x (fits.store.contents h.id h.x h.live)))
             (λ e ne. (let s = sum_r e in omega arith, let no_hit = hits_other e h.id (λ z. ne (sym z)) in let s = sum_w e in omega arith))
@@ -177,10 +169,7 @@ module _ (p : Procedure) (typing : Typing) (c : Context) (r w : ℕ → ℕ) (fi
       (goes (held c.rights d) _ _ h.id (ap (λ o. ok_or (option_flatten o) EmptyRegister) h.register)
       (goes_then (may_store x (datum_of c h.id)) _ _ (rw (h.live, x_scalar, same, is_un, kept) refl)
       (record {
-        way = Done;
-        place = refl;
-        loops = refl;
-        values = values;
+        moves = record { way = Done; goes_on = refl; values = values };
         settles = aged_context typing (slice_set typing d None) c _ r w h.id h.x (subscribers_cleared (set_to x h.x)) fits h.live
             (told_aged h.x (set_to x h.x) (record { ty = refl; members = ap members_of (sym unset.0); closed = λ z. refl; content = λ z. (x_scalar, of_x); writers = λ z. omega (arith, unset.1) }))
             (λ e ne. (let s = sum_r e in omega arith, let no_hit = hits_other e h.id (λ z. ne (sym z)) in let s = sum_w e in omega arith))

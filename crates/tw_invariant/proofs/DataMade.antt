@@ -26,7 +26,7 @@ use Rattle.tw_invariant.specs.Invariant.{Holds, RightsFit, ValuesFit}
 use Rattle.tw_invariant.proofs.DataLeft.{Leaves, met_right, read_no_write}
 use Rattle.tw_invariant.proofs.Aging.{Aged, later_put}
 use Rattle.tw_types.proofs.Freeing.{put_balanced, hits_same, hits_other}
-use Rattle.tw_invariant.proofs.Given.{AllYes}
+use Rattle.tw_invariant.proofs.Values.{AllYes}
 use Rattle.tw_invariant.proofs.Long.{free_there, empty_there}
 use Rattle.tw_invariant.proofs.Registers.{Fits, Settles, At, at_right, holds_undisturbed, later_undisturbed, later_store, rights_kept, over-set, rights_set}
 use Rattle.tw_invariant.proofs.Steps.{Goes, goes, goes_then}
@@ -81,10 +81,7 @@ module _ (p : Procedure) (typing : Typing) (c : Context) (r w : ℕ → ℕ) (fi
       (goes (held c.rights from) _ _ h.id (ap (λ o. ok_or (option_flatten o) EmptyRegister) h.register)
       (goes_then (may_be_read (datum_of c h.id)) _ _ (rw h.live refl)
       (record {
-        way = Done;
-        place = refl;
-        loops = refl;
-        values = values;
+        moves = record { way = Done; goes_on = refl; values = values };
         settles = rw there_is (put_context typing (slice_set typing to (Some q)) c _ r w h.id h.x (one_read_more h.x) fits h.live
             (record { ty = refl; members = refl; closed = λ t. t; content = λ t. t; writers = λ t. t })
             (λ e ne. let no_hit = hits_other e h.id (λ z. ne (sym z)) in (let s = sum_r e in omega arith, let s = sum_w e in omega arith))
@@ -123,10 +120,7 @@ module _ (p : Procedure) (typing : Typing) (c : Context) (r w : ℕ → ℕ) (fi
       (goes (held c.rights from) _ _ h.id (ap (λ o. ok_or (option_flatten o) EmptyRegister) h.register)
       (goes_then (may_copy_write (datum_of c h.id)) _ _ (rw (h.live, deep_x) refl)
       (record {
-        way = Done;
-        place = refl;
-        loops = refl;
-        values = values;
+        moves = record { way = Done; goes_on = refl; values = values };
         settles = rw there_is (put_context typing (slice_set typing to (Some q)) c _ r w h.id h.x (one_write_more h.x) fits h.live
             (more_aged h.x deep_x (fits.store.contents h.id h.x h.live) more)
             (λ e ne. let no_hit = hits_other e h.id (λ z. ne (sym z)) in (let s = sum_r e in omega arith, let s = sum_w e in omega arith))

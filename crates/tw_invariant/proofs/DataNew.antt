@@ -27,7 +27,7 @@ use Rattle.tw_types.specs.TypedStore.{IsOfType, IsTypedStore}
 use Rattle.tw_invariant.specs.Invariant.{Holds, ValuesFit}
 use Rattle.tw_invariant.proofs.DataLeft.{Leaves}
 use Rattle.tw_types.proofs.Freeing.{new_balanced, balanced_none, data_insert_same, data_insert_other, hits_same, hits_other}
-use Rattle.tw_invariant.proofs.Given.{AllYes}
+use Rattle.tw_invariant.proofs.Values.{AllYes}
 use Rattle.tw_code.proofs.Lists.{get_set_other}
 use Rattle.tw_invariant.proofs.Long.{free_there, empty_there}
 use Rattle.tw_types.proofs.Parts.{put_or_before}
@@ -134,10 +134,7 @@ module _ (p : Procedure) (typing : Typing) (c : Context) (r w : ℕ → ℕ) (fi
       (goes_then (must_be_empty c.rights read) _ _ (ap (λ o. must (is_none (option_flatten o)) WrongRegister) rr)
       (goes_then (must (not (write == read)) WrongRegister) _ _ (ap (λ b. must b WrongRegister) met.1.1.0)
       (record {
-        way = Done;
-        place = refl;
-        loops = refl;
-        values = values;
+        moves = record { way = Done; goes_on = refl; values = values };
         settles = record {
           others = others;
           fits = record {

@@ -32,32 +32,13 @@ use Rattle.tw_types.proofs.Freeing.{hits_same}
 use Rattle.tw_invariant.proofs.Registers.{Found, found, emptied, rights_set}
 use Rattle.tw_invariant.proofs.Scalars.{same_scalars, scalar_itself, same_types, type_itself}
 use Rattle.tw_invariant.proofs.Steps.{Goes, goes_more}
+use Rattle.tw_invariant.proofs.Values.{AllYes, all_yes, declared_as, value_found}
 
 -- ---- questions
-
-abbrev pub AllYes : List Question → Type 0
-AllYes [] = Unit {0}
-AllYes (q ∷ questions) = (q.1 ≡ true) × AllYes questions
-
--- where nothing is refused each answer is met
-pub all_yes : (questions : List Question) → refusal_in questions ≡ None → AllYes questions
-all_yes [] e = tt
-all_yes ((n, true) ∷ questions) e = (refl, all_yes questions e)
-all_yes ((n, false) ∷ questions) e = cc
-
-declared_as : (o : Option Scalar) (ty : Scalar) → passes (λ declared. same_scalar declared ty) o ≡ true → o ≡ Some ty
-declared_as None ty e = cc
-declared_as (Some declared) ty e = ap Some (same_scalars declared ty e)
 
 passed : {A : Type 0} (test : A → Bool) (o : Option A) → passes test o ≡ true → (x : A) × (o ≡ Some x) × (test x ≡ true)
 passed test None e = cc
 passed test (Some x) e = (x, refl, e)
-
-value_found : (declared : List Scalar) (values : List Value) (r : ℕ) (ty : Scalar) → ValuesFit declared values → slice_get declared r ≡ Some ty → (x : Value) × (slice_get values r ≡ Some x) × (scalar_of x ≡ ty)
-value_found [] values r ty f e = cc
-value_found (d ∷ declared) [] r ty f e = absurd f
-value_found (d ∷ declared) (x ∷ values) zero ty f e = let d_is : d ≡ ty = cc in (x, refl, f.0 ∙ d_is)
-value_found (d ∷ declared) (x ∷ values) (suc r) ty f e = value_found declared values r ty f.1 e
 
 -- ---- what stands for a parameter
 

@@ -3,6 +3,7 @@ pub mod Over
 pub mod Aging
 pub mod Steps
 pub mod Scalars
+pub mod Values
 pub mod Registers
 pub mod Named
 pub mod Asked

@@ -31,7 +31,8 @@ use Rattle.tw_invariant.proofs.Asked.{named_new}
 use Rattle.tw_invariant.proofs.Called.{CalledSo, called_goes, put_goes}
 use Rattle.tw_invariant.proofs.Framed.{Stands, types_tasked, numbers_tasked, types_ruled, numbers_ruled, types_untasked, numbers_untasked, types_framed, budgets_framed, counts_put, counts_rule, counts_took}
 use Rattle.tw_types.proofs.Freeing.{balanced_same}
-use Rattle.tw_invariant.proofs.Given.{AllYes, put_fit, rule_fit}
+use Rattle.tw_invariant.proofs.Given.{put_fit, rule_fit}
+use Rattle.tw_invariant.proofs.Values.{AllYes}
 use Rattle.tw_invariant.proofs.Registers.{Fits}
 use Rattle.tw_invariant.proofs.Steps.{Keeps, goes_keeps, ok_keeps, enabled_keeps, only_if_keeps}
 use Rattle.tw_invariant.proofs.Taking.{best_waits, filled_fits, args_values, start_fits, over_start}

@@ -32,7 +32,7 @@ use Rattle.tw_invariant.specs.Invariant.{TypesHeld, CountsHeld, IsHeld}
 use Rattle.tw_invariant.proofs.DataNamed.{HasWriter, data_named}
 use Rattle.tw_invariant.proofs.Framed.{Stands, types_framed, budgets_framed}
 use Rattle.tw_types.proofs.Freeing.{balanced_same}
-use Rattle.tw_invariant.proofs.Given.{AllYes}
+use Rattle.tw_invariant.proofs.Values.{AllYes}
 use Rattle.tw_invariant.proofs.Wanted.{wanted_is_there}
 use Rattle.tw_invariant.proofs.Registers.{Fits, Settles, At, at_right, holds_undisturbed, rights_kept}
 use Rattle.tw_invariant.proofs.Stages.{args_kept, rule_args_kept}
