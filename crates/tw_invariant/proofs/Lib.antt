@@ -24,3 +24,4 @@ pub mod DataLeft
 pub mod DataMade
 pub mod DataNew
 pub mod DataInsert
+pub mod DataReads
