@@ -1,6 +1,6 @@
 -- Instructions on data that are asked for go, and leave what fits the typing behind them: STORE, the drops and the copies of rights, and those that read members.
-use Rattle.std.proofs.Common.{◌≡◌, ℕ, ◌+◌, ◌-◌, ◌<◌, ◌==◌, Bool, true, false, not, ◌&&◌, List, slice_get, slice_set, Option, Some, None, refl, sym, ap, ◌∙◌, arith}
-use Rattle.std.proofs.lemmas.Bool.{ne_eqb, eq-eqb, eqb-true, not-true}
+use Rattle.std.proofs.Common.{◌≡◌, ℕ, ◌+◌, ◌-◌, ◌<◌, ◌==◌, Bool, true, false, not, ◌&&◌, ◌||◌, List, slice_get, slice_set, Option, Some, None, refl, sym, ap, ◌∙◌, arith}
+use Rattle.std.proofs.lemmas.Bool.{and_parts, ne_eqb, eq-eqb, eqb-true, not-true}
 use Rattle.std.specs.FinMap.{get}
 use Rattle.std.specs.Option.{option_and_then, option_flatten, ok_or}
 use Rattle.tw_types.specs.Nesting.{NestedScalar}
@@ -35,7 +35,7 @@ use Rattle.tw_types.proofs.Freeing.{hits_same, hits_other}
 use Rattle.tw_invariant.proofs.Values.{AllYes}
 use Rattle.tw_invariant.proofs.Registers.{Fits, Settles, At, at_right, aged_context, emptied, rights_set}
 use Rattle.tw_invariant.proofs.Steps.{Goes, goes, goes_must, goes_then}
-use Rattle.tw_invariant.proofs.Values.{Moves}
+use Rattle.tw_invariant.proofs.Values.{Moves, declared_as, value_found}
 
 -- what an instruction on data leaves
 pub record Leaves (registers : List Scalar) (i : DataInstr) (typing : Typing) (old : Context) (r w : ℕ → ℕ) (new : Context) : Type 0 where
@@ -175,3 +175,18 @@ module _ (p : Procedure) (typing : Typing) (c : Context) (r w : ℕ → ℕ) (fi
             (λ e ne. (let s = sum_r e in omega arith, let no_hit = hits_other e h.id (λ z. ne (sym z)) in let s = sum_w e in omega arith))
             (omega (arith, h.reads, t.0)) (omega (arith, h.writes, t.1)) live next (rights_set c.store typing c.rights d None None fits.rights tt);
       }))))
+
+  pub store_leaves : (d from : ℕ) → AllYes (asks_data p.registers (on_data.Store d from) typing) → Goes (data_instr (on_data.Store d from) c) (Leaves p.registers (on_data.Store d from) typing c r w)
+  store_leaves d from met = by (right_at typing d) refl met.0 met.1.1.0
+    where
+      typed : (right : Right) → writes_scalar right ≡ true → (not (writes_scalar right) || passes (λ declared. same_scalar declared right.ty.scalar) (slice_get p.registers from)) ≡ true → slice_get p.registers from ≡ Some right.ty.scalar
+      typed right writes e = declared_as (slice_get p.registers from) right.ty.scalar (sym (ap (λ b. not b || passes (λ declared. same_scalar declared right.ty.scalar) (slice_get p.registers from)) writes) ∙ e)
+
+      by : (o : Option Right) → right_at typing d ≡ o → passes writes_scalar o ≡ true
+          → (not (passes writes_scalar o) || passes (λ right. passes (λ declared. same_scalar declared right.ty.scalar) (slice_get p.registers from)) o) ≡ true
+          → Goes (data_instr (on_data.Store d from) c) (Leaves p.registers (on_data.Store d from) typing c r w)
+      by None e first second = cc
+      by (Some right) e first second =
+          let both = and_parts (is_write right.mode) (is_scalar right.ty) first in
+          let found = value_found p.registers c.position.values from right.ty.scalar values (typed right first second) in
+          store_at d from right found.0 both.0 both.1 found.1 found.2 (at_right d typing c r w right fits e)

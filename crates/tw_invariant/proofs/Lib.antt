@@ -25,3 +25,6 @@ pub mod DataMade
 pub mod DataNew
 pub mod DataInsert
 pub mod DataReads
+pub mod DataLeaves
+pub mod Moving
+pub mod Accepted
