@@ -87,7 +87,7 @@ module _ (program : List Procedure) (typings : Typings) (accepts : (k : ℕ) (p 
     acc : Accepts program (typings f.procedure) p
     acc = accepts f.procedure p here
 
-    stands : Stands p f.spent f.position
+    pub stands : Stands p f.spent f.position
     stands = record {
       values = held.types.values a f p is here;
       begun = held.budgets.begun a f p is here;

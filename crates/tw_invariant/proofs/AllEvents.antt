@@ -37,7 +37,7 @@ none_held d (None ∷ typing) [] e = (refl, refl)
 none_held d (None ∷ typing) (r ∷ rights) e = let h = none_held d typing rights e in (omega (arith, h.0), omega (arith, h.1))
 none_held d (Some right ∷ typing) rights e = cc
 
-all_empty : (m : Store) (typing : Typing) (rights : Rights) → RightsFit m typing rights → list_all is_none typing ≡ true → list_all is_none rights ≡ true
+pub all_empty : (m : Store) (typing : Typing) (rights : Rights) → RightsFit m typing rights → list_all is_none typing ≡ true → list_all is_none rights ≡ true
 all_empty m [] [] h e = refl
 all_empty m [] (r ∷ rights) h e = absurd h
 all_empty m (t ∷ typing) [] h e = absurd h

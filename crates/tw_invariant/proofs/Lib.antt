@@ -28,3 +28,4 @@ pub mod DataReads
 pub mod DataLeaves
 pub mod Moving
 pub mod Accepted
+pub mod OneStep
