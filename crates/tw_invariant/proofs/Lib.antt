@@ -29,3 +29,4 @@ pub mod DataLeaves
 pub mod Moving
 pub mod Accepted
 pub mod OneStep
+pub mod Filling
