@@ -29,12 +29,12 @@ count_values : (d : ℕ) (es : List (ℤ × ℕ)) → count_of d (map (λ e. e.1
 count_values d [] = refl
 count_values d (e ∷ es) = let h = count_values d es in omega arith
 
-count_total : (d : ℕ) (ms : Members) → count_of d (fin.values ms) ≡ total (hits d) ms
+pub count_total : (d : ℕ) (ms : Members) → count_of d (fin.values ms) ≡ total (hits d) ms
 unfolding total
 count_total d ms = count_values d (entries ms)
 
 -- one more under a new subscript
-values_insert : (ms : Members) (k : ℤ) (v d : ℕ) → get ms k ≡ None → count_of d (fin.values (insert ms k v)) ≡ count_of d (fin.values ms) + hits d v
+pub values_insert : (ms : Members) (k : ℤ) (v d : ℕ) → get ms k ≡ None → count_of d (fin.values (insert ms k v)) ≡ count_of d (fin.values ms) + hits d v
 values_insert ms k v d none =
     let a = count_total d (insert ms k v) in
     let b = count_total d ms in

@@ -39,20 +39,20 @@ no_items : {A : Type 0} (es : List A) → length es ≡ 0 → es ≡ []
 no_items [] e = refl
 no_items (x ∷ es) e = absurd (omega arith)
 
-no_members : (ty : NestedScalar) → members_of (empty_content ty) ≡ []
+pub no_members : (ty : NestedScalar) → members_of (empty_content ty) ≡ []
 no_members ty = by (is_scalar ty)
   where
     by : (b : Bool) → members_of (if b then Unset else Contains fin.empty) ≡ []
     by true = refl
     by false = ap (map (λ e. e.1)) (no_items (entries (fin.empty {X = ℕ} {R = int_cmp})) (sym (len-entries (fin.empty {X = ℕ} {R = int_cmp})) ∙ len-empty int_cmp ℕ))
 
-new_content : (ty : NestedScalar) → IsOfType ty (empty_content ty)
+pub new_content : (ty : NestedScalar) → IsOfType ty (empty_content ty)
 new_content ty = elim (cases_Bool (is_scalar ty)) [
   | inl t ↦ subst (λ b. IsOfType ty (if b then Unset else Contains fin.empty)) (sym t) t
   | inr u ↦ subst (λ b. IsOfType ty (if b then Unset else Contains fin.empty)) (sym u) u
 ]
 
-new_writers : (ty : NestedScalar) → HasWriters (empty_content ty) 1
+pub new_writers : (ty : NestedScalar) → HasWriters (empty_content ty) 1
 new_writers ty = by (is_scalar ty)
   where
     by : (b : Bool) → HasWriters (if b then Unset else Contains fin.empty) 1

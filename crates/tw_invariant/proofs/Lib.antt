@@ -30,3 +30,6 @@ pub mod Moving
 pub mod Accepted
 pub mod OneStep
 pub mod Filling
+pub mod Inputs
+pub mod Opening
+pub mod Safe

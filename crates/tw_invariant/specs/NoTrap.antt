@@ -1,5 +1,5 @@
 -- Accepted programs reach no trap, and each task of theirs goes on to its end within its budget.
-use Rattle.std.specs.Prelude.{◌≡◌, ◌⊎◌, ℕ, ◌<◌, List, Some, slice_get}
+use Rattle.std.specs.Prelude.{◌≡◌, ◌⊎◌, ℕ, ◌<◌, List, length, Some, slice_get}
 use Rattle.std.specs.FinMap.{get}
 use Rattle.tw_types.specs.declared.actor.Actor.{Actor}
 use Rattle.tw_types.specs.declared.cause.Cause.{Cause}
@@ -11,6 +11,7 @@ use Rattle.tw_types.specs.Outcome.{Outcome, Went, NotEnabled, Trap}
 use Rattle.tw_code.specs.declared.procedure.Procedure.{Procedure}
 use Rattle.tw_code.specs.accepting.Flow.{flows}
 use Rattle.tw_code.specs.accepting.Walk.{IsBudget}
+use Rattle.tw_code.specs.accepting.WellTyped.{IsAccepted, IsWellTyped}
 use Rattle.tw_code.specs.machine.Holders.{Typings}
 use Rattle.tw_code.specs.machine.Inputs.{AreInputsOf}
 use Rattle.tw_code.specs.machine.Machine.{step}
@@ -46,6 +47,11 @@ pub record IsSafe (program : List Procedure) (layout : ActorCounts) (s : State) 
   pub no_trap : (event : Event) (cause : Cause) → step program layout event s ≡ Trap cause → ⊥
   pub one_step : (actor : Actor) (frame : Frame) → get s.frames actor ≡ Some frame → HasOneStep program layout s actor
   pub below : (actor : Actor) (frame : Frame) → get s.frames actor ≡ Some frame → IsBelowBudget program frame
+
+-- the program is accepted, and each procedure is well typed with these typings
+pub record AreRight (program : List Procedure) (typings : Typings) : Type 0 where
+  pub accepted : IsAccepted program
+  pub typed : (k : ℕ) (p : Procedure) → slice_get program k ≡ Some p → IsWellTyped program p (typings k) (length p.code)
 
 -- whatever the inputs of the signature, the layout and the events: the run doesn't trap, and the state that it reaches
 -- is safe and has all parts of the invariant

@@ -1,2 +1,6 @@
 //! What holds of every state that an accepted program reaches.
 #![tactic(auto)]
+
+mod laws;
+
+pub use laws::{budgets_held, counts_held, no_trap, notes_held, types_held};
