@@ -1,16 +1,16 @@
 //! What holds of accepted programs when they run.
 
-ghost use Rattle.std.specs.Prelude.{◌≡◌, true};
-ghost use Rattle.tw_verify.specs.NoTrap.{NoTrap, has_no_inputs};
-ghost use Rattle.tw_verify.specs.Simple.{is_simple};
+ghost use Rattle.tw_code.specs.machine.Holders.{Typings};
+ghost use Rattle.tw_invariant.specs.NoTrap.{AreRight, NoTrap};
 
 use crate::verified::Verified;
 
-/// Whatever the layout and the events: an accepted program that has local instructions, STORE and RET alone, and whose
-/// main has outputs alone, reaches no trap, each task that runs has exactly one next step, which goes, and has spent
-/// less than its budget.
+/// Whatever the inputs of its signature, the layout and the events, in whatever order: an accepted program reaches no
+/// trap, each task that runs has exactly one next step, which goes, and has spent less than its budget. It is said over
+/// any typings that are right, of which there are some: those that `Verified::typings` tells.
 pub fn no_trap(verified: &Verified)
-    ensures { is_simple verified.now ≡ true → has_no_inputs verified.now ≡ true → NoTrap verified.now }
+    ensures right { (typings : Typings) × AreRight verified.now typings }
+    ensures safe { (typings : Typings) → AreRight verified.now typings → NoTrap verified.now typings }
 {
     let _procedures = verified.program().procedures();
 }
