@@ -1,4 +1,4 @@
--- Instructions on data that are asked for go, and leave what fits the typing behind them: STORE, the drops and the copies of rights, and those that read members.
+-- STORE and the drops of rights go where they are asked for, and leave what fits the typing behind them.
 use Rattle.std.proofs.Common.{◌≡◌, ℕ, ◌+◌, ◌-◌, ◌<◌, ◌==◌, Bool, true, false, not, ◌&&◌, ◌||◌, List, slice_get, slice_set, Option, Some, None, refl, sym, ap, ◌∙◌, arith}
 use Rattle.std.proofs.lemmas.Bool.{and_parts, ne_eqb, eq-eqb, eqb-true, not-true}
 use Rattle.std.specs.FinMap.{get}
@@ -32,7 +32,7 @@ use Rattle.tw_types.specs.TypedStore.{IsOfType}
 use Rattle.tw_invariant.specs.Invariant.{ValuesFit}
 use Rattle.tw_invariant.proofs.Aging.{Aged}
 use Rattle.tw_types.proofs.Freeing.{hits_same, hits_other}
-use Rattle.tw_invariant.proofs.Values.{AllYes}
+use Rattle.tw_invariant.proofs.Values.{AllYes, passed}
 use Rattle.tw_invariant.proofs.Registers.{Fits, Settles, At, at_right, aged_context, emptied, rights_set}
 use Rattle.tw_invariant.proofs.Steps.{Goes, goes, goes_must, goes_then}
 use Rattle.tw_invariant.proofs.Values.{Moves, declared_as, value_found}
@@ -41,10 +41,6 @@ use Rattle.tw_invariant.proofs.Values.{Moves, declared_as, value_found}
 pub record Leaves (registers : List Scalar) (i : DataInstr) (typing : Typing) (old : Context) (r w : ℕ → ℕ) (new : Context) : Type 0 where
   pub moves : Moves registers (data_flow i) old.position new.position
   pub settles : Settles (after_data moves.way i typing) old r w new
-
-pub met_right : (test : Right → Bool) (o : Option Right) → passes test o ≡ true → (q : Right) × (o ≡ Some q) × (test q ≡ true)
-met_right test None e = cc
-met_right test (Some q) e = (q, refl, e)
 
 pub read_no_write : (mode : Mode) → is_read mode ≡ true → is_write mode ≡ false
 read_no_write Val e = cc
@@ -78,7 +74,7 @@ module _ (p : Procedure) (typing : Typing) (c : Context) (r w : ℕ → ℕ) (fi
 
   pub drop_read_leaves : (d : ℕ) → AllYes (asks_data p.registers (on_data.DropRead d) typing) → Goes (data_instr (on_data.DropRead d) c) (Leaves p.registers (on_data.DropRead d) typing c r w)
   drop_read_leaves d met =
-      let q = met_right reads (right_at typing d) met.0 in
+      let q = passed reads (right_at typing d) met.0 in
       drop_read_at d q.0 (read_no_write q.0.mode q.2) (at_right d typing c r w q.0 fits q.1)
 
   -- ---- a write is dropped, and the container may close or be freed
@@ -131,7 +127,7 @@ module _ (p : Procedure) (typing : Typing) (c : Context) (r w : ℕ → ℕ) (fi
 
   pub drop_write_leaves : (d : ℕ) → AllYes (asks_data p.registers (on_data.DropWrite d) typing) → Goes (data_instr (on_data.DropWrite d) c) (Leaves p.registers (on_data.DropWrite d) typing c r w)
   drop_write_leaves d met =
-      let q = met_right writes (right_at typing d) met.0 in
+      let q = passed writes (right_at typing d) met.0 in
       drop_write_at d q.0 q.2 (container q.0 q.2 (right_at typing d) q.1 met.1.0) (at_right d typing c r w q.0 fits q.1)
     where
       container : (q : Right) → is_write q.mode ≡ true → (o : Option Right) → o ≡ Some q → not (passes writes_scalar o) ≡ true → is_scalar q.ty ≡ false

@@ -1,4 +1,4 @@
--- Instructions on data that are asked for go, and leave what fits the typing behind them: copies of rights, and NEW.
+-- The copies of rights go where they are asked for, and leave what fits the typing behind them.
 use Rattle.std.proofs.Common.{◌≡◌, ℕ, ◌+◌, ◌<◌, true, false, not, ◌&&◌, length, is_none, slice_get, slice_set, Option, Some, None, refl, sym, ap, subst, ◌∙◌, arith}
 use Rattle.std.proofs.lemmas.Bool.{eqb-true, not-true}
 use Rattle.std.proofs.lemmas.Option.{same_Some}
@@ -23,10 +23,10 @@ use Rattle.tw_types.specs.Counts.{hits, count_of, subscripts_in, inside}
 use Rattle.tw_code.specs.machine.Holders.{read_by, write_by, over}
 use Rattle.tw_types.specs.TypedStore.{IsOfType}
 use Rattle.tw_invariant.specs.Invariant.{Holds, RightsFit, ValuesFit}
-use Rattle.tw_invariant.proofs.DataLeft.{Leaves, met_right, read_no_write}
+use Rattle.tw_invariant.proofs.DataLeft.{Leaves, read_no_write}
 use Rattle.tw_invariant.proofs.Aging.{Aged, later_put}
 use Rattle.tw_types.proofs.Freeing.{put_balanced, hits_same, hits_other}
-use Rattle.tw_invariant.proofs.Values.{AllYes}
+use Rattle.tw_invariant.proofs.Values.{AllYes, passed}
 use Rattle.tw_invariant.proofs.Long.{free_there, empty_there}
 use Rattle.tw_invariant.proofs.Registers.{Fits, Settles, At, at_right, holds_undisturbed, later_undisturbed, later_store, rights_kept, over-set, rights_set}
 use Rattle.tw_invariant.proofs.Steps.{Goes, goes, goes_then}
@@ -91,7 +91,7 @@ module _ (p : Procedure) (typing : Typing) (c : Context) (r w : ℕ → ℕ) (fi
 
   pub copy_read_leaves : (to from : ℕ) → to < 16 → AllYes (asks_data p.registers (on_data.CopyRead to from) typing) → Goes (data_instr (on_data.CopyRead to from) c) (Leaves p.registers (on_data.CopyRead to from) typing c r w)
   copy_read_leaves to from l met =
-      let q = met_right reads (right_at typing from) met.1.0 in
+      let q = passed reads (right_at typing from) met.1.0 in
       let e = empty_register to l met.0 in
       copy_read_at to from q.0 q.1 (read_no_write q.0.mode q.2) e.0 e.1 (at_right from typing c r w q.0 fits q.1)
 
@@ -130,7 +130,7 @@ module _ (p : Procedure) (typing : Typing) (c : Context) (r w : ℕ → ℕ) (fi
 
   pub copy_write_leaves : (to from : ℕ) → to < 16 → AllYes (asks_data p.registers (on_data.CopyWrite to from) typing) → Goes (data_instr (on_data.CopyWrite to from) c) (Leaves p.registers (on_data.CopyWrite to from) typing c r w)
   copy_write_leaves to from l met =
-      let q = met_right writes (right_at typing from) met.1.0 in
+      let q = passed writes (right_at typing from) met.1.0 in
       let e = empty_register to l met.0 in
       copy_write_at to from q.0 q.1 q.2 (container q.0 q.2 (right_at typing from) q.1 met.1.1.0) e.0 e.1 (at_right from typing c r w q.0 fits q.1)
     where

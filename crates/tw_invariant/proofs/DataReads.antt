@@ -37,19 +37,13 @@ use Rattle.tw_code.specs.machine.Position.{int_at, must_have_type, value_at, wit
 use Rattle.tw_code.specs.machine.Rights.{Right, Typing, held, must_be_empty, right_at}
 use Rattle.tw_invariant.specs.Invariant.{Holds, ValuesFit}
 use Rattle.tw_invariant.proofs.DataInsert.{insert_settles, member_there, same_settles}
-use Rattle.tw_invariant.proofs.DataLeft.{Leaves, met_right, read_no_write}
+use Rattle.tw_invariant.proofs.DataLeft.{Leaves, read_no_write}
 use Rattle.tw_invariant.proofs.DataMade.{put_context}
 use Rattle.tw_invariant.proofs.Long.{empty_there, free_there}
 use Rattle.tw_invariant.proofs.Registers.{At, Fits, Settles, Undisturbed, at_right, over-set, rights_set}
 use Rattle.tw_invariant.proofs.Scalars.{scalar_itself}
 use Rattle.tw_invariant.proofs.Steps.{Goes, at_some, goes, goes_must, goes_then}
-use Rattle.tw_invariant.proofs.Values.{AllYes, Moves, declared_as, has_type, int_there, result_moves, value_found, values_set}
-
-closed_no_write : (mode : Mode) → is_closed_mode mode ≡ true → is_write mode ≡ false
-closed_no_write Val e = cc
-closed_no_write Closed e = refl
-closed_no_write Ref e = cc
-closed_no_write Write e = cc
+use Rattle.tw_invariant.proofs.Values.{AllYes, Moves, declared_as, has_type, int_there, result_moves, value_found, values_set, passed}
 
 -- a closed scalar has a value of its type
 closed_value : (x : Datum) → is_scalar x.ty ≡ true → IsOfType x.ty x.content → is_closed x ≡ true → (v : Value) × (value_in x.content ≡ Some v) × (scalar_of v ≡ x.ty.scalar)
@@ -127,7 +121,7 @@ module _ (p : Procedure) (typing : Typing) (c : Context) (r w : ℕ → ℕ) (fi
 
   pub size_leaves : (to d : ℕ) → AllYes (asks_data p.registers (on_data.Size to d) typing) → Goes (data_instr (on_data.Size to d) c) (Leaves p.registers (on_data.Size to d) typing c r w)
   size_leaves to d met =
-      let q = met_right reads_closed_container (right_at typing d) met.0 in
+      let q = passed reads_closed_container (right_at typing d) met.0 in
       let both = and_parts (is_closed_mode q.0.mode) (not (is_scalar q.0.ty)) q.2 in
       size_at to d q.0 both.0 (not-true _ both.1) (declared_as (slice_get p.registers to) scalar.Int met.1.1.0) (at_right d typing c r w q.0 fits q.1)
 
@@ -148,7 +142,7 @@ module _ (p : Procedure) (typing : Typing) (c : Context) (r w : ℕ → ℕ) (fi
   pub subscript_leaves : (to d index skip : ℕ) → AllYes (asks_data p.registers (on_data.SubscriptAt to d index skip) typing)
       → Goes (data_instr (on_data.SubscriptAt to d index skip) c) (Leaves p.registers (on_data.SubscriptAt to d index skip) typing c r w)
   subscript_leaves to d index skip met =
-      let q = met_right reads_closed_container (right_at typing d) met.0 in
+      let q = passed reads_closed_container (right_at typing d) met.0 in
       let both = and_parts (is_closed_mode q.0.mode) (not (is_scalar q.0.ty)) q.2 in
       subscript_at to d index skip q.0 both.0 (not-true _ both.1) (declared_as (slice_get p.registers to) scalar.Int met.1.1.0) (declared_as (slice_get p.registers index) scalar.Int met.1.1.1.1.0) (at_right d typing c r w q.0 fits q.1)
 
@@ -200,10 +194,10 @@ module _ (p : Procedure) (typing : Typing) (c : Context) (r w : ℕ → ℕ) (fi
   pub insert_leaves : (container subscript member skip : ℕ) → AllYes (asks_data p.registers (on_data.Insert container subscript member skip) typing)
       → Goes (data_instr (on_data.Insert container subscript member skip) c) (Leaves p.registers (on_data.Insert container subscript member skip) typing c r w)
   insert_leaves container subscript member skip met =
-      let q = met_right writes_container (right_at typing container) met.0 in
+      let q = passed writes_container (right_at typing container) met.0 in
       let both = and_parts (is_write q.0.mode) (not (is_scalar q.0.ty)) q.2 in
       let member_met : passes (reads_member_of q.0) (right_at typing member) ≡ true = sym (ap (passes (λ right. passes (reads_member_of right) (right_at typing member))) q.1) ∙ met.1.0 in
-      let m = met_right (reads_member_of q.0) (right_at typing member) member_met in
+      let m = passed (reads_member_of q.0) (right_at typing member) member_met in
       let two = and_parts (is_read m.0.mode) (is_element_of m.0.ty q.0.ty) m.2 in
       insert_at container subscript member skip q.0 m.0 both.0 (not-true _ both.1) (read_no_write m.0.mode two.0) two.1 (declared_as (slice_get p.registers subscript) scalar.Int met.1.1.1.0)
       (at_right container typing c r w q.0 fits q.1) (at_right member typing c r w m.0 fits m.1)
@@ -268,7 +262,7 @@ module _ (p : Procedure) (typing : Typing) (c : Context) (r w : ℕ → ℕ) (fi
     pub look_leaves : (member d subscript skip : ℕ) → member < 16 → AllYes (asks_data p.registers (on_data.Look member d subscript skip) typing)
         → Goes (data_instr (on_data.Look member d subscript skip) c) (Leaves p.registers (on_data.Look member d subscript skip) typing c r w)
     look_leaves member d subscript skip l met =
-        let q = met_right reads_closed_container (right_at typing d) met.1.0 in
+        let q = passed reads_closed_container (right_at typing d) met.1.0 in
         let both = and_parts (is_closed_mode q.0.mode) (not (is_scalar q.0.ty)) q.2 in
         let a = free_there typing member (omega arith) met.0 in
         look_at member d subscript skip q.0 q.1 both.0 (not-true _ both.1) (declared_as (slice_get p.registers subscript) scalar.Int met.1.1.1.0) a (empty_there c.store typing c.rights member fits.rights a) (at_right d typing c r w q.0 fits q.1)

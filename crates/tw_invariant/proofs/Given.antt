@@ -31,14 +31,10 @@ use Rattle.tw_invariant.specs.Invariant.{Holds, RightsFit, ValuesFit, ArgFits, A
 use Rattle.tw_types.proofs.Freeing.{hits_same}
 use Rattle.tw_invariant.proofs.Registers.{Found, found, emptied, rights_set}
 use Rattle.tw_invariant.proofs.Scalars.{same_scalars, scalar_itself, same_types, type_itself}
-use Rattle.tw_invariant.proofs.Steps.{Goes, goes_more}
-use Rattle.tw_invariant.proofs.Values.{AllYes, all_yes, declared_as, value_found}
+use Rattle.tw_invariant.proofs.Steps.{Goes, goes_more, goes}
+use Rattle.tw_invariant.proofs.Values.{AllYes, all_yes, declared_as, value_found, passed}
 
 -- ---- questions
-
-passed : {A : Type 0} (test : A → Bool) (o : Option A) → passes test o ≡ true → (x : A) × (o ≡ Some x) × (test x ≡ true)
-passed test None e = cc
-passed test (Some x) e = (x, refl, e)
 
 -- ---- what stands for a parameter
 
@@ -101,9 +97,6 @@ value_then values rights params registers r = ok_or (slice_get values r) WrongRe
 abbrev right_then : List Value → Rights → List Param → List ℕ → ℕ → Result HandedOver Cause
 right_then values rights params registers r = held rights r >>= λ id. (handed_over values (slice_set rights r None) params registers >>= λ others. Ok (with_arg (RightArg id) others))
 
-goes_there : {A B : Type 0} (o : Result A Cause) (f : A → Result B Cause) (P : B → Type 0) (x : A) → o ≡ Ok x → Goes (f x) P → Goes (o >>= f) P
-goes_there o f P x e h = rw e h
-
 module _ (waits : Bool) (s : Store) (declared : List Scalar) (values : List Value) (fit : ValuesFit declared values) where
   value_goes : (p : Param) (params : List Param) (r : ℕ) (registers : List ℕ) (typing : Typing) (rights : Rights) → is_val p.mode ≡ true → AllYes (asks_value declared r p.ty.scalar ++ asks_args waits declared params registers typing)
       → Goes (handed_over values rights params registers) (GivenSo waits s params typing rights (without_args params registers typing))
@@ -111,7 +104,7 @@ module _ (waits : Bool) (s : Store) (declared : List Scalar) (values : List Valu
   value_goes p params r registers typing rights e met rest =
       let x = value_found declared values r p.ty.scalar fit (declared_as (slice_get declared r) p.ty.scalar met.1.0) in
       let none : right_of p ≡ None = ap (λ b. if b then None else Some (record { mode = p.mode; ty = p.ty })) e in
-      goes_there (ok_or (slice_get values r) WrongRegister) _ _ x.0 (ap (λ o. ok_or o WrongRegister) x.1)
+      goes (ok_or (slice_get values r) WrongRegister) _ _ x.0 (ap (λ o. ok_or o WrongRegister) x.1)
       (goes_more (handed_over values rights params registers) _ _ _ rest (λ others so. record {
         args = (subst (λ b. ArgStands waits s p b (ValueArg x.0)) (sym e) x.2, so.args);
         rights_left = so.rights_left;
@@ -126,7 +119,7 @@ module _ (waits : Bool) (s : Store) (declared : List Scalar) (values : List Valu
       let both = and_parts (suits_mode waits p.mode q) (same_type q.ty p.ty) stands in
       let some : right_of p ≡ Some (record { mode = p.mode; ty = p.ty }) = ap (λ b. if b then None else Some (record { mode = p.mode; ty = p.ty })) e in
       let kind : is_write q.mode ≡ is_write p.mode = suits_write waits p.mode q both.0 in
-      goes_there (held rights r) _ _ f.id (ap (λ o. ok_or (option_flatten o) EmptyRegister) f.register)
+      goes (held rights r) _ _ f.id (ap (λ o. ok_or (option_flatten o) EmptyRegister) f.register)
       (goes_more (handed_over values (slice_set rights r None) params registers) _ _ _ rest (λ others so. record {
         args = (subst (λ b. ArgStands waits s p b (RightArg f.id)) (sym e) (record { right = q; suits = both.0; ty = same_types q.ty p.ty both.1; holds = f.holds }), so.args);
         rights_left = so.rights_left;

@@ -9,7 +9,6 @@ pub mod Named
 pub mod Asked
 pub mod Wanted
 pub mod DataNamed
-pub mod NoticesKept
 pub mod Stages
 pub mod RuleEvents
 pub mod Given

@@ -44,6 +44,11 @@ pub yes_behind : (first second : List Question) → AllYes (first ++ second) →
 yes_behind [] second h = h
 yes_behind (q ∷ first) second h = yes_behind first second h.1
 
+-- what passes is there
+pub passed : {A : Type 0} (test : A → Bool) (o : Option A) → passes test o ≡ true → (x : A) × (o ≡ Some x) × (test x ≡ true)
+passed test None e = cc
+passed test (Some x) e = (x, refl, e)
+
 -- ---- types
 
 -- a register that passes the question of its type is declared of that type

@@ -32,7 +32,7 @@ use Rattle.tw_invariant.specs.Invariant.{TypesHeld, CountsHeld, IsHeld}
 use Rattle.tw_invariant.proofs.DataNamed.{HasWriter, data_named}
 use Rattle.tw_invariant.proofs.Framed.{Stands, types_framed, budgets_framed}
 use Rattle.tw_types.proofs.Freeing.{balanced_same}
-use Rattle.tw_invariant.proofs.Values.{AllYes}
+use Rattle.tw_invariant.proofs.Values.{AllYes, passed}
 use Rattle.tw_invariant.proofs.Wanted.{wanted_is_there}
 use Rattle.tw_invariant.proofs.Registers.{Fits, Settles, At, at_right, holds_undisturbed, rights_kept}
 use Rattle.tw_invariant.proofs.Stages.{args_kept, rule_args_kept}
@@ -42,10 +42,6 @@ use Rattle.tw_types.proofs.Results.{ok_of}
 use Rattle.tw_invariant.proofs.Sums.{sum_apart, sum_replaced}
 
 -- ---- a write that is copied has a holder
-
-some_right : (test : Right → Bool) (o : Option Right) → passes test o ≡ true → (q : Right) × (o ≡ Some q) × (test q ≡ true)
-some_right test None e = cc
-some_right test (Some q) e = (q, refl, e)
 
 writer_found : (typing : Typing) (c : Context) (r w : ℕ → ℕ) (from : ℕ) (q : Right) → is_write q.mode ≡ true → (h : At typing c r w from q) → (id : ℕ) (x : Datum) → right_at c.rights from ≡ Some id → get c.store.live id ≡ Some x → 0 < x.writes
 writer_found typing c r w from q mode h id x at there =
@@ -58,7 +54,7 @@ writer_found typing c r w from q mode h id x at there =
 
 pub has_writer : (registers : List Scalar) (c : Context) (typing : Typing) (r w : ℕ → ℕ) → Fits typing c r w → (i : DataInstr) → AllYes (asks_data registers i typing) → HasWriter c i
 has_writer registers c typing r w fits (on_data.CopyWrite to from) met =
-    let q = some_right writes (right_at typing from) met.1.0 in
+    let q = passed writes (right_at typing from) met.1.0 in
     writer_found typing c r w from q.0 q.2 (at_right from typing c r w q.0 fits q.1)
 has_writer registers c typing r w fits (on_data.New write read ty) met = tt
 has_writer registers c typing r w fits (on_data.Store datum from) met = tt
