@@ -32,3 +32,4 @@ pub mod Filling
 pub mod Inputs
 pub mod Opening
 pub mod Safe
+pub mod Live
