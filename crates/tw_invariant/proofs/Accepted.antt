@@ -1,16 +1,14 @@
 -- What acceptance gives of a task that runs: its instruction's turn, and where it goes on.
-use Rattle.std.proofs.Common.{◌≡◌, ℕ, zero, suc, ◌+◌, ◌<◌, ◌≤◌, true, List, [], ◌∷◌, ◌++◌, length, slice_get, get_or, if◌then◌else◌, Bool, false, Option, Some, None, refl, sym, ap, subst, ◌∙◌, arith}
+use Rattle.std.proofs.Common.{◌≡◌, ℕ, zero, suc, ◌<◌, ◌≤◌, true, List, [], ◌∷◌, ◌++◌, length, slice_get, get_or, Option, Some, None, refl, sym, ap, subst, ◌∙◌, arith}
 use Rattle.std.proofs.lemmas.Bool.{leb-true}
 use Rattle.std.proofs.lemmas.List.{length-map}
 use Rattle.std.proofs.lemmas.Option.{same_Some, slice_get-get_or, slice_get_within}
 use Rattle.std.specs.FinMap.{get}
 use Rattle.std.specs.List.{AllByRecursion, list_all}
 use Rattle.std.specs.Option.{option_to_list}
-use Rattle.std.specs.Prelude.{Result, Ok, Err, is_none}
+use Rattle.std.specs.Prelude.{is_none}
 use Rattle.tw_types.specs.declared.actor.Actor.{Actor}
-use Rattle.tw_types.specs.declared.cause.Cause.{Cause}
 use Rattle.tw_types.specs.declared.param.Param.{Param}
-use Rattle.tw_types.specs.Mode.{is_val}
 use Rattle.tw_code.specs.declared.flow.Flow.TheVariants.{Straight}
 use Rattle.tw_code.specs.declared.flow.Way.TheVariants.{Done}
 use Rattle.tw_code.specs.declared.instr.Action.{Action}
@@ -19,27 +17,26 @@ use Rattle.tw_code.specs.declared.instr.Instr.{Instr}
 use Rattle.tw_code.specs.declared.instr.Instr.TheVariants as instr
 use Rattle.tw_code.specs.declared.procedure.Procedure.{Procedure}
 use Rattle.tw_code.specs.accepting.Flow.{flow_of, flows}
-use Rattle.tw_code.specs.accepting.Typing.{asks, asks_at, asks_data, rights_given, start_typing, value_types, values_fit}
-use Rattle.tw_code.specs.format.Program.{IsDataInstr, IsInstr, IsProcedure}
-use Rattle.tw_code.specs.machine.Data.{Context, data_instr}
-use Rattle.tw_code.specs.machine.Holders.{Typings, typing_at, typing_of}
+use Rattle.tw_code.specs.accepting.Typing.{asks, asks_at, asks_data, rights_given, value_types, values_fit}
+use Rattle.tw_code.specs.format.Program.{IsDataInstr, IsInstr}
+use Rattle.tw_code.specs.machine.Data.{data_instr}
+use Rattle.tw_code.specs.machine.Holders.{Typings, typing_of}
 use Rattle.tw_code.specs.machine.Machine.{is_ret, local_steps}
-use Rattle.tw_code.specs.machine.Position.{Position, at_next_place}
+use Rattle.tw_code.specs.machine.Position.{at_next_place}
 use Rattle.tw_code.specs.machine.Rights.{Right, Typing, right_of}
 use Rattle.tw_code.specs.machine.State.{Frame, State, context_of}
 use Rattle.tw_budget.proofs.FrameLaws.{starts_within}
 use Rattle.tw_invariant.specs.Invariant.{IsHeld}
 use Rattle.tw_invariant.proofs.AllEvents.{Accepted, Known}
 use Rattle.tw_invariant.proofs.DataLeaves.{data_leaves}
-use Rattle.tw_invariant.proofs.DataLeft.{Leaves}
 use Rattle.tw_invariant.proofs.Framed.{Stands}
 use Rattle.tw_invariant.proofs.Long.{typings_long}
-use Rattle.tw_invariant.proofs.Moving.{Accepts, IsLeftBy, asked, inside, instr_there, stands_on, steps_keep, typing_on}
+use Rattle.tw_invariant.proofs.Moving.{Accepts, asked, inside, instr_there, stands_on, steps_keep, typing_on}
 use Rattle.tw_invariant.proofs.Registers.{Settles}
-use Rattle.tw_invariant.proofs.Steps.{Goes, Keeps, keeps_mapped, goes_mapped}
+use Rattle.tw_invariant.proofs.Steps.{Goes, keeps_mapped, goes_mapped}
 use Rattle.tw_invariant.proofs.TaskEvents.{Starts, fits_of, other_reads, other_writes}
 use Rattle.tw_invariant.proofs.Values.{AllYes, Moves, all_yes}
-use Rattle.tw_invariant.proofs.Whole.{GoesBehind, LeftSo, Turn}
+use Rattle.tw_invariant.proofs.Whole.{GoesBehind, LeftSo}
 
 pub all_found : {A : Type 0} (P : A → Type 0) (xs : List A) (k : ℕ) (x : A) → AllByRecursion P xs → slice_get xs k ≡ Some x → P x
 all_found P [] k x all here = cc

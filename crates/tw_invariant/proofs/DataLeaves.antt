@@ -1,5 +1,5 @@
 -- Each instruction on data, a line an instruction.
-use Rattle.std.proofs.Common.{◌≡◌, ℕ, ◌≤◌, length, arith}
+use Rattle.std.proofs.Common.{◌≡◌, ℕ, length, arith}
 use Rattle.tw_code.specs.declared.instr.DataInstr.{DataInstr}
 use Rattle.tw_code.specs.declared.instr.DataInstr.TheVariants as on_data
 use Rattle.tw_code.specs.declared.procedure.Procedure.{Procedure}

@@ -16,14 +16,13 @@ use Rattle.tw_types.specs.declared.param.Mode.TheVariants.{Val, Closed, Ref, Wri
 use Rattle.tw_types.specs.Store.{members_of, Content, Unset, Set, Contains, Datum, is_closed, subscribers_cleared, settled}
 use Rattle.tw_types.specs.StoreCalls.{set_to, one_write_less, store_after, read_dropped}
 use Rattle.tw_types.specs.StoreChecks.{is_unset, may_store, may_drop_read, may_drop_write}
-use Rattle.tw_code.specs.declared.flow.Way.{Way}
 use Rattle.tw_code.specs.declared.flow.Way.TheVariants.{Done}
 use Rattle.tw_code.specs.declared.instr.DataInstr.{DataInstr}
 use Rattle.tw_code.specs.declared.instr.DataInstr.TheVariants as on_data
 use Rattle.tw_code.specs.declared.procedure.Procedure.{Procedure}
 use Rattle.tw_code.specs.machine.Data.{datum_at, suits, Context, datum_of, data_instr}
 use Rattle.tw_code.specs.machine.Rights.{held, Right, Typing, right_at}
-use Rattle.tw_code.specs.accepting.Flow.{data_flow, onward}
+use Rattle.tw_code.specs.accepting.Flow.{data_flow}
 use Rattle.tw_code.specs.accepting.Question.{passes}
 use Rattle.tw_code.specs.accepting.Typing.{writes, writes_scalar, reads, asks_data, after_data}
 use Rattle.tw_types.specs.Counts.{hits, HasWriters}

@@ -1,5 +1,5 @@
 -- Instructions that read data, or put a member into a container, go where they are asked for, and leave what fits.
-use Rattle.std.proofs.Common.{◌≡◌, ℕ, ◌+◌, ◌<◌, ◌==◌, ℤ, pos, Bool, true, false, not, ◌&&◌, ◌||◌, length, is_none, is_some, slice_get, slice_set, Option, Some, None, refl, sym, ap, subst, ◌∙◌, arith}
+use Rattle.std.proofs.Common.{◌≡◌, ℕ, ◌+◌, ◌<◌, ◌==◌, ℤ, pos, true, false, not, ◌||◌, length, is_none, slice_get, slice_set, Option, Some, None, refl, sym, ap, subst, ◌∙◌, arith}
 use Rattle.std.proofs.lemmas.Bool.{and_parts, ne_eqb, not-true}
 use Rattle.std.proofs.lemmas.Option.{same_Some}
 use Rattle.std.specs.FinMap as map
@@ -9,11 +9,10 @@ use Rattle.std.specs.Prelude.{Ok}
 use Rattle.tw_types.specs.declared.cause.Cause.TheVariants.{EmptyRegister, FreedDatum, UnsetDatum, WrongRegister}
 use Rattle.tw_types.specs.declared.data_type.Scalar.{Scalar}
 use Rattle.tw_types.specs.declared.data_type.Scalar.TheVariants as scalar
-use Rattle.tw_types.specs.declared.param.Mode.{Mode}
-use Rattle.tw_types.specs.declared.param.Mode.TheVariants.{Val, Closed, Ref, Write}
+use Rattle.tw_types.specs.declared.param.Mode.TheVariants.{Ref}
 use Rattle.tw_types.specs.declared.value.Value.{Value}
 use Rattle.tw_types.specs.declared.value.Value.TheVariants as value
-use Rattle.tw_types.specs.Counts.{hits, inside}
+use Rattle.tw_types.specs.Counts.{hits}
 use Rattle.tw_types.specs.DataType.{container_of, element_of, is_element_of, is_scalar, same_scalar}
 use Rattle.tw_types.specs.Mode.{is_closed_mode, is_read, is_write}
 use Rattle.tw_types.specs.Nesting.{NestedScalar}
@@ -25,12 +24,11 @@ use Rattle.tw_types.specs.StoreChecks.{is_kept, may_insert, may_look, may_read_m
 use Rattle.tw_types.specs.TypedStore.{IsOfType}
 use Rattle.tw_types.specs.Value.{scalar_of}
 use Rattle.tw_types.proofs.Freeing.{balanced_some, hits_other, hits_same}
-use Rattle.tw_code.specs.declared.flow.Flow.TheVariants.{Branch}
 use Rattle.tw_code.specs.declared.flow.Way.TheVariants.{Done, Refused}
 use Rattle.tw_code.specs.declared.instr.DataInstr.TheVariants as on_data
 use Rattle.tw_code.specs.declared.procedure.Procedure.{Procedure}
 use Rattle.tw_code.specs.accepting.Question.{passes}
-use Rattle.tw_code.specs.accepting.Typing.{a_member_read, a_read, asks_data, is_free, reads_closed_container, reads_closed_scalar, reads_member_of, writes_container}
+use Rattle.tw_code.specs.accepting.Typing.{a_member_read, a_read, asks_data, reads_closed_container, reads_closed_scalar, reads_member_of, writes_container}
 use Rattle.tw_code.specs.machine.Data.{Context, after_insert, after_look, data_instr, datum_at, datum_of, given, suits}
 use Rattle.tw_code.specs.machine.Holders.{over, read_by, write_by}
 use Rattle.tw_code.specs.machine.Position.{int_at, must_have_type, value_at, with_result}
@@ -43,7 +41,7 @@ use Rattle.tw_invariant.proofs.Long.{empty_there, free_there}
 use Rattle.tw_invariant.proofs.Registers.{At, Fits, Settles, Undisturbed, at_right, over-set, rights_set}
 use Rattle.tw_invariant.proofs.Scalars.{scalar_itself}
 use Rattle.tw_invariant.proofs.Steps.{Goes, at_some, goes, goes_must, goes_then}
-use Rattle.tw_invariant.proofs.Values.{AllYes, Moves, declared_as, has_type, int_there, result_moves, value_found, values_set, passed}
+use Rattle.tw_invariant.proofs.Values.{AllYes, declared_as, has_type, int_there, result_moves, value_found, values_set, passed}
 
 -- a closed scalar has a value of its type
 closed_value : (x : Datum) → is_scalar x.ty ≡ true → IsOfType x.ty x.content → is_closed x ≡ true → (v : Value) × (value_in x.content ≡ Some v) × (scalar_of v ≡ x.ty.scalar)

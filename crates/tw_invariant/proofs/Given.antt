@@ -1,5 +1,5 @@
 -- What RULE and PUT ask for goes: the rights leave their registers and stand for the parameters.
-use Rattle.std.proofs.Common.{◌≡◌, ℕ, zero, suc, ◌+◌, ◌<◌, Bool, true, false, not, ◌||◌, if◌then◌else◌, List, [], ◌∷◌, ◌++◌, map, length, slice_get, slice_set, Option, Some, None, is_some, refl, sym, ap, subst, ◌∙◌, arith, inl, inr}
+use Rattle.std.proofs.Common.{◌≡◌, ℕ, ◌+◌, ◌<◌, Bool, true, false, not, ◌||◌, if◌then◌else◌, List, [], ◌∷◌, ◌++◌, map, length, slice_get, slice_set, Option, Some, None, is_some, refl, sym, ap, subst, ◌∙◌, arith, inl, inr}
 use Rattle.std.proofs.lemmas.Bool.{cases_Bool, and_parts, and_from, or_right, or_left}
 use Rattle.std.specs.FinMap.{get}
 use Rattle.std.specs.Option.{option_flatten, ok_or}
@@ -22,7 +22,7 @@ use Rattle.tw_types.specs.DataType.{same_scalar, same_type}
 use Rattle.tw_types.specs.Value.{scalar_of}
 use Rattle.tw_code.specs.machine.Arguments.{HandedOver, with_arg, handed_over, has_type, values_suit, all_pass, is_live, is_of_type, is_closed_if_asked}
 use Rattle.tw_code.specs.machine.Rights.{Rights, held, Right, Typing, right_at, right_of}
-use Rattle.tw_code.specs.accepting.Question.{Question, refusal_in, passes}
+use Rattle.tw_code.specs.accepting.Question.{passes}
 use Rattle.tw_code.specs.accepting.Typing.{suits_mode, may_stand_for, asks_value, asks_args, without_args}
 use Rattle.tw_types.specs.Counts.{hits}
 use Rattle.tw_code.specs.machine.Holders.{read_by, write_by, over}
@@ -30,9 +30,9 @@ use Rattle.tw_invariant.proofs.Over.{over_params}
 use Rattle.tw_invariant.specs.Invariant.{Holds, RightsFit, ValuesFit, ArgFits, ArgsFit, right_until, is_asked_for, RuleArgsFit}
 use Rattle.tw_types.proofs.Freeing.{hits_same}
 use Rattle.tw_invariant.proofs.Registers.{Found, found, emptied, rights_set}
-use Rattle.tw_invariant.proofs.Scalars.{same_scalars, scalar_itself, same_types, type_itself}
+use Rattle.tw_invariant.proofs.Scalars.{scalar_itself, same_types, type_itself}
 use Rattle.tw_invariant.proofs.Steps.{Goes, goes_more, goes}
-use Rattle.tw_invariant.proofs.Values.{AllYes, all_yes, declared_as, value_found, passed}
+use Rattle.tw_invariant.proofs.Values.{AllYes, declared_as, value_found, passed}
 
 -- ---- questions
 

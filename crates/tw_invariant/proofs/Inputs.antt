@@ -1,8 +1,7 @@
 -- Each input that main is given makes a store that is right: closed, with one read, which main holds.
-use Rattle.std.proofs.Common.{◌≡◌, ℕ, ◌+◌, ◌<◌, ◌≤◌, ◌⊎◌, inl, inr, ℤ, Bool, true, false, ◌&&◌, List, [], ◌∷◌, map, fold, length, Option, Some, None, refl, sym, ap, subst, ◌∙◌, arith, nat_cmp}
+use Rattle.std.proofs.Common.{◌≡◌, ℕ, ◌+◌, ◌<◌, ◌≤◌, ◌⊎◌, inl, inr, ℤ, Bool, true, false, ◌&&◌, List, [], ◌∷◌, map, fold, length, Some, None, refl, sym, ap, subst, ◌∙◌, arith}
 use Rattle.std.proofs.lemmas.Bool.{and_parts, cases_eq, ne_eqb}
 use Rattle.std.proofs.lemmas.Int.{ints}
-use Rattle.std.proofs.lemmas.List.{length-map}
 use Rattle.std.proofs.lemmas.Option.{same_Some}
 use Rattle.std.specs.Cmp.{int_cmp_total}
 use Rattle.std.specs.FinMap as fin
@@ -16,7 +15,7 @@ use Rattle.tw_types.specs.declared.input.Input.TheVariants as input
 use Rattle.tw_types.specs.declared.param.Mode.{Mode}
 use Rattle.tw_types.specs.declared.value.Value.{Value}
 use Rattle.tw_types.specs.declared.value.Value.TheVariants as value
-use Rattle.tw_types.specs.Counts.{Balanced, HaveWriters, count_of, hits, inside, subscripts_in}
+use Rattle.tw_types.specs.Counts.{Balanced, HaveWriters, count_of, hits, subscripts_in}
 use Rattle.tw_types.specs.DataType.{container_of, same_type, scalar_type}
 use Rattle.tw_types.specs.Nesting.{NestedScalar}
 use Rattle.tw_types.specs.Store.{Contains, Datum, Store, added, is_closed}
@@ -27,7 +26,6 @@ use Rattle.tw_types.proofs.Totals.{insert_other, total-empty}
 use Rattle.tw_code.specs.machine.Inputs.{are_few, is_input_of, is_short, rises, rises_from}
 use Rattle.std.specs.List.{list_all}
 use Rattle.tw_code.specs.machine.Opening.{closed_scalar, numbered, with_container, with_input}
-use Rattle.tw_code.specs.machine.Rights.{Right}
 use Rattle.tw_invariant.specs.Invariant.{Holds}
 use Rattle.tw_invariant.proofs.DataInsert.{count_total, values_insert}
 use Rattle.tw_invariant.proofs.Filling.{IsFilling, IsNext, added_filling, filled, filled_balanced, filled_typed, inside-le, not_yet, plain_next, undisturbed_added}
@@ -222,7 +220,7 @@ module _ (s : Store) (r w : ℕ → ℕ) (h : IsRight s r w) where
       let none = f.unheld s.next (not_yet s (scalar_of v) 0 r w f) in
       let one = hits_same s.next in
       let next = plain_next s (scalar_of v) (scalar_of v) r w (λ d. r d + hits d s.next) w (closed_scalar v) f (refl, refl) (omega arith) refl refl
-          (λ d other. (let no_hit = hits_other d s.next (λ z. other (sym z)) in omega arith, refl)) (omega (arith, none.0)) (sym none.1) (omega arith) in
+      (λ d other. (let no_hit = hits_other d s.next (λ z. other (sym z)) in omega arith, refl)) (omega (arith, none.0)) (sym none.1) (omega arith) in
       record {
         right = filled_right (added s (closed_scalar v)) (scalar_of v) (λ d. r d + hits d s.next) w (added_filling s (scalar_of v) 0 r w f (closed_scalar v) (scalar_of v) 0 (λ d. r d + hits d s.next) w next);
         others = undisturbed_added s (scalar_of v) 0 r w f (closed_scalar v);

@@ -13,7 +13,7 @@ use Rattle.tw_types.specs.Counts.{count_of, hits}
 use Rattle.tw_types.specs.Mode.{is_val, is_write}
 use Rattle.tw_types.specs.Rule.{Rule}
 use Rattle.tw_types.specs.Store.{Datum, Store}
-use Rattle.tw_types.specs.Task.{Arg, ValueArg, RightArg, Task}
+use Rattle.tw_types.specs.Task.{Arg, RightArg, Task}
 use Rattle.tw_types.specs.Totals.{total}
 use Rattle.tw_types.proofs.Freeing.{held_is_there, hits_same}
 use Rattle.tw_types.proofs.Totals.{part, part-le-total}
@@ -24,7 +24,7 @@ use Rattle.tw_code.specs.machine.Rights.{Right, Rights, Typing, right_at, right_
 use Rattle.tw_code.specs.machine.State.{Frame, State, context_of}
 use Rattle.tw_invariant.specs.Invariant.{ArgFits, ArgsFit, IsHeld, RightsFit, RuleArgsFit, read_until, right_until}
 use Rattle.tw_invariant.proofs.Over.{over_params}
-use Rattle.tw_invariant.proofs.Registers.{At, at_right}
+use Rattle.tw_invariant.proofs.Registers.{at_right}
 use Rattle.tw_invariant.proofs.TaskEvents.{fits_of, other_reads, other_writes}
 
 -- ---- one right, one count

@@ -23,7 +23,7 @@ use Rattle.tw_code.specs.machine.Rights.{Typing}
 use Rattle.tw_code.specs.accepting.Typing.{asks, asks_at, asks_params, after}
 use Rattle.tw_code.specs.accepting.Walk.{moved, IsBudget}
 use Rattle.tw_code.specs.accepting.WellTyped.{IsWellTyped, IsEndOf}
-use Rattle.tw_budget.specs.Frames.{IsWithinBudget, LoopsFit}
+use Rattle.tw_budget.specs.Frames.{LoopsFit}
 use Rattle.tw_budget.proofs.FrameLaws.{stays_within, end_goes_on}
 use Rattle.tw_budget.proofs.Places.{close_end}
 use Rattle.tw_budget.specs.Sound.{IsSound}

@@ -1,5 +1,5 @@
 -- Each task that runs has exactly one next step, which goes, and is below its budget.
-use Rattle.std.proofs.Common.{◌≡◌, ℕ, ◌+◌, ◌==◌, inl, inr, Bool, true, false, not, List, slice_get, Some, None, is_none, refl, sym, ap, subst, ◌∙◌}
+use Rattle.std.proofs.Common.{◌≡◌, ℕ, ◌+◌, inl, inr, true, false, List, slice_get, Some, None, is_none, refl, sym, ap, subst, ◌∙◌}
 use Rattle.std.specs.FinMap.{get, remove}
 use Rattle.std.specs.List.{list_all}
 use Rattle.std.specs.Prelude.{Result, Ok, Err}
@@ -10,8 +10,6 @@ use Rattle.tw_types.specs.Actor.{number_in_kind}
 use Rattle.tw_types.specs.Layout.{ActorCounts}
 use Rattle.tw_types.specs.Outcome.{Outcome, Went, NotEnabled, Trap, ◌>>=◌, ◌>>◌, only_if, outcome_of}
 use Rattle.tw_types.specs.Result.{must}
-use Rattle.tw_code.specs.declared.instr.Action.{Action}
-use Rattle.tw_code.specs.declared.instr.DataInstr.{DataInstr}
 use Rattle.tw_code.specs.declared.instr.Instr.{Instr}
 use Rattle.tw_code.specs.declared.instr.Instr.TheVariants as instr
 use Rattle.tw_code.specs.declared.instr.LocalInstr.{LocalInstr}
@@ -119,6 +117,9 @@ module _ (program : List Procedure) (typings : Typings) (accepts : (k : ℕ) (p 
 
   pub below : (s : State) (a : Actor) (f : Frame) → IsHeld program typings s → get s.frames a ≡ Some f → IsBelowBudget program f
   below s a f held is =
-      let k = known program typings accepts s held a f is in
-      (k.procedure, k.here, λ budget most. below_budget (flows k.procedure.code) (accepts f.procedure k.procedure k.here).sound budget f.spent f.position.place f.position.loops
-      ((stands program typings accepts s held a f is k.procedure k.here).within budget most))
+      let k = known program typings accepts s held a f is in (
+        k.procedure,
+        k.here,
+        λ budget most. below_budget (flows k.procedure.code) (accepts f.procedure k.procedure k.here).sound budget f.spent f.position.place f.position.loops
+            ((stands program typings accepts s held a f is k.procedure k.here).within budget most),
+      )

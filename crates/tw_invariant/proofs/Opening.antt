@@ -1,5 +1,5 @@
 -- The state in which main waits: all is held, whatever the inputs.
-use Rattle.std.proofs.Common.{◌≡◌, ℕ, ◌+◌, ◌==◌, ◌<◌, Bool, true, false, not, ◌&&◌, List, [], ◌∷◌, ◌++◌, length, map, drop, filter, slice_get, Option, Some, None, refl, sym, ap, subst, ◌∙◌, arith, if◌then◌else◌, nat_cmp, inl, inr}
+use Rattle.std.proofs.Common.{◌≡◌, ℕ, ◌+◌, Bool, true, false, not, List, [], ◌∷◌, ◌++◌, length, map, slice_get, Option, Some, None, refl, sym, ap, subst, ◌∙◌, arith, if◌then◌else◌, nat_cmp, inl, inr}
 use Rattle.std.proofs.lemmas.Bool.{and_parts, cases_eq, eqb-true, not-true}
 use Rattle.std.proofs.lemmas.List.{append-nil, append_assoc, map-append}
 use Rattle.std.proofs.lemmas.Option.{same_Some}
@@ -26,7 +26,7 @@ use Rattle.tw_types.proofs.Totals.{insert_other, insert_same, part, total-empty,
 use Rattle.tw_code.specs.declared.procedure.Procedure.{Procedure}
 use Rattle.tw_code.specs.accepting.MainShape.{has_main_shape, is_main_param}
 use Rattle.tw_code.specs.format.Program.{IsParam, IsTypeUnder}
-use Rattle.tw_code.specs.machine.Holders.{Typings, frame_reads, frame_writes, id_of, over, read_by, rule_reads, rule_writes, task_reads, task_writes, write_by}
+use Rattle.tw_code.specs.machine.Holders.{Typings, frame_reads, frame_writes, id_of, read_by, rule_reads, rule_writes, task_reads, task_writes, write_by}
 use Rattle.tw_code.specs.machine.Inputs.{AreInputsOf, are_inputs_of, input_params, is_input_of}
 use Rattle.tw_code.specs.machine.Opening.{Opened, main_task, opened, opening, opening_of, with_given, with_input, with_output}
 use Rattle.tw_code.specs.machine.Rights.{Right, right_of}
@@ -34,8 +34,8 @@ use Rattle.tw_code.specs.machine.State.{Frame}
 use Rattle.tw_invariant.specs.Invariant.{ArgFits, ArgsFit, Holds, IsHeld, NumbersHeld, TypesHeld, CountsHeld, BudgetsHeld}
 use Rattle.tw_invariant.proofs.Asked.{opening_named}
 use Rattle.tw_invariant.proofs.DataNew.{new_content, new_writers, no_members}
-use Rattle.tw_invariant.proofs.Filling.{IsFilling, added_filling, not_yet, plain_next, undisturbed_added}
-use Rattle.tw_invariant.proofs.Inputs.{IsGiven, IsRight, filled_right, input_given, right_filled}
+use Rattle.tw_invariant.proofs.Filling.{added_filling, not_yet, plain_next, undisturbed_added}
+use Rattle.tw_invariant.proofs.Inputs.{IsRight, filled_right, input_given, right_filled}
 use Rattle.tw_invariant.proofs.Over.{over_params}
 use Rattle.tw_invariant.proofs.Registers.{Undisturbed}
 use Rattle.tw_invariant.proofs.Stages.{args_kept}
@@ -113,9 +113,9 @@ module _ (params : List Param) (o : Opened) (p : Param) (h : IsOpened params o) 
       let none = f.unheld id (not_yet o.store scalar.Int 0 r w f) in
       let one = hits_same id in
       let next = plain_next o.store scalar.Int scalar.Int r w (λ d. r d + hits d id) (λ d. w d + hits d id) (new_datum p.ty) f (new_content p.ty) (param_type p.mode p.ty no_value param) (new_writers p.ty) (no_members p.ty)
-          (λ d other. let no_hit = hits_other d id (λ z. other (sym z)) in (omega arith, omega arith)) (omega (arith, none.0)) (omega (arith, none.1)) (omega arith) in
+      (λ d other. let no_hit = hits_other d id (λ z. other (sym z)) in (omega arith, omega arith)) (omega (arith, none.0)) (omega (arith, none.1)) (omega arith) in
       let right = filled_right (added o.store (new_datum p.ty)) scalar.Int (λ d. r d + hits d id) (λ d. w d + hits d id)
-          (added_filling o.store scalar.Int 0 r w f (new_datum p.ty) scalar.Int 0 (λ d. r d + hits d id) (λ d. w d + hits d id) next) in
+      (added_filling o.store scalar.Int 0 r w f (new_datum p.ty) scalar.Int 0 (λ d. r d + hits d id) (λ d. w d + hits d id) next) in
       let holds : Holds (added o.store (new_datum p.ty)) (record { mode = p.mode; ty = p.ty }) id = record {
         given = omega arith;
         ty = λ x at. ap (λ (y : Datum). y.ty) (sym (same_Some (new_datum p.ty) x (sym (insert_same nat_cmp nat_cmp_total o.store.live id (new_datum p.ty)) ∙ at)));

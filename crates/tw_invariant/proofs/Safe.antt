@@ -1,13 +1,10 @@
 -- Accepted programs reach no trap.
-use Rattle.std.proofs.Common.{◌≡◌, ℕ, List, [], ◌∷◌, length, slice_get, Some, refl}
-use Rattle.std.specs.FinMap.{get}
-use Rattle.tw_types.specs.declared.cause.Cause.{Cause}
+use Rattle.std.proofs.Common.{◌≡◌, ℕ, List, [], ◌∷◌, slice_get, Some}
 use Rattle.tw_types.specs.declared.event.Event.{Event}
 use Rattle.tw_types.specs.declared.input.Input.{Input}
 use Rattle.tw_types.specs.Layout.{ActorCounts}
-use Rattle.tw_types.specs.Outcome.{Trap, Went}
+use Rattle.tw_types.specs.Outcome.{Went}
 use Rattle.tw_code.specs.declared.procedure.Procedure.{Procedure}
-use Rattle.tw_code.specs.accepting.WellTyped.{IsAccepted, IsWellTyped}
 use Rattle.tw_code.specs.format.Program.{IsProcedure, IsProgram}
 use Rattle.tw_code.specs.machine.Holders.{Typings}
 use Rattle.tw_code.specs.machine.Inputs.{AreInputsOf}

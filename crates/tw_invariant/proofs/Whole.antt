@@ -1,5 +1,5 @@
 -- The three events of a task that runs keep all that is held, and never trap, where its turn is as the typing says.
-use Rattle.std.proofs.Common.{◌≡◌, ℕ, ◌+◌, ◌<◌, Bool, true, List, slice_get, Option, Some, None, refl, sym, ap, subst, ◌∙◌, arith}
+use Rattle.std.proofs.Common.{◌≡◌, ℕ, ◌+◌, ◌<◌, true, List, slice_get, Some, refl, sym, ap, subst, ◌∙◌, arith}
 use Rattle.std.proofs.lemmas.Option.{same_Some}
 use Rattle.std.specs.FinMap.{get, insert}
 use Rattle.std.specs.Option.{option_flatten}
@@ -24,7 +24,6 @@ use Rattle.tw_code.specs.machine.Rights.{right_at, Right, Typing}
 use Rattle.tw_code.specs.machine.State.{State, Frame, after_context, context_of}
 use Rattle.tw_code.specs.machine.Machine.{Standing, call_by, standing_of, call_event}
 use Rattle.tw_code.specs.machine.Position.{at_next_place}
-use Rattle.tw_code.specs.accepting.Question.{passes}
 use Rattle.tw_code.specs.accepting.Typing.{writes, asks, asks_data, without_args}
 use Rattle.tw_code.specs.machine.Arguments.{params_of}
 use Rattle.tw_code.specs.machine.Holders.{Typings, typing_at, typing_of, frame_reads, frame_writes}
