@@ -5,7 +5,10 @@ mod calls;
 mod letters;
 mod members;
 mod model;
+mod numbered;
+mod order;
 mod parts;
+mod puts;
 mod random;
 mod same;
 mod search;
@@ -39,6 +42,17 @@ fn store_trials(rt: &HostRuntime) -> io::Result<()> {
     tell(rt, "a thousand members are freed", freed)
 }
 
+fn queue_trials(rt: &HostRuntime) -> io::Result<()> {
+    let order = whole(order::best_goes_first(rt.alloc()));
+    tell(rt, "the order in which tasks are taken", order)?;
+    let puts = puts::puts_and_takes_are_the_searchs(rt.alloc());
+    tell(
+        rt,
+        "10,000 puts and takes, and a search of the tasks that wait",
+        puts,
+    )
+}
+
 fn verifier_trials(rt: &HostRuntime) -> io::Result<()> {
     for (digits, count, behind) in [
         (1, 11, ""),
@@ -57,6 +71,7 @@ fn verifier_trials(rt: &HostRuntime) -> io::Result<()> {
 
 fn main(rt: HostRuntime) -> io::Result<()> {
     store_trials(&rt)?;
+    queue_trials(&rt)?;
     verifier_trials(&rt)?;
     let parts = parts::first_other_instruction(rt.alloc());
     tell(&rt, "the parts of every instruction", parts)

@@ -9,7 +9,7 @@ use std::alloc::Global;
 use tw_store::Store;
 
 /// The next number of the sequence, below the bound.
-fn draw(seed: &mut u64, bound: u64) -> u8
+pub fn draw(seed: &mut u64, bound: u64) -> u8
     requires { 0 < bound }
 {
     *seed = seed

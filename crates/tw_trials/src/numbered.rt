@@ -1,0 +1,128 @@
+//! Queues whose tasks get the numbers 1, 2 and so on.
+
+ghost use Rattle.std.specs.Prelude.{◌≡◌, ◌≤◌, ℕ, is_none, true};
+ghost use Rattle.std.specs.FinMap.{get};
+ghost use Rattle.tw_queue.specs.Queues.{IsTarget};
+
+use std::alloc::{AllocError, Global};
+use tw_queue::{Task, TaskQueues};
+use tw_rights::{Arg, Bundle, ReadRight, WriteRight};
+use tw_types::{Actor, DatumId, Kind, TaskNo, Value};
+
+/// What an actor takes.
+#[derive(Clone, Copy, PartialEq, Eq)]
+pub enum Taken {
+    Nothing,
+    Task(u64),
+    /// A task that isn't as it was put, or not what `best` says.
+    Strange,
+}
+
+/// The queues, and the number of the next task, which is greater than that of each task.
+pub struct Numbered {
+    queues: TaskQueues,
+    next: u64,
+    ghost fresh: { (number : ℕ) → next ≤ number → is_none (get queues.tasks number) ≡ true },
+}
+
+impl Numbered {
+    pub fn new(alloc: Global) -> Result<Numbered, AllocError> {
+        let queues = TaskQueues::new(alloc)?;
+        Ok(Numbered { queues, next: 1 })
+    }
+
+    pub fn len(&self) -> usize {
+        self.queues.len()
+    }
+
+    /// Puts the next task. Its number, or none where memory or numbers run out.
+    pub fn put(&mut self, kind: Kind, priority: i64, target: Option<u8>) -> Option<u64>
+        requires { IsTarget target }
+    {
+        let number = self.next;
+        if number == u64::MAX {
+            return None;
+        }
+        match self.queues.put(kind, priority, target, task_of(number)) {
+            Ok(()) => {
+                self.next = number + 1;
+                Some(number)
+            }
+            Err(task) => {
+                spend(task);
+                None
+            }
+        }
+    }
+
+    /// What the actor takes, if `best` says the same before.
+    pub fn take(&mut self, actor: Actor) -> Taken {
+        let best = seen(self.queues.best(actor));
+        let task = self.queues.take(actor);
+        let taken = seen(task.as_ref());
+        if let Some(task) = task {
+            spend(task);
+        }
+        if taken == best { taken } else { Taken::Strange }
+    }
+
+    /// Spends the rights of the tasks that are left.
+    pub fn shut(self) {
+        let Numbered { queues, next: _ } = self;
+        queues.shut();
+    }
+}
+
+/// A task of this number. One in three has a read right on the datum of its number, and one in three a write right.
+fn task_of(number: u64) -> Task
+    ensures { result.no ≡ number }
+{
+    let id = DatumId::new(number);
+    let mut args = Bundle::new();
+    let pushed = args.push(match number % 3 {
+        0 => Arg::Read(ReadRight::of(id)),
+        1 => Arg::Write(WriteRight::of(id)),
+        _ => Arg::Val(Value::Int(7)),
+    });
+    if let Err(arg) = pushed {
+        arg.spend();
+    }
+    Task {
+        no: TaskNo::new(number),
+        procedure: procedure_of(number),
+        args,
+    }
+}
+
+fn procedure_of(number: u64) -> u8 {
+    u8::try_from(number % 64).unwrap_or(0)
+}
+
+/// Whether the task is that of its number.
+fn is_as_put(task: &Task) -> bool {
+    let number = task.no.number();
+    task.procedure == procedure_of(number)
+        && match task.args.get(0) {
+            Some(Arg::Read(right)) => number % 3 == 0 && right.id().number() == number,
+            Some(Arg::Write(right)) => number % 3 == 1 && right.id().number() == number,
+            Some(Arg::Val(_)) => number % 3 == 2,
+            None => false,
+        }
+}
+
+fn seen(task: Option<&Task>) -> Taken {
+    match task {
+        None => Taken::Nothing,
+        Some(task) if is_as_put(task) => Taken::Task(task.no.number()),
+        Some(_) => Taken::Strange,
+    }
+}
+
+fn spend(task: Task) {
+    let Task {
+        no: _,
+        procedure: _,
+        args,
+    } = task;
+    args.shut();
+}
