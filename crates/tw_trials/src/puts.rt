@@ -150,7 +150,7 @@ fn call_agrees(
     is_same && queues.len() == plains.len()
 }
 
-/// What differs first: the number of a call, a kind of take that is rare, or how many tasks are left where those are few.
+/// What differs first: the number of a call, how many tasks are left if they are few, or a kind of take that is rare.
 fn first_difference(alloc: Global, queues: &mut Numbered) -> Option<(&'static str, u64)> {
     let mut plains = Vec::new(alloc);
     let mut tally = Tally { counts: [0; 5] };

@@ -1,4 +1,4 @@
-use Rattle.std.proofs.Common.{◌≡◌, is_none, ap, ◌∙◌}
+use Rattle.std.proofs.Common.{is_none, ap, ◌∙◌}
 use Rattle.std.specs.FinMap.{get}
 use Rattle.tw_trials.proofs.Fresh.{fresh_without}
 use Rattle.tw_trials.proofs.numbered.Numbered.take.Goals as goal
