@@ -70,11 +70,12 @@ fn data_parts(instr: DataInstr) -> (u8, u8, u8, u16) {
 fn action_parts(action: &Action) -> (u8, u8, u8, u16) {
     let args = action.args.as_slice();
     let first = args.first().copied().unwrap_or(0);
+    let count = u8::try_from(args.len()).unwrap_or(u8::MAX);
     let target = match action.target {
         Some(number) => u16::from(number).wrapping_add(1),
         None => 0,
     };
-    (action.procedure, first, args.len() as u8, target)
+    (action.procedure, first, count, target)
 }
 
 fn local_parts(instr: &LocalInstr) -> (u8, u8, u8, u16) {
