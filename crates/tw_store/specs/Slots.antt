@@ -1,0 +1,92 @@
+-- Slots of data, each with its id, seen as two maps: from each id to its datum, and to its place.
+use Rattle.std.specs.Prelude.{◌≡◌, ◌<◌, ℕ, ℤ, suc, List, [], ◌∷◌, Option, Some, None, slice_index_or}
+use Rattle.std.specs.Ordering.{nat_cmp}
+use Rattle.std.specs.FinMap.{FinMap, from_entries, get}
+use Rattle.tw_types.specs.Store.{Data, Datum, Store}
+use Rattle.tw_types.specs.StoreCalls.{changed, store_after}
+use Rattle.tw_store.specs.declared.member.Member.{Member}
+use Rattle.tw_store.specs.declared.slot.Slot.{Slot}
+use Rattle.tw_store.specs.Placed.{PlacedDatum, PlacedMembers}
+
+abbrev pub Slots : Type 0
+Slots = List (Option Slot)
+
+abbrev pub slot_at : Slots → ℕ → Option Slot
+slot_at slots place = slice_index_or slots place None
+
+-- what g reads of each slot that is taken, with its id, where the first has this place
+abbrev pub shown : {Y : Type 0} → (ℕ → Slot → Y) → ℕ → Slots → List (ℕ × Y)
+shown g k [] = []
+shown g k (None ∷ slots) = shown g (suc k) slots
+shown g k (Some e ∷ slots) = (e.id, g k e) ∷ shown g (suc k) slots
+
+abbrev pub datum_in : ℕ → Slot → Datum
+datum_in place slot = slot.datum.datum
+
+abbrev pub live_of : Slots → Data
+live_of slots = from_entries (shown datum_in 0 slots)
+
+-- the place of each datum
+abbrev pub Places : Type 0
+Places = FinMap nat_cmp ℕ
+
+abbrev pub place_in : ℕ → Slot → ℕ
+place_in place slot = place
+
+abbrev pub places_of : Slots → Places
+places_of slots = from_entries (shown place_in 0 slots)
+
+-- ---- what holds of the slots
+
+-- no id stands in two slots
+abbrev pub AreApart : Slots → Type 0
+AreApart slots = (p q : ℕ) (e f : Slot) → slot_at slots p ≡ Some e → slot_at slots q ≡ Some f → e.id ≡ f.id → p ≡ q
+
+-- the datum of the id stands at no other place
+pub record IsAt (slots : Slots) (id place : ℕ) : Type 0 where
+  pub only : (q : ℕ) (e : Slot) → slot_at slots q ≡ Some e → e.id ≡ id → q ≡ place
+
+-- each member has its place, and an id below next
+abbrev pub AllAt : Slots → ℕ → PlacedMembers → Type 0
+AllAt slots next members = (k : ℤ) (m : Member) → get members k ≡ Some m → (m.id < next) × IsAt slots m.id m.place
+
+pub record AreSeated (slots : Slots) (next : ℕ) : Type 0 where
+  pub apart : AreApart slots
+  pub below : (p : ℕ) (e : Slot) → slot_at slots p ≡ Some e → e.id < next
+  pub members : (p : ℕ) (e : Slot) → slot_at slots p ≡ Some e → AllAt slots next e.datum.members
+
+-- the datum of the id stands somewhere
+pub record StandsAs (slots : Slots) (id : ℕ) (datum : PlacedDatum) : Type 0 where
+  pub place : ℕ
+  pub slot : Slot
+  pub there : slot_at slots place ≡ Some slot
+  pub id_is : slot.id ≡ id
+  pub datum_is : datum ≡ slot.datum
+
+-- ---- what a call does to them
+
+-- what stood at a place, with the same id and members
+pub record Stood (old : Slots) (q : ℕ) (f : Slot) : Type 0 where
+  pub slot : Slot
+  pub there : slot_at old q ≡ Some slot
+  pub id_is : f.id ≡ slot.id
+  pub members : f.datum.members ≡ slot.datum.members
+
+-- what is left stood there before
+pub record Remains (old new : Slots) : Type 0 where
+  pub each : (q : ℕ) (f : Slot) → slot_at new q ≡ Some f → Stood old q f
+
+-- the datum of the id is what f makes of it; all else stays as it is, and where it is
+pub record IsChanged (next id : ℕ) (f : Datum → Datum) (old new : Slots) : Type 0 where
+  pub live : (s : Store) → s.live ≡ live_of old → record s { live = live_of new } ≡ changed s id f
+  pub places : places_of new ≡ places_of old
+  pub seated : AreSeated new next
+
+-- the datum at the place, if there is one
+abbrev pub IsChangedAt : ℕ → (Datum → Datum) → Slots → Slots → Type 0
+IsChangedAt place f old new = (next : ℕ) (e : Slot) → AreSeated old next → slot_at old place ≡ Some e → IsChanged next e.id f old new
+
+-- the datum of the id is what f makes of it, and may be freed by that; what is left stays where it is
+pub record IsSettled (id : ℕ) (f : Datum → Datum) (old new : Slots) : Type 0 where
+  pub live : (s : Store) → s.live ≡ live_of old → record s { live = live_of new } ≡ store_after s id f
+  pub remains : Remains old new

@@ -1,0 +1,103 @@
+//! The calls that change one datum, over the slots.
+
+ghost use Rattle.std.specs.Prelude.{◌≡◌, ◌<◌, ◌^◌, ℕ, OnOk, OnErr, IfSome, IsSome, true, false};
+ghost use Rattle.std.specs.FinMap.{get, insert};
+ghost use Rattle.tw_types.specs.DataType.{is_scalar};
+ghost use Rattle.tw_types.specs.StoreCalls.{set_to, one_read_more, one_write_more, one_write_less, with_member, with_subscriber};
+ghost use Rattle.tw_store.specs.declared.slot.Slot.{Slot as Meaning};
+ghost use Rattle.tw_store.specs.Slots.{slot_at, places_of, AreSeated, IsChanged, IsChangedAt, IsSettled};
+
+use crate::freeing::settle;
+use crate::member::Member;
+use crate::slot::Slot;
+use slab::Slab;
+use std::alloc::AllocError;
+use tw_types::{Subscriber, Value};
+
+/// Sets the scalar at a place, which closes it.
+pub fn set_at(slab: &mut Slab<Slot>, place: usize, value: Value)
+    requires seated { (next : ℕ) × AreSeated slab.old.slots next }
+    requires there { IsSome (slot_at slab.old.slots place) }
+    requires scalar { IfSome (slot_at slab.old.slots place) (λ e. is_scalar e.datum.datum.ty ≡ true) }
+    requires write { IfSome (slot_at slab.old.slots place) (λ e. 0 < e.datum.datum.writes) }
+    ensures { IfSome (slot_at slab.old.slots place) (λ e. IsSettled e.id (set_to value) slab.old.slots slab.new.slots) }
+{
+    let Some(slot) = slab.get_mut(place) else {
+        unreachable!();
+    };
+    slot.datum.set(value);
+    settle(slab, place);
+}
+
+/// Takes one write of the container at a place. The last one closes it.
+pub fn drop_write_at(slab: &mut Slab<Slot>, place: usize)
+    requires seated { (next : ℕ) × AreSeated slab.old.slots next }
+    requires there { IsSome (slot_at slab.old.slots place) }
+    requires write { IfSome (slot_at slab.old.slots place) (λ e. 0 < e.datum.datum.writes) }
+    ensures { IfSome (slot_at slab.old.slots place) (λ e. IsSettled e.id one_write_less slab.old.slots slab.new.slots) }
+{
+    let Some(slot) = slab.get_mut(place) else {
+        unreachable!();
+    };
+    slot.datum.take_write();
+    settle(slab, place);
+}
+
+/// Puts a member into the container at a place.
+pub fn insert_at(
+    slab: &mut Slab<Slot>,
+    place: usize,
+    subscript: i64,
+    member: Member,
+) -> Result<(), AllocError>
+    requires there { IsSome (slot_at slab.old.slots place) }
+    requires container { IfSome (slot_at slab.old.slots place) (λ e. is_scalar e.datum.datum.ty ≡ false) }
+    requires member { get (places_of slab.old.slots) member.id ≡ Some member.place }
+    ensures inserted { OnOk result (IsChangedAt place (with_member subscript member.id) slab.old.slots slab.new.slots) }
+    ensures refused { OnErr result (slab.new.slots ≡ slab.old.slots) }
+{
+    let Some(slot) = slab.get_mut(place) else {
+        unreachable!();
+    };
+    slot.datum.add_member(subscript, member)
+}
+
+/// Adds a read.
+pub fn add_read_at(slab: &mut Slab<Slot>, place: usize)
+    requires there { IsSome (slot_at slab.old.slots place) }
+    requires room { IfSome (slot_at slab.old.slots place) (λ e. e.datum.datum.reads < 2 ^ 63) }
+    ensures { IsChangedAt place one_read_more slab.old.slots slab.new.slots }
+{
+    let Some(slot) = slab.get_mut(place) else {
+        unreachable!();
+    };
+    slot.datum.add_read();
+}
+
+/// Adds a write.
+pub fn add_write_at(slab: &mut Slab<Slot>, place: usize)
+    requires there { IsSome (slot_at slab.old.slots place) }
+    requires room { IfSome (slot_at slab.old.slots place) (λ e. e.datum.datum.writes < 2 ^ 63) }
+    ensures { IsChangedAt place one_write_more slab.old.slots slab.new.slots }
+{
+    let Some(slot) = slab.get_mut(place) else {
+        unreachable!();
+    };
+    slot.datum.add_write();
+}
+
+/// Adds one who waits.
+pub fn subscribe_at(
+    slab: &mut Slab<Slot>,
+    place: usize,
+    subscriber: Subscriber,
+) -> Result<(), AllocError>
+    requires { IsSome (slot_at slab.old.slots place) }
+    ensures noted { OnOk result (IsChangedAt place (with_subscriber subscriber) slab.old.slots slab.new.slots) }
+    ensures refused { OnErr result (slab.new.slots ≡ slab.old.slots) }
+{
+    let Some(slot) = slab.get_mut(place) else {
+        unreachable!();
+    };
+    slot.datum.add_subscriber(subscriber)
+}
