@@ -18,7 +18,7 @@ use Rattle.tw_store.specs.declared.slot.Slot.{Slot}
 use Rattle.tw_store.specs.Placed.{PlacedDatum}
 use Rattle.tw_store.specs.Parts.{Queues, served_of, notices_in, rooms_in}
 use Rattle.tw_store.specs.Served.{Served, IsHere, IsNow, IsLeft, IsUnchanged, KeepsPlaces, queued, waiting_for, HasNoticeRoom}
-use Rattle.tw_store.specs.Slots.{Slots, StandsAs, AreSeated, live_of, places_of, datum_in, Remains, IsChanged, IsChangedAt, IsSettled}
+use Rattle.tw_store.specs.Slots.{Slots, StandsAs, AreSeated, live_of, places_of, datum_in, place_in, Remains, IsChanged, IsChangedAt, IsSettled}
 use Rattle.tw_store.proofs.Shown.{seat_of, IsSeat, search_slots, get_nowhere, StandsAt, StandsNowhere}
 use Rattle.tw_store.proofs.Remain.{live_at, place_at, some_is, of_some, if_some, place_stays, place_leaves, apart_left, seated_left}
 
@@ -199,9 +199,18 @@ notice_room slab next queues s view seated id x live queues2 count all servers r
 
 -- ---- a look at an id
 
--- what was found, or nothing, is what is live
-pub view_is : (slab : Slab Slot) (next : ℕ) (queues : Queues) (s : Served) → served_of slab next queues ≡ s → AreSeated slab.slots next → (id : ℕ) (r : Option PlacedDatum)
-    → IfSome r (StandsAs slab.slots id) → IfNone r ((p : ℕ) (e : Slot) → get_or slab.slots p None ≡ Some e → e.id ≢ id) → option_map (λ (d : PlacedDatum). d.datum) r ≡ get s.store.live id
-view_is slab next queues s view seated id None found absent = sym (ap (λ (y : Served). get y.store.live id) (sym view) ∙ get_nowhere datum_in slab.slots id absent)
-view_is slab next queues s view seated id (Some d) found absent = sym (ap (λ (y : Served). get y.store.live id) (sym view) ∙ ap (get (live_of slab.slots)) (sym found.id_is)
-    ∙ live_at slab.slots next found.place found.slot seated found.there ∙ ap (λ (y : PlacedDatum). Some y.datum) (sym found.datum_is))
+pub place_is : (slab : Slab Slot) (next : ℕ) (queues : Queues) (s : Served) → served_of slab next queues ≡ s → AreSeated slab.slots next → (id : ℕ) (r : Option ℕ)
+    → IfSome r (λ place. StandsAs slab.slots id place) → IfNone r ((p : ℕ) (e : Slot) → get_or slab.slots p None ≡ Some e → e.id ≢ id) → r ≡ get s.places id
+place_is slab next queues s view seated id None found absent = sym (ap (λ (y : Served). get y.places id) (sym view) ∙ get_nowhere place_in slab.slots id absent)
+place_is slab next queues s view seated id (Some place) found absent = sym (ap (λ (y : Served). get y.places id) (sym view) ∙ ap (get (places_of slab.slots)) (sym found.id_is) ∙ place_at slab.slots next place found.slot seated found.there)
+
+-- what stands nowhere isn't live
+pub gone_is : (slab : Slab Slot) (next : ℕ) (queues : Queues) (s : Served) → served_of slab next queues ≡ s → AreSeated slab.slots next → (id : ℕ) → get s.places id ≡ None → get s.store.live id ≡ None
+gone_is slab next queues s view seated id none = ap (λ (y : Served). get y.store.live id) (sym view) ∙ by (search_slots slab.slots id)
+  where
+    clash : (p : ℕ) → None ≡ Some p → ⊥
+    clash p e = cc
+
+    by : StandsAt slab.slots id ⊎ StandsNowhere slab.slots id → get (live_of slab.slots) id ≡ None
+    by (inl t) = absurd (clash t.place (sym none ∙ ap (λ (y : Served). get y.places id) (sym view) ∙ ap (get (places_of slab.slots)) (sym t.id_is) ∙ place_at slab.slots next t.place t.slot seated t.there))
+    by (inr n) = get_nowhere datum_in slab.slots id n

@@ -55,13 +55,11 @@ pub record AreSeated (slots : Slots) (next : ℕ) : Type 0 where
   pub below : (p : ℕ) (e : Slot) → slot_at slots p ≡ Some e → e.id < next
   pub members : (p : ℕ) (e : Slot) → slot_at slots p ≡ Some e → AllAt slots next e.datum.members
 
--- the datum of the id stands somewhere
-pub record StandsAs (slots : Slots) (id : ℕ) (datum : PlacedDatum) : Type 0 where
-  pub place : ℕ
+-- the datum of the id stands at the place
+pub record StandsAs (slots : Slots) (id place : ℕ) : Type 0 where
   pub slot : Slot
   pub there : slot_at slots place ≡ Some slot
   pub id_is : slot.id ≡ id
-  pub datum_is : datum ≡ slot.datum
 
 -- ---- what a call does to them
 

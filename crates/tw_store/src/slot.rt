@@ -26,14 +26,15 @@ pub fn datum_at(slab: &Slab<Slot>, place: usize) -> &Datum
     &slot.datum
 }
 
-/// The datum of an id, wherever it stands.
-pub fn datum_of(slab: &Slab<Slot>, id: DatumId) -> Option<&Datum>
-    ensures found { IfSome result (λ datum. StandsAs slab.now.slots id datum.now) }
+/// The place of the datum of an id.
+pub fn place_of(slab: &Slab<Slot>, id: DatumId) -> Option<usize>
+    ensures found { IfSome result (λ place. StandsAs slab.now.slots id place) }
     ensures absent { IfNone result ((place : ℕ) (e : Meaning) → slot_at slab.now.slots place ≡ Some e → e.id ≢ id) }
 {
-    for (_, slot) in slab.iter() {
-        if slot.id.number() == id.number() {
-            return Some(&slot.datum);
+    let number = id.number();
+    for (place, slot) in slab.iter() {
+        if slot.id.number() == number {
+            return Some(place);
         }
     }
     None
