@@ -4,7 +4,7 @@ use tw_rights::{Arg, Bundle, Held, ReadRight, RightFile, WriteRight};
 use tw_types::{DatumId, Value};
 
 fn read(id: u64) -> ReadRight {
-    ReadRight::of(DatumId::new(id))
+    ReadRight::of(DatumId::new(id), 0)
 }
 
 /// The id of what was taken, if anything was, and whether it may be written.
@@ -19,7 +19,7 @@ fn spent(held: Option<Held>) -> Option<(u64, bool)> {
 fn a_file_keeps_what_is_placed(rt: HostRuntime) {
     let mut file = RightFile::new();
     file.place(0, Held::Read(read(4)));
-    file.place(15, Held::Write(WriteRight::of(DatumId::new(9))));
+    file.place(15, Held::Write(WriteRight::of(DatumId::new(9), 0)));
     let peeked = file.peek(15).map(|held| held.id().number());
     let empty = (file.is_empty(0), file.is_empty(1), file.is_empty(16));
     let taken = (

@@ -1,14 +1,19 @@
 //! The calls of the store, and what it and the model answer to one.
 
-ghost use Rattle.std.specs.Prelude.{◌≡◌, ◌<◌, ◌^◌, IsTrue};
+ghost use Rattle.std.specs.Prelude.{◌≡◌, ◌<◌, ◌^◌, IfSome, IsTrue};
 ghost use Rattle.std.specs.FinMap.{get};
-ghost use Rattle.tw_store.specs.Calls.{HasReadRoom, HasWriteRoom, HasMemberRoom};
+ghost use Rattle.std.specs.declared.result.Result.TheVariants.{Ok};
+ghost use Rattle.tw_types.specs.StoreChecks.{may_insert};
+ghost use Rattle.tw_store.specs.Room.{HasReadRoom, HasWriteRoom};
+ghost use Rattle.tw_store.specs.Calls.{HasMemberRoom};
+ghost use Rattle.tw_store.specs.Served.{IsHere};
 
+use crate::may;
 use crate::model::{Answer, Model, Plain};
 use std::alloc::Global;
 use tw_rights::{ReadRight, WriteRight};
-use tw_store::{Asked, Inserted, Refused, Store};
-use tw_types::{DataType, DatumId, RuleNo, Text, Value};
+use tw_store::{Asked, Inserted, Store};
+use tw_types::{Cause, DataType, DatumId, RuleNo, Text, Value};
 
 /// No count comes near this one.
 const FAR: u64 = 1 << 40;
@@ -31,16 +36,28 @@ pub enum Call {
     TakeNote(u8),
 }
 
-fn read_of(id: u64) -> ReadRight
-    ensures { result.id ≡ id }
+/// A read right on the datum of an id, if it is live.
+fn read_of(store: &Store, id: u64) -> Option<ReadRight>
+    ensures here { IfSome result (λ right. IsHere store.now right) }
+    ensures id { IfSome result (λ right. right.id ≡ id) }
 {
-    ReadRight::of(DatumId::new(id))
+    let datum = DatumId::new(id);
+    match store.place_of(datum) {
+        Some(place) => Some(ReadRight::of(datum, place)),
+        None => None,
+    }
 }
 
-fn write_of(id: u64) -> WriteRight
-    ensures { result.id ≡ id }
+/// A write right on the datum of an id, if it is live.
+fn write_of(store: &Store, id: u64) -> Option<WriteRight>
+    ensures here { IfSome result (λ right. IsHere store.now right) }
+    ensures id { IfSome result (λ right. right.id ≡ id) }
 {
-    WriteRight::of(DatumId::new(id))
+    let datum = DatumId::new(id);
+    match store.place_of(datum) {
+        Some(place) => Some(WriteRight::of(datum, place)),
+        None => None,
+    }
 }
 
 /// The value, where memory isn't refused.
@@ -86,36 +103,59 @@ fn create(store: &mut Store, alloc: Global, ty: DataType) -> Answer {
 }
 
 fn set(store: &mut Store, id: u64, value: Value) -> Answer {
-    match store.try_store(write_of(id), value) {
+    if let Err(cause) = may::store(store, id, &value) {
+        return Answer::Misuse(cause);
+    }
+    let Some(right) = write_of(store, id) else {
+        return Answer::Strange;
+    };
+    match store.store(right, value) {
         Ok(()) => Answer::Done,
-        Err(Refused::Misuse(cause, (right, _value))) => {
-            if_back(id, right.spend(), Answer::Misuse(cause))
-        }
-        Err(Refused::NoMemory((right, _value))) => if_back(id, right.spend(), Answer::Strange),
+        Err((right, _value)) => if_back(id, right.spend(), Answer::Strange),
     }
 }
 
 fn retrieve(store: &Store, alloc: Global, id: u64) -> Answer {
-    let right = read_of(id);
-    let answer = match store.try_retrieve(alloc, &right) {
+    if let Err(cause) = may::retrieve(store, id) {
+        return Answer::Misuse(cause);
+    }
+    let Some(right) = read_of(store, id) else {
+        return Answer::Strange;
+    };
+    let answer = match store.retrieve(alloc, &right) {
         Ok(Value::Int(number)) => Answer::Number(number),
         Ok(Value::Text(text)) if text.as_str() == "a" => Answer::Letter,
         Ok(Value::Text(_)) => Answer::Strange,
-        Err(Refused::Misuse(cause, ())) => Answer::Misuse(cause),
-        Err(Refused::NoMemory(())) => Answer::Strange,
+        Err(_) => Answer::Strange,
     };
     if_back(id, right.spend(), answer)
 }
 
 fn insert(store: &mut Store, id: u64, subscript: i64, member: u64) -> Answer {
-    let right = write_of(id);
-    let answer = match store.try_insert(&right, subscript, read_of(member)) {
-        Ok(Inserted::Done) => Answer::Done,
-        Ok(Inserted::Present(back)) => if_back(member, back.spend(), Answer::Present),
-        Err(Refused::Misuse(cause, back)) => if_back(member, back.spend(), Answer::Misuse(cause)),
-        Err(Refused::NoMemory(back)) => if_back(member, back.spend(), Answer::Strange),
+    if let Err(cause) = may::insert(store, id, member) {
+        return Answer::Misuse(cause);
+    }
+    let Some(right) = write_of(store, id) else {
+        return Answer::Strange;
+    };
+    let answer = match read_of(store, member) {
+        Some(given) => inserted(store, &right, subscript, given),
+        None => Answer::Strange,
     };
     if_back(id, right.spend(), answer)
+}
+
+fn inserted(store: &mut Store, right: &WriteRight, subscript: i64, given: ReadRight) -> Answer
+    requires here { IsHere store.old right.now }
+    requires member_here { IsHere store.old given }
+    requires allowed { may_insert (get store.old.store.live right.now.id) (get store.old.store.live given.id) ≡ Ok tt }
+{
+    let member = given.id().number();
+    match store.insert(right, subscript, given) {
+        Ok(Inserted::Done) => Answer::Done,
+        Ok(Inserted::Present(back)) => if_back(member, back.spend(), Answer::Present),
+        Err(back) => if_back(member, back.spend(), Answer::Strange),
+    }
 }
 
 fn has_read_room(store: &Store, id: u64) -> bool
@@ -149,33 +189,44 @@ fn has_member_room(store: &Store, id: u64, subscript: i64) -> bool
 }
 
 fn look(store: &mut Store, id: u64, subscript: i64) -> Answer {
+    if let Err(cause) = may::look(store, id, subscript) {
+        return Answer::Misuse(cause);
+    }
     if !has_member_room(store, id, subscript) {
         return Answer::Strange;
     }
-    let right = read_of(id);
-    let answer = match store.try_look(&right, subscript) {
-        Ok(Some(member)) => Answer::Id(member.spend().number()),
-        Ok(None) => Answer::Nothing,
-        Err(cause) => Answer::Misuse(cause),
+    let Some(right) = read_of(store, id) else {
+        return Answer::Strange;
+    };
+    let answer = match store.look(&right, subscript) {
+        Some(member) => Answer::Id(member.spend().number()),
+        None => Answer::Nothing,
     };
     if_back(id, right.spend(), answer)
 }
 
 fn size(store: &Store, id: u64) -> Answer {
-    let right = read_of(id);
-    let answer = match store.try_size(&right) {
-        Ok(size) => i64::try_from(size).map_or(Answer::Strange, Answer::Number),
-        Err(cause) => Answer::Misuse(cause),
+    if let Err(cause) = may::read_members(store, id) {
+        return Answer::Misuse(cause);
+    }
+    let Some(right) = read_of(store, id) else {
+        return Answer::Strange;
     };
+    let size = store.size(&right);
+    let answer = i64::try_from(size).map_or(Answer::Strange, Answer::Number);
     if_back(id, right.spend(), answer)
 }
 
 fn subscript_at(store: &Store, id: u64, index: i64) -> Answer {
-    let right = read_of(id);
-    let answer = match store.try_subscript_at(&right, index) {
-        Ok(Some(subscript)) => Answer::Number(subscript),
-        Ok(None) => Answer::Nothing,
-        Err(cause) => Answer::Misuse(cause),
+    if let Err(cause) = may::read_members(store, id) {
+        return Answer::Misuse(cause);
+    }
+    let Some(right) = read_of(store, id) else {
+        return Answer::Strange;
+    };
+    let answer = match store.subscript_at(&right, index) {
+        Some(subscript) => Answer::Number(subscript),
+        None => Answer::Nothing,
     };
     if_back(id, right.spend(), answer)
 }
@@ -184,48 +235,63 @@ fn copy_read(store: &mut Store, id: u64) -> Answer {
     if !has_read_room(store, id) {
         return Answer::Strange;
     }
-    let right = read_of(id);
-    let answer = match store.try_copy_read(&right) {
-        Ok(second) => Answer::Id(second.spend().number()),
-        Err(cause) => Answer::Misuse(cause),
+    let Some(right) = read_of(store, id) else {
+        return Answer::Misuse(Cause::FreedDatum);
     };
+    let second = store.copy_read(&right);
+    let answer = Answer::Id(second.spend().number());
     if_back(id, right.spend(), answer)
 }
 
 fn copy_write(store: &mut Store, id: u64) -> Answer {
+    if let Err(cause) = may::copy_write(store, id) {
+        return Answer::Misuse(cause);
+    }
     if !has_write_room(store, id) {
         return Answer::Strange;
     }
-    let right = write_of(id);
-    let answer = match store.try_copy_write(&right) {
-        Ok(second) => Answer::Id(second.spend().number()),
-        Err(cause) => Answer::Misuse(cause),
+    let Some(right) = write_of(store, id) else {
+        return Answer::Strange;
     };
+    let second = store.copy_write(&right);
+    let answer = Answer::Id(second.spend().number());
     if_back(id, right.spend(), answer)
 }
 
 fn drop_read(store: &mut Store, id: u64) -> Answer {
-    match store.try_drop_read(read_of(id)) {
-        Ok(()) => Answer::Done,
-        Err((cause, back)) => if_back(id, back.spend(), Answer::Misuse(cause)),
+    if let Err(cause) = may::drop_read(store, id) {
+        return Answer::Misuse(cause);
+    }
+    match read_of(store, id) {
+        Some(right) => {
+            store.drop_read(right);
+            Answer::Done
+        }
+        None => Answer::Strange,
     }
 }
 
 fn drop_write(store: &mut Store, id: u64) -> Answer {
-    match store.try_drop_write(write_of(id)) {
+    if let Err(cause) = may::drop_write(store, id) {
+        return Answer::Misuse(cause);
+    }
+    let Some(right) = write_of(store, id) else {
+        return Answer::Strange;
+    };
+    match store.drop_write(right) {
         Ok(()) => Answer::Done,
-        Err(Refused::Misuse(cause, back)) => if_back(id, back.spend(), Answer::Misuse(cause)),
-        Err(Refused::NoMemory(back)) => if_back(id, back.spend(), Answer::Strange),
+        Err(back) => if_back(id, back.spend(), Answer::Strange),
     }
 }
 
 fn ask(store: &mut Store, id: u64, rule: u64, parameter: u8) -> Answer {
-    let right = read_of(id);
-    let answer = match store.try_ask(&right, RuleNo::new(rule), parameter) {
+    let Some(right) = read_of(store, id) else {
+        return Answer::Misuse(Cause::FreedDatum);
+    };
+    let answer = match store.ask(&right, RuleNo::new(rule), parameter) {
         Ok(Asked::Closed) => Answer::Closed,
         Ok(Asked::Noted) => Answer::Noted,
-        Err(Refused::Misuse(cause, ())) => Answer::Misuse(cause),
-        Err(Refused::NoMemory(())) => Answer::Strange,
+        Err(_) => Answer::Strange,
     };
     if_back(id, right.spend(), answer)
 }

@@ -2,7 +2,9 @@
 #![tactic(auto)]
 
 mod calls;
+mod checks;
 mod letters;
+mod may;
 mod members;
 mod model;
 mod numbered;
@@ -39,7 +41,9 @@ fn store_trials(rt: &HostRuntime) -> io::Result<()> {
     let found = whole(members::thousand_are_found(alloc));
     tell(rt, "a thousand members are found", found)?;
     let freed = whole(members::thousand_are_freed(alloc));
-    tell(rt, "a thousand members are freed", freed)
+    tell(rt, "a thousand members are freed", freed)?;
+    let in_turn = whole(members::thousand_in_turn(alloc));
+    tell(rt, "a thousand data are made and freed in turn", in_turn)
 }
 
 fn queue_trials(rt: &HostRuntime) -> io::Result<()> {

@@ -1,4 +1,4 @@
-//! A container of a thousand members.
+//! A container of a thousand members, and a thousand data one after the other.
 
 use crate::calls::{Call, answered};
 use crate::model::{Answer, Plain};
@@ -83,4 +83,26 @@ fn are_filled_and_freed(alloc: Global, store: &mut Store) -> bool {
         && live(store) == 1_001
         && answers(alloc, store, Call::DropRead(1), Answer::Done)
         && live(store) == 0
+}
+
+/// Makes the next datum, lets its read go and sets it, which frees it; whether all that went, and it is gone.
+fn is_made_and_freed(alloc: Global, store: &mut Store) -> bool {
+    let id = store.next().number();
+    let set = Call::Store(id, Plain::Number(0));
+    answers(alloc, store, Call::Create(0, false), Answer::Id(id))
+        && answers(alloc, store, Call::DropRead(id), Answer::Done)
+        && answers(alloc, store, set, Answer::Done)
+        && store.view(DatumId::new(id)).is_none()
+}
+
+/// A thousand data, made and freed one after the other: the last has id 1,000.
+pub fn thousand_in_turn(alloc: Global) -> bool {
+    let Ok(mut store) = Store::new(alloc, 1) else {
+        return false;
+    };
+    let mut went = true;
+    for _ in 0..1_000_u64 {
+        went = is_made_and_freed(alloc, &mut store) && went;
+    }
+    went && store.next().number() == 1_001
 }

@@ -80,8 +80,8 @@ fn task_of(number: u64) -> Task
     let id = DatumId::new(number);
     let mut args = Bundle::new();
     let pushed = args.push(match number % 3 {
-        0 => Arg::Read(ReadRight::of(id)),
-        1 => Arg::Write(WriteRight::of(id)),
+        0 => Arg::Read(ReadRight::of(id, 0)),
+        1 => Arg::Write(WriteRight::of(id, 0)),
         _ => Arg::Val(Value::Int(7)),
     });
     if let Err(arg) = pushed {
