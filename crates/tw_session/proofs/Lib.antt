@@ -1,9 +1,8 @@
+pub mod Members
+pub mod InputReading
+pub mod InputLaws
+pub mod Options
 pub mod Words
-pub mod Never
-pub mod Driving
-pub mod Silent
-pub mod Runs
-pub mod Stepping
 pub mod Reports
 pub mod Openings
 pub mod Checks

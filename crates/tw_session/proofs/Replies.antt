@@ -7,7 +7,8 @@ use Rattle.std.proofs.lemmas.List.{take_all, length-take-le}
 use Rattle.std.specs.Io.KnownBytes.{Appends}
 use Rattle.hex.specs.Hex.{decode_of}
 use Rattle.tw_session.specs.Input.{most_bytes, digits_in}
-use Rattle.tw_session.specs.Session.{Reply, reply, RepliesByText, MayReply, ComesOf}
+use Rattle.tw_session.specs.CommandLine.{Asked, IsAsked}
+use Rattle.tw_session.specs.Session.{Reply, reply, RepliesByText, MayReply, MayAnswer, ComesOf}
 use Rattle.tw_session.specs.declared.command.Order.{Order}
 use Rattle.tw_session.specs.declared.status.Close.{Close}
 use Rattle.tw_session.specs.declared.status.Close.TheVariants.{Refused}
@@ -25,26 +26,27 @@ to_all order all r h = elim (cases_lt most_bytes (length all)) [
 ]
 
 -- a reply that was written, unless the write failed
-pub replied : (order : Order) (input : List ℕ) (text : List ℕ) (close : Close) (status : Status) (old new : Option (List ℕ))
-    → MayReply order input (reply text close) → (status ≢ WriteFailed → status ≡ Ended close) → (status ≢ WriteFailed → Appends old new text) → ComesOf order input status old new
-replied order input text close (Ended other) old new h is wrote = (text, subst (λ (c : Close). MayReply order input (reply text c)) (sym (same (is (λ e. cc)))) h, wrote (λ e. cc))
+pub replied : (asked : Asked) (order : Order) (input : List ℕ) (text : List ℕ) (close : Close) (status : Status) (old new : Option (List ℕ))
+    → IsAsked asked order → MayReply order input (reply text close) → (status ≢ WriteFailed → status ≡ Ended close) → (status ≢ WriteFailed → Appends old new text) → ComesOf asked input status old new
+replied asked order input text close (Ended other) old new is_asked h is wrote =
+    (text, subst (λ (c : Close). MayAnswer asked input (reply text c)) (sym (same (is (λ e. cc)))) (inl (order, is_asked, h)), wrote (λ e. cc))
   where
     same : {a b : Close} → Ended a ≡ Ended b → a ≡ b
     same e = cc
-replied order input text close NoMemory old new h is wrote = absurd (never (is (λ e. cc)))
+replied asked order input text close NoMemory old new is_asked h is wrote = absurd (never (is (λ e. cc)))
   where
     never : NoMemory ≡ Ended close → ⊥
     never e = cc
-replied order input text close ReadFailed old new h is wrote = absurd (never (is (λ e. cc)))
+replied asked order input text close ReadFailed old new is_asked h is wrote = absurd (never (is (λ e. cc)))
   where
     never : ReadFailed ≡ Ended close → ⊥
     never e = cc
-replied order input text close WriteFailed old new h is wrote = tt
+replied asked order input text close WriteFailed old new is_asked h is wrote = tt
 
 -- the same for what a reader holds, if that is known
-pub replied_to_known : (order : Order) (known : Option (List ℕ)) (input : List ℕ) (text : List ℕ) (close : Close) (status : Status) (old new : Option (List ℕ))
-    → IfSome known (λ all. input ≡ take (most_bytes + 1) all) → MayReply order input (reply text close)
-    → (status ≢ WriteFailed → status ≡ Ended close) → (status ≢ WriteFailed → Appends old new text) → IfSome known (λ all. ComesOf order all status old new)
-replied_to_known order None input text close status old new is h ends wrote = tt
-replied_to_known order (Some all) input text close status old new is h ends wrote =
-    replied order all text close status old new (to_all order all (reply text close) (subst (λ (i : List ℕ). MayReply order i (reply text close)) is h)) ends wrote
+pub replied_to_known : (asked : Asked) (order : Order) (known : Option (List ℕ)) (input : List ℕ) (text : List ℕ) (close : Close) (status : Status) (old new : Option (List ℕ))
+    → IsAsked asked order → IfSome known (λ all. input ≡ take (most_bytes + 1) all) → MayReply order input (reply text close)
+    → (status ≢ WriteFailed → status ≡ Ended close) → (status ≢ WriteFailed → Appends old new text) → IfSome known (λ all. ComesOf asked all status old new)
+replied_to_known asked order None input text close status old new is_asked is h ends wrote = tt
+replied_to_known asked order (Some all) input text close status old new is_asked is h ends wrote =
+    replied asked order all text close status old new is_asked (to_all order all (reply text close) (subst (λ (i : List ℕ). MayReply order i (reply text close)) is h)) ends wrote

@@ -1,6 +1,11 @@
 -- The command line: what clap is told of it, and what the words then ask for.
-use Rattle.std.specs.Prelude.{true, List, Option, Some, None, codes, bytes_eq, if◌then◌else◌}
-use Rattle.clap.specs.Words.{App, Kinds, Row, Text, fault_of, new_app, subcommand_of, with_subcommand}
+use Rattle.std.specs.Prelude.{◌≡◌, ℕ, true, List, [], Option, Some, None, codes, bytes_eq, fold, if◌then◌else◌, map, unwrap_or}
+use Rattle.clap.specs.Kinds.{or_else}
+use Rattle.clap.specs.Lexer.{usize_max}
+use Rattle.clap.specs.Words.{App, Kinds, Row, Rule, Text, all_of, fault_of, new_app, new_rule, subcommand_of, with_rule, with_subcommand}
+use Rattle.tw_types.specs.Layout.{ActorCounts}
+use Rattle.tw_session.specs.InputWords.{AreSpelled, IsRefusedWord}
+use Rattle.tw_session.specs.Options.{actors_told, limit, number_options, option_faults, option_rule, told}
 use Rattle.tw_session.specs.declared.command.Order.{Order}
 use Rattle.tw_session.specs.declared.command.Order.TheVariants.{Check, Run}
 
@@ -8,9 +13,13 @@ use Rattle.tw_session.specs.declared.command.Order.TheVariants.{Check, Run}
 abbrev pub check_line : App
 check_line = new_app (codes "check")
 
--- `run`, without options
+-- the words behind `run`, however many
+abbrev pub input_rule : Rule
+input_rule = record (new_rule (codes "input")) { range = Some (record { start_inclusive = 0; end_inclusive = usize_max }) }
+
+-- `run`, with its options and input words
 abbrev pub run_line : App
-run_line = new_app (codes "run")
+run_line = with_rule (fold with_rule (new_app (codes "run")) (map (λ o. option_rule o.name) number_options)) input_rule
 
 -- the words come without the program's own name, and a command must be among them
 abbrev pub bare_line : App
@@ -26,15 +35,48 @@ bare_line = record (new_app (codes "tw")) {
 unfoldable pub command_line : App
 command_line = with_subcommand (with_subcommand bare_line check_line.top) run_line.top
 
--- the command that was named
-abbrev pub asked_of : Option (Text × List Row) → Order
-asked_of None = Run
-asked_of (Some named) = if bytes_eq named.0 (codes "check") then Check else Run
+-- ---- what the words ask for
+
+-- the input words among what clap found
+abbrev pub given_words : List Row → List Text
+given_words rows = unwrap_or (all_of (codes "input") rows) []
+
+-- the command that was named; `run` with its actors, the most events of the run, and the input words
+pub data Asked : Type 0 where
+  Checks : Asked
+  Runs : ActorCounts → ℕ → List Text → Asked
+
+-- `run`, by what clap found behind it
+abbrev pub run_asked : List Row → Asked
+run_asked rows = Runs (actors_told rows) (told limit rows) (given_words rows)
+
+abbrev pub asked_of : Option (Text × List Row) → Asked
+asked_of None = Checks
+asked_of (Some named) = if bytes_eq named.0 (codes "run") then run_asked named.1 else Checks
 
 -- what the program's words ask for
-abbrev pub asked_by_words : List Text → Order
+abbrev pub asked_by_words : List Text → Asked
 asked_by_words words = asked_of (subcommand_of command_line words)
 
--- why the words are refused: nothing where they are taken
+-- the order that is asked for: each input word spells its input
+abbrev pub IsAsked : Asked → Order → Type 0
+IsAsked Checks Check = Unit {0}
+IsAsked Checks (Run order) = ⊥
+IsAsked (Runs layout most words) Check = ⊥
+IsAsked (Runs layout most words) (Run order) = (order.layout ≡ layout) × (order.limit ≡ most) × AreSpelled order.inputs words
+
+-- or the word of this number, counted from 1, is the first that spells no input
+abbrev pub IsRefusedInput : Asked → ℕ → Type 0
+IsRefusedInput Checks number = ⊥
+IsRefusedInput (Runs layout most words) number = IsRefusedWord words number
+
+-- ---- what refuses the words
+
+-- of the options
+abbrev pub faults_behind : Option (Text × List Row) → Kinds
+faults_behind None = []
+faults_behind (Some named) = if bytes_eq named.0 (codes "run") then option_faults named.1 else []
+
+-- nothing where they are taken; the faults that clap finds go before an option's
 abbrev pub word_faults : List Text → Kinds
-word_faults words = fault_of command_line words
+word_faults words = or_else (fault_of command_line words) (faults_behind (subcommand_of command_line words))

@@ -1,9 +1,13 @@
--- The report of a state: a line for each output, and a line that says how the run ended.
-use Rattle.std.specs.Prelude.{ℕ, suc, Bool, true, false, List, [], ◌∷◌, ◌++◌, codes, decimal, Option, Some, None}
+-- The report of a state: a line for each output, with lines for the members of a container behind it, and a line that says
+-- how the run ended.
+use Rattle.std.specs.Prelude.{ℕ, ℤ, suc, Bool, true, false, List, [], ◌∷◌, ◌++◌, codes, decimal, Option, Some, None}
 use Rattle.std.specs.FinMap as fin
+use Rattle.std.specs.Fmt.{signed_decimal}
+use Rattle.std.specs.List.{flat_map}
 use Rattle.tw_types.specs.declared.data_type.Scalar.{Scalar}
 use Rattle.tw_types.specs.declared.data_type.Scalar.TheVariants as scalar
 use Rattle.tw_types.specs.Store.{Content, Unset, Set, Contains, Datum, Data, is_closed}
+use Rattle.tw_types.specs.StoreCalls.{members_in}
 use Rattle.tw_code.specs.machine.State.{State}
 use Rattle.tw_session.specs.Lines.{value_text}
 
@@ -32,11 +36,27 @@ datum_text (Some x) = content_text x x.content
 abbrev pub output_line : ℕ → Option Datum → List ℕ
 output_line k x = codes "out " ++ (decimal k ++ (codes " " ++ (datum_text x ++ codes "\n")))
 
+-- a member of a container; it is a scalar, since main's containers are containers of scalars
+abbrev pub member_line : ℤ → Option Datum → List ℕ
+member_line subscript x = codes "  at " ++ (signed_decimal subscript ++ (codes " " ++ (datum_text x ++ codes "\n")))
+
+abbrev pub member_lines : Data → List (ℤ × ℕ) → List ℕ
+member_lines live members = flat_map (λ e. member_line e.0 (fin.get live e.1)) members
+
+-- what stands in a datum, by rising subscripts
+abbrev pub entries_in : Option Datum → List (ℤ × ℕ)
+entries_in None = []
+entries_in (Some x) = fin.entries (members_in x.content)
+
+-- the line of an output, and those of its members
+abbrev pub output_text : Data → ℕ → Option Datum → List ℕ
+output_text live k x = output_line k x ++ member_lines live (entries_in x)
+
 -- the outputs from number k on
-abbrev pub output_lines : Data → ℕ → List ℕ → List ℕ
-output_lines live k [] = []
-output_lines live k (id ∷ ids) = output_line k (fin.get live id) ++ output_lines live (suc k) ids
+abbrev pub output_texts : Data → ℕ → List ℕ → List ℕ
+output_texts live k [] = []
+output_texts live k (id ∷ ids) = output_text live k (fin.get live id) ++ output_texts live (suc k) ids
 
 -- the outputs from 0, and the closing line
 abbrev pub report : State → List ℕ → List ℕ
-report s closing = output_lines s.store.live 0 s.outputs ++ closing
+report s closing = output_texts s.store.live 0 s.outputs ++ closing

@@ -1,32 +1,32 @@
 -- What a session writes and how it ends, by the bytes that it reads.
-use Rattle.std.specs.Prelude.{◌≡◌, ◌⊎◌, ℕ, List, length, codes, Result, Ok, Err, nat_lt, Bool, MatchBool, not, Option, ⊤}
-use Rattle.std.specs.List.{list_all}
+use Rattle.std.specs.Prelude.{◌≡◌, ◌⊎◌, ℕ, List, length, codes, Result, Ok, Err, nat_lt, MatchBool, Option, ⊤}
 use Rattle.hex.specs.Hex.{decode_of}
 use Rattle.hex.specs.declared.FromHexError.{FromHexError}
 use Rattle.tw_types.specs.Cause.{cause_number}
-use Rattle.tw_types.specs.declared.param.Param.{Param}
 use Rattle.tw_code.specs.declared.procedure.Procedure.{Procedure}
 use Rattle.tw_code.specs.declared.fault.Fault.{Fault}
 use Rattle.tw_code.specs.format.Fault as fault
 use Rattle.tw_code.specs.format.Reading.{program_of}
 use Rattle.tw_code.specs.machine.State.{State}
-use Rattle.tw_types.specs.Mode.{is_write}
-use Rattle.tw_code.specs.machine.Opening.{main_params}
+use Rattle.tw_code.specs.machine.Inputs.{has_input_count, has_fitting_inputs}
+use Rattle.tw_code.specs.accepting.Needs.{HasTargets}
 use Rattle.tw_code.specs.accepting.WellTyped.{IsAccepted, IsFirstRefusal}
 use Rattle.tw_session.specs.declared.command.Order.{Order}
 use Rattle.tw_session.specs.declared.command.Order.TheVariants.{Check, Run}
+use Rattle.tw_session.specs.declared.command.RunOrder.{RunOrder}
 use Rattle.tw_session.specs.declared.status.Close.{Close}
-use Rattle.tw_session.specs.declared.status.Close.TheVariants.{Success, Refused, Limit, Trapped}
+use Rattle.tw_session.specs.declared.status.Close.TheVariants.{Success, Refused, CommandLine, Stuck, Limit, Trapped}
 use Rattle.tw_session.specs.declared.status.Status.{Status}
 use Rattle.tw_session.specs.declared.status.Status.TheVariants.{Ended, NoMemory, ReadFailed, WriteFailed}
 use Rattle.std.specs.Io.KnownBytes.{Appends, Keeps}
-use Rattle.tw_session.specs.declared.run.RunEnd.{RunEnd}
-use Rattle.tw_session.specs.declared.run.RunEnd.TheVariants as run_end
+use Rattle.tw_run.specs.declared.run_end.RunEnd.{RunEnd}
+use Rattle.tw_run.specs.declared.run_end.RunEnd.TheVariants as run_end
+use Rattle.tw_run.specs.Run.{IsRun, Setup}
 use Rattle.tw_session.specs.Input.{most_bytes, digits_in}
-use Rattle.tw_session.specs.Lines.{fault_line, verify_line, opening_line, trap_line}
+use Rattle.tw_session.specs.CommandLine.{Asked, IsAsked, IsRefusedInput}
+use Rattle.tw_session.specs.Lines.{fault_line, input_word_line, verify_line, opening_line, stuck_line, trap_line}
 use Rattle.tw_session.specs.Report.{report}
 use Rattle.tw_session.specs.Check.{IsCheckText}
-use Rattle.tw_session.specs.Run.{IsRun, plain_setup}
 
 -- the text that is written, and how the session ends
 pub record Reply : Type 0 where
@@ -40,21 +40,31 @@ reply text close = record { text = text; close = close }
 
 abbrev pub run_reply : State → RunEnd → Reply
 run_reply s run_end.Quiet = reply (report s (codes "quiet\n")) Success
+run_reply s (run_end.Stuck rules) = reply (report s (stuck_line rules)) Stuck
 run_reply s run_end.Limit = reply (report s (codes "limit\n")) Limit
 run_reply s (run_end.Trapped cause event) = reply (trap_line (cause_number cause) event) Trapped
 
--- the reply is that of a run of the program
-abbrev pub RepliesByRun : List Procedure → Reply → Type 0
-RepliesByRun program r = (s : State) × (end : RunEnd) × IsRun program plain_setup s end × (r ≡ run_reply s end)
+abbrev pub setup_of : RunOrder → Setup
+setup_of order = record { layout = order.layout; inputs = order.inputs; limit = order.limit }
+
+-- the reply is that of a run of the program as it is ordered
+abbrev pub RepliesByRun : List Procedure → RunOrder → Reply → Type 0
+RepliesByRun program order r = (s : State) × (end : RunEnd) × IsRun program (setup_of order) s end × (r ≡ run_reply s end)
 
 -- ---- a program
 
--- main has a `closed` or `ref` parameter, for which there are no input words yet
-abbrev pub has_inputs : List Procedure → Bool
-has_inputs program = not (list_all (λ (p : Param). is_write p.mode) (main_params program))
+-- a layout without an actor that the program names as a target is O03
+abbrev pub RepliesByLayout : List Procedure → RunOrder → Reply → Type 0
+RepliesByLayout program order r =
+    (HasTargets program order.layout × RepliesByRun program order r)
+    ⊎ ((HasTargets program order.layout → ⊥) × (r ≡ reply (opening_line 3) Refused))
 
-abbrev pub RepliesByOpening : List Procedure → Reply → Type 0
-RepliesByOpening program r = MatchBool (has_inputs program) (r ≡ reply (opening_line 1) Refused) (RepliesByRun program r)
+-- another number of inputs than main takes is O01, and one that its parameter can't be given is O02; these are asked first
+abbrev pub RepliesByOpening : List Procedure → RunOrder → Reply → Type 0
+RepliesByOpening program order r =
+    MatchBool (has_input_count program order.inputs)
+    (MatchBool (has_fitting_inputs program order.inputs) (RepliesByLayout program order r) (r ≡ reply (opening_line 2) Refused))
+    (r ≡ reply (opening_line 1) Refused)
 
 abbrev pub RepliesByCheck : List Procedure → Reply → Type 0
 RepliesByCheck program r = (text : List ℕ) × IsCheckText program text × (r ≡ reply text Success)
@@ -62,7 +72,7 @@ RepliesByCheck program r = (text : List ℕ) × IsCheckText program text × (r �
 -- an accepted program is checked, or opened and run
 abbrev pub RepliesByAccepted : Order → List Procedure → Reply → Type 0
 RepliesByAccepted Check program r = RepliesByCheck program r
-RepliesByAccepted Run program r = RepliesByOpening program r
+RepliesByAccepted (Run order) program r = RepliesByOpening program order r
 
 -- the program is accepted; or it is refused, and this is the first refusal
 abbrev pub RepliesByProgram : Order → List Procedure → Reply → Type 0
@@ -86,10 +96,20 @@ RepliesByText order (Err e) r = r ≡ reply (codes "refused H01\n") Refused
 abbrev pub MayReply : Order → List ℕ → Reply → Type 0
 MayReply order input r = MatchBool (nat_lt most_bytes (length input)) (r ≡ reply (codes "refused H02\n") Refused) (RepliesByText order (decode_of (digits_in input)) r)
 
--- What may come of an order, the bytes that the reader held, a status, and what the writer held before and after: a reply
--- is written, or want of memory; after a failed read nothing is; after a failed write nothing is said.
-abbrev pub ComesOf : Order → List ℕ → Status → Option (List ℕ) → Option (List ℕ) → Type 0
-ComesOf order input (Ended close) old new = (text : List ℕ) × MayReply order input (reply text close) × Appends old new text
-ComesOf order input NoMemory old new = Appends old new (codes "memory\n")
-ComesOf order input ReadFailed old new = Keeps old new
-ComesOf order input WriteFailed old new = ⊤
+-- ---- the words
+
+-- What may be written in answer to words that are taken and the bytes that the reader holds: a reply to the order that they
+-- ask for; or, with the number of the first input word that spells no input, a line.
+abbrev pub MayAnswer : Asked → List ℕ → Reply → Type 0
+MayAnswer asked input r =
+    ((order : Order) × IsAsked asked order × MayReply order input r)
+    ⊎ ((number : ℕ) × IsRefusedInput asked number × (r ≡ reply (input_word_line number) CommandLine))
+
+-- What may come of such words, the bytes that the reader held, a status, and what the writer held before and after: an
+-- answer is written, or want of memory; a read may fail only where there is an order, and nothing is written then; after a
+-- failed write nothing is said.
+abbrev pub ComesOf : Asked → List ℕ → Status → Option (List ℕ) → Option (List ℕ) → Type 0
+ComesOf asked input (Ended close) old new = (text : List ℕ) × MayAnswer asked input (reply text close) × Appends old new text
+ComesOf asked input NoMemory old new = Appends old new (codes "memory\n")
+ComesOf asked input ReadFailed old new = ((order : Order) × IsAsked asked order) × Keeps old new
+ComesOf asked input WriteFailed old new = ⊤

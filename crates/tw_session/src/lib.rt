@@ -6,15 +6,17 @@
 mod check;
 mod command;
 mod input;
+mod input_words;
 mod laws;
+mod limit;
 mod lines;
 mod reply;
 mod report;
-mod run;
 mod shell;
 mod status;
 
-pub use command::Order;
+pub use command::{Order, RunOrder};
+pub use limit::EventLimit;
 pub use reply::{Reply, reply_to};
 pub use shell::{session, without_words};
 pub use status::{Close, Status};

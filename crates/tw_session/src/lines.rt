@@ -2,10 +2,12 @@
 
 ghost use Rattle.std.specs.Prelude.{◌≡◌, ◌++◌, ◌<◌, ◌+◌, ◌^◌, ◌∷◌, [], OnOk, decimal, length, take};
 ghost use Rattle.std.specs.Fmt.{signed_decimal};
-ghost use Rattle.tw_session.specs.Lines.{escaped, fault_line, hex_digit, opening_line, place_text, quoted, trap_line, two_digits, value_text, verify_line};
+ghost use Rattle.tw_session.specs.Lines.{fault_line, input_word_line, opening_line, place_text};
+ghost use Rattle.tw_session.specs.Lines.{trap_line, two_digits, value_text, verify_line};
 
 use std::alloc::{AllocError, Global};
 use tw_types::Value;
+use tw_words::put_quoted;
 
 /// Adds bytes as they stand.
 pub fn put(out: &mut Vec<u8>, text: &str) -> Result<(), AllocError>
@@ -35,7 +37,8 @@ pub fn put_numbered(
     put_decimal(alloc, out, n)
 }
 
-fn put_signed(alloc: Global, out: &mut Vec<u8>, n: i64) -> Result<(), AllocError>
+/// Adds an integer as it is shown.
+pub fn put_signed(alloc: Global, out: &mut Vec<u8>, n: i64) -> Result<(), AllocError>
     ensures { OnOk result (out.new.items ≡ out.old.items ++ signed_decimal n) }
 {
     let text = format!(in alloc; "{n}")?;
@@ -47,39 +50,6 @@ fn put_two_digits(out: &mut Vec<u8>, n: u8) -> Result<(), AllocError>
     ensures { OnOk result (out.new.items ≡ out.old.items ++ two_digits n) }
 {
     out.extend_from_slice(&[b'0' + n / 10, b'0' + n % 10])
-}
-
-fn hex_digit(n: u8) -> u8
-    requires { n < 16 }
-    ensures { result ≡ hex_digit n }
-{
-    if n < 10 { b'0' + n } else { b'a' + (n - 10) }
-}
-
-/// Adds a byte as it stands inside quotes.
-fn put_escaped(out: &mut Vec<u8>, byte: u8) -> Result<(), AllocError>
-    ensures { OnOk result (out.new.items ≡ out.old.items ++ escaped byte) }
-{
-    match byte {
-        b'"' => put(out, "\\\""),
-        b'\\' => put(out, "\\\\"),
-        b'\n' => put(out, "\\n"),
-        0..=31 | 127 => {
-            put(out, "\\x")?;
-            out.extend_from_slice(&[hex_digit(byte / 16), hex_digit(byte % 16)])
-        }
-        _ => Ok(out.push(byte)?),
-    }
-}
-
-fn put_quoted(out: &mut Vec<u8>, text: &str) -> Result<(), AllocError>
-    ensures { OnOk result (out.new.items ≡ out.old.items ++ quoted text.now) }
-{
-    put(out, "\"")?;
-    for byte in text.as_bytes() {
-        put_escaped(out, *byte)?;
-    }
-    put(out, "\"")
 }
 
 /// Adds a value with its type.
@@ -165,4 +135,16 @@ pub fn put_trap_line(
     put_numbered(alloc, out, "trap C", usize::from(number))?;
     put_numbered(alloc, out, " at event ", event)?;
     put(out, "\n")
+}
+
+/// Adds the line of an input word that spells no input; the words count from 1.
+pub fn put_input_word_line(
+    alloc: Global,
+    out: &mut Vec<u8>,
+    number: usize,
+) -> Result<(), AllocError>
+    ensures { OnOk result (out.new.items ≡ out.old.items ++ input_word_line number) }
+{
+    put_numbered(alloc, out, "input word ", number)?;
+    put(out, " refused\n")
 }

@@ -1,26 +1,32 @@
 //! What a session answers to the bytes that it reads.
 
-ghost use Rattle.std.specs.Prelude.{◌≡◌, ◌<◌, ◌≤◌, length, IfErr, IfOk, IfSome, string_bytes};
-ghost use Rattle.std.specs.Io.KnownBytes.{Keeps};
-ghost use Rattle.tw_session.specs.Session.{MayReply, RepliesByAccepted, RepliesByBytes, RepliesByOpening, RepliesByProgram, RepliesByRun, RepliesByText, reply, run_reply};
-ghost use Rattle.tw_session.specs.Input.{digits_in, most_bytes};
-ghost use Rattle.tw_session.specs.Run.{IsRun};
+ghost use Rattle.std.specs.Prelude.{◌≡◌, ◌<◌, List, IfOk};
+ghost use Rattle.tw_session.specs.Session.{MayReply, RepliesByAccepted, RepliesByBytes, RepliesByLayout};
+ghost use Rattle.tw_session.specs.Session.{RepliesByOpening, RepliesByProgram, RepliesByText, reply, run_reply};
+ghost use Rattle.tw_session.specs.Input.{digits_in};
+ghost use Rattle.tw_session.specs.Lines.{opening_line};
+ghost use Rattle.tw_types.specs.declared.input.Input.{Input as AnInput};
+ghost use Rattle.tw_types.specs.declared.actor.Kind.TheVariants.{Control, Leaf};
 ghost use Rattle.tw_code.specs.format.Reading.{program_of};
+ghost use Rattle.tw_code.specs.accepting.Needs.{needed};
 ghost use Rattle.tw_code.specs.accepting.WellTyped.{IsAccepted};
+ghost use Rattle.tw_code.specs.machine.Bounds.{AreBelow, opening_bound};
+ghost use Rattle.tw_code.specs.machine.Opening.{opening};
+ghost use Rattle.tw_run.specs.Run.{IsOpened};
 ghost use Rattle.hex.specs.Hex.{decode_of};
 
 use crate::check::check_text;
-use crate::command::Order;
+use crate::command::{Order, RunOrder};
 use crate::input::{MOST_BYTES, digits};
+use crate::limit::EventLimit;
 use crate::lines::{put, put_fault_line, put_opening_line, put_trap_line, put_verify_line};
 use crate::report::put_report;
-use crate::run::{RunEnd, run};
 use crate::status::Close;
 use hex::FromHexError;
 use std::alloc::{AllocError, Global};
 use tw_code::{FaultNo, Program, decode};
 use tw_machine::{OpenRefusal, Plain, State};
-use tw_types::Layout;
+use tw_run::{RunEnd, run};
 use tw_verify::{Verified, VerifyRefusal, verify};
 
 /// What a session writes, and how it ends.
@@ -48,6 +54,11 @@ fn run_reply(alloc: Global, state: &State, end: RunEnd) -> Result<Reply, AllocEr
             put_report(alloc, &mut text, state, "quiet\n")?;
             Close::Success
         }
+        RunEnd::Stuck(rules) => {
+            let line = format!(in alloc; "stuck {rules}\n")?;
+            put_report(alloc, &mut text, state, &line)?;
+            Close::Stuck
+        }
         RunEnd::Limit => {
             put_report(alloc, &mut text, state, "limit\n")?;
             Close::Limit
@@ -60,50 +71,79 @@ fn run_reply(alloc: Global, state: &State, end: RunEnd) -> Result<Reply, AllocEr
     Ok(Reply { text, close })
 }
 
-/// Opens and runs an accepted program with one actor of each kind.
-fn opened_reply(alloc: Global, program: Program) -> Result<Reply, AllocError>
-    requires { IsAccepted program }
-    ensures { IfOk result (λ r. RepliesByOpening program (reply r.text.items r.close)) }
+/// The reply where a program isn't opened, or its targets aren't in the layout.
+fn opening_reply(alloc: Global, number: u8) -> Result<Reply, AllocError>
+    requires { number < 100 }
+    ensures { IfOk result (λ r. reply r.text.items r.close ≡ reply (opening_line number) Close.Refused) }
 {
-    let Ok(layout) = Layout::new(1, 1, 1) else {
-        unreachable!();
-    };
-    match Plain::open(alloc, program, &[], layout) {
-        Ok(mut plain) => {
-            let end = run(alloc, &mut plain)?;
-            run_reply(alloc, plain.state(), end)
-        }
+    let mut text = Vec::new(alloc);
+    put_opening_line(&mut text, number)?;
+    Ok(Reply {
+        text,
+        close: Close::Refused,
+    })
+}
+
+/// Runs an opened program, if each of its targets is in the layout.
+fn opened_reply(
+    alloc: Global,
+    mut plain: Plain,
+    needs: (u8, u8),
+    limit: EventLimit,
+) -> Result<Reply, AllocError>
+    requires opened { IsOpened plain.program plain.state }
+    requires below { AreBelow opening_bound plain.state }
+    requires engines { needs.0 ≡ needed Control plain.program }
+    requires workers { needs.1 ≡ needed Leaf plain.program }
+    ensures { (inputs : List AnInput) → plain.state ≡ opening plain.program inputs → IfOk result (λ r.
+        RepliesByLayout plain.program (record { layout = plain.layout; inputs = inputs; limit = limit })
+        (reply r.text.items r.close)) }
+{
+    let layout = plain.layout();
+    if layout.engines() < needs.0 || layout.workers() < needs.1 {
+        return opening_reply(alloc, 3);
+    }
+    let end = run(alloc, &mut plain, limit.events())?;
+    run_reply(alloc, plain.state(), end)
+}
+
+/// Opens and runs an accepted program.
+fn verified_reply(alloc: Global, order: &RunOrder, verified: Verified) -> Result<Reply, AllocError>
+    requires { IsAccepted verified }
+    ensures { IfOk result (λ r. RepliesByOpening verified order.now (reply r.text.items r.close)) }
+{
+    let needs = verified.needs();
+    match Plain::open(
+        alloc,
+        verified.into_program(),
+        order.inputs.as_slice(),
+        order.layout,
+    ) {
+        Ok(plain) => opened_reply(alloc, plain, needs, order.limit),
         Err(refused) => match refused.no {
             OpenRefusal::Memory => Err(AllocError),
-            no => {
-                let mut text = Vec::new(alloc);
-                put_opening_line(&mut text, no.number())?;
-                Ok(Reply {
-                    text,
-                    close: Close::Refused,
-                })
-            }
+            no => opening_reply(alloc, no.number()),
         },
     }
 }
 
 /// Does what is ordered with an accepted program.
-fn accepted_reply(alloc: Global, order: Order, verified: Verified) -> Result<Reply, AllocError>
+fn accepted_reply(alloc: Global, order: &Order, verified: Verified) -> Result<Reply, AllocError>
     requires { IsAccepted verified }
-    ensures { IfOk result (λ r. RepliesByAccepted order verified (reply r.text.items r.close)) }
+    ensures { IfOk result (λ r. RepliesByAccepted order.now verified (reply r.text.items r.close)) }
 {
     match order {
         Order::Check => Ok(Reply {
             text: check_text(alloc, &verified)?,
             close: Close::Success,
         }),
-        Order::Run => opened_reply(alloc, verified.into_program()),
+        Order::Run(order) => verified_reply(alloc, order, verified),
     }
 }
 
 /// Verifies a program, and does what is ordered if it is accepted.
-fn program_reply(alloc: Global, order: Order, program: Program) -> Result<Reply, AllocError>
-    ensures { IfOk result (λ r. RepliesByProgram order program (reply r.text.items r.close)) }
+fn program_reply(alloc: Global, order: &Order, program: Program) -> Result<Reply, AllocError>
+    ensures { IfOk result (λ r. RepliesByProgram order.now program (reply r.text.items r.close)) }
 {
     match verify(alloc, program) {
         Ok(verified) => accepted_reply(alloc, order, verified),
@@ -128,8 +168,8 @@ fn program_reply(alloc: Global, order: Order, program: Program) -> Result<Reply,
 }
 
 /// Decodes bytes, and does what is ordered with the program that they spell.
-fn bytes_reply(alloc: Global, order: Order, bytes: &[u8]) -> Result<Reply, AllocError>
-    ensures { IfOk result (λ r. RepliesByBytes order (program_of bytes.now) (reply r.text.items r.close)) }
+fn bytes_reply(alloc: Global, order: &Order, bytes: &[u8]) -> Result<Reply, AllocError>
+    ensures { IfOk result (λ r. RepliesByBytes order.now (program_of bytes.now) (reply r.text.items r.close)) }
 {
     match decode(alloc, bytes) {
         Ok(program) => program_reply(alloc, order, program),
@@ -148,8 +188,9 @@ fn bytes_reply(alloc: Global, order: Order, bytes: &[u8]) -> Result<Reply, Alloc
 }
 
 /// Turns hex text into bytes, and answers to these.
-fn text_reply(alloc: Global, order: Order, input: Vec<u8>) -> Result<Reply, AllocError>
-    ensures { IfOk result (λ r. RepliesByText order (decode_of (digits_in input.items)) (reply r.text.items r.close)) }
+fn text_reply(alloc: Global, order: &Order, input: Vec<u8>) -> Result<Reply, AllocError>
+    ensures { IfOk result (λ r.
+        RepliesByText order.now (decode_of (digits_in input.items)) (reply r.text.items r.close)) }
 {
     match hex::decode(alloc, digits(input)) {
         Ok(bytes) => bytes_reply(alloc, order, &bytes),
@@ -159,8 +200,8 @@ fn text_reply(alloc: Global, order: Order, input: Vec<u8>) -> Result<Reply, Allo
 }
 
 /// The whole reply to an order and the bytes that were read; refused where memory is.
-pub fn reply_to(alloc: Global, order: Order, input: Vec<u8>) -> Result<Reply, AllocError>
-    ensures { IfOk result (λ r. MayReply order input.items (reply r.text.items r.close)) }
+pub fn reply_to(alloc: Global, order: &Order, input: Vec<u8>) -> Result<Reply, AllocError>
+    ensures { IfOk result (λ r. MayReply order.now input.items (reply r.text.items r.close)) }
 {
     if input.len() > MOST_BYTES {
         return fixed_reply(alloc, "refused H02\n", Close::Refused);

@@ -2,12 +2,15 @@
 
 ghost use Rattle.std.specs.Prelude.{◌≡◌, ◌++◌, OnOk};
 ghost use Rattle.std.specs.Option.{option_copied};
-ghost use Rattle.tw_session.specs.Report.{container_head, datum_text, output_line, report};
+ghost use Rattle.std.specs.FinMap.{entries, get};
+ghost use Rattle.tw_types.specs.StoreCalls.{members_in};
+ghost use Rattle.tw_session.specs.Report.{container_head, datum_text, member_line, member_lines};
+ghost use Rattle.tw_session.specs.Report.{output_line, output_text, report};
 
-use crate::lines::{put, put_decimal, put_numbered, put_value};
+use crate::lines::{put, put_decimal, put_numbered, put_signed, put_value};
 use std::alloc::{AllocError, Global};
 use tw_machine::{Datum, State};
-use tw_types::Scalar;
+use tw_types::{DatumId, Scalar};
 
 /// Adds what a container holds, and whether it is closed.
 fn put_container_head(out: &mut Vec<u8>, datum: &Datum) -> Result<(), AllocError>
@@ -57,6 +60,60 @@ fn put_output_line(
     put(out, "\n")
 }
 
+/// Adds the line of a container's member, which stands at a subscript.
+fn put_member_line(
+    alloc: Global,
+    out: &mut Vec<u8>,
+    state: &State,
+    member: (i64, DatumId),
+) -> Result<(), AllocError>
+    ensures { OnOk result (out.new.items ≡ out.old.items ++ member_line member.0 (get state.now.store.live member.1)) }
+{
+    put(out, "  at ")?;
+    put_signed(alloc, out, member.0)?;
+    put(out, " ")?;
+    put_datum(alloc, out, state.datum(member.1))?;
+    put(out, "\n")
+}
+
+/// Adds the lines of a container's members, by rising subscripts.
+fn put_member_lines(
+    alloc: Global,
+    out: &mut Vec<u8>,
+    state: &State,
+    container: &Datum,
+) -> Result<(), AllocError>
+    ensures { OnOk result (out.new.items ≡ out.old.items
+        ++ member_lines state.now.store.live (entries (members_in container.now.content))) }
+{
+    for index in 0..container.len() {
+        let Some(member) = container.member(index) else {
+            unreachable!();
+        };
+        put_member_line(alloc, out, state, member)?;
+    }
+    Ok(())
+}
+
+/// Adds the line of an output, and those of its members.
+fn put_output(
+    alloc: Global,
+    out: &mut Vec<u8>,
+    state: &State,
+    number: usize,
+    id: DatumId,
+) -> Result<(), AllocError>
+    ensures { OnOk result (out.new.items ≡ out.old.items
+        ++ output_text state.now.store.live number (get state.now.store.live id)) }
+{
+    let datum = state.datum(id);
+    put_output_line(alloc, out, number, datum)?;
+    match datum {
+        Some(datum) => put_member_lines(alloc, out, state, datum),
+        None => Ok(()),
+    }
+}
+
 /// Adds the report of a state: its outputs, and the closing line.
 pub fn put_report(
     alloc: Global,
@@ -67,7 +124,7 @@ pub fn put_report(
     ensures { OnOk result (out.new.items ≡ out.old.items ++ report state.now closing.now) }
 {
     for (number, id) in state.outputs().iter().enumerate() {
-        put_output_line(alloc, out, number, state.datum(*id))?;
+        put_output(alloc, out, state, number, *id)?;
     }
     put(out, closing)
 }

@@ -1,13 +1,14 @@
 //! A whole session: words and bytes in, bytes and a status out.
 
-ghost use Rattle.std.specs.Prelude.{◌≡◌, ◌≢◌, [], map, codes, string_bytes, IfSome};
+ghost use Rattle.std.specs.Prelude.{◌≡◌, ◌≢◌, ℕ, [], map, codes, string_bytes, IfSome};
 ghost use Rattle.std.specs.Io.KnownBytes.{Appends, Keeps};
-ghost use Rattle.tw_session.specs.CommandLine.{asked_by_words, word_faults};
+ghost use Rattle.tw_session.specs.CommandLine.{Asked, IsAsked, IsRefusedInput, asked_by_words, word_faults};
 ghost use Rattle.tw_session.specs.Session.{ComesOf};
-ghost use Rattle.tw_session.specs.Status.{ComesOfFaults};
+ghost use Rattle.tw_session.specs.Status.{ComesOfFaults, ComesOfRefusedInput};
 
 use crate::command::{NoOrder, Order, read_order};
 use crate::input::{NoInput, read_input};
+use crate::lines::put_input_word_line;
 use crate::reply::reply_to;
 use crate::status::{Close, Status};
 use std::alloc::Global;
@@ -45,6 +46,17 @@ fn write_refused<W: Write>(writer: &mut W) -> Status
     )
 }
 
+/// Tells the number of the input word that spells no input.
+fn write_refused_input<W: Write>(alloc: Global, number: usize, writer: &mut W) -> Status
+    ensures { ComesOfRefusedInput number result (W.contents writer.old) (W.contents writer.new) }
+{
+    let mut text = Vec::new(alloc);
+    match put_input_word_line(alloc, &mut text, number) {
+        Ok(()) => write_text(writer, text.as_slice(), Status::Ended(Close::CommandLine)),
+        Err(_) => write_memory(writer),
+    }
+}
+
 /// Ends where the words could not be had: memory was refused, or one of them is no text.
 pub fn without_words<W: Write>(kind: ErrorKind, writer: &mut W) -> Status
     ensures memory { kind ≡ ErrorKind.OutOfMemory → result ≢ Status.WriteFailed
@@ -58,10 +70,10 @@ pub fn without_words<W: Write>(kind: ErrorKind, writer: &mut W) -> Status
     write_refused(writer)
 }
 
-/// Reads, acts and writes, where the words are taken.
-fn obey<R: Read, W: Write>(alloc: Global, order: Order, reader: &mut R, writer: &mut W) -> Status
-    ensures reply { IfSome (R.remaining reader.old) (λ input.
-        ComesOf order input result (W.contents writer.old) (W.contents writer.new)) }
+/// Reads, acts and writes, where there is an order.
+fn obey<R: Read, W: Write>(alloc: Global, order: &Order, reader: &mut R, writer: &mut W) -> Status
+    ensures reply { (asked : Asked) → IsAsked asked order.now → IfSome (R.remaining reader.old) (λ input.
+        ComesOf asked input result (W.contents writer.old) (W.contents writer.new)) }
     ensures memory { result ≡ Status.NoMemory
         → Appends (W.contents writer.old) (W.contents writer.new) (codes "memory\n") }
     ensures unwritten { result ≡ Status.ReadFailed → Keeps (W.contents writer.old) (W.contents writer.new) }
@@ -87,8 +99,8 @@ where
     H: AllocGlobal,
     R: Read,
     W: Write,
-    // Words that are taken, and the bytes that the reader holds, have a reply, and that is written; or memory, a read or
-    // a write fails.
+    // Words that are taken, and the bytes that the reader holds, have a reply, and that is written; or the first input
+    // word that spells no input is told; or memory, a read or a write fails.
     ensures taken { word_faults (map string_bytes words.now) ≡ [] → IfSome (R.remaining reader.old) (λ input.
         ComesOf (asked_by_words (map string_bytes words.now)) input result
         (W.contents writer.old) (W.contents writer.new)) }
@@ -96,8 +108,14 @@ where
     ensures refused { (word_faults (map string_bytes words.now) ≢ [])
         → ComesOfFaults (word_faults (map string_bytes words.now)) result
         (W.contents writer.old) (W.contents writer.new) }
-    // They read nothing.
+    // So is an input word that spells no input, by its number.
+    ensures refused_input { (number : ℕ) → word_faults (map string_bytes words.now) ≡ []
+        → IsRefusedInput (asked_by_words (map string_bytes words.now)) number
+        → ComesOfRefusedInput number result (W.contents writer.old) (W.contents writer.new) }
+    // Both read nothing.
     ensures unread { (word_faults (map string_bytes words.now) ≢ [])
+        → Keeps (R.remaining reader.old) (R.remaining reader.new) }
+    ensures unread_input { (number : ℕ) → IsRefusedInput (asked_by_words (map string_bytes words.now)) number
         → Keeps (R.remaining reader.old) (R.remaining reader.new) }
     // Where memory was refused, that alone is written.
     ensures memory { result ≡ Status.NoMemory
@@ -107,13 +125,14 @@ where
 {
     let alloc = rt.alloc();
     match read_order(alloc, words) {
-        Ok(order) => obey(alloc, order, reader, writer),
+        Ok(order) => obey(alloc, &order, reader, writer),
         Err(NoOrder::Help(text)) => write_text(
             writer,
             text.as_bytes(),
             Status::Ended(Close::Success),
         ),
         Err(NoOrder::Refused) => write_refused(writer),
+        Err(NoOrder::InputWord(number)) => write_refused_input(alloc, number, writer),
         Err(NoOrder::NoMemory) => write_memory(writer),
     }
 }

@@ -11,6 +11,8 @@ pub enum Close {
     Refused,
     /// The words were refused.
     CommandLine,
+    /// Nothing was left to do, and rules were pending.
+    Stuck,
     /// The run came to its event limit.
     Limit,
     /// The run met a trap.
@@ -37,6 +39,7 @@ impl Status {
             Status::Ended(Close::Success) => 0,
             Status::Ended(Close::Refused) => 1,
             Status::Ended(Close::CommandLine) => 2,
+            Status::Ended(Close::Stuck) => 3,
             Status::Ended(Close::Limit) => 4,
             Status::NoMemory => 5,
             Status::Ended(Close::Trapped) => 6,

@@ -1,7 +1,7 @@
-use Rattle.tw_session.proofs.Reports.{one_line_more}
+use Rattle.tw_session.proofs.Reports.{one_output_more}
 use Rattle.tw_session.proofs.report.put_report.Goals as goal
 
 pub loop-number-preserved : goal.loop-number-preserved
 loop-number-preserved c =
-    one_line_more c.args.state.now.store.live c.args.state.now.outputs c.loop-number.number c.id-item.result _ c.args.out.now.items c.loop-number.out.items c.put_output_line.new.out.items
-    (rw (← c.outputs-id-items.ensures) c.loop-number-test.true) (rw (← c.outputs-id-items.ensures) c.id-item.is) c.datum.ensures c.loop-number.invariant c.in_ok-put_output_line.ensures
+    one_output_more c.args.state.now.store.live c.args.state.now.outputs c.loop-number.number c.id-item.result c.args.out.now.items c.loop-number.out.items c.put_output.new.out.items
+    (rw (← c.outputs-id-items.ensures) c.loop-number-test.true) (rw (← c.outputs-id-items.ensures) c.id-item.is) c.loop-number.invariant c.in_ok-put_output.ensures

@@ -1,0 +1,17 @@
+use Rattle.std.proofs.Common.{◌≡◌, ℕ, map, string_bytes, subst}
+use Rattle.tw_session.specs.CommandLine.{asked_by_words}
+use Rattle.tw_session.specs.Status.{ComesOfRefusedInput}
+use Rattle.tw_session.proofs.InputLaws.{never_refused, one_number}
+use Rattle.tw_session.proofs.shell.session.Goals as goal
+
+pub returns-in-Ok-clause-refused_input : goal.returns-in-Ok-clause-refused_input
+returns-in-Ok-clause-refused_input g c number none refused = absurd (never_refused (asked_by_words (map string_bytes c.args.words.now)) c.in-Ok.order number c.in-Ok.ensures.taken.1 refused)
+
+pub returns-in-Ok-clause-unread_input : goal.returns-in-Ok-clause-unread_input
+returns-in-Ok-clause-unread_input g c number refused = absurd (never_refused (asked_by_words (map string_bytes c.args.words.now)) c.in-Ok.order number c.in-Ok.ensures.taken.1 refused)
+
+pub returns-in-Err-InputWord-clause-refused_input : goal.returns-in-Err-InputWord-clause-refused_input
+returns-in-Err-InputWord-clause-refused_input g c number none refused =
+    let told = rw c.in-Err-InputWord.field-0-is at c.in-Err-InputWord.ensures.refused in
+    let same : c.in-Err-InputWord.number ≡ number = one_number (asked_by_words (map string_bytes c.args.words.now)) c.in-Err-InputWord.number number told.1 refused in
+    subst (λ (n : ℕ). ComesOfRefusedInput n c.write_refused_input.result (g.W.Write.contents c.args.writer.now) (g.W.Write.contents c.write_refused_input.new.writer)) same c.write_refused_input.ensures

@@ -1,0 +1,59 @@
+-- What the words behind `run` spell: the inputs of the program, a word each.
+use Rattle.std.specs.Prelude.{◌≡◌, ℕ, ℤ, List, [], ◌∷◌, ◌++◌, codes, length, suc}
+use Rattle.tw_types.specs.declared.input.Input.{Input}
+use Rattle.tw_types.specs.declared.input.Input.TheVariants as input
+use Rattle.tw_words.specs.Number.{IsIn64, SpellsNumber}
+use Rattle.tw_words.specs.Quoted.{SpellsQuoted}
+
+-- ---- lists
+
+-- these follow one that stands before them, each behind a comma
+abbrev pub AreBehind : {A : Type 0} → (A → List ℕ → Type 0) → List A → List ℕ → Type 0
+AreBehind Spells [] text = text ≡ []
+AreBehind Spells (x ∷ xs) text = (first : List ℕ) × (rest : List ℕ) × Spells x first × AreBehind Spells xs rest × (text ≡ 44 ∷ (first ++ rest))
+
+-- one after the other, with a comma between two; there may be none
+abbrev pub AreJoined : {A : Type 0} → (A → List ℕ → Type 0) → List A → List ℕ → Type 0
+AreJoined Spells [] text = text ≡ []
+AreJoined Spells (x ∷ xs) text = (first : List ℕ) × (rest : List ℕ) × Spells x first × AreBehind Spells xs rest × (text ≡ first ++ rest)
+
+-- ---- one input
+
+-- a number of 64 bits: a greater one is spelled by no word
+abbrev pub SpellsInt : ℤ → List ℕ → Type 0
+SpellsInt n text = SpellsNumber n text × IsIn64 n
+
+-- a subscript, and a value behind `=`
+abbrev pub SpellsMember : {A : Type 0} → (A → List ℕ → Type 0) → ℤ × A → List ℕ → Type 0
+SpellsMember Spells member text = (subscript : List ℕ) × (value : List ℕ) × SpellsInt member.0 subscript × Spells member.1 value × (text ≡ subscript ++ 61 ∷ value)
+
+-- `int:` and a number; `text:` and the rest of the word as it stands; `ints:` or `texts:` and the members. Whether subscripts
+-- rise, and how many members or bytes there are, is asked when the program is opened.
+abbrev pub SpellsInput : Input → List ℕ → Type 0
+SpellsInput (input.Int n) word = (digits : List ℕ) × (word ≡ codes "int:" ++ digits) × SpellsInt n digits
+SpellsInput (input.Text text) word = word ≡ codes "text:" ++ text
+SpellsInput (input.Ints members) word = (list : List ℕ) × (word ≡ codes "ints:" ++ list) × AreJoined (SpellsMember SpellsInt) members list
+SpellsInput (input.Texts members) word = (list : List ℕ) × (word ≡ codes "texts:" ++ list) × AreJoined (SpellsMember SpellsQuoted) members list
+
+-- ---- all words
+
+-- each word spells its input
+abbrev pub AreSpelled : List Input → List (List ℕ) → Type 0
+AreSpelled [] [] = Unit {0}
+AreSpelled [] (word ∷ words) = ⊥
+AreSpelled (given ∷ inputs) [] = ⊥
+AreSpelled (given ∷ inputs) (word ∷ words) = SpellsInput given word × AreSpelled inputs words
+
+-- the word of this number, counted from 1, is the first that spells no input
+abbrev pub IsRefusedWord : List (List ℕ) → ℕ → Type 0
+IsRefusedWord words number =
+    (before : List (List ℕ)) × (inputs : List Input) × (word : List ℕ) × (later : List (List ℕ))
+    × (words ≡ before ++ word ∷ later) × AreSpelled inputs before × ((given : Input) → SpellsInput given word → ⊥) × (number ≡ suc (length before))
+
+-- ---- the laws
+
+abbrev pub OneInput : Type 0
+OneInput = (word : List ℕ) (given other : Input) → SpellsInput given word → SpellsInput other word → given ≡ other
+
+abbrev pub OneRefusedWord : Type 0
+OneRefusedWord = (words : List (List ℕ)) (number other : ℕ) → IsRefusedWord words number → IsRefusedWord words other → number ≡ other

@@ -1,0 +1,63 @@
+-- The options of `run`. Each takes a number.
+use Rattle.std.specs.Prelude.{◌≡◌, ◌&&◌, ℕ, List, [], ◌∷◌, Option, Some, None, codes, if◌then◌else◌, is_some, nat_le, unwrap_or}
+use Rattle.std.specs.List.{list_all}
+use Rattle.std.specs.Option.{option_map_or}
+use Rattle.std.specs.Str.Parse.{digits_value}
+use Rattle.tw_types.specs.Layout.{ActorCounts}
+use Rattle.clap.specs.ValueTests.{is_numeral}
+use Rattle.clap.specs.Words.{Kinds, Row, Rule, Text, first_of, new_rule}
+use Rattle.clap.specs.declared.error.ErrorKind.TheVariants.{ValueValidation}
+
+-- its name, the greatest number that it takes, and the number where it isn't given
+pub record NumberOption : Type 0 where
+  pub name : Text
+  pub most : ℕ
+  pub default : ℕ
+
+abbrev pub engines : NumberOption
+engines = record { name = codes "engines"; most = 4; default = 1 }
+
+abbrev pub servers : NumberOption
+servers = record { name = codes "servers"; most = 4; default = 1 }
+
+abbrev pub workers : NumberOption
+workers = record { name = codes "workers"; most = 16; default = 1 }
+
+abbrev pub limit : NumberOption
+limit = record { name = codes "limit"; most = 1000000; default = 10000 }
+
+abbrev pub number_options : List NumberOption
+number_options = engines ∷ servers ∷ workers ∷ limit ∷ []
+
+-- what clap is told of an option of this name
+abbrev pub option_rule : Text → Rule
+option_rule name = record (new_rule name) { long = Some name }
+
+-- the number from 1 to this one that decimal digits spell; zeros may stand first
+abbrev pub number_in : ℕ → Text → Option ℕ
+number_in most text =
+    let n = digits_value 10 text in
+    if is_numeral text && (nat_le 1 n && nat_le n most) then Some n else None
+
+-- the number of an option, by what clap found; none where its word spells none that it takes
+abbrev pub number_of : NumberOption → List Row → Option ℕ
+number_of o rows = option_map_or (number_in o.most) (first_of o.name rows) (Some o.default)
+
+-- the fault where an option has none
+abbrev pub option_faults : List Row → Kinds
+option_faults rows = if list_all (λ o. is_some (number_of o rows)) number_options then [] else ValueValidation ∷ []
+
+-- else the numbers of the options
+abbrev pub told : NumberOption → List Row → ℕ
+told o rows = unwrap_or (number_of o rows) o.default
+
+-- each kind of actor has a number, and these are they
+abbrev pub HasActors : List Row → ActorCounts → Type 0
+HasActors rows layout =
+    (number_of engines rows ≡ Some layout.engines) × (number_of servers rows ≡ Some layout.servers) × (number_of workers rows ≡ Some layout.workers)
+
+abbrev pub actors : ℕ → ℕ → ℕ → ActorCounts
+actors engines servers workers = record { engines = engines; servers = servers; workers = workers }
+
+abbrev pub actors_told : List Row → ActorCounts
+actors_told rows = actors (told engines rows) (told servers rows) (told workers rows)

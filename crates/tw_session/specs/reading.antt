@@ -1,0 +1,2 @@
+-- What the readers of words keep to themselves: no public clause reaches this folder.
+pub mod Members

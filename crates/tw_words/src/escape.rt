@@ -1,0 +1,73 @@
+//! Bytes of a text between quotes, one by one.
+
+ghost use Rattle.std.specs.Prelude.{◌≡◌, ◌<◌, ◌∷◌, List, ℕ};
+ghost use Rattle.std.specs.Char.{digit_value};
+ghost use Rattle.std.specs.Option.{SomeIff};
+ghost use Rattle.tw_words.specs.reading.Inside.{IsInEscape, KeepsEscape, inside_from, read_on};
+
+/// How much of an escape has been read.
+#[derive(Clone, Copy)]
+pub enum Escape {
+    /// None of it.
+    Nothing,
+    /// `\`.
+    Slash,
+    /// `\x`.
+    Hex,
+    /// `\x` and the first digit, which is this.
+    Digit(u8),
+}
+
+/// What the next byte of a text says.
+#[derive(Clone, Copy)]
+pub enum Says {
+    /// The text ends.
+    End,
+    /// It can't stand there.
+    Wrong,
+    /// An escape goes on.
+    Into(Escape),
+    /// A byte of the text is whole.
+    Byte(u8),
+}
+
+fn hex_value(byte: u8) -> Option<u8>
+    ensures { SomeIff result (digit_value byte < 16) (digit_value byte) }
+{
+    match byte {
+        b'0'..=b'9' => Some(byte - b'0'),
+        b'a'..=b'f' => Some(byte - b'a' + 10),
+        b'A'..=b'F' => Some(byte - b'A' + 10),
+        _ => None,
+    }
+}
+
+/// What a byte says after this much of an escape.
+#[tactic(auto, unfolding(crate::specs::reading::Inside::inside_from))]
+pub fn read_byte(escape: Escape, byte: u8) -> Says
+    requires { IsInEscape escape }
+    ensures goes_on { (rest : List ℕ) → inside_from escape (byte ∷ rest) ≡ read_on result rest }
+    ensures escape { KeepsEscape result }
+{
+    match escape {
+        Escape::Nothing => match byte {
+            b'"' => Says::End,
+            b'\\' => Says::Into(Escape::Slash),
+            _ => Says::Byte(byte),
+        },
+        Escape::Slash => match byte {
+            b'"' | b'\\' => Says::Byte(byte),
+            b'n' => Says::Byte(b'\n'),
+            b'x' => Says::Into(Escape::Hex),
+            _ => Says::Wrong,
+        },
+        Escape::Hex => match hex_value(byte) {
+            Some(digit) if digit < 8 => Says::Into(Escape::Digit(digit)),
+            _ => Says::Wrong,
+        },
+        Escape::Digit(first) => match hex_value(byte) {
+            Some(digit) => Says::Byte(16 * first + digit),
+            None => Says::Wrong,
+        },
+    }
+}

@@ -1,0 +1,71 @@
+//! Numbers in decimal digits.
+
+ghost use Rattle.std.specs.Prelude.{◌≡◌, ◌<◌, ◌≤◌, ◌^◌, pos, neg_ℤ};
+ghost use Rattle.std.specs.Char.{digit_value};
+ghost use Rattle.std.specs.Int.{IsInRange};
+ghost use Rattle.std.specs.Option.{SomeIff};
+ghost use Rattle.tw_words.specs.Number.{IsIn64, IsRead, SpellsDigits, SpellsNumber};
+
+use crate::first::after;
+
+/// Why a text is no number that may stand there.
+#[derive(Clone, Copy, Debug, PartialEq, Eq)]
+pub enum Flaw {
+    /// It has another form.
+    Form,
+    /// The number is out of its limits.
+    Limit,
+}
+
+fn digit_of(byte: u8) -> Option<u8>
+    ensures { SomeIff result (digit_value byte < 10) (digit_value byte) }
+{
+    match byte {
+        b'0'..=b'9' => Some(byte - b'0'),
+        _ => None,
+    }
+}
+
+/// The number between these limits that digits spell.
+pub fn digits(text: &[u8], low: u64, high: u64) -> Result<u64, Flaw>
+    ensures { IsRead (λ n. SpellsDigits n text.now) (IsInRange low high) result }
+{
+    let past = u128::from(high) + 1;
+    let mut value = 0;
+    for byte in text {
+        let Some(digit) = digit_of(*byte) else {
+            return Err(Flaw::Form);
+        };
+        value = past.min(10 * value + u128::from(digit));
+    }
+    if text.is_empty() {
+        Err(Flaw::Form)
+    } else if value == past || value < u128::from(low) {
+        Err(Flaw::Limit)
+    } else {
+        Ok(value as u64)
+    }
+}
+
+fn negated(size: u64) -> i64
+    requires { size ≤ 2 ^ 63 }
+    ensures { result ≡ neg_ℤ (pos size) }
+{
+    (-(size as i128)) as i64
+}
+
+/// The number of 64 bits that a text spells: digits, with a `-` before them or not.
+pub fn number(text: &[u8]) -> Result<i64, Flaw>
+    ensures { IsRead (λ n. SpellsNumber n text.now) IsIn64 result }
+{
+    match after(b"-", text) {
+        Some(size) => match digits(size, 0, 1 << 63) {
+            Ok(size) => Ok(negated(size)),
+            Err(flaw) => Err(flaw),
+        },
+        None => match digits(text, 0, i64::MAX as u64) {
+            Ok(size) => Ok(size as i64),
+            Err(flaw) => Err(flaw),
+        },
+    }
+}

@@ -1,0 +1,87 @@
+//! Texts between quotes.
+
+ghost use Rattle.std.specs.Prelude.{◌≡◌, ◌++◌, ◌<◌, ℕ, List, IfOk, IsUtf8, MatchOption, OnOk, string_bytes};
+ghost use Rattle.std.specs.Option.{option_map};
+ghost use Rattle.tw_words.specs.Quoted.{BeginsQuoted, escaped, hex_digit, quoted};
+ghost use Rattle.tw_words.specs.declared.escape.Escape.TheVariants.{Nothing};
+ghost use Rattle.tw_words.specs.reading.Inside.{inside_from};
+
+use crate::escape::{Escape, Says, read_byte};
+use crate::first::after;
+use std::alloc::{AllocError, Global};
+
+/// The bytes of a text up to its closing quote, and what follows that.
+fn inside(alloc: Global, bytes: &[u8]) -> Result<Option<(Vec<u8>, &[u8])>, AllocError>
+    ensures { IfOk result (λ read. option_map (λ x. (x.0.items, x.1.now)) read ≡ inside_from Nothing bytes.now) }
+{
+    let mut text = Vec::new(alloc);
+    let mut escape = Escape::Nothing;
+    let mut count = 0;
+    for byte in bytes {
+        count += 1;
+        match read_byte(escape, *byte) {
+            Says::End => return Ok(Some((text, &bytes[count..]))),
+            Says::Wrong => return Ok(None),
+            Says::Into(next) => escape = next,
+            Says::Byte(whole) => {
+                text.push(whole)?;
+                escape = Escape::Nothing;
+            }
+        }
+    }
+    Ok(None)
+}
+
+/// The text between quotes that stands first, and what follows it; `None` where none stands first.
+pub fn quoted_text(alloc: Global, bytes: &[u8]) -> Result<Option<(String, &[u8])>, AllocError>
+    requires { IsUtf8 bytes.now }
+    ensures exact { IfOk result (λ read. MatchOption read
+        ((text rest : List ℕ) → BeginsQuoted text bytes.now rest → ⊥)
+        (λ found. BeginsQuoted (string_bytes found.0) bytes.now found.1.now)) }
+    ensures utf8 { IfOk result (λ read. MatchOption read (Unit {0}) (λ found. IsUtf8 found.1.now)) }
+{
+    let Some(opened) = after(b"\"", bytes) else {
+        return Ok(None);
+    };
+    match inside(alloc, opened)? {
+        None => Ok(None),
+        Some((text, rest)) => match String::from_utf8(text) {
+            Ok(text) => Ok(Some((text, rest))),
+            Err(_) => unreachable!(),
+        },
+    }
+}
+
+fn hex_digit(n: u8) -> u8
+    requires { n < 16 }
+    ensures { result ≡ hex_digit n }
+{
+    if n < 10 { b'0' + n } else { b'a' + (n - 10) }
+}
+
+/// Adds a byte as it stands inside quotes.
+fn put_escaped(out: &mut Vec<u8>, byte: u8) -> Result<(), AllocError>
+    ensures { OnOk result (out.new.items ≡ out.old.items ++ escaped byte) }
+{
+    match byte {
+        b'"' => out.extend_from_slice(b"\\\""),
+        b'\\' => out.extend_from_slice(b"\\\\"),
+        b'\n' => out.extend_from_slice(b"\\n"),
+        0..=31 | 127 => {
+            out.extend_from_slice(b"\\x")?;
+            out.extend_from_slice(&[hex_digit(byte / 16), hex_digit(byte % 16)])
+        }
+        _ => Ok(out.push(byte)?),
+    }
+}
+
+/// Adds a text between quotes.
+pub fn put_quoted(out: &mut Vec<u8>, text: &str) -> Result<(), AllocError>
+    ensures { OnOk result (out.new.items ≡ out.old.items ++ quoted text.now) }
+{
+    out.extend_from_slice(b"\"")?;
+    for byte in text.as_bytes() {
+        put_escaped(out, *byte)?;
+    }
+    out.extend_from_slice(b"\"")
+}
