@@ -34,8 +34,8 @@ IsEntryAt kind place rank (Some w) = (w.kind ≡ kind) × (place_of w.target ≡
 -- each rank is that of an entry, each entry has its rank, and no number stands twice
 pub record IsIndex (entry : ℕ → Option Waiting) (ranks : Ranking) : Type 0 where
   pub sound : (kind : Kind) (place : ℕ) (rank : Rank) → Contains (ranks kind place) rank
-    → IsEntryAt kind place rank (entry rank.number)
+      → IsEntryAt kind place rank (entry rank.number)
   pub complete : (number : ℕ) (w : Waiting) → entry number ≡ Some w
-    → Contains (ranks w.kind (place_of w.target)) (rank_of number w)
+      → Contains (ranks w.kind (place_of w.target)) (rank_of number w)
   pub distinct : (kind : Kind) (place : ℕ) → IsDistinct nat_eq (map (λ rank. rank.number) (ranks kind place))
   pub named : (number : ℕ) (w : Waiting) → entry number ≡ Some w → (w.task.no ≡ number) × IsTarget w.target

@@ -72,7 +72,7 @@ impl Complaint {
             Complaint::NotOpened => "the program isn't opened",
             Complaint::NoEvents => "this case has no events",
             Complaint::NoFrame => "engine 0 runs nothing",
-            Complaint::Input => "an input is int:NUMBER or text:TEXT",
+            Complaint::Input => "a word spells no input",
         }
     }
 }

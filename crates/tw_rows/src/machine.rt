@@ -11,7 +11,8 @@ use crate::programs::{read_program, with_bytes};
 use crate::state::put_state;
 use std::alloc::{AllocError, Global};
 use tw_machine::{OpenRefused, Plain, Stepped};
-use tw_types::{Actor, Input, InputText, Layout};
+use tw_session::input_of;
+use tw_types::{Actor, Input};
 
 /// The machine of a program, opened as the words of a case say: a layout, and behind `with` the inputs.
 fn opened(alloc: Global, words: &str, bytes: &[u8]) -> Result<Plain, Complaint>
@@ -138,7 +139,7 @@ fn unopened_text(alloc: Global, refused: &OpenRefused, bytes: &[u8]) -> Result<S
     with_bytes(alloc, text, &refused.program, bytes)
 }
 
-/// Inputs as `int:3` and `text:ab`.
+/// Inputs by their words, as `tw run` takes them.
 fn read_inputs(alloc: Global, text: &str) -> Result<Vec<Input>, Complaint> {
     let mut inputs = Vec::new(alloc);
     for word in text.split_whitespace() {
@@ -148,11 +149,8 @@ fn read_inputs(alloc: Global, text: &str) -> Result<Vec<Input>, Complaint> {
 }
 
 fn read_input(alloc: Global, word: &str) -> Result<Input, Complaint> {
-    if let Some(number) = word.strip_prefix("int:") {
-        return Ok(Input::Int(number.parse::<i64>()?));
-    }
-    match word.strip_prefix("text:") {
-        Some(text) => Ok(Input::Text(InputText::from(text.to_string(alloc)?))),
+    match input_of(alloc, word)? {
+        Some(input) => Ok(input),
         None => Err(Complaint::Input),
     }
 }

@@ -93,7 +93,7 @@ pub fn run(alloc: Global, plain: &mut Plain, limit: usize) -> Result<RunEnd, All
         match plain.step(alloc, event) {
             Stepped::Went => {}
             Stepped::NotEnabled => unreachable!(),
-            Stepped::Trap(cause) => return Ok(RunEnd::Trapped(cause, made)),
+            Stepped::Trap(cause) => return Ok(RunEnd::Trapped(cause, made + 1)),
             Stepped::NoMemory => return Err(AllocError),
         }
         seat = next;

@@ -10,7 +10,7 @@ use Rattle.std.specs.Str.Parse.{AllDigits, digits_value}
 use Rattle.std.proofs.lemmas.Bool.{leb-true, le-leb, ltb-true, lt-ltb}
 use Rattle.std.proofs.lemmas.List.Folds.{list_all_at}
 use Rattle.clap.specs.ValueTests.{is_numeral}
-use Rattle.clap.specs.Words.{Kinds, Row, Text, first_of, first_value, rows_of}
+use Rattle.clap.specs.Words.{Kinds, Row, Text, first_value, rows_of}
 use Rattle.clap.specs.declared.parser.matches.Found.{Found}
 use Rattle.clap.specs.declared.error.ErrorKind.TheVariants.{DisplayHelp, ValueValidation}
 use Rattle.clap.proofs.WalkLemmas.{both, first_value-rows}
@@ -18,7 +18,7 @@ use Rattle.tw_words.specs.Number.{IsRead, SpellsDigits}
 use Rattle.tw_words.specs.declared.numbers.Flaw.{Flaw}
 use Rattle.tw_words.specs.declared.numbers.Flaw.TheVariants.{Form, Limit}
 use Rattle.tw_types.specs.Layout.{ActorCounts}
-use Rattle.tw_session.specs.Options.{HasActors, NumberOption, actors_told, engines, limit, number_in, number_of, number_options, option_faults, servers, told, workers}
+use Rattle.tw_session.specs.Options.{HasActors, NumberOption, actors_told, engines, limit, number_in, number_of, number_options, option_faults}
 use Rattle.tw_session.specs.Order.{HasReason}
 use Rattle.tw_session.specs.CommandLine.{Asked}
 use Rattle.tw_session.specs.declared.command.NoOrder.TheVariants.{Refused}

@@ -16,6 +16,7 @@ mod shell;
 mod status;
 
 pub use command::{Order, RunOrder};
+pub use input_words::input_of;
 pub use limit::EventLimit;
 pub use reply::{Reply, reply_to};
 pub use shell::{session, without_words};

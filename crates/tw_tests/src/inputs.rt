@@ -5,12 +5,10 @@ use std::test::Fail;
 use tw_session::session;
 
 /// GET v0 d0 / LEN v1 v0 / DROPR d0 / STORE d1 v1 / RET, of a closed text and an int to write.
-const LENGTH: &str =
-    "54574201 01 00 02 02020401 02 0201 0005 320000 190100 3900 310101 42";
+const LENGTH: &str = "54574201 01 00 02 02020401 02 0201 0005 320000 190100 3900 310101 42";
 
 /// SIZE v0 d0 / DROPR d0 / STORE d1 v0 / RET, of a closed container of ints and an int to write.
-const SIZE: &str =
-    "54574201 01 00 02 0203010401 01 01 0004 350000 3900 310100 42";
+const SIZE: &str = "54574201 01 00 02 0203010401 01 01 0004 350000 3900 310100 42";
 
 /// The words of a run with one input.
 fn words(alloc: Global, input: String) -> Result<Vec<String>, Fail> {

@@ -1,4 +1,4 @@
-use Rattle.std.proofs.Common.{◌≡◌, ◌∙◌, rules, refl, sym, map, codes, Some, None}
+use Rattle.std.proofs.Common.{◌≡◌, ◌∙◌, sym, map, codes, Some, None}
 use Rattle.clap.specs.Words.{all_of, found_of, rows_of}
 use Rattle.clap.proofs.WalkLemmas.{raw_values-rows}
 use Rattle.tw_session.proofs.command.inputs_given.Goals as goal
