@@ -73,9 +73,9 @@ fn end_of(plain: &Plain) -> RunEnd
 ///
 /// Which history of enabled events this is, is no clause. It goes in rounds: engines, then servers, then workers, by
 /// number. In its turn an actor with a task does all the local instructions that go, as one event, and then the one
-/// instruction on data, RULE, PUT or RET behind them. An engine without a task asks for the least parameter of its least
-/// rule that has one unasked; else it releases its least rule that can be; else it takes the best task. A server
-/// delivers its oldest notice, a worker takes the best task. An actor for which nothing is due is passed over.
+/// instruction on data, RULE, PUT or RET behind them. An engine without a task asks for the least parameter of its
+/// least rule that has one unasked; else it releases its least rule that can be; else it takes the best task. A
+/// server delivers its oldest notice, a worker takes the best task. An actor for which nothing is due is passed over.
 pub fn run(alloc: Global, plain: &mut Plain, limit: usize) -> Result<RunEnd, AllocError>
     requires opened { IsOpened plain.old.program plain.old.state }
     requires targets { HasTargets plain.old.program plain.old.layout }
