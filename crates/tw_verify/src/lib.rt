@@ -23,6 +23,7 @@ mod violation;
 
 pub use laws::no_trap;
 pub use refusal::{Refused, VerifyRefusal};
+pub use tw_invariant::{budgets_held, counts_held, notes_held, types_held};
 pub use typing::{Right, Typing};
 pub use verified::Verified;
 pub use verifier::verify;
