@@ -157,27 +157,28 @@ same_settles typing c k r w fits s t =
     let done : Settles typing c r w (record k { store = c.store; rights = c.rights }) = record { fits = f; others = itself } in
     subst (λ (m : Store). Settles typing c r w (record k { store = m })) (sym s) (subst (λ (u : List (Option ℕ)). Settles typing c r w (record k { store = c.store; rights = u })) (sym t) done)
 
+-- a member stands in its container
+pub found_inside : (x : Datum) (k : ℤ) (m : ℕ) → get (members_in x.content) k ≡ Some m → 0 < subscripts_in m x
+found_inside x k m at = by x.content at
+  where
+    by : (content : Content) → get (members_in content) k ≡ Some m → 0 < count_of m (members_of content)
+    by Unset e = let z : None ≡ Some m = sym (get-empty int_cmp k) ∙ e in cc
+    by (Set v) e = let z : None ≡ Some m = sym (get-empty int_cmp k) ∙ e in cc
+    by (Contains ms) e =
+        let l : hits m m ≤ total (hits m) ms = subst (λ o. part (hits m) o ≤ total (hits m) ms) e (part-le-total int_cmp int_cmp_total int_cmp-IsAntisymmetric (hits m) ms k) in
+        let one = hits_same m in
+        let t = count_total m ms in
+        omega arith
+
 -- what LOOK finds is live, and of the type that the container says
 module _ (typing : Typing) (c : Context) (r w : ℕ → ℕ) (fits : Fits typing c r w) where
-  found_inside : (id : ℕ) (x : Datum) (k : ℤ) (m : ℕ) → get c.store.live id ≡ Some x → get (members_in x.content) k ≡ Some m → 0 < subscripts_in m x
-  found_inside id x k m is at = by x.content at
-    where
-      by : (content : Content) → get (members_in content) k ≡ Some m → 0 < count_of m (members_of content)
-      by Unset e = let z : None ≡ Some m = sym (get-empty int_cmp k) ∙ e in cc
-      by (Set v) e = let z : None ≡ Some m = sym (get-empty int_cmp k) ∙ e in cc
-      by (Contains ms) e =
-          let l : hits m m ≤ total (hits m) ms = subst (λ o. part (hits m) o ≤ total (hits m) ms) e (part-le-total int_cmp int_cmp_total int_cmp-IsAntisymmetric (hits m) ms k) in
-          let one = hits_same m in
-          let t = count_total m ms in
-          omega arith
-
   pub member_there : (id : ℕ) (x : Datum) (k : ℤ) (m : ℕ) → get c.store.live id ≡ Some x → get (members_in x.content) k ≡ Some m → (y : Datum) × (get c.store.live m ≡ Some y) × (x.ty ≡ container_of y.ty)
   member_there id x k m is at = by (get c.store.live m) refl
     where
       by : (o : Option Datum) → get c.store.live m ≡ o → (y : Datum) × (get c.store.live m ≡ Some y) × (x.ty ≡ container_of y.ty)
       by None e =
-          let some = found_inside id x k m is at in
+          let some = found_inside x k m at in
           let l : subscripts_in m x ≤ inside c.store.live m = subst (λ o. part (subscripts_in m) o ≤ inside c.store.live m) is (part-le-total nat_cmp nat_cmp_total nat_cmp-IsAntisymmetric (subscripts_in m) c.store.live id) in
           let none = balanced_none c.store.live (λ d. over (read_by d) typing c.rights + r d) (λ d. over (write_by d) typing c.rights + w d) m fits.balanced e in
           absurd (omega (arith, none.0))
-      by (Some y) e = (y, e, fits.store.nested.members id m x y is e (found_inside id x k m is at))
+      by (Some y) e = (y, e, fits.store.nested.members id m x y is e (found_inside x k m at))

@@ -33,3 +33,4 @@ pub mod Inputs
 pub mod Opening
 pub mod Safe
 pub mod Live
+pub mod Running

@@ -1,21 +1,24 @@
--- What is held is live: by a register, an argument of a task or of a rule, and an output.
-use Rattle.std.proofs.Common.{◌≡◌, ℕ, zero, suc, ◌+◌, ◌≤◌, Bool, true, false, List, [], ◌∷◌, slice_get, if◌then◌else◌, Option, Some, None, refl, sym, ap, subst, ◌∙◌, arith, nat_cmp}
+-- What is held is live: by a register, an argument of a task or of a rule, an output, a container and a notice.
+use Rattle.std.proofs.Common.{◌≡◌, ℕ, ℤ, zero, suc, ◌+◌, ◌≤◌, Bool, true, false, List, [], ◌∷◌, slice_get, if◌then◌else◌, Option, Some, None, refl, sym, ap, subst, ◌∙◌, arith, nat_cmp}
 use Rattle.std.proofs.lemmas.Option.{same_Some}
 use Rattle.std.specs.Cmp.{nat_cmp_total}
 use Rattle.std.specs.FinMap.{get, nat_cmp-IsAntisymmetric}
+use Rattle.std.specs.FinSet as set
 use Rattle.std.specs.Option.{option_flatten}
 use Rattle.tw_types.specs.declared.actor.Actor.{Actor}
+use Rattle.tw_types.specs.declared.notice.Notice.{Notice}
 use Rattle.tw_types.specs.declared.param.Mode.TheVariants.{Ref}
 use Rattle.tw_types.specs.declared.param.Param.{Param}
 use Rattle.tw_types.specs.declared.stage.Stage.{Stage}
 use Rattle.tw_types.specs.declared.stage.Stage.TheVariants.{Free, Unasked, Waiting, Ready}
-use Rattle.tw_types.specs.Counts.{count_of, hits}
+use Rattle.tw_types.specs.Counts.{count_of, hits, inside, subscripts_in}
 use Rattle.tw_types.specs.Mode.{is_val, is_write}
 use Rattle.tw_types.specs.Rule.{Rule}
 use Rattle.tw_types.specs.Store.{Datum, Store}
+use Rattle.tw_types.specs.StoreCalls.{members_in}
 use Rattle.tw_types.specs.Task.{Arg, RightArg, Task}
 use Rattle.tw_types.specs.Totals.{total}
-use Rattle.tw_types.proofs.Freeing.{held_is_there, hits_same}
+use Rattle.tw_types.proofs.Freeing.{balanced_none, held_is_there, hits_same}
 use Rattle.tw_types.proofs.Totals.{part, part-le-total}
 use Rattle.tw_code.specs.declared.procedure.Procedure.{Procedure}
 use Rattle.tw_code.specs.machine.Arguments.{params_in}
@@ -23,9 +26,12 @@ use Rattle.tw_code.specs.machine.Holders.{Typings, read_by, reads_of, rule_reads
 use Rattle.tw_code.specs.machine.Rights.{Right, Rights, Typing, right_at, right_of}
 use Rattle.tw_code.specs.machine.State.{Frame, State, context_of}
 use Rattle.tw_invariant.specs.Invariant.{ArgFits, ArgsFit, IsHeld, RightsFit, RuleArgsFit, read_until, right_until}
+use Rattle.tw_invariant.proofs.DataInsert.{found_inside}
+use Rattle.tw_invariant.proofs.Named.{notice_wants}
 use Rattle.tw_invariant.proofs.Over.{over_params}
 use Rattle.tw_invariant.proofs.Registers.{at_right}
 use Rattle.tw_invariant.proofs.TaskEvents.{fits_of, other_reads, other_writes}
+use Rattle.tw_invariant.proofs.Wanted.{wanted_is_there}
 
 -- ---- one right, one count
 
@@ -79,7 +85,7 @@ rule_args_count s (p ∷ params) (stage ∷ stages) (arg ∷ args) zero d fit at
 rule_args_count s (p ∷ params) (stage ∷ stages) (arg ∷ args) (suc k) d fit at = let rest = rule_args_count s params stages args k d fit.2 at in omega arith
 
 -- where a register holds an id, its typing has a right
-typed_where_held : (s : Store) (typing : Typing) (rights : Rights) (k d : ℕ) → RightsFit s typing rights → right_at rights k ≡ Some d → (right : Right) × (right_at typing k ≡ Some right)
+pub typed_where_held : (s : Store) (typing : Typing) (rights : Rights) (k d : ℕ) → RightsFit s typing rights → right_at rights k ≡ Some d → (right : Right) × (right_at typing k ≡ Some right)
 typed_where_held s [] [] k d fit at = cc
 typed_where_held s [] (r ∷ rights) k d fit at = absurd fit
 typed_where_held s (t ∷ typing) [] k d fit at = absurd fit
@@ -96,7 +102,7 @@ output_counts (id ∷ ids) (suc k) d at = let rest = output_counts ids k d at in
 -- ---- in a state
 
 module _ (program : List Procedure) (typings : Typings) (s : State) (held : IsHeld program typings s) where
-  abbrev IsLive : ℕ → Type 0
+  abbrev pub IsLive : ℕ → Type 0
   IsLive d = (x : Datum) × (get s.store.live d ≡ Some x)
 
   there : (d : ℕ) → 1 ≤ reads_of program typings s d + writes_of program typings s d → IsLive d
@@ -131,3 +137,19 @@ module _ (program : List Procedure) (typings : Typings) (s : State) (held : IsHe
 
   pub output_is_live : (k d : ℕ) → slice_get s.outputs k ≡ Some d → IsLive d
   output_is_live k d at = let one = output_counts s.outputs k d at in there d (omega arith)
+
+  -- a member of a container that is live
+  pub member_is_live : (id : ℕ) (x : Datum) (subscript : ℤ) (d : ℕ) → get s.store.live id ≡ Some x → get (members_in x.content) subscript ≡ Some d → IsLive d
+  member_is_live id x subscript d is at = by (get s.store.live d) refl
+    where
+      by : (o : Option Datum) → get s.store.live d ≡ o → IsLive d
+      by None e =
+          let some = found_inside x subscript d at in
+          let l : subscripts_in d x ≤ inside s.store.live d = subst (λ o. part (subscripts_in d) o ≤ inside s.store.live d) is (part-le-total nat_cmp nat_cmp_total nat_cmp-IsAntisymmetric (subscripts_in d) s.store.live id) in
+          let none = balanced_none s.store.live (reads_of program typings s) (writes_of program typings s) d held.counts.balanced e in
+          absurd (omega (arith, none.0))
+      by (Some y) e = (y, e)
+
+  -- the datum of a notice
+  pub notice_is_live : (n : Notice) → set.contains s.notices n ≡ true → IsLive n.datum
+  notice_is_live n waits = wanted_is_there program typings s held.types held.counts n.datum (notice_wants s.store.live s.notices s.rules held.notices n waits)

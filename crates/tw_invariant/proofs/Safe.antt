@@ -37,7 +37,7 @@ module _ (program : List Procedure) (typings : Typings) (is : IsProgram program)
   pub event_keeps : (layout : ActorCounts) (event : Event) (s : State) → IsHeld program typings s → Keeps (step program layout event s) (IsHeld program typings)
   event_keeps layout event s held = step_keeps program typings layout (accepted program typings accepts) event s held
 
-  safe : (layout : ActorCounts) (s : State) → IsHeld program typings s → IsSafe program layout s
+  pub safe : (layout : ActorCounts) (s : State) → IsHeld program typings s → IsSafe program layout s
   safe layout s held = record {
     no_trap = λ event cause e. keeps_no_trap (step program layout event s) (IsHeld program typings) cause (event_keeps layout event s held) e;
     one_step = λ a f at. one_step program typings accepts layout s a f held at;

@@ -39,7 +39,7 @@ fn put_procedure_lines(
     out: &mut Vec<u8>,
     verified: &Verified,
 ) -> Result<(), AllocError>
-    ensures { OnOk result ((lines : List ℕ) × AreProcedureLines 0 verified.now lines × (out.new.items ≡ out.old.items ++ lines)) }
+    ensures { OnOk result ((lines : List ℕ) × AreProcedureLines 0 verified.now.program lines × (out.new.items ≡ out.old.items ++ lines)) }
 {
     for (number, procedure) in verified.program().procedures().iter().enumerate() {
         let budget = verified.budget(number);
@@ -59,7 +59,7 @@ fn put_needs(alloc: Global, out: &mut Vec<u8>, engines: u8, workers: u8) -> Resu
 
 /// The whole text of the check of an accepted program.
 pub fn check_text(alloc: Global, verified: &Verified) -> Result<Vec<u8>, AllocError>
-    ensures { IfOk result (λ text. IsCheckText verified.now text.items) }
+    ensures { IfOk result (λ text. IsCheckText verified.now.program text.items) }
 {
     let mut text = Vec::new(alloc);
     put(&mut text, "accepted\n")?;

@@ -109,8 +109,8 @@ fn opened_reply(
 
 /// Opens and runs an accepted program.
 fn verified_reply(alloc: Global, order: &RunOrder, verified: Verified) -> Result<Reply, AllocError>
-    requires { IsAccepted verified }
-    ensures { IfOk result (λ r. RepliesByOpening verified order.now (reply r.text.items r.close)) }
+    requires { IsAccepted verified.program }
+    ensures { IfOk result (λ r. RepliesByOpening verified.program order.now (reply r.text.items r.close)) }
 {
     let needs = verified.needs();
     match Plain::open(
@@ -129,8 +129,8 @@ fn verified_reply(alloc: Global, order: &RunOrder, verified: Verified) -> Result
 
 /// Does what is ordered with an accepted program.
 fn accepted_reply(alloc: Global, order: &Order, verified: Verified) -> Result<Reply, AllocError>
-    requires { IsAccepted verified }
-    ensures { IfOk result (λ r. RepliesByAccepted order.now verified (reply r.text.items r.close)) }
+    requires { IsAccepted verified.program }
+    ensures { IfOk result (λ r. RepliesByAccepted order.now verified.program (reply r.text.items r.close)) }
 {
     match order {
         Order::Check => Ok(Reply {

@@ -49,7 +49,7 @@ pub fn verify(alloc: Global, program: Program) -> Result<Verified, Refused>
     // No other program is.
     ensures sound { OnOk result (IsAccepted program) }
     // What is accepted is the program that was given.
-    ensures kept { IfOk result (λ verified. verified ≡ program) }
+    ensures kept { IfOk result (λ verified. verified.program ≡ program) }
 
     // A refusal is the program's first one, unless memory ran out.
     ensures first { IfErr result (λ refused. refused.no ≢ Memory

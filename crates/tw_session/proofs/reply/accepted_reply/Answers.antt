@@ -7,4 +7,4 @@ use Rattle.tw_session.proofs.reply.accepted_reply.Goals as goal
 
 pub returns-in-Run : goal.returns-in-Run
 returns-in-Run c =
-    IfOk-weaker _ _ _ (λ (r : Reply) h. subst (λ (o : Order). RepliesByAccepted o c.args.verified (reply r.text.items r.close)) (sym c.in-Run.is) h) c.verified_reply.ensures
+    IfOk-weaker _ _ _ (λ (r : Reply) h. subst (λ (o : Order). RepliesByAccepted o c.args.verified.program (reply r.text.items r.close)) (sym c.in-Run.is) h) c.verified_reply.ensures

@@ -13,11 +13,11 @@ returns-in-Ok c =
     let opened = c.in-Ok.ensures.opened in
     let state = ap (λ (v : PlainView). v.state) opened ∙ ap (λ (ps : List Procedure). opening ps c.as_slice.result.now) (sym (ap (λ (v : PlainView). v.program) opened)) in
     IfOk-weaker _ _ _
-    (λ (r : Reply) h. replies_given c.args.verified c.into_program.result c.args.order.now c.as_slice.result.now c.in-Ok.plain (reply r.text.items r.close) c.into_program.ensures c.as_slice.ensures opened
+    (λ (r : Reply) h. replies_given c.args.verified.program c.into_program.result c.args.order.now c.as_slice.result.now c.in-Ok.plain (reply r.text.items r.close) c.into_program.ensures c.as_slice.ensures opened
     c.in-Ok.ensures.asked h) (c.opened_reply.ensures c.as_slice.result.now state)
 
 pub returns : goal.returns
 returns c =
     IfOk-weaker _ _ _
-    (λ (r : Reply) h. refused_given c.args.verified c.into_program.result c.args.order.now c.as_slice.result.now c.in-Err.refused.no c.number.result (reply r.text.items r.close) c.into_program.ensures
+    (λ (r : Reply) h. refused_given c.args.verified.program c.into_program.result c.args.order.now c.as_slice.result.now c.in-Err.refused.no c.number.result (reply r.text.items r.close) c.into_program.ensures
     c.as_slice.ensures c.requires.main c.in-Err.ensures.asked c.in_default.not-Memory c.number.ensures h) c.opening_reply.ensures

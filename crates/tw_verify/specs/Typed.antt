@@ -1,0 +1,14 @@
+-- What a verified program is seen as.
+use Rattle.std.specs.Prelude.{List, [], get_or}
+use Rattle.tw_code.specs.declared.procedure.Procedure.{Procedure}
+use Rattle.tw_code.specs.machine.Holders.{Typings}
+use Rattle.tw_code.specs.machine.Rights.{Typing}
+
+-- the program that was accepted, with the typings of each procedure, one a place
+pub record TypedProgram : Type 0 where
+  pub program : List Procedure
+  pub typings : List (List Typing)
+
+-- by the procedure's number
+abbrev pub typings_of : TypedProgram → Typings
+typings_of v procedure = get_or v.typings procedure []
