@@ -109,8 +109,8 @@ text_quoted (Quoted text) bytes word rest q parts is = (text, (word, is, parts))
 quote_word : (word : Word) (bytes rest : List ℕ) → get_or bytes 0 0 ≡ 34 → IsFirstWord word bytes rest → (q : List ℕ) × BeginsQuoted q bytes rest × IsAtEdge rest
 quote_word word bytes rest q f =
     let now = word_now word bytes rest (quote_at bytes q) f in
-    let text = text_quoted word bytes now.0 rest q now.1 now.2.0 in
-    (text.0, text.1, now.2.1)
+    let text = text_quoted word bytes now.0 rest q now.1 now.2 in
+    (text.0, text.1, now.3)
 
 test_edge : (rest : List ℕ) → is_at_edge rest ≡ true → IsAtEdge rest
 test_edge [] e = tt

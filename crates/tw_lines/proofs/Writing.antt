@@ -92,10 +92,10 @@ not_control b e = grind (arith, nat_tests)
 
 by_tests : (b : ℕ) (q s n c : Bool) → (nat_lt b 32 || b == 127) ≡ c
     → IsOneLine (if q then codes "\\\"" else if s then codes "\\\\" else if n then codes "\\n" else if c then codes "\\x" ++ (hex_digit (b / 16) ∷ hex_digit (b % 16) ∷ []) else b ∷ [])
-by_tests b true s n c _ = (refl, refl, tt)
-by_tests b false true n c _ = (refl, refl, tt)
-by_tests b false false true c _ = (refl, refl, tt)
-by_tests b false false false true _ = (refl, refl, past (hex_digit (b / 16)) (hex_past (b / 16)), past (hex_digit (b % 16)) (hex_past (b % 16)), tt)
+by_tests b true s n c _ = (refl, (refl, tt))
+by_tests b false true n c _ = (refl, (refl, tt))
+by_tests b false false true c _ = (refl, (refl, tt))
+by_tests b false false false true _ = (refl, (refl, (past (hex_digit (b / 16)) (hex_past (b / 16)), (past (hex_digit (b % 16)) (hex_past (b % 16)), tt))))
 by_tests b false false false false is = (past b (not_control b is), tt)
 
 escaped_one_line : (text : List ℕ) → IsOneLine (flat_map escaped text)
