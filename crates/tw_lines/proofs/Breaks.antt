@@ -5,7 +5,7 @@ use Rattle.std.specs.List.{AllByRecursion, concat, onto_first, slice_split}
 use Rattle.std.specs.Str.Lines.{lines, lines_of_parts, strip_carriage_return}
 use Rattle.std.proofs.lemmas.Bool.Decides.{nat_tests}
 use Rattle.std.proofs.lemmas.List.Splits.{slice_split-cons_no}
-use Rattle.tw_lines.proofs.Once.{differ}
+use Rattle.tw_lines.proofs.Once.{neither}
 
 abbrev pub HasNoLineFeed : List ℕ → Type 0
 HasNoLineFeed text = AllByRecursion (λ b. (b == 10) ≡ false) text
@@ -45,10 +45,6 @@ lines_back ls are = ap lines_of_parts (parts ls are) ∙ whole ls are
 
 abbrev pub IsOneLine : List ℕ → Type 0
 IsOneLine text = AllByRecursion (λ b. (b == 10 || b == 13) ≡ false) text
-
-neither : (x y : Bool) → (x || y) ≡ false → (x ≡ false) × (y ≡ false)
-neither true y e = absurd (differ e)
-neither false y e = (refl, e)
 
 pub one_line_feeds : (text : List ℕ) → IsOneLine text → HasNoLineFeed text
 one_line_feeds [] is = tt

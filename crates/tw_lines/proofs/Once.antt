@@ -23,7 +23,7 @@ HasNoEdge bytes = AllByRecursion (λ c. is_edge c ≡ false) bytes
 
 -- ---- gaps
 
-neither : (x y : Bool) → (x || y) ≡ false → (x ≡ false) × (y ≡ false)
+pub neither : (x y : Bool) → (x || y) ≡ false → (x ≡ false) × (y ≡ false)
 neither true y e = absurd (differ e)
 neither false y e = (refl, e)
 
