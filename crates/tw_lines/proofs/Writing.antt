@@ -1,5 +1,5 @@
 -- Words that are written one after the other, parted by spaces, are the words of the line.
-use Rattle.std.proofs.Common.{◌≡◌, ◌≢◌, ◌==◌, ℕ, suc, ℤ, pos, negsuc, ◌+◌, ◌/◌, ◌%◌, ◌<◌, ◌≤◌, ◌^◌, Bool, true, false, eqb, codes, List, [], ◌∷◌, ◌++◌, length, refl, sym, ap, subst, ◌∙◌, arith}
+use Rattle.std.proofs.Common.{◌≡◌, ◌≢◌, ◌==◌, ℕ, suc, ℤ, pos, negsuc, ◌/◌, ◌%◌, ◌<◌, ◌≤◌, ◌^◌, Bool, true, false, eqb, codes, List, [], ◌∷◌, ◌++◌, length, refl, sym, ap, arith}
 use Rattle.std.specs.Prelude.{◌||◌, FitsSigned, if◌then◌else◌, nat_lt}
 use Rattle.std.specs.Fmt.{decimal, signed_decimal}
 use Rattle.std.specs.Int.{IsInRange, w64}
@@ -13,7 +13,7 @@ use Rattle.tw_words.specs.Quoted.{escaped, hex_digit, quoted}
 use Rattle.tw_words.proofs.Written.{quoted_spells}
 use Rattle.tw_lines.specs.Words.{Bare, IsBare, IsBlank, IsFirstWord, IsLine, IsWord, Quoted, Word, is_edge}
 use Rattle.tw_lines.proofs.Breaks.{IsOneLine}
-use Rattle.tw_lines.proofs.Once.{HasNoEdge, differ}
+use Rattle.tw_lines.proofs.Once.{HasNoEdge}
 
 -- each text stands for its word
 abbrev pub AreWords : List Word → List (List ℕ) → Type 0

@@ -1,5 +1,5 @@
 -- How contracts see what the code keeps.
-use Rattle.std.specs.Prelude.{ℕ, Bool, true, false, List, map, string_bytes}
+use Rattle.std.specs.Prelude.{ℕ, Bool, true, false, List, string_bytes}
 use Rattle.tw_lines.specs.declared.word.Word as words
 use Rattle.tw_lines.specs.declared.word.Word.TheVariants as word
 use Rattle.tw_lines.specs.Words.{Word, Bare, Quoted, IsLine, IsBrokenLine}

@@ -12,6 +12,6 @@ loop-words-preserved c =
     let grown : map seen c.push.new.self.items ≡ _ = ap (map seen) c.in_ok-push-in-Found.ensures.items ∙ map-append seen c.loop-words.words.items (c.in-Found.word ∷ []) in
     record {
       first = subst (λ (ws : List Word). AreFirstWords ws c.args.line.now c.in-Found.after.now) (sym grown)
-        (first_words_more (map seen c.loop-words.words.items) (seen c.in-Found.word) c.args.line.now c.loop-words.rest.now c.in-Found.after.now c.loop-words.invariant.first first);
+          (first_words_more (map seen c.loop-words.words.items) (seen c.in-Found.word) c.args.line.now c.loop-words.rest.now c.in-Found.after.now c.loop-words.invariant.first first);
       utf8 = rest_utf8 (seen c.in-Found.word) c.loop-words.rest.now c.in-Found.after.now first c.loop-words.invariant.utf8;
     }
