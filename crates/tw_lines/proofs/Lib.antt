@@ -1,0 +1,5 @@
+pub mod Once
+pub mod Texts
+pub mod First
+pub mod Breaks
+pub mod Writing

@@ -1,0 +1,2 @@
+-- What the readers keep to themselves: no public clause reaches this folder.
+pub mod Next
