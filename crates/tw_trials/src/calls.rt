@@ -10,6 +10,7 @@ ghost use Rattle.tw_store.specs.Served.{IsHere};
 
 use crate::may;
 use crate::model::{Answer, Model, Plain};
+use crate::same::has_value;
 use std::alloc::Global;
 use tw_rights::{ReadRight, WriteRight};
 use tw_store::{Asked, Inserted, Store};
@@ -34,6 +35,8 @@ pub enum Call {
     DropWrite(u64),
     Ask(u64, u64, u8),
     TakeNote(u8),
+    ReserveDatum,
+    ReserveNotices(u64),
 }
 
 /// A read right on the datum of an id, if it is live.
@@ -98,11 +101,47 @@ fn create(store: &mut Store, alloc: Global, ty: DataType) -> Answer {
             let id = write.spend().number();
             if_back(id, read.spend(), Answer::Id(id))
         }
-        Err(_) => Answer::Strange,
+        Err(_) => Answer::Refused,
     }
 }
 
-fn set(store: &mut Store, id: u64, value: Value) -> Answer {
+/// Room for one datum more.
+fn reserve_datum(store: &mut Store) -> Answer {
+    match store.reserve_datum() {
+        Ok(()) => Answer::Done,
+        Err(_) => Answer::Refused,
+    }
+}
+
+/// Room for the notices of a datum.
+fn reserve_notices(store: &mut Store, id: u64) -> Answer {
+    let Some(right) = write_of(store, id) else {
+        return Answer::Misuse(Cause::FreedDatum);
+    };
+    let answer = match store.reserve_notices(&right) {
+        Ok(()) => Answer::Done,
+        Err(_) => Answer::Refused,
+    };
+    if_back(id, right.spend(), answer)
+}
+
+/// The answer of a refused call, where what was moved in came back.
+fn refused(id: u64, back: DatumId, plain: Plain, value: &Value) -> Answer {
+    if has_value(Some(value), Some(plain)) {
+        if_back(id, back, Answer::Refused)
+    } else {
+        Answer::Strange
+    }
+}
+
+fn store_plain(store: &mut Store, alloc: Global, id: u64, plain: Plain) -> Answer {
+    match value_of(alloc, plain) {
+        Some(value) => set(store, id, plain, value),
+        None => Answer::Refused,
+    }
+}
+
+fn set(store: &mut Store, id: u64, plain: Plain, value: Value) -> Answer {
     if let Err(cause) = may::store(store, id, &value) {
         return Answer::Misuse(cause);
     }
@@ -111,7 +150,7 @@ fn set(store: &mut Store, id: u64, value: Value) -> Answer {
     };
     match store.store(right, value) {
         Ok(()) => Answer::Done,
-        Err((right, _value)) => if_back(id, right.spend(), Answer::Strange),
+        Err((right, value)) => refused(id, right.spend(), plain, &value),
     }
 }
 
@@ -126,7 +165,7 @@ fn retrieve(store: &Store, alloc: Global, id: u64) -> Answer {
         Ok(Value::Int(number)) => Answer::Number(number),
         Ok(Value::Text(text)) if text.as_str() == "a" => Answer::Letter,
         Ok(Value::Text(_)) => Answer::Strange,
-        Err(_) => Answer::Strange,
+        Err(_) => Answer::Refused,
     };
     if_back(id, right.spend(), answer)
 }
@@ -154,7 +193,7 @@ fn inserted(store: &mut Store, right: &WriteRight, subscript: i64, given: ReadRi
     match store.insert(right, subscript, given) {
         Ok(Inserted::Done) => Answer::Done,
         Ok(Inserted::Present(back)) => if_back(member, back.spend(), Answer::Present),
-        Err(back) => if_back(member, back.spend(), Answer::Strange),
+        Err(back) => if_back(member, back.spend(), Answer::Refused),
     }
 }
 
@@ -280,7 +319,7 @@ fn drop_write(store: &mut Store, id: u64) -> Answer {
     };
     match store.drop_write(right) {
         Ok(()) => Answer::Done,
-        Err(back) => if_back(id, back.spend(), Answer::Strange),
+        Err(back) => if_back(id, back.spend(), Answer::Refused),
     }
 }
 
@@ -291,7 +330,7 @@ fn ask(store: &mut Store, id: u64, rule: u64, parameter: u8) -> Answer {
     let answer = match store.ask(&right, RuleNo::new(rule), parameter) {
         Ok(Asked::Closed) => Answer::Closed,
         Ok(Asked::Noted) => Answer::Noted,
-        Err(_) => Answer::Strange,
+        Err(_) => Answer::Refused,
     };
     if_back(id, right.spend(), answer)
 }
@@ -314,10 +353,7 @@ fn take_note(store: &mut Store, server: u8) -> Answer {
 pub fn answered(store: &mut Store, alloc: Global, call: Call) -> Answer {
     match call {
         Call::Create(depth, of_text) => create(store, alloc, type_of(depth, of_text)),
-        Call::Store(id, plain) => match value_of(alloc, plain) {
-            Some(value) => set(store, id, value),
-            None => Answer::Strange,
-        },
+        Call::Store(id, plain) => store_plain(store, alloc, id, plain),
         Call::Retrieve(id) => retrieve(store, alloc, id),
         Call::Insert(id, subscript, member) => insert(store, id, subscript, member),
         Call::Look(id, subscript) => look(store, id, subscript),
@@ -329,6 +365,8 @@ pub fn answered(store: &mut Store, alloc: Global, call: Call) -> Answer {
         Call::DropWrite(id) => drop_write(store, id),
         Call::Ask(id, rule, parameter) => ask(store, id, rule, parameter),
         Call::TakeNote(server) => take_note(store, server),
+        Call::ReserveDatum => reserve_datum(store),
+        Call::ReserveNotices(id) => reserve_notices(store, id),
     }
 }
 
@@ -348,5 +386,7 @@ pub fn expected(model: &mut Model, alloc: Global, call: Call) -> Answer {
         Call::DropWrite(id) => model.drop_write(alloc, id),
         Call::Ask(id, rule, parameter) => model.ask(id, rule, parameter),
         Call::TakeNote(server) => model.take_note(u64::from(server)),
+        Call::ReserveDatum => Answer::Done,
+        Call::ReserveNotices(id) => model.reserve_notices(id),
     }
 }

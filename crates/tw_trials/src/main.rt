@@ -1,9 +1,11 @@
-//! Trials that run long: each prints one line, `agrees` or its first difference.
+//! Trials that run long: each prints one line, `agrees` or its first difference. With a word behind the name only the
+//! first one runs.
 #![tactic(auto)]
 
 mod calls;
 mod checks;
 mod letters;
+mod lives;
 mod may;
 mod members;
 mod model;
@@ -12,12 +14,13 @@ mod order;
 mod parts;
 mod puts;
 mod random;
+mod refused;
 mod same;
 mod search;
 mod walks;
 mod worked;
 
-use std::io;
+use std::{env, io};
 
 /// The line of a trial: what differs first, if something does.
 fn tell(rt: &HostRuntime, name: &str, difference: Option<(&'static str, u64)>) -> io::Result<()> {
@@ -32,6 +35,16 @@ fn whole(agrees: bool) -> Option<(&'static str, u64)> {
     if agrees { None } else { Some(("its end", 0)) }
 }
 
+/// Whether a word stands behind the program's name.
+fn has_word(rt: &HostRuntime) -> io::Result<bool> {
+    Ok(env::args(rt)?.nth(1).is_some())
+}
+
+fn refusal_trial(rt: &HostRuntime) -> io::Result<()> {
+    let refused = refused::refused_calls_go(rt.alloc());
+    tell(rt, "refused calls of the store", refused)
+}
+
 fn store_trials(rt: &HostRuntime) -> io::Result<()> {
     let alloc = rt.alloc();
     let random = random::calls_are_the_models(alloc);
@@ -43,7 +56,13 @@ fn store_trials(rt: &HostRuntime) -> io::Result<()> {
     let freed = whole(members::thousand_are_freed(alloc));
     tell(rt, "a thousand members are freed", freed)?;
     let in_turn = whole(members::thousand_in_turn(alloc));
-    tell(rt, "a thousand data are made and freed in turn", in_turn)
+    tell(rt, "a thousand data are made and freed in turn", in_turn)?;
+    let read = whole(lives::lives_read(alloc, 100, 10_000) == Some(10_000));
+    tell(
+        rt,
+        "10,000 ints beside a hundred are read as they were set",
+        read,
+    )
 }
 
 fn queue_trials(rt: &HostRuntime) -> io::Result<()> {
@@ -74,6 +93,10 @@ fn verifier_trials(rt: &HostRuntime) -> io::Result<()> {
 }
 
 fn main(rt: HostRuntime) -> io::Result<()> {
+    refusal_trial(&rt)?;
+    if has_word(&rt)? {
+        return Ok(());
+    }
     store_trials(&rt)?;
     queue_trials(&rt)?;
     verifier_trials(&rt)?;

@@ -20,7 +20,9 @@ pub enum Answer {
     Closed,
     Noted,
     Notice(u64, u64, u8),
-    /// A right was lost, or memory refused.
+    /// Memory was refused, and what was moved in came back.
+    Refused,
+    /// A right was lost, or the call was not made.
     Strange,
 }
 
@@ -336,6 +338,14 @@ impl Model {
                 Ok(()) => Answer::Noted,
                 Err(_) => Answer::Strange,
             },
+        }
+    }
+
+    /// Room is no matter of the model.
+    pub fn reserve_notices(&self, id: u64) -> Answer {
+        match self.facts(id) {
+            Some(_) => Answer::Done,
+            None => Answer::Misuse(Cause::FreedDatum),
         }
     }
 

@@ -55,7 +55,7 @@ fn kind_of(answer: Answer) -> u8 {
         Answer::Closed => 16,
         Answer::Noted => 17,
         Answer::Notice(..) => 18,
-        Answer::Strange => 19,
+        Answer::Refused | Answer::Strange => 19,
     }
 }
 

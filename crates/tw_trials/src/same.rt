@@ -20,7 +20,8 @@ pub fn is_same(store: &Store, model: &Model, id: u64) -> bool {
     }
 }
 
-fn has_value(value: Option<&Value>, plain: Option<Plain>) -> bool {
+/// Whether a scalar's value, if it has one, is this.
+pub fn has_value(value: Option<&Value>, plain: Option<Plain>) -> bool {
     match value {
         None => plain.is_none(),
         Some(Value::Int(number)) => plain == Some(Plain::Number(*number)),
