@@ -1,7 +1,5 @@
-use Rattle.std.proofs.Common.{◌≡◌, true, sym, ap, subst, ◌∙◌}
-use Rattle.tw_queue.specs.Index.{ranks_of}
-use Rattle.tw_queue.specs.Indexed.{IsIndex, tasks_in}
-use Rattle.tw_queue.specs.Slots.{slot_at}
+use Rattle.std.proofs.Common.{◌≡◌, true, sym, subst}
+use Rattle.tw_queue.specs.Indexed.{tasks_in}
 use Rattle.tw_queue.specs.Queues.{room_for}
 use Rattle.tw_queue.proofs.Rooms.{room_still}
 use Rattle.tw_queue.proofs.queues.TaskQueues.reserve.Goals as goal

@@ -1,6 +1,5 @@
-use Rattle.std.proofs.Common.{◌≡◌, Some, sym, ap, subst, ◌∙◌, arith, length}
-use Rattle.tw_queue.specs.declared.slots.Slot.TheVariants.{Free, Full}
-use Rattle.tw_queue.specs.Slots.{AreSlots, IsChangedAt, waiting_in}
+use Rattle.std.proofs.Common.{Some, sym, ap, ◌∙◌, arith}
+use Rattle.tw_queue.specs.declared.slots.Slot.TheVariants.{Full}
 use Rattle.tw_queue.proofs.Kept.{changed_set, filled, first_not_full, first_within, pushed, read_first}
 use Rattle.tw_queue.proofs.slots.Slots.fill.Goals as goal
 
