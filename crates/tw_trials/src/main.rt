@@ -12,6 +12,7 @@ mod order;
 mod parts;
 mod puts;
 mod random;
+mod refused;
 mod same;
 mod search;
 mod walks;
@@ -46,6 +47,15 @@ fn store_trials(rt: &HostRuntime) -> io::Result<()> {
     tell(rt, "a thousand data are made and freed in turn", in_turn)
 }
 
+fn refusal_trials(rt: &HostRuntime) -> io::Result<()> {
+    let queues = refused::refusals_change_nothing(rt.alloc());
+    tell(
+        rt,
+        "200 puts, where memory may be refused, and takes",
+        queues,
+    )
+}
+
 fn queue_trials(rt: &HostRuntime) -> io::Result<()> {
     let order = whole(order::best_goes_first(rt.alloc()));
     tell(rt, "the order in which tasks are taken", order)?;
@@ -74,6 +84,7 @@ fn verifier_trials(rt: &HostRuntime) -> io::Result<()> {
 }
 
 fn main(rt: HostRuntime) -> io::Result<()> {
+    refusal_trials(&rt)?;
     store_trials(&rt)?;
     queue_trials(&rt)?;
     verifier_trials(&rt)?;
