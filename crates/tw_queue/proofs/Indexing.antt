@@ -1,5 +1,5 @@
 -- How the index of the ranks is kept where a task comes or goes.
-use Rattle.std.proofs.Common.{◌≡◌, ◌⊎◌, inl, inr, ℕ, Bool, true, false, ◌∷◌, refl, sym, subst, ◌∙◌, map, nat_eq, arith}
+use Rattle.std.proofs.Common.{◌≡◌, ◌⊎◌, inl, inr, ℕ, ℤ, Bool, true, false, [], ◌∷◌, refl, sym, subst, ◌∙◌, map, nat_eq, arith}
 use Rattle.std.specs.declared.option.Option.{Option}
 use Rattle.std.specs.declared.option.Option.TheVariants.{None, Some}
 use Rattle.std.specs.List.{Contains, IsDistinct}
@@ -9,19 +9,22 @@ use Rattle.std.proofs.lemmas.Map.Keys.{IsDistinct-IsPermutation, IsDistinct-cons
 use Rattle.std.proofs.lemmas.Bool.Decides.{nat_tests}
 use Rattle.tw_types.specs.declared.actor.Kind.{Kind}
 use Rattle.tw_queue.specs.declared.rank.Rank.{Rank}
-use Rattle.tw_queue.specs.declared.queues.Waiting.{Waiting}
+use Rattle.tw_queue.specs.declared.waiting.Waiting.{Waiting}
 use Rattle.tw_queue.specs.Lists.{place_of}
 use Rattle.tw_queue.specs.Index.{Ranking, IsHereOrSame}
 use Rattle.tw_queue.specs.Queues.{IsTarget}
-use Rattle.tw_queue.specs.Indexed.{IsIndex, IsEntryAt, rank_of}
-use Rattle.tw_queue.proofs.Members.{contains_here, contains_later, contains_cases, all_numbers, all_at, mapped_has}
+use Rattle.tw_queue.specs.Indexed.{AreApart, IsIndex, IsEntryAt, rank_of}
+use Rattle.tw_queue.proofs.Members.{contains_none, contains_here, contains_later, contains_cases, all_mapped, all_at, mapped_has}
 
--- the task of a number
+-- the task in a slot
 abbrev pub Entries : Type 0
 Entries = ℕ → Option Waiting
 
-abbrev pub number_of : Rank → ℕ
-number_of rank = rank.number
+abbrev pub slot_of : Rank → ℕ
+slot_of rank = rank.slot
+
+abbrev pub ranked : ℤ → ℕ → ℕ → Rank
+ranked priority number slot = record { priority = priority; number = number; slot = slot }
 
 pub nat_apart : (a b : ℕ) → (a ≡ b → ⊥) → nat_eq a b ≡ false
 nat_apart a b h = grind (arith, nat_tests)
@@ -53,10 +56,10 @@ entry_is kind place rank o w h e = subst (IsEntryAt kind place rank) e h
 no_entry : (kind : Kind) (place : ℕ) (rank : Rank) (o : Option Waiting) → IsEntryAt kind place rank o → o ≡ None → ⊥
 no_entry kind place rank o h e = subst (IsEntryAt kind place rank) e h
 
--- another entry at this number alone
-pub record IsUpdated (number : ℕ) (w : Option Waiting) (old new : Entries) : Type 0 where
-  pub here : new number ≡ w
-  pub others : (q : ℕ) → (number ≡ q → ⊥) → new q ≡ old q
+-- another entry in this slot alone
+pub record IsUpdated (slot : ℕ) (w : Option Waiting) (old new : Entries) : Type 0 where
+  pub here : new slot ≡ w
+  pub others : (q : ℕ) → (slot ≡ q → ⊥) → new q ≡ old q
 
 moved_here : (ranks : Ranking) (kind k : Kind) (place p : ℕ) (rank : Rank) → k ≡ kind → p ≡ place → Contains (ranks k p) rank → Contains (ranks kind place) rank
 moved_here ranks kind k place p rank ek ep c = subst (λ x. Contains (ranks x place) rank) ek (subst (λ x. Contains (ranks k x) rank) ep c)
@@ -64,100 +67,100 @@ moved_here ranks kind k place p rank ek ep c = subst (λ x. Contains (ranks x pl
 moved_back : (ranks : Ranking) (kind k : Kind) (place p : ℕ) (rank : Rank) → k ≡ kind → p ≡ place → Contains (ranks kind place) rank → Contains (ranks k p) rank
 moved_back ranks kind k place p rank ek ep c = subst (λ x. Contains (ranks x p) rank) (sym ek) (subst (λ x. Contains (ranks kind x) rank) (sym ep) c)
 
-distinct_at : (ranks : Ranking) (kind k : Kind) (place p : ℕ) → k ≡ kind → p ≡ place → IsDistinct nat_eq (map number_of (ranks kind place)) → IsDistinct nat_eq (map number_of (ranks k p))
-distinct_at ranks kind k place p ek ep d = subst (λ x. IsDistinct nat_eq (map number_of (ranks x p))) (sym ek) (subst (λ x. IsDistinct nat_eq (map number_of (ranks kind x))) (sym ep) d)
+distinct_at : (ranks : Ranking) (kind k : Kind) (place p : ℕ) → k ≡ kind → p ≡ place → IsDistinct nat_eq (map slot_of (ranks kind place)) → IsDistinct nat_eq (map slot_of (ranks k p))
+distinct_at ranks kind k place p ek ep d = subst (λ x. IsDistinct nat_eq (map slot_of (ranks x p))) (sym ek) (subst (λ x. IsDistinct nat_eq (map slot_of (ranks kind x))) (sym ep) d)
 
 -- ---- a task comes
 
 module _ (old new : Entries) (less more : Ranking) (is : IsIndex old less) (kind : Kind) (place : ℕ)
-    (number : ℕ) (w : Waiting) (others : IsHereOrSame kind place less more) (added : IsPermutation (rank_of number w ∷ less kind place) (more kind place)) (updated : IsUpdated number (Some w) old new) (free : old number ≡ None)
+    (slot : ℕ) (w : Waiting) (others : IsHereOrSame kind place less more) (added : IsPermutation (rank_of slot w ∷ less kind place) (more kind place)) (updated : IsUpdated slot (Some w) old new) (free : old slot ≡ None)
     (at_kind : w.kind ≡ kind) (at_place : place_of w.target ≡ place) where
-  other_number : (k : Kind) (p : ℕ) (rank : Rank) → Contains (less k p) rank → number ≡ rank.number → ⊥
-  other_number k p rank c e = no_entry k p rank (old rank.number) (is.sound k p rank c) (subst (λ q. old q ≡ None) e free)
+  other_slot : (k : Kind) (p : ℕ) (rank : Rank) → Contains (less k p) rank → slot ≡ rank.slot → ⊥
+  other_slot k p rank c e = no_entry k p rank (old rank.slot) (is.sound k p rank c) (subst (λ q. old q ≡ None) e free)
 
-  was_sound : (k : Kind) (p : ℕ) (rank : Rank) → Contains (less k p) rank → IsEntryAt k p rank (new rank.number)
-  was_sound k p rank c = subst (IsEntryAt k p rank) (sym (updated.others rank.number (other_number k p rank c))) (is.sound k p rank c)
+  was_sound : (k : Kind) (p : ℕ) (rank : Rank) → Contains (less k p) rank → IsEntryAt k p rank (new rank.slot)
+  was_sound k p rank c = subst (IsEntryAt k p rank) (sym (updated.others rank.slot (other_slot k p rank c))) (is.sound k p rank c)
 
-  grown_cases : (rank : Rank) → Contains (more kind place) rank → (rank_of number w ≡ rank) ⊎ Contains (less kind place) rank
-  grown_cases rank c = contains_cases (rank_of number w) (less kind place) rank (Contains-permutation _ _ rank (IsPermutation-sym _ _ added) c)
+  grown_cases : (rank : Rank) → Contains (more kind place) rank → (rank_of slot w ≡ rank) ⊎ Contains (less kind place) rank
+  grown_cases rank c = contains_cases (rank_of slot w) (less kind place) rank (Contains-permutation _ _ rank (IsPermutation-sym _ _ added) c)
 
-  grown_has : (rank : Rank) → Contains (rank_of number w ∷ less kind place) rank → Contains (more kind place) rank
+  grown_has : (rank : Rank) → Contains (rank_of slot w ∷ less kind place) rank → Contains (more kind place) rank
   grown_has rank c = Contains-permutation _ _ rank added c
 
   still_there : (k : Kind) (p : ℕ) (rank : Rank) → Contains (less k p) rank → Contains (more k p) rank
   still_there k p rank c = by (others k p)
     where
       by : ((k ≡ kind) × (p ≡ place)) ⊎ (more k p ≡ less k p) → Contains (more k p) rank
-      by (inl at) = moved_back more kind k place p rank at.0 at.1 (grown_has rank (contains_later (rank_of number w) (less kind place) rank (moved_here less kind k place p rank at.0 at.1 c)))
+      by (inl at) = moved_back more kind k place p rank at.0 at.1 (grown_has rank (contains_later (rank_of slot w) (less kind place) rank (moved_here less kind k place p rank at.0 at.1 c)))
       by (inr same) = subst (λ xs. Contains xs rank) (sym same) c
 
-  own_entry : IsEntryAt kind place (rank_of number w) (new number)
-  own_entry = subst (IsEntryAt kind place (rank_of number w)) (sym updated.here) (at_kind, at_place, refl)
+  own_entry : IsEntryAt kind place (rank_of slot w) (new slot)
+  own_entry = subst (IsEntryAt kind place (rank_of slot w)) (sym updated.here) (at_kind, at_place, refl, refl)
 
-  put_sound : (k : Kind) (p : ℕ) (rank : Rank) → Contains (more k p) rank → IsEntryAt k p rank (new rank.number)
+  put_sound : (k : Kind) (p : ℕ) (rank : Rank) → Contains (more k p) rank → IsEntryAt k p rank (new rank.slot)
   put_sound k p rank c = by (others k p)
     where
-      own : (rank_of number w ≡ rank) ⊎ Contains (less kind place) rank → IsEntryAt kind place rank (new rank.number)
-      own (inl e) = subst (λ r. IsEntryAt kind place r (new r.number)) e own_entry
+      own : (rank_of slot w ≡ rank) ⊎ Contains (less kind place) rank → IsEntryAt kind place rank (new rank.slot)
+      own (inl e) = subst (λ r. IsEntryAt kind place r (new r.slot)) e own_entry
       own (inr d) = was_sound kind place rank d
 
-      by : ((k ≡ kind) × (p ≡ place)) ⊎ (more k p ≡ less k p) → IsEntryAt k p rank (new rank.number)
-      by (inl at) = subst (λ x. IsEntryAt x p rank (new rank.number)) (sym at.0) (subst (λ x. IsEntryAt kind x rank (new rank.number)) (sym at.1)
+      by : ((k ≡ kind) × (p ≡ place)) ⊎ (more k p ≡ less k p) → IsEntryAt k p rank (new rank.slot)
+      by (inl at) = subst (λ x. IsEntryAt x p rank (new rank.slot)) (sym at.0) (subst (λ x. IsEntryAt kind x rank (new rank.slot)) (sym at.1)
           (own (grown_cases rank (moved_here more kind k place p rank at.0 at.1 c))))
       by (inr same) = was_sound k p rank (subst (λ xs. Contains xs rank) same c)
 
-  put_complete : (q : ℕ) (v : Waiting) → new q ≡ Some v → Contains (more v.kind (place_of v.target)) (rank_of q v)
-  put_complete q v e = by (nat_eq number q) refl
-    where
-      by : (b : Bool) → nat_eq number q ≡ b → Contains (more v.kind (place_of v.target)) (rank_of q v)
-      by true t =
-          let one : number ≡ q = nat_same number q t in
-          let here = updated.here in
-          let there : new number ≡ Some v = subst (λ x. new x ≡ Some v) (sym one) e in
-          let same : w ≡ v = cc in
-          subst (λ x. Contains (more v.kind (place_of v.target)) (rank_of x v)) one
-          (subst (λ x. Contains (more x.kind (place_of x.target)) (rank_of number x)) same
-          (moved_back more kind w.kind place (place_of w.target) (rank_of number w) at_kind at_place (grown_has (rank_of number w) (contains_here (rank_of number w) (less kind place)))))
-      by false t =
-          let apart : number ≡ q → ⊥ = λ h. let u = nat_itself q in let z : nat_eq number q ≡ true = subst (λ x. nat_eq x q ≡ true) (sym h) u in cc in
-          still_there v.kind (place_of v.target) (rank_of q v) (is.complete q v (sym (updated.others q apart) ∙ e))
+  new_here : (q : ℕ) (v : Waiting) → new q ≡ Some v → slot ≡ q → w ≡ v
+  new_here q v e one =
+      let here = updated.here in
+      let there : new slot ≡ Some v = subst (λ x. new x ≡ Some v) (sym one) e in
+      cc
 
-  put_distinct : (k : Kind) (p : ℕ) → IsDistinct nat_eq (map number_of (more k p))
+  old_there : (q : ℕ) (v : Waiting) → new q ≡ Some v → nat_eq slot q ≡ false → old q ≡ Some v
+  old_there q v e t =
+      let apart : slot ≡ q → ⊥ = λ h. let u = nat_itself q in let z : nat_eq slot q ≡ true = subst (λ x. nat_eq x q ≡ true) (sym h) u in cc in
+      sym (updated.others q apart) ∙ e
+
+  put_complete : (q : ℕ) (v : Waiting) → new q ≡ Some v → Contains (more v.kind (place_of v.target)) (rank_of q v)
+  put_complete q v e = by (nat_eq slot q) refl
+    where
+      by : (b : Bool) → nat_eq slot q ≡ b → Contains (more v.kind (place_of v.target)) (rank_of q v)
+      by true t =
+          let one = nat_same slot q t in
+          subst (λ x. Contains (more v.kind (place_of v.target)) (rank_of x v)) one
+          (subst (λ x. Contains (more x.kind (place_of x.target)) (rank_of slot x)) (new_here q v e one)
+          (moved_back more kind w.kind place (place_of w.target) (rank_of slot w) at_kind at_place (grown_has (rank_of slot w) (contains_here (rank_of slot w) (less kind place)))))
+      by false t = still_there v.kind (place_of v.target) (rank_of q v) (is.complete q v (old_there q v e t))
+
+  put_distinct : (k : Kind) (p : ℕ) → IsDistinct nat_eq (map slot_of (more k p))
   put_distinct k p = by (others k p)
     where
-      by : ((k ≡ kind) × (p ≡ place)) ⊎ (more k p ≡ less k p) → IsDistinct nat_eq (map number_of (more k p))
+      by : ((k ≡ kind) × (p ≡ place)) ⊎ (more k p ≡ less k p) → IsDistinct nat_eq (map slot_of (more k p))
       by (inl at) = distinct_at more kind k place p at.0 at.1
-          (IsDistinct-IsPermutation nat_eq nat_flips _ _ (IsPermutation-map number_of _ _ added)
-          (IsDistinct-cons nat_eq number (map number_of (less kind place)) (all_numbers (λ q. nat_eq number q ≡ false) number_of (less kind place) (λ rank c. nat_apart number rank.number (other_number kind place rank c)))
+          (IsDistinct-IsPermutation nat_eq nat_flips _ _ (IsPermutation-map slot_of _ _ added)
+          (IsDistinct-cons nat_eq slot (map slot_of (less kind place)) (all_mapped (λ q. nat_eq slot q ≡ false) slot_of (less kind place) (λ rank c. nat_apart slot rank.slot (other_slot kind place rank c)))
           (is.distinct kind place)))
-      by (inr same) = subst (λ xs. IsDistinct nat_eq (map number_of xs)) (sym same) (is.distinct k p)
+      by (inr same) = subst (λ xs. IsDistinct nat_eq (map slot_of xs)) (sym same) (is.distinct k p)
 
-  pub put_index : w.task.no ≡ number → IsTarget w.target → IsIndex new more
-  put_index named target = record {
+  put_targets : IsTarget w.target → (q : ℕ) (v : Waiting) → new q ≡ Some v → IsTarget v.target
+  put_targets target q v e = by (nat_eq slot q) refl
+    where
+      by : (b : Bool) → nat_eq slot q ≡ b → IsTarget v.target
+      by true t = subst (λ x. IsTarget x.target) (new_here q v e (nat_same slot q t)) target
+      by false t = is.targets q v (old_there q v e t)
+
+  pub put_index : IsTarget w.target → AreApart new → IsIndex new more
+  put_index target apart = record {
     sound = put_sound;
     complete = put_complete;
     distinct = put_distinct;
-    named = put_named;
+    targets = put_targets target;
+    apart = apart;
   }
-    where
-      put_named : (q : ℕ) (v : Waiting) → new q ≡ Some v → (v.task.no ≡ q) × IsTarget v.target
-      put_named q v e = by (nat_eq number q) refl
-        where
-          by : (b : Bool) → nat_eq number q ≡ b → (v.task.no ≡ q) × IsTarget v.target
-          by true t =
-              let one : number ≡ q = nat_same number q t in
-              let here = updated.here in
-              let there : new number ≡ Some v = subst (λ x. new x ≡ Some v) (sym one) e in
-              let same : w ≡ v = cc in
-              subst (λ x. (x.task.no ≡ q) × IsTarget x.target) same (named ∙ one, target)
-          by false t =
-              let apart : number ≡ q → ⊥ = λ h. let u = nat_itself q in let z : nat_eq number q ≡ true = subst (λ x. nat_eq x q ≡ true) (sym h) u in cc in
-              is.named q v (sym (updated.others q apart) ∙ e)
 
 -- ---- a task goes
 
 module _ (old new : Entries) (less more : Ranking) (is : IsIndex old more) (kind : Kind) (place : ℕ) (rank : Rank)
-    (gone_others : IsHereOrSame kind place less more) (added : IsPermutation (rank ∷ less kind place) (more kind place)) (updated : IsUpdated rank.number None old new) where
+    (gone_others : IsHereOrSame kind place less more) (added : IsPermutation (rank ∷ less kind place) (more kind place)) (updated : IsUpdated rank.slot None old new) where
   flipped : (k : Kind) (p : ℕ) → ((k ≡ kind) × (p ≡ place)) ⊎ (more k p ≡ less k p) → ((k ≡ kind) × (p ≡ place)) ⊎ (less k p ≡ more k p)
   flipped k p (inl at) = inl at
   flipped k p (inr same) = inr (sym same)
@@ -175,34 +178,34 @@ module _ (old new : Entries) (less more : Ranking) (is : IsIndex old more) (kind
       by (inl at) = moved_back more kind k place p r at.0 at.1 (Contains-permutation _ _ r added (contains_later rank (less kind place) r (moved_here less kind k place p r at.0 at.1 c)))
       by (inr same) = subst (λ xs. Contains xs r) same c
 
-  numbers : IsDistinct nat_eq (rank.number ∷ map number_of (less kind place))
-  numbers = IsDistinct-IsPermutation nat_eq nat_flips _ _ (IsPermutation-sym _ _ (IsPermutation-map number_of _ _ added)) (is.distinct kind place)
+  slots : IsDistinct nat_eq (rank.slot ∷ map slot_of (less kind place))
+  slots = IsDistinct-IsPermutation nat_eq nat_flips _ _ (IsPermutation-sym _ _ (IsPermutation-map slot_of _ _ added)) (is.distinct kind place)
 
-  -- the number has left with its rank
-  left_here : (r : Rank) → Contains (less kind place) r → rank.number ≡ r.number → ⊥
+  -- the slot has left with its rank
+  left_here : (r : Rank) → Contains (less kind place) r → rank.slot ≡ r.slot → ⊥
   left_here r c e =
-      let apart = all_at (λ q. nat_eq rank.number q ≡ false) (map number_of (less kind place)) r.number (IsDistinct-head nat_eq rank.number (map number_of (less kind place)) numbers) (mapped_has number_of (less kind place) r c) in
-      let u = nat_itself r.number in
-      let z : nat_eq rank.number r.number ≡ true = subst (λ x. nat_eq x r.number ≡ true) (sym e) u in
+      let apart = all_at (λ q. nat_eq rank.slot q ≡ false) (map slot_of (less kind place)) r.slot (IsDistinct-head nat_eq rank.slot (map slot_of (less kind place)) slots) (mapped_has slot_of (less kind place) r c) in
+      let u = nat_itself r.slot in
+      let z : nat_eq rank.slot r.slot ≡ true = subst (λ x. nat_eq x r.slot ≡ true) (sym e) u in
       cc
 
-  left : (k : Kind) (p : ℕ) (r : Rank) → Contains (less k p) r → rank.number ≡ r.number → ⊥
-  left k p r c e = by (old rank.number) refl
+  left : (k : Kind) (p : ℕ) (r : Rank) → Contains (less k p) r → rank.slot ≡ r.slot → ⊥
+  left k p r c e = by (old rank.slot) refl
     where
-      by : (o : Option Waiting) → old rank.number ≡ o → ⊥
-      by None none = no_entry kind place rank (old rank.number) (is.sound kind place rank own_there) none
+      by : (o : Option Waiting) → old rank.slot ≡ o → ⊥
+      by None none = no_entry kind place rank (old rank.slot) (is.sound kind place rank own_there) none
       by (Some w) some =
-          let own = entry_is kind place rank (old rank.number) w (is.sound kind place rank own_there) some in
-          let other = entry_is k p r (old r.number) w (is.sound k p r (was_there k p r c)) (subst (λ q. old q ≡ Some w) e some) in
+          let own = entry_is kind place rank (old rank.slot) w (is.sound kind place rank own_there) some in
+          let other = entry_is k p r (old r.slot) w (is.sound k p r (was_there k p r c)) (subst (λ q. old q ≡ Some w) e some) in
           left_here r (moved_here less kind k place p r (sym other.0 ∙ own.0) (sym other.1 ∙ own.1) c) e
 
-  gone_sound : (k : Kind) (p : ℕ) (r : Rank) → Contains (less k p) r → IsEntryAt k p r (new r.number)
-  gone_sound k p r c = subst (IsEntryAt k p r) (sym (updated.others r.number (left k p r c))) (is.sound k p r (was_there k p r c))
+  gone_sound : (k : Kind) (p : ℕ) (r : Rank) → Contains (less k p) r → IsEntryAt k p r (new r.slot)
+  gone_sound k p r c = subst (IsEntryAt k p r) (sym (updated.others r.slot (left k p r c))) (is.sound k p r (was_there k p r c))
 
-  here_left : (q : ℕ) (v : Waiting) → new q ≡ Some v → rank.number ≡ q → ⊥
+  here_left : (q : ℕ) (v : Waiting) → new q ≡ Some v → rank.slot ≡ q → ⊥
   here_left q v e one =
       let here = updated.here in
-      let there : new rank.number ≡ Some v = subst (λ x. new x ≡ Some v) (sym one) e in
+      let there : new rank.slot ≡ Some v = subst (λ x. new x ≡ Some v) (sym one) e in
       cc
 
   was_entry : (q : ℕ) (v : Waiting) → new q ≡ Some v → old q ≡ Some v
@@ -215,7 +218,7 @@ module _ (old new : Entries) (less more : Ranking) (is : IsIndex old more) (kind
       there = is.complete q v (was_entry q v e)
 
       rest : (rank ≡ rank_of q v) ⊎ Contains (less kind place) (rank_of q v) → Contains (less kind place) (rank_of q v)
-      rest (inl one) = absurd (here_left q v e (subst (λ r. rank.number ≡ r.number) one refl))
+      rest (inl one) = absurd (here_left q v e (subst (λ r. rank.slot ≡ r.slot) one refl))
       rest (inr c) = c
 
       by : ((v.kind ≡ kind) × (place_of v.target ≡ place)) ⊎ (less v.kind (place_of v.target) ≡ more v.kind (place_of v.target)) → Contains (less v.kind (place_of v.target)) (rank_of q v)
@@ -223,27 +226,47 @@ module _ (old new : Entries) (less more : Ranking) (is : IsIndex old more) (kind
           (rest (contains_cases rank (less kind place) (rank_of q v) (Contains-permutation _ _ (rank_of q v) (IsPermutation-sym _ _ added) (moved_here more kind v.kind place (place_of v.target) (rank_of q v) at.0 at.1 there))))
       by (inr same) = subst (λ xs. Contains xs (rank_of q v)) (sym same) there
 
-  gone_distinct : (k : Kind) (p : ℕ) → IsDistinct nat_eq (map number_of (less k p))
+  gone_distinct : (k : Kind) (p : ℕ) → IsDistinct nat_eq (map slot_of (less k p))
   gone_distinct k p = by (others k p)
     where
-      by : ((k ≡ kind) × (p ≡ place)) ⊎ (less k p ≡ more k p) → IsDistinct nat_eq (map number_of (less k p))
-      by (inl at) = distinct_at less kind k place p at.0 at.1 (IsDistinct-tail nat_eq rank.number (map number_of (less kind place)) numbers)
-      by (inr same) = subst (λ xs. IsDistinct nat_eq (map number_of xs)) (sym same) (is.distinct k p)
+      by : ((k ≡ kind) × (p ≡ place)) ⊎ (less k p ≡ more k p) → IsDistinct nat_eq (map slot_of (less k p))
+      by (inl at) = distinct_at less kind k place p at.0 at.1 (IsDistinct-tail nat_eq rank.slot (map slot_of (less kind place)) slots)
+      by (inr same) = subst (λ xs. IsDistinct nat_eq (map slot_of xs)) (sym same) (is.distinct k p)
 
   pub taken_index : IsIndex new less
   taken_index = record {
     sound = gone_sound;
     complete = gone_complete;
     distinct = gone_distinct;
-    named = λ q v e. is.named q v (was_entry q v e);
+    targets = λ q v e. is.targets q v (was_entry q v e);
+    apart = λ p q v u e f. is.apart p q v u (was_entry p v e) (was_entry q u f);
   }
 
 -- ---- the same tasks
 
 pub same_index : (old new : Entries) (ranks : Ranking) → IsIndex old ranks → ((q : ℕ) → new q ≡ old q) → IsIndex new ranks
 same_index old new ranks is same = record {
-  sound = λ kind place rank c. subst (IsEntryAt kind place rank) (sym (same rank.number)) (is.sound kind place rank c);
+  sound = λ kind place rank c. subst (IsEntryAt kind place rank) (sym (same rank.slot)) (is.sound kind place rank c);
   complete = λ q v e. is.complete q v (sym (same q) ∙ e);
   distinct = is.distinct;
-  named = λ q v e. is.named q v (sym (same q) ∙ e);
+  targets = λ q v e. is.targets q v (sym (same q) ∙ e);
+  apart = λ p q v u e f. is.apart p q v u (sym (same p) ∙ e) (sym (same q) ∙ f);
 }
+
+-- ---- no tasks
+
+distinct_none : IsDistinct nat_eq []
+unfolding IsDistinct
+distinct_none = tt
+
+pub empty_index : (entry : Entries) (ranks : Ranking) → ((slot : ℕ) → entry slot ≡ None) → ((kind : Kind) (place : ℕ) → ranks kind place ≡ []) → IsIndex entry ranks
+empty_index entry ranks none empty = record {
+  sound = λ kind place rank c. absurd (contains_none rank (subst (λ xs. Contains xs rank) (empty kind place) c));
+  complete = λ slot w e. absurd (nothing slot w e);
+  distinct = λ kind place. subst (λ xs. IsDistinct nat_eq (map slot_of xs)) (sym (empty kind place)) distinct_none;
+  targets = λ slot w e. absurd (nothing slot w e);
+  apart = λ p q v w e f i. absurd (nothing p v e);
+}
+  where
+    nothing : (slot : ℕ) (w : Waiting) → entry slot ≡ Some w → ⊥
+    nothing slot w e = let n = none slot in cc

@@ -1,3 +1,4 @@
+pub mod Kept
 pub mod Bests
 pub mod Members
 pub mod Order

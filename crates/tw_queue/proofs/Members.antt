@@ -25,9 +25,9 @@ module _ {X : Type 0} where
   all_at P (x ∷ xs) y all c = elim (contains_cases x xs y c) [ inl e ↦ subst P e all.0 | inr rest ↦ all_at P xs y all.1 rest ]
 
 module _ {X Y : Type 0} where
-  pub all_numbers : (P : Y → Type 0) (f : X → Y) (xs : List X) → ((x : X) → Contains xs x → P (f x)) → AllByRecursion P (map f xs)
-  all_numbers P f [] h = tt
-  all_numbers P f (x ∷ xs) h = (h x (contains_here x xs), all_numbers P f xs (λ y c. h y (contains_later x xs y c)))
+  pub all_mapped : (P : Y → Type 0) (f : X → Y) (xs : List X) → ((x : X) → Contains xs x → P (f x)) → AllByRecursion P (map f xs)
+  all_mapped P f [] h = tt
+  all_mapped P f (x ∷ xs) h = (h x (contains_here x xs), all_mapped P f xs (λ y c. h y (contains_later x xs y c)))
 
   pub mapped_has : (f : X → Y) (xs : List X) (x : X) → Contains xs x → Contains (map f xs) (f x)
   mapped_has f [] x c = absurd (contains_none x c)

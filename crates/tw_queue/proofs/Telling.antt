@@ -3,7 +3,8 @@ use Rattle.std.proofs.Common.{◌≡◌, ◌⊎◌, inl, inr, ℕ, Bool, true, f
 use Rattle.std.specs.declared.option.Option.{Option}
 use Rattle.std.specs.declared.option.Option.TheVariants.{None, Some}
 use Rattle.std.specs.List.{Contains}
-use Rattle.std.specs.FinMap.{get}
+use Rattle.std.specs.declared.cmp.Ordering.{Ordering}
+use Rattle.std.specs.declared.cmp.Ordering.TheVariants.{Less, Equal, Greater}
 use Rattle.std.specs.Ordering.{is_lt, int_cmp, nat_cmp, ordering_then}
 use Rattle.tw_types.specs.declared.actor.Actor.{Actor}
 use Rattle.tw_types.specs.declared.actor.Actor.TheVariants.{Engine, Server, Worker}
@@ -13,7 +14,7 @@ use Rattle.tw_types.specs.Actor.{may_take, number_in_kind}
 use Rattle.tw_types.specs.Task.{TaskOf, TasksOf, best, is_eligible, is_for}
 use Rattle.tw_rights.specs.declared.arg.Arg.{Arg}
 use Rattle.tw_queue.specs.declared.rank.Rank.{Rank}
-use Rattle.tw_queue.specs.declared.queues.Waiting.{Waiting}
+use Rattle.tw_queue.specs.declared.waiting.Waiting.{Waiting}
 use Rattle.tw_queue.specs.Ranks.{rank_cmp}
 use Rattle.tw_queue.specs.Lists.{place_of, IsBest, IsOwnPlace}
 use Rattle.tw_queue.specs.Queues.{IsTarget, handed_out}
@@ -23,12 +24,13 @@ use Rattle.tw_queue.proofs.Bests.{IsAhead, best_is, best_none}
 use Rattle.tw_queue.proofs.Heaps.{left_true, right_true}
 use Rattle.tw_queue.proofs.Members.{all_at, contains_none}
 use Rattle.tw_queue.proofs.Indexing.{Entries, nat_itself, nat_same}
+use Rattle.tw_queue.proofs.Entries.{AreSeen, Stands}
 
 -- the entry of the best rank is the best task's
 pub record Tells (actor : Actor) (entry : Entries) (tasks : TasksOf Arg) (rank : Rank) : Type 0 where
   pub waiting : Waiting
-  pub there : entry rank.number ≡ Some waiting
-  pub best_is : best actor tasks ≡ Some (rank.number, task_in waiting)
+  pub there : entry rank.slot ≡ Some waiting
+  pub best_is : best actor tasks ≡ Some (waiting.task.no, task_in waiting)
 
 for_itself : (target : Option ℕ) (number place : ℕ) → IsTarget target → place_of target ≡ place → IsOwnPlace number place → is_for target number ≡ true
 for_itself None number place few at own = refl
@@ -39,11 +41,15 @@ own_place : (target : Option ℕ) (number : ℕ) → is_for target number ≡ tr
 own_place None number e = inl refl
 own_place (Some t) number e = inr (nat_same t number e)
 
-module _ (entry : Entries) (ranks : Ranking) (is : IsIndex entry ranks) (tasks : TasksOf Arg) (seen : (q : ℕ) → get tasks q ≡ option_map task_in (entry q)) where
-  seen_entry : (q : ℕ) (other : TaskOf Arg) (o : Option Waiting) → entry q ≡ o → option_map task_in o ≡ Some other → (v : Waiting) × (entry q ≡ Some v) × (task_in v ≡ other)
-  seen_entry q other None e h = cc
-  seen_entry q other (Some v) e h = (v, e, cc)
+-- what the slots decide last
+but_for_slots : (o p q : Ordering) → is_lt (ordering_then o (ordering_then p q)) ≡ false → is_lt (ordering_then o p) ≡ false
+but_for_slots Less p q e = e
+but_for_slots Equal Less q e = e
+but_for_slots Equal Equal q e = refl
+but_for_slots Equal Greater q e = refl
+but_for_slots Greater p q e = refl
 
+module _ (entry : Entries) (ranks : Ranking) (is : IsIndex entry ranks) (tasks : TasksOf Arg) (seen : AreSeen entry tasks) where
   module _ (actor : Actor) (kind : Kind) (number : ℕ) (own : (k : Kind) → may_take actor k ≡ true → k ≡ kind) (may : may_take actor kind ≡ true) (is_number : number_in_kind actor ≡ number) where
     -- the rank of each task that the actor may take is one of those
     candidate : (q : ℕ) (v : Waiting) → entry q ≡ Some v → is_eligible actor (task_in v) ≡ true → Contains (ranks kind 16) (rank_of q v) ⊎ Contains (ranks kind number) (rank_of q v)
@@ -57,42 +63,45 @@ module _ (entry : Entries) (ranks : Ranking) (is : IsIndex entry ranks) (tasks :
         by (inr same) = inr (subst (λ p. Contains (ranks kind p) (rank_of q v)) same there)
 
     none_eligible : IsBest number (ranks kind) None → best actor tasks ≡ None
-    none_eligible empty = best_none actor tasks (λ q other e. by q other (is_eligible actor other) refl (seen_entry q other (entry q) refl (sym (seen q) ∙ e)))
+    none_eligible empty = best_none actor tasks (λ q other e. by q other (is_eligible actor other) refl (seen.found q other e))
       where
         nobody : (q : ℕ) (v : Waiting) → Contains (ranks kind 16) (rank_of q v) ⊎ Contains (ranks kind number) (rank_of q v) → ⊥
         nobody q v (inl c) = contains_none (rank_of q v) (subst (λ xs. Contains xs (rank_of q v)) empty.0 c)
         nobody q v (inr c) = contains_none (rank_of q v) (subst (λ xs. Contains xs (rank_of q v)) empty.1 c)
 
-        by : (q : ℕ) (other : TaskOf Arg) (b : Bool) → is_eligible actor other ≡ b → (v : Waiting) × (entry q ≡ Some v) × (task_in v ≡ other) → is_eligible actor other ≡ false
+        by : (q : ℕ) (other : TaskOf Arg) (b : Bool) → is_eligible actor other ≡ b → (s : Stands q entry) × (task_in s.waiting ≡ other) → is_eligible actor other ≡ false
         by q other false e found = e
-        by q other true e found = absurd (nobody q found.0 (candidate q found.0 found.1 (ap (is_eligible actor) found.2 ∙ e)))
+        by q other true e found = absurd (nobody found.0.slot found.0.waiting (candidate found.0.slot found.0.waiting found.0.there (ap (is_eligible actor) found.1 ∙ e)))
 
     tells : (rank : Rank) → IsBest number (ranks kind) (Some rank) → Tells actor entry tasks rank
-    tells rank first = by (entry rank.number) refl (is.sound kind first.0 rank first.2)
+    tells rank first = by (entry rank.slot) refl (is.sound kind first.0 rank first.2)
       where
         behind : (v : Waiting) (q : ℕ) → Contains (ranks kind 16) (rank_of q v) ⊎ Contains (ranks kind number) (rank_of q v) → is_lt (rank_cmp rank (rank_of q v)) ≡ false
         behind v q (inl c) = all_at (λ y. is_lt (rank_cmp rank y) ≡ false) (ranks kind 16) (rank_of q v) first.3.0 c
         behind v q (inr c) = all_at (λ y. is_lt (rank_cmp rank y) ≡ false) (ranks kind number) (rank_of q v) first.3.1 c
 
-        ahead : (w : Waiting) → w.priority ≡ rank.priority → (q : ℕ) (other : TaskOf Arg) → is_eligible actor other ≡ true → (v : Waiting) × (entry q ≡ Some v) × (task_in v ≡ other) → IsAhead (rank.number, task_in w) (q, other)
-        ahead w same q other eligible found =
-            let v = found.0 in
-            let low = behind v q (candidate q v found.1 (ap (is_eligible actor) found.2 ∙ eligible)) in
-            subst (λ t. is_lt (ordering_then (int_cmp w.priority t.priority) (nat_cmp q rank.number)) ≡ false) found.2
-            (subst (λ p. is_lt (ordering_then (int_cmp p v.priority) (nat_cmp q rank.number)) ≡ false) (sym same) low)
+        ahead : (w : Waiting) → w.priority ≡ rank.priority → w.task.no ≡ rank.number → (q : ℕ) (other : TaskOf Arg) → is_eligible actor other ≡ true → (s : Stands q entry) × (task_in s.waiting ≡ other) → IsAhead (w.task.no, task_in w) (q, other)
+        ahead w same named q other eligible found =
+            let v = found.0.waiting in
+            let low = behind v found.0.slot (candidate found.0.slot v found.0.there (ap (is_eligible actor) found.1 ∙ eligible)) in
+            let low_number : is_lt (ordering_then (int_cmp rank.priority v.priority) (nat_cmp v.task.no rank.number)) ≡ false = but_for_slots (int_cmp rank.priority v.priority) (nat_cmp v.task.no rank.number) (nat_cmp found.0.slot rank.slot) low in
+            subst (λ t. is_lt (ordering_then (int_cmp w.priority t.priority) (nat_cmp q w.task.no)) ≡ false) found.1
+            (subst (λ n. is_lt (ordering_then (int_cmp w.priority v.priority) (nat_cmp n w.task.no)) ≡ false) found.0.number_is
+            (subst (λ n. is_lt (ordering_then (int_cmp w.priority v.priority) (nat_cmp v.task.no n)) ≡ false) (sym named)
+            (subst (λ p. is_lt (ordering_then (int_cmp p v.priority) (nat_cmp v.task.no rank.number)) ≡ false) (sym same) low_number)))
 
-        by : (o : Option Waiting) → entry rank.number ≡ o → IsEntryAt kind first.0 rank o → Tells actor entry tasks rank
+        by : (o : Option Waiting) → entry rank.slot ≡ o → IsEntryAt kind first.0 rank o → Tells actor entry tasks rank
         by None e at = absurd at
         by (Some w) e at =
-            let target = (is.named rank.number w e).1 in
+            let target = is.targets rank.slot w e in
             let for_it : is_for w.target (number_in_kind actor) ≡ true = subst (λ n. is_for w.target n ≡ true) (sym is_number) (for_itself w.target number first.0 target at.1 first.1) in
             let may_it : may_take actor w.kind ≡ true = subst (λ k. may_take actor k ≡ true) (sym at.0) may in
             let eligible : is_eligible actor (task_in w) ≡ true = rw (may_it, for_it) refl in
             record {
               waiting = w;
               there = e;
-              best_is = best_is actor tasks (rank.number, task_in w) (seen rank.number ∙ ap (option_map task_in) e) eligible
-                  (λ q other f may_q. ahead w at.2 q other may_q (seen_entry q other (entry q) refl (sym (seen q) ∙ f)));
+              best_is = best_is actor tasks (w.task.no, task_in w) (seen.here rank.slot w e) eligible
+                  (λ q other f may_q. ahead w at.2 at.3 q other may_q (seen.found q other f));
             }
 
   engine_takes : (number : ℕ) (k : Kind) → may_take (Engine number) k ≡ true → k ≡ Control
@@ -124,10 +133,7 @@ module _ (entry : Entries) (ranks : Ranking) (is : IsIndex entry ranks) (tasks :
 
 -- ---- what is handed out
 
-handed : (w : Waiting) (number : ℕ) → w.task.no ≡ number → handed_out (number, task_in w) ≡ w.task
-handed w number e = subst (λ n. handed_out (n, task_in w) ≡ w.task) e refl
-
 -- the task of the best rank is handed out
-pub handed_best : (entry : Entries) (ranks : Ranking) (tasks : TasksOf Arg) (actor : Actor) (rank : Rank) → IsIndex entry ranks → (t : Tells actor entry tasks rank)
+pub handed_best : (entry : Entries) (tasks : TasksOf Arg) (actor : Actor) (rank : Rank) → (t : Tells actor entry tasks rank)
     → option_map handed_out (best actor tasks) ≡ Some t.waiting.task
-handed_best entry ranks tasks actor rank is t = ap (option_map handed_out) t.best_is ∙ ap Some (handed t.waiting rank.number (is.named rank.number t.waiting t.there).0)
+handed_best entry tasks actor rank t = ap (option_map handed_out) t.best_is

@@ -1,41 +1,49 @@
 -- How the ranks are an index of the tasks.
-use Rattle.std.specs.Prelude.{◌≡◌, ℕ, List, map, Option, Some, None, nat_eq}
+use Rattle.std.specs.Prelude.{◌≡◌, ℕ, List, [], ◌∷◌, map, Option, Some, None, nat_eq}
 use Rattle.std.specs.List.{Contains, IsDistinct}
 use Rattle.std.specs.FinMap.{from_entries}
-use Rattle.std.specs.Map.{lookup}
 use Rattle.tw_types.specs.declared.actor.Kind.{Kind}
 use Rattle.tw_types.specs.Task.{TaskOf, TasksOf}
 use Rattle.tw_rights.specs.declared.arg.Arg.{Arg}
 use Rattle.tw_queue.specs.declared.rank.Rank.{Rank}
-use Rattle.tw_queue.specs.declared.queues.Waiting.{Waiting}
+use Rattle.tw_queue.specs.declared.waiting.Waiting.{Waiting}
 use Rattle.tw_queue.specs.Index.{Ranking}
 use Rattle.tw_queue.specs.Lists.{place_of}
 use Rattle.tw_queue.specs.Queues.{IsTarget, waiting}
 
--- the task that an entry keeps
+-- a task as it waits in a slot
 abbrev pub task_in : Waiting → TaskOf Arg
 task_in w = waiting w.kind w.priority w.target w.task
 
-abbrev pub tasks_in : List (ℕ × Waiting) → TasksOf Arg
-tasks_in entries = from_entries (map (λ e. (e.0, task_in e.1)) entries)
+-- the tasks in the slots, with their numbers
+abbrev pub numbered : List (Option Waiting) → List (ℕ × TaskOf Arg)
+numbered [] = []
+numbered (None ∷ slots) = numbered slots
+numbered (Some w ∷ slots) = (w.task.no, task_in w) ∷ numbered slots
 
--- the entry of a number
-abbrev pub entry_of : List (ℕ × Waiting) → ℕ → Option Waiting
-entry_of entries number = lookup (nat_eq number) entries
+abbrev pub tasks_in : List (Option Waiting) → TasksOf Arg
+tasks_in slots = from_entries (numbered slots)
 
+-- the rank of the task in a slot
 abbrev pub rank_of : ℕ → Waiting → Rank
-rank_of number w = record { priority = w.priority; number = number }
+rank_of slot w = record { priority = w.priority; number = w.task.no; slot = slot }
 
--- the entry of the rank's number has this kind, this place and its priority
+-- the task in the rank's slot has this kind, this place, and its priority and number
 abbrev pub IsEntryAt : Kind → ℕ → Rank → Option Waiting → Type 0
 IsEntryAt kind place rank None = ⊥
-IsEntryAt kind place rank (Some w) = (w.kind ≡ kind) × (place_of w.target ≡ place) × (w.priority ≡ rank.priority)
+IsEntryAt kind place rank (Some w) =
+    (w.kind ≡ kind) × (place_of w.target ≡ place) × (w.priority ≡ rank.priority) × (w.task.no ≡ rank.number)
 
--- each rank is that of an entry, each entry has its rank, and no number stands twice
+-- no number stands in two slots
+abbrev pub AreApart : (ℕ → Option Waiting) → Type 0
+AreApart entry = (p q : ℕ) (v w : Waiting) → entry p ≡ Some v → entry q ≡ Some w → v.task.no ≡ w.task.no → p ≡ q
+
+-- each rank is that of the task in its slot, each task has its rank, and no slot and no number stands twice
 pub record IsIndex (entry : ℕ → Option Waiting) (ranks : Ranking) : Type 0 where
   pub sound : (kind : Kind) (place : ℕ) (rank : Rank) → Contains (ranks kind place) rank
-      → IsEntryAt kind place rank (entry rank.number)
-  pub complete : (number : ℕ) (w : Waiting) → entry number ≡ Some w
-      → Contains (ranks w.kind (place_of w.target)) (rank_of number w)
-  pub distinct : (kind : Kind) (place : ℕ) → IsDistinct nat_eq (map (λ rank. rank.number) (ranks kind place))
-  pub named : (number : ℕ) (w : Waiting) → entry number ≡ Some w → (w.task.no ≡ number) × IsTarget w.target
+      → IsEntryAt kind place rank (entry rank.slot)
+  pub complete : (slot : ℕ) (w : Waiting) → entry slot ≡ Some w
+      → Contains (ranks w.kind (place_of w.target)) (rank_of slot w)
+  pub distinct : (kind : Kind) (place : ℕ) → IsDistinct nat_eq (map (λ rank. rank.slot) (ranks kind place))
+  pub targets : (slot : ℕ) (w : Waiting) → entry slot ≡ Some w → IsTarget w.target
+  pub apart : AreApart entry

@@ -2,6 +2,7 @@
 -- in the words of tw_types: Task. The other files are for the clauses and the invariant inside.
 pub mod Ranks
 pub mod Lists
+pub mod Slots
 pub mod Queues
 pub mod Index
 pub mod Indexed

@@ -3,6 +3,8 @@ use Rattle.std.specs.declared.cmp.Ordering.{Ordering}
 use Rattle.std.specs.Ordering.{int_cmp, nat_cmp, then_cmp, on, flip_args}
 use Rattle.tw_queue.specs.declared.rank.Rank.{Rank}
 
--- the greater one goes first: that of the greater priority, then that of the lower number
+-- the greater one goes first: that of the greater priority, then that of the lower number; the slot comes last
 abbrev pub rank_cmp : Rank → Rank → Ordering
-rank_cmp = then_cmp (on (λ rank. rank.priority) int_cmp) (flip_args (on (λ rank. rank.number) nat_cmp))
+rank_cmp = then_cmp
+    (on (λ rank. rank.priority) int_cmp)
+    (then_cmp (flip_args (on (λ rank. rank.number) nat_cmp)) (flip_args (on (λ rank. rank.slot) nat_cmp)))

@@ -5,7 +5,9 @@ mod index;
 mod lists;
 mod queues;
 mod rank;
+mod slots;
 mod task;
+mod waiting;
 
 pub use queues::TaskQueues;
 pub use task::Task;

@@ -1,39 +1,30 @@
 //! The queues.
 
-ghost use Rattle.std.specs.Prelude.{◌≡◌, ◌<◌, [], IsOk, IsSome, IfOk, IfErr, MatchOption, OnOk, OnErr, None, true, option_map};
+ghost use Rattle.std.specs.Prelude.{◌≡◌, IsOk, IfOk, IfErr, OnOk, OnErr, None, true, option_map};
 ghost use Rattle.std.specs.FinMap as map;
 ghost use Rattle.std.specs.FinMap.{get};
 ghost use Rattle.std.specs.Option.{option_copied};
 ghost use Rattle.tw_types.specs.Task.{best};
 ghost use Rattle.tw_types.specs.declared.actor.Kind.{Kind};
-ghost use Rattle.tw_queue.specs.Indexed.{entry_of};
 ghost use Rattle.tw_queue.specs.Queues.{IsTarget, handed_out, room_for, waiting, without};
 
 use crate::index::Index;
 use crate::rank::Rank;
+use crate::slots::Slots;
 use crate::task::Task;
+use crate::waiting::Waiting;
 use std::alloc::{AllocError, Global};
-use std::collections::HashMap;
 use std::marker::Model;
 use tw_types::{Actor, Kind};
 
-/// A task that waits, and what it waits by.
-pub struct Waiting {
-    kind: Kind,
-    priority: i64,
-    target: Option<u8>,
-    task: Task,
-}
-
-/// The tasks that wait, by their numbers, and an index of them by kind, target and rank.
+/// The tasks that wait, each in a slot, and an index of them by kind, target and rank.
 pub struct TaskQueues {
-    tasks: HashMap<u64, Waiting>,
+    tasks: Slots,
     index: Index,
 }
 
 impl Model for TaskQueues {
-    ghost use Rattle.std.specs.Prelude.{◌&&◌, nat_lt};
-    ghost use Rattle.std.specs.HashMap.{spare};
+    ghost use Rattle.std.specs.Prelude.{◌&&◌};
     ghost use Rattle.tw_queue.specs.Queues.{Queues};
     ghost use Rattle.std.specs.Coded.{codes, coded_ℕ};
     ghost use Rattle.std.specs.FinMap.{code};
@@ -46,15 +37,16 @@ impl Model for TaskQueues {
     ghost coded = { Prim.hlevel (codes, code {X = TaskOf Arg} {R = nat_cmp} coded_ℕ (Prim.hlevel codes)) };
 
     ghost use Rattle.tw_queue.specs.Index.{ranks_of};
-    ghost use Rattle.tw_queue.specs.Indexed.{tasks_in, entry_of, IsIndex};
+    ghost use Rattle.tw_queue.specs.Slots.{slot_at};
+    ghost use Rattle.tw_queue.specs.Indexed.{tasks_in, IsIndex};
 
     ghost view = { λ q. record {
-      tasks = tasks_in q.tasks.entries;
-      control_room = nat_lt 0 (spare q.tasks) && q.index.control.has_room;
-      leaf_room = nat_lt 0 (spare q.tasks) && q.index.leaf.has_room;
+      tasks = tasks_in q.tasks.slots;
+      control_room = q.tasks.has_room && q.index.control.has_room;
+      leaf_room = q.tasks.has_room && q.index.leaf.has_room;
     } };
 
-    ghost invariant = { λ q. IsIndex (entry_of q.tasks.entries) (ranks_of q.index) };
+    ghost invariant = { λ q. IsIndex (slot_at q.tasks.slots) (ranks_of q.index) };
 }
 
 impl TaskQueues {
@@ -64,7 +56,7 @@ impl TaskQueues {
     {
         let index = Index::new(alloc)?;
         Ok(TaskQueues {
-            tasks: HashMap::new(alloc),
+            tasks: Slots::new(alloc),
             index,
         })
     }
@@ -82,7 +74,7 @@ impl TaskQueues {
         ensures room { OnOk result (room_for kind self.new ≡ true) }
         ensures kept { (other : Kind) → room_for other self.old ≡ true → room_for other self.new ≡ true }
     {
-        self.tasks.reserve(1)?;
+        self.tasks.reserve()?;
         self.index.reserve(kind)
     }
 
@@ -102,24 +94,25 @@ impl TaskQueues {
         ensures reserved { room_for kind self.old ≡ true → IsOk result }
     {
         let number = task.no.number();
-        if self.tasks.reserve(1).is_err() {
+        let Ok(()) = self.tasks.reserve() else {
             return Err(task);
-        }
-        let rank = Rank { priority, number };
+        };
+        let slot = self.tasks.next();
+        let rank = Rank {
+            priority,
+            number,
+            slot,
+        };
         let Ok(()) = self.index.push(kind, target, rank) else {
             return Err(task);
         };
-        let waiting = Waiting {
+        self.tasks.fill(Waiting {
             kind,
             priority,
             target,
             task,
-        };
-        match self.tasks.insert(number, waiting) {
-            Ok(None) => Ok(()),
-            Ok(Some(_old)) => unreachable!(),
-            Err(_refused) => unreachable!(),
-        }
+        });
+        Ok(())
     }
 
     /// The task that the actor takes next, if there is one.
@@ -127,7 +120,7 @@ impl TaskQueues {
         ensures { option_copied result ≡ option_map handed_out (best actor self.now.tasks) }
     {
         let rank = self.index.best(actor)?;
-        let Some(waiting) = self.tasks.get(&rank.number) else {
+        let Some(waiting) = self.tasks.get(rank.slot) else {
             unreachable!();
         };
         Some(&waiting.task)
@@ -140,52 +133,18 @@ impl TaskQueues {
         ensures room { (kind : Kind) → room_for kind self.old ≡ true → room_for kind self.new ≡ true }
     {
         let rank = self.index.take(actor)?;
-        let Some(waiting) = self.tasks.remove(&rank.number) else {
-            unreachable!();
-        };
         let Waiting {
             kind: _,
             priority: _,
             target: _,
             task,
-        } = waiting;
+        } = self.tasks.take(rank.slot);
         Some(task)
     }
 
     /// Spends every right of every task.
     pub fn shut(self) {
-        let TaskQueues {
-            mut tasks,
-            index: _,
-        } = self;
-        while let Some(number) = first_number(&tasks) {
-            let Some(waiting) = tasks.remove(&number) else {
-                unreachable!();
-            };
-            spend(waiting);
-        }
-        tasks.destroy_empty();
+        let TaskQueues { tasks, index: _ } = self;
+        tasks.shut();
     }
-}
-
-/// A number that is there, if there is one.
-fn first_number(tasks: &HashMap<u64, Waiting>) -> Option<u64>
-    ensures { MatchOption result (tasks.now.entries ≡ []) (λ number. IsSome (entry_of tasks.now.entries number)) }
-{
-    tasks.keys().next().copied()
-}
-
-fn spend(waiting: Waiting) {
-    let Waiting {
-        kind: _,
-        priority: _,
-        target: _,
-        task,
-    } = waiting;
-    let Task {
-        no: _,
-        procedure: _,
-        args,
-    } = task;
-    args.shut();
 }

@@ -2,11 +2,13 @@
 
 use std::cmp::Ordering;
 
-/// The greater rank goes first: that of the greater priority, then that of the lower number.
+/// The greater rank goes first: that of the greater priority, then that of the lower number. The slot is where the task
+/// waits. It decides between no two tasks, since their numbers differ.
 #[derive(Clone, Copy, PartialEq, Eq)]
 pub struct Rank {
     pub priority: i64,
     pub number: u64,
+    pub slot: usize,
 }
 
 impl Ord for Rank {
@@ -23,9 +25,9 @@ impl Ord for Rank {
     ghost matches_eq = { Prim.search (comparing, rules) };
 
     fn cmp(&self, other: &Rank) -> Ordering {
-        self.priority
-            .cmp(&other.priority)
-            .then(other.number.cmp(&self.number))
+        let by_slot = other.slot.cmp(&self.slot);
+        let by_number = other.number.cmp(&self.number).then(by_slot);
+        self.priority.cmp(&other.priority).then(by_number)
     }
 }
 
@@ -38,7 +40,7 @@ impl PartialOrd for Rank {
 
     ghost partial_cmp = { as_partial_cmp rank_cmp };
 
-    ghost laws = { partial_order_from_own_ties (Prim.search (comparing, rules)) (Prim.search (comparing, rules)) };
+    ghost laws = { partial_order_from_own_ties (Prim.search (comparing, rules) depth 9) (Prim.search (comparing, rules) depth 9) };
 
     fn partial_cmp(&self, other: &Rank) -> Option<Ordering> {
         Some(self.cmp(other))

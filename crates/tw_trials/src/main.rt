@@ -15,6 +15,7 @@ mod parts;
 mod puts;
 mod random;
 mod refused;
+mod refused_puts;
 mod same;
 mod search;
 mod walks;
@@ -66,6 +67,12 @@ fn store_trials(rt: &HostRuntime) -> io::Result<()> {
 }
 
 fn queue_trials(rt: &HostRuntime) -> io::Result<()> {
+    let refused = refused_puts::refusals_change_nothing(rt.alloc());
+    tell(
+        rt,
+        "200 puts, where memory may be refused, and takes",
+        refused,
+    )?;
     let order = whole(order::best_goes_first(rt.alloc()));
     tell(rt, "the order in which tasks are taken", order)?;
     let puts = puts::puts_and_takes_are_the_searchs(rt.alloc());

@@ -18,6 +18,17 @@ pub enum Taken {
     Strange,
 }
 
+/// What a put comes to.
+#[derive(Clone, Copy, PartialEq, Eq)]
+pub enum Put {
+    /// The task of this number waits.
+    Done(u64),
+    /// Memory is refused, and the task has come back as it was.
+    Refused,
+    /// A task has come back that isn't as it was, or there is no number left.
+    Strange,
+}
+
 /// The queues, and the number of the next task, which is greater than that of each task.
 pub struct Numbered {
     queues: TaskQueues,
@@ -35,29 +46,44 @@ impl Numbered {
         self.queues.len()
     }
 
-    /// Puts the next task. Its number, or none where memory or numbers run out.
-    pub fn put(&mut self, kind: Kind, priority: i64, target: Option<u8>) -> Option<u64>
+    /// Makes room for one task of a kind.
+    pub fn reserve(&mut self, kind: Kind) -> Result<(), AllocError> {
+        self.queues.reserve(kind)
+    }
+
+    /// Puts the next task.
+    pub fn put(&mut self, kind: Kind, priority: i64, target: Option<u8>) -> Put
         requires { IsTarget target }
     {
         let number = self.next;
         if number == u64::MAX {
-            return None;
+            return Put::Strange;
         }
         match self.queues.put(kind, priority, target, task_of(number)) {
             Ok(()) => {
                 self.next = number + 1;
-                Some(number)
+                Put::Done(number)
             }
             Err(task) => {
+                let back = seen(Some(&task));
                 spend(task);
-                None
+                if back == Taken::Task(number) {
+                    Put::Refused
+                } else {
+                    Put::Strange
+                }
             }
         }
     }
 
+    /// What the actor takes next.
+    pub fn best(&self, actor: Actor) -> Taken {
+        seen(self.queues.best(actor))
+    }
+
     /// What the actor takes, if `best` says the same before.
     pub fn take(&mut self, actor: Actor) -> Taken {
-        let best = seen(self.queues.best(actor));
+        let best = self.best(actor);
         let task = self.queues.take(actor);
         let taken = seen(task.as_ref());
         if let Some(task) = task {

@@ -1,6 +1,6 @@
 //! The order in which actors take three tasks.
 
-use crate::numbered::{Numbered, Taken};
+use crate::numbered::{Numbered, Put, Taken};
 use std::alloc::Global;
 use tw_types::{Actor, Kind};
 
@@ -29,9 +29,9 @@ const SECOND: Takes = [
 /// Puts task 1 of priority 5 and task 2 of priority 9, for any actor, and task 3 of priority 5 for actor 1; whether
 /// that went.
 fn has_three(queues: &mut Numbered, kind: Kind) -> bool {
-    queues.put(kind, 5, None) == Some(1)
-        && queues.put(kind, 9, None) == Some(2)
-        && queues.put(kind, 5, Some(1)) == Some(3)
+    queues.put(kind, 5, None) == Put::Done(1)
+        && queues.put(kind, 9, None) == Put::Done(2)
+        && queues.put(kind, 5, Some(1)) == Put::Done(3)
         && queues.len() == 3
 }
 

@@ -2,18 +2,18 @@
 
 ghost use Rattle.tw_queue.specs.Queues.{IsTarget};
 
-use crate::numbered::{Numbered, Taken};
+use crate::numbered::{Numbered, Put, Taken};
 use crate::random::draw;
 use std::alloc::Global;
 use tw_types::{Actor, Kind};
 
 /// A task that waits.
 #[derive(Clone, Copy)]
-struct Plain {
-    number: u64,
-    kind: Kind,
-    priority: i64,
-    target: Option<u8>,
+pub struct Plain {
+    pub number: u64,
+    pub kind: Kind,
+    pub priority: i64,
+    pub target: Option<u8>,
 }
 
 impl Plain {
@@ -33,7 +33,7 @@ impl Plain {
 }
 
 /// Of the tasks that the actor may take the one that goes before the others, with its place.
-fn first_of(plains: &[Plain], actor: Actor) -> Option<(usize, Plain)> {
+pub fn first_of(plains: &[Plain], actor: Actor) -> Option<(usize, Plain)> {
     let mut first: Option<(usize, Plain)> = None;
     for (place, plain) in plains.iter().enumerate() {
         if plain.may_be_taken(actor) && first.is_none_or(|(_, other)| plain.goes_before(other)) {
@@ -44,7 +44,7 @@ fn first_of(plains: &[Plain], actor: Actor) -> Option<(usize, Plain)> {
 }
 
 /// Takes it out of the list.
-fn taken_of(plains: &mut Vec<Plain>, actor: Actor) -> Taken {
+pub fn taken_of(plains: &mut Vec<Plain>, actor: Actor) -> Taken {
     match first_of(plains, actor) {
         None => Taken::Nothing,
         Some((place, plain)) if place < plains.len() => {
@@ -77,7 +77,7 @@ fn put_agrees(queues: &mut Numbered, plains: &mut Vec<Plain>, seed: &mut u64) ->
     };
     let target = target_of(seed);
     match queues.put(kind, priority, target) {
-        Some(number) => {
+        Put::Done(number) => {
             let plain = Plain {
                 number,
                 kind,
@@ -86,7 +86,7 @@ fn put_agrees(queues: &mut Numbered, plains: &mut Vec<Plain>, seed: &mut u64) ->
             };
             plains.push(plain).is_ok()
         }
-        None => false,
+        Put::Refused | Put::Strange => false,
     }
 }
 

@@ -1,0 +1,30 @@
+//! Tasks as they wait.
+
+use crate::task::Task;
+use tw_types::Kind;
+
+/// A task that waits, and what it waits by.
+pub struct Waiting {
+    pub kind: Kind,
+    pub priority: i64,
+    pub target: Option<u8>,
+    pub task: Task,
+}
+
+impl Waiting {
+    /// Spends every right of the task.
+    pub fn spend(self) {
+        let Waiting {
+            kind: _,
+            priority: _,
+            target: _,
+            task,
+        } = self;
+        let Task {
+            no: _,
+            procedure: _,
+            args,
+        } = task;
+        args.shut();
+    }
+}
