@@ -1,5 +1,5 @@
 -- The entries of a hash map by numbers, seen as a finite map.
-use Rattle.std.proofs.Common.{◌≡◌, ℕ, ◌+◌, Bool, true, false, cond, List, [], ◌∷◌, refl, sym, ap, ◌∙◌, map, length, nat_eq, nat_lt, is_some, IsSome, option_map, subst, arith}
+use Rattle.std.proofs.Common.{◌≡◌, inl, inr, ℕ, ◌+◌, Bool, true, false, cond, List, [], ◌∷◌, refl, sym, ap, ◌∙◌, map, length, nat_eq, nat_lt, is_some, IsSome, option_map, subst, arith}
 use Rattle.std.specs.declared.cmp.Ordering.{Ordering}
 use Rattle.std.specs.declared.cmp.Ordering.TheVariants.{Less, Equal, Greater}
 use Rattle.std.specs.declared.option.Option.{Option}
@@ -8,13 +8,14 @@ use Rattle.std.specs.Cmp.{nat_cmp_total}
 use Rattle.std.specs.Ordering.{nat_cmp, eq_by_cmp, is_eq}
 use Rattle.std.specs.List.{AllByRecursion, IsDistinct}
 use Rattle.std.specs.List.Sorted.{IsPermutation}
-use Rattle.std.specs.Map.{keys_of, lookup, remove_entry}
+use Rattle.std.specs.Map.{keys_of, lookup}
 use Rattle.std.specs.FinMap.{FinMap, entries, entries-insert, find, get, insert, remove, len, from_entries, get-from_entries, get-insert, get-remove, get-entries, len-empty, len-insert, len-entries, empty, same_map, nat_cmp-IsAntisymmetric}
 use Rattle.std.specs.FinMap.Entries.{put, by_order}
 use Rattle.std.proofs.lemmas.Bool.Decides.{nat_tests}
 use Rattle.std.proofs.lemmas.List.Sorted.{IsPermutation-refl, IsPermutation-sym, IsPermutation-trans, IsPermutation-cons, IsPermutation-middle}
 use Rattle.std.proofs.lemmas.Map.Keys.{IsDistinct-head, IsDistinct-tail}
-use Rattle.tw_rules.proofs.Numbered.{nat_itself, nat_same, nat_apart}
+use Rattle.tw_types.proofs.Totals.{insert_same, insert_other, remove_other, get-remove_same}
+use Rattle.tw_rules.proofs.Numbered.{nat_itself, nat_same, same_or_apart}
 
 nat_flips : (a b : ℕ) → nat_eq a b ≡ nat_eq b a
 nat_flips a b = by (nat_eq a b) (nat_eq b a) refl refl
@@ -117,40 +118,37 @@ module _ {V X : Type 0} (f : V → X) where
       by None e h = cc
       by (Some w) e h = cc
 
-  pub taken_out : (es : List (ℕ × V)) (q : ℕ) (v : V) → entry es q ≡ Some v → IsPermutation es ((q, v) ∷ remove_entry (nat_eq q) es)
-  taken_out [] q v e = cc
-  taken_out (x ∷ es) q v e = by (nat_eq q x.0) refl e (taken_out es q v)
-    where
-      by : (b : Bool) → nat_eq q x.0 ≡ b → cond b (Some x.1) (entry es q) ≡ Some v → (entry es q ≡ Some v → IsPermutation es ((q, v) ∷ remove_entry (nat_eq q) es))
-          → IsPermutation (x ∷ es) ((q, v) ∷ cond b es (x ∷ remove_entry (nat_eq q) es))
-      by true t e rest =
-          let key : q ≡ x.0 = nat_same q x.0 t in
-          let value : x.1 ≡ v = cc in
-          let one : x ≡ (q, v) = λ i. (sym key i, value i) in
-          subst (λ z. IsPermutation (x ∷ es) (z ∷ es)) one (IsPermutation-refl (x ∷ es))
-      by false t e rest =
-          IsPermutation-trans _ _ _ (IsPermutation-cons x _ _ (rest e)) (IsPermutation-middle (x ∷ []) (q, v) (remove_entry (nat_eq q) es))
+-- ---- a finite map without one of its entries
 
+module _ {X : Type 0} where
   -- what a new key puts in stands first in some order
   put_first : (k : ℕ) (v : X) (es : List (ℕ × X)) → find nat_cmp k es ≡ None → IsPermutation ((k, v) ∷ es) (put nat_cmp k v es)
   put_first k v [] e = IsPermutation-refl ((k, v) ∷ [])
-  put_first k v (x ∷ es) e = by (nat_cmp k x.0) refl e (put_first k v es)
+  put_first k v (x ∷ es) e = by (nat_cmp k x.0) e (put_first k v es)
     where
-      by : (o : Ordering) → nat_cmp k x.0 ≡ o → cond (is_eq o) (Some x.1) (find nat_cmp k es) ≡ None → (find nat_cmp k es ≡ None → IsPermutation ((k, v) ∷ es) (put nat_cmp k v es))
+      by : (o : Ordering) → cond (is_eq o) (Some x.1) (find nat_cmp k es) ≡ None → (find nat_cmp k es ≡ None → IsPermutation ((k, v) ∷ es) (put nat_cmp k v es))
           → IsPermutation ((k, v) ∷ x ∷ es) (by_order o ((k, v) ∷ x ∷ es) ((x.0, v) ∷ es) (x ∷ put nat_cmp k v es))
-      by Less t e rest = IsPermutation-refl ((k, v) ∷ x ∷ es)
-      by Equal t e rest = cc
-      by Greater t e rest = IsPermutation-trans _ _ _ (IsPermutation-sym _ _ (IsPermutation-middle (x ∷ []) (k, v) es)) (IsPermutation-cons x _ _ (rest e))
+      by Less e rest = IsPermutation-refl ((k, v) ∷ x ∷ es)
+      by Equal e rest = cc
+      by Greater e rest = IsPermutation-trans _ _ _ (IsPermutation-sym _ _ (IsPermutation-middle (x ∷ []) (k, v) es)) (IsPermutation-cons x _ _ (rest e))
 
-  -- the finite map has the entries, in some order
-  pub seen_entries : (es : List (ℕ × V)) → IsDistinct nat_eq (keys_of es) → IsPermutation (entries (seen es)) (shown es)
-  seen_entries [] h = subst (λ xs. IsPermutation xs []) (sym (no_entries (entries (seen [])) (sym (len-entries (seen [])) ∙ len-empty nat_cmp X))) (IsPermutation-refl [])
-    where
-      no_entries : (xs : List (ℕ × X)) → length xs ≡ 0 → xs ≡ []
-      no_entries [] e = refl
-      no_entries (x ∷ xs) e = absurd (omega arith)
-  seen_entries (e ∷ es) h =
-      let absent : find nat_cmp e.0 (entries (seen es)) ≡ None = sym (get-entries (seen es) e.0) ∙ first_absent e es h in
-      let rest = seen_entries es (IsDistinct-tail nat_eq e.0 (keys_of es) h) in
-      subst (λ xs. IsPermutation xs (shown (e ∷ es))) (sym (entries-insert nat_cmp_total (seen es) e.0 (f e.1)))
-      (IsPermutation-trans _ _ _ (IsPermutation-sym _ _ (put_first e.0 (f e.1) (entries (seen es)) absent)) (IsPermutation-cons (e.0, f e.1) _ _ rest))
+  module _ (m : FinMap nat_cmp X) (n : ℕ) (x : X) (there : get m n ≡ Some x) where
+    put_back : insert (remove m n) n x ≡ m
+    put_back = same_map nat_cmp_total nat_cmp-IsAntisymmetric _ _ (λ q. elim (same_or_apart q n) [
+      | inl same ↦ subst (λ k. get (insert (remove m n) n x) k ≡ get m k) (sym same) (insert_same nat_cmp nat_cmp_total (remove m n) n x ∙ sym there)
+      | inr apart ↦ insert_other nat_cmp nat_cmp_total nat_cmp-IsAntisymmetric (remove m n) n x q apart ∙ remove_other nat_cmp nat_cmp_total nat_cmp-IsAntisymmetric m n q apart
+    ])
+
+    -- it stands first, in some order
+    pub entry_out : IsPermutation (entries m) ((n, x) ∷ entries (remove m n))
+    entry_out =
+        let gone : find nat_cmp n (entries (remove m n)) ≡ None = sym (get-entries (remove m n) n) ∙ get-remove_same nat_cmp nat_cmp_total m n in
+        subst (λ k. IsPermutation (entries k) ((n, x) ∷ entries (remove m n))) put_back
+        (subst (λ es. IsPermutation es ((n, x) ∷ entries (remove m n))) (sym (entries-insert nat_cmp_total (remove m n) n x)) (IsPermutation-sym _ _ (put_first n x (entries (remove m n)) gone)))
+
+  no_items : (xs : List (ℕ × X)) → length xs ≡ 0 → xs ≡ []
+  no_items [] e = refl
+  no_items (x ∷ xs) e = absurd (omega arith)
+
+  pub no_entries : entries (empty {X = X} {R = nat_cmp}) ≡ []
+  no_entries = no_items _ (sym (len-entries (empty {X = X} {R = nat_cmp})) ∙ len-empty nat_cmp X)

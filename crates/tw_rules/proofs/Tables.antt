@@ -1,5 +1,5 @@
 -- What each call of the table asks of the index and leaves of it.
-use Rattle.std.proofs.Common.{◌≡◌, ◌≤◌, ◌<◌, ◌⊎◌, inl, inr, ℕ, ◌+◌, Bool, true, false, ◌&&◌, cond, is_some, List, [], ◌∷◌, map, length, refl, sym, ap, subst, ◌∙◌, slice_set, IsSome, get_or, nat_lt, arith}
+use Rattle.std.proofs.Common.{◌≡◌, ◌≤◌, ◌<◌, ◌⊎◌, inl, inr, ℕ, zero, suc, ◌+◌, Bool, true, false, ◌&&◌, cond, is_some, List, [], ◌∷◌, map, length, refl, sym, ap, subst, ◌∙◌, slice_set, IsSome, get_or, nat_lt, arith}
 use Rattle.std.specs.Prelude.{Option, Some, None, slice_get, slice_index_or, option_map, option_and_then, MatchOption}
 use Rattle.std.specs.FinMap.{get, insert, remove, empty, get-empty}
 use Rattle.std.specs.Ordering.{nat_cmp}
@@ -329,3 +329,16 @@ empty_index agendas count all = record {
   each_engine = λ engine agenda at. let e = all engine agenda at in empty_agenda engine agenda e.0 e.1 e.2;
   known = λ q rule e. let none : get (empty {X = R} {R = nat_cmp}) q ≡ None = get-empty nat_cmp q in absurd cc;
 }
+
+abbrev pub IsBlank : Agenda → Type 0
+IsBlank agenda = (agenda.asks.numbers ≡ []) × (agenda.releases.numbers ≡ []) × (agenda.releases.promised ≡ 0)
+
+pub empty_four : (a b d e : Agenda) → IsBlank a → IsBlank b → IsBlank d → IsBlank e → IsIndexed empty 1 (a ∷ b ∷ d ∷ e ∷ [])
+empty_four a b d e ba bb bd be = empty_index (a ∷ b ∷ d ∷ e ∷ []) refl all
+  where
+    all : (engine : ℕ) (agenda : Agenda) → slice_get (a ∷ b ∷ d ∷ e ∷ []) engine ≡ Some agenda → IsBlank agenda
+    all zero agenda at = subst IsBlank (unsome at) ba
+    all (suc zero) agenda at = subst IsBlank (unsome at) bb
+    all (suc (suc zero)) agenda at = subst IsBlank (unsome at) bd
+    all (suc (suc (suc zero))) agenda at = subst IsBlank (unsome at) be
+    all (suc (suc (suc (suc engine)))) agenda at = cc

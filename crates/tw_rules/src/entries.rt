@@ -1,8 +1,7 @@
 //! The hash map of rules.
 
-ghost use Rattle.std.specs.Prelude.{◌≡◌, ◌≤◌, ◌<◌, ◌+◌, [], ◌∷◌, IsSome, MatchOption, is_some, option_map, Some, None};
+ghost use Rattle.std.specs.Prelude.{◌≡◌, ◌≤◌, ◌<◌, ◌+◌, [], IsSome, MatchOption, is_some, option_map, Some, None};
 ghost use Rattle.std.specs.FinMap.{get, insert, remove};
-ghost use Rattle.std.specs.List.Sorted.{IsPermutation};
 ghost use Rattle.std.specs.Option.{option_copied};
 ghost use Rattle.std.specs.HashMap.{hash_map_len, spare};
 ghost use Rattle.tw_types.specs.Rule.{is_releasable};
@@ -98,7 +97,6 @@ pub fn take(rules: &mut HashMap<u64, Pending>, number: u64) -> Pending
     ensures rest { rules_in rules.new.entries ≡ remove (rules_in rules.old.entries) number }
     ensures len { hash_map_len rules.new + 1 ≡ hash_map_len rules.old }
     ensures spare { spare rules.old ≤ spare rules.new }
-    ensures entries { IsPermutation rules.old.entries ((number, result) ∷ rules.new.entries) }
 {
     match rules.remove(&number) {
         Some(rule) => rule,

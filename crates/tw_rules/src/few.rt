@@ -22,9 +22,6 @@ impl<T> Model for Few<T> {
 }
 
 impl<T: Copy> Few<T> {
-    /// The greatest number of items.
-    pub const MAX_LEN: usize = 8;
-
     /// No items. What is given fills the places that aren't taken.
     pub fn new(blank: T) -> Few<T>
         ensures { result ≡ [] }
@@ -35,6 +32,7 @@ impl<T: Copy> Few<T> {
         }
     }
 
+    /// The items in order.
     pub fn as_slice(&self) -> &[T]
         ensures items { result.now ≡ self.now }
         ensures few { length result.now ≤ 8 }
