@@ -1,10 +1,10 @@
 -- How the agendas stay right where the rules change at one number.
-use Rattle.std.proofs.Common.{◌≡◌, ◌≤◌, ◌<◌, ◌⊎◌, inl, inr, ℕ, ◌+◌, Bool, true, false, ◌&&◌, ◌||◌, cond, not, is_some, List, [], ◌∷◌, ◌++◌, map, length, refl, sym, ap, subst, ◌∙◌, slice_set, nat_eq, arith}
-use Rattle.std.specs.Prelude.{Option, Some, None, slice_get, option_map}
+use Rattle.std.proofs.Common.{◌≡◌, ◌≤◌, ◌<◌, ◌⊎◌, inl, inr, ℕ, ◌+◌, Bool, true, false, ◌&&◌, cond, not, is_some, List, [], ◌∷◌, ◌++◌, length, refl, sym, ap, subst, ◌∙◌, slice_set, arith}
+use Rattle.std.specs.Prelude.{Option, Some, None, slice_get}
 use Rattle.std.specs.FinMap.{get, insert, remove, nat_cmp-IsAntisymmetric}
 use Rattle.std.specs.Cmp.{nat_cmp_total}
 use Rattle.std.specs.Ordering.{nat_cmp}
-use Rattle.std.specs.List.{Contains, list_all, list_any}
+use Rattle.std.specs.List.{Contains}
 use Rattle.std.specs.List.Sorted.{IsPermutation}
 use Rattle.std.proofs.lemmas.List.Sorted.{Contains-permutation, IsPermutation-sym}
 use Rattle.std.proofs.Math.ListN.{length-set}
@@ -14,8 +14,8 @@ use Rattle.tw_types.proofs.Totals.{part, part-le-total, total-insert, total-remo
 use Rattle.tw_rights.specs.declared.arg.Arg.{Arg}
 use Rattle.tw_rules.specs.declared.agenda.Agenda.{Agenda}
 use Rattle.tw_rules.specs.Numbers.{IsLeast, Rises, from_first}
-use Rattle.tw_rules.specs.Indexed.{Rules, wants, is_wanting, AreAsks, IsFirstWanting, AreReleases, IsLeastPending, IsTrimmed, IsAgenda, IsIndexed, is_open, open_count}
-use Rattle.tw_rules.specs.Agendas.{HasAsked, HasReleased, HasMoved, IsSameAgenda}
+use Rattle.tw_rules.specs.Indexed.{Rules, wants, is_wanting, AreAsks, IsFirstWanting, AreReleases, IsLeastPending, IsTrimmed, IsAgenda, IsIndexed, open_count}
+use Rattle.tw_rules.specs.Agendas.{HasAsked, HasReleased, HasMoved}
 use Rattle.tw_rules.proofs.Numbered.{same_or_apart, nat_apart, nat_itself, contains_none, contains_here, contains_later, contains_cases, appended_cases, appended_last, appended_old, first_there, get_set_same, get_set_other}
 
 abbrev R : Type 0

@@ -1,6 +1,6 @@
 -- Where a rule of an engine can be added for sure.
-use Rattle.std.proofs.Common.{◌≡◌, ◌≤◌, ◌<◌, ◌+◌, ◌⊎◌, inl, inr, ℕ, zero, suc, Bool, true, false, ◌&&◌, List, [], ◌∷◌, get_or, length, refl, sym, ap, subst, ◌∙◌, slice_set, nat_lt, arith}
-use Rattle.std.specs.Prelude.{Option, Some, None, slice_get}
+use Rattle.std.proofs.Common.{◌≡◌, ◌≤◌, ◌<◌, inl, inr, ℕ, zero, suc, Bool, true, false, List, [], ◌∷◌, get_or, refl, sym, subst, ◌∙◌, slice_set, nat_lt, arith}
+use Rattle.std.specs.Prelude.{Some, slice_get}
 use Rattle.tw_rules.specs.declared.agenda.Agenda.{Agenda}
 use Rattle.tw_rules.specs.Indexed.{agenda_room, has_place, rooms_of, Rules, AreAsks, AreReleases, IsFirstWanting, IsLeastPending, IsAgenda, IsIndexed}
 use Rattle.tw_rules.specs.Agendas.{IsSameAgenda}

@@ -1,6 +1,6 @@
 -- Stages of the parameters of a rule.
-use Rattle.std.proofs.Common.{◌≡◌, ℕ, zero, suc, Bool, true, false, ◌&&◌, ◌||◌, cond, List, [], ◌∷◌, map, refl, sym, ap, subst, ◌∙◌, slice_set}
-use Rattle.std.specs.Prelude.{Option, Some, None, slice_get, option_map}
+use Rattle.std.proofs.Common.{◌≡◌, ℕ, zero, suc, Bool, true, false, ◌&&◌, ◌||◌, cond, List, [], ◌∷◌, map, refl, slice_set}
+use Rattle.std.specs.Prelude.{Some, slice_get, option_map}
 use Rattle.std.specs.List.{list_all, list_any}
 use Rattle.tw_types.specs.declared.param.Param.{Param}
 use Rattle.tw_types.specs.declared.stage.Stage.{Stage}

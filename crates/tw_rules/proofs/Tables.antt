@@ -1,10 +1,10 @@
 -- What each call of the table asks of the index and leaves of it.
-use Rattle.std.proofs.Common.{◌≡◌, ◌≤◌, ◌<◌, ◌⊎◌, inl, inr, ℕ, zero, suc, ◌+◌, Bool, true, false, ◌&&◌, cond, is_some, List, [], ◌∷◌, map, length, refl, sym, ap, subst, ◌∙◌, slice_set, IsSome, get_or, nat_lt, arith}
-use Rattle.std.specs.Prelude.{Option, Some, None, slice_get, slice_index_or, option_map, option_and_then, MatchOption}
+use Rattle.std.proofs.Common.{◌≡◌, ◌≤◌, ◌<◌, inl, inr, ℕ, zero, suc, ◌+◌, Bool, true, false, is_some, List, [], ◌∷◌, map, length, refl, sym, ap, subst, ◌∙◌, slice_set, get_or, nat_lt, arith}
+use Rattle.std.specs.Prelude.{Option, Some, None, slice_get, option_map, option_and_then}
 use Rattle.std.specs.FinMap.{get, insert, remove, empty, get-empty}
 use Rattle.std.specs.Ordering.{nat_cmp}
 use Rattle.tw_types.proofs.Totals.{total-empty}
-use Rattle.std.specs.List.{Contains, list_all, list_any}
+use Rattle.std.specs.List.{Contains}
 use Rattle.std.proofs.lemmas.Option.{slice_get_past, slice_get_read, slice_get-get_or}
 use Rattle.std.proofs.lemmas.Bool.Decides.{nat_tests}
 use Rattle.tw_types.specs.declared.stage.Stage.{Stage}
@@ -17,7 +17,7 @@ use Rattle.tw_rules.specs.Numbers.{IsLeast, Rises, from_first}
 use Rattle.tw_rules.specs.Table.{new_rule, stage_at, staged}
 use Rattle.tw_rules.specs.Indexed.{Rules, is_wanting, wants, open_count, AreAsks, AreReleases, IsFirstWanting, IsLeastPending, IsTrimmed, IsAgenda, IsIndexed}
 use Rattle.tw_rules.specs.Agendas.{HasAsked, HasReleased, HasMoved}
-use Rattle.tw_rules.proofs.Numbered.{same_or_apart, contains_here, contains_later, contains_cases, contains_none, first_there, none_past}
+use Rattle.tw_rules.proofs.Numbered.{same_or_apart, contains_cases, contains_none, first_there, none_past}
 use Rattle.tw_rules.proofs.Stages.{settled_idle, fresh_unasked, staged_unasked, unsettled_holds}
 use Rattle.tw_rules.proofs.Firsts.{unasked_some, next_ask_is, next_ask_none, next_release_is, next_release_none}
 use Rattle.tw_rules.proofs.Changes.{Changed, changed_insert, changed_remove, other_agenda, added_asked, added_released, promised_before, staged_released, staged_held, gone_agenda, all_agendas}

@@ -2,7 +2,7 @@
 use Rattle.std.specs.Prelude.{◌≡◌, ℕ, ◌+◌, ◌∷◌, ◌++◌, []}
 use Rattle.std.specs.List.Sorted.{IsPermutation}
 use Rattle.tw_rules.specs.declared.agenda.Agenda.{Agenda}
-use Rattle.tw_rules.specs.Numbers.{Asked, Released}
+use Rattle.tw_rules.specs.Numbers.{Released}
 
 -- the same rules
 pub record IsSameAgenda (old new : Agenda) : Type 0 where

@@ -1,5 +1,5 @@
 -- How the agendas of the engines tell what there is to do.
-use Rattle.std.specs.Prelude.{◌≡◌, ℕ, ◌==◌, ◌<◌, ◌≤◌, Bool, true, false, not, nat_lt, ◌&&◌, if◌then◌else◌, List, [], map as each, length, IsSome, Option, Some, None, slice_get, is_some}
+use Rattle.std.specs.Prelude.{◌≡◌, ℕ, ◌==◌, ◌<◌, ◌≤◌, Bool, true, false, not, nat_lt, ◌&&◌, if◌then◌else◌, List, [], map as each, length, Option, Some, None, slice_get, is_some}
 use Rattle.std.specs.List.{Contains}
 use Rattle.std.specs.FinMap as map
 use Rattle.tw_types.specs.Rule.{RuleOf, RulesOf, has_unasked, is_releasable}
@@ -9,7 +9,7 @@ use Rattle.tw_rules.specs.declared.agenda.Agenda.{Agenda}
 use Rattle.tw_rules.specs.declared.pending.Pending.{Pending}
 use Rattle.tw_rules.specs.declared.plain.PlainRule.{PlainRule}
 use Rattle.tw_rules.specs.Entries.{rules_in}
-use Rattle.tw_rules.specs.Numbers.{Asked, Released, IsLeast, Rises, from_first}
+use Rattle.tw_rules.specs.Numbers.{IsLeast, Rises}
 
 abbrev pub Rules : Type 0
 Rules = RulesOf Arg

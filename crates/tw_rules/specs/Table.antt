@@ -1,6 +1,6 @@
 -- What contracts see of the table of rules.
-use Rattle.std.specs.Prelude.{ℕ, ◌+◌, Bool, false, List, map as each, Option, Some, None, slice_get, slice_index_or}
-use Rattle.std.specs.Option.{option_and_then, option_map}
+use Rattle.std.specs.Prelude.{ℕ, Bool, false, List, map as each, Option, Some, None, slice_get, slice_index_or}
+use Rattle.std.specs.Option.{option_and_then}
 use Rattle.std.specs.FinMap as map
 use Rattle.tw_types.specs.declared.param.Param.{Param}
 use Rattle.tw_types.specs.declared.stage.Stage.{Stage}

@@ -1,4 +1,4 @@
-use Rattle.std.proofs.Common.{◌≡◌, ◌+◌, ◌++◌, ◌∷◌, [], suc, sym, ap, ◌∙◌, map, take, arith}
+use Rattle.std.proofs.Common.{◌+◌, ◌++◌, ◌∷◌, [], sym, ap, ◌∙◌, map, take, arith}
 use Rattle.tw_rules.specs.Table.{plain_arg}
 use Rattle.tw_rules.proofs.Numbered.{taken_next}
 use Rattle.tw_rules.proofs.pending.plain_args.Goals as goal

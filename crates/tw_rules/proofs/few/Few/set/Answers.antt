@@ -1,4 +1,4 @@
-use Rattle.std.proofs.Common.{sym, ap, ◌∙◌, slice_set}
+use Rattle.std.proofs.Common.{ap, ◌∙◌, slice_set}
 use Rattle.std.proofs.Math.Seq.{take-set-lt}
 use Rattle.tw_rules.proofs.few.Few.set.Goals as goal
 

@@ -1,4 +1,4 @@
-use Rattle.std.proofs.Common.{◌≡◌, ◌∷◌, sym, subst, ◌∙◌, length, arith}
+use Rattle.std.proofs.Common.{◌≡◌, ◌∷◌, sym, subst, length, arith}
 use Rattle.std.specs.BinaryHeap.{heap_items, heap_len}
 use Rattle.std.specs.List.Sorted.{IsPermutation}
 use Rattle.tw_rules.specs.Numbers.{IsLeast, numbers_in}

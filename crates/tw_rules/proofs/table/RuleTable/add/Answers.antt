@@ -1,4 +1,4 @@
-use Rattle.std.proofs.Common.{◌≡◌, ◌≤◌, ◌<◌, ◌+◌, ℕ, true, List, length, get_or, sym, ap, subst, ◌∙◌, slice_set, arith}
+use Rattle.std.proofs.Common.{◌≡◌, ◌<◌, ◌+◌, ℕ, true, List, length, get_or, sym, ap, subst, ◌∙◌, slice_set, arith}
 use Rattle.std.specs.declared.option.Option.TheVariants.{Some}
 use Rattle.std.specs.Prelude.{slice_get}
 use Rattle.std.specs.FinMap.{insert}
@@ -7,12 +7,10 @@ use Rattle.std.specs.List.{list_all}
 use Rattle.std.specs.Vec.{vec_capacity}
 use Rattle.std.proofs.lemmas.Option.{slice_get-get_or}
 use Rattle.tw_types.specs.declared.stage.Stage.{Stage}
-use Rattle.tw_types.specs.Rule.{RuleOf, is_settled}
-use Rattle.tw_rights.specs.declared.arg.Arg.{Arg}
-use Rattle.tw_rules.specs.declared.pending.Pending.{Pending}
+use Rattle.tw_types.specs.Rule.{is_settled}
 use Rattle.tw_rules.specs.Entries.{rule_in, rules_in}
 use Rattle.tw_rules.specs.Indexed.{IsIndexed, has_place}
-use Rattle.tw_rules.specs.Table.{new_rule, room_for}
+use Rattle.tw_rules.specs.Table.{room_for}
 use Rattle.tw_rules.proofs.Rooms.{has_room, place_capacity}
 use Rattle.tw_rules.proofs.Tables.{index_added}
 use Rattle.tw_rules.proofs.table.RuleTable.add.Goals as goal
