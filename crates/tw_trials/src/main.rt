@@ -62,7 +62,11 @@ fn rule_trials(rt: &HostRuntime) -> io::Result<()> {
     let worked = whole(rules::worked_calls_go(rt.alloc()));
     tell(rt, "the worked calls of the rules", worked)?;
     let listed = rules::calls_are_the_lists(rt.alloc());
-    tell(rt, "10,000 calls of the rules, and a search of them all", listed)
+    tell(
+        rt,
+        "10,000 calls of the rules, and a search of them all",
+        listed,
+    )
 }
 
 fn verifier_trials(rt: &HostRuntime) -> io::Result<()> {

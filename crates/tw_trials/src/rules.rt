@@ -411,10 +411,7 @@ fn is_listed(list: &[Listed], told: &PlainRule) -> bool {
     })
 }
 
-fn first_difference(
-    table: &mut RuleTable,
-    list: &mut Vec<Listed>,
-) -> Option<(&'static str, u64)> {
+fn first_difference(table: &mut RuleTable, list: &mut Vec<Listed>) -> Option<(&'static str, u64)> {
     let mut seed = 20_261_123;
     for number in 0..10_000 {
         if !call_agrees(table, list, &mut seed) {
