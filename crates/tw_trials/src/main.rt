@@ -16,6 +16,7 @@ mod puts;
 mod random;
 mod refused;
 mod refused_puts;
+mod rules;
 mod same;
 mod search;
 mod walks;
@@ -83,6 +84,17 @@ fn queue_trials(rt: &HostRuntime) -> io::Result<()> {
     )
 }
 
+fn rule_trials(rt: &HostRuntime) -> io::Result<()> {
+    let worked = whole(rules::worked_calls_go(rt.alloc()));
+    tell(rt, "the worked calls of the rules", worked)?;
+    let listed = rules::calls_are_the_lists(rt.alloc());
+    tell(
+        rt,
+        "10,000 calls of the rules, and a search of them all",
+        listed,
+    )
+}
+
 fn verifier_trials(rt: &HostRuntime) -> io::Result<()> {
     for (digits, count, behind) in [
         (1, 11, ""),
@@ -106,6 +118,7 @@ fn main(rt: HostRuntime) -> io::Result<()> {
     }
     store_trials(&rt)?;
     queue_trials(&rt)?;
+    rule_trials(&rt)?;
     verifier_trials(&rt)?;
     let parts = parts::first_other_instruction(rt.alloc());
     tell(&rt, "the parts of every instruction", parts)

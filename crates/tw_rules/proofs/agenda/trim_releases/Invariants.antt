@@ -1,0 +1,16 @@
+use Rattle.std.proofs.Common.{◌≡◌, ℕ, length, true, is_some}
+use Rattle.std.specs.FinMap.{get}
+use Rattle.std.specs.List.{Contains}
+use Rattle.tw_rules.specs.Entries.{rules_in}
+use Rattle.tw_rules.proofs.agenda.trim_releases.Given as goal
+
+abbrev pub invariant-loop-number : goal.invariant-loop-number
+invariant-loop-number l = record {
+  sound : (number : ℕ) → Contains l.releases.numbers number → Contains l.initial.releases.numbers number;
+  kept : (number : ℕ) → Contains l.initial.releases.numbers number → is_some (get (rules_in l.rules.entries) number) ≡ true → Contains l.releases.numbers number;
+  promised : l.releases.promised ≡ l.initial.releases.promised;
+  room : l.initial.releases.has_room ≡ true → l.releases.has_room ≡ true;
+}
+
+abbrev pub decreases-loop-number : goal.decreases-loop-number
+decreases-loop-number l = length l.releases.numbers

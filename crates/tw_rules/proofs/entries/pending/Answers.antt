@@ -1,0 +1,14 @@
+use Rattle.std.proofs.Common.{◌≡◌, sym, ap, ◌∙◌, option_map}
+use Rattle.std.specs.Option.{option_copied}
+use Rattle.std.specs.declared.option.Option.TheVariants.{None}
+use Rattle.tw_rules.specs.Entries.{entry_of, rule_in}
+use Rattle.tw_rules.proofs.Seen.{get_seen, some_seen}
+use Rattle.tw_rules.proofs.entries.pending.Goals as goal
+
+pub unreachable-requires : goal.unreachable-requires
+unreachable-requires c =
+    let none : entry_of c.args.rules.now.entries c.args.number ≡ None = sym c.get.ensures.value ∙ ap option_copied c.in-None.is in
+    some_seen rule_in c.args.rules.now.entries c.args.number none c.requires
+
+pub returns : goal.returns
+returns c = get_seen rule_in c.args.rules.now.entries c.args.number ∙ ap (option_map rule_in) (sym c.in-Some.ensures.value)

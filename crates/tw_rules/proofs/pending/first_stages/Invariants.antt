@@ -1,0 +1,6 @@
+use Rattle.std.proofs.Common.{◌≡◌, map, take}
+use Rattle.tw_types.specs.Rule.{first_stage}
+use Rattle.tw_rules.proofs.pending.first_stages.Given as goal
+
+abbrev pub invariant-loop-param : goal.invariant-loop-param
+invariant-loop-param l = l.stages ≡ map (λ p. first_stage p.mode) (take l.param-index l.params)

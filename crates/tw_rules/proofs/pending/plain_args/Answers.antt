@@ -1,0 +1,17 @@
+use Rattle.std.proofs.Common.{◌+◌, ◌++◌, ◌∷◌, [], sym, ap, ◌∙◌, map, take, arith}
+use Rattle.tw_rules.specs.Table.{plain_arg}
+use Rattle.tw_rules.proofs.Numbered.{taken_next}
+use Rattle.tw_rules.proofs.pending.plain_args.Goals as goal
+
+pub loop-place-preserved : goal.loop-place-preserved
+loop-place-preserved c =
+    let args = c.args.args.now in
+    let place = c.loop-place.place in
+    record {
+      plain = c.push.ensures
+          ∙ ap (λ xs. xs ++ c.plain_arg.result ∷ []) c.loop-place.invariant.plain
+          ∙ ap (λ x. map plain_arg (take place args) ++ x ∷ []) c.plain_arg.ensures
+          ∙ sym (taken_next plain_arg args place (place + 1) c.in-Some.arg.now (omega arith) (sym c.in-Some.ensures));
+      end = c.loop-place.invariant.end;
+      few = c.loop-place.invariant.few;
+    }

@@ -1,0 +1,19 @@
+use Rattle.std.proofs.Common.{◌≡◌, [], ◌∷◌, length, sym, subst, arith}
+use Rattle.tw_rules.specs.Entries.{rules_in}
+use Rattle.tw_rules.specs.Indexed.{IsIndexed}
+use Rattle.tw_rules.proofs.Tables.{empty_four}
+use Rattle.tw_rules.proofs.table.RuleTable.new.Goals as goal
+
+pub invariant_of-result : goal.invariant_of-result
+invariant_of-result c =
+    let none : length c.new.result.entries ≡ 0 = c.new.ensures.len in
+    let a = c.new-2.ensures in
+    let b = c.new-3.ensures in
+    let d = c.new-4.ensures in
+    let e = c.new-5.ensures in
+    record {
+      index = subst (λ es. IsIndexed (rules_in es) 1 (c.new-2.result ∷ c.new-3.result ∷ c.new-4.result ∷ c.new-5.result ∷ [])) (sym c.new.ensures.empty)
+          (empty_four c.new-2.result c.new-3.result c.new-4.result c.new-5.result (a.asks, a.releases, a.promised) (b.asks, b.releases, b.promised) (d.asks, d.releases, d.promised) (e.asks, e.releases, e.promised));
+      blank = c.new-6.ensures.items;
+      fits = omega arith;
+    }

@@ -1,0 +1,80 @@
+-- What contracts see of the table of rules.
+use Rattle.std.specs.Prelude.{ℕ, Bool, false, List, map as each, Option, Some, None, slice_get, slice_index_or}
+use Rattle.std.specs.Option.{option_and_then}
+use Rattle.std.specs.FinMap as map
+use Rattle.tw_types.specs.declared.param.Param.{Param}
+use Rattle.tw_types.specs.declared.stage.Stage.{Stage}
+use Rattle.tw_types.specs.Rule.{RuleOf, RulesOf, at_stage, first_stage}
+use Rattle.tw_rights.specs.declared.arg.Arg.{Arg}
+use Rattle.tw_rights.specs.declared.arg.Arg.TheVariants.{Val, Read, Write}
+use Rattle.tw_rights.specs.Rights.{Right}
+use Rattle.tw_rules.specs.declared.action.Action.{Action}
+use Rattle.tw_rules.specs.declared.plain.PlainArg.{PlainArg}
+use Rattle.tw_rules.specs.declared.plain.PlainArg.TheVariants as plain
+use Rattle.tw_rules.specs.declared.plain.PlainRule.{PlainRule}
+
+-- the rules that are pending, by their numbers; the number of the next one; and for each engine whether a rule of it can
+-- be added for sure
+pub record Table : Type 0 where
+  pub rules : RulesOf Arg
+  pub next : ℕ
+  pub rooms : List Bool
+
+-- whether a rule of this engine can be added without memory
+abbrev pub room_for : ℕ → Table → Bool
+room_for engine table = slice_index_or table.rooms engine false
+
+-- ---- one rule
+
+-- a rule of an engine for such a task, with every `closed` parameter unasked
+abbrev pub new_rule : ℕ → List Param → Action → List Arg → RuleOf Arg
+new_rule engine params action args = record {
+  engine = engine;
+  procedure = action.procedure;
+  priority = action.priority;
+  target = action.target;
+  args = args;
+  stages = each (λ p. first_stage p.mode) params;
+}
+
+abbrev pub action_of : RuleOf Arg → Action
+action_of rule = record { procedure = rule.procedure; priority = rule.priority; target = rule.target }
+
+-- the right of an argument, if it is one to read
+abbrev pub read_right : Arg → Option Right
+read_right (Val value) = None
+read_right (Read right) = Some right
+read_right (Write right) = None
+
+-- ---- one of the rules
+
+-- the stage of a parameter, if both are there
+abbrev pub stage_at : RulesOf Arg → ℕ → ℕ → Option Stage
+stage_at rules number parameter = option_and_then (λ rule. slice_get rule.stages parameter) (map.get rules number)
+
+-- the argument for a parameter, if both are there
+abbrev pub arg_at : RulesOf Arg → ℕ → ℕ → Option Arg
+arg_at rules number parameter = option_and_then (λ rule. slice_get rule.args parameter) (map.get rules number)
+
+-- the right that stands for a parameter, if it is one to read
+abbrev pub right_at : RulesOf Arg → ℕ → ℕ → Option Right
+right_at rules number parameter = option_and_then read_right (arg_at rules number parameter)
+
+-- the rules where the parameter is at this stage
+abbrev pub staged : RulesOf Arg → ℕ → ℕ → Stage → RulesOf Arg
+staged rules number parameter stage = staged_by (map.get rules number)
+  where
+    staged_by : Option (RuleOf Arg) → RulesOf Arg
+    staged_by None = rules
+    staged_by (Some rule) = map.insert rules number (at_stage rule parameter stage)
+
+-- ---- rules without rights
+
+abbrev pub plain_arg : Arg → PlainArg
+plain_arg (Val value) = plain.Val
+plain_arg (Read right) = plain.Read right.id
+plain_arg (Write right) = plain.Write right.id
+
+-- a rule with its number, as it is told at the end
+abbrev pub told : ℕ × RuleOf Arg → PlainRule
+told e = record { number = e.0; engine = e.1.engine; action = action_of e.1; args = each plain_arg e.1.args; stages = e.1.stages }

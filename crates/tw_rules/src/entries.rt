@@ -1,0 +1,105 @@
+//! The hash map of rules.
+
+ghost use Rattle.std.specs.Prelude.{◌≡◌, ◌≤◌, ◌<◌, ◌+◌, [], IsSome, MatchOption, is_some, option_map, Some, None};
+ghost use Rattle.std.specs.FinMap.{get, insert, remove};
+ghost use Rattle.std.specs.Option.{option_copied};
+ghost use Rattle.std.specs.HashMap.{hash_map_len, spare};
+ghost use Rattle.tw_types.specs.Rule.{is_releasable};
+ghost use Rattle.tw_rules.specs.Table.{staged};
+ghost use Rattle.tw_rules.specs.Entries.{entry_of, rule_in, rules_in};
+ghost use Rattle.tw_rules.specs.Indexed.{is_wanting};
+
+use crate::pending::Pending;
+use std::collections::HashMap;
+use tw_types::Stage;
+
+/// Whether the rule is there and has something unasked.
+pub fn has_unasked(rules: &HashMap<u64, Pending>, number: u64) -> bool
+    ensures { result ≡ is_wanting (rules_in rules.now.entries) number }
+{
+    match rules.get(&number) {
+        Some(pending) => pending.has_unasked(),
+        None => false,
+    }
+}
+
+pub fn is_pending(rules: &HashMap<u64, Pending>, number: u64) -> bool
+    ensures { result ≡ is_some (get (rules_in rules.now.entries) number) }
+{
+    rules.contains_key(&number)
+}
+
+pub fn find(rules: &HashMap<u64, Pending>, number: u64) -> Option<&Pending>
+    ensures { option_map rule_in (option_copied result) ≡ get (rules_in rules.now.entries) number }
+{
+    rules.get(&number)
+}
+
+/// A rule that is there.
+pub fn pending(rules: &HashMap<u64, Pending>, number: u64) -> &Pending
+    requires { IsSome (get (rules_in rules.now.entries) number) }
+    ensures { get (rules_in rules.now.entries) number ≡ Some (rule_in result.now) }
+{
+    match rules.get(&number) {
+        Some(pending) => pending,
+        None => unreachable!(),
+    }
+}
+
+/// Puts a parameter of a rule at a stage, and tells the rule's engine and whether it can be released now.
+pub fn set_stage(
+    rules: &mut HashMap<u64, Pending>,
+    number: u64,
+    parameter: u8,
+    stage: Stage,
+) -> (u8, bool)
+    requires { IsSome (get (rules_in rules.old.entries) number) }
+    ensures staged { rules_in rules.new.entries ≡ staged (rules_in rules.old.entries) number parameter stage }
+    ensures engine { option_map (λ rule. rule.engine) (get (rules_in rules.new.entries) number) ≡ Some result.0 }
+    ensures releasable { option_map is_releasable (get (rules_in rules.new.entries) number) ≡ Some result.1 }
+    ensures len { hash_map_len rules.new ≡ hash_map_len rules.old }
+    ensures spare { spare rules.new ≡ spare rules.old }
+{
+    match rules.get_mut(&number) {
+        Some(pending) => {
+            pending.stages.set(usize::from(parameter), stage);
+            (pending.engine, pending.is_releasable())
+        }
+        None => unreachable!(),
+    }
+}
+
+/// A number that is there, if there is one.
+pub fn first_number(rules: &HashMap<u64, Pending>) -> Option<u64>
+    ensures { MatchOption result (rules.now.entries ≡ []) (λ number. IsSome (entry_of rules.now.entries number)) }
+{
+    rules.keys().next().copied()
+}
+
+/// Adds a rule for which there is room.
+pub fn put(rules: &mut HashMap<u64, Pending>, number: u64, rule: Pending)
+    requires room { 0 < spare rules.old }
+    requires new { get (rules_in rules.old.entries) number ≡ None }
+    ensures put { rules_in rules.new.entries ≡ insert (rules_in rules.old.entries) number (rule_in rule) }
+    ensures len { hash_map_len rules.new ≡ hash_map_len rules.old + 1 }
+{
+    match rules.insert(number, rule) {
+        Ok(None) => {}
+        Ok(Some(_old)) => unreachable!(),
+        Err(_refused) => unreachable!(),
+    }
+}
+
+/// Takes a rule out that is there.
+pub fn take(rules: &mut HashMap<u64, Pending>, number: u64) -> Pending
+    requires { IsSome (get (rules_in rules.old.entries) number) }
+    ensures taken { get (rules_in rules.old.entries) number ≡ Some (rule_in result) }
+    ensures rest { rules_in rules.new.entries ≡ remove (rules_in rules.old.entries) number }
+    ensures len { hash_map_len rules.new + 1 ≡ hash_map_len rules.old }
+    ensures spare { spare rules.old ≤ spare rules.new }
+{
+    match rules.remove(&number) {
+        Some(rule) => rule,
+        None => unreachable!(),
+    }
+}

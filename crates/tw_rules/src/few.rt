@@ -1,0 +1,60 @@
+//! Short lists that take no memory of their own.
+
+ghost use Rattle.std.specs.Prelude.{◌≡◌, ◌<◌, ◌≤◌, [], ◌∷◌, ◌++◌, length, slice_set};
+
+use std::marker::Model;
+
+/// At most eight items.
+#[derive(Drop)]
+pub struct Few<T> {
+    places: [T; 8],
+    len: usize,
+}
+
+impl<T> Model for Few<T> {
+    ghost use Rattle.std.specs.Prelude.{List, ◌≤◌, ◌≡◌, length, take};
+
+    ghost Value = { List T };
+
+    ghost view = { λ few. take few.len few.places };
+
+    ghost invariant = { λ few. (length few.places ≡ 8) × (few.len ≤ 8) };
+}
+
+impl<T: Copy> Few<T> {
+    /// No items. What is given fills the places that aren't taken.
+    pub fn new(blank: T) -> Few<T>
+        ensures { result ≡ [] }
+    {
+        Few {
+            places: [blank; 8],
+            len: 0,
+        }
+    }
+
+    /// The items in order.
+    pub fn as_slice(&self) -> &[T]
+        ensures items { result.now ≡ self.now }
+        ensures few { length result.now ≤ 8 }
+    {
+        &self.places[..self.len]
+    }
+
+    /// Appends an item.
+    pub fn push(&mut self, item: T)
+        requires { length self.old < 8 }
+        ensures { self.new ≡ self.old ++ item ∷ [] }
+    {
+        self.places[self.len] = item;
+        self.len += 1;
+    }
+
+    /// Puts another item in the place of one; past the last one it changes nothing.
+    pub fn set(&mut self, place: usize, item: T)
+        ensures { self.new ≡ slice_set self.old place item }
+    {
+        if place < self.len {
+            self.places[place] = item;
+        }
+    }
+}

@@ -1,0 +1,136 @@
+//! A rule with its rights.
+
+ghost use Rattle.std.specs.Prelude.{◌≡◌, ◌≤◌, length, map};
+ghost use Rattle.std.specs.List.{list_all};
+ghost use Rattle.tw_types.specs.Rule.{first_stage, first_unasked, has_unasked, is_releasable, is_settled, is_unasked};
+ghost use Rattle.tw_rules.specs.Table.{plain_arg, told};
+ghost use Rattle.tw_rules.specs.Entries.{rule_in};
+
+use crate::action::Action;
+use crate::few::Few;
+use crate::plain::{PlainArg, PlainRule};
+use tw_rights::{Arg, Bundle};
+use tw_types::{Mode, Param, RuleNo, Stage};
+
+/// A rule that is pending.
+pub struct Pending {
+    pub engine: u8,
+    pub action: Action,
+    pub args: Bundle,
+    pub stages: Few<Stage>,
+}
+
+impl Pending {
+    /// The first parameter that is unasked.
+    pub fn first_unasked(&self) -> Option<u8>
+        ensures { result ≡ first_unasked 0 self.now.stages }
+    {
+        first_unasked(self.stages.as_slice())
+    }
+
+    pub fn has_unasked(&self) -> bool
+        ensures { result ≡ has_unasked (rule_in self.now) }
+    {
+        let stages = self.stages.as_slice();
+        stages.iter().any(|stage| is_unasked(*stage))
+    }
+
+    /// Whether nothing is left to be known of any parameter.
+    pub fn is_releasable(&self) -> bool
+        ensures { result ≡ is_releasable (rule_in self.now) }
+    {
+        let stages = self.stages.as_slice();
+        stages.iter().all(|stage| is_settled(*stage))
+    }
+
+    /// Ends the rule with its rights, and tells it.
+    pub fn spend(self, number: u64) -> PlainRule
+        ensures { result ≡ told (number, rule_in self) }
+    {
+        let Pending {
+            engine,
+            action,
+            args,
+            stages,
+        } = self;
+        let plain = plain_args(&args);
+        args.shut();
+        PlainRule {
+            number: RuleNo::new(number),
+            engine,
+            action,
+            args: plain,
+            stages,
+        }
+    }
+}
+
+/// The stage of each parameter when a rule is made.
+pub fn first_stages(params: &[Param]) -> Few<Stage>
+    requires { length params.now ≤ 8 }
+    ensures { result ≡ map (λ p. first_stage p.mode) params.now }
+{
+    let mut stages = Few::new(Stage::Free);
+    for param in params {
+        stages.push(first_stage(param.mode));
+    }
+    stages
+}
+
+fn first_stage(mode: Mode) -> Stage
+    ensures { result ≡ first_stage mode }
+{
+    match mode {
+        Mode::Closed => Stage::Unasked,
+        Mode::Val | Mode::Ref | Mode::Write => Stage::Free,
+    }
+}
+
+fn is_unasked(stage: Stage) -> bool
+    ensures { result ≡ is_unasked stage }
+{
+    stage == Stage::Unasked
+}
+
+fn is_settled(stage: Stage) -> bool
+    ensures { result ≡ is_settled stage }
+{
+    stage == Stage::Free || stage == Stage::Ready
+}
+
+fn first_unasked(stages: &[Stage]) -> Option<u8>
+    requires { length stages.now ≤ 8 }
+    ensures { result ≡ first_unasked 0 stages.now }
+{
+    let mut parameter = 0;
+    for stage in stages {
+        if is_unasked(*stage) {
+            return Some(parameter);
+        }
+        parameter += 1;
+    }
+    None
+}
+
+fn plain_args(args: &Bundle) -> Few<PlainArg>
+    ensures { result ≡ map plain_arg args.now }
+{
+    let mut plain = Few::new(PlainArg::Val);
+    for place in 0..args.len() {
+        match args.get(place) {
+            Some(arg) => plain.push(plain_arg(arg)),
+            None => unreachable!(),
+        }
+    }
+    plain
+}
+
+fn plain_arg(arg: &Arg) -> PlainArg
+    ensures { result ≡ plain_arg arg.now }
+{
+    match arg {
+        Arg::Val(_) => PlainArg::Val,
+        Arg::Read(right) => PlainArg::Read(right.id()),
+        Arg::Write(right) => PlainArg::Write(right.id()),
+    }
+}

@@ -1,0 +1,295 @@
+//! The table.
+
+ghost use Rattle.std.specs.Prelude.{◌≡◌, ◌<◌, ◌≤◌, ◌+◌, ◌^◌, ℕ, length, map as each, IfOk, IfErr, IsOk, IsSome, OnOk, OnErr, Some, true, false, option_map};
+ghost use Rattle.std.specs.FinMap as map;
+ghost use Rattle.std.specs.FinMap.{get};
+ghost use Rattle.std.specs.List.Sorted.{IsPermutation};
+ghost use Rattle.std.specs.Option.{option_copied};
+ghost use Rattle.tw_types.specs.declared.stage.Stage.TheVariants.{Unasked, Waiting, Ready};
+ghost use Rattle.tw_types.specs.Rule.{is_releasable, is_settled, is_unasked, next_ask, next_release};
+ghost use Rattle.tw_rules.specs.Table.{action_of, arg_at, new_rule, read_right, right_at, room_for, stage_at, staged, told};
+
+use crate::action::Action;
+use crate::agenda::Agenda;
+use crate::entries::{find, first_number, pending, put, set_stage, take};
+use crate::pending::{Pending, first_stages};
+use crate::plain::PlainRule;
+use std::alloc::{AllocError, Global};
+use std::collections::HashMap;
+use std::marker::Model;
+use tw_rights::{Arg, Bundle, ReadRight};
+use tw_types::{Param, RuleNo, Stage};
+
+/// The rules that are pending, by their numbers, and for each of the engines 0 to 3 what it has to do with its own. No
+/// number is used again.
+pub struct RuleTable {
+    rules: HashMap<u64, Pending>,
+    next: u64,
+    agendas: [Agenda; 4],
+    /// Empty, with room for all that `shut` tells.
+    told: Vec<PlainRule>,
+}
+
+impl Model for RuleTable {
+    ghost use Rattle.std.specs.Prelude.{◌&&◌, nat_lt};
+    ghost use Rattle.std.specs.HashMap.{hash_map_len, spare};
+    ghost use Rattle.std.specs.Vec.{vec_capacity};
+    ghost use Rattle.std.specs.Coded.{codes, coded_ℕ};
+    ghost use Rattle.std.specs.FinMap.{code};
+    ghost use Rattle.std.specs.Ordering.{nat_cmp};
+    ghost use Rattle.tw_rights.specs.declared.arg.Arg.{Arg};
+    ghost use Rattle.tw_types.specs.Rule.{RuleOf};
+    ghost use Rattle.tw_rules.specs.Table.{Table};
+
+    ghost Value = { Table };
+
+    ghost coded = { Prim.hlevel (codes, code {X = RuleOf Arg} {R = nat_cmp} coded_ℕ (Prim.hlevel codes)) };
+
+    ghost use Rattle.tw_rules.specs.Entries.{rules_in};
+    ghost use Rattle.tw_rules.specs.Indexed.{IsTable, has_place, rooms_of};
+
+    ghost view = { λ t. record {
+      rules = rules_in t.rules.entries;
+      next = t.next;
+      rooms = rooms_of (has_place (spare t.rules) (hash_map_len t.rules) (vec_capacity t.told)) t.agendas;
+    } };
+
+    ghost invariant = { λ t. IsTable t.rules.entries t.next t.agendas t.told.items (vec_capacity t.told) };
+}
+
+impl RuleTable {
+    /// No rules; the first is rule 1.
+    pub fn new(alloc: Global) -> RuleTable
+        ensures rules { result.rules ≡ map.empty }
+        ensures next { result.next ≡ 1 }
+    {
+        RuleTable {
+            rules: HashMap::new(alloc),
+            next: 1,
+            agendas: [
+                Agenda::new(alloc),
+                Agenda::new(alloc),
+                Agenda::new(alloc),
+                Agenda::new(alloc),
+            ],
+            told: Vec::new(alloc),
+        }
+    }
+
+    /// The number of rules that are pending.
+    pub fn pending(&self) -> usize
+        ensures { result ≡ map.len self.now.rules }
+    {
+        self.rules.len()
+    }
+
+    /// Makes room for one rule of an engine, for whatever procedure.
+    pub fn reserve(&mut self, engine: u8) -> Result<(), AllocError>
+        requires { engine < 4 }
+        ensures rules { self.new.rules ≡ self.old.rules }
+        ensures next { self.new.next ≡ self.old.next }
+        ensures room { OnOk result (room_for engine self.new ≡ true) }
+        ensures kept { (other : ℕ) → room_for other self.old ≡ true → room_for other self.new ≡ true }
+        ensures reserved { room_for engine self.old ≡ true → IsOk result }
+    {
+        self.rules.reserve(1)?;
+        self.told.reserve(self.rules.len() + 1)?;
+        let agenda = &mut self.agendas[usize::from(engine)];
+        agenda.reserve()
+    }
+
+    /// Adds a rule of an engine for a procedure of these parameters, or hands the arguments back where memory is refused.
+    pub fn add(
+        &mut self,
+        engine: u8,
+        params: &[Param],
+        action: Action,
+        args: Bundle,
+    ) -> Result<RuleNo, Bundle>
+        requires engine { engine < 4 }
+        requires few { length params.now ≤ 8 }
+        requires next { self.old.next < 2 ^ 63 }
+        ensures added { OnOk result (self.new.rules ≡ map.insert self.old.rules self.old.next (new_rule engine params.now action args)) }
+        ensures next { OnOk result (self.new.next ≡ self.old.next + 1) }
+        ensures number { IfOk result (λ number. number ≡ self.old.next) }
+        ensures refused { OnErr result ((self.new.rules ≡ self.old.rules) × (self.new.next ≡ self.old.next)) }
+        ensures room { OnErr result ((other : ℕ) → room_for other self.old ≡ true → room_for other self.new ≡ true) }
+        ensures back { IfErr result (λ back. back ≡ args) }
+        ensures reserved { room_for engine self.old ≡ true → IsOk result }
+    {
+        let Ok(()) = self.reserve(engine) else {
+            return Err(args);
+        };
+        let number = self.next;
+        let rule = Pending {
+            engine,
+            action,
+            args,
+            stages: first_stages(params),
+        };
+        let agenda = &mut self.agendas[usize::from(engine)];
+        agenda.add(number, rule.is_releasable());
+        put(&mut self.rules, number, rule);
+        self.next = number + 1;
+        Ok(RuleNo::new(number))
+    }
+
+    /// The rule and the parameter that the engine asks for next: of its rules the least, and of that the least parameter
+    /// that is unasked.
+    pub fn next_ask(&self, engine: u8) -> Option<(RuleNo, u8)>
+        ensures { result ≡ next_ask engine self.now.rules }
+    {
+        let agenda = self.agendas.get(usize::from(engine))?;
+        let number = agenda.asks.first()?;
+        let rule = pending(&self.rules, number);
+        let Some(parameter) = rule.first_unasked() else {
+            unreachable!();
+        };
+        Some((RuleNo::new(number), parameter))
+    }
+
+    /// The argument for a parameter of a rule.
+    pub fn arg(&self, rule: RuleNo, parameter: u8) -> Option<&Arg>
+        ensures { option_copied result ≡ arg_at self.now.rules rule parameter }
+    {
+        let rule = find(&self.rules, rule.number())?;
+        rule.args.get(usize::from(parameter))
+    }
+
+    /// The right that stands for a parameter of a rule.
+    pub fn asked_right(&self, rule: RuleNo, parameter: u8) -> &ReadRight
+        requires { IsSome (right_at self.now.rules rule parameter) }
+        ensures { right_at self.now.rules rule parameter ≡ Some result.now }
+    {
+        let Some(arg) = self.arg(rule, parameter) else {
+            unreachable!();
+        };
+        let Some(right) = read_right(arg) else {
+            unreachable!();
+        };
+        right
+    }
+
+    /// What is known of a parameter of a rule.
+    pub fn stage(&self, rule: RuleNo, parameter: u8) -> Option<Stage>
+        ensures { result ≡ stage_at self.now.rules rule parameter }
+    {
+        let rule = find(&self.rules, rule.number())?;
+        let stages = rule.stages.as_slice();
+        stages.get(usize::from(parameter)).copied()
+    }
+
+    /// Whether a rule that is pending can be released.
+    pub fn is_releasable(&self, rule: RuleNo) -> Option<bool>
+        ensures { result ≡ option_map is_releasable (get self.now.rules rule) }
+    {
+        let rule = find(&self.rules, rule.number())?;
+        Some(rule.is_releasable())
+    }
+
+    /// The number of the rule that is added next.
+    pub fn next(&self) -> RuleNo
+        ensures { result ≡ self.now.next }
+    {
+        RuleNo::new(self.next)
+    }
+
+    /// The datum of a parameter was open when it was asked: the parameter waits for a notice.
+    pub fn mark_asked(&mut self, rule: RuleNo, parameter: u8)
+        requires { stage_at self.old.rules rule parameter ≡ Some Unasked }
+        ensures rules { self.new.rules ≡ staged self.old.rules rule parameter Waiting }
+        ensures next { self.new.next ≡ self.old.next }
+        ensures room { (engine : ℕ) → room_for engine self.old ≡ true → room_for engine self.new ≡ true }
+    {
+        self.set_stage(rule, parameter, Stage::Waiting);
+    }
+
+    /// The datum of a parameter that was unasked, or waited, is closed.
+    pub fn mark_ready(&mut self, rule: RuleNo, parameter: u8)
+        requires { option_map is_settled (stage_at self.old.rules rule parameter) ≡ Some false }
+        ensures rules { self.new.rules ≡ staged self.old.rules rule parameter Ready }
+        ensures next { self.new.next ≡ self.old.next }
+        ensures room { (engine : ℕ) → room_for engine self.old ≡ true → room_for engine self.new ≡ true }
+    {
+        self.set_stage(rule, parameter, Stage::Ready);
+    }
+
+    /// The rule that the engine releases next: of its rules the least that can be.
+    pub fn next_release(&self, engine: u8) -> Option<RuleNo>
+        ensures { result ≡ next_release engine self.now.rules }
+    {
+        let agenda = self.agendas.get(usize::from(engine))?;
+        let number = agenda.releases.first()?;
+        Some(RuleNo::new(number))
+    }
+
+    /// The task that a rule becomes.
+    pub fn action(&self, rule: RuleNo) -> Action
+        requires { IsSome (get self.now.rules rule) }
+        ensures { option_map action_of (get self.now.rules rule) ≡ Some result }
+    {
+        pending(&self.rules, rule.number()).action
+    }
+
+    /// Takes a rule out that can be released, and gives its arguments.
+    pub fn release(&mut self, rule: RuleNo) -> Bundle
+        requires { option_map is_releasable (get self.old.rules rule) ≡ Some true }
+        ensures args { option_map (λ rule. rule.args) (get self.old.rules rule) ≡ Some result }
+        ensures rules { self.new.rules ≡ map.remove self.old.rules rule }
+        ensures next { self.new.next ≡ self.old.next }
+        ensures room { (engine : ℕ) → room_for engine self.old ≡ true → room_for engine self.new ≡ true }
+    {
+        let Pending {
+            engine,
+            action: _,
+            args,
+            stages: _,
+        } = take(&mut self.rules, rule.number());
+        let agenda = &mut self.agendas[usize::from(engine)];
+        agenda.trim_releases(&self.rules);
+        args
+    }
+
+    /// Spends every right, and tells the rules that were pending, in no order.
+    pub fn shut(self) -> Vec<PlainRule>
+        ensures { IsPermutation (each told (map.entries self.rules)) result.items }
+    {
+        let RuleTable {
+            mut rules,
+            next: _,
+            agendas: _,
+            mut told,
+        } = self;
+        while let Some(number) = first_number(&rules) {
+            let rule = take(&mut rules, number);
+            told.push_reserved(rule.spend(number));
+        }
+        rules.destroy_empty();
+        told
+    }
+
+    /// Puts a parameter at a stage past `Unasked`.
+    fn set_stage(&mut self, rule: RuleNo, parameter: u8, stage: Stage)
+        requires open { option_map is_settled (stage_at self.old.rules rule parameter) ≡ Some false }
+        requires asked { is_unasked stage ≡ false }
+        ensures rules { self.new.rules ≡ staged self.old.rules rule parameter stage }
+        ensures next { self.new.next ≡ self.old.next }
+        ensures room { (engine : ℕ) → room_for engine self.old ≡ true → room_for engine self.new ≡ true }
+    {
+        let number = rule.number();
+        let (engine, is_releasable) = set_stage(&mut self.rules, number, parameter, stage);
+        let agenda = &mut self.agendas[usize::from(engine)];
+        agenda.advance(&self.rules, number, is_releasable);
+    }
+}
+
+/// The right of an argument, if it is one to read.
+fn read_right(arg: &Arg) -> Option<&ReadRight>
+    ensures { option_copied result ≡ read_right arg.now }
+{
+    match arg {
+        Arg::Val(_) => None,
+        Arg::Read(right) => Some(right),
+        Arg::Write(_) => None,
+    }
+}
