@@ -4,3 +4,4 @@ pub mod Parts
 pub mod Statement
 pub mod Written
 pub mod Seen
+pub mod words

@@ -1,5 +1,5 @@
 -- What a statement of assembly text has, part by part, in the order of the text.
-use Rattle.std.specs.Prelude.{ℕ, ℤ, List, [], ◌∷◌, ◌++◌, map, codes, Option}
+use Rattle.std.specs.Prelude.{ℕ, ℤ, List, [], ◌∷◌, ◌++◌, map, codes, Option, Some, None}
 use Rattle.std.specs.List.{flat_map}
 use Rattle.tw_code.specs.declared.instr.Action.{Action}
 use Rattle.tw_code.specs.declared.instr.Arithmetic.{Arithmetic}
@@ -115,3 +115,14 @@ registers_parts registers = Name (codes "regs") ∷ map register_part registers
 -- a name and `:` as one word
 abbrev pub label_parts : List ℕ → List Part
 label_parts name = Name (name ++ codes ":") ∷ []
+
+-- ---- skips
+
+abbrev pub skip_among : List Part → Option ℕ
+skip_among [] = None
+skip_among (Skip skip ∷ parts) = Some skip
+skip_among (part ∷ parts) = skip_among parts
+
+-- how many instructions it skips, if it may skip any
+abbrev pub skip_of : Instr → Option ℕ
+skip_of i = skip_among (instr_parts i)
