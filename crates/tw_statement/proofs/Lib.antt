@@ -5,3 +5,5 @@ pub mod Skips
 pub mod Lines
 pub mod Once
 pub mod Written
+pub mod Labels
+pub mod OwnSkip
