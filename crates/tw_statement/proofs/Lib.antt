@@ -1,0 +1,10 @@
+pub mod Readings
+pub mod Numbers
+pub mod Colons
+pub mod Names
+pub mod OperandWords
+pub mod Sequences
+pub mod ParamWords
+pub mod Lined
+pub mod Table
+pub mod Answered
