@@ -24,7 +24,7 @@ Judged (Ok read) ws = IsRead read ws
 Judged (Err flaw) ws = IsFlawed flaw ws
 
 -- the first word of what is spelled
-first_is : (G : Goals) (name : List ℕ) (parts : List Part) (w : Word) (ws : List Word) → SpellParts G (Name name ∷ parts) (w ∷ ws) → (w ≡ Bare name) × SpellParts G parts ws
+pub first_is : (G : Goals) (name : List ℕ) (parts : List Part) (w : Word) (ws : List Word) → SpellParts G (Name name ∷ parts) (w ∷ ws) → (w ≡ Bare name) × SpellParts G parts ws
 first_is G name parts w ws (first, others, cut, h, rest) =
     let whole : w ∷ ws ≡ Bare name ∷ others = cut ∙ ap (λ (vs : List Word). vs ++ others) h in
     (head_is whole, subst (SpellParts G parts) (sym (tail_is whole)) rest)
@@ -35,7 +35,7 @@ first_is G name parts w ws (first, others, cut, h, rest) =
     tail_is : w ∷ ws ≡ Bare name ∷ others → ws ≡ others
     tail_is e = cc
 
-name_is : (a b : List ℕ) → Bare a ≡ Bare b → a ≡ b
+pub name_is : (a b : List ℕ) → Bare a ≡ Bare b → a ≡ b
 name_is a b e = cc
 
 -- ---- instructions
@@ -50,11 +50,11 @@ none_some o e = cc
 one_code : (a b : Opcode) → Some a ≡ Some b → a ≡ b
 one_code a b e = cc
 
-proc_is_none : opcode_of (codes "proc") ≡ None
+pub proc_is_none : opcode_of (codes "proc") ≡ None
 unfolding opcode_of
 proc_is_none = refl
 
-regs_is_none : opcode_of (codes "regs") ≡ None
+pub regs_is_none : opcode_of (codes "regs") ≡ None
 unfolding opcode_of
 regs_is_none = refl
 

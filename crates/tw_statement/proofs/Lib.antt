@@ -8,3 +8,6 @@ pub mod ParamWords
 pub mod Lined
 pub mod Table
 pub mod Answered
+pub mod Sayings
+pub mod HeadWords
+pub mod Whole

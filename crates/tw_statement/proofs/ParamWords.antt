@@ -118,17 +118,17 @@ item_read mode k depth s (inr h) = by (nat_lt 3 k) refl
     by true e = ((param_of mode (record { depth = depth; scalar = s }), refl), λ p is m. absurd (omega (arith, h.1, subst IsShallowParam is m)))
     by false e = absurd (grind (arith, nat_tests))
 
-scalar_apart : (s : Scalar) → Bare (scalar_word s) ≡ Bare (codes "cont") → ⊥
+pub scalar_apart : (s : Scalar) → Bare (scalar_word s) ≡ Bare (codes "cont") → ⊥
 scalar_apart scalar.Int e = cc
 scalar_apart scalar.Text e = cc
 
-one_scalar : (a b : Scalar) → Bare (scalar_word a) ≡ Bare (scalar_word b) → a ≡ b
+pub one_scalar : (a b : Scalar) → Bare (scalar_word a) ≡ Bare (scalar_word b) → a ≡ b
 one_scalar scalar.Int scalar.Int e = refl
 one_scalar scalar.Int scalar.Text e = cc
 one_scalar scalar.Text scalar.Int e = cc
 one_scalar scalar.Text scalar.Text e = refl
 
-one_mode : (a b : Mode) → Bare (mode_word a) ≡ Bare (mode_word b) → a ≡ b
+pub one_mode : (a b : Mode) → Bare (mode_word a) ≡ Bare (mode_word b) → a ≡ b
 one_mode Val Val e = refl
 one_mode Val Closed e = cc
 one_mode Val Ref e = cc
