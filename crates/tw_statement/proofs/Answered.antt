@@ -10,7 +10,7 @@ use Rattle.tw_statement.proofs.Lined.{HasLine, MayLine, found, goals_by, label_n
 use Rattle.tw_statement.proofs.OperandWords.{IsFine}
 use Rattle.tw_statement.proofs.Readings.{Reads}
 use Rattle.tw_statement.proofs.Table.{made, named, named_back, no_colon, parts_are, within, within_back}
-use Rattle.tw_statement.specs.Parts.{Part, Name, instr_parts, label_parts}
+use Rattle.tw_statement.specs.Parts.{Part, Name, Value, Right, Number, Natural, Literal, TypeOf, Skip, Target, instr_parts, kind_word, param_parts, register_part}
 use Rattle.tw_statement.specs.Seen.{IsFlawed, IsRead, NoName, OnlyName, Read}
 use Rattle.tw_statement.specs.Statement.{AnyName, AnyShortName, Code, Goals, HaveForm, Head, IsInLimits, IsName, IsShortName, Label, NamesLabel, Registers, Say, SpellParts, Spells, SpellsPart, Statement, statement_parts}
 use Rattle.tw_statement.specs.declared.opcode.Opcode.{Opcode}
@@ -69,9 +69,9 @@ code_parts G o p x word ws is h =
 
 is_code : (G : Goals) (o : Opcode) (word : List ℕ) (ws : List Word) → opcode_of word ≡ Some o → (statement : Statement) → SpellParts G (statement_parts statement) (Bare word ∷ ws) → IsCode G o ws statement
 is_code G o word ws is (Head kind params) h =
-    absurd (none_some o (sym proc_is_none ∙ (sym (ap opcode_of (name_is word (codes "proc") (first_is G (codes "proc") _ (Bare word) ws h).0)) ∙ is)))
+    absurd (none_some o (sym proc_is_none ∙ (sym (ap opcode_of (name_is word (codes "proc") (first_is G (codes "proc") (Name (kind_word kind) ∷ flat_map param_parts params) (Bare word) ws h).0)) ∙ is)))
 is_code G o word ws is (Registers registers) h =
-    absurd (none_some o (sym regs_is_none ∙ (sym (ap opcode_of (name_is word (codes "regs") (first_is G (codes "regs") _ (Bare word) ws h).0)) ∙ is)))
+    absurd (none_some o (sym regs_is_none ∙ (sym (ap opcode_of (name_is word (codes "regs") (first_is G (codes "regs") (map register_part registers) (Bare word) ws h).0)) ∙ is)))
 is_code G o word ws is (Label name) h =
     let e : word ≡ name ++ codes ":" = name_is word (name ++ codes ":") (first_is G (name ++ codes ":") [] (Bare word) ws h).0 in
     absurd (no_name (sym (no_colon o) ∙ (ap before_colon (sym (named_back word o is) ∙ e) ∙ before name)))
@@ -123,11 +123,15 @@ code_read_so o word ws is x has may = by (label_in (line_of o) x) refl
         let parts = subst (λ (l : Option (List ℕ)). SpellParts (goals_by l) (parts_of (line_of o) x) ws) e (spelled (line_of o) ws x has) in
         let found = label_named (line_of o) ws x name has e in (
           within o x (parts_may (line_of o) ws x has may),
-          ((found.0, found.1 may), with_name (OnlyName name) o x word ws (named_back word o is) parts, record {
-            i = instr_of o x;
-            spells = with_name (λ skip w. w ≡ name) o x word ws (named_back word o is) (widened (OnlyName name) (λ skip w. w ≡ name) (λ _ _ k. k.1) (parts_of (line_of o) x) ws parts);
-            names = λ other s. let c = is_code (λ _ _. ⊥) o word ws is (Code other) s.parts in unnumbered (line_of o) ws x c.0 name has e c.2;
-          }),
+          (
+            (found.0, found.1 may),
+            with_name (OnlyName name) o x word ws (named_back word o is) parts,
+            record {
+              i = instr_of o x;
+              spells = with_name (λ skip w. w ≡ name) o x word ws (named_back word o is) (widened (OnlyName name) (λ skip w. w ≡ name) (λ _ _ k. k.1) (parts_of (line_of o) x) ws parts);
+              names = λ other s. let c = is_code (λ _ _. ⊥) o word ws is (Code other) s.parts in unnumbered (line_of o) ws x c.0 name has e c.2;
+            },
+          ),
         )
 
 code_has_form : (o : Opcode) (word : List ℕ) (ws : List Word) → opcode_of word ≡ Some o → (x : LineContent (line_of o)) → HasLine (line_of o) ws x → Spells AnyName (Code (instr_of o x)) (Bare word ∷ ws)

@@ -1,11 +1,12 @@
 -- Procedures' heads: what is read answers which words spell which statements.
 use Rattle.std.proofs.Common.{◌≡◌, ◌≢◌, ◌==◌, ◌⊎◌, ℕ, zero, suc, ◌+◌, ◌≤◌, Bool, true, false, List, [], ◌∷◌, ◌++◌, length, map, replicate, codes, Option, Some, None, inl, inr, Result, Ok, Err, refl, sym, ap, subst, ◌∙◌, arith, append_assoc, add-zero, zero-add}
 use Rattle.std.specs.List.{AllByRecursion, flat_map}
+use Rattle.std.proofs.lemmas.Bool.{eqb-true}
 use Rattle.tw_code.specs.declared.instr.Instr.{Instr}
 use Rattle.tw_code.specs.format.Program.{IsList, IsParam, IsTypeUnder}
 use Rattle.tw_lines.specs.Words.{Word, Bare, Quoted}
 use Rattle.tw_statement.proofs.Answered.{Judged, first_is, name_is, proc_is_none}
-use Rattle.tw_statement.proofs.OperandWords.{Free, kind_read}
+use Rattle.tw_statement.proofs.OperandWords.{Free, kind_read, other_bytes}
 use Rattle.tw_statement.proofs.ParamWords.{HaveParams, IsShallowParam, one_mode, one_scalar, params_read, scalar_apart}
 use Rattle.tw_statement.proofs.Readings.{Reads, both_read}
 use Rattle.tw_statement.proofs.Sayings.{code_first, no_label, none_some, nonempty}
@@ -110,10 +111,7 @@ type_down mode k (suc j) s others ws flat h =
 
 flat_form : (mode : Mode) (depth : ℕ) → IsTypeOfMode mode (depth == 0) → mode ≡ Val → depth ≡ 0
 flat_form Val zero h e = refl
-flat_form Val (suc depth) h e = absurd (no h)
-  where
-    no : (suc depth == 0) ≡ true → ⊥
-    no e = cc
+flat_form Val (suc depth) h e = eqb-true (suc depth) 0 h
 flat_form Closed depth h e = absurd (no e)
   where
     no : Closed ≡ Val → ⊥
@@ -131,9 +129,9 @@ down : (G : Goals) (ps : List Param) (ws : List Word) → SpellParts G (flat_map
 down G [] ws e h = subst (λ (vs : List Word). HaveParams None vs []) (sym e) refl
 down G (p ∷ ps) ws (first, others, cut, is, (words, rest, parts, has, whole)) h =
     let inner : HaveParams (Some (p.mode, 0)) ((replicate p.ty.depth cont ++ (Bare (scalar_word p.ty.scalar) ∷ [])) ++ rest) (param_of p.mode (record { depth = 0 + p.ty.depth; scalar = p.ty.scalar }) ∷ ps) =
-        type_down p.mode 0 p.ty.depth p.ty.scalar ps rest (flat_form p.mode p.ty.depth h.0) (down G ps rest whole h.1) in
+    type_down p.mode 0 p.ty.depth p.ty.scalar ps rest (flat_form p.mode p.ty.depth h.0) (down G ps rest whole h.1) in
     let same : HaveParams (Some (p.mode, 0)) ((replicate p.ty.depth cont ++ (Bare (scalar_word p.ty.scalar) ∷ [])) ++ rest) (p ∷ ps) =
-        subst (λ (d : ℕ). HaveParams (Some (p.mode, 0)) ((replicate p.ty.depth cont ++ (Bare (scalar_word p.ty.scalar) ∷ [])) ++ rest) (param_of p.mode (record { depth = d; scalar = p.ty.scalar }) ∷ ps)) (zero-add p.ty.depth) inner in
+    subst (λ (d : ℕ). HaveParams (Some (p.mode, 0)) ((replicate p.ty.depth cont ++ (Bare (scalar_word p.ty.scalar) ∷ [])) ++ rest) (param_of p.mode (record { depth = d; scalar = p.ty.scalar }) ∷ ps)) (zero-add p.ty.depth) inner in
     let at : HaveParams (Some (p.mode, 0)) others (p ∷ ps) = subst (λ (vs : List Word). HaveParams (Some (p.mode, 0)) vs (p ∷ ps)) (sym (parts ∙ ap (λ (vs : List Word). vs ++ rest) has)) same in
     subst (λ (vs : List Word). HaveParams None vs (p ∷ ps)) (sym (cut ∙ ap (λ (vs : List Word). vs ++ others) is)) (p.mode, refl, at)
 
@@ -169,10 +167,7 @@ params_shallow (p ∷ ps) h = (by p.mode p.ty.depth p.ty.scalar h.0, params_shal
   where
     by : (mode : Mode) (depth : ℕ) (s : Scalar) → IsTypeUnder mode (record { depth = depth; scalar = s }) → depth ≤ 3
     by Val zero s h = omega arith
-    by Val (suc depth) s h = absurd (no h)
-      where
-        no : (suc depth == 0) ≡ true → ⊥
-        no e = cc
+    by Val (suc depth) s h = absurd (omega (arith, eqb-true (suc depth) 0 h))
     by Closed depth s h = h
     by Ref depth s h = h
     by Write depth s h = h
@@ -180,7 +175,7 @@ params_shallow (p ∷ ps) h = (by p.mode p.ty.depth p.ty.scalar h.0, params_shal
 -- ---- heads
 
 proc_first : codes "proc" ≡ codes "regs" → ⊥
-proc_first e = cc
+proc_first e = other_bytes (codes "proc") (codes "regs") refl (ap (λ (t : List ℕ). Bare t) e)
 
 proc_no_label : before_colon (codes "proc") ≡ None
 proc_no_label = refl
@@ -189,8 +184,8 @@ abbrev IsHeadOf : Word → List Word → Kind × List Param → Type 0
 IsHeadOf w ws x = (w ≡ Bare (kind_word x.0)) × HaveParams None ws x.1
 
 head_parts_of : (G : Goals) (ws : List Word) (statement : Statement) → Spells G statement (Bare (codes "proc") ∷ ws) → (kind : Kind) × (params : List Param) × (statement ≡ Head kind params) × AllByRecursion HasItsForm params × SpellParts G (Name (kind_word kind) ∷ flat_map param_parts params) ws
-head_parts_of G ws (Head kind params) h = (kind, params, refl, h.form, (first_is G (codes "proc") _ (Bare (codes "proc")) ws h.parts).1)
-head_parts_of G ws (Registers rs) h = absurd (proc_first (name_is (codes "proc") (codes "regs") (first_is G (codes "regs") _ (Bare (codes "proc")) ws h.parts).0))
+head_parts_of G ws (Head kind params) h = (kind, params, refl, h.form, (first_is G (codes "proc") (Name (kind_word kind) ∷ flat_map param_parts params) (Bare (codes "proc")) ws h.parts).1)
+head_parts_of G ws (Registers rs) h = absurd (proc_first (name_is (codes "proc") (codes "regs") (first_is G (codes "regs") (map register_part rs) (Bare (codes "proc")) ws h.parts).0))
 head_parts_of G ws (Label name) h = absurd (no_label (codes "proc") name proc_no_label (name_is (codes "proc") (name ++ codes ":") (first_is G (name ++ codes ":") [] (Bare (codes "proc")) ws h.parts).0))
 head_parts_of G ws (Code i) h = let k = code_first G i (codes "proc") ws h.parts in absurd (none_some k.0 (sym proc_is_none ∙ k.1))
 
@@ -211,11 +206,13 @@ MayHead x = Free x.0 × IsList 0 8 IsShallowParam x.1
 head_judged : (w : Word) (ws : List Word) (r : Result (Kind × List Param) Flaw) → Reads (IsHeadOf w ws) MayHead r → Judged (as_is head_read r) (Bare (codes "proc") ∷ w ∷ ws)
 head_judged w ws (Ok x) h = ((h.1.1.0, params_within x.1 ((up NoName ws).0 x.1 h.0.1).1 h.1.1.1), head_spelled NoName w ws x h.0)
 head_judged w ws (Err Form) h = λ form. let k = is_head AnyName w ws form.0 form.1 in h k.0 k.2
-head_judged w ws (Err Limit) h =
-    ((Head h.0.0.0 h.0.0.1, head_spelled AnyName w ws h.0.0 h.0.1), λ statement say.
-     let k = is_head AnyShortName w ws statement say.0 in
-     let limits = subst IsInLimits k.1 say.1 in
-     h.1 k.0 k.2 (tt, (limits.0, params_shallow k.0.1 limits.1)))
+head_judged w ws (Err Limit) h = (
+  (Head h.0.0.0 h.0.0.1, head_spelled AnyName w ws h.0.0 h.0.1),
+  λ statement say.
+      let k = is_head AnyShortName w ws statement say.0 in
+      let limits = subst IsInLimits k.1 say.1 in
+      h.1 k.0 k.2 (tt, (limits.0, params_shallow k.0.1 limits.1)),
+)
 
 pub head_answered : (ws : List Word) → Judged (head_in ws) (Bare (codes "proc") ∷ ws)
 head_answered [] = λ form. let k = head_parts_of AnyName [] form.0 form.1 in nonempty AnyName (kind_word k.0) (flat_map param_parts k.1) k.4

@@ -197,13 +197,13 @@ goal_named w skip other None name h e s = none e
   where
     none : None ≡ Some name → ⊥
     none e = cc
-goal_named w skip other (Some found) name h e (first, others, cut, inr k, none) = k.1
-goal_named w skip other (Some found) name (z, is_name, e') e (first, others, cut, inl k, none) = plus found is_name (sym (ap (λ (v : Word). v ∷ others) (sym e')) ∙ (whole (cut ∙ ap (λ (vs : List Word). vs ++ others) k.2)))
+goal_named w skip other (Some given) name h e (first, others, cut, inr k, none) = k.1
+goal_named w skip other (Some given) name (z, is_name, is) e (first, others, cut, inl k, none) = plus given is_name (ap (λ (v : Word). v ∷ others) (sym is) ∙ whole (cut ∙ ap (λ (vs : List Word). vs ++ others) k.2))
   where
     whole : w ∷ [] ≡ Bare (codes "+" ++ k.0) ∷ others → w ∷ others ≡ Bare (codes "+" ++ k.0) ∷ others
     whole e = cc
 
-    plus : (found : List ℕ) → IsName found → Bare found ∷ others ≡ Bare (43 ∷ k.0) ∷ others → ⊥
+    plus : (given : List ℕ) → IsName given → Bare given ∷ others ≡ Bare (43 ∷ k.0) ∷ others → ⊥
     plus [] h e = h
     plus (b ∷ rest) h e = no_letter b h.0 (is e)
       where

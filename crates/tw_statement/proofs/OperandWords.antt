@@ -148,7 +148,7 @@ Free a = Unit {0}
 same_bytes : (text word : List ℕ) → bytes_eq text word ≡ true → Bare text ≡ Bare word
 same_bytes text word is = ap (λ (t : List ℕ). Bare t) ((bytes_eq-Decides text word).0 is)
 
-other_bytes : (text word : List ℕ) → bytes_eq text word ≡ false → Bare text ≡ Bare word → ⊥
+pub other_bytes : (text word : List ℕ) → bytes_eq text word ≡ false → Bare text ≡ Bare word → ⊥
 other_bytes text word isnt e = no (sym isnt ∙ (bytes_eq-Decides text word).1 (inner e))
   where
     inner : Bare text ≡ Bare word → text ≡ word

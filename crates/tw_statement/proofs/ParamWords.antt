@@ -4,7 +4,7 @@ use Rattle.std.specs.Prelude.{nat_lt}
 use Rattle.std.specs.List.{AllByRecursion, flat_map}
 use Rattle.std.proofs.lemmas.Bool.Decides.{nat_tests}
 use Rattle.tw_lines.specs.Words.{Word, Bare, Quoted}
-use Rattle.tw_statement.proofs.OperandWords.{Free, IsPieceOf, mode_read, piece_read}
+use Rattle.tw_statement.proofs.OperandWords.{Free, IsPieceOf, mode_read, other_bytes, piece_read}
 use Rattle.tw_statement.proofs.Readings.{Reads, both_read, carried, likewise}
 use Rattle.tw_statement.proofs.Sequences.{nothing_after, nothing_before, put_first, regroup, together}
 use Rattle.tw_statement.specs.Parts.{mode_word, scalar_word}
@@ -119,31 +119,31 @@ item_read mode k depth s (inr h) = by (nat_lt 3 k) refl
     by false e = absurd (grind (arith, nat_tests))
 
 pub scalar_apart : (s : Scalar) → Bare (scalar_word s) ≡ Bare (codes "cont") → ⊥
-scalar_apart scalar.Int e = cc
-scalar_apart scalar.Text e = cc
+scalar_apart scalar.Int e = other_bytes (codes "int") (codes "cont") refl e
+scalar_apart scalar.Text e = other_bytes (codes "text") (codes "cont") refl e
 
 pub one_scalar : (a b : Scalar) → Bare (scalar_word a) ≡ Bare (scalar_word b) → a ≡ b
 one_scalar scalar.Int scalar.Int e = refl
-one_scalar scalar.Int scalar.Text e = cc
-one_scalar scalar.Text scalar.Int e = cc
+one_scalar scalar.Int scalar.Text e = absurd (other_bytes (codes "int") (codes "text") refl e)
+one_scalar scalar.Text scalar.Int e = absurd (other_bytes (codes "text") (codes "int") refl e)
 one_scalar scalar.Text scalar.Text e = refl
 
 pub one_mode : (a b : Mode) → Bare (mode_word a) ≡ Bare (mode_word b) → a ≡ b
 one_mode Val Val e = refl
-one_mode Val Closed e = cc
-one_mode Val Ref e = cc
-one_mode Val Write e = cc
-one_mode Closed Val e = cc
+one_mode Val Closed e = absurd (other_bytes (codes "val") (codes "closed") refl e)
+one_mode Val Ref e = absurd (other_bytes (codes "val") (codes "ref") refl e)
+one_mode Val Write e = absurd (other_bytes (codes "val") (codes "write") refl e)
+one_mode Closed Val e = absurd (other_bytes (codes "closed") (codes "val") refl e)
 one_mode Closed Closed e = refl
-one_mode Closed Ref e = cc
-one_mode Closed Write e = cc
-one_mode Ref Val e = cc
-one_mode Ref Closed e = cc
+one_mode Closed Ref e = absurd (other_bytes (codes "closed") (codes "ref") refl e)
+one_mode Closed Write e = absurd (other_bytes (codes "closed") (codes "write") refl e)
+one_mode Ref Val e = absurd (other_bytes (codes "ref") (codes "val") refl e)
+one_mode Ref Closed e = absurd (other_bytes (codes "ref") (codes "closed") refl e)
 one_mode Ref Ref e = refl
-one_mode Ref Write e = cc
-one_mode Write Val e = cc
-one_mode Write Closed e = cc
-one_mode Write Ref e = cc
+one_mode Ref Write e = absurd (other_bytes (codes "ref") (codes "write") refl e)
+one_mode Write Val e = absurd (other_bytes (codes "write") (codes "val") refl e)
+one_mode Write Closed e = absurd (other_bytes (codes "write") (codes "closed") refl e)
+one_mode Write Ref e = absurd (other_bytes (codes "write") (codes "ref") refl e)
 one_mode Write Write e = refl
 
 abbrev ReadsParams : Option (Mode × ℕ) → List Word → Result (List Param) Flaw → Type 0
@@ -203,10 +203,11 @@ by_piece w ws mode k depth count (Err Limit) h deep others d o = absurd (h.1 h.0
 
 right_read : (ws : List Word) (mode : Mode) (k depth : ℕ) → IsCounted k depth → ReadsParams None ws (params_right None ws) × ReadsParams (Some (mode, depth)) ws (params_right (Some (mode, k)) ws)
 right_read [] mode k depth count = ((refl, tt), λ ps h. h)
-right_read (w ∷ ws) mode k depth count =
-    (by_mode w ws (mode_in w) (mode_read w) (λ m. params_right (Some (m, 0)) ws) (λ m. (right_read ws m 0 0 (inl (refl, omega arith))).1),
-    by_piece w ws mode k depth count (piece_in w) (piece_read w) (params_right (Some (mode, deeper k)) ws) (params_right None ws)
-    (right_read ws mode (deeper k) (suc depth) (counted k depth count)).1 (right_read ws mode k depth count).0)
+right_read (w ∷ ws) mode k depth count = (
+  by_mode w ws (mode_in w) (mode_read w) (λ m. params_right (Some (m, 0)) ws) (λ m. (right_read ws m 0 0 (inl (refl, omega arith))).1),
+  by_piece w ws mode k depth count (piece_in w) (piece_read w) (params_right (Some (mode, deeper k)) ws) (params_right None ws)
+      (right_read ws mode (deeper k) (suc depth) (counted k depth count)).1 (right_read ws mode k depth count).0,
+)
 
 pub params_read : (ws : List Word) → Reads (HaveParams None ws) (AllByRecursion IsShallowParam) (params_from no_params ws)
 params_read ws = subst (Reads (HaveParams None ws) (AllByRecursion IsShallowParam)) (sym (params_are ws)) (right_read ws Val 0 0 (inl (refl, omega arith))).0

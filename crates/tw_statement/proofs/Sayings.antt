@@ -1,17 +1,18 @@
 -- Registers and labels: what is read answers which words spell which statements.
 use Rattle.std.proofs.Common.{◌≡◌, ◌≢◌, ℕ, ◌≤◌, Bool, true, false, cond, List, [], ◌∷◌, ◌++◌, length, map, codes, Option, Some, None, Result, Ok, Err, refl, sym, ap, subst, ◌∙◌, arith}
-use Rattle.std.specs.List.{AllByRecursion}
+use Rattle.std.specs.List.{AllByRecursion, flat_map}
 use Rattle.tw_code.specs.declared.instr.Instr.{Instr}
 use Rattle.tw_code.specs.format.Program.{IsList}
 use Rattle.tw_lines.specs.Words.{Word, Bare, Quoted}
 use Rattle.tw_statement.proofs.Answered.{Judged, first_is, name_is, proc_is_none, regs_is_none}
 use Rattle.tw_statement.proofs.Colons.{before, found_before}
+use Rattle.tw_statement.proofs.Lined.{parts_of}
 use Rattle.tw_statement.proofs.Names.{IsThisName, name_read}
-use Rattle.tw_statement.proofs.OperandWords.{Free, scalar_read}
+use Rattle.tw_statement.proofs.OperandWords.{Free, other_bytes, scalar_read}
 use Rattle.tw_statement.proofs.Readings.{Reads}
 use Rattle.tw_statement.proofs.Sequences.{HaveEach, each_long, each_read, few_read}
 use Rattle.tw_statement.proofs.Table.{made, named, parts_are}
-use Rattle.tw_statement.specs.Parts.{Part, Name, instr_parts, register_part, scalar_word}
+use Rattle.tw_statement.specs.Parts.{Part, Name, instr_parts, kind_word, param_parts, register_part, scalar_word}
 use Rattle.tw_statement.specs.Seen.{NoName, Read}
 use Rattle.tw_statement.specs.Statement.{AnyName, AnyShortName, Code, Goals, HasForm, Head, IsInLimits, IsName, Label, Registers, SpellParts, Spells, Statement, statement_parts}
 use Rattle.tw_statement.specs.declared.opcode.Opcode.{Opcode}
@@ -28,7 +29,7 @@ code_first G i word ws h = by (made i)
     by : (p : Opcode) × (x : LineContent (line_of p)) × (i ≡ instr_of p x) → (o : Opcode) × (opcode_of word ≡ Some o)
     by (p, x, e) =
         let parts = subst (λ (j : Instr). SpellParts G (instr_parts j) (Bare word ∷ ws)) e h in
-        let k = first_is G (word_of p) _ (Bare word) ws (subst (λ (ps : List Part). SpellParts G ps (Bare word ∷ ws)) (parts_are p x) parts) in
+        let k = first_is G (word_of p) (parts_of (line_of p) x) (Bare word) ws (subst (λ (ps : List Part). SpellParts G ps (Bare word ∷ ws)) (parts_are p x) parts) in
         (p, ap opcode_of (name_is word (word_of p) k.0) ∙ named p)
 
 pub none_some : {A : Type 0} (a : A) → None ≡ Some a → ⊥
@@ -65,13 +66,13 @@ scalars_down G (w ∷ ws) [] h = none h
 scalars_down G (w ∷ ws) (r ∷ rs) h = let k = first_is G (scalar_word r) (map register_part rs) w ws h in (k.0, scalars_down G ws rs k.1)
 
 regs_first : codes "regs" ≡ codes "proc" → ⊥
-regs_first e = cc
+regs_first e = other_bytes (codes "regs") (codes "proc") refl (ap (λ (t : List ℕ). Bare t) e)
 
 regs_no_label : before_colon (codes "regs") ≡ None
 regs_no_label = refl
 
 is_registers : (G : Goals) (ws : List Word) (statement : Statement) → SpellParts G (statement_parts statement) (Bare (codes "regs") ∷ ws) → (rs : List Scalar) × (statement ≡ Registers rs) × HaveEach IsScalarWord ws rs
-is_registers G ws (Head kind params) h = absurd (regs_first (name_is (codes "regs") (codes "proc") (first_is G (codes "proc") _ (Bare (codes "regs")) ws h).0))
+is_registers G ws (Head kind params) h = absurd (regs_first (name_is (codes "regs") (codes "proc") (first_is G (codes "proc") (Name (kind_word kind) ∷ flat_map param_parts params) (Bare (codes "regs")) ws h).0))
 is_registers G ws (Registers rs) h = (rs, refl, scalars_down G ws rs (first_is G (codes "regs") (map register_part rs) (Bare (codes "regs")) ws h).1)
 is_registers G ws (Label name) h = absurd (no_label (codes "regs") name regs_no_label (name_is (codes "regs") (name ++ codes ":") (first_is G (name ++ codes ":") [] (Bare (codes "regs")) ws h).0))
 is_registers G ws (Code i) h = let k = code_first G i (codes "regs") ws h in absurd (none_some k.0 (sym regs_is_none ∙ k.1))
@@ -98,8 +99,8 @@ registers_answered ws =
 
 is_label : (G : Goals) (word : List ℕ) (ws : List Word) → word ≢ codes "proc" → word ≢ codes "regs" → opcode_of word ≡ None → (statement : Statement) → SpellParts G (statement_parts statement) (Bare word ∷ ws)
     → (name : List ℕ) × (statement ≡ Label name) × (word ≡ name ++ codes ":") × (ws ≡ [])
-is_label G word ws no_proc no_regs no_code (Head kind params) h = absurd (no_proc (name_is word (codes "proc") (first_is G (codes "proc") _ (Bare word) ws h).0))
-is_label G word ws no_proc no_regs no_code (Registers rs) h = absurd (no_regs (name_is word (codes "regs") (first_is G (codes "regs") _ (Bare word) ws h).0))
+is_label G word ws no_proc no_regs no_code (Head kind params) h = absurd (no_proc (name_is word (codes "proc") (first_is G (codes "proc") (Name (kind_word kind) ∷ flat_map param_parts params) (Bare word) ws h).0))
+is_label G word ws no_proc no_regs no_code (Registers rs) h = absurd (no_regs (name_is word (codes "regs") (first_is G (codes "regs") (map register_part rs) (Bare word) ws h).0))
 is_label G word ws no_proc no_regs no_code (Label name) h = let k = first_is G (name ++ codes ":") [] (Bare word) ws h in (name, refl, name_is word (name ++ codes ":") k.0, k.1)
 is_label G word ws no_proc no_regs no_code (Code i) h = let k = code_first G i word ws h in absurd (none_some k.0 (sym no_code ∙ k.1))
 
@@ -123,9 +124,10 @@ module _ (word : List ℕ) (no_proc : word ≢ codes "proc") (no_regs : word ≢
   label_judged : (found : List ℕ) → before_colon word ≡ Some found → (r : Result (List ℕ) Flaw) → Reads (IsThisName found) (λ name. length name ≤ 64) r → Judged (as_is label_read r) (Bare word ∷ [])
   label_judged found is (Ok name) h = (h.1, label_spelled NoName name (found_before word found is ∙ ap (λ (t : List ℕ). t ++ codes ":") h.0.1) h.0.0)
   label_judged found is (Err Form) h = λ form. h found ((spelled_name AnyName found is form.0 form.1).1, refl)
-  label_judged found is (Err Limit) h =
-      ((Label h.0.0, label_spelled AnyName h.0.0 (found_before word found is ∙ ap (λ (t : List ℕ). t ++ codes ":") h.0.1.1) h.0.1.0),
-      λ statement say. let k = spelled_name AnyShortName found is statement say.0 in h.1 found (k.1, refl) (subst IsInLimits k.0 say.1))
+  label_judged found is (Err Limit) h = (
+    (Label h.0.0, label_spelled AnyName h.0.0 (found_before word found is ∙ ap (λ (t : List ℕ). t ++ codes ":") h.0.1.1) h.0.1.0),
+    λ statement say. let k = spelled_name AnyShortName found is statement say.0 in h.1 found (k.1, refl) (subst IsInLimits k.0 say.1),
+  )
 
   none_judged : before_colon word ≡ None → Judged (Err Form) (Bare word ∷ [])
   none_judged none = λ form. let k = is_label AnyName word [] no_proc no_regs no_code form.0 form.1.parts in no_label word k.0 none k.2

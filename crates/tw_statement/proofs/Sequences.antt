@@ -1,12 +1,15 @@
 -- The readings of items one after the other, and of types.
-use Rattle.std.proofs.Common.{◌≡◌, ◌==◌, ℕ, zero, suc, ◌+◌, ◌<◌, ◌≤◌, Bool, true, false, cond, List, [], ◌∷◌, ◌++◌, length, map, replicate, codes, Option, Some, None, Result, Ok, Err, refl, sym, ap, subst, ◌∙◌, arith, append_assoc, add-zero}
+use Rattle.std.proofs.Common.{◌≡◌, ◌==◌, ℕ, zero, suc, ◌+◌, ◌-◌, take, get_or, ◌<◌, ◌≤◌, Bool, true, false, cond, List, [], ◌∷◌, ◌++◌, length, map, replicate, codes, Option, Some, None, Result, Ok, Err, refl, sym, ap, subst, ◌∙◌, arith, append_assoc, add-zero}
 use Rattle.std.specs.Prelude.{nat_lt}
 use Rattle.std.specs.List.{AllByRecursion}
 use Rattle.std.proofs.lemmas.Bool.{ltb-true}
 use Rattle.std.proofs.lemmas.Bool.Decides.{nat_tests}
+use Rattle.std.proofs.lemmas.List.{length-map, map-append, take_all, take_more}
 use Rattle.tw_code.specs.format.Program.{IsList, IsRegister, IsWithin}
+use Rattle.tw_lines.specs.Seen.{seen}
 use Rattle.tw_lines.specs.Words.{Word, Bare, Quoted}
-use Rattle.tw_statement.proofs.OperandWords.{Free, IsPieceOf, natural_read, piece_read, scalar_read}
+use Rattle.tw_lines.specs.declared.word.Word as words
+use Rattle.tw_statement.proofs.OperandWords.{Free, IsPieceOf, natural_read, other_bytes, piece_read, scalar_read}
 use Rattle.tw_statement.proofs.Readings.{Reads, both_read, carried, likewise}
 use Rattle.tw_statement.specs.Parts.{scalar_word}
 use Rattle.tw_statement.specs.Statement.{SpellsWith}
@@ -179,8 +182,8 @@ type_read k (w ∷ x ∷ ws) = by (piece_in w) (piece_read w) (type_read (suc k)
     by (Ok (Some s)) p h = λ ty g. scalar_apart s (sym p.0 ∙ (more_words w x ws g.0 ty.scalar g.2).2)
       where
         scalar_apart : (s : Scalar) → Bare (scalar_word s) ≡ Bare (codes "cont") → ⊥
-        scalar_apart scalar.Int e = cc
-        scalar_apart scalar.Text e = cc
+        scalar_apart scalar.Int e = other_bytes (codes "int") (codes "cont") refl e
+        scalar_apart scalar.Text e = other_bytes (codes "text") (codes "cont") refl e
     by (Err Form) p h = λ ty g. p None (more_words w x ws g.0 ty.scalar g.2).2
     by (Err Limit) p h = absurd (p.1 p.0.0 p.0.1 tt)
 
@@ -202,3 +205,27 @@ pub type_at_last : (k : ℕ) (cs : List Word) (l : Word) → type_from k (cs ++ 
 type_at_last k [] l = ap (λ (n : ℕ). last_in n (scalar_in l)) (sym (add-zero k))
 type_at_last k (c ∷ []) l = type_step k c l [] [] l (type_at_last (suc k) [] l)
 type_at_last k (c ∷ d ∷ ds) l = type_step k c d (ds ++ l ∷ []) (d ∷ ds) l (type_at_last (suc k) (d ∷ ds) l)
+
+-- words, by those before the last
+module _ (ws : List words.Word) (last : words.Word) (some : 1 ≤ length ws) (is : last ≡ get_or ws (length ws - 1) last) where
+  abbrev front : List words.Word
+  front = take (length ws - 1) ws
+
+  cut : ws ≡ front ++ last ∷ []
+  cut =
+      sym (take_all (length ws - 1 + 1) ws (omega arith))
+      ∙ (take_more ws (length ws - 1) last (omega arith) ∙ ap (λ (w : words.Word). front ++ w ∷ []) (sym is))
+
+  type_cut : type_from 0 (map seen ws) ≡ cond (are_containers (map seen front)) (last_in (length front) (scalar_in (seen last))) (Err Form)
+  type_cut =
+      ap (λ (vs : List words.Word). type_from 0 (map seen vs)) cut
+      ∙ (ap (type_from 0) (map-append seen front (last ∷ [])) ∙ (type_at_last 0 (map seen front) (seen last) ∙ ap (λ (n : ℕ). cond (are_containers (map seen front)) (last_in n (scalar_in (seen last))) (Err Form)) count))
+    where
+      count : 0 + length (map seen front) ≡ length front
+      count = omega (arith, length-map front seen)
+
+  pub type_wrong : are_containers (map seen front) ≡ false → Err Form ≡ type_from 0 (map seen ws)
+  type_wrong a = sym (type_cut ∙ ap (λ (t : Bool). cond t (last_in (length front) (scalar_in (seen last))) (Err Form)) a)
+
+  pub type_right : are_containers (map seen front) ≡ true → (s : Result Scalar Flaw) → s ≡ scalar_in (seen last) → last_in (length front) s ≡ type_from 0 (map seen ws)
+  type_right a s e = ap (last_in (length front)) e ∙ sym (type_cut ∙ ap (λ (t : Bool). cond t (last_in (length front) (scalar_in (seen last))) (Err Form)) a)

@@ -1,6 +1,6 @@
 -- Whole lines: what is read answers which words spell which statements.
 use Rattle.std.proofs.Common.{◌≡◌, ◌≢◌, Bool, true, false, cond, ℕ, List, [], ◌∷◌, ◌++◌, map, codes, Option, Some, None, Result, Ok, Err, refl, sym, ap, subst, ◌∙◌}
-use Rattle.std.specs.List.{AllByRecursion}
+use Rattle.std.specs.List.{AllByRecursion, flat_map}
 use Rattle.std.specs.Str.{bytes_eq}
 use Rattle.std.proofs.lemmas.Slice.Eq.{bytes_eq-Decides}
 use Rattle.std.proofs.lemmas.Str.{IsUtf8-string_bytes}
@@ -11,10 +11,11 @@ use Rattle.tw_lines.specs.declared.word.Word as words
 use Rattle.tw_lines.specs.declared.word.Word.TheVariants as word
 use Rattle.tw_statement.proofs.Answered.{Judged, code_answered, first_is}
 use Rattle.tw_statement.proofs.HeadWords.{head_answered}
+use Rattle.tw_statement.proofs.Lined.{parts_of}
 use Rattle.tw_statement.proofs.OperandWords.{IsFine}
 use Rattle.tw_statement.proofs.Sayings.{label_answered, nonempty, registers_answered}
 use Rattle.tw_statement.proofs.Table.{made, parts_are}
-use Rattle.tw_statement.specs.Parts.{Part, Name, instr_parts}
+use Rattle.tw_statement.specs.Parts.{Part, Name, instr_parts, kind_word, param_parts, register_part}
 use Rattle.tw_statement.specs.Seen.{Answers, Read, seen}
 use Rattle.tw_statement.specs.Statement.{AnyName, Code, Goals, Head, Label, Registers, SpellParts, Statement, statement_parts}
 use Rattle.tw_statement.specs.declared.opcode.Opcode.{Opcode}
@@ -27,13 +28,13 @@ use Rattle.tw_statement.specs.reading.Lines.{Gives, LineContent, body_in, head_i
 
 -- each statement begins with a word that stands as it is
 begins : (statement : Statement) → (name : List ℕ) × (rest : List Part) × (statement_parts statement ≡ Name name ∷ rest)
-begins (Head kind params) = (codes "proc", _, refl)
-begins (Registers rs) = (codes "regs", _, refl)
+begins (Head kind params) = (codes "proc", Name (kind_word kind) ∷ flat_map param_parts params, refl)
+begins (Registers rs) = (codes "regs", map register_part rs, refl)
 begins (Label name) = (name ++ codes ":", [], refl)
 begins (Code i) = by (made i)
   where
     by : (p : Opcode) × (x : LineContent (line_of p)) × (i ≡ instr_of p x) → (name : List ℕ) × (rest : List Part) × (instr_parts i ≡ Name name ∷ rest)
-    by (p, x, e) = (word_of p, _, ap instr_parts e ∙ parts_are p x)
+    by (p, x, e) = (word_of p, parts_of (line_of p) x, ap instr_parts e ∙ parts_are p x)
 
 bare_first : (G : Goals) (text : List ℕ) (ws : List Word) (statement : Statement) → SpellParts G (statement_parts statement) (Quoted text ∷ ws) → ⊥
 bare_first G text ws statement h =

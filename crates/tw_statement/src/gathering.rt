@@ -74,7 +74,10 @@ fn scalar_list(alloc: Global, words: &[Word<'_>]) -> Result<Result<Vec<Scalar>, 
 }
 
 /// The types of at most 16 registers.
-pub fn scalars_of(alloc: Global, words: &[Word<'_>]) -> Result<Result<Items<Scalar>, Flaw>, AllocError>
+pub fn scalars_of(
+    alloc: Global,
+    words: &[Word<'_>],
+) -> Result<Result<Items<Scalar>, Flaw>, AllocError>
     ensures { IfOk result (λ read. read ≡ few 16 (each scalar_in (map seen_word words.now))) }
 {
     let scalars = scalar_list(alloc, words)?;

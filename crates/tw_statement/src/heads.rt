@@ -129,7 +129,10 @@ fn param_list(alloc: Global, words: &[Word<'_>]) -> Result<Result<Vec<Param>, Fl
 }
 
 /// At most 8 parameters.
-pub fn params_of(alloc: Global, words: &[Word<'_>]) -> Result<Result<Items<Param>, Flaw>, AllocError>
+pub fn params_of(
+    alloc: Global,
+    words: &[Word<'_>],
+) -> Result<Result<Items<Param>, Flaw>, AllocError>
     ensures { IfOk result (λ read. read ≡ few 8 (params_from no_params (map seen_word words.now))) }
 {
     let params = param_list(alloc, words)?;

@@ -25,7 +25,10 @@ fn straight<'a>(instr: Instr) -> Draft<'a>
 fn going<'a>(instr: Instr, goal: Goal<'a>) -> Draft<'a>
     ensures { drafted result ≡ (instr, goal.entry.label) }
 {
-    Draft { instr, goal: goal.label }
+    Draft {
+        instr,
+        goal: goal.label,
+    }
 }
 
 fn int_of<'a>(words: &[Word<'a>]) -> Result<Draft<'a>, Refusal>
@@ -47,7 +50,15 @@ fn concatenate_of<'a>(words: &[Word<'a>]) -> Result<Draft<'a>, Refusal>
 {
     let (to, (left, (right, goal))) = three_values_and_goal(words)?;
     let skip = goal.skip;
-    Ok(going(Instr::Local(LocalInstr::Concatenate { to, left, right, skip }), goal))
+    Ok(going(
+        Instr::Local(LocalInstr::Concatenate {
+            to,
+            left,
+            right,
+            skip,
+        }),
+        goal,
+    ))
 }
 
 fn length_of<'a>(words: &[Word<'a>]) -> Result<Draft<'a>, Refusal>
@@ -85,7 +96,10 @@ fn jump_equal_of<'a>(words: &[Word<'a>]) -> Result<Draft<'a>, Refusal>
 {
     let (left, (right, goal)) = two_values_and_goal(words)?;
     let skip = goal.skip;
-    Ok(going(Instr::Local(LocalInstr::JumpEqual { left, right, skip }), goal))
+    Ok(going(
+        Instr::Local(LocalInstr::JumpEqual { left, right, skip }),
+        goal,
+    ))
 }
 
 fn jump_less_of<'a>(words: &[Word<'a>]) -> Result<Draft<'a>, Refusal>
@@ -93,7 +107,10 @@ fn jump_less_of<'a>(words: &[Word<'a>]) -> Result<Draft<'a>, Refusal>
 {
     let (left, (right, goal)) = two_values_and_goal(words)?;
     let skip = goal.skip;
-    Ok(going(Instr::Local(LocalInstr::JumpLess { left, right, skip }), goal))
+    Ok(going(
+        Instr::Local(LocalInstr::JumpLess { left, right, skip }),
+        goal,
+    ))
 }
 
 fn store_of<'a>(words: &[Word<'a>]) -> Result<Draft<'a>, Refusal>
@@ -115,7 +132,15 @@ fn insert_of<'a>(words: &[Word<'a>]) -> Result<Draft<'a>, Refusal>
 {
     let (container, (subscript, (member, goal))) = right_value_right_and_goal(words)?;
     let skip = goal.skip;
-    Ok(going(Instr::Data(DataInstr::Insert { container, subscript, member, skip }), goal))
+    Ok(going(
+        Instr::Data(DataInstr::Insert {
+            container,
+            subscript,
+            member,
+            skip,
+        }),
+        goal,
+    ))
 }
 
 fn look_of<'a>(words: &[Word<'a>]) -> Result<Draft<'a>, Refusal>
@@ -123,7 +148,15 @@ fn look_of<'a>(words: &[Word<'a>]) -> Result<Draft<'a>, Refusal>
 {
     let (member, (container, (subscript, goal))) = right_right_value_and_goal(words)?;
     let skip = goal.skip;
-    Ok(going(Instr::Data(DataInstr::Look { member, container, subscript, skip }), goal))
+    Ok(going(
+        Instr::Data(DataInstr::Look {
+            member,
+            container,
+            subscript,
+            skip,
+        }),
+        goal,
+    ))
 }
 
 fn size_of<'a>(words: &[Word<'a>]) -> Result<Draft<'a>, Refusal>
@@ -138,7 +171,15 @@ fn subscript_at_of<'a>(words: &[Word<'a>]) -> Result<Draft<'a>, Refusal>
 {
     let (to, (container, (index, goal))) = value_right_value_and_goal(words)?;
     let skip = goal.skip;
-    Ok(going(Instr::Data(DataInstr::SubscriptAt { to, container, index, skip }), goal))
+    Ok(going(
+        Instr::Data(DataInstr::SubscriptAt {
+            to,
+            container,
+            index,
+            skip,
+        }),
+        goal,
+    ))
 }
 
 fn copy_read_of<'a>(words: &[Word<'a>]) -> Result<Draft<'a>, Refusal>
@@ -227,7 +268,10 @@ fn new_of<'a>(words: &[Word<'a>]) -> Result<Draft<'a>, Refusal>
 {
     match words {
         [write, read, ty @ ..] => {
-            let (write, (read, ty)) = both_of(right_of(write), both_of(right_of(read), type_of(ty)))?;
+            let (write, (read, ty)) = both_of(
+                right_of(write),
+                both_of(right_of(read), type_of(ty)),
+            )?;
             Ok(straight(Instr::Data(DataInstr::New { write, read, ty })))
         }
         _ => Err(Refusal::Flawed(Flaw::Form)),
@@ -242,8 +286,10 @@ fn action_of(alloc: Global, words: &[Word<'_>]) -> Result<Action, Refusal>
         [procedure, priority, target, args @ ..] => {
             let args = args_of(alloc, args)?;
             let front = byte_of(0, 255, procedure);
-            let (procedure, (priority, (target, args))) =
-                both_of(front, both_of(number_of(priority), both_of(target_of(target), args)))?;
+            let (procedure, (priority, (target, args))) = both_of(
+                front,
+                both_of(number_of(priority), both_of(target_of(target), args)),
+            )?;
             Ok(Action {
                 procedure,
                 priority,
@@ -270,11 +316,7 @@ fn put_of<'a>(alloc: Global, words: &[Word<'a>]) -> Result<Draft<'a>, Refusal>
 }
 
 /// An instruction, by its name and the words behind that. Only a text and a list of arguments take memory.
-pub fn draft_of<'a>(
-    alloc: Global,
-    opcode: Opcode,
-    words: &[Word<'a>],
-) -> Result<Draft<'a>, Refusal>
+pub fn draft_of<'a>(alloc: Global, opcode: Opcode, words: &[Word<'a>]) -> Result<Draft<'a>, Refusal>
     ensures { Gives drafted result (draft_in opcode (map seen_word words.now)) }
 {
     match opcode {

@@ -28,7 +28,10 @@ impl<'a> Model for Goal<'a> {
 }
 
 /// Two operands; a wrong form goes before a limit.
-pub fn both_of<A: Drop, B: Drop>(first: Result<A, Flaw>, second: Result<B, Flaw>) -> Result<(A, B), Flaw>
+pub fn both_of<A: Drop, B: Drop>(
+    first: Result<A, Flaw>,
+    second: Result<B, Flaw>,
+) -> Result<(A, B), Flaw>
     ensures { result ≡ both first second }
 {
     match second {
@@ -221,11 +224,17 @@ fn goal_in(text: &[u8]) -> Result<Goal<'_>, Flaw>
     match text {
         [] => Err(Flaw::Form),
         [b'+', rest @ ..] => match digits_of(rest, 0, 65535) {
-            Ok(number) => Ok(Goal { skip: number as u16, label: None }),
+            Ok(number) => Ok(Goal {
+                skip: number as u16,
+                label: None,
+            }),
             Err(flaw) => Err(flaw),
         },
         _ => match name_of(text) {
-            Ok(name) => Ok(Goal { skip: 0, label: Some(name) }),
+            Ok(name) => Ok(Goal {
+                skip: 0,
+                label: Some(name),
+            }),
             Err(flaw) => Err(flaw),
         },
     }
@@ -270,11 +279,12 @@ pub fn piece_of(word: &Word<'_>) -> Result<Option<Scalar>, Flaw>
     match word {
         Word::Bare(text) => {
             if *text == b"cont".as_slice() {
-                return Ok(None);
-            }
-            match scalar_in(text) {
-                Ok(scalar) => Ok(Some(scalar)),
-                Err(flaw) => Err(flaw),
+                Ok(None)
+            } else {
+                match scalar_in(text) {
+                    Ok(scalar) => Ok(Some(scalar)),
+                    Err(flaw) => Err(flaw),
+                }
             }
         }
         Word::Quoted(_) => Err(Flaw::Form),

@@ -77,11 +77,7 @@ fn label_of<'a>(word: &'a [u8], others: &[Word<'_>]) -> Result<Statement<'a>, Re
 }
 
 /// An instruction, or a label.
-fn body_of<'a>(
-    alloc: Global,
-    word: &'a [u8],
-    others: &[Word<'a>],
-) -> Result<Statement<'a>, Refusal>
+fn body_of<'a>(alloc: Global, word: &'a [u8], others: &[Word<'a>]) -> Result<Statement<'a>, Refusal>
     ensures { Gives seen result (body_in (opcode_of word.entry.now) word.entry.now (map seen_word others.now)) }
 {
     match opcode_named(word) {

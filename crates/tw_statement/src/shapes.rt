@@ -44,7 +44,10 @@ pub fn three_values_and_goal<'a>(words: &[Word<'a>]) -> Result<(u8, (u8, (u8, Go
     ensures { result ≡ line_in (more value (more value (more value goal))) (map seen_word words.now) }
 {
     match words {
-        [first, second, third, fourth] => both_of(value_of(first), both_of(value_of(second), both_of(value_of(third), goal_of(fourth)))),
+        [first, second, third, fourth] => both_of(
+            value_of(first),
+            both_of(value_of(second), both_of(value_of(third), goal_of(fourth))),
+        ),
         _ => Err(Flaw::Form),
     }
 }
@@ -54,7 +57,10 @@ pub fn two_values_and_goal<'a>(words: &[Word<'a>]) -> Result<(u8, (u8, Goal<'a>)
     ensures { result ≡ line_in (more value (more value goal)) (map seen_word words.now) }
 {
     match words {
-        [first, second, third] => both_of(value_of(first), both_of(value_of(second), goal_of(third))),
+        [first, second, third] => both_of(
+            value_of(first),
+            both_of(value_of(second), goal_of(third)),
+        ),
         _ => Err(Flaw::Form),
     }
 }
@@ -110,31 +116,46 @@ pub fn only_right(words: &[Word<'_>]) -> Result<u8, Flaw>
 }
 
 /// A right register, a value register, a right register and a goal.
-pub fn right_value_right_and_goal<'a>(words: &[Word<'a>]) -> Result<(u8, (u8, (u8, Goal<'a>))), Flaw>
+pub fn right_value_right_and_goal<'a>(
+    words: &[Word<'a>],
+) -> Result<(u8, (u8, (u8, Goal<'a>))), Flaw>
     ensures { result ≡ line_in (more right (more value (more right goal))) (map seen_word words.now) }
 {
     match words {
-        [first, second, third, fourth] => both_of(right_of(first), both_of(value_of(second), both_of(right_of(third), goal_of(fourth)))),
+        [first, second, third, fourth] => both_of(
+            right_of(first),
+            both_of(value_of(second), both_of(right_of(third), goal_of(fourth))),
+        ),
         _ => Err(Flaw::Form),
     }
 }
 
 /// Two right registers, a value register and a goal.
-pub fn right_right_value_and_goal<'a>(words: &[Word<'a>]) -> Result<(u8, (u8, (u8, Goal<'a>))), Flaw>
+pub fn right_right_value_and_goal<'a>(
+    words: &[Word<'a>],
+) -> Result<(u8, (u8, (u8, Goal<'a>))), Flaw>
     ensures { result ≡ line_in (more right (more right (more value goal))) (map seen_word words.now) }
 {
     match words {
-        [first, second, third, fourth] => both_of(right_of(first), both_of(right_of(second), both_of(value_of(third), goal_of(fourth)))),
+        [first, second, third, fourth] => both_of(
+            right_of(first),
+            both_of(right_of(second), both_of(value_of(third), goal_of(fourth))),
+        ),
         _ => Err(Flaw::Form),
     }
 }
 
 /// A value register, a right register, a value register and a goal.
-pub fn value_right_value_and_goal<'a>(words: &[Word<'a>]) -> Result<(u8, (u8, (u8, Goal<'a>))), Flaw>
+pub fn value_right_value_and_goal<'a>(
+    words: &[Word<'a>],
+) -> Result<(u8, (u8, (u8, Goal<'a>))), Flaw>
     ensures { result ≡ line_in (more value (more right (more value goal))) (map seen_word words.now) }
 {
     match words {
-        [first, second, third, fourth] => both_of(value_of(first), both_of(right_of(second), both_of(value_of(third), goal_of(fourth)))),
+        [first, second, third, fourth] => both_of(
+            value_of(first),
+            both_of(right_of(second), both_of(value_of(third), goal_of(fourth))),
+        ),
         _ => Err(Flaw::Form),
     }
 }

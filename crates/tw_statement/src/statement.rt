@@ -23,10 +23,7 @@ pub struct Draft<'a> {
 #[derive(Drop)]
 pub enum Statement<'a> {
     /// A procedure begins.
-    Head {
-        kind: Kind,
-        params: Items<Param>,
-    },
+    Head { kind: Kind, params: Items<Param> },
     /// The types of its value registers.
     Registers(Items<Scalar>),
     /// A label with this name.
