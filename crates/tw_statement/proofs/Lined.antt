@@ -198,17 +198,17 @@ goal_named w skip other None name h e s = none e
     none : None ≡ Some name → ⊥
     none e = cc
 goal_named w skip other (Some given) name h e (first, others, cut, inr k, none) = k.1
-goal_named w skip other (Some given) name (z, is_name, is) e (first, others, cut, inl k, none) = plus given is_name (ap (λ (v : Word). v ∷ others) (sym is) ∙ whole (cut ∙ ap (λ (vs : List Word). vs ++ others) k.2))
+goal_named w skip other (Some given) name (z, is_name, same) e (first, others, cut, inl k, none) = plus given is_name (ap (λ (v : Word). v ∷ others) (sym same) ∙ whole (cut ∙ ap (λ (vs : List Word). vs ++ others) k.2))
   where
     whole : w ∷ [] ≡ Bare (codes "+" ++ k.0) ∷ others → w ∷ others ≡ Bare (codes "+" ++ k.0) ∷ others
     whole e = cc
 
     plus : (given : List ℕ) → IsName given → Bare given ∷ others ≡ Bare (43 ∷ k.0) ∷ others → ⊥
     plus [] h e = h
-    plus (b ∷ rest) h e = no_letter b h.0 (is e)
+    plus (b ∷ rest) h e = no_letter b h.0 (first_byte e)
       where
-        is : Bare (b ∷ rest) ∷ others ≡ Bare (43 ∷ k.0) ∷ others → b ≡ 43
-        is e = cc
+        first_byte : Bare (b ∷ rest) ∷ others ≡ Bare (43 ∷ k.0) ∷ others → b ≡ 43
+        first_byte e = cc
 
 pub unnumbered : (l : Line) (ws : List Word) (x y : LineContent l) (name : List ℕ) → HasLine l ws x → label_in l x ≡ Some name → SpellParts (λ _ _. ⊥) (parts_of l y) ws → ⊥
 unnumbered nothing ws x y name h e s = none e
