@@ -7,3 +7,16 @@ pub mod Once
 pub mod Written
 pub mod Labels
 pub mod OwnSkip
+pub mod Readings
+pub mod Numbers
+pub mod Colons
+pub mod Names
+pub mod OperandWords
+pub mod Sequences
+pub mod ParamWords
+pub mod Lined
+pub mod Table
+pub mod Answered
+pub mod Sayings
+pub mod HeadWords
+pub mod Whole

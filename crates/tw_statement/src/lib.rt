@@ -2,7 +2,14 @@
 #![tactic(auto)]
 
 mod first;
+mod gathering;
+mod heads;
+mod instructions;
+mod opcode;
+mod operands;
 mod read;
+mod refusal;
+mod shapes;
 mod skip;
 mod statement;
 mod write;
