@@ -1,10 +1,8 @@
 -- What is read answers which words spell which statements.
-use Rattle.std.proofs.Common.{◌≡◌, ◌≢◌, ℕ, ◌≤◌, Bool, true, false, cond, List, [], ◌∷◌, ◌++◌, length, map, replicate, codes, Option, Some, None, inl, inr, Result, Ok, Err, refl, sym, ap, subst, ◌∙◌, arith}
+use Rattle.std.proofs.Common.{◌≡◌, ℕ, List, [], ◌∷◌, ◌++◌, map, codes, Option, Some, None, inl, inr, Result, Ok, Err, refl, sym, ap, subst, ◌∙◌}
 use Rattle.std.specs.List.{AllByRecursion, flat_map}
-use Rattle.std.specs.Str.{bytes_eq}
-use Rattle.std.proofs.lemmas.Slice.Eq.{bytes_eq-Decides}
 use Rattle.tw_code.specs.declared.instr.Instr.{Instr}
-use Rattle.tw_lines.specs.Words.{Word, Bare, Quoted}
+use Rattle.tw_lines.specs.Words.{Word, Bare}
 use Rattle.tw_statement.proofs.Colons.{before}
 use Rattle.tw_statement.proofs.Lined.{HasLine, MayLine, found, goals_by, label_named, line_read, parts_may, parts_of, spelled, unnumbered}
 use Rattle.tw_statement.proofs.OperandWords.{IsFine}
@@ -12,7 +10,7 @@ use Rattle.tw_statement.proofs.Readings.{Reads}
 use Rattle.tw_statement.proofs.Table.{made, named, named_back, no_colon, parts_are, within, within_back}
 use Rattle.tw_statement.specs.Parts.{Part, Name, Value, Right, Number, Natural, Literal, TypeOf, Skip, Target, instr_parts, kind_word, param_parts, register_part}
 use Rattle.tw_statement.specs.Seen.{IsFlawed, IsRead, NoName, OnlyName, Read}
-use Rattle.tw_statement.specs.Statement.{AnyName, AnyShortName, Code, Goals, HaveForm, Head, IsInLimits, IsName, IsShortName, Label, NamesLabel, Registers, Say, SpellParts, Spells, SpellsPart, Statement, statement_parts}
+use Rattle.tw_statement.specs.Statement.{AnyName, AnyShortName, Code, Goals, Head, IsInLimits, IsName, Label, Registers, SpellParts, Spells, SpellsPart, Statement, statement_parts}
 use Rattle.tw_statement.specs.declared.opcode.Opcode.{Opcode}
 use Rattle.tw_statement.specs.declared.statement.Flaw.{Flaw}
 use Rattle.tw_statement.specs.declared.statement.Flaw.TheVariants.{Form, Limit}

@@ -1,26 +1,24 @@
 -- Procedures' heads: what is read answers which words spell which statements.
-use Rattle.std.proofs.Common.{◌≡◌, ◌≢◌, ◌==◌, ◌⊎◌, ℕ, zero, suc, ◌+◌, ◌≤◌, Bool, true, false, List, [], ◌∷◌, ◌++◌, length, map, replicate, codes, Option, Some, None, inl, inr, Result, Ok, Err, refl, sym, ap, subst, ◌∙◌, arith, append_assoc, add-zero, zero-add}
+use Rattle.std.proofs.Common.{◌≡◌, ◌≢◌, ◌==◌, ℕ, zero, suc, ◌+◌, ◌≤◌, List, [], ◌∷◌, ◌++◌, length, map, replicate, codes, Some, None, inl, inr, Result, Ok, Err, refl, sym, ap, subst, ◌∙◌, arith, append_assoc, add-zero, zero-add}
 use Rattle.std.specs.List.{AllByRecursion, flat_map}
 use Rattle.std.proofs.lemmas.Bool.{eqb-true}
-use Rattle.tw_code.specs.declared.instr.Instr.{Instr}
 use Rattle.tw_code.specs.format.Program.{IsList, IsParam, IsTypeUnder}
-use Rattle.tw_lines.specs.Words.{Word, Bare, Quoted}
+use Rattle.tw_lines.specs.Words.{Word, Bare}
 use Rattle.tw_statement.proofs.Answered.{Judged, first_is, name_is, proc_is_none}
 use Rattle.tw_statement.proofs.OperandWords.{Free, kind_read, other_bytes}
-use Rattle.tw_statement.proofs.ParamWords.{HaveParams, IsShallowParam, one_mode, one_scalar, params_read, scalar_apart}
+use Rattle.tw_statement.proofs.ParamWords.{HaveParams, IsShallowParam, one_mode, params_read, scalar_apart}
 use Rattle.tw_statement.proofs.Readings.{Reads, both_read}
 use Rattle.tw_statement.proofs.Sayings.{code_first, no_label, none_some, nonempty}
 use Rattle.tw_statement.proofs.Sequences.{few_read}
-use Rattle.tw_statement.specs.Parts.{Part, Name, TypeOf, kind_word, mode_word, param_parts, register_part, scalar_word}
-use Rattle.tw_statement.specs.Seen.{NoName, Read}
-use Rattle.tw_statement.specs.Statement.{AnyName, AnyShortName, Code, Goals, Head, IsInLimits, IsTypeOfMode, Label, Registers, SpellParts, Spells, Statement, statement_parts}
+use Rattle.tw_statement.specs.Parts.{Name, kind_word, mode_word, param_parts, register_part, scalar_word}
+use Rattle.tw_statement.specs.Seen.{NoName}
+use Rattle.tw_statement.specs.Statement.{AnyName, AnyShortName, Code, Goals, Head, IsInLimits, IsTypeOfMode, Label, Registers, SpellParts, Spells, Statement}
 use Rattle.tw_statement.specs.declared.statement.Flaw.{Flaw}
 use Rattle.tw_statement.specs.declared.statement.Flaw.TheVariants.{Form, Limit}
-use Rattle.tw_statement.specs.reading.Lines.{before_colon, few, head_in, head_read, kind_in, no_params, opcode_of, param_of, params_from}
+use Rattle.tw_statement.specs.reading.Lines.{before_colon, few, head_in, head_read, kind_in, no_params, param_of, params_from}
 use Rattle.tw_statement.specs.reading.Operands.{as_is, both}
 use Rattle.tw_types.specs.DataType.{is_scalar}
 use Rattle.tw_types.specs.declared.actor.Kind.{Kind}
-use Rattle.tw_types.specs.declared.actor.Kind.TheVariants.{Control, Leaf}
 use Rattle.tw_types.specs.declared.data_type.Scalar.{Scalar}
 use Rattle.tw_types.specs.declared.param.Mode.{Mode}
 use Rattle.tw_types.specs.declared.param.Mode.TheVariants.{Val, Closed, Ref, Write}

@@ -1,17 +1,17 @@
 -- The readings of lines, whatever the instruction.
-use Rattle.std.proofs.Common.{◌≡◌, ℕ, zero, suc, ◌+◌, ◌<◌, ◌≤◌, List, [], ◌∷◌, ◌++◌, length, map, replicate, codes, Option, Some, None, inl, inr, Result, Ok, Err, refl, sym, ap, subst, ◌∙◌, arith}
+use Rattle.std.proofs.Common.{◌≡◌, ℕ, ◌≤◌, List, [], ◌∷◌, ◌++◌, length, map, replicate, codes, Option, Some, None, inl, inr, refl, sym, ap, subst, ◌∙◌, arith}
 use Rattle.std.specs.List.{AllByRecursion}
-use Rattle.tw_code.specs.format.Program.{IsList, IsRegister, IsSkip, IsWithin}
-use Rattle.tw_lines.specs.Words.{Word, Bare, Quoted}
+use Rattle.tw_code.specs.format.Program.{IsList, IsRegister, IsSkip}
+use Rattle.tw_lines.specs.Words.{Word, Bare}
 use Rattle.tw_statement.proofs.Names.{HasGoal, MayGoal, goal_read, no_letter}
 use Rattle.tw_statement.proofs.OperandWords.{Has, IsFine, May, natural_read, operand_read, part_of}
 use Rattle.tw_statement.proofs.Readings.{Reads, both_read}
 use Rattle.tw_statement.proofs.Sequences.{HaveEach, IsTypeBehind, each_long, each_read, few_read, type_read}
-use Rattle.tw_statement.specs.Parts.{Part, Name, Value, Right, Number, Natural, Literal, TypeOf, Skip, Target, scalar_word}
+use Rattle.tw_statement.specs.Parts.{Part, Natural, TypeOf, Skip, scalar_word}
 use Rattle.tw_statement.specs.Seen.{NoName, OnlyName}
 use Rattle.tw_statement.specs.Statement.{Goals, IsName, SpellParts, SpellsPart, SpellsWith}
 use Rattle.tw_statement.specs.reading.Lines.{Content, Line, LineContent, Operand, args, each, goal, label_in, line_in, literal, more, natural, nothing, number, one, right, target, type, value}
-use Rattle.tw_statement.specs.reading.Operands.{Goal, at_label, further, natural_in}
+use Rattle.tw_statement.specs.reading.Operands.{at_label, further, natural_in}
 use Rattle.tw_types.specs.Nesting.{NestedScalar}
 
 abbrev pub IsArg : Word → ℕ → Type 0

@@ -1,5 +1,5 @@
 -- The readings of names, and of goals.
-use Rattle.std.proofs.Common.{◌≡◌, ◌==◌, ℕ, ◌+◌, ◌<◌, ◌≤◌, Bool, true, false, cond, List, [], ◌∷◌, ◌++◌, length, codes, Option, Some, None, ◌⊎◌, inl, inr, Result, Ok, Err, Decides, refl, sym, ap, subst, ◌∙◌, arith}
+use Rattle.std.proofs.Common.{◌≡◌, ◌==◌, ℕ, ◌≤◌, Bool, true, false, cond, List, [], ◌∷◌, length, codes, Option, Some, None, inl, inr, Ok, Err, Decides, refl, sym, ap, subst, ◌∙◌, arith}
 use Rattle.std.specs.Prelude.{nat_lt, ◌||◌}
 use Rattle.std.specs.Int.{IsInRange}
 use Rattle.std.specs.List.{AllByRecursion}
@@ -11,7 +11,7 @@ use Rattle.tw_statement.proofs.Numbers.{digits_read, within_decide}
 use Rattle.tw_statement.proofs.Readings.{Reads, carried}
 use Rattle.tw_statement.specs.Statement.{IsInName, IsLetter, IsName, SpellsWith}
 use Rattle.tw_statement.specs.declared.statement.Flaw.TheVariants.{Form, Limit}
-use Rattle.tw_statement.specs.reading.Operands.{Goal, all_in_name, as_is, at_label, digits_in, further, goal_in, is_in_name, is_letter, is_name, is_within, name_in}
+use Rattle.tw_statement.specs.reading.Operands.{all_in_name, as_is, at_label, digits_in, further, goal_in, is_in_name, is_letter, is_name, is_within, name_in}
 use Rattle.tw_words.specs.Number.{SpellsDigits}
 
 no : false ≡ true → ⊥

@@ -1,13 +1,12 @@
 -- The readings of numbers.
-use Rattle.std.proofs.Common.{◌≡◌, ◌==◌, ℕ, zero, suc, ◌+◌, ◌<◌, ◌≤◌, ◌^◌, ℤ, pos, negsuc, neg_ℤ, Bool, true, false, cond, List, [], ◌∷◌, length, Result, Ok, Err, Decides, inl, inr, refl, sym, ap, subst, ◌∙◌, arith}
-use Rattle.std.specs.Prelude.{nat_lt, FitsSigned}
+use Rattle.std.proofs.Common.{◌≡◌, ◌==◌, ℕ, zero, suc, ◌≤◌, ◌^◌, ℤ, pos, neg_ℤ, Bool, true, false, cond, List, [], ◌∷◌, Result, Ok, Err, Decides, inl, inr, refl, sym, ap, subst, ◌∙◌, arith}
+use Rattle.std.specs.Prelude.{nat_lt}
 use Rattle.std.specs.Char.{digit_value}
-use Rattle.std.specs.Int.{IsInRange, w64}
+use Rattle.std.specs.Int.{IsInRange}
 use Rattle.std.specs.Str.Parse.{AllDigits, IsNumeral, digits_value}
 use Rattle.std.proofs.lemmas.Bool.{eqb-true}
 use Rattle.std.proofs.lemmas.Bool.Decides.{Decides-and, Decides-ltb, nat_tests}
-use Rattle.tw_statement.proofs.Readings.{Reads, carried, likewise, same}
-use Rattle.tw_statement.specs.declared.statement.Flaw.{Flaw}
+use Rattle.tw_statement.proofs.Readings.{Reads, carried, same}
 use Rattle.tw_statement.specs.declared.statement.Flaw.TheVariants.{Form, Limit}
 use Rattle.tw_statement.specs.reading.Operands.{all_digits, are_digits, as_is, digits_in, is_within, negative, own, signed_in}
 use Rattle.tw_words.specs.Number.{IsIn64, IsRead, SpellsDigits, SpellsNumber}

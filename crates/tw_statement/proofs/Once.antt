@@ -1,5 +1,5 @@
 -- Words spell one statement alone, and its first word says which sort of statement it is.
-use Rattle.std.proofs.Common.{◌≡◌, ◌⊎◌, inl, inr, ℕ, zero, suc, Bool, true, false, List, [], ◌∷◌, ◌++◌, map, codes, Option, Some, None, refl, sym, ap, subst, ◌∙◌}
+use Rattle.std.proofs.Common.{◌≡◌, inl, inr, ℕ, Bool, true, List, [], ◌∷◌, ◌++◌, map, codes, Some, None, refl, sym, ap, subst, ◌∙◌}
 use Rattle.std.specs.Prelude.{if◌then◌else◌, ◌==◌}
 use Rattle.std.specs.List.{flat_map}
 use Rattle.std.proofs.lemmas.List.{append_cancel_right}
@@ -14,10 +14,10 @@ use Rattle.tw_types.specs.declared.param.Mode.TheVariants.{Val, Closed, Ref, Wri
 use Rattle.tw_types.specs.declared.param.Param.{Param}
 use Rattle.tw_statement.specs.Parts.{Part, Name, TypeOf, head_parts, instr_parts, kind_word, mode_word, param_parts, register_part, registers_parts, scalar_word}
 use Rattle.tw_statement.specs.Seen.{IsRead, NoName, OnlyName, with_skip}
-use Rattle.tw_statement.specs.Statement.{Code, Goals, HasForm, Head, IsName, IsPromised, Label, Registers, SpellParts, Spells, Statement, statement_parts}
+use Rattle.tw_statement.specs.Statement.{Code, Goals, HasForm, Head, IsPromised, Label, Registers, SpellParts, Spells, Statement, statement_parts}
 use Rattle.tw_statement.specs.declared.statement.First.{First}
 use Rattle.tw_statement.specs.declared.statement.First.TheVariants as first
-use Rattle.tw_statement.proofs.Rows.{AreAlike, IsRow, Row, alike_by_sorts, behind_first, class_of_word, different, ends_in_colon, first_name, have_sorts, name_of, operands_of, reskip, row, row_among, rows, same}
+use Rattle.tw_statement.proofs.Rows.{AreAlike, alike_by_sorts, behind_first, class_of_word, different, ends_in_colon, first_name, have_sorts, name_of, operands_of, row, row_among, rows, same}
 use Rattle.tw_statement.proofs.Spelled.{AreNames, ByName, Resolved, all_tied, as_is, by_name, cons_is, named, parts_more, resolved, tied_are, unnamed, with_goal}
 
 -- ---- what a statement's parts are of

@@ -1,5 +1,5 @@
 -- The readings of single words.
-use Rattle.std.proofs.Common.{◌≡◌, ◌==◌, ℕ, ◌+◌, ◌<◌, ◌≤◌, ℤ, Bool, true, false, cond, List, [], ◌∷◌, ◌++◌, length, codes, Option, Some, None, Result, Ok, Err, Decides, refl, sym, ap, subst, ◌∙◌, arith}
+use Rattle.std.proofs.Common.{◌≡◌, ◌==◌, ℕ, ◌≤◌, Bool, true, false, cond, List, [], ◌∷◌, length, codes, Option, Some, None, Ok, Err, refl, sym, ap, subst, ◌∙◌, arith}
 use Rattle.std.specs.Prelude.{nat_lt, IsUtf8, FitsSigned}
 use Rattle.std.specs.Int.{IsInRange, w64}
 use Rattle.std.specs.Str.{bytes_eq}
@@ -10,18 +10,16 @@ use Rattle.tw_code.specs.format.Program.{IsRegister, IsTarget, IsWithin}
 use Rattle.tw_lines.specs.Words.{Word, Bare, Quoted}
 use Rattle.tw_statement.proofs.Numbers.{digits_read, signed_read}
 use Rattle.tw_statement.proofs.Readings.{Reads, carried, likewise}
-use Rattle.tw_statement.specs.Parts.{Part, Name, Value, Right, Number, Natural, Literal, TypeOf, Skip, Target, kind_word, mode_word, scalar_word}
-use Rattle.tw_statement.specs.Statement.{Goals, SpellsPart, SpellsWith}
+use Rattle.tw_statement.specs.Parts.{Part, Value, Right, Number, Natural, Literal, Target, kind_word, mode_word, scalar_word}
+use Rattle.tw_statement.specs.Statement.{SpellsPart, SpellsWith}
 use Rattle.tw_statement.specs.Seen.{NoName}
 use Rattle.tw_statement.specs.declared.statement.Flaw.TheVariants.{Form, Limit}
 use Rattle.tw_statement.specs.reading.Lines.{Content, Operand, kind_in, literal, natural, number, operand_in, right, target, value}
 use Rattle.tw_statement.specs.reading.Operands.{as_is, digits_in, literal_in, mode_in, natural_in, number_in, piece_in, register_in, scalar_in, signed_in, target_in}
 use Rattle.tw_types.specs.Text.{IsText}
-use Rattle.tw_types.specs.declared.actor.Kind.{Kind}
 use Rattle.tw_types.specs.declared.actor.Kind.TheVariants.{Control, Leaf}
 use Rattle.tw_types.specs.declared.data_type.Scalar.{Scalar}
 use Rattle.tw_types.specs.declared.data_type.Scalar.TheVariants as scalar
-use Rattle.tw_types.specs.declared.param.Mode.{Mode}
 use Rattle.tw_types.specs.declared.param.Mode.TheVariants.{Val, Closed, Ref, Write}
 use Rattle.tw_words.specs.Number.{IsIn64, SpellsDigits, SpellsNumber}
 

@@ -1,16 +1,16 @@
 -- The reading of parameters.
-use Rattle.std.proofs.Common.{◌≡◌, ◌≢◌, ◌==◌, ◌⊎◌, ℕ, zero, suc, ◌+◌, ◌<◌, ◌≤◌, Bool, true, false, cond, List, [], ◌∷◌, ◌++◌, length, map, replicate, codes, Option, Some, None, inl, inr, Result, Ok, Err, refl, sym, ap, subst, ◌∙◌, arith}
+use Rattle.std.proofs.Common.{◌≡◌, ◌≢◌, ◌⊎◌, ℕ, suc, ◌<◌, ◌≤◌, Bool, true, false, cond, List, [], ◌∷◌, codes, Option, Some, None, inl, inr, Result, Ok, Err, refl, sym, ap, subst, ◌∙◌, arith}
 use Rattle.std.specs.Prelude.{nat_lt}
-use Rattle.std.specs.List.{AllByRecursion, flat_map}
+use Rattle.std.specs.List.{AllByRecursion}
 use Rattle.std.proofs.lemmas.Bool.Decides.{nat_tests}
-use Rattle.tw_lines.specs.Words.{Word, Bare, Quoted}
+use Rattle.tw_lines.specs.Words.{Word, Bare}
 use Rattle.tw_statement.proofs.OperandWords.{Free, IsPieceOf, mode_read, other_bytes, piece_read}
 use Rattle.tw_statement.proofs.Readings.{Reads, both_read, carried, likewise}
 use Rattle.tw_statement.proofs.Sequences.{nothing_after, nothing_before, put_first, regroup, together}
 use Rattle.tw_statement.specs.Parts.{mode_word, scalar_word}
 use Rattle.tw_statement.specs.declared.statement.Flaw.{Flaw}
 use Rattle.tw_statement.specs.declared.statement.Flaw.TheVariants.{Form, Limit}
-use Rattle.tw_statement.specs.reading.Lines.{begins, broken, contains, deeper, ended, goes_on, joined, nested_in, no_params, param_of, params_from, taken}
+use Rattle.tw_statement.specs.reading.Lines.{begins, broken, contains, deeper, goes_on, joined, nested_in, no_params, param_of, params_from}
 use Rattle.tw_statement.specs.reading.Operands.{as_is, both, mode_in, piece_in}
 use Rattle.tw_types.specs.declared.data_type.Scalar.{Scalar}
 use Rattle.tw_types.specs.declared.data_type.Scalar.TheVariants as scalar

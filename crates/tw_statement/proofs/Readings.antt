@@ -1,5 +1,5 @@
 -- Readings that answer what spells a value and what may stand there, and how they go together.
-use Rattle.std.proofs.Common.{◌≡◌, ℕ, Result, Ok, Err, refl, sym, ap, subst}
+use Rattle.std.proofs.Common.{◌≡◌, Result, Ok, Err, refl, ap, subst}
 use Rattle.tw_statement.specs.declared.statement.Flaw.{Flaw}
 use Rattle.tw_statement.specs.declared.statement.Flaw.TheVariants.{Form, Limit}
 use Rattle.tw_statement.specs.reading.Operands.{as_is, both, own}

@@ -1,10 +1,10 @@
 -- Registers and labels: what is read answers which words spell which statements.
-use Rattle.std.proofs.Common.{◌≡◌, ◌≢◌, ℕ, ◌≤◌, Bool, true, false, cond, List, [], ◌∷◌, ◌++◌, length, map, codes, Option, Some, None, Result, Ok, Err, refl, sym, ap, subst, ◌∙◌, arith}
+use Rattle.std.proofs.Common.{◌≡◌, ◌≢◌, ℕ, ◌≤◌, List, [], ◌∷◌, ◌++◌, length, map, codes, Option, Some, None, Result, Ok, Err, refl, sym, ap, subst, ◌∙◌}
 use Rattle.std.specs.List.{AllByRecursion, flat_map}
 use Rattle.tw_code.specs.declared.instr.Instr.{Instr}
 use Rattle.tw_code.specs.format.Program.{IsList}
-use Rattle.tw_lines.specs.Words.{Word, Bare, Quoted}
-use Rattle.tw_statement.proofs.Answered.{Judged, first_is, name_is, proc_is_none, regs_is_none}
+use Rattle.tw_lines.specs.Words.{Word, Bare}
+use Rattle.tw_statement.proofs.Answered.{Judged, first_is, name_is, regs_is_none}
 use Rattle.tw_statement.proofs.Colons.{before, found_before}
 use Rattle.tw_statement.proofs.Lined.{parts_of}
 use Rattle.tw_statement.proofs.Names.{IsThisName, name_read}
@@ -13,7 +13,7 @@ use Rattle.tw_statement.proofs.Readings.{Reads}
 use Rattle.tw_statement.proofs.Sequences.{HaveEach, each_long, each_read, few_read}
 use Rattle.tw_statement.proofs.Table.{made, named, parts_are}
 use Rattle.tw_statement.specs.Parts.{Part, Name, instr_parts, kind_word, param_parts, register_part, scalar_word}
-use Rattle.tw_statement.specs.Seen.{NoName, Read}
+use Rattle.tw_statement.specs.Seen.{NoName}
 use Rattle.tw_statement.specs.Statement.{AnyName, AnyShortName, Code, Goals, HasForm, Head, IsInLimits, IsName, Label, Registers, SpellParts, Spells, Statement, statement_parts}
 use Rattle.tw_statement.specs.declared.opcode.Opcode.{Opcode}
 use Rattle.tw_statement.specs.declared.statement.Flaw.{Flaw}

@@ -1,21 +1,20 @@
 -- The readings of items one after the other, and of types.
-use Rattle.std.proofs.Common.{◌≡◌, ◌==◌, ℕ, zero, suc, ◌+◌, ◌-◌, take, get_or, ◌<◌, ◌≤◌, Bool, true, false, cond, List, [], ◌∷◌, ◌++◌, length, map, replicate, codes, Option, Some, None, Result, Ok, Err, refl, sym, ap, subst, ◌∙◌, arith, append_assoc, add-zero}
+use Rattle.std.proofs.Common.{◌≡◌, ℕ, zero, suc, ◌+◌, ◌-◌, take, get_or, ◌≤◌, Bool, true, false, cond, List, [], ◌∷◌, ◌++◌, length, map, replicate, codes, Option, Some, None, Result, Ok, Err, refl, sym, ap, subst, ◌∙◌, arith, append_assoc, add-zero}
 use Rattle.std.specs.Prelude.{nat_lt}
 use Rattle.std.specs.List.{AllByRecursion}
 use Rattle.std.proofs.lemmas.Bool.{ltb-true}
 use Rattle.std.proofs.lemmas.Bool.Decides.{nat_tests}
 use Rattle.std.proofs.lemmas.List.{length-map, map-append, take_all, take_more}
-use Rattle.tw_code.specs.format.Program.{IsList, IsRegister, IsWithin}
+use Rattle.tw_code.specs.format.Program.{IsList}
 use Rattle.tw_lines.specs.Seen.{seen}
-use Rattle.tw_lines.specs.Words.{Word, Bare, Quoted}
+use Rattle.tw_lines.specs.Words.{Word, Bare}
 use Rattle.tw_lines.specs.declared.word.Word as words
-use Rattle.tw_statement.proofs.OperandWords.{Free, IsPieceOf, natural_read, other_bytes, piece_read, scalar_read}
+use Rattle.tw_statement.proofs.OperandWords.{Free, IsPieceOf, other_bytes, piece_read, scalar_read}
 use Rattle.tw_statement.proofs.Readings.{Reads, both_read, carried, likewise}
 use Rattle.tw_statement.specs.Parts.{scalar_word}
-use Rattle.tw_statement.specs.Statement.{SpellsWith}
 use Rattle.tw_statement.specs.declared.statement.Flaw.{Flaw}
 use Rattle.tw_statement.specs.declared.statement.Flaw.TheVariants.{Form, Limit}
-use Rattle.tw_statement.specs.reading.Lines.{are_containers, each, each_from, few, if_container, joined, last_in, nested_in, type_from}
+use Rattle.tw_statement.specs.reading.Lines.{are_containers, each, each_from, few, if_container, joined, last_in, type_from}
 use Rattle.tw_statement.specs.reading.Operands.{as_is, both, piece_in, scalar_in}
 use Rattle.tw_types.specs.Nesting.{NestedScalar}
 use Rattle.tw_types.specs.declared.data_type.Scalar.{Scalar}

@@ -1,5 +1,5 @@
 -- The skips of instructions.
-use Rattle.std.proofs.Common.{◌≡◌, ℕ, List, [], ◌∷◌, map, Option, Some, None, refl, sym, ap, ◌∙◌}
+use Rattle.std.proofs.Common.{◌≡◌, ℕ, List, [], ◌∷◌, map, None, refl, sym, ap, ◌∙◌}
 use Rattle.tw_code.specs.accepting.Flow.{data_flow, flow_of, local_flow}
 use Rattle.tw_code.specs.declared.flow.Flow.{Flow}
 use Rattle.tw_code.specs.declared.instr.DataInstr.{DataInstr}
@@ -9,7 +9,7 @@ use Rattle.tw_code.specs.declared.instr.Instr.TheVariants as instr
 use Rattle.tw_code.specs.declared.instr.LocalInstr.{LocalInstr}
 use Rattle.tw_code.specs.declared.instr.LocalInstr.TheVariants as local
 use Rattle.tw_statement.specs.words.Skips.{skip_in}
-use Rattle.tw_statement.specs.Parts.{Part, Natural, data_parts, local_parts, skip_among, skip_of}
+use Rattle.tw_statement.specs.Parts.{Natural, data_parts, local_parts, skip_among, skip_of}
 
 args_without : (args : List ℕ) → skip_among (map Natural args) ≡ None
 args_without [] = refl

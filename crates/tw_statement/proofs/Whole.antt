@@ -4,7 +4,6 @@ use Rattle.std.specs.List.{AllByRecursion, flat_map}
 use Rattle.std.specs.Str.{bytes_eq}
 use Rattle.std.proofs.lemmas.Slice.Eq.{bytes_eq-Decides}
 use Rattle.std.proofs.lemmas.Str.{IsUtf8-string_bytes}
-use Rattle.tw_code.specs.declared.instr.Instr.{Instr}
 use Rattle.tw_lines.specs.Seen as lines
 use Rattle.tw_lines.specs.Words.{Word, Bare, Quoted}
 use Rattle.tw_lines.specs.declared.word.Word as words
@@ -20,7 +19,6 @@ use Rattle.tw_statement.specs.Seen.{Answers, Read, seen}
 use Rattle.tw_statement.specs.Statement.{AnyName, Code, Goals, Head, Label, Registers, SpellParts, Statement, statement_parts}
 use Rattle.tw_statement.specs.declared.opcode.Opcode.{Opcode}
 use Rattle.tw_statement.specs.declared.statement.Flaw.{Flaw}
-use Rattle.tw_statement.specs.declared.statement.Flaw.TheVariants.{Form}
 use Rattle.tw_statement.specs.declared.statement.Refusal.{Refusal}
 use Rattle.tw_statement.specs.declared.statement.Refusal.TheVariants as refusal
 use Rattle.tw_statement.specs.declared.statement.Statement as statements

@@ -1,14 +1,13 @@
 -- What is written of a statement spells it.
-use Rattle.std.proofs.Common.{◌≡◌, ◌≢◌, ◌⊎◌, inl, inr, ◌≤◌, ◌<◌, ◌+◌, ◌^◌, ◌==◌, ◌/◌, ◌%◌, ℕ, zero, suc, ℤ, pos, negsuc, Bool, true, false, List, [], ◌∷◌, ◌++◌, map, length, codes, Option, Some, None, refl, sym, ap, subst, ◌∙◌, arith}
-use Rattle.std.specs.Prelude.{FitsSigned, replicate, ◌&&◌, ◌||◌, nat_lt, nat_le, if◌then◌else◌, decimal}
+use Rattle.std.proofs.Common.{◌≡◌, ◌≢◌, inl, inr, ◌≤◌, ◌<◌, ◌^◌, ◌==◌, ◌/◌, ◌%◌, ℕ, zero, suc, ℤ, pos, negsuc, Bool, true, false, List, [], ◌∷◌, ◌++◌, map, length, codes, Option, Some, None, refl, sym, ap, subst, ◌∙◌, arith}
+use Rattle.std.specs.Prelude.{FitsSigned, replicate, ◌&&◌, ◌||◌, nat_lt, if◌then◌else◌, decimal}
 use Rattle.std.specs.Fmt.{signed_decimal}
-use Rattle.std.specs.Int.{IsInRange, w64}
+use Rattle.std.specs.Int.{w64}
 use Rattle.std.specs.List.{AllByRecursion, flat_map, join_with_byte}
 use Rattle.std.specs.Str.Parse.{AllDigits, IsNumeral}
 use Rattle.std.proofs.lemmas.Bool.{ltb-true}
 use Rattle.std.proofs.lemmas.Bool.Decides.{nat_tests}
 use Rattle.std.proofs.lemmas.Fmt.{decimal_is_IsNumeral}
-use Rattle.std.proofs.lemmas.Grind.{flat_map-append}
 use Rattle.std.proofs.lemmas.List.{map-append}
 use Rattle.std.proofs.lemmas.Str.Parse.{digit_from_value}
 use Rattle.tw_code.specs.declared.instr.Action.{Action}
@@ -21,7 +20,7 @@ use Rattle.tw_code.specs.declared.instr.Instr.TheVariants as instr
 use Rattle.tw_code.specs.declared.instr.LocalInstr.{LocalInstr}
 use Rattle.tw_code.specs.declared.instr.LocalInstr.TheVariants as local
 use Rattle.tw_code.specs.format.Program.{IsAction, IsDataInstr, IsInstr, IsLocalInstr, IsRegister, IsSkip, IsTarget}
-use Rattle.tw_lines.specs.Words.{AreFirstWords, Bare, IsAtEdge, IsBare, IsFirstWord, IsLine, IsWord, Quoted, Word, is_edge}
+use Rattle.tw_lines.specs.Words.{AreFirstWords, Bare, IsAtEdge, IsLine, IsWord, Quoted, Word, is_edge}
 use Rattle.tw_types.specs.declared.actor.Kind.{Kind}
 use Rattle.tw_types.specs.declared.actor.Kind.TheVariants.{Control, Leaf}
 use Rattle.tw_types.specs.declared.data_type.Scalar.{Scalar}
@@ -29,14 +28,13 @@ use Rattle.tw_types.specs.declared.data_type.Scalar.TheVariants.{Int, Text}
 use Rattle.tw_types.specs.declared.param.Mode.{Mode}
 use Rattle.tw_types.specs.declared.param.Mode.TheVariants.{Val, Closed, Ref, Write}
 use Rattle.tw_types.specs.declared.param.Param.{Param}
-use Rattle.tw_words.specs.Number.{SpellsDigits, SpellsNumber}
 use Rattle.tw_words.specs.Quoted.{escaped, hex_digit, quoted}
 use Rattle.tw_words.proofs.Numerals.{shown}
 use Rattle.tw_words.proofs.Written.{quoted_spells}
 use Rattle.tw_statement.specs.words.Lines.{behind}
 use Rattle.tw_statement.specs.Parts.{Literal, Name, Natural, Number, Part, Right, Skip, Target, TypeOf, Value, kind_word, mode_word, operation_word, param_parts, register_part, scalar_word, skip_among, skip_of, instr_parts}
 use Rattle.tw_statement.specs.Statement.{Code, Goals, HasForm, Head, IsInLimits, IsInName, IsName, Label, Registers, SpellParts, Spells, SpellsPart, SpellsWith, Statement, statement_parts}
-use Rattle.tw_statement.specs.Written.{goal_word, line_of, part_words}
+use Rattle.tw_statement.specs.Written.{goal_word, part_words}
 use Rattle.tw_statement.proofs.Lines.{line_is}
 use Rattle.tw_statement.proofs.Rows.{different, is_last, row, skips_last, sort_of}
 

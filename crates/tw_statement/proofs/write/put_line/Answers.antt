@@ -1,6 +1,6 @@
-use Rattle.std.proofs.Common.{◌≡◌, ◌++◌, ◌∷◌, [], ℕ, List, codes, map, subst}
+use Rattle.std.proofs.Common.{◌≡◌, ◌++◌, ◌∷◌, [], ℕ, List, codes, subst}
 use Rattle.std.specs.Prelude.{OnOk}
-use Rattle.std.specs.List.{flat_map, join_with_byte}
+use Rattle.std.specs.List.{join_with_byte}
 use Rattle.tw_statement.specs.words.Lines.{seen_operand}
 use Rattle.tw_statement.specs.Written.{goal_word, part_words}
 use Rattle.tw_statement.proofs.Lines.{flat_mapped, wrote_item, wrote_line}

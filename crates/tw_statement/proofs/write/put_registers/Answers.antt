@@ -1,6 +1,6 @@
 use Rattle.std.proofs.Common.{◌≡◌, ◌++◌, ◌∷◌, [], ℕ, List, None, codes, subst}
 use Rattle.std.specs.Prelude.{OnOk}
-use Rattle.std.specs.List.{flat_map, join_with_byte}
+use Rattle.std.specs.List.{join_with_byte}
 use Rattle.tw_statement.specs.Parts.{register_part, scalar_word}
 use Rattle.tw_statement.specs.Written.{goal_word, part_words}
 use Rattle.tw_statement.proofs.Lines.{flat_mapped, wrote, wrote_line}
