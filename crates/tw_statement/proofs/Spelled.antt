@@ -1,0 +1,310 @@
+-- Words spell one list of parts alone, but for names of skips.
+use Rattle.std.proofs.Common.{◌≡◌, ◌⊎◌, inl, inr, ℕ, zero, suc, true, List, [], ◌∷◌, ◌++◌, map, codes, Option, Some, None, refl, sym, ap, subst, ◌∙◌, arith}
+use Rattle.std.proofs.lemmas.List.{append_cancel_left}
+use Rattle.std.specs.Prelude.{replicate}
+use Rattle.std.specs.Int.{IsInRange}
+use Rattle.tw_lines.specs.Words.{Word, Bare, Quoted}
+use Rattle.tw_types.specs.declared.data_type.Scalar.{Scalar}
+use Rattle.tw_types.specs.declared.data_type.Scalar.TheVariants.{Int, Text}
+use Rattle.tw_words.specs.Number.{SpellsDigits, SpellsNumber}
+use Rattle.tw_words.proofs.Numerals.{one_number, one_size}
+use Rattle.tw_statement.specs.Parts.{Part, Name, Value, Right, Number, Natural, Literal, TypeOf, Skip, Target, scalar_word}
+use Rattle.tw_statement.specs.Seen.{NoName, OnlyName}
+use Rattle.tw_statement.specs.Statement.{Goals, IsName, SpellParts, SpellsPart, SpellsWith}
+use Rattle.tw_statement.proofs.Rows.{AreAlike, different, is_last, reskip, skips_last, sort_of}
+
+-- these goals are names of labels
+abbrev pub AreNames : Goals → Type 0
+AreNames goals = (skip : ℕ) (name : List ℕ) → goals skip name → IsName name
+
+-- two skips that one name stands for
+pub record AreNamed (a b : Goals) (p q : Part) : Type 0 where
+  pub n : ℕ
+  pub m : ℕ
+  pub name : List ℕ
+  pub first : p ≡ Skip n
+  pub second : q ≡ Skip m
+  pub goal : a n name
+  pub other : b m name
+
+-- what the same words say of two parts
+abbrev pub AreTied : Goals → Goals → Part → Part → Type 0
+AreTied a b p q = (p ≡ q) ⊎ AreNamed a b p q
+
+abbrev pub AllTied : Goals → Goals → List Part → List Part → Type 0
+AllTied a b [] [] = Unit {0}
+AllTied a b [] (q ∷ qs) = ⊥
+AllTied a b (p ∷ ps) [] = ⊥
+AllTied a b (p ∷ ps) (q ∷ qs) = AreTied a b p q × AllTied a b ps qs
+
+-- ---- words
+
+bare_is : (v w : List ℕ) → Bare v ≡ Bare w → v ≡ w
+bare_is v w e = cc
+
+quoted_is : (v w : List ℕ) → Quoted v ≡ Quoted w → v ≡ w
+quoted_is v w e = cc
+
+pub cons_is : {A : Type 0} (v w : A) (x y : List A) → v ∷ x ≡ w ∷ y → (v ≡ w) × (x ≡ y)
+cons_is v w x y e = (cc, cc)
+
+pub never_cons : {A : Type 0} (v : A) (x : List A) → v ∷ x ≡ [] → ⊥
+never_cons v x e = cc
+
+-- two words that stand first
+pub first_words : (v w : Word) (f g x y : List Word) → f ≡ v ∷ [] → g ≡ w ∷ [] → f ++ x ≡ g ++ y → (v ≡ w) × (f ≡ g) × (x ≡ y)
+first_words v w f g x y is has e =
+    let both = cons_is v w x y (ap (λ (h : List Word). h ++ x) (sym is) ∙ e ∙ ap (λ (h : List Word). h ++ y) has) in
+    (both.0, is ∙ ap (λ (u : Word). u ∷ []) both.0 ∙ sym has, both.1)
+
+digits_same : (front : List ℕ) (n m : ℕ) (f g x y : List Word) → SpellsWith front n f → SpellsWith front m g → f ++ x ≡ g ++ y → (n ≡ m) × (f ≡ g) × (x ≡ y)
+digits_same front n m f g x y (ds, h, is) (cs, k, has) e =
+    let same = first_words (Bare (front ++ ds)) (Bare (front ++ cs)) f g x y is has e in
+    let digits = append_cancel_left front ds cs (bare_is (front ++ ds) (front ++ cs) same.0) in
+    (one_size n m cs (subst (SpellsDigits n) digits h) k, same.1, same.2)
+
+-- ---- types
+
+cont_is_no_scalar : (s : Scalar) (x y : List Word) → Bare (scalar_word s) ∷ x ≡ Bare (codes "cont") ∷ y → ⊥
+cont_is_no_scalar Int x y e =
+    let words = bare_is (codes "int") (codes "cont") (cons_is (Bare (codes "int")) (Bare (codes "cont")) x y e).0 in
+    different 105 99 (cons_is 105 99 (codes "nt") (codes "ont") words).0 refl
+cont_is_no_scalar Text x y e =
+    let words = bare_is (codes "text") (codes "cont") (cons_is (Bare (codes "text")) (Bare (codes "cont")) x y e).0 in
+    different 116 99 (cons_is 116 99 (codes "ext") (codes "ont") words).0 refl
+
+scalars_are : (s t : Scalar) → scalar_word s ≡ scalar_word t → s ≡ t
+scalars_are Int Int e = refl
+scalars_are Text Text e = refl
+scalars_are Int Text e = absurd (by e)
+  where
+    by : codes "int" ≡ codes "text" → ⊥
+    by h = cc
+scalars_are Text Int e = absurd (by e)
+  where
+    by : codes "text" ≡ codes "int" → ⊥
+    by h = cc
+
+abbrev pub type_words : ℕ → Scalar → List Word
+type_words depth scalar = replicate depth (Bare (codes "cont")) ++ (Bare (scalar_word scalar) ∷ [])
+
+one_type : (d e : ℕ) (s t : Scalar) (x y : List Word) → type_words d s ++ x ≡ type_words e t ++ y → (d ≡ e) × (s ≡ t) × (x ≡ y)
+one_type zero zero s t x y h =
+    let both = cons_is (Bare (scalar_word s)) (Bare (scalar_word t)) x y h in
+    (refl, scalars_are s t (bare_is (scalar_word s) (scalar_word t) both.0), both.1)
+one_type zero (suc e) s t x y h = absurd (cont_is_no_scalar s x (type_words e t ++ y) h)
+one_type (suc d) zero s t x y h = absurd (cont_is_no_scalar t y (type_words d s ++ x) (sym h))
+one_type (suc d) (suc e) s t x y h =
+    let both = cons_is (Bare (codes "cont")) (Bare (codes "cont")) (type_words d s ++ x) (type_words e t ++ y) h in
+    let more = one_type d e s t x y both.1 in
+    (ap suc more.0, more.1, more.2)
+
+-- ---- parts
+
+plus_is_no_name : (ds name : List ℕ) → codes "+" ++ ds ≡ name → IsName name → ⊥
+plus_is_no_name ds [] e h = h
+plus_is_no_name ds (b ∷ others) e h = no_letter (cons_is 43 b ds others e).0 h.0
+  where
+    no_letter : 43 ≡ b → IsInRange 65 90 b ⊎ IsInRange 97 122 b → ⊥
+    no_letter is (inl (low, high)) = omega arith
+    no_letter is (inr (low, high)) = omega arith
+
+any_is_no_digits : (n : ℕ) (ds : List ℕ) → codes "any" ≡ ds → SpellsDigits n ds → ⊥
+any_is_no_digits n ds e h = no_digit (subst (SpellsDigits n) (sym e) h)
+  where
+    no_digit : SpellsDigits n (codes "any") → ⊥
+    no_digit spells = omega (arith, spells.digits.1.0)
+
+module _ (a b : Goals) (names : AreNames a) (others : AreNames b) where
+  skips_same : (n m : ℕ) (f g x y : List Word) → SpellsPart a (Skip n) f → SpellsPart b (Skip m) g → f ++ x ≡ g ++ y → AreTied a b (Skip n) (Skip m) × (f ≡ g) × (x ≡ y)
+  skips_same n m f g x y (inl h) (inl k) e = let same = digits_same (codes "+") n m f g x y h k e in (inl (ap Skip same.0), same.1, same.2)
+  skips_same n m f g x y (inl (ds, h, is)) (inr (name, goal, has)) e =
+      let same = first_words (Bare (codes "+" ++ ds)) (Bare name) f g x y is has e in
+      absurd (plus_is_no_name ds name (bare_is (codes "+" ++ ds) name same.0) (others m name goal))
+  skips_same n m f g x y (inr (name, goal, is)) (inl (ds, k, has)) e =
+      let same = first_words (Bare name) (Bare (codes "+" ++ ds)) f g x y is has e in
+      absurd (plus_is_no_name ds name (sym (bare_is name (codes "+" ++ ds) same.0)) (names n name goal))
+  skips_same n m f g x y (inr (name, goal, is)) (inr (other, to, has)) e =
+      let same = first_words (Bare name) (Bare other) f g x y is has e in (
+        inr (record { n = n; m = m; name = other; first = refl; second = refl; goal = subst (a n) (bare_is name other same.0) goal; other = to }),
+        same.1,
+        same.2,
+      )
+
+  targets_same : (s t : Option ℕ) (f g x y : List Word) → SpellsPart a (Target s) f → SpellsPart b (Target t) g → f ++ x ≡ g ++ y → AreTied a b (Target s) (Target t) × (f ≡ g) × (x ≡ y)
+  targets_same None None f g x y h k e = let same = first_words (Bare (codes "any")) (Bare (codes "any")) f g x y h k e in (inl refl, same.1, same.2)
+  targets_same None (Some m) f g x y h (ds, k, has) e =
+      let same = first_words (Bare (codes "any")) (Bare ds) f g x y h has e in
+      absurd (any_is_no_digits m ds (bare_is (codes "any") ds same.0) k)
+  targets_same (Some n) None f g x y (ds, h, is) k e =
+      let same = first_words (Bare ds) (Bare (codes "any")) f g x y is k e in
+      absurd (any_is_no_digits n ds (sym (bare_is ds (codes "any") same.0)) h)
+  targets_same (Some n) (Some m) f g x y h k e = let same = digits_same [] n m f g x y h k e in (inl (ap (λ (i : ℕ). Target (Some i)) same.0), same.1, same.2)
+
+  -- words that stand first spell one part alone of a sort
+  one_part : (p q : Part) (f g x y : List Word) → sort_of p ≡ sort_of q → SpellsPart a p f → SpellsPart b q g → f ++ x ≡ g ++ y → AreTied a b p q × (f ≡ g) × (x ≡ y)
+  one_part (Name v) (Name w) f g x y s h k e = let same = first_words (Bare v) (Bare w) f g x y h k e in (inl (ap Name (bare_is v w same.0)), same.1, same.2)
+  one_part (Value n) (Value m) f g x y s h k e = let same = digits_same (codes "v") n m f g x y h k e in (inl (ap Value same.0), same.1, same.2)
+  one_part (Right n) (Right m) f g x y s h k e = let same = digits_same (codes "d") n m f g x y h k e in (inl (ap Right same.0), same.1, same.2)
+  one_part (Number n) (Number m) f g x y s (v, h, is) (w, k, has) e =
+      let same = first_words (Bare v) (Bare w) f g x y is has e in
+      (inl (ap Number (one_number n m w (subst (SpellsNumber n) (bare_is v w same.0) h) k)), same.1, same.2)
+  one_part (Natural n) (Natural m) f g x y s h k e = let same = digits_same [] n m f g x y h k e in (inl (ap Natural same.0), same.1, same.2)
+  one_part (Literal v) (Literal w) f g x y s h k e = let same = first_words (Quoted v) (Quoted w) f g x y h k e in (inl (ap Literal (quoted_is v w same.0)), same.1, same.2)
+  one_part (TypeOf t) (TypeOf u) f g x y s h k e =
+      let same = one_type t.depth u.depth t.scalar u.scalar x y (ap (λ (ws : List Word). ws ++ x) (sym h) ∙ e ∙ ap (λ (ws : List Word). ws ++ y) k) in (
+        inl (ap (λ (d : ℕ). TypeOf (record { depth = d; scalar = t.scalar })) same.0 ∙ ap (λ (c : Scalar). TypeOf (record { depth = u.depth; scalar = c })) same.1),
+        h ∙ ap (λ (d : ℕ). type_words d t.scalar) same.0 ∙ ap (type_words u.depth) same.1 ∙ sym k,
+        same.2,
+      )
+  one_part (Skip n) (Skip m) f g x y s h k e = skips_same n m f g x y h k e
+  one_part (Target t) (Target u) f g x y s h k e = targets_same t u f g x y h k e
+  one_part p q f g x y s h k e = different (sort_of p) (sort_of q) s refl
+
+  some_word : (q : Part) (g y : List Word) → SpellsPart b q g → g ++ y ≡ [] → ⊥
+  some_word (Name w) g y k e = never_cons (Bare w) y (ap (λ (ws : List Word). ws ++ y) (sym k) ∙ e)
+  some_word (Value m) g y (ds, k, has) e = never_cons (Bare (codes "v" ++ ds)) y (ap (λ (ws : List Word). ws ++ y) (sym has) ∙ e)
+  some_word (Right m) g y (ds, k, has) e = never_cons (Bare (codes "d" ++ ds)) y (ap (λ (ws : List Word). ws ++ y) (sym has) ∙ e)
+  some_word (Number m) g y (w, k, has) e = never_cons (Bare w) y (ap (λ (ws : List Word). ws ++ y) (sym has) ∙ e)
+  some_word (Natural m) g y (ds, k, has) e = never_cons (Bare ds) y (ap (λ (ws : List Word). ws ++ y) (sym has) ∙ e)
+  some_word (Literal t) g y k e = never_cons (Quoted t) y (ap (λ (ws : List Word). ws ++ y) (sym k) ∙ e)
+  some_word (TypeOf ty) g y k e = some_type ty.depth (ap (λ (ws : List Word). ws ++ y) (sym k) ∙ e)
+    where
+      some_type : (d : ℕ) → type_words d ty.scalar ++ y ≡ [] → ⊥
+      some_type zero h = never_cons (Bare (scalar_word ty.scalar)) y h
+      some_type (suc d) h = never_cons (Bare (codes "cont")) (type_words d ty.scalar ++ y) h
+  some_word (Skip m) g y (inl (ds, k, has)) e = never_cons (Bare (codes "+" ++ ds)) y (ap (λ (ws : List Word). ws ++ y) (sym has) ∙ e)
+  some_word (Skip m) g y (inr (name, k, has)) e = never_cons (Bare name) y (ap (λ (ws : List Word). ws ++ y) (sym has) ∙ e)
+  some_word (Target None) g y k e = never_cons (Bare (codes "any")) y (ap (λ (ws : List Word). ws ++ y) (sym k) ∙ e)
+  some_word (Target (Some m)) g y (ds, k, has) e = never_cons (Bare ds) y (ap (λ (ws : List Word). ws ++ y) (sym has) ∙ e)
+
+module _ (a b : Goals) (names : AreNames a) (others : AreNames b) where
+  -- the same words spell one list of parts alone, but for named skips
+  pub all_tied : (ps qs : List Part) (words ends : List Word) → AreAlike ps qs → words ≡ ends → SpellParts a ps words → SpellParts b qs ends → AllTied a b ps qs
+  all_tied [] [] words ends alike e h k = tt
+  all_tied [] (q ∷ qs) words ends alike e h (g, y, has, k, ks) = absurd (some_word a b names others q g y k (sym has ∙ sym e ∙ h))
+  all_tied (p ∷ ps) [] words ends alike e (f, x, is, h, hs) k = absurd (some_word b a others names p f x h (sym is ∙ e ∙ k))
+  all_tied (p ∷ ps) (q ∷ qs) words ends alike e (f, x, is, h, hs) (g, y, has, k, ks) =
+      let one = one_part a b names others p q f g x y alike.0 h k (sym is ∙ e ∙ has) in
+      (one.0, all_tied ps qs x y alike.1 one.2 hs ks)
+
+  -- where a name stands for one skip alone
+  pub tied_are : ((n m : ℕ) (name : List ℕ) → a n name → b m name → n ≡ m) → (ps qs : List Part) → AllTied a b ps qs → ps ≡ qs
+  tied_are alone [] [] h = refl
+  tied_are alone [] (q ∷ qs) h = absurd h
+  tied_are alone (p ∷ ps) [] h = absurd h
+  tied_are alone (p ∷ ps) (q ∷ qs) (inl e, h) = ap (λ (r : Part). r ∷ ps) e ∙ ap (λ (rs : List Part). q ∷ rs) (tied_are alone ps qs h)
+  tied_are alone (p ∷ ps) (q ∷ qs) (inr n, h) =
+      ap (λ (r : Part). r ∷ ps) (n.first ∙ ap Skip (alone n.n n.m n.name n.goal n.other) ∙ sym n.second) ∙ ap (λ (rs : List Part). q ∷ rs) (tied_are alone ps qs h)
+
+-- ---- other goals
+
+pub part_more : (a b : Goals) → ((skip : ℕ) (name : List ℕ) → a skip name → b skip name) → (p : Part) (words : List Word) → SpellsPart a p words → SpellsPart b p words
+part_more a b more (Skip n) words (inl h) = inl h
+part_more a b more (Skip n) words (inr (name, goal, is)) = inr (name, more n name goal, is)
+part_more a b more (Target None) words h = h
+part_more a b more (Target (Some n)) words h = h
+part_more a b more p words h = h
+
+pub parts_more : (a b : Goals) → ((skip : ℕ) (name : List ℕ) → a skip name → b skip name) → (ps : List Part) (words : List Word) → SpellParts a ps words → SpellParts b ps words
+parts_more a b more [] words h = h
+parts_more a b more (p ∷ ps) words (f, x, is, h, hs) = (f, x, is, part_more a b more p f h, parts_more a b more ps x hs)
+
+-- ---- a skip by its name
+
+last_is : (parts : List Part) → is_last parts ≡ true → parts ≡ []
+last_is [] e = refl
+last_is (p ∷ ps) e = absurd cc
+
+-- the words of parts where one name stands as the skip, or no name
+pub data ByName (goals : Goals) (name : List ℕ) (ps qs : List Part) (words : List Word) : Type 0 where
+  unnamed : SpellParts NoName ps words → ByName goals name ps qs words
+  named : (skip : ℕ) → goals skip name → qs ≡ map (reskip skip) ps → ByName goals name ps qs words
+
+module _ (goals : Goals) (name : List ℕ) (names : AreNames goals) (is_name : IsName name) where
+  only : AreNames (OnlyName name)
+  only skip word (none, is) = subst IsName (sym is) is_name
+
+  plain : (p : Part) → (sort_of p ≡ 7 → ⊥) → (f : List Word) → SpellsPart (OnlyName name) p f → SpellsPart NoName p f
+  plain (Skip n) not f h = absurd (not refl)
+  plain (Target None) not f h = h
+  plain (Target (Some n)) not f h = h
+  plain p not f h = h
+
+  keeps : (p : Part) (skip : ℕ) → (sort_of p ≡ 7 → ⊥) → reskip skip p ≡ p
+  keeps (Skip n) skip not = absurd (not refl)
+  keeps p skip not = refl
+
+  tied_plain : (p q : Part) → (sort_of p ≡ 7 → ⊥) → AreTied (OnlyName name) goals p q → p ≡ q
+  tied_plain p q not (inl e) = e
+  tied_plain p q not (inr n) = absurd (not (ap sort_of n.first))
+
+  behind_plain : (p q : Part) (ps qs : List Part) (f x words : List Word) → (sort_of p ≡ 7 → ⊥) → words ≡ f ++ x → SpellsPart (OnlyName name) p f → AreTied (OnlyName name) goals p q → ByName goals name ps qs x → ByName goals name (p ∷ ps) (q ∷ qs) words
+  behind_plain p q ps qs f x words not is h tied (unnamed hs) = unnamed (f, x, is, plain p not f h, hs)
+  behind_plain p q ps qs f x words not is h tied (named skip goal e) =
+      named skip goal (ap (λ (r : Part). r ∷ qs) (sym (tied_plain p q not tied) ∙ sym (keeps p skip not)) ∙ ap (λ (rs : List Part). reskip skip p ∷ rs) e)
+
+  at_skip : (n m : ℕ) (f g x y words : List Word) → words ≡ f ++ x → x ≡ [] → f ++ x ≡ g ++ y → SpellsPart (OnlyName name) (Skip n) f → SpellsPart goals (Skip m) g → ByName goals name (Skip n ∷ []) (Skip m ∷ []) words
+  at_skip n m f g x y words is none e (inl h) k = unnamed (f, x, is, inl h, none)
+  at_skip n m f g x y words is none e (inr (word, (zero_is, same), has)) (inl (ds, k, are)) =
+      let one = first_words (Bare word) (Bare (codes "+" ++ ds)) f g x y has are e in
+      absurd (plus_is_no_name ds name (sym (bare_is word (codes "+" ++ ds) one.0) ∙ same) is_name)
+  at_skip n m f g x y words is none e (inr (word, (zero_is, same), has)) (inr (other, goal, are)) =
+      let one = first_words (Bare word) (Bare other) f g x y has are e in
+      named m (subst (goals m) (sym (bare_is word other one.0) ∙ same) goal) refl
+
+  skip_only : (n m : ℕ) (ps qs : List Part) (f g x y words : List Word) → ps ≡ [] → qs ≡ [] → words ≡ f ++ x → x ≡ [] → f ++ x ≡ g ++ y → SpellsPart (OnlyName name) (Skip n) f → SpellsPart goals (Skip m) g
+      → ByName goals name (Skip n ∷ ps) (Skip m ∷ qs) words
+  skip_only n m ps qs f g x y words no_ps no_qs is none e h k =
+      subst (λ (rs : List Part). ByName goals name (Skip n ∷ rs) (Skip m ∷ qs) words) (sym no_ps)
+      (subst (λ (rs : List Part). ByName goals name (Skip n ∷ []) (Skip m ∷ rs) words) (sym no_qs) (at_skip n m f g x y words is none e h k))
+
+  none_behind : (qs : List Part) (y : List Word) → SpellParts goals qs y → y ≡ [] → qs ≡ []
+  none_behind [] y h e = refl
+  none_behind (q ∷ qs) y (g, z, has, k, ks) e = absurd (some_word (OnlyName name) goals only names q g z k (sym has ∙ e))
+
+  spells_none : (ps : List Part) (x : List Word) → ps ≡ [] → SpellParts (OnlyName name) ps x → x ≡ []
+  spells_none [] x e h = h
+  spells_none (p ∷ ps) x e h = absurd (never_cons p ps e)
+
+  -- words of parts of the same sorts, with a name as a skip, or with none
+  pub by_name : (ps qs : List Part) (words ends : List Word) → skips_last ps ≡ true → AreAlike ps qs → words ≡ ends → SpellParts (OnlyName name) ps words → SpellParts goals qs ends → ByName goals name ps qs words
+  by_name [] [] words ends last alike e h k = unnamed h
+  by_name [] (q ∷ qs) words ends last alike e h (g, y, has, k, ks) = absurd (some_word (OnlyName name) goals only names q g y k (sym has ∙ sym e ∙ h))
+  by_name (p ∷ ps) [] words ends last alike e (f, x, is, h, hs) k = absurd (some_word goals (OnlyName name) names only p f x h (sym is ∙ e ∙ k))
+  by_name (Skip n ∷ ps) (Skip m ∷ qs) words ends last alike e (f, x, is, h, hs) (g, y, has, k, ks) =
+      let no_ps = last_is ps last in
+      let none = spells_none ps x no_ps hs in
+      let same = sym is ∙ e ∙ has in
+      let one = one_part (OnlyName name) goals only names (Skip n) (Skip m) f g x y refl h k same in
+      skip_only n m ps qs f g x y words no_ps (none_behind qs y ks (sym one.2 ∙ none)) is none same h k
+  by_name (Skip n ∷ ps) (q ∷ qs) words ends last alike e h k = different 7 (sort_of q) alike.0 refl
+  by_name (p ∷ ps) (q ∷ qs) words ends last alike e (f, x, is, h, hs) (g, y, has, k, ks) =
+      let one = one_part (OnlyName name) goals only names p q f g x y alike.0 h k (sym is ∙ e ∙ has) in
+      behind_plain p q ps qs f x words (λ seven. different (sort_of p) 7 seven refl) is h one.0 (by_name ps qs x y last alike.1 one.2 hs ks)
+
+-- the words of parts where a name stands as the skip are those of the parts with the skip for which it stands
+pub data Resolved (goals : Goals) (skip : ℕ) (ps : List Part) (words : List Word) : Type 0 where
+  as_is : SpellParts NoName ps words → Resolved goals skip ps words
+  with_goal : SpellParts goals (map (reskip skip) ps) words → Resolved goals skip ps words
+
+module _ (goals : Goals) (name : List ℕ) (skip : ℕ) (goal : goals skip name) where
+  kept : (p : Part) → (sort_of p ≡ 7 → ⊥) → (f : List Word) → SpellsPart (OnlyName name) p f → SpellsPart NoName p f × SpellsPart goals (reskip skip p) f
+  kept (Skip n) not f h = absurd (not refl)
+  kept (Target None) not f h = (h, h)
+  kept (Target (Some n)) not f h = (h, h)
+  kept p not f h = (h, h)
+
+  behind_kept : (p : Part) (ps : List Part) (f x words : List Word) → (sort_of p ≡ 7 → ⊥) → words ≡ f ++ x → SpellsPart (OnlyName name) p f → Resolved goals skip ps x → Resolved goals skip (p ∷ ps) words
+  behind_kept p ps f x words not is h (as_is hs) = as_is (f, x, is, (kept p not f h).0, hs)
+  behind_kept p ps f x words not is h (with_goal hs) = with_goal (f, x, is, (kept p not f h).1, hs)
+
+  at_goal : (n : ℕ) (ps : List Part) (f x words : List Word) → ps ≡ [] → words ≡ f ++ x → SpellsPart (OnlyName name) (Skip n) f → SpellParts (OnlyName name) ps x → Resolved goals skip (Skip n ∷ ps) words
+  at_goal n [] f x words none is (inl h) hs = as_is (f, x, is, inl h, hs)
+  at_goal n [] f x words none is (inr (word, (zero_is, same), has)) hs = with_goal (f, x, is, inr (name, goal, has ∙ ap (λ (w : List ℕ). Bare w ∷ []) same), hs)
+  at_goal n (p ∷ ps) f x words none is h hs = absurd (never_cons p ps none)
+
+  pub resolved : (ps : List Part) (words : List Word) → skips_last ps ≡ true → SpellParts (OnlyName name) ps words → Resolved goals skip ps words
+  resolved [] words last h = as_is h
+  resolved (Skip n ∷ ps) words last (f, x, is, h, hs) = at_goal n ps f x words (last_is ps last) is h hs
+  resolved (p ∷ ps) words last (f, x, is, h, hs) = behind_kept p ps f x words (λ seven. different (sort_of p) 7 seven refl) is h (resolved ps x last hs)

@@ -1,0 +1,241 @@
+-- The table of instructions, as it is read and as it is defined.
+use Rattle.std.proofs.Common.{◌≡◌, ℕ, Bool, true, false, cond, List, ◌∷◌, Option, Some, None, refl, ap, ◌∙◌}
+use Rattle.std.specs.Str.{bytes_eq}
+use Rattle.std.proofs.lemmas.Slice.Eq.{bytes_eq-Decides}
+use Rattle.tw_code.specs.declared.instr.Arithmetic.TheVariants.{Add, Subtract, Multiply, Divide, Remainder}
+use Rattle.tw_code.specs.declared.instr.DataInstr.TheVariants as on_data
+use Rattle.tw_code.specs.declared.instr.Instr.{Instr}
+use Rattle.tw_code.specs.declared.instr.Instr.TheVariants as instr
+use Rattle.tw_code.specs.declared.instr.LocalInstr.TheVariants as local
+use Rattle.tw_code.specs.format.Program.{IsInstr}
+use Rattle.tw_statement.proofs.Lined.{MayParts, parts_of}
+use Rattle.tw_statement.specs.Parts.{Name, instr_parts}
+use Rattle.tw_statement.specs.declared.opcode.Opcode.{Opcode}
+use Rattle.tw_statement.specs.declared.opcode.Opcode.TheVariants as op
+use Rattle.tw_statement.specs.reading.Lines.{LineContent, before_colon, computing_named, data_named, instr_of, line_of, local_named, on, opcode_of, word_of}
+use Rattle.tw_statement.specs.reading.Operands.{further}
+
+-- an instruction, by its code and its operands
+abbrev pub IsMade : Instr → Type 0
+IsMade i = (o : Opcode) × (x : LineContent (line_of o)) × (i ≡ instr_of o x)
+
+pub made : (i : Instr) → IsMade i
+made (instr.Local (local.Int to value)) = (op.Int, (to, value), refl)
+made (instr.Local (local.Text to text)) = (op.Text, (to, text), refl)
+made (instr.Local (local.Copy to from)) = (op.Copy, (to, from), refl)
+made (instr.Local (local.Compute operation to left right skip)) = (op.Compute operation, (to, (left, (right, further skip))), refl)
+made (instr.Local (local.Concatenate to left right skip)) = (op.Concatenate, (to, (left, (right, further skip))), refl)
+made (instr.Local (local.Length to from)) = (op.Length, (to, from), refl)
+made (instr.Local (local.Show to from)) = (op.Show, (to, from), refl)
+made (instr.Local (local.ReadInt to from skip)) = (op.ReadInt, (to, (from, further skip)), refl)
+made (instr.Local (local.Jump skip)) = (op.Jump, further skip, refl)
+made (instr.Local (local.JumpEqual left right skip)) = (op.JumpEqual, (left, (right, further skip)), refl)
+made (instr.Local (local.JumpLess left right skip)) = (op.JumpLess, (left, (right, further skip)), refl)
+made (instr.Local (local.Repeat turns)) = (op.Repeat, turns, refl)
+made (instr.Local local.End) = (op.End, tt, refl)
+made (instr.Data (on_data.New write read ty)) = (op.New, (write, (read, ty)), refl)
+made (instr.Data (on_data.Store datum from)) = (op.Store, (datum, from), refl)
+made (instr.Data (on_data.Get to datum)) = (op.Get, (to, datum), refl)
+made (instr.Data (on_data.Insert container subscript member skip)) = (op.Insert, (container, (subscript, (member, further skip))), refl)
+made (instr.Data (on_data.Look member container subscript skip)) = (op.Look, (member, (container, (subscript, further skip))), refl)
+made (instr.Data (on_data.Size to container)) = (op.Size, (to, container), refl)
+made (instr.Data (on_data.SubscriptAt to container index skip)) = (op.SubscriptAt, (to, (container, (index, further skip))), refl)
+made (instr.Data (on_data.CopyRead to from)) = (op.CopyRead, (to, from), refl)
+made (instr.Data (on_data.CopyWrite to from)) = (op.CopyWrite, (to, from), refl)
+made (instr.Data (on_data.DropRead right)) = (op.DropRead, right, refl)
+made (instr.Data (on_data.DropWrite right)) = (op.DropWrite, right, refl)
+made (instr.Rule action) = (op.Rule, (action.procedure, (action.priority, (action.target, action.args))), refl)
+made (instr.Put action) = (op.Put, (action.procedure, (action.priority, (action.target, action.args))), refl)
+made instr.Ret = (op.Ret, tt, refl)
+
+pub parts_are : (o : Opcode) (x : LineContent (line_of o)) → instr_parts (instr_of o x) ≡ Name (word_of o) ∷ parts_of (line_of o) x
+parts_are op.Int x = refl
+parts_are op.Text x = refl
+parts_are op.Copy x = refl
+parts_are (op.Compute operation) x = refl
+parts_are op.Concatenate x = refl
+parts_are op.Length x = refl
+parts_are op.Show x = refl
+parts_are op.ReadInt x = refl
+parts_are op.Jump x = refl
+parts_are op.JumpEqual x = refl
+parts_are op.JumpLess x = refl
+parts_are op.Repeat x = refl
+parts_are op.End x = refl
+parts_are op.New x = refl
+parts_are op.Store x = refl
+parts_are op.Get x = refl
+parts_are op.Insert x = refl
+parts_are op.Look x = refl
+parts_are op.Size x = refl
+parts_are op.SubscriptAt x = refl
+parts_are op.CopyRead x = refl
+parts_are op.CopyWrite x = refl
+parts_are op.DropRead x = refl
+parts_are op.DropWrite x = refl
+parts_are op.Rule x = refl
+parts_are op.Put x = refl
+parts_are op.Ret x = refl
+
+pub within : (o : Opcode) (x : LineContent (line_of o)) → MayParts (line_of o) x → IsInstr (instr_of o x)
+within op.Int x m = m
+within op.Text x m = m
+within op.Copy x m = m
+within (op.Compute operation) x m = (m.0, m.1.0, m.1.1.0, m.1.1.1)
+within op.Concatenate x m = (m.0, m.1.0, m.1.1.0, m.1.1.1)
+within op.Length x m = m
+within op.Show x m = m
+within op.ReadInt x m = (m.0, m.1.0, m.1.1)
+within op.Jump x m = m
+within op.JumpEqual x m = (m.0, m.1.0, m.1.1)
+within op.JumpLess x m = (m.0, m.1.0, m.1.1)
+within op.Repeat x m = m
+within op.End x m = m
+within op.New x m = (m.0, m.1.0, m.1.1)
+within op.Store x m = m
+within op.Get x m = m
+within op.Insert x m = (m.0, m.1.0, m.1.1.0, m.1.1.1)
+within op.Look x m = (m.0, m.1.0, m.1.1.0, m.1.1.1)
+within op.Size x m = m
+within op.SubscriptAt x m = (m.0, m.1.0, m.1.1.0, m.1.1.1)
+within op.CopyRead x m = m
+within op.CopyWrite x m = m
+within op.DropRead x m = m
+within op.DropWrite x m = m
+within op.Rule x m = record { procedure = m.0; priority = m.1.0; target = m.1.1.0; args = m.1.1.1 }
+within op.Put x m = record { procedure = m.0; priority = m.1.0; target = m.1.1.0; args = m.1.1.1 }
+within op.Ret x m = m
+
+pub within_back : (o : Opcode) (x : LineContent (line_of o)) → IsInstr (instr_of o x) → MayParts (line_of o) x
+within_back op.Int x m = m
+within_back op.Text x m = m
+within_back op.Copy x m = m
+within_back (op.Compute operation) x m = (m.0, (m.1, (m.2, m.3)))
+within_back op.Concatenate x m = (m.0, (m.1, (m.2, m.3)))
+within_back op.Length x m = m
+within_back op.Show x m = m
+within_back op.ReadInt x m = (m.0, (m.1, m.2))
+within_back op.Jump x m = m
+within_back op.JumpEqual x m = (m.0, (m.1, m.2))
+within_back op.JumpLess x m = (m.0, (m.1, m.2))
+within_back op.Repeat x m = m
+within_back op.End x m = m
+within_back op.New x m = (m.0, (m.1, m.2))
+within_back op.Store x m = m
+within_back op.Get x m = m
+within_back op.Insert x m = (m.0, (m.1, (m.2, m.3)))
+within_back op.Look x m = (m.0, (m.1, (m.2, m.3)))
+within_back op.Size x m = m
+within_back op.SubscriptAt x m = (m.0, (m.1, (m.2, m.3)))
+within_back op.CopyRead x m = m
+within_back op.CopyWrite x m = m
+within_back op.DropRead x m = m
+within_back op.DropWrite x m = m
+within_back op.Rule x m = (m.procedure, (m.priority, (m.target, m.args)))
+within_back op.Put x m = (m.procedure, (m.priority, (m.target, m.args)))
+within_back op.Ret x m = m
+
+-- ---- names
+
+pub named : (o : Opcode) → opcode_of (word_of o) ≡ Some o
+unfolding opcode_of
+named op.Int = refl
+named op.Text = refl
+named op.Copy = refl
+named (op.Compute Add) = refl
+named (op.Compute Subtract) = refl
+named (op.Compute Multiply) = refl
+named (op.Compute Divide) = refl
+named (op.Compute Remainder) = refl
+named op.Concatenate = refl
+named op.Length = refl
+named op.Show = refl
+named op.ReadInt = refl
+named op.Jump = refl
+named op.JumpEqual = refl
+named op.JumpLess = refl
+named op.Repeat = refl
+named op.End = refl
+named op.New = refl
+named op.Store = refl
+named op.Get = refl
+named op.Insert = refl
+named op.Look = refl
+named op.Size = refl
+named op.SubscriptAt = refl
+named op.CopyRead = refl
+named op.CopyWrite = refl
+named op.DropRead = refl
+named op.DropWrite = refl
+named op.Rule = refl
+named op.Put = refl
+named op.Ret = refl
+
+pub no_colon : (o : Opcode) → before_colon (word_of o) ≡ None
+no_colon op.Int = refl
+no_colon op.Text = refl
+no_colon op.Copy = refl
+no_colon (op.Compute Add) = refl
+no_colon (op.Compute Subtract) = refl
+no_colon (op.Compute Multiply) = refl
+no_colon (op.Compute Divide) = refl
+no_colon (op.Compute Remainder) = refl
+no_colon op.Concatenate = refl
+no_colon op.Length = refl
+no_colon op.Show = refl
+no_colon op.ReadInt = refl
+no_colon op.Jump = refl
+no_colon op.JumpEqual = refl
+no_colon op.JumpLess = refl
+no_colon op.Repeat = refl
+no_colon op.End = refl
+no_colon op.New = refl
+no_colon op.Store = refl
+no_colon op.Get = refl
+no_colon op.Insert = refl
+no_colon op.Look = refl
+no_colon op.Size = refl
+no_colon op.SubscriptAt = refl
+no_colon op.CopyRead = refl
+no_colon op.CopyWrite = refl
+no_colon op.DropRead = refl
+no_colon op.DropWrite = refl
+no_colon op.Rule = refl
+no_colon op.Put = refl
+no_colon op.Ret = refl
+
+-- a name that is found is that of its instruction
+abbrev IsBack : List ℕ → Option Opcode → Type 0
+IsBack name found = (o : Opcode) → found ≡ Some o → name ≡ word_of o
+
+one_more : (name : List ℕ) (o : Opcode) (others : Option Opcode) → IsBack name others → IsBack name (on name o others)
+one_more name o others back = by (bytes_eq name (word_of o)) refl
+  where
+    inner : {a b : Opcode} → Some a ≡ Some b → a ≡ b
+    inner e = cc
+
+    by : (t : Bool) → bytes_eq name (word_of o) ≡ t → IsBack name (cond t (Some o) others)
+    by true is = λ found e. (bytes_eq-Decides name (word_of o)).0 is ∙ ap word_of (inner e)
+    by false isnt = back
+
+no_more : (name : List ℕ) → IsBack name None
+no_more name o e = absurd (none e)
+  where
+    none : None ≡ Some o → ⊥
+    none e = cc
+
+data_back : (name : List ℕ) → IsBack name (data_named name)
+data_back name =
+    one_more name op.New _ (one_more name op.Store _ (one_more name op.Get _ (one_more name op.Insert _ (one_more name op.Look _ (one_more name op.Size _ (one_more name op.SubscriptAt _ (one_more name op.CopyRead _ (one_more name op.CopyWrite _ (one_more name op.DropRead _ (one_more name op.DropWrite _ (one_more name op.Rule _ (one_more name op.Put _ (one_more name op.Ret _ (no_more name))))))))))))))
+
+computing_back : (name : List ℕ) (others : Option Opcode) → IsBack name others → IsBack name (computing_named name others)
+computing_back name others back =
+    one_more name (op.Compute Add) _ (one_more name (op.Compute Subtract) _ (one_more name (op.Compute Multiply) _ (one_more name (op.Compute Divide) _ (one_more name (op.Compute Remainder) _ (one_more name op.Concatenate _ (one_more name op.Length _ (one_more name op.Show _ (one_more name op.ReadInt _ (back)))))))))
+
+local_back : (name : List ℕ) (others : Option Opcode) → IsBack name others → IsBack name (local_named name others)
+local_back name others back =
+    one_more name op.Int _ (one_more name op.Text _ (one_more name op.Copy _ (one_more name op.Jump _ (one_more name op.JumpEqual _ (one_more name op.JumpLess _ (one_more name op.Repeat _ (one_more name op.End _ (back))))))))
+
+pub named_back : (name : List ℕ) (o : Opcode) → opcode_of name ≡ Some o → name ≡ word_of o
+unfolding opcode_of
+named_back name o e = local_back name _ (computing_back name _ (data_back name)) o e
