@@ -1,0 +1,250 @@
+-- One line more.
+use Rattle.std.proofs.Common.{◌≡◌, ◌⊎◌, ℕ, zero, suc, ◌+◌, ◌<◌, List, [], ◌∷◌, ◌++◌, length, map, get_or, take, drop, Option, Some, None, Result, Ok, Err, MatchResult, inl, inr, refl, sym, subst, ap, ◌∙◌, arith}
+use Rattle.std.proofs.lemmas.List.{length-append, map-append, length-map}
+use denote.Ref.{Bor}
+use Rattle.std.proofs.Math.Seq.{split_at}
+use Rattle.std.proofs.lemmas.List.FromFn.{get_or-enumerate_from, length-enumerate_from}
+use Rattle.std.specs.List.{enumerate_from}
+use Rattle.std.specs.Str.Lines.{lines}
+use Rattle.tw_lines.specs.Words.{Word}
+use Rattle.tw_statement.specs.Parts.{Part, Name, Value, Right, Number, Natural, Literal, TypeOf, Skip, Target}
+use Rattle.tw_statement.specs.Seen.{IsRead, NoName, OnlyName, Read}
+use Rattle.tw_statement.specs.Statement.{Statement, Head, Registers, Label, Code, AnyShortName, Goals, IsShortName, Say, SpellParts, SpellsPart, Spells}
+use Rattle.tw_asm.specs.declared.fault.AsmFault.{AsmFault}
+use Rattle.tw_asm.specs.declared.fault.FaultNo.{FaultNo}
+use Rattle.tw_asm.specs.Fault.{Stage, Start, AfterHead, InBody, Situation, IsLineFault, IsUnfinished, LineFault, LineSays, LinesSay, MayStand, after, after_line, situation_from}
+use Rattle.tw_asm.specs.Spelling.{Placed}
+use Rattle.tw_asm.specs.reading.Progress.{AtStart, BehindHead, Within, LineRead, LinesRead, Place, Progress, Section, AreNotRead, AreTextRead, IsMemory, IsNotFinished, line_step, outset, progress_from, situation_of, step}
+
+-- ---- the situation after a statement
+
+name_of : Placed → List ℕ
+name_of label = label.name
+
+abbrev progress : List Section → ℕ → Place → Progress
+progress sections head_line place = record { sections = sections; head_line = head_line; place = place }
+
+start_head : {Z : Type 0} → ◌≡◌ {A = Stage} Start AfterHead → Z
+start_head e = absurd cc
+
+start_body : {Z : Type 0} → ◌≡◌ {A = Stage} Start InBody → Z
+start_body e = absurd cc
+
+head_start : {Z : Type 0} → ◌≡◌ {A = Stage} AfterHead Start → Z
+head_start e = absurd cc
+
+head_body : {Z : Type 0} → ◌≡◌ {A = Stage} AfterHead InBody → Z
+head_body e = absurd cc
+
+body_head : {Z : Type 0} → ◌≡◌ {A = Stage} InBody AfterHead → Z
+body_head e = absurd cc
+
+abbrev counted : Stage → ℕ → List (List ℕ) → ℕ → ℕ → Situation
+counted stage head_line labels procedures instructions = record { stage = stage; procedures = procedures; head_line = head_line; labels = labels; instructions = instructions }
+
+step_at : (number : ℕ) (statement : Statement) (goal : Option (List ℕ)) (sections : List Section) (head_line : ℕ) (place : Place) → MayStand statement (situation_of (progress sections head_line place))
+    → situation_of (step number statement goal (progress sections head_line place)) ≡ after number statement (situation_of (progress sections head_line place))
+step_at number (Head kind params) goal sections head_line AtStart m =
+    let e : length sections + 1 ≡ (length sections + 0) + 1 = omega arith in
+    ap (λ (n : ℕ). counted AfterHead number [] n 0) e
+step_at number (Head kind params) goal sections head_line (BehindHead k ps) m = elim (m.0) [ inl e ↦ head_start e | inr e ↦ head_body e.0 ]
+step_at number (Head kind params) goal sections head_line (Within section) m =
+    let e : length (sections ++ (section ∷ [])) + 1 ≡ (length sections + 1) + 1 = omega (arith, length-append sections (section ∷ [])) in
+    ap (λ (n : ℕ). counted AfterHead number [] n 0) e
+step_at number (Registers registers) goal sections head_line AtStart m = start_head m
+step_at number (Registers registers) goal sections head_line (BehindHead kind params) m = refl
+step_at number (Registers registers) goal sections head_line (Within section) m = body_head m
+step_at number (Label name) goal sections head_line AtStart m = start_body m.0
+step_at number (Label name) goal sections head_line (BehindHead kind params) m = head_body m.0
+step_at number (Label name) goal sections head_line (Within section) m =
+    ap (λ (names : List (List ℕ)). counted InBody head_line names (length sections + 1) (length section.drafts)) (map-append (λ (label : Placed). label.name) section.labels (record { name = name; place = length section.drafts } ∷ []))
+step_at number (Code i) goal sections head_line AtStart m = start_body m.0
+step_at number (Code i) goal sections head_line (BehindHead kind params) m = head_body m.0
+step_at number (Code i) goal sections head_line (Within section) m =
+    let e : length (section.drafts ++ (record { instr = i; goal = goal; number = number } ∷ [])) ≡ length section.drafts + 1 = omega (arith, length-append section.drafts (record { instr = i; goal = goal; number = number } ∷ [])) in
+    ap (λ (n : ℕ). counted InBody head_line (map (λ (label : Placed). label.name) section.labels) (length sections + 1) n) e
+
+pub step_after : (number : ℕ) (statement : Statement) (goal : Option (List ℕ)) (p : Progress) → MayStand statement (situation_of p) → situation_of (step number statement goal p) ≡ after number statement (situation_of p)
+step_after number statement goal p m = step_at number statement goal p.sections p.head_line p.place m
+
+-- ---- what is read is said
+
+part_more : (G H : Goals) → ((skip : ℕ) (name : List ℕ) → G skip name → H skip name) → (part : Part) (words : List Word) → SpellsPart G part words → SpellsPart H part words
+part_more G H more (Name word) words s = s
+part_more G H more (Value register) words s = s
+part_more G H more (Right register) words s = s
+part_more G H more (Number number) words s = s
+part_more G H more (Natural number) words s = s
+part_more G H more (Literal text) words s = s
+part_more G H more (TypeOf ty) words s = s
+part_more G H more (Skip skip) words (inl s) = inl s
+part_more G H more (Skip skip) words (inr s) = inr (s.0, more skip s.0 s.1, s.2)
+part_more G H more (Target None) words s = s
+part_more G H more (Target (Some number)) words s = s
+
+parts_more : (G H : Goals) → ((skip : ℕ) (name : List ℕ) → G skip name → H skip name) → (parts : List Part) (words : List Word) → SpellParts G parts words → SpellParts H parts words
+parts_more G H more [] words s = s
+parts_more G H more (part ∷ parts) words s = (s.0, s.1, s.2, part_more G H more part s.0 s.3, parts_more G H more parts s.1 s.4)
+
+-- where these goals are goals too
+pub spells_more : (G H : Goals) → ((skip : ℕ) (name : List ℕ) → G skip name → H skip name) → (statement : Statement) (words : List Word) → Spells G statement words → Spells H statement words
+spells_more G H more statement words s = record { form = s.form; parts = parts_more G H more _ words s.parts }
+
+only_short : (name : List ℕ) → IsShortName name → (skip : ℕ) (word : List ℕ) → OnlyName name skip word → AnyShortName skip word
+only_short name short skip word only = subst IsShortName (sym only.1) short
+
+said_at : (statement : Statement) (goal : Option (List ℕ)) (words : List Word) → IsRead (record { statement = statement; goal = goal }) words → Say statement words
+said_at statement None words r = (spells_more NoName AnyShortName (λ skip name n. absurd n) statement words r.1, r.0)
+said_at statement (Some name) words r = (spells_more (OnlyName name) AnyShortName (only_short name r.1.0) statement words r.1.1, r.0)
+
+pub read_says : (read : Read) (words : List Word) → IsRead read words → Say read.statement words
+read_says read words r = said_at read.statement read.goal words r
+
+-- ---- lines
+
+abbrev pub statement_of : Option Read → Option Statement
+statement_of None = None
+statement_of (Some read) = Some read.statement
+
+abbrev pub said_by : List (Option Read) → List (Option Statement)
+said_by reads = map statement_of reads
+
+line_says : (s : Situation) (line : List ℕ) (read : Option Read) → LineRead s line read → LineSays s line (statement_of read)
+line_says s line None r = r
+line_says s line (Some read) r = ((r.0.0, r.0.1, read_says read r.0.0 r.0.2), r.1)
+
+line_after : (number : ℕ) (p : Progress) (line : List ℕ) (read : Option Read) → LineRead (situation_of p) line read → situation_of (line_step number read p) ≡ after_line number (statement_of read) (situation_of p)
+line_after number p line None r = refl
+line_after number p line (Some read) r = step_after number read.statement read.goal p r.1
+
+pub lines_say : (number : ℕ) (p : Progress) (ls : List (List ℕ)) (reads : List (Option Read)) → LinesRead number p ls reads → LinesSay number (situation_of p) ls (said_by reads)
+lines_say number p [] [] r = tt
+lines_say number p [] (read ∷ others) r = absurd r
+lines_say number p (line ∷ after) [] r = absurd r
+lines_say number p (line ∷ after) (read ∷ others) r =
+    (line_says (situation_of p) line read r.0, subst (λ (s : Situation). LinesSay (number + 1) s after (said_by others)) (line_after number p line read r.0) (lines_say (number + 1) (line_step number read p) after others r.1))
+
+pub situation_is : (number : ℕ) (p : Progress) (ls : List (List ℕ)) (reads : List (Option Read)) → LinesRead number p ls reads → situation_of (progress_from number p reads) ≡ situation_from number (situation_of p) (said_by reads)
+situation_is number p [] [] r = refl
+situation_is number p [] (read ∷ others) r = absurd r
+situation_is number p (line ∷ after) [] r = absurd r
+situation_is number p (line ∷ after) (read ∷ others) r =
+    situation_is (number + 1) (line_step number read p) after others r.1 ∙ ap (λ (s : Situation). situation_from (number + 1) s (said_by others)) (line_after number p line read r.0)
+
+progress_more : (number : ℕ) (p : Progress) (reads : List (Option Read)) (read : Option Read) → progress_from number p (reads ++ (read ∷ [])) ≡ line_step (number + length reads) read (progress_from number p reads)
+progress_more number p [] read =
+    let e : number ≡ number + 0 = omega arith in
+    ap (λ (n : ℕ). line_step n read p) e
+progress_more number p (r ∷ reads) read =
+    let e : (number + 1) + length reads ≡ number + suc (length reads) = omega arith in
+    progress_more (number + 1) (line_step number r p) reads read ∙ ap (λ (n : ℕ). line_step n read (progress_from (number + 1) (line_step number r p) reads)) e
+
+lines_more : (number : ℕ) (p : Progress) (ls : List (List ℕ)) (reads : List (Option Read)) (line : List ℕ) (read : Option Read) → LinesRead number p ls reads
+    → LineRead (situation_of (progress_from number p reads)) line read → LinesRead number p (ls ++ (line ∷ [])) (reads ++ (read ∷ []))
+lines_more number p [] [] line read r here = (here, tt)
+lines_more number p [] (q ∷ others) line read r here = absurd r
+lines_more number p (l ∷ after) [] line read r here = absurd r
+lines_more number p (l ∷ after) (q ∷ others) line read r here = (r.0, lines_more (number + 1) (line_step number q p) after others line read r.1 here)
+
+pub reads_length : (number : ℕ) (p : Progress) (ls : List (List ℕ)) (reads : List (Option Read)) → LinesRead number p ls reads → length reads ≡ length ls
+reads_length number p [] [] r = refl
+reads_length number p [] (read ∷ others) r = absurd r
+reads_length number p (line ∷ after) [] r = absurd r
+reads_length number p (line ∷ after) (read ∷ others) r = ap suc (reads_length (number + 1) (line_step number read p) after others r.1)
+
+-- nothing has been read
+pub none_read : AreTextRead [] outset
+none_read = record { reads = []; are_read = tt; progress = refl }
+
+-- one line more
+pub one_more : (ls : List (List ℕ)) (line : List ℕ) (p q : Progress) (read : Option Read) → AreTextRead ls p → LineRead (situation_of p) line read → q ≡ line_step (length ls + 1) read p → AreTextRead (ls ++ (line ∷ [])) q
+one_more ls line p q read a r e =
+    let here = subst (λ (x : Progress). LineRead (situation_of x) line read) a.progress r in
+    let n : 1 + length a.reads ≡ length ls + 1 = omega (arith, reads_length 1 outset ls a.reads a.are_read) in
+    record {
+      reads = a.reads ++ (read ∷ []);
+      are_read = lines_more 1 outset ls a.reads line read a.are_read here;
+      progress = e ∙ ap (λ (x : Progress). line_step (length ls + 1) read x) a.progress ∙ ap (λ (k : ℕ). line_step k read (progress_from 1 outset a.reads)) (sym n) ∙ sym (progress_more 1 outset a.reads read);
+    }
+
+-- the next line is at fault
+pub fault_there : (text : List ℕ) (before : List (List ℕ)) (line : List ℕ) (others : List (List ℕ)) (p : Progress) (which : FaultNo) (at : ℕ)
+    → lines text ≡ before ++ (line ∷ others) → AreTextRead before p → LineFault (length before + 1) (situation_of p) line which at → IsLineFault text which at
+fault_there text before line others p which at parts a f = record {
+  before = before;
+  line = line;
+  others = others;
+  parts = parts;
+  said = said_by a.reads;
+  say = lines_say 1 outset before a.reads a.are_read;
+  wrong = subst (λ (s : Situation). LineFault (length before + 1) s line which at) (ap situation_of a.progress ∙ situation_is 1 outset before a.reads a.are_read) f;
+}
+
+-- the text may not end there
+pub not_finished : (text : List ℕ) (p : Progress) (f : AsmFault) → AreTextRead (lines text) p → IsNotFinished p f → AreNotRead text f
+not_finished text p f a (inl m) = inl m
+not_finished text p f a (inr e) = inr (inr (record {
+  said = said_by a.reads;
+  say = lines_say 1 outset (lines text) a.reads a.are_read;
+  number = e.0;
+  unfinished = subst (λ (s : Situation). IsUnfinished s f.line) (ap situation_of a.progress ∙ situation_is 1 outset (lines text) a.reads a.are_read) e.1;
+}))
+
+pub match_more : {A E : Type 0} {P Q : A → Type 0} {R S : E → Type 0} (r : Result A E) → ((a : A) → P a → Q a) → ((e : E) → R e → S e) → MatchResult r P R → MatchResult r Q S
+match_more (Ok a) good bad m = good a m
+match_more (Err e) good bad m = bad e m
+
+-- ---- lines with their indices
+
+seconds : (k n : ℕ) (ls : List (List ℕ)) → map (λ (p : ℕ × List ℕ). p.1) (take n (enumerate_from k ls)) ≡ take n ls
+seconds k zero ls = refl
+seconds k (suc n) [] = refl
+seconds k (suc n) (l ∷ ls) = ap (λ (x : List (List ℕ)). l ∷ x) (seconds (k + 1) n ls)
+
+lines_of : (items : List (ℕ × Bor (List ℕ))) → map (λ (p : ℕ × List ℕ). p.1) (map (λ (item : ℕ × Bor (List ℕ)). (item.0, item.1.now)) items) ≡ map (λ (item : ℕ × Bor (List ℕ)). item.1.now) items
+lines_of [] = refl
+lines_of (i ∷ items) = ap (λ (x : List (List ℕ)). i.1.now ∷ x) (lines_of items)
+
+-- where the loop over a text's lines stands
+pub record StandsAtLine (ls before : List (List ℕ)) (index : ℕ) (line : List ℕ) : Type 0 where
+  pub others : List (List ℕ)
+  pub parts : ls ≡ before ++ (line ∷ others)
+  pub index_is : index ≡ length before
+
+first_is : (a b : ℕ) (x y : List ℕ) → ◌≡◌ {A = ℕ × List ℕ} (a, x) (b, y) → (a ≡ b) × (x ≡ y)
+first_is a b x y e = (ap (λ (p : ℕ × List ℕ). p.0) e, ap (λ (p : ℕ × List ℕ). p.1) e)
+
+pub line_turn : (ls : List (List ℕ)) (items : List (ℕ × Bor (List ℕ))) (index : ℕ) (line : List ℕ) → map (λ (item : ℕ × Bor (List ℕ)). (item.0, item.1.now)) items ≡ take (length items) (enumerate_from 0 ls)
+    → length items < length (enumerate_from 0 ls) → ◌≡◌ {A = ℕ × List ℕ} (index, line) (get_or (enumerate_from 0 ls) (length items) (index, line)) → StandsAtLine ls (map (λ item. item.1.now) items) index line
+line_turn ls items index line e low at =
+    let few : length items < length ls = omega (arith, low, length-enumerate_from 0 ls) in
+    let here = first_is index (0 + length items) line (get_or ls (length items) line) (at ∙ get_or-enumerate_from 0 ls (length items) (index, line) few) in
+    let before : take (length items) ls ≡ map (λ (item : ℕ × Bor (List ℕ)). item.1.now) items = sym (seconds 0 (length items) ls) ∙ ap (map (λ (p : ℕ × List ℕ). p.1)) (sym e) ∙ lines_of items in
+    record {
+      others = drop (suc (length items)) ls;
+      parts = split_at ls (length items) line few ∙ ap (λ (x : List (List ℕ)). x ++ (get_or ls (length items) line ∷ drop (suc (length items)) ls)) before
+          ∙ ap (λ (x : List ℕ). map (λ (item : ℕ × Bor (List ℕ)). item.1.now) items ++ (x ∷ drop (suc (length items)) ls)) (sym here.1);
+      index_is = here.0 ∙ omega (arith, length-map items (λ (item : ℕ × Bor (List ℕ)). item.1.now));
+    }
+
+taken_more : (ls : List (List ℕ)) (line : List ℕ) (index : ℕ) (p q : Progress) → index ≡ length ls → AreTextRead ls p → ((read : Option Read) × LineRead (situation_of p) line read × (q ≡ line_step (index + 1) read p)) → AreTextRead (ls ++ (line ∷ [])) q
+taken_more ls line index p q e a t = one_more ls line p q t.0 a t.1 (t.2 ∙ ap (λ (k : ℕ). line_step (k + 1) t.0 p) e)
+
+pub items_more : (items : List (ℕ × Bor (List ℕ))) (item : ℕ × Bor (List ℕ)) (p q : Progress) → item.0 ≡ length (map (λ (x : ℕ × Bor (List ℕ)). x.1.now) items) → AreTextRead (map (λ x. x.1.now) items) p
+    → ((read : Option Read) × LineRead (situation_of p) item.1.now read × (q ≡ line_step (item.0 + 1) read p)) → AreTextRead (map (λ x. x.1.now) (items ++ (item ∷ []))) q
+items_more items item p q e a t =
+    subst (λ (ls : List (List ℕ)). AreTextRead ls q) (sym (map-append (λ (x : ℕ × Bor (List ℕ)). x.1.now) items (item ∷ []))) (taken_more (map (λ (x : ℕ × Bor (List ℕ)). x.1.now) items) item.1.now item.0 p q e a t)
+
+pub line_stopped : (text : List ℕ) (before : List (List ℕ)) (line : List ℕ) (index : ℕ) (p : Progress) (f : AsmFault) → StandsAtLine (lines text) before index line → AreTextRead before p
+    → IsMemory f ⊎ LineFault (index + 1) (situation_of p) line f.no f.line → IsMemory f ⊎ IsLineFault text f.no f.line
+line_stopped text before line index p f s a (inl m) = inl m
+line_stopped text before line index p f s a (inr x) =
+    inr (fault_there text before line s.others p f.no f.line s.parts a (subst (λ (k : ℕ). LineFault (k + 1) (situation_of p) line f.no f.line) s.index_is x))
+
+pub lines_end : (ls : List (List ℕ)) (items : List (ℕ × Bor (List ℕ))) (p : Progress) → map (λ (item : ℕ × Bor (List ℕ)). (item.0, item.1.now)) items ≡ enumerate_from 0 ls → AreTextRead (map (λ item. item.1.now) items) p → AreTextRead ls p
+lines_end ls items p e a =
+    subst (λ (x : List (List ℕ)). AreTextRead x p) (sym (lines_of items) ∙ ap (map (λ (x : ℕ × List ℕ). x.1)) e ∙ all_seconds 0 ls) a
+  where
+    all_seconds : (k : ℕ) (ls : List (List ℕ)) → map (λ (x : ℕ × List ℕ). x.1) (enumerate_from k ls) ≡ ls
+    all_seconds k [] = refl
+    all_seconds k (l ∷ ls) = ap (λ (x : List (List ℕ)). l ∷ x) (all_seconds (k + 1) ls)

@@ -1,0 +1,202 @@
+-- What is wrong with a line, by its words.
+use Rattle.std.proofs.lemmas.List.{length-append}
+use Rattle.std.specs.List.{Contains, slice_get}
+use Rattle.tw_code.specs.declared.instr.Instr.{Instr}
+use Rattle.tw_lines.specs.Seen.{IsRead as IsLineRead}
+use Rattle.tw_statement.specs.declared.statement.Statement as statements
+use Rattle.tw_statement.specs.declared.statement.Statement.TheVariants as statement
+use Rattle.tw_asm.specs.declared.reading.Reading as readings
+use Rattle.tw_types.specs.declared.actor.Kind.{Kind}
+use Rattle.tw_types.specs.declared.param.Param.{Param}
+use Rattle.tw_asm.specs.declared.fault.AsmFault.{AsmFault}
+use Rattle.tw_asm.specs.declared.fault.FaultNo.{FaultNo}
+use Rattle.std.proofs.Common.{◌≡◌, ◌⊎◌, ℕ, zero, suc, ◌+◌, ◌<◌, ◌≤◌, List, [], ◌∷◌, length, map, Bool, true, false, Option, Some, None, Result, Ok, Err, inl, inr, refl, sym, subst, ap, ◌∙◌, arith}
+use Rattle.tw_lines.specs.Words.{Bare, IsBrokenLine, IsFirstWord, IsLine, Quoted, Word}
+use Rattle.tw_statement.specs.declared.statement.First.{First}
+use Rattle.tw_statement.specs.declared.statement.First.TheVariants as first
+use Rattle.tw_statement.specs.Seen.{IsRead, Read, seen}
+use Rattle.tw_statement.specs.Statement.{Statement, Code, Head, Label, AnyName, AnyShortName, HaveForm, IsPromised, Say}
+use Rattle.tw_asm.specs.declared.fault.FaultNo.TheVariants as fault
+use Rattle.tw_asm.specs.Fault.{Stage, Start, AfterHead, InBody, Begins, HasWords, LineFault, MayBegin, MayStand, Situation, empty, instructions, label_twice, limit, operand, procedures, word}
+use Rattle.tw_asm.specs.reading.Progress.{AreClosed, AtStart, BehindHead, Within, IsEmptyAt, IsGoalOf, IsLimit, IsLimitLine, IsMemory, IsNotClosed, Place, Progress, Section, Stopped, TakenLine, TakenStatement, WordsRead, begun, drafts_at, ended, situation_of, stage_of, step}
+use Rattle.tw_asm.specs.reading.Promise.{IsPromisedBy, promise}
+use Rattle.tw_asm.proofs.Begins.{first_of_words, line_begins, promise_once}
+use Rattle.tw_lines.proofs.Once.{blank_no_word, broken_here, broken_no_line, first_word_once, line_blank, line_once}
+use Rattle.tw_asm.proofs.Steps.{read_says, spells_more}
+
+begins : (s : Situation) (line : List ℕ) (w : Word) (rest : List ℕ) (promised : First) → IsFirstWord w line rest → IsPromisedBy w promised → MayBegin s.stage promised → Begins s line promised
+begins s line (Bare bytes) rest promised f p m = (bytes, rest, f, p, m)
+begins s line (Quoted text) rest promised f p m = absurd p
+
+line_first : (w : Word) (others : List Word) (line : List ℕ) → IsLine (w ∷ others) line → (rest : List ℕ) × IsFirstWord w line rest
+line_first w others line l = (l.1.0, l.1.1)
+
+broken_front : (w : Word) (others : List Word) (line : List ℕ) → IsBrokenLine (w ∷ others) line → (rest : List ℕ) × IsFirstWord w line rest
+broken_front w others line l = (l.1.0, l.1.1)
+
+pub broken_fault : (number : ℕ) (s : Situation) (line : List ℕ) → IsBrokenLine [] line → LineFault number s line fault.Word number
+broken_fault number s line b =
+    let n = broken_here line b in
+    word (λ l. n.0 (line_blank line l)) (λ promised x. n.1 (Bare x.0) x.1 x.2)
+
+word_fault : (number : ℕ) (s : Situation) (line : List ℕ) (w : Word) (rest : List ℕ) → IsFirstWord w line rest → ((promised : First) → IsPromisedBy w promised → MayBegin s.stage promised → ⊥) → LineFault number s line fault.Word number
+word_fault number s line w rest f none =
+    word (λ l. blank_no_word w line rest (line_blank line l) f)
+    (λ promised x. none promised (subst (λ (v : Word). IsPromisedBy v promised) (sym (first_word_once w (Bare x.0) line rest x.1 f x.2).0) x.3) x.4)
+
+pub line_word_fault : (number : ℕ) (s : Situation) (line : List ℕ) (w : Word) (others : List Word) → IsLine (w ∷ others) line → ((promised : First) → IsPromisedBy w promised → MayBegin s.stage promised → ⊥) → LineFault number s line fault.Word number
+line_word_fault number s line w others l none = let f = line_first w others line l in word_fault number s line w f.0 f.1 none
+
+pub broken_word_fault : (number : ℕ) (s : Situation) (line : List ℕ) (w : Word) (others : List Word) → IsBrokenLine (w ∷ others) line → ((promised : First) → IsPromisedBy w promised → MayBegin s.stage promised → ⊥) → LineFault number s line fault.Word number
+broken_word_fault number s line w others l none = let f = broken_front w others line l in word_fault number s line w f.0 f.1 none
+
+pub broken_operand : (number : ℕ) (s : Situation) (line : List ℕ) (w : Word) (others : List Word) (promised : First) → IsBrokenLine (w ∷ others) line → IsPromisedBy w promised → MayBegin s.stage promised → LineFault number s line fault.Operand number
+broken_operand number s line w others promised l p m =
+    let f = broken_front w others line l in
+    operand promised (begins s line w f.0 promised f.1 p m) (λ h. broken_no_line (w ∷ others) h.0 line l h.1)
+
+pub form_fault : (number : ℕ) (s : Situation) (line : List ℕ) (w : Word) (others : List Word) (promised : First) → IsLine (w ∷ others) line → IsPromisedBy w promised → MayBegin s.stage promised → (HaveForm (w ∷ others) → ⊥) → LineFault number s line fault.Operand number
+form_fault number s line w others promised l p m none =
+    let f = line_first w others line l in
+    operand promised (begins s line w f.0 promised f.1 p m) (λ h. none (subst HaveForm (line_once h.0 (w ∷ others) line h.1 l) h.2))
+
+start_body : ◌≡◌ {A = Stage} Start InBody → ⊥
+start_body e = absurd cc
+
+due_body : ◌≡◌ {A = Stage} AfterHead InBody → ⊥
+due_body e = absurd cc
+
+pub empty_is : (place : Place) → IsEmptyAt place → (stage_of place ≡ InBody) × (length (drafts_at place) ≡ 0)
+empty_is AtStart e = absurd e
+empty_is (BehindHead kind params) e = absurd e
+empty_is (Within section) e = (refl, e)
+
+pub is_empty : (place : Place) → stage_of place ≡ InBody → length (drafts_at place) ≡ 0 → IsEmptyAt place
+is_empty AtStart s e = absurd (start_body s)
+is_empty (BehindHead kind params) s e = absurd (due_body s)
+is_empty (Within section) s e = e
+
+pub limit_fault : (number at : ℕ) (p : Progress) (line : List ℕ) (w : Word) (others : List Word) (promised : First) → IsLine (w ∷ others) line → IsPromisedBy w promised → MayBegin (stage_of p.place) promised
+    → HaveForm (w ∷ others) → ((statement : Statement) → Say statement (w ∷ others) → ⊥) → IsLimitLine p promised number at → LineFault number (situation_of p) line fault.Limit at
+limit_fault number at p line w others promised l b m form none (inl h) =
+    let f = line_first w others line l in
+    let x = begins (situation_of p) line w f.0 promised f.1 b m in
+    subst (LineFault number (situation_of p) line fault.Limit) (sym h.2)
+    (empty (subst (Begins (situation_of p) line) h.0 x) (w ∷ others, l, form) (empty_is p.place h.1))
+limit_fault number at p line w others promised l b m form none (inr h) =
+    let f = line_first w others line l in
+    subst (LineFault number (situation_of p) line fault.Limit) (sym h.1)
+    (limit promised (begins (situation_of p) line w f.0 promised f.1 b m) (w ∷ others, l, form) (λ e x. h.0 e (is_empty p.place x.0 x.1))
+    (λ statement ws k say. none statement (subst (Say statement) (line_once ws (w ∷ others) line k l) say)))
+
+-- the statement is what the first word promised
+promised_by : (w v : Word) (bytes : List ℕ) (a b : First) → w ≡ Bare bytes → IsPromisedBy w a → IsPromised b bytes → a ≡ b
+promised_by w v bytes a b e p q = promise_once a b bytes (subst (λ (x : Word). IsPromisedBy x a) e p) q
+
+cons_head : (w v : Word) (ws vs : List Word) → ◌≡◌ {A = List Word} (w ∷ ws) (v ∷ vs) → w ≡ v
+cons_head w v ws vs e = cc
+
+pub may_stand_there : (stage : Stage) (read : Read) (w : Word) (others : List Word) (promised : First) → IsRead read (w ∷ others) → IsPromisedBy w promised → MayBegin stage promised → MayBegin stage (promise read.statement)
+may_stand_there stage read w others promised r p m =
+    let f = first_of_words AnyShortName read.statement (w ∷ others) (read_says read (w ∷ others) r).0 in
+    subst (MayBegin stage) (promised_by w w f.word promised (promise read.statement) (cons_head w (Bare f.word) others f.others f.parts) p f.promised) m
+
+-- ---- heads
+
+has_words : (read : Read) (words : List Word) (line : List ℕ) → IsLine words line → IsRead read words → HasWords line
+has_words read words line l r = (words, l, (read.statement, spells_more AnyShortName AnyName (λ skip name short. short.0) read.statement words (read_says read words r).0))
+
+head_begins : (p : Progress) (kind : Kind) (params : List Param) (line : List ℕ) (words : List Word) → IsLine words line → IsRead (record { statement = Head kind params; goal = None }) words → MayBegin (stage_of p.place) first.Head
+    → Begins (situation_of p) line first.Head
+head_begins p kind params line words l r m = line_begins AnyShortName (Head kind params) words (situation_of p) line l (read_says (record { statement = Head kind params; goal = None }) words r).0 m
+
+abbrev head_read : Kind → List Param → Read
+head_read kind params = record { statement = Head kind params; goal = None }
+
+pub head_stopped : (p : Progress) (number : ℕ) (kind : Kind) (params : List Param) (f : AsmFault) → MayBegin (stage_of p.place) first.Head → IsNotClosed p.place p.head_line f → Stopped p number (record { statement = Head kind params; goal = None }) f
+head_stopped p number kind params f m (inl x) = inl x
+head_stopped p number kind params f m (inr x) = inr (λ line words l r.
+    subst (λ (which : FaultNo). LineFault number (situation_of p) line which f.line) (sym x.0.0)
+    (subst (LineFault number (situation_of p) line fault.Limit) (sym x.0.1)
+    (empty (head_begins p kind params line words l r m) (has_words (head_read kind params) words line l r) (empty_is p.place x.1))))
+
+head_due : {Z : Type 0} → first.Head ≡ first.Registers → Z
+head_due e = absurd cc
+
+closed_length : (sections : List Section) (place : Place) → MayBegin (stage_of place) first.Head → length (ended sections place) ≡ length sections + begun place
+closed_length sections AtStart m = omega arith
+closed_length sections (BehindHead kind params) m = head_due m
+closed_length sections (Within section) m = omega (arith, length-append sections (section ∷ []))
+
+pub too_many_heads : (p : Progress) (number : ℕ) (kind : Kind) (params : List Param) (f : AsmFault) (all : List Section) → MayBegin (stage_of p.place) first.Head → AreClosed p.sections p.place all → 64 ≤ length all → f.no ≡ fault.Limit → f.line ≡ number
+    → Stopped p number (record { statement = Head kind params; goal = None }) f
+too_many_heads p number kind params f all m c many a b = inr (λ line words l r.
+    let n : length all ≡ length p.sections + begun p.place = ap length c.0 ∙ closed_length p.sections p.place m in
+    subst (λ (which : FaultNo). LineFault number (situation_of p) line which f.line) (sym a)
+    (subst (LineFault number (situation_of p) line fault.Limit) (sym b)
+    (procedures (head_begins p kind params line words l r m) (has_words (head_read kind params) words line l r) (λ e. c.1 (is_empty p.place e.0 e.1)) (omega (arith, n, many)))))
+
+positive : (n : ℕ) → (n ≡ 0 → ⊥) → 0 < n
+positive zero none = absurd (none refl)
+positive (suc n) none = omega arith
+
+whole_at : (place : Place) → MayBegin (stage_of place) first.Head → (IsEmptyAt place → ⊥) → (stage_of place ≡ Start) ⊎ ((stage_of place ≡ InBody) × (0 < length (drafts_at place)))
+whole_at AtStart m none = inl refl
+whole_at (BehindHead kind params) m none = head_due m
+whole_at (Within section) m none = inr (refl, positive (length section.drafts) none)
+
+pub head_taken : (p : Progress) (number : ℕ) (kind : Kind) (params : List Param) (all : List Section) → MayBegin (stage_of p.place) first.Head → AreClosed p.sections p.place all → length all < 64
+    → MayStand (Head kind params) (situation_of p) × (◌≡◌ {A = Progress} (record { sections = all; head_line = number; place = BehindHead kind params }) (step number (Head kind params) None p))
+head_taken p number kind params all m c few =
+    let n : length all ≡ length p.sections + begun p.place = ap length c.0 ∙ closed_length p.sections p.place m in
+    ((whole_at p.place m c.1, omega (arith, n, few)), ap (λ (ss : List Section). record { sections = ss; head_line = number; place = BehindHead kind params }) c.0)
+
+-- ---- the first word of a list
+
+pub no_first : {X : Type 0} (xs : List X) → ◌≡◌ {A = Option X} None (slice_get xs 0) → xs ≡ []
+no_first [] e = refl
+no_first (x ∷ xs) e = absurd cc
+
+pub a_first : {X : Type 0} (xs : List X) (x : X) → ◌≡◌ {A = Option X} (Some x) (slice_get xs 0) → (others : List X) × (xs ≡ x ∷ others)
+a_first [] x e = absurd cc
+a_first {X} (y ∷ others) x e = (others, ap (λ (z : X). z ∷ others) (same y x e)) where
+  same : (a b : X) → ◌≡◌ {A = Option X} (Some b) (Some a) → a ≡ b
+  same a b p = cc
+
+-- ---- labels and instructions
+
+pub draft_stopped : (sections : List Section) (head_line number : ℕ) (section : Section) (i : Instr) (goal : Option (List ℕ)) (f : AsmFault) → IsMemory f ⊎ (IsLimit f number × (4096 ≤ length section.drafts))
+    → Stopped (record { sections = sections; head_line = head_line; place = Within section }) number (record { statement = Code i; goal = goal }) f
+draft_stopped sections head_line number section i goal f (inl x) = inl x
+draft_stopped sections head_line number section i goal f (inr x) = inr (λ line words l r.
+    let s = situation_of (record { sections = sections; head_line = head_line; place = Within section }) in
+    subst (λ (which : FaultNo). LineFault number s line which f.line) (sym x.0.0)
+    (subst (LineFault number s line fault.Limit) (sym x.0.1)
+    (instructions i words refl l (read_says (record { statement = Code i; goal = goal }) words r) x.1)))
+
+pub label_stopped : (sections : List Section) (head_line number : ℕ) (section : Section) (name : List ℕ) (f : AsmFault)
+    → IsMemory f ⊎ ((f.no ≡ fault.LabelTwice) × (f.line ≡ number) × Contains (map (λ label. label.name) section.labels) name)
+    → Stopped (record { sections = sections; head_line = head_line; place = Within section }) number (record { statement = Label name; goal = None }) f
+label_stopped sections head_line number section name f (inl x) = inl x
+label_stopped sections head_line number section name f (inr x) = inr (λ line words l r.
+    let s = situation_of (record { sections = sections; head_line = head_line; place = Within section }) in
+    subst (λ (which : FaultNo). LineFault number s line which f.line) (sym x.0)
+    (subst (LineFault number s line fault.LabelTwice) (sym x.1)
+    (label_twice name words refl l (read_says (record { statement = Label name; goal = None }) words r) x.2)))
+
+goal_is : (statement : statements.Statement) → IsGoalOf (seen statement).statement (seen statement).goal
+goal_is (statement.Head kind params) = refl
+goal_is (statement.Registers registers) = refl
+goal_is (statement.Label name) = refl
+goal_is (statement.Code draft) = tt
+
+pub line_taken : (p : Progress) (number : ℕ) (line : List ℕ) (said : statements.Statement) (r : Result readings.Reading AsmFault) → WordsRead p number line (Ok (Some said))
+    → (MayBegin (stage_of p.place) (promise (seen said).statement) → TakenStatement p number (seen said) r) → TakenLine p number line r
+line_taken p number line said (Ok reading) w give =
+    let t = give w.1 in
+    (Some (seen said), (w.0, t.0, goal_is said), t.1)
+line_taken p number line said (Err f) w give = elim (give w.1) [ inl x ↦ inl x | inr x ↦ inr (x line w.0.0 w.0.1 w.0.2) ]
+
+pub any_word_fault : (number : ℕ) (s : Situation) (line : List ℕ) (w : Word) (others : List Word) (whole : Bool) → IsLineRead (w ∷ others) whole line → ((promised : First) → IsPromisedBy w promised → MayBegin s.stage promised → ⊥) → LineFault number s line fault.Word number
+any_word_fault number s line w others true r none = line_word_fault number s line w others r none
+any_word_fault number s line w others false r none = broken_word_fault number s line w others r none

@@ -1,0 +1,186 @@
+-- A text spells at most one program.
+use Rattle.std.proofs.Common.{◌≡◌, ◌⊎◌, ℕ, ◌+◌, List, [], ◌∷◌, ◌++◌, inl, inr, refl, sym, subst, ap, ◌∙◌, arith}
+use Rattle.std.specs.List.{Contains}
+use Rattle.std.specs.Str.Lines.{lines}
+use Rattle.tw_types.specs.declared.actor.Kind.{Kind}
+use Rattle.tw_types.specs.declared.data_type.Scalar.{Scalar}
+use Rattle.tw_types.specs.declared.param.Param.{Param}
+use Rattle.tw_code.specs.declared.instr.Instr.{Instr}
+use Rattle.tw_code.specs.declared.procedure.Procedure.{Procedure}
+use Rattle.tw_lines.specs.Words.{Word}
+use Rattle.tw_statement.specs.Statement.{Statement, Head, Registers, Label, Code, Goals, IsShortName, Spells}
+use Rattle.tw_asm.specs.Spelling.{AreCode, GoesTo, HaveWords, Placed, SpellProcedures, SpellsProcedure, SpellsProgram}
+use Rattle.tw_asm.proofs.Alike.{alike}
+use Rattle.tw_lines.proofs.Once.{line_once}
+use Rattle.tw_statement.proofs.Spelled.{AreNames}
+use Rattle.tw_statement.proofs.Once.{spelled_once}
+use Rattle.tw_asm.proofs.Walk.{AreOnce, contains_cases, contains_none, labels_short, name_among, names_of, once_by_pairs}
+
+nil_cons : {A : Type 0} {Z : Type 0} (x : A) (xs : List A) → ◌≡◌ {A = List A} [] (x ∷ xs) → Z
+nil_cons x xs e = absurd cc
+
+cons_same : {A : Type 0} (x y : A) (xs ys : List A) → x ∷ xs ≡ y ∷ ys → (x ≡ y) × (xs ≡ ys)
+cons_same x y xs ys e = (cc, cc)
+
+-- ---- the words of lines
+
+words_once : (ls : List (List ℕ)) (a b : List (List Word)) → HaveWords ls a → HaveWords ls b → a ≡ b
+words_once [] _ _ HaveWords.end HaveWords.end = refl
+words_once (line ∷ ls) _ _ (HaveWords.blank _ _ a is more) (HaveWords.blank _ _ b other rest) = words_once ls a b more rest
+words_once (line ∷ ls) _ _ (HaveWords.blank _ _ a is more) (HaveWords.one_more _ _ word behind b other rest) = nil_cons word behind (line_once [] (word ∷ behind) line is other)
+words_once (line ∷ ls) _ _ (HaveWords.one_more _ _ word behind a is more) (HaveWords.blank _ _ b other rest) = nil_cons word behind (line_once [] (word ∷ behind) line other is)
+words_once (line ∷ ls) _ _ (HaveWords.one_more _ _ word behind a is more) (HaveWords.one_more _ _ first after b other rest) =
+    ap (λ (x : List Word). x ∷ a) (line_once (word ∷ behind) (first ∷ after) line is other) ∙ ap (λ (x : List (List Word)). (first ∷ after) ∷ x) (words_once ls a b more rest)
+
+-- ---- where a body ends
+
+-- a procedure begins here, or nothing follows
+abbrev IsAnew : List (List Word) → Type 0
+IsAnew [] = Unit {0}
+IsAnew (words ∷ others) = (kind : Kind) × (params : List Param) × Spells (GoesTo [] 0) (Head kind params) words
+
+anew : (program : List Procedure) (words : List (List Word)) → SpellProcedures program words → IsAnew words
+anew _ _ SpellProcedures.end = tt
+anew _ _ (SpellProcedures.one_more p others first behind h more) = subst (λ (x : List (List Word)). IsAnew (x ++ behind)) (sym h.parts) (p.kind, p.params, h.head_is)
+
+no_label_anew : {Z : Type 0} (goals : Goals) (name : List ℕ) (words : List Word) (others : List (List Word)) → IsAnew (words ∷ others) → Spells goals (Label name) words → Z
+no_label_anew goals name words others a h = absurd (alike (GoesTo [] 0) goals (Head a.0 a.1) (Label name) words a.2 h)
+
+no_code_anew : {Z : Type 0} (goals : Goals) (i : Instr) (words : List Word) (others : List (List Word)) → IsAnew (words ∷ others) → Spells goals (Code i) words → Z
+no_code_anew goals i words others a h = absurd (alike (GoesTo [] 0) goals (Head a.0 a.1) (Code i) words a.2 h)
+
+no_label_code : {Z : Type 0} (G H : Goals) (name : List ℕ) (i : Instr) (words other : List Word) → words ≡ other → Spells G (Label name) words → Spells H (Code i) other → Z
+no_label_code G H name i words other e h k = absurd (alike G H (Label name) (Code i) words h (subst (λ (x : List Word). Spells H (Code i) x) (sym e) k))
+
+-- the labels of a body and its words, whatever follows them
+record SameBody (labels others : List Placed) (body front behind rest : List (List Word)) : Type 0 where
+  labels_are : labels ≡ others
+  body_is : body ≡ front
+  rest_is : behind ≡ rest
+
+abbrev placed : List ℕ → ℕ → Placed
+placed name place = record { name = name; place = place }
+
+body_once : (all every : List Placed) (place : ℕ) (labels : List Placed) (code : List Instr) (body : List (List Word)) (others : List Placed) (instrs : List Instr) (front behind rest : List (List Word))
+    → AreCode all place labels code body → AreCode every place others instrs front → body ++ behind ≡ front ++ rest → IsAnew behind → IsAnew rest → SameBody labels others body front behind rest
+body_once all every place _ _ _ _ _ _ behind rest (AreCode.end _) (AreCode.end _) e a b = record { labels_are = refl; body_is = refl; rest_is = e }
+body_once all every place _ _ _ _ _ _ behind rest (AreCode.end _) (AreCode.label _ name words labels code body h limits more) e a b =
+    no_label_anew (GoesTo every place) name words (body ++ rest) (subst IsAnew e a) h
+body_once all every place _ _ _ _ _ _ behind rest (AreCode.end _) (AreCode.instruction _ i words labels code body h more) e a b =
+    no_code_anew (GoesTo every place) i words (body ++ rest) (subst IsAnew e a) h
+body_once all every place _ _ _ _ _ _ behind rest (AreCode.label _ name words labels code body h limits more) (AreCode.end _) e a b =
+    no_label_anew (GoesTo all place) name words (body ++ behind) (subst IsAnew (sym e) b) h
+body_once all every place _ _ _ _ _ _ behind rest (AreCode.instruction _ i words labels code body h more) (AreCode.end _) e a b =
+    no_code_anew (GoesTo all place) i words (body ++ behind) (subst IsAnew (sym e) b) h
+body_once all every place _ _ _ _ _ _ behind rest (AreCode.label _ name words labels code body h limits more) (AreCode.instruction _ i first others instrs front k later) e a b =
+    no_label_code (GoesTo all place) (GoesTo every place) name i words first (cons_same words first (body ++ behind) (front ++ rest) e).0 h k
+body_once all every place _ _ _ _ _ _ behind rest (AreCode.instruction _ i words labels code body h more) (AreCode.label _ name first others instrs front k limits later) e a b =
+    no_label_code (GoesTo every place) (GoesTo all place) name i first words (sym (cons_same words first (body ++ behind) (front ++ rest) e).0) k h
+body_once all every place _ _ _ _ _ _ behind rest (AreCode.label _ name words labels code body h limits more) (AreCode.label _ other first others instrs front k bounds later) e a b =
+    let same = cons_same words first (body ++ behind) (front ++ rest) e in
+    let names : name ≡ other = alike (GoesTo all place) (GoesTo every place) (Label name) (Label other) words h (subst (λ (x : List Word). Spells (GoesTo every place) (Label other) x) (sym same.0) k) in
+    let r = body_once all every place labels code body others instrs front behind rest more later same.1 a b in
+    record {
+      labels_are = ap (λ (n : List ℕ). placed n place ∷ labels) names ∙ ap (λ (ls : List Placed). placed other place ∷ ls) r.labels_are;
+      body_is = ap (λ (x : List Word). x ∷ body) same.0 ∙ ap (λ (x : List (List Word)). first ∷ x) r.body_is;
+      rest_is = r.rest_is;
+    }
+body_once all every place _ _ _ _ _ _ behind rest (AreCode.instruction _ i words labels code body h more) (AreCode.instruction _ j first others instrs front k later) e a b =
+    let same = cons_same words first (body ++ behind) (front ++ rest) e in
+    let r = body_once all every (place + 1) labels code body others instrs front behind rest more later same.1 a b in
+    record {
+      labels_are = r.labels_are;
+      body_is = ap (λ (x : List Word). x ∷ body) same.0 ∙ ap (λ (x : List (List Word)). first ∷ x) r.body_is;
+      rest_is = r.rest_is;
+    }
+
+-- ---- the instructions of a body
+
+-- labels whose names differ stand at one place each
+one_place : (labels : List Placed) (x y : Placed) → AreOnce (names_of labels) → Contains labels x → Contains labels y → x.name ≡ y.name → x.place ≡ y.place
+one_place [] x y once c d e = contains_none x c
+one_place (label ∷ labels) x y once c d e = by (contains_cases label labels x c) (contains_cases label labels y d) (λ is has. one_place labels x y once.1 is has e)
+  where
+    by : (label ≡ x) ⊎ Contains labels x → (label ≡ y) ⊎ Contains labels y → (Contains labels x → Contains labels y → x.place ≡ y.place) → x.place ≡ y.place
+    by (inl is) (inl has) later = ap (λ (l : Placed). l.place) (sym is ∙ has)
+    by (inl is) (inr has) later = absurd (once.0 (subst (Contains (names_of labels)) (sym e ∙ sym (ap (λ (l : Placed). l.name) is)) (name_among labels y has)))
+    by (inr is) (inl has) later = absurd (once.0 (subst (Contains (names_of labels)) (e ∙ sym (ap (λ (l : Placed). l.name) has)) (name_among labels x is)))
+    by (inr is) (inr has) later = later is has
+
+one_skip : (all : List Placed) (place : ℕ) → AreOnce (names_of all) → (n m : ℕ) (name : List ℕ) → GoesTo all place n name → GoesTo all place m name → n ≡ m
+one_skip all place once n m name g h =
+    let e : place + 1 + n ≡ place + 1 + m = one_place all (placed name (place + 1 + n)) (placed name (place + 1 + m)) once g h refl in
+    omega (arith, e)
+
+instr_same : (i j : Instr) → Code i ≡ Code j → i ≡ j
+instr_same i j e = cc
+
+code_once : (all : List Placed) (place : ℕ) (labels : List Placed) (code : List Instr) (body : List (List Word)) (others : List Placed) (instrs : List Instr) → AreOnce (names_of all)
+    → ((label : Placed) → Contains all label → IsShortName label.name) → AreCode all place labels code body → AreCode all place others instrs body → code ≡ instrs
+code_once all place _ _ _ _ _ once short (AreCode.end _) (AreCode.end _) = refl
+code_once all place _ _ _ _ _ once short (AreCode.label _ name words labels code body h limits more) (AreCode.label _ other _ others instrs _ k bounds later) =
+    code_once all place labels code body others instrs once short more later
+code_once all place _ _ _ _ _ once short (AreCode.label _ name words labels code body h limits more) (AreCode.instruction _ i _ others instrs _ k later) =
+    no_label_code (GoesTo all place) (GoesTo all place) name i words words refl h k
+code_once all place _ _ _ _ _ once short (AreCode.instruction _ i words labels code body h more) (AreCode.label _ name _ others instrs _ k bounds later) =
+    no_label_code (GoesTo all place) (GoesTo all place) name i words words refl k h
+code_once all place _ _ _ _ _ once short (AreCode.instruction _ i words labels code body h more) (AreCode.instruction _ j _ others instrs _ k later) =
+    let names : AreNames (GoesTo all place) = λ skip name goal. (short (placed name (place + 1 + skip)) goal).0 in
+    let same = instr_same i j (spelled_once (GoesTo all place) (GoesTo all place) names names (one_skip all place once) (Code i) (Code j) words h k) in
+    ap (λ (x : Instr). x ∷ code) same ∙ ap (λ (xs : List Instr). j ∷ xs) (code_once all (place + 1) labels code body others instrs once short more later)
+
+-- ---- procedures
+
+procedure_same : (p q : Procedure) → p.kind ≡ q.kind → p.params ≡ q.params → p.registers ≡ q.registers → p.code ≡ q.code → p ≡ q
+procedure_same p q kind params registers code =
+    ap (λ (x : Kind). of x p.params p.registers p.code) kind
+    ∙ (ap (λ (x : List Param). of q.kind x p.registers p.code) params ∙ (ap (λ (x : List Scalar). of q.kind q.params x p.code) registers ∙ ap (λ (x : List Instr). of q.kind q.params q.registers x) code))
+  where
+    of : Kind → List Param → List Scalar → List Instr → Procedure
+    of k ps rs is = record { kind = k; params = ps; registers = rs; code = is }
+
+head_same : (k l : Kind) (ps qs : List Param) → Head k ps ≡ Head l qs → (k ≡ l) × (ps ≡ qs)
+head_same k l ps qs e = (cc, cc)
+
+registers_same : (rs ss : List Scalar) → Registers rs ≡ Registers ss → rs ≡ ss
+registers_same rs ss e = cc
+
+-- where no label may be named
+plain_once : (s t : Statement) (words other : List Word) → words ≡ other → Spells (GoesTo [] 0) s words → Spells (GoesTo [] 0) t other → s ≡ t
+plain_once s t words other e h k =
+    spelled_once (GoesTo [] 0) (GoesTo [] 0) no_names no_names (λ n m name goal to. contains_none (placed name (0 + 1 + n)) goal) s t words h (subst (λ (x : List Word). Spells (GoesTo [] 0) t x) (sym e) k)
+  where
+    no_names : AreNames (GoesTo [] 0)
+    no_names skip name goal = contains_none (placed name (0 + 1 + skip)) goal
+
+record SameProcedure (p q : Procedure) (behind rest : List (List Word)) : Type 0 where
+  procedure_is : p ≡ q
+  rest_is : behind ≡ rest
+
+procedure_once : (p q : Procedure) (first front behind rest : List (List Word)) → SpellsProcedure p first → SpellsProcedure q front → first ++ behind ≡ front ++ rest → IsAnew behind → IsAnew rest → SameProcedure p q behind rest
+procedure_once p q first front behind rest h k e a b =
+    let full : h.head ∷ h.registers ∷ (h.body ++ behind) ≡ k.head ∷ k.registers ∷ (k.body ++ rest) = ap (λ (x : List (List Word)). x ++ behind) (sym h.parts) ∙ (e ∙ ap (λ (x : List (List Word)). x ++ rest) k.parts) in
+    let heads = cons_same h.head k.head (h.registers ∷ (h.body ++ behind)) (k.registers ∷ (k.body ++ rest)) full in
+    let lists = cons_same h.registers k.registers (h.body ++ behind) (k.body ++ rest) heads.1 in
+    let body = body_once h.labels k.labels 0 h.labels p.code h.body k.labels q.code k.body behind rest h.body_is k.body_is lists.1 a b in
+    let head = head_same p.kind q.kind p.params q.params (plain_once (Head p.kind p.params) (Head q.kind q.params) h.head k.head heads.0 h.head_is k.head_is) in
+    let registers = registers_same p.registers q.registers (plain_once (Registers p.registers) (Registers q.registers) h.registers k.registers lists.0 h.registers_are k.registers_are) in
+    let mine = subst (λ (x : List (List Word)). AreCode h.labels 0 h.labels p.code x) body.body_is h.body_is in
+    let other = subst (λ (ls : List Placed). AreCode ls 0 ls q.code k.body) (sym body.labels_are) k.body_is in
+    let code = code_once h.labels 0 h.labels p.code k.body h.labels q.code (once_by_pairs (names_of h.labels) h.once) (labels_short h.labels 0 h.labels p.code h.body h.body_is) mine other in
+    record { procedure_is = procedure_same p q head.0 head.1 registers code; rest_is = body.rest_is }
+
+no_words : {Z : Type 0} (p : Procedure) (first behind : List (List Word)) → SpellsProcedure p first → [] ≡ first ++ behind → Z
+no_words p first behind h e = nil_cons h.head (h.registers ∷ (h.body ++ behind)) (e ∙ ap (λ (x : List (List Word)). x ++ behind) h.parts)
+
+programs_once : (p q : List Procedure) (a b : List (List Word)) → SpellProcedures p a → SpellProcedures q b → a ≡ b → p ≡ q
+programs_once _ _ _ _ SpellProcedures.end SpellProcedures.end e = refl
+programs_once _ _ _ _ SpellProcedures.end (SpellProcedures.one_more q others front rest k later) e = no_words q front rest k e
+programs_once _ _ _ _ (SpellProcedures.one_more p others first behind h more) SpellProcedures.end e = no_words p first behind h (sym e)
+programs_once _ _ _ _ (SpellProcedures.one_more p ps first behind h more) (SpellProcedures.one_more q qs front rest k later) e =
+    let same = procedure_once p q first front behind rest h k e (anew ps behind more) (anew qs rest later) in
+    ap (λ (x : Procedure). x ∷ ps) same.procedure_is ∙ ap (λ (xs : List Procedure). q ∷ xs) (programs_once ps qs behind rest more later same.rest_is)
+
+-- a text spells at most one program
+pub spells_once : (text : List ℕ) (p q : List Procedure) → SpellsProgram p text → SpellsProgram q text → p ≡ q
+spells_once text p q s t = programs_once p q s.words t.words s.procedures_are t.procedures_are (words_once (lines text) s.words t.words s.lines_are t.lines_are)

@@ -1,0 +1,318 @@
+-- The lines of a text that spells a program can follow, one after the other, and each goal is ahead.
+use Rattle.std.proofs.Common.{◌≡◌, ◌≢◌, ◌⊎◌, ℕ, zero, suc, ◌+◌, ◌<◌, ◌≤◌, List, [], ◌∷◌, ◌++◌, length, map, Option, Some, None, inl, inr, refl, sym, subst, ap, ◌∙◌, arith}
+use Rattle.std.proofs.lemmas.List.Elements.{Contains-push_cases}
+use Rattle.std.specs.List.{AllByRecursion, AllPairs, Contains, slice_index_or}
+use Rattle.tw_code.specs.declared.instr.Instr.{Instr}
+use Rattle.tw_code.specs.declared.procedure.Procedure.{Procedure}
+use Rattle.tw_code.specs.format.Program.{IsInstr, IsProcedure}
+use Rattle.tw_lines.specs.Words.{IsLine, Word}
+use Rattle.tw_statement.specs.Parts.{Part, Skip, Target}
+use Rattle.tw_statement.specs.Statement.{Statement, Head, Registers, Label, Code, AnyShortName, Goals, IsShortName, NamesLabel, Say, SpellParts, SpellsPart, Spells}
+use Rattle.tw_asm.specs.Fault.{Start, InBody, IsWhole, LineSays, MayStand, Situation, after, after_line, labels_ahead}
+use Rattle.tw_asm.specs.Spelling.{AreCode, GoesTo, HaveWords, Placed, SpellProcedures, SpellsProcedure}
+use Rattle.tw_asm.proofs.Alike.{AreAlike, alike}
+use Rattle.tw_asm.proofs.Begins.{first_of_words}
+use Rattle.tw_lines.proofs.Once.{line_once}
+use Rattle.tw_asm.proofs.Names.{named_goal}
+
+-- ---- more goals
+
+part_more : (G H : Goals) → ((skip : ℕ) (name : List ℕ) → G skip name → H skip name) → (part : Part) (words : List Word) → SpellsPart G part words → SpellsPart H part words
+part_more G H more (Skip skip) words (inl s) = inl s
+part_more G H more (Skip skip) words (inr s) = inr (s.0, more skip s.0 s.1, s.2)
+part_more G H more (Target None) words s = s
+part_more G H more (Target (Some number)) words s = s
+part_more G H more part words s = s
+
+parts_more : (G H : Goals) → ((skip : ℕ) (name : List ℕ) → G skip name → H skip name) → (parts : List Part) (words : List Word) → SpellParts G parts words → SpellParts H parts words
+parts_more G H more [] words s = s
+parts_more G H more (part ∷ parts) words s = (s.0, s.1, s.2, part_more G H more part s.0 s.3, parts_more G H more parts s.1 s.4)
+
+-- where these goals are goals too
+pub more_goals : (G H : Goals) → ((skip : ℕ) (name : List ℕ) → G skip name → H skip name) → (statement : Statement) (words : List Word) → Spells G statement words → Spells H statement words
+more_goals G H more statement words s = record { form = s.form; parts = parts_more G H more _ words s.parts }
+
+-- ---- elements
+
+pub contains_first : {X : Type 0} (x : X) (xs : List X) → Contains (x ∷ xs) x
+contains_first x xs = (0, omega arith, refl)
+
+pub contains_later : {X : Type 0} (x : X) (xs : List X) (y : X) → Contains xs y → Contains (x ∷ xs) y
+contains_later x xs y c = (suc c.0, omega (arith, c.1), c.2)
+
+first_or_later : {X : Type 0} (x : X) (xs : List X) (y : X) (k : ℕ) → k < suc (length xs) → slice_index_or (x ∷ xs) k y ≡ y → (x ≡ y) ⊎ Contains xs y
+first_or_later x xs y zero low e = inl e
+first_or_later x xs y (suc k) low e = inr (k, omega (arith, low), e)
+
+pub contains_cases : {X : Type 0} (x : X) (xs : List X) (y : X) → Contains (x ∷ xs) y → (x ≡ y) ⊎ Contains xs y
+contains_cases x xs y c = first_or_later x xs y c.0 c.1 c.2
+
+pub contains_none : {Z : Type 0} {X : Type 0} (x : X) → Contains {X = X} [] x → Z
+contains_none x c = absurd (omega (arith, c.1))
+
+abbrev pub names_of : List Placed → List (List ℕ)
+names_of labels = map (λ label. label.name) labels
+
+pub name_among : (labels : List Placed) (label : Placed) → Contains labels label → Contains (names_of labels) label.name
+name_among [] label c = contains_none label c
+name_among (l ∷ labels) label c =
+    elim (contains_cases l labels label c) [
+      | inl e ↦ subst (λ (x : Placed). Contains (names_of (l ∷ labels)) x.name) e (contains_first l.name (names_of labels))
+      | inr d ↦ contains_later l.name (names_of labels) label.name (name_among labels label d)
+    ]
+
+-- ---- names that differ
+
+abbrev pub AreOnce : List (List ℕ) → Type 0
+AreOnce [] = Unit {0}
+AreOnce (name ∷ names) = (Contains names name → ⊥) × AreOnce names
+
+pub once_by_pairs : (names : List (List ℕ)) → AllPairs (λ a b. a ≢ b) names → AreOnce names
+once_by_pairs [] p = tt
+once_by_pairs (name ∷ names) p =
+    (λ c. p 0 (suc c.0) name (omega arith) (omega (arith, c.1)) (sym c.2), once_by_pairs names (λ i j d low high. p (suc i) (suc j) d (omega (arith, low)) (omega (arith, high))))
+
+-- ---- statements that follow one another, whatever lines stand between
+
+-- the labels among these statements, up to the next head
+abbrev pub ahead_of : List Statement → List (List ℕ)
+ahead_of [] = []
+ahead_of (Head kind params ∷ others) = []
+ahead_of (Registers registers ∷ others) = ahead_of others
+ahead_of (Label name ∷ others) = name ∷ ahead_of others
+ahead_of (Code i ∷ others) = ahead_of others
+
+-- a label that the words name is ahead, and not before
+abbrev pub NamesAhead : Situation → List (List ℕ) → List Word → Type 0
+NamesAhead s ahead words = (name : List ℕ) → NamesLabel name words → (Contains s.labels name → ⊥) × Contains ahead name
+
+-- these words say these statements up to the end, each where it can follow, and their goals are ahead
+abbrev pub WordsSay : Situation → List (List Word) → List Statement → Type 0
+WordsSay s [] [] = IsWhole s
+WordsSay s [] (statement ∷ others) = ⊥
+WordsSay s (words ∷ more) [] = ⊥
+WordsSay s (words ∷ more) (statement ∷ others) =
+    Say statement words × MayStand statement s × NamesAhead s (ahead_of others) words × ((number : ℕ) → WordsSay (after number statement s) more others)
+
+no_code : (G : Goals) (statement : Statement) (words : List Word) (s : Situation) (ahead : List (List ℕ)) → Spells G statement words → ((i : Instr) → AreAlike statement (Code i) → ⊥) → NamesAhead s ahead words
+no_code G statement words s ahead h apart name n = absurd (apart n.i (alike G (λ skip word. word ≡ name) statement (Code n.i) words h n.spells))
+
+-- ---- the statements of a body
+
+abbrev pub said_in : (all : List Placed) (place : ℕ) (labels : List Placed) (code : List Instr) (body : List (List Word)) → AreCode all place labels code body → List Statement
+said_in all _ _ _ _ (AreCode.end place) = []
+said_in all _ _ _ _ (AreCode.label place name words labels code others h limits more) = Label name ∷ said_in all place labels code others more
+said_in all _ _ _ _ (AreCode.instruction place i words labels code others h more) = Code i ∷ said_in all (place + 1) labels code others more
+
+ahead_in : (all : List Placed) (place : ℕ) (labels : List Placed) (code : List Instr) (body : List (List Word)) (c : AreCode all place labels code body) (rest : List Statement)
+    → ahead_of rest ≡ [] → ahead_of (said_in all place labels code body c ++ rest) ≡ names_of labels
+ahead_in all _ _ _ _ (AreCode.end place) rest none = none
+ahead_in all _ _ _ _ (AreCode.label place name words labels code others h limits more) rest none = ap (λ (names : List (List ℕ)). name ∷ names) (ahead_in all place labels code others more rest none)
+ahead_in all _ _ _ _ (AreCode.instruction place i words labels code others h more) rest none = ahead_in all (place + 1) labels code others more rest none
+
+pub labels_short : (all : List Placed) (place : ℕ) (labels : List Placed) (code : List Instr) (body : List (List Word)) → AreCode all place labels code body → (label : Placed) → Contains labels label → IsShortName label.name
+labels_short all _ _ _ _ (AreCode.end place) label c = contains_none label c
+labels_short all _ _ _ _ (AreCode.label place name words labels code others h limits more) label c =
+    elim (contains_cases (record { name = name; place = place }) labels label c) [
+      | inl e ↦ subst (λ (x : Placed). IsShortName x.name) e (h.form, limits)
+      | inr d ↦ labels_short all place labels code others more label d
+    ]
+labels_short all _ _ _ _ (AreCode.instruction place i words labels code others h more) label c = labels_short all (place + 1) labels code others more label c
+
+-- within a body, with these labels and so many instructions still ahead
+record Within (all : List Placed) (place : ℕ) (labels : List Placed) (count : ℕ) (s : Situation) : Type 0 where
+  stage : s.stage ≡ InBody
+  here : s.instructions ≡ place
+  room : place + count ≤ 4096
+  known : (label : Placed) → Contains all label → (label.place ≤ place) ⊎ Contains labels label
+  short : (label : Placed) → Contains all label → IsShortName label.name
+  apart : (name : List ℕ) → Contains s.labels name → Contains (names_of labels) name → ⊥
+  once : AreOnce (names_of labels)
+
+says_short : (all : List Placed) (place : ℕ) (statement : Statement) (words : List Word) → ((label : Placed) → Contains all label → IsShortName label.name) → Spells (GoesTo all place) statement words
+    → Spells AnyShortName statement words
+says_short all place statement words short h = more_goals (GoesTo all place) AnyShortName (λ skip name goal. short (record { name = name; place = place + 1 + skip }) goal) statement words h
+
+within_label : (all : List Placed) (place : ℕ) (name : List ℕ) (labels : List Placed) (count number : ℕ) (s : Situation) → Within all place (record { name = name; place = place } ∷ labels) count s
+    → Within all place labels count (after number (Label name) s)
+within_label all place name labels count number s w = record {
+  stage = w.stage;
+  here = w.here;
+  room = w.room;
+  known = λ label c.
+      elim (w.known label c) [
+        | inl low ↦ inl low
+        | inr d ↦ elim (contains_cases (record { name = name; place = place }) labels label d) [
+          | inl e ↦ inl (subst (λ (x : Placed). x.place ≤ place) e (omega arith))
+          | inr f ↦ inr f
+        ]
+      ];
+  short = w.short;
+  apart = λ other c d.
+      elim (Contains-push_cases s.labels name other c) [
+        | inl b ↦ w.apart other b (contains_later name (names_of labels) other d)
+        | inr e ↦ w.once.0 (subst (Contains (names_of labels)) (sym e) d)
+      ];
+  once = w.once.1;
+}
+
+within_code : (all : List Placed) (place : ℕ) (labels : List Placed) (count number : ℕ) (i : Instr) (s : Situation) → Within all place labels (suc count) s → Within all (place + 1) labels count (after number (Code i) s)
+within_code all place labels count number i s w = record {
+  stage = w.stage;
+  here = ap (λ (n : ℕ). n + 1) w.here;
+  room = omega (arith, w.room);
+  known = λ label c.
+      elim (w.known label c) [
+        | inl low ↦ inl (omega (arith, low))
+        | inr d ↦ inr d
+      ];
+  short = w.short;
+  apart = w.apart;
+  once = w.once;
+}
+
+-- the goal of an instruction is ahead
+goal_ahead : (all : List Placed) (place : ℕ) (labels : List Placed) (count : ℕ) (i : Instr) (words : List Word) (s : Situation) (ahead : List (List ℕ)) → Within all place labels count s → Spells (GoesTo all place) (Code i) words
+    → ahead ≡ names_of labels → NamesAhead s ahead words
+goal_ahead all place labels count i words s ahead w h is name n =
+    let goal = named_goal (GoesTo all place) i name words n h in
+    let label : Placed = record { name = name; place = place + 1 + goal.0 } in
+    elim (w.known label goal.1) [
+      | inl low ↦ absurd (omega (arith, low))
+      | inr c ↦ (λ d. w.apart name d (name_among labels label c), subst (λ (names : List (List ℕ)). Contains names name) (sym is) (name_among labels label c))
+    ]
+
+code_says : (all : List Placed) (place : ℕ) (labels : List Placed) (code : List Instr) (body : List (List Word)) (c : AreCode all place labels code body) (s : Situation) (behind : List (List Word)) (rest : List Statement)
+    → Within all place labels (length code) s → AllByRecursion IsInstr code → ahead_of rest ≡ []
+    → ((t : Situation) → t.stage ≡ InBody → t.instructions ≡ place + length code → t.procedures ≡ s.procedures → WordsSay t behind rest)
+    → WordsSay s (body ++ behind) (said_in all place labels code body c ++ rest)
+code_says all _ _ _ _ (AreCode.end place) s behind rest w fits none then =
+    let e : place ≡ place + 0 = omega arith in
+    then s w.stage (w.here ∙ e) refl
+code_says all _ _ _ _ (AreCode.label place name words labels code others h limits more) s behind rest w fits none then = (
+  (says_short all place (Label name) words w.short h, limits),
+  (w.stage, λ c. w.apart name c (contains_first name (names_of labels))),
+  no_code (GoesTo all place) (Label name) words s (ahead_of (said_in all place labels code others more ++ rest)) h (λ i a. a),
+  λ number. code_says all place labels code others more (after number (Label name) s) behind rest (within_label all place name labels (length code) number s w) fits none then,
+)
+code_says all _ _ _ _ (AreCode.instruction place i words labels code others h more) s behind rest w fits none then = (
+  (says_short all place (Code i) words w.short h, fits.0),
+  (w.stage, omega (arith, w.here, w.room)),
+  goal_ahead all place labels (suc (length code)) i words s (ahead_of (said_in all (place + 1) labels code others more ++ rest)) w h (ahead_in all (place + 1) labels code others more rest none),
+  λ number.
+      code_says all (place + 1) labels code others more (after number (Code i) s) behind rest (within_code all place labels (length code) number i s w) fits.1 none
+      (λ t stage count procedures. then t stage (omega (arith, count)) procedures),
+)
+
+-- ---- procedures
+
+abbrev pub procedure_said : (p : Procedure) (words : List (List Word)) → SpellsProcedure p words → List Statement
+procedure_said p words h = Head p.kind p.params ∷ Registers p.registers ∷ said_in h.labels 0 h.labels p.code h.body h.body_is
+
+says_plain : (statement : Statement) (words : List Word) → Spells (GoesTo [] 0) statement words → Spells AnyShortName statement words
+says_plain statement words h = more_goals (GoesTo [] 0) AnyShortName (λ skip name goal. contains_none {X = Placed} (record { name = name; place = 0 + 1 + skip }) goal) statement words h
+
+within_start : (p : Procedure) (words : List (List Word)) (h : SpellsProcedure p words) (s : Situation) (number other : ℕ) → IsProcedure p
+    → Within h.labels 0 h.labels (length p.code) (after other (Registers p.registers) (after number (Head p.kind p.params) s))
+within_start p words h s number other fits = record {
+  stage = refl;
+  here = refl;
+  room = omega (arith, fits.code.0.1);
+  known = λ label c. inr c;
+  short = labels_short h.labels 0 h.labels p.code h.body h.body_is;
+  apart = λ name c d. contains_none name c;
+  once = once_by_pairs (names_of h.labels) h.once;
+}
+
+procedure_says : (p : Procedure) (words : List (List Word)) (h : SpellsProcedure p words) (s : Situation) (behind : List (List Word)) (rest : List Statement) → IsProcedure p → (s.stage ≡ Start) ⊎ IsWhole s
+    → s.procedures < 64 → ahead_of rest ≡ [] → ((t : Situation) → IsWhole t → t.procedures ≡ s.procedures + 1 → WordsSay t behind rest) → WordsSay s (words ++ behind) (procedure_said p words h ++ rest)
+procedure_says p words h s behind rest fits may few none then =
+    subst (λ (x : List (List Word)). WordsSay s (x ++ behind) (procedure_said p words h ++ rest)) (sym h.parts) (
+      (says_plain (Head p.kind p.params) h.head h.head_is, fits.params),
+      (may, few),
+      no_code (GoesTo [] 0) (Head p.kind p.params) h.head s (ahead_of (said_in h.labels 0 h.labels p.code h.body h.body_is ++ rest)) h.head_is (λ i a. a),
+      λ number. (
+        (says_plain (Registers p.registers) h.registers h.registers_are, fits.registers),
+        refl,
+        no_code (GoesTo [] 0) (Registers p.registers) h.registers (after number (Head p.kind p.params) s) (ahead_of (said_in h.labels 0 h.labels p.code h.body h.body_is ++ rest)) h.registers_are (λ i a. a),
+        λ other.
+            code_says h.labels 0 h.labels p.code h.body h.body_is (after other (Registers p.registers) (after number (Head p.kind p.params) s)) behind rest (within_start p words h s number other fits) fits.code.1 none
+            (λ t stage count procedures. then t (stage, omega (arith, count, fits.code.0.0)) procedures),
+      ),
+    )
+
+-- ---- programs
+
+abbrev pub program_said : (program : List Procedure) (words : List (List Word)) → SpellProcedures program words → List Statement
+program_said _ _ SpellProcedures.end = []
+program_said _ _ (SpellProcedures.one_more p others first behind h more) = procedure_said p first h ++ program_said others behind more
+
+none_ahead : (program : List Procedure) (words : List (List Word)) (h : SpellProcedures program words) → ahead_of (program_said program words h) ≡ []
+none_ahead _ _ SpellProcedures.end = refl
+none_ahead _ _ (SpellProcedures.one_more p others first behind h more) = refl
+
+pub program_says : (program : List Procedure) (words : List (List Word)) (h : SpellProcedures program words) (s : Situation) → AllByRecursion IsProcedure program → s.procedures + length program ≤ 64
+    → IsWhole s ⊎ ((s.stage ≡ Start) × (1 ≤ length program)) → WordsSay s words (program_said program words h)
+program_says _ _ SpellProcedures.end s fits few (inl whole) = whole
+program_says _ _ SpellProcedures.end s fits few (inr start) = absurd (omega (arith, start.1))
+program_says _ _ (SpellProcedures.one_more p others first behind h more) s fits few may =
+    procedure_says p first h s behind (program_said others behind more) fits.0 (may_begin may) (omega (arith, few)) (none_ahead others behind more)
+    (λ t whole procedures. program_says others behind more t fits.1 (omega (arith, procedures, few)) (inl whole))
+  where
+    may_begin : IsWhole s ⊎ ((s.stage ≡ Start) × (1 ≤ suc (length others))) → (s.stage ≡ Start) ⊎ IsWhole s
+    may_begin (inl whole) = inr whole
+    may_begin (inr start) = inl start.0
+
+-- ---- lines
+
+abbrev pub LineNamesAhead : Situation → List (List ℕ) → List ℕ → Type 0
+LineNamesAhead s ahead line = (name : List ℕ) (words : List Word) → IsLine words line → NamesLabel name words → (Contains s.labels name → ⊥) × Contains ahead name
+
+-- these lines say this up to the end, each where it can follow, and their goals are ahead
+abbrev pub LinesHold : ℕ → Situation → List (List ℕ) → List (Option Statement) → Type 0
+LinesHold number s [] [] = IsWhole s
+LinesHold number s [] (said ∷ others) = ⊥
+LinesHold number s (line ∷ more) [] = ⊥
+LinesHold number s (line ∷ more) (said ∷ others) = LineSays s line said × LineNamesAhead s (labels_ahead others) line × LinesHold (number + 1) (after_line number said s) more others
+
+pub record Held (number : ℕ) (s : Situation) (ls : List (List ℕ)) (statements : List Statement) : Type 0 where
+  pub said : List (Option Statement)
+  pub hold : LinesHold number s ls said
+  pub ahead : labels_ahead said ≡ ahead_of statements
+
+ahead_more : (statement : Statement) (said : List (Option Statement)) (others : List Statement) → labels_ahead said ≡ ahead_of others → labels_ahead (Some statement ∷ said) ≡ ahead_of (statement ∷ others)
+ahead_more (Head kind params) said others e = refl
+ahead_more (Registers registers) said others e = e
+ahead_more (Label name) said others e = ap (λ (names : List (List ℕ)). name ∷ names) e
+ahead_more (Code i) said others e = e
+
+nil_cons : (x : Word) (others : List Word) → ◌≡◌ {A = List Word} [] (x ∷ others) → ⊥
+nil_cons x others p = cc
+
+pub none_spelled : (G : Goals) (statement : Statement) (words : List Word) → words ≡ [] → Spells G statement words → ⊥
+none_spelled G statement words e h =
+    let f = first_of_words G statement words h in
+    nil_cons _ f.others (sym e ∙ f.parts)
+
+blank_names : (s : Situation) (ahead : List (List ℕ)) (line : List ℕ) → IsLine [] line → LineNamesAhead s ahead line
+blank_names s ahead line blank name words is n = absurd (none_spelled (λ skip word. word ≡ name) (Code n.i) words (line_once words [] line is blank) n.spells)
+
+line_names : (s : Situation) (ahead names : List (List ℕ)) (line : List ℕ) (words : List Word) → IsLine words line → ahead ≡ names → NamesAhead s names words → LineNamesAhead s ahead line
+line_names s ahead names line words is e named name others other_is n =
+    let found = named name (subst (NamesLabel name) (line_once others words line other_is is) n) in
+    (found.0, subst (λ (x : List (List ℕ)). Contains x name) (sym e) found.1)
+
+pub lines_hold : (number : ℕ) (s : Situation) (ls : List (List ℕ)) (words : List (List Word)) (statements : List Statement) → HaveWords ls words → WordsSay s words statements → Held number s ls statements
+lines_hold number s _ _ [] HaveWords.end w = record { said = []; hold = w; ahead = refl }
+lines_hold number s _ _ (statement ∷ others) HaveWords.end w = absurd w
+lines_hold number s _ _ statements (HaveWords.blank line ls words none more) w =
+    let r = lines_hold (number + 1) s ls words statements more w in
+    record { said = None ∷ r.said; hold = (none, blank_names s (labels_ahead r.said) line none, r.hold); ahead = r.ahead }
+lines_hold number s _ _ [] (HaveWords.one_more line ls word behind words is more) w = absurd w
+lines_hold number s _ _ (statement ∷ others) (HaveWords.one_more line ls word behind words is more) w =
+    let r = lines_hold (number + 1) (after number statement s) ls words others more (w.3 number) in
+    record {
+      said = Some statement ∷ r.said;
+      hold = (((word ∷ behind, is, w.0), w.1), line_names s (labels_ahead r.said) (ahead_of others) line (word ∷ behind) is r.ahead w.2, r.hold);
+      ahead = ahead_more statement r.said others r.ahead;
+    }

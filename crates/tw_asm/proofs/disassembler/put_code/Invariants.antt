@@ -1,0 +1,7 @@
+use Rattle.std.proofs.Common.{◌≡◌, ◌++◌, drop}
+use Rattle.tw_asm.specs.Disassembly.{code_lines}
+use Rattle.tw_asm.proofs.disassembler.put_code.Given as goal
+
+-- with the lines of what is left, there are all
+abbrev pub invariant-loop-place : goal.invariant-loop-place
+invariant-loop-place l = l.out.items ++ code_lines l.places.keys l.place (drop l.place l.code) ≡ l.fn.out.items ++ code_lines l.places.keys 0 l.code

@@ -1,0 +1,11 @@
+use Rattle.std.proofs.Common.{map}
+use Rattle.tw_asm.specs.reading.Goals.{AreLinkedProcedures}
+use Rattle.tw_asm.specs.reading.Progress.{seen_section}
+use Rattle.tw_asm.proofs.link.link.Given as goal
+
+abbrev pub invariant-loop-section : goal.invariant-loop-section
+invariant-loop-section l = record {
+  next : (goal.iterator-loop-section).can_next l.section-iterator;
+  finite : (goal.iterator-loop-section).is_finite l.section-iterator;
+  linked : AreLinkedProcedures (map seen_section l.yielded) l.procedures.items;
+}

@@ -1,0 +1,69 @@
+use Rattle.std.proofs.Common.{◌∙◌, ℕ, List, map, Err, inr, subst, ap}
+use Rattle.std.specs.List.{slice_get}
+use Rattle.tw_lines.specs.Seen.{IsRead as IsLineRead, seen as seen_word}
+use Rattle.tw_lines.specs.Words.{IsBrokenLine, IsLine, Word}
+use Rattle.tw_statement.specs.declared.statement.Flaw.TheVariants as flaw
+use Rattle.tw_statement.specs.declared.statement.Refusal.{Refusal}
+use Rattle.tw_statement.specs.declared.statement.Refusal.TheVariants as refusal
+use Rattle.tw_statement.specs.Seen.{Answers, IsRead, seen}
+use Rattle.tw_asm.specs.reading.Progress.{seen_reading, seen_stage, situation_of, stage_of}
+use Rattle.tw_asm.proofs.Taking.{a_first, any_word_fault, broken_fault, broken_operand, form_fault, limit_fault, may_stand_there, no_first}
+use Rattle.tw_asm.proofs.reading.read_words.Goals as goal
+use Rattle.tw_asm.proofs.reading.read_words.Goals.{then-read, else-read}
+
+pub returns-in_default : goal.returns-in_default
+returns-in_default c =
+    let all = subst (λ (b : List ℕ). IsLineRead (map seen_word c.in_ok-read.read.words.items) c.in_ok-read.read.whole b) c.as_bytes.ensures.value c.in_ok-read.ensures in
+    let none = no_first c.in_ok-read.read.words.items (c.in_default.ensures.value ∙ ap (λ xs. slice_get xs 0) c.deref.ensures.value) in
+    let words = ap (map seen_word) none in
+    elim (c.if-read.branch) [
+      | then-read w ↦ rw w.result-is (subst (λ (ws : List Word). IsLine ws c.args.line.now) words (rw w.if-read.true at all))
+      | else-read w ↦ rw w.result-is (inr (rw (w.new.ensures.no, w.new.ensures.line) (broken_fault c.args.number (situation_of (seen_reading c.args.reading.now)) c.args.line.now (subst (λ (ws : List Word). IsBrokenLine ws c.args.line.now) words (rw w.if-read.false at all)))))
+    ]
+
+pub returns-in_default-promise_of : goal.returns-in_default-promise_of
+returns-in_default-promise_of c =
+    let all = subst (λ (b : List ℕ). IsLineRead (map seen_word c.in_ok-read.read.words.items) c.in_ok-read.read.whole b) c.as_bytes.ensures.value c.in_ok-read.ensures in
+    let first = a_first c.in_ok-read.read.words.items c.in-Some.word.now (c.in-Some.ensures.value ∙ ap (λ xs. slice_get xs 0) c.deref.ensures.value) in
+    let words = ap (map seen_word) first.1 in
+    inr (rw (c.new-in_default-promise_of.ensures.no, c.new-in_default-promise_of.ensures.line) (any_word_fault c.args.number (situation_of (seen_reading c.args.reading.now)) c.args.line.now (seen_word c.in-Some.word.now) (map seen_word first.0) c.in_ok-read.read.whole
+    (subst (λ (ws : List Word). IsLineRead ws c.in_ok-read.read.whole c.args.line.now) words all) c.in_default-promise_of.ensures))
+
+pub returns-then-not-read : goal.returns-then-not-read
+returns-then-not-read c =
+    let all = subst (λ (b : List ℕ). IsLineRead (map seen_word c.in_ok-read.read.words.items) c.in_ok-read.read.whole b) c.as_bytes.ensures.value c.in_ok-read.ensures in
+    let first = a_first c.in_ok-read.read.words.items c.in-Some.word.now (c.in-Some.ensures.value ∙ ap (λ xs. slice_get xs 0) c.deref.ensures.value) in
+    let words = ap (map seen_word) first.1 in
+    inr (rw (c.new-then-not-read.ensures.no, c.new-then-not-read.ensures.line) (broken_operand c.args.number (situation_of (seen_reading c.args.reading.now)) c.args.line.now (seen_word c.in-Some.word.now) (map seen_word first.0) c.in-Some-promise_of.promised
+    (subst (λ (ws : List Word). IsBrokenLine ws c.args.line.now) words (rw c.if-not-read.true at all)) c.in-Some-promise_of.ensures.0 c.in-Some-promise_of.ensures.1))
+
+pub returns-in-Ok : goal.returns-in-Ok
+returns-in-Ok c =
+    let all = subst (λ (b : List ℕ). IsLineRead (map seen_word c.in_ok-read.read.words.items) c.in_ok-read.read.whole b) c.as_bytes.ensures.value c.in_ok-read.ensures in
+    let first = a_first c.in_ok-read.read.words.items c.in-Some.word.now (c.in-Some.ensures.value ∙ ap (λ xs. slice_get xs 0) c.deref.ensures.value) in
+    let words = ap (map seen_word) first.1 in
+    let read = subst (IsRead (seen c.in-Ok.statement)) (ap (map seen_word) c.deref-2.ensures.value) c.in-Ok.ensures in (
+      (map seen_word c.in_ok-read.read.words.items, rw c.if-not-read.false at all, read),
+      may_stand_there (stage_of (seen_stage c.args.reading.now.stage)) (seen c.in-Ok.statement) (seen_word c.in-Some.word.now) (map seen_word first.0) c.in-Some-promise_of.promised
+          (subst (IsRead (seen c.in-Ok.statement)) words read) c.in-Some-promise_of.ensures.0 c.in-Some-promise_of.ensures.1,
+    )
+
+pub returns-in-Err-Flawed-Form : goal.returns-in-Err-Flawed-Form
+returns-in-Err-Flawed-Form c =
+    let all = subst (λ (b : List ℕ). IsLineRead (map seen_word c.in_ok-read.read.words.items) c.in_ok-read.read.whole b) c.as_bytes.ensures.value c.in_ok-read.ensures in
+    let first = a_first c.in_ok-read.read.words.items c.in-Some.word.now (c.in-Some.ensures.value ∙ ap (λ xs. slice_get xs 0) c.deref.ensures.value) in
+    let words = ap (map seen_word) first.1 in
+    let flawed = subst (λ (r : Refusal). Answers (Err r) (map seen_word c.deref-2.result.now)) (c.in-Err-Flawed-Form.field-0-is ∙ ap refusal.Flawed c.in-Err-Flawed-Form.field-0-0-is) c.in-Err-Flawed-Form.ensures in
+    let here = subst (λ (ws : List Word). Answers (Err (refusal.Flawed flaw.Form)) ws) (ap (map seen_word) c.deref-2.ensures.value ∙ words) flawed in
+    inr (rw (c.new-in-Err-Flawed-Form.ensures.no, c.new-in-Err-Flawed-Form.ensures.line) (form_fault c.args.number (situation_of (seen_reading c.args.reading.now)) c.args.line.now (seen_word c.in-Some.word.now) (map seen_word first.0) c.in-Some-promise_of.promised
+    (subst (λ (ws : List Word). IsLine ws c.args.line.now) words (rw c.if-not-read.false at all)) c.in-Some-promise_of.ensures.0 c.in-Some-promise_of.ensures.1 here))
+
+pub returns : goal.returns
+returns c =
+    let all = subst (λ (b : List ℕ). IsLineRead (map seen_word c.in_ok-read.read.words.items) c.in_ok-read.read.whole b) c.as_bytes.ensures.value c.in_ok-read.ensures in
+    let first = a_first c.in_ok-read.read.words.items c.in-Some.word.now (c.in-Some.ensures.value ∙ ap (λ xs. slice_get xs 0) c.deref.ensures.value) in
+    let words = ap (map seen_word) first.1 in
+    let flawed = subst (λ (r : Refusal). Answers (Err r) (map seen_word c.deref-2.result.now)) (c.in-Err-Flawed-Limit.field-0-is ∙ ap refusal.Flawed c.in-Err-Flawed-Limit.field-0-0-is) c.in-Err-Flawed-Limit.ensures in
+    let here = subst (λ (ws : List Word). Answers (Err (refusal.Flawed flaw.Limit)) ws) (ap (map seen_word) c.deref-2.ensures.value ∙ words) flawed in
+    inr (rw (c.new-in-Err-Flawed-Limit.ensures.no, c.new-in-Err-Flawed-Limit.ensures.line) (limit_fault c.args.number c.limit_line.result (seen_reading c.args.reading.now) c.args.line.now (seen_word c.in-Some.word.now) (map seen_word first.0) c.in-Some-promise_of.promised
+    (subst (λ (ws : List Word). IsLine ws c.args.line.now) words (rw c.if-not-read.false at all)) c.in-Some-promise_of.ensures.0 c.in-Some-promise_of.ensures.1 here.0 here.1 c.limit_line.ensures))

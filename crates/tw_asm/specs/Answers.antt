@@ -1,0 +1,27 @@
+-- What the calls answer.
+use Rattle.std.specs.Prelude.{◌≡◌, ℕ, List, Result, Ok, Err}
+use Rattle.tw_code.specs.declared.procedure.Procedure.{Procedure}
+use Rattle.tw_asm.specs.declared.fault.AsmFault.{AsmFault}
+use Rattle.tw_asm.specs.declared.fault.FaultNo.{FaultNo}
+use Rattle.tw_asm.specs.declared.fault.FaultNo.TheVariants as fault
+use Rattle.tw_asm.specs.Fault.{IsFirstFault}
+use Rattle.tw_asm.specs.Spelling.{SpellsProgram}
+
+-- the first fault of a text that spells no program
+pub record HasFault (text : List ℕ) (no : FaultNo) (line : ℕ) : Type 0 where
+  pub first : IsFirstFault text no line
+  pub none : (program : List Procedure) → SpellsProgram program text → ⊥
+
+abbrev pub IsFault : List ℕ → FaultNo → ℕ → Type 0
+IsFault text fault.Word line = HasFault text fault.Word line
+IsFault text fault.Operand line = HasFault text fault.Operand line
+IsFault text fault.UnknownLabel line = HasFault text fault.UnknownLabel line
+IsFault text fault.LabelTwice line = HasFault text fault.LabelTwice line
+IsFault text fault.LabelNotForward line = HasFault text fault.LabelNotForward line
+IsFault text fault.Limit line = HasFault text fault.Limit line
+IsFault text fault.Memory line = line ≡ 0
+
+-- the program that the text spells, or its first fault, or want of memory
+abbrev pub IsAssembled : List ℕ → Result (List Procedure) AsmFault → Type 0
+IsAssembled text (Ok program) = SpellsProgram program text
+IsAssembled text (Err f) = IsFault text f.no f.line

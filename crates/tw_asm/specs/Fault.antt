@@ -1,0 +1,184 @@
+-- Which fault of an assembly text is the first.
+--
+-- A text is read line by line, and each line stands in a situation: what the lines before it have said. The first line
+-- that can't follow has the fault, and of the faults of one line that of the lowest number. Where all lines can follow, and
+-- the text may end, labels are looked at: the first line whose goal isn't a label behind it has the fault.
+use Rattle.std.specs.Prelude.{◌≡◌, ◌≢◌, ◌⊎◌, ℕ, ◌+◌, ◌≤◌, ◌<◌, List, [], ◌∷◌, ◌++◌, length, take, drop, slice_get, Option, Some, None}
+use Rattle.tw_code.specs.declared.instr.Instr.{Instr}
+use Rattle.std.specs.List.{Contains}
+use Rattle.std.specs.Str.Lines.{lines}
+use Rattle.tw_lines.specs.Words.{Bare, IsFirstWord, IsLine, Word}
+use Rattle.tw_statement.specs.declared.statement.First.{First}
+use Rattle.tw_statement.specs.declared.statement.First.TheVariants as first
+use Rattle.tw_statement.specs.Statement.{Statement, Head, Registers, Label, Code, HaveForm, IsPromised, NamesLabel, Say}
+use Rattle.tw_asm.specs.declared.fault.FaultNo.{FaultNo}
+use Rattle.tw_asm.specs.declared.fault.FaultNo.TheVariants as fault
+
+-- A01 to A07
+abbrev pub fault_number : FaultNo → ℕ
+fault_number fault.Word = 1
+fault_number fault.Operand = 2
+fault_number fault.UnknownLabel = 3
+fault_number fault.LabelTwice = 4
+fault_number fault.LabelNotForward = 5
+fault_number fault.Limit = 6
+fault_number fault.Memory = 7
+
+-- ---- situations
+
+pub data Stage : Type 0 where
+  -- nothing has been said
+  Start : Stage
+  -- the types of value registers are due
+  AfterHead : Stage
+  InBody : Stage
+
+pub record Situation : Type 0 where
+  pub stage : Stage
+  -- how many procedures have begun, and the line at which the last one did
+  pub procedures : ℕ
+  pub head_line : ℕ
+  -- the labels of the last procedure, and how many instructions it has
+  pub labels : List (List ℕ)
+  pub instructions : ℕ
+
+abbrev pub at_start : Situation
+at_start = record { stage = Start; procedures = 0; head_line = 0; labels = []; instructions = 0 }
+
+-- after a statement in the line of this number
+abbrev pub after : ℕ → Statement → Situation → Situation
+after number (Head kind params) s = record { stage = AfterHead; procedures = s.procedures + 1; head_line = number; labels = []; instructions = 0 }
+after number (Registers registers) s = record s { stage = InBody }
+after number (Label name) s = record s { labels = s.labels ++ (name ∷ []) }
+after number (Code i) s = record s { instructions = s.instructions + 1 }
+
+-- the last procedure may end here: it has an instruction
+abbrev pub IsWhole : Situation → Type 0
+IsWhole s = (s.stage ≡ InBody) × (0 < s.instructions)
+
+abbrev pub MayStand : Statement → Situation → Type 0
+MayStand (Head kind params) s = ((s.stage ≡ Start) ⊎ IsWhole s) × (s.procedures < 64)
+MayStand (Registers registers) s = s.stage ≡ AfterHead
+MayStand (Label name) s = (s.stage ≡ InBody) × (Contains s.labels name → ⊥)
+MayStand (Code i) s = (s.stage ≡ InBody) × (s.instructions < 4096)
+
+-- ---- lines that can follow
+
+-- what a line says that can follow, if anything
+abbrev pub LineSays : Situation → List ℕ → Option Statement → Type 0
+LineSays s line None = IsLine [] line
+LineSays s line (Some statement) = ((words : List Word) × IsLine words line × Say statement words) × MayStand statement s
+
+abbrev pub after_line : ℕ → Option Statement → Situation → Situation
+after_line number None s = s
+after_line number (Some statement) s = after number statement s
+
+-- Lines from this number on say this, one after the other, each where it can follow.
+abbrev pub LinesSay : ℕ → Situation → List (List ℕ) → List (Option Statement) → Type 0
+LinesSay number s [] [] = Unit {0}
+LinesSay number s [] (said ∷ others) = ⊥
+LinesSay number s (line ∷ after) [] = ⊥
+LinesSay number s (line ∷ after) (said ∷ others) = LineSays s line said × LinesSay (number + 1) (after_line number said s) after others
+
+-- the situation after lines from this number on, which say this
+abbrev pub situation_from : ℕ → Situation → List (Option Statement) → Situation
+situation_from number s [] = s
+situation_from number s (said ∷ others) = situation_from (number + 1) (after_line number said s) others
+
+-- the situation after the first lines of a text
+abbrev pub situation : List (Option Statement) → Situation
+situation said = situation_from 1 at_start said
+
+-- ---- what is wrong with a line
+
+-- what a first word may promise
+abbrev pub MayBegin : Stage → First → Type 0
+MayBegin Start promised = promised ≡ first.Head
+MayBegin AfterHead promised = promised ≡ first.Registers
+MayBegin InBody promised = (promised ≡ first.Head) ⊎ (promised ≡ first.Body)
+
+-- the line's first word promises what may stand here
+abbrev pub Begins : Situation → List ℕ → First → Type 0
+Begins s line promised = (word rest : List ℕ) × IsFirstWord (Bare word) line rest × IsPromised promised word × MayBegin s.stage promised
+
+-- the line's words have a form, within the limits or not
+abbrev pub HasWords : List ℕ → Type 0
+HasWords line = (words : List Word) × IsLine words line × HaveForm words
+
+-- a procedure has begun, and has no instruction
+abbrev pub IsEmpty : Situation → Type 0
+IsEmpty s = (s.stage ≡ InBody) × (s.instructions ≡ 0)
+
+-- what is wrong with the line of this number, and at which line it is told
+pub data LineFault (number : ℕ) (s : Situation) (line : List ℕ) : FaultNo → ℕ → Type 0 where
+  -- it has something, but no first word that may stand here
+  word : (IsLine [] line → ⊥) → ((promised : First) → Begins s line promised → ⊥) → LineFault number s line fault.Word number
+  operand : (promised : First) → Begins s line promised → (HasWords line → ⊥) → LineFault number s line fault.Operand number
+  label_twice : (name : List ℕ) (words : List Word) → s.stage ≡ InBody → IsLine words line → Say (Label name) words
+      → Contains s.labels name → LineFault number s line fault.LabelTwice number
+  -- a procedure without instructions is met at the next head, and the fault is at its own
+  empty : Begins s line first.Head → HasWords line → IsEmpty s → LineFault number s line fault.Limit s.head_line
+  limit : (promised : First) → Begins s line promised → HasWords line → (promised ≡ first.Head → IsEmpty s → ⊥)
+      → ((statement : Statement) (words : List Word) → IsLine words line → Say statement words → ⊥)
+      → LineFault number s line fault.Limit number
+  procedures : Begins s line first.Head → HasWords line → (IsEmpty s → ⊥) → 64 ≤ s.procedures → LineFault number s line fault.Limit number
+  instructions : (i : Instr) (words : List Word) → s.stage ≡ InBody → IsLine words line → Say (Code i) words
+      → 4096 ≤ s.instructions → LineFault number s line fault.Limit number
+
+-- the first line that can't follow
+pub record IsLineFault (text : List ℕ) (no : FaultNo) (at : ℕ) : Type 0 where
+  pub before : List (List ℕ)
+  pub line : List ℕ
+  pub others : List (List ℕ)
+  pub parts : lines text ≡ before ++ (line ∷ others)
+  pub said : List (Option Statement)
+  pub say : LinesSay 1 at_start before said
+  pub wrong : LineFault (length before + 1) (situation said) line no at
+
+-- There is no procedure, or the last one has no instruction.
+abbrev pub IsUnfinished : Situation → ℕ → Type 0
+IsUnfinished s at = ((s.stage ≡ Start) × (at ≡ 1)) ⊎ ((s.stage ≢ Start) × (s.instructions ≡ 0) × (at ≡ s.head_line))
+
+-- all lines can follow, but the text may not end there
+pub record IsEndFault (text : List ℕ) (no : FaultNo) (at : ℕ) : Type 0 where
+  pub said : List (Option Statement)
+  pub say : LinesSay 1 at_start (lines text) said
+  pub number : no ≡ fault.Limit
+  pub unfinished : IsUnfinished (situation said) at
+
+-- ---- goals
+
+-- the labels among these statements, up to the next head
+abbrev pub labels_ahead : List (Option Statement) → List (List ℕ)
+labels_ahead [] = []
+labels_ahead (None ∷ others) = labels_ahead others
+labels_ahead (Some (Head kind params) ∷ others) = []
+labels_ahead (Some (Registers registers) ∷ others) = labels_ahead others
+labels_ahead (Some (Label name) ∷ others) = name ∷ labels_ahead others
+labels_ahead (Some (Code i) ∷ others) = labels_ahead others
+
+-- the line names a label as a goal that is neither before it nor ahead, or one that is before it
+pub data GoalFault (s : Situation) (ahead : List (List ℕ)) (line : List ℕ) : FaultNo → Type 0 where
+  unknown : (name : List ℕ) (words : List Word) → IsLine words line → NamesLabel name words → (Contains s.labels name → ⊥)
+      → (Contains ahead name → ⊥) → GoalFault s ahead line fault.UnknownLabel
+  not_forward : (name : List ℕ) (words : List Word) → IsLine words line → NamesLabel name words → Contains s.labels name
+      → GoalFault s ahead line fault.LabelNotForward
+
+-- The text may end, and the line of this number has such a goal.
+pub record IsGoalFault (text : List ℕ) (no : FaultNo) (at : ℕ) : Type 0 where
+  pub said : List (Option Statement)
+  pub say : LinesSay 1 at_start (lines text) said
+  pub whole : IsWhole (situation said)
+  pub index : ℕ
+  pub at_is : at ≡ index + 1
+  pub line : List ℕ
+  pub line_is : slice_get (lines text) index ≡ Some line
+  pub wrong : GoalFault (situation (take index said)) (labels_ahead (drop (index + 1) said)) line no
+
+-- and no line before it has one
+abbrev pub IsFirstGoalFault : List ℕ → FaultNo → ℕ → Type 0
+IsFirstGoalFault text which at = IsGoalFault text which at × ((other : FaultNo) (number : ℕ) → IsGoalFault text other number → at ≤ number)
+
+-- the first fault of the text, and the number of its line, from 1
+abbrev pub IsFirstFault : List ℕ → FaultNo → ℕ → Type 0
+IsFirstFault text which at = IsLineFault text which at ⊎ (IsEndFault text which at ⊎ IsFirstGoalFault text which at)

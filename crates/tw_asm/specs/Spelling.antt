@@ -1,0 +1,62 @@
+-- Which texts spell a program. A program has many spellings.
+use Rattle.std.specs.Prelude.{◌≡◌, ◌≢◌, ℕ, ◌+◌, List, [], ◌∷◌, ◌++◌, map}
+use Rattle.std.specs.List.{AllPairs, Contains}
+use Rattle.std.specs.Str.Lines.{lines}
+use Rattle.tw_code.specs.declared.instr.Instr.{Instr}
+use Rattle.tw_code.specs.declared.procedure.Procedure.{Procedure}
+use Rattle.tw_code.specs.format.Program.{IsProgram}
+use Rattle.tw_lines.specs.Words.{Word, IsLine}
+use Rattle.tw_statement.specs.Statement.{Code, Goals, Head, IsInLimits, Label, Registers, Spells}
+
+-- the words of each line that has any
+pub data HaveWords : List (List ℕ) → List (List Word) → Type 0 where
+  end : HaveWords [] []
+  blank : (line : List ℕ) (others : List (List ℕ)) (words : List (List Word)) → IsLine [] line → HaveWords others words
+      → HaveWords (line ∷ others) words
+  one_more : (line : List ℕ) (others : List (List ℕ)) (word : Word) (after : List Word) (words : List (List Word))
+      → IsLine (word ∷ after) line → HaveWords others words → HaveWords (line ∷ others) ((word ∷ after) ∷ words)
+
+-- a label, with the place of the next instruction, or with the code's length after the last one
+pub record Placed : Type 0 where
+  pub name : List ℕ
+  pub place : ℕ
+
+-- The skip from the instruction at a place to a label: so many instructions stand between. So a label that isn't behind the
+-- instruction is no goal.
+abbrev pub GoesTo : List Placed → ℕ → Goals
+GoesTo labels place skip name = Contains labels (record { name = name; place = place + 1 + skip })
+
+-- From a place on these lines are these instructions, and these are the labels among them; goals may be all labels of the
+-- procedure.
+pub data AreCode (all : List Placed) : ℕ → List Placed → List Instr → List (List Word) → Type 0 where
+  end : (place : ℕ) → AreCode all place [] [] []
+  label : (place : ℕ) (name : List ℕ) (words : List Word) (labels : List Placed) (code : List Instr) (others : List (List Word))
+      → Spells (GoesTo all place) (Label name) words → IsInLimits (Label name) → AreCode all place labels code others
+      → AreCode all place (record { name = name; place = place } ∷ labels) code (words ∷ others)
+  instruction : (place : ℕ) (i : Instr) (words : List Word) (labels : List Placed) (code : List Instr) (others : List (List Word))
+      → Spells (GoesTo all place) (Code i) words → AreCode all (place + 1) labels code others
+      → AreCode all place labels (i ∷ code) (words ∷ others)
+
+-- a head, the types of the value registers, and the code, in which no label stands twice
+pub record SpellsProcedure (procedure : Procedure) (words : List (List Word)) : Type 0 where
+  pub head : List Word
+  pub registers : List Word
+  pub body : List (List Word)
+  pub labels : List Placed
+  pub parts : words ≡ head ∷ registers ∷ body
+  pub head_is : Spells (GoesTo [] 0) (Head procedure.kind procedure.params) head
+  pub registers_are : Spells (GoesTo [] 0) (Registers procedure.registers) registers
+  pub body_is : AreCode labels 0 labels procedure.code body
+  pub once : AllPairs (λ a b. a ≢ b) (map (λ label. label.name) labels)
+
+-- one procedure after the other
+pub data SpellProcedures : List Procedure → List (List Word) → Type 0 where
+  end : SpellProcedures [] []
+  one_more : (procedure : Procedure) (others : List Procedure) (first after : List (List Word))
+      → SpellsProcedure procedure first → SpellProcedures others after → SpellProcedures (procedure ∷ others) (first ++ after)
+
+pub record SpellsProgram (program : List Procedure) (text : List ℕ) : Type 0 where
+  pub words : List (List Word)
+  pub lines_are : HaveWords (lines text) words
+  pub procedures_are : SpellProcedures program words
+  pub is_program : IsProgram program

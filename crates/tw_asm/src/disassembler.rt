@@ -1,0 +1,127 @@
+//! The text of a program.
+
+ghost use Rattle.std.specs.Prelude.{◌≡◌, ◌<◌, ◌++◌, ◌+◌, ◌^◌, IfOk, OnOk, string_bytes};
+ghost use Rattle.std.specs.Option.{option_and_then};
+ghost use Rattle.tw_asm.specs.Disassembly.{code_lines, disassembly, label_at, label_line, label_places, procedure_lines};
+ghost use Rattle.tw_asm.specs.Spelling.{SpellsProgram};
+ghost use Rattle.tw_statement.specs.Parts.{skip_of};
+ghost use Rattle.tw_statement.specs.Statement.{Code};
+ghost use Rattle.tw_statement.specs.Written.{goal_word, line_of};
+
+use indexmap::IndexSet;
+use std::alloc::{AllocError, Global};
+use tw_code::{Instr, NoMemory, Procedure, Program};
+use tw_statement::{put_head, put_instr, put_label, put_registers, skip_of};
+
+/// The places of the labels of a procedure's code, in the order in which they are first named.
+fn label_places(alloc: Global, code: &[Instr]) -> Result<IndexSet<usize>, AllocError>
+    ensures { IfOk result (λ places. places.keys ≡ label_places code.now) }
+{
+    let mut places = IndexSet::new(alloc);
+    for (place, instr) in code.iter().enumerate() {
+        if let Some(skip) = skip_of(instr) {
+            let goal = place + 1 + usize::from(skip);
+            if goal <= code.len() {
+                places.insert(goal)?;
+            }
+        }
+    }
+    Ok(places)
+}
+
+/// The number of the label at a place, if one stands there.
+fn label_at(places: &IndexSet<usize>, place: usize) -> Option<usize>
+    ensures { result ≡ label_at places.now.keys place }
+{
+    places.get_index_of(&place)
+}
+
+/// Adds the label at a place, if one stands there.
+fn put_label_at(
+    alloc: Global,
+    out: &mut Vec<u8>,
+    places: &IndexSet<usize>,
+    place: usize,
+) -> Result<(), AllocError>
+    ensures { OnOk result (out.new.items ≡ out.old.items ++ label_line (label_at places.now.keys place)) }
+{
+    match label_at(places, place) {
+        Some(number) => put_label(alloc, out, number),
+        None => Ok(()),
+    }
+}
+
+/// The number of the label to which the instruction at a place may skip, if one stands there.
+fn goal_label(places: &IndexSet<usize>, place: usize, instr: &Instr) -> Option<usize>
+    requires { place < 2 ^ 63 }
+    ensures { result ≡ option_and_then (λ skip. label_at places.now.keys (place + 1 + skip)) (skip_of instr.now) }
+{
+    match skip_of(instr) {
+        Some(skip) => label_at(places, place + 1 + usize::from(skip)),
+        None => None,
+    }
+}
+
+/// Adds the line of the instruction at a place.
+fn put_instr_at(
+    alloc: Global,
+    out: &mut Vec<u8>,
+    places: &IndexSet<usize>,
+    place: usize,
+    instr: &Instr,
+) -> Result<(), AllocError>
+    requires { place < 2 ^ 63 }
+    ensures { OnOk result (out.new.items ≡ out.old.items
+        ++ line_of (λ skip. goal_word (label_at places.now.keys (place + 1 + skip)) skip) (Code instr.now)) }
+{
+    put_instr(alloc, out, instr, goal_label(places, place, instr))
+}
+
+/// Adds the lines of a procedure's code, with the labels at these places.
+fn put_code(
+    alloc: Global,
+    out: &mut Vec<u8>,
+    places: &IndexSet<usize>,
+    code: &[Instr],
+) -> Result<(), AllocError>
+    ensures { OnOk result (out.new.items ≡ out.old.items ++ code_lines places.now.keys 0 code.now) }
+{
+    for (place, instr) in code.iter().enumerate() {
+        put_label_at(alloc, out, places, place)?;
+        put_instr_at(alloc, out, places, place, instr)?;
+    }
+    put_label_at(alloc, out, places, code.len())
+}
+
+/// Adds the lines of a procedure.
+fn put_procedure(alloc: Global, out: &mut Vec<u8>, procedure: &Procedure) -> Result<(), AllocError>
+    ensures { OnOk result (out.new.items ≡ out.old.items ++ procedure_lines procedure.now) }
+{
+    let places = label_places(alloc, procedure.code.as_slice())?;
+    put_head(out, procedure.kind, procedure.params.as_slice())?;
+    put_registers(out, procedure.registers.as_slice())?;
+    put_code(alloc, out, &places, procedure.code.as_slice())
+}
+
+/// The lines of procedures, one procedure after the other.
+fn lines_of(alloc: Global, procedures: &[Procedure]) -> Result<Vec<u8>, AllocError>
+    ensures { IfOk result (λ out. out.items ≡ disassembly procedures.now) }
+{
+    let mut out = Vec::new(alloc);
+    for procedure in procedures {
+        put_procedure(alloc, &mut out, procedure)?;
+    }
+    Ok(out)
+}
+
+/// The one text of a program, which assembles to it.
+pub fn disassemble(alloc: Global, program: &Program) -> Result<String, NoMemory>
+    ensures text { IfOk result (λ text. string_bytes text ≡ disassembly program.now) }
+    ensures spells { IfOk result (λ text. SpellsProgram program.now (string_bytes text)) }
+{
+    let out = lines_of(alloc, program.procedures())?;
+    match String::from_utf8(out) {
+        Ok(text) => Ok(text),
+        Err(_) => unreachable!(),
+    }
+}

@@ -1,0 +1,85 @@
+//! Faults of assembly texts.
+
+ghost use Rattle.std.specs.Prelude.{◌≡◌};
+ghost use Rattle.tw_asm.specs.Fault.{fault_number};
+ghost use Rattle.tw_asm.specs.declared.fault.FaultNo.TheVariants.{Memory};
+
+use std::alloc::{AllocError, AllocFailed};
+use thiserror::Error;
+
+/// What is wrong with a text.
+#[derive(Clone, Copy, Debug, PartialEq, Eq)]
+pub enum FaultNo {
+    /// A01: the line's first word isn't known, or can't stand there.
+    Word,
+    /// A02: an operand has another form, or there are too few or too many.
+    Operand,
+    /// A03: the procedure has no label of this name.
+    UnknownLabel,
+    /// A04: a label of this name stands in the procedure already.
+    LabelTwice,
+    /// A05: the label isn't behind the instruction that names it.
+    LabelNotForward,
+    /// A06: a number, a count, a nesting, a name or a text is past its limit, or a procedure has no instruction.
+    Limit,
+    /// A07: memory was refused.
+    Memory,
+}
+
+impl FaultNo {
+    /// The number behind the letter A, from 1.
+    pub fn number(self) -> u8
+        ensures { result ≡ fault_number self }
+    {
+        self as u8 + 1
+    }
+}
+
+/// The first fault of a text, and the number of its line, from 1.
+///
+/// Where memory was refused the line is 0.
+#[derive(Clone, Copy, Debug, Error)]
+#[error("A{:02} at line {line}", .no.number())]
+pub struct AsmFault {
+    pub no: FaultNo,
+    pub line: usize,
+}
+
+impl AsmFault {
+    pub(crate) fn new(no: FaultNo, line: usize) -> AsmFault
+        ensures no { result.no ≡ no }
+        ensures line { result.line ≡ line }
+    {
+        AsmFault { no, line }
+    }
+
+    pub(crate) fn memory() -> AsmFault
+        ensures no { result.no ≡ Memory }
+        ensures line { result.line ≡ 0 }
+    {
+        AsmFault {
+            no: FaultNo::Memory,
+            line: 0,
+        }
+    }
+}
+
+impl From<AllocError> for AsmFault {
+    ghost use Rattle.tw_asm.specs.declared.fault.FaultNo.TheVariants.{Memory};
+
+    ghost from_gives = { λ _ f. f ≡ record { no = Memory; line = 0 } };
+
+    fn from(_e: AllocError) -> AsmFault {
+        AsmFault::memory()
+    }
+}
+
+impl<T: Drop> From<AllocFailed<T>> for AsmFault {
+    ghost use Rattle.tw_asm.specs.declared.fault.FaultNo.TheVariants.{Memory};
+
+    ghost from_gives = { λ _ f. f ≡ record { no = Memory; line = 0 } };
+
+    fn from(_e: AllocFailed<T>) -> AsmFault {
+        AsmFault::memory()
+    }
+}

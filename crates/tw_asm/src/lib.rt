@@ -1,0 +1,14 @@
+//! Assembly text: programs from it, and the one text of a program.
+#![tactic(auto)]
+
+mod assembler;
+mod disassembler;
+mod fault;
+mod laws;
+mod link;
+mod reading;
+
+pub use assembler::assemble;
+pub use disassembler::disassemble;
+pub use fault::{AsmFault, FaultNo};
+pub use laws::spells_once;

@@ -1,0 +1,86 @@
+//! Procedures with their skips.
+
+ghost use Rattle.std.specs.Prelude.{◌⊎◌, MatchResult, map};
+ghost use Rattle.std.specs.List.{AllByRecursion, flat_map};
+ghost use Rattle.tw_asm.specs.reading.Goals.{AreLinkedProcedures, AreWithin, FirstUnlinked, HasLabelsWithin, section_goals, IsLinkedInstr, IsLinkedSection, IsSkipTo};
+ghost use Rattle.tw_asm.specs.reading.Progress.{IsMemory, seen_draft, seen_label, seen_section};
+
+use crate::fault::{AsmFault, FaultNo};
+use crate::reading::{DraftLine, Section};
+use indexmap::IndexMap;
+use std::alloc::Global;
+use tw_code::{Instr, Procedure};
+use tw_statement::with_skip;
+use tw_types::Items;
+
+/// The skip from the instruction at a place to a label.
+fn skip_to(labels: &IndexMap<&[u8], usize>, place: usize, name: &[u8]) -> Result<u16, FaultNo>
+    requires { AreWithin (map seen_label labels.now.entries) }
+    ensures { IsSkipTo (map seen_label labels.now.entries) place name.now result }
+{
+    match labels.get(name) {
+        None => Err(FaultNo::UnknownLabel),
+        Some(at) => {
+            if *at > place {
+                Ok((*at - place - 1) as u16)
+            } else {
+                Err(FaultNo::LabelNotForward)
+            }
+        }
+    }
+}
+
+fn link_instr(
+    labels: &IndexMap<&[u8], usize>,
+    place: usize,
+    line: DraftLine<'_>,
+) -> Result<Instr, AsmFault>
+    requires { AreWithin (map seen_label labels.now.entries) }
+    ensures { IsLinkedInstr (map seen_label labels.now.entries) place (seen_draft line.entry) result }
+{
+    let DraftLine { draft, number } = line;
+    match draft.goal {
+        None => Ok(draft.instr),
+        Some(name) => match skip_to(labels, place, name) {
+            Ok(skip) => Ok(with_skip(draft.instr, skip)),
+            Err(no) => Err(AsmFault::new(no, number)),
+        },
+    }
+}
+
+fn link_section(alloc: Global, section: Section<'_>) -> Result<Procedure, AsmFault>
+    requires { AreWithin (map seen_label section.labels.entries) }
+    ensures { IsLinkedSection (seen_section section.entry) result }
+{
+    let Section {
+        kind,
+        params,
+        registers,
+        labels,
+        drafts,
+    } = section;
+    let mut code = Vec::new(alloc);
+    for line in drafts {
+        let instr = link_instr(&labels, code.len(), line)?;
+        code.push(instr)?;
+    }
+    Ok(Procedure {
+        kind,
+        params,
+        registers,
+        code: Items::from(code),
+    })
+}
+
+/// The procedures with their skips, or the first goal that isn't a label behind its instruction.
+pub fn link(alloc: Global, sections: Vec<Section<'_>>) -> Result<Vec<Procedure>, AsmFault>
+    requires { AllByRecursion HasLabelsWithin (map seen_section sections.items) }
+    ensures { MatchResult result (λ procedures. AreLinkedProcedures (map seen_section sections.entry.items) procedures.items) (λ f. IsMemory f ⊎ FirstUnlinked (flat_map section_goals (map seen_section sections.entry.items)) f) }
+{
+    let mut procedures = Vec::new(alloc);
+    for section in sections {
+        let procedure = link_section(alloc, section)?;
+        procedures.push(procedure)?;
+    }
+    Ok(procedures)
+}

@@ -1,0 +1,366 @@
+//! The lines of a text, one by one. Goals aren't looked for yet.
+
+ghost use Rattle.std.specs.Prelude.{◌≡◌, ◌⊎◌, ◌↔◌, ℕ, List, IsTrue, MatchOption, MatchResult, map};
+ghost use Rattle.std.specs.Prelude.{None};
+ghost use Rattle.tw_asm.specs.Fault.{MayBegin};
+ghost use Rattle.tw_asm.specs.reading.Progress.{AreClosed, AreFinished, AreNotRead, HasSections, IsEmptyAt, IsNotClosed, IsNotFinished, LabelAdded, LinesAreRead, TakenLine, TakenStatement, WithDraft, WithLabel, WordsRead, IsLimitLine, seen_draft, seen_label, seen_reading, seen_section, seen_stage, stage_of};
+ghost use Rattle.tw_asm.specs.reading.Promise.{IsPromisedBy, promise};
+ghost use Rattle.tw_lines.specs.Seen.{seen as seen_word};
+ghost use Rattle.tw_statement.specs.Seen.{bytes_of, seen as seen_statement};
+ghost use Rattle.tw_statement.specs.Statement.{Code, Head, Label, Registers};
+ghost use Rattle.tw_statement.specs.declared.statement.First.TheVariants as promised;
+ghost use Rattle.tw_statement.specs.declared.statement.First.{First};
+
+use crate::fault::{AsmFault, FaultNo};
+use indexmap::IndexMap;
+use std::alloc::Global;
+use tw_lines::{Word, words_of};
+use tw_statement::{Draft, First, Flaw, Refusal, Statement, first_of, statement_of};
+use tw_types::{Items, Kind, Param, Scalar};
+
+/// An instruction whose goal isn't looked for yet, and the number of its line.
+#[derive(Drop)]
+pub struct DraftLine<'a> {
+    pub draft: Draft<'a>,
+    pub number: usize,
+}
+
+/// A procedure whose goals aren't looked for yet; its labels with their places.
+#[derive(Drop)]
+pub struct Section<'a> {
+    pub kind: Kind,
+    pub params: Items<Param>,
+    pub registers: Items<Scalar>,
+    pub labels: IndexMap<&'a [u8], usize>,
+    pub drafts: Vec<DraftLine<'a>>,
+}
+
+/// What may follow.
+#[derive(Drop)]
+pub enum Stage<'a> {
+    /// Nothing has been said.
+    Start,
+    /// The types of value registers are due.
+    AfterHead { kind: Kind, params: Items<Param> },
+    InBody(Section<'a>),
+}
+
+/// What the lines so far have said.
+#[derive(Drop)]
+pub struct Reading<'a> {
+    /// The procedures that have ended.
+    pub sections: Vec<Section<'a>>,
+    /// The line at which the last procedure began.
+    pub head_line: usize,
+    pub stage: Stage<'a>,
+}
+
+fn may_begin(stage: &Stage<'_>, promised: First) -> bool
+    ensures { IsTrue result ↔ MayBegin (stage_of (seen_stage stage.now)) promised }
+{
+    match stage {
+        Stage::Start => matches!(promised, First::Head),
+        Stage::AfterHead { .. } => matches!(promised, First::Registers),
+        Stage::InBody(_) => matches!(promised, First::Head | First::Body),
+    }
+}
+
+/// What a line's first word promises, if that may stand here.
+fn promise_of(word: &Word<'_>, stage: &Stage<'_>) -> Option<First>
+    ensures { MatchOption result ((first : First) → IsPromisedBy (seen_word word.now) first → MayBegin (stage_of (seen_stage stage.now)) first → ⊥) (λ first. IsPromisedBy (seen_word word.now) first × MayBegin (stage_of (seen_stage stage.now)) first) }
+{
+    match word {
+        Word::Quoted(_) => None,
+        Word::Bare(bytes) => {
+            let first = first_of(bytes)?;
+            if may_begin(stage, first) {
+                Some(first)
+            } else {
+                None
+            }
+        }
+    }
+}
+
+/// A procedure has begun, and has no instruction.
+fn is_empty(stage: &Stage<'_>) -> bool
+    ensures { IsTrue result ↔ IsEmptyAt (seen_stage stage.now) }
+{
+    match stage {
+        Stage::InBody(section) => section.drafts.is_empty(),
+        _ => false,
+    }
+}
+
+/// The line at which a limit is told: that of the head of an empty procedure goes first.
+fn limit_line(reading: &Reading<'_>, first: First, number: usize) -> usize
+    ensures { IsLimitLine (seen_reading reading.now) first number result }
+{
+    if matches!(first, First::Head) && is_empty(&reading.stage) {
+        reading.head_line
+    } else {
+        number
+    }
+}
+
+fn read_words<'a>(
+    alloc: Global,
+    reading: &Reading<'_>,
+    number: usize,
+    line: &'a str,
+) -> Result<Option<Statement<'a>>, AsmFault>
+    ensures { WordsRead (seen_reading reading.now) number line.now result }
+{
+    let read = words_of(alloc, line.as_bytes())?;
+    let Some(word) = read.words.first() else {
+        return if read.whole {
+            Ok(None)
+        } else {
+            Err(AsmFault::new(FaultNo::Word, number))
+        };
+    };
+    let Some(promised) = promise_of(word, &reading.stage) else {
+        return Err(AsmFault::new(FaultNo::Word, number));
+    };
+    if !read.whole {
+        return Err(AsmFault::new(FaultNo::Operand, number));
+    }
+    match statement_of(alloc, &read.words) {
+        Ok(statement) => Ok(Some(statement)),
+        Err(Refusal::OutOfMemory) => Err(AsmFault::memory()),
+        Err(Refusal::Flawed(Flaw::Form)) => Err(AsmFault::new(FaultNo::Operand, number)),
+        Err(Refusal::Flawed(Flaw::Limit)) => {
+            Err(AsmFault::new(FaultNo::Limit, limit_line(reading, promised, number)))
+        }
+    }
+}
+
+/// The procedures that have ended once another begins; one without instructions can't end.
+fn close<'a>(
+    mut sections: Vec<Section<'a>>,
+    head_line: usize,
+    stage: Stage<'a>,
+) -> Result<Vec<Section<'a>>, AsmFault>
+    ensures { MatchResult result (λ all. AreClosed (map seen_section sections.entry.items) (seen_stage stage.entry) (map seen_section all.items)) (λ f. IsNotClosed (seen_stage stage.entry) head_line f) }
+{
+    if let Stage::InBody(section) = stage {
+        if section.drafts.is_empty() {
+            return Err(AsmFault::new(FaultNo::Limit, head_line));
+        }
+        sections.push(section)?;
+    }
+    Ok(sections)
+}
+
+fn take_head<'a>(
+    reading: Reading<'a>,
+    number: usize,
+    kind: Kind,
+    params: Items<Param>,
+) -> Result<Reading<'a>, AsmFault>
+    ensures { MayBegin (stage_of (seen_stage reading.entry.stage)) promised.Head → TakenStatement (seen_reading reading.entry) number (record { statement = Head kind params; goal = None }) result }
+{
+    let Reading {
+        sections,
+        head_line,
+        stage,
+    } = reading;
+    let sections = close(sections, head_line, stage)?;
+    if sections.len() >= 64 {
+        return Err(AsmFault::new(FaultNo::Limit, number));
+    }
+    Ok(Reading {
+        sections,
+        head_line: number,
+        stage: Stage::AfterHead { kind, params },
+    })
+}
+
+fn take_registers<'a>(
+    alloc: Global,
+    reading: Reading<'a>,
+    number: usize,
+    registers: Items<Scalar>,
+) -> Result<Reading<'a>, AsmFault>
+    ensures { MayBegin (stage_of (seen_stage reading.entry.stage)) promised.Registers → TakenStatement (seen_reading reading.entry) number (record { statement = Registers registers; goal = None }) result }
+{
+    let Reading {
+        sections,
+        head_line,
+        stage,
+    } = reading;
+    let Stage::AfterHead { kind, params } = stage else {
+        return Err(AsmFault::new(FaultNo::Word, number));
+    };
+    let section = Section {
+        kind,
+        params,
+        registers,
+        labels: IndexMap::new(alloc),
+        drafts: Vec::new(alloc),
+    };
+    Ok(Reading {
+        sections,
+        head_line,
+        stage: Stage::InBody(section),
+    })
+}
+
+fn add_label<'a>(
+    labels: &mut IndexMap<&'a [u8], usize>,
+    name: &'a [u8],
+    place: usize,
+    number: usize,
+) -> Result<(), AsmFault>
+    ensures { LabelAdded (map seen_label labels.old.entries) (map seen_label labels.new.entries) name.now place result number }
+{
+    if labels.contains_key(name) {
+        return Err(AsmFault::new(FaultNo::LabelTwice, number));
+    }
+    labels.insert(name, place)?;
+    Ok(())
+}
+
+fn with_label<'a>(
+    mut section: Section<'a>,
+    number: usize,
+    name: &'a [u8],
+) -> Result<Section<'a>, AsmFault>
+    ensures { WithLabel (seen_section section.entry) number name.now result }
+{
+    let place = section.drafts.len();
+    add_label(&mut section.labels, name, place, number)?;
+    Ok(section)
+}
+
+fn with_draft<'a>(mut section: Section<'a>, line: DraftLine<'a>) -> Result<Section<'a>, AsmFault>
+    ensures { WithDraft (seen_section section.entry) (seen_draft line.entry) result }
+{
+    if section.drafts.len() >= 4096 {
+        return Err(AsmFault::new(FaultNo::Limit, line.number));
+    }
+    section.drafts.push(line)?;
+    Ok(section)
+}
+
+fn take_label<'a>(
+    reading: Reading<'a>,
+    number: usize,
+    name: &'a [u8],
+) -> Result<Reading<'a>, AsmFault>
+    ensures { MayBegin (stage_of (seen_stage reading.entry.stage)) promised.Body → TakenStatement (seen_reading reading.entry) number (record { statement = Label name.now; goal = None }) result }
+{
+    let Reading {
+        sections,
+        head_line,
+        stage,
+    } = reading;
+    let Stage::InBody(section) = stage else {
+        return Err(AsmFault::new(FaultNo::Word, number));
+    };
+    let section = with_label(section, number, name)?;
+    Ok(Reading {
+        sections,
+        head_line,
+        stage: Stage::InBody(section),
+    })
+}
+
+fn take_draft<'a>(
+    reading: Reading<'a>,
+    number: usize,
+    draft: Draft<'a>,
+) -> Result<Reading<'a>, AsmFault>
+    ensures { MayBegin (stage_of (seen_stage reading.entry.stage)) promised.Body → TakenStatement (seen_reading reading.entry) number (record { statement = Code draft.entry.instr; goal = bytes_of draft.entry.goal }) result }
+{
+    let Reading {
+        sections,
+        head_line,
+        stage,
+    } = reading;
+    let Stage::InBody(section) = stage else {
+        return Err(AsmFault::new(FaultNo::Word, number));
+    };
+    let section = with_draft(section, DraftLine { draft, number })?;
+    Ok(Reading {
+        sections,
+        head_line,
+        stage: Stage::InBody(section),
+    })
+}
+
+fn take_statement<'a>(
+    alloc: Global,
+    reading: Reading<'a>,
+    number: usize,
+    statement: Statement<'a>,
+) -> Result<Reading<'a>, AsmFault>
+    ensures { MayBegin (stage_of (seen_stage reading.entry.stage)) (promise (seen_statement statement.entry).statement) → TakenStatement (seen_reading reading.entry) number (seen_statement statement.entry) result }
+{
+    match statement {
+        Statement::Head { kind, params } => take_head(reading, number, kind, params),
+        Statement::Registers(registers) => take_registers(alloc, reading, number, registers),
+        Statement::Label(name) => take_label(reading, number, name),
+        Statement::Code(draft) => take_draft(reading, number, draft),
+    }
+}
+
+fn take_line<'a>(
+    alloc: Global,
+    reading: Reading<'a>,
+    number: usize,
+    line: &'a str,
+) -> Result<Reading<'a>, AsmFault>
+    ensures { TakenLine (seen_reading reading.entry) number line.now result }
+{
+    match read_words(alloc, &reading, number, line) {
+        Ok(None) => Ok(reading),
+        Ok(Some(statement)) => take_statement(alloc, reading, number, statement),
+        Err(f) => Err(f),
+    }
+}
+
+/// What all lines say.
+fn read_lines<'a>(alloc: Global, text: &'a str) -> Result<Reading<'a>, AsmFault>
+    ensures { LinesAreRead text.now result }
+{
+    let mut reading = Reading {
+        sections: Vec::new(alloc),
+        head_line: 0,
+        stage: Stage::Start,
+    };
+    for (index, line) in text.lines().enumerate() {
+        reading = take_line(alloc, reading, index + 1, line)?;
+    }
+    Ok(reading)
+}
+
+/// The procedures, where the text may end.
+fn finish<'a>(reading: Reading<'a>) -> Result<Vec<Section<'a>>, AsmFault>
+    ensures { MatchResult result (λ all. AreFinished (seen_reading reading.entry) (map seen_section all.items)) (λ f. IsNotFinished (seen_reading reading.entry) f) }
+{
+    let Reading {
+        mut sections,
+        head_line,
+        stage,
+    } = reading;
+    match stage {
+        Stage::Start => Err(AsmFault::new(FaultNo::Limit, 1)),
+        Stage::AfterHead { .. } => Err(AsmFault::new(FaultNo::Limit, head_line)),
+        Stage::InBody(section) => {
+            if section.drafts.is_empty() {
+                return Err(AsmFault::new(FaultNo::Limit, head_line));
+            }
+            sections.push(section)?;
+            Ok(sections)
+        }
+    }
+}
+
+/// The procedures of a text, or its first fault but for goals.
+pub fn read_text<'a>(alloc: Global, text: &'a str) -> Result<Vec<Section<'a>>, AsmFault>
+    ensures { MatchResult result (λ all. HasSections text.now (map seen_section all.items)) (λ f. AreNotRead text.now f) }
+{
+    let reading = read_lines(alloc, text)?;
+    finish(reading)
+}
