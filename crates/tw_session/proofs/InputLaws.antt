@@ -6,9 +6,8 @@ use Rattle.tw_types.specs.declared.input.Input.{Input}
 use Rattle.tw_types.specs.declared.input.Input.TheVariants as input
 use Rattle.tw_words.specs.Quoted.{SpellsQuoted}
 use Rattle.tw_session.specs.InputWords.{AreBehind, AreJoined, AreSpelled, IsRefusedWord, OneInput, OneRefusedWord, SpellsInput, SpellsInt, SpellsMember}
-use Rattle.tw_session.specs.CommandLine.{Asked, Checks, Runs, IsAsked, IsRefusedInput}
+use Rattle.tw_session.specs.CommandLine.{Asked, Assembles, Disassembles, Checks, Runs, IsAsked, IsRefusedInput}
 use Rattle.tw_session.specs.declared.command.Order.{Order}
-use Rattle.tw_session.specs.declared.command.Order.TheVariants.{Check, Run}
 use Rattle.tw_session.specs.reading.Members.{IsStop}
 use Rattle.tw_session.proofs.InputReading.{one_int, one_int_member, one_text_member}
 use Rattle.tw_session.proofs.Members.{stops}
@@ -163,10 +162,13 @@ refused_at inputs words i d lt h none =
 
 -- what is asked for is no refused word, and one word alone is refused
 pub never_refused : (asked : Asked) (order : Order) (number : ℕ) → IsAsked asked order → IsRefusedInput asked number → ⊥
+never_refused Assembles order number is_asked h = h
+never_refused Disassembles order number is_asked h = h
 never_refused Checks order number is_asked h = h
-never_refused (Runs layout most words) Check number is_asked h = is_asked
-never_refused (Runs layout most words) (Run order) number is_asked h = none_refused words order.inputs number is_asked.2 h
+never_refused (Runs layout most words) order number (run, is, layout_is, limit_is, spelled) h = none_refused words run.inputs number spelled h
 
 pub one_number : (asked : Asked) (number other : ℕ) → IsRefusedInput asked number → IsRefusedInput asked other → number ≡ other
+one_number Assembles number other h k = absurd h
+one_number Disassembles number other h k = absurd h
 one_number Checks number other h k = absurd h
 one_number (Runs layout most words) number other h k = one_refused_word words number other h k

@@ -1,14 +1,16 @@
 -- A reply to the first bytes of the input is one to all of them, and what a status then says.
-use Rattle.std.proofs.Common.{◌≡◌, ◌≢◌, ◌+◌, inl, inr, ℕ, Bool, true, List, length, take, sym, subst, arith, Option, Some, None, IfSome}
+use Rattle.std.proofs.Common.{◌≡◌, ◌≢◌, ◌+◌, refl, inl, inr, ℕ, Bool, true, List, length, take, sym, subst, arith, Option, Some, None, IfSome}
 use Rattle.std.specs.Prelude.{MatchBool, nat_lt, codes}
 use Rattle.std.proofs.lemmas.Bool.Decides.{when_true}
 use Rattle.std.proofs.lemmas.Bool.{cases_lt, lt-ltb}
 use Rattle.std.proofs.lemmas.List.{take_all, length-take-le}
 use Rattle.std.specs.Io.KnownBytes.{Appends}
-use Rattle.hex.specs.Hex.{decode_of}
-use Rattle.tw_session.specs.Input.{most_bytes, digits_in}
+use Rattle.tw_asm.specs.Answers.{HasFault, IsFault}
+use Rattle.tw_asm.specs.declared.fault.FaultNo.{FaultNo}
+use Rattle.tw_asm.specs.declared.fault.FaultNo.TheVariants as asm
+use Rattle.tw_session.specs.Input.{most_bytes}
 use Rattle.tw_session.specs.CommandLine.{Asked, IsAsked}
-use Rattle.tw_session.specs.Session.{Reply, reply, RepliesByText, MayReply, MayAnswer, ComesOf}
+use Rattle.tw_session.specs.Session.{Reply, reply, RepliesByInput, MayReply, MayAnswer, ComesOf}
 use Rattle.tw_session.specs.declared.command.Order.{Order}
 use Rattle.tw_session.specs.declared.status.Close.{Close}
 use Rattle.tw_session.specs.declared.status.Close.TheVariants.{Refused}
@@ -22,7 +24,7 @@ to_all order all r h = elim (cases_lt most_bytes (length all)) [
   | inl long ↦
       let cut : nat_lt most_bytes (length (take (most_bytes + 1) all)) ≡ true = lt-ltb most_bytes (length (take (most_bytes + 1) all)) (omega (arith, length-take-le (most_bytes + 1) all (omega (arith, long)))) in
       let told : r ≡ reply (codes "refused H02\n") Refused = when_true _ _ cut h in
-      subst (λ (b : Bool). MatchBool b (r ≡ reply (codes "refused H02\n") Refused) (RepliesByText order (decode_of (digits_in all)) r)) (sym (lt-ltb most_bytes (length all) long)) told
+      subst (λ (b : Bool). MatchBool b (r ≡ reply (codes "refused H02\n") Refused) (RepliesByInput order all r)) (sym (lt-ltb most_bytes (length all) long)) told
 ]
 
 -- a reply that was written, unless the write failed
@@ -50,3 +52,13 @@ pub replied_to_known : (asked : Asked) (order : Order) (known : Option (List ℕ
 replied_to_known asked order None input text close status old new is_asked is h ends wrote = tt
 replied_to_known asked order (Some all) input text close status old new is_asked is h ends wrote =
     replied asked order all text close status old new is_asked (to_all order all (reply text close) (subst (λ (i : List ℕ). MayReply order i (reply text close)) is h)) ends wrote
+
+-- a fault that isn't want of memory is the first of a text that spells no program
+pub fault_has : (text : List ℕ) (which : FaultNo) (line : ℕ) → (which ≡ asm.Memory → ⊥) → IsFault text which line → HasFault text which line
+fault_has text asm.Word line other h = h
+fault_has text asm.Operand line other h = h
+fault_has text asm.UnknownLabel line other h = h
+fault_has text asm.LabelTwice line other h = h
+fault_has text asm.LabelNotForward line other h = h
+fault_has text asm.Limit line other h = h
+fault_has text asm.Memory line other h = absurd (other refl)

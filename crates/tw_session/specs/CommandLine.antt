@@ -7,11 +7,14 @@ use Rattle.tw_types.specs.Layout.{ActorCounts}
 use Rattle.tw_session.specs.InputWords.{AreSpelled, IsRefusedWord}
 use Rattle.tw_session.specs.Options.{actors_told, limit, number_options, option_faults, option_rule, told}
 use Rattle.tw_session.specs.declared.command.Order.{Order}
-use Rattle.tw_session.specs.declared.command.Order.TheVariants.{Check, Run}
+use Rattle.tw_session.specs.declared.command.Order.TheVariants.{Assemble, Program}
+use Rattle.tw_session.specs.declared.command.ProgramOrder.TheVariants.{Disassemble, Verified}
+use Rattle.tw_session.specs.declared.command.VerifiedOrder.TheVariants.{Check, Run}
+use Rattle.tw_session.specs.declared.command.RunOrder.{RunOrder}
 
--- `check`, without options
-abbrev pub check_line : App
-check_line = new_app (codes "check")
+-- a command without options
+abbrev pub plain_line : Text → App
+plain_line name = new_app name
 
 -- the words behind `run`, however many
 abbrev pub input_rule : Rule
@@ -33,7 +36,8 @@ bare_line = record (new_app (codes "tw")) {
 
 -- the whole command line
 unfoldable pub command_line : App
-command_line = with_subcommand (with_subcommand bare_line check_line.top) run_line.top
+command_line = with_subcommand (with_subcommand (with_subcommand (with_subcommand bare_line
+    (plain_line (codes "asm")).top) (plain_line (codes "disasm")).top) (plain_line (codes "check")).top) run_line.top
 
 -- ---- what the words ask for
 
@@ -43,6 +47,8 @@ given_words rows = unwrap_or (all_of (codes "input") rows) []
 
 -- the command that was named; `run` with its actors, the most events of the run, and the input words
 pub data Asked : Type 0 where
+  Assembles : Asked
+  Disassembles : Asked
   Checks : Asked
   Runs : ActorCounts → ℕ → List Text → Asked
 
@@ -52,7 +58,11 @@ run_asked rows = Runs (actors_told rows) (told limit rows) (given_words rows)
 
 abbrev pub asked_of : Option (Text × List Row) → Asked
 asked_of None = Checks
-asked_of (Some named) = if bytes_eq named.0 (codes "run") then run_asked named.1 else Checks
+asked_of (Some named) =
+    if bytes_eq named.0 (codes "run") then run_asked named.1 else
+    if bytes_eq named.0 (codes "asm") then Assembles else
+    if bytes_eq named.0 (codes "disasm") then Disassembles else
+    Checks
 
 -- what the program's words ask for
 abbrev pub asked_by_words : List Text → Asked
@@ -60,13 +70,16 @@ asked_by_words words = asked_of (subcommand_of command_line words)
 
 -- the order that is asked for: each input word spells its input
 abbrev pub IsAsked : Asked → Order → Type 0
-IsAsked Checks Check = Unit {0}
-IsAsked Checks (Run order) = ⊥
-IsAsked (Runs layout most words) Check = ⊥
-IsAsked (Runs layout most words) (Run order) = (order.layout ≡ layout) × (order.limit ≡ most) × AreSpelled order.inputs words
+IsAsked Assembles order = order ≡ Assemble
+IsAsked Disassembles order = order ≡ Program Disassemble
+IsAsked Checks order = order ≡ Program (Verified Check)
+IsAsked (Runs layout most words) order =
+    (run : RunOrder) × (order ≡ Program (Verified (Run run))) × (run.layout ≡ layout) × (run.limit ≡ most) × AreSpelled run.inputs words
 
 -- or the word of this number, counted from 1, is the first that spells no input
 abbrev pub IsRefusedInput : Asked → ℕ → Type 0
+IsRefusedInput Assembles number = ⊥
+IsRefusedInput Disassembles number = ⊥
 IsRefusedInput Checks number = ⊥
 IsRefusedInput (Runs layout most words) number = IsRefusedWord words number
 

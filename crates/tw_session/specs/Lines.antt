@@ -19,6 +19,10 @@ value_text (value.Text text) = codes "text " ++ quoted text
 abbrev pub fault_line : ℕ → ℕ → List ℕ
 fault_line number offset = codes "refused F" ++ (two_digits number ++ (codes " at byte " ++ (decimal offset ++ codes "\n")))
 
+-- lines count from 1
+abbrev pub asm_line : ℕ → ℕ → List ℕ
+asm_line number line = codes "refused A" ++ (two_digits number ++ (codes " at line " ++ (decimal line ++ codes "\n")))
+
 abbrev pub place_text : ℕ → ℕ → List ℕ
 place_text procedure place = codes " in procedure " ++ (decimal procedure ++ (codes " at place " ++ (decimal place ++ codes "\n")))
 

@@ -1,30 +1,40 @@
 -- What a session writes and how it ends, by the bytes that it reads.
-use Rattle.std.specs.Prelude.{◌≡◌, ◌⊎◌, ℕ, List, length, codes, Result, Ok, Err, nat_lt, MatchBool, Option, ⊤}
-use Rattle.hex.specs.Hex.{decode_of}
+use Rattle.std.specs.Prelude.{◌≡◌, ◌⊎◌, ◌++◌, ℕ, List, length, codes, Result, Ok, Err, nat_lt, MatchBool, IsUtf8, Option, ⊤}
+use Rattle.hex.specs.Hex.{decode_of, encode_lower}
 use Rattle.hex.specs.declared.FromHexError.{FromHexError}
 use Rattle.tw_types.specs.Cause.{cause_number}
 use Rattle.tw_code.specs.declared.procedure.Procedure.{Procedure}
 use Rattle.tw_code.specs.declared.fault.Fault.{Fault}
 use Rattle.tw_code.specs.format.Fault as fault
 use Rattle.tw_code.specs.format.Reading.{program_of}
+use Rattle.tw_code.specs.format.Spelling.{spelling}
 use Rattle.tw_code.specs.machine.State.{State}
 use Rattle.tw_code.specs.machine.Inputs.{has_input_count, has_fitting_inputs}
 use Rattle.tw_code.specs.accepting.Needs.{HasTargets}
 use Rattle.tw_code.specs.accepting.WellTyped.{IsAccepted, IsFirstRefusal}
 use Rattle.tw_session.specs.declared.command.Order.{Order}
-use Rattle.tw_session.specs.declared.command.Order.TheVariants.{Check, Run}
+use Rattle.tw_session.specs.declared.command.Order.TheVariants.{Assemble, Program}
+use Rattle.tw_session.specs.declared.command.ProgramOrder.{ProgramOrder}
+use Rattle.tw_session.specs.declared.command.ProgramOrder.TheVariants.{Disassemble, Verified}
+use Rattle.tw_session.specs.declared.command.VerifiedOrder.{VerifiedOrder}
+use Rattle.tw_session.specs.declared.command.VerifiedOrder.TheVariants.{Check, Run}
 use Rattle.tw_session.specs.declared.command.RunOrder.{RunOrder}
 use Rattle.tw_session.specs.declared.status.Close.{Close}
 use Rattle.tw_session.specs.declared.status.Close.TheVariants.{Success, Refused, CommandLine, Stuck, Limit, Trapped}
 use Rattle.tw_session.specs.declared.status.Status.{Status}
 use Rattle.tw_session.specs.declared.status.Status.TheVariants.{Ended, NoMemory, ReadFailed, WriteFailed}
 use Rattle.std.specs.Io.KnownBytes.{Appends, Keeps}
+use Rattle.tw_asm.specs.declared.fault.FaultNo.{FaultNo}
+use Rattle.tw_asm.specs.Answers.{HasFault}
+use Rattle.tw_asm.specs.Disassembly.{disassembly}
+use Rattle.tw_asm.specs.Fault as asm
+use Rattle.tw_asm.specs.Spelling.{SpellsProgram}
 use Rattle.tw_run.specs.declared.run_end.RunEnd.{RunEnd}
 use Rattle.tw_run.specs.declared.run_end.RunEnd.TheVariants as run_end
 use Rattle.tw_run.specs.Run.{IsRun, Setup}
 use Rattle.tw_session.specs.Input.{most_bytes, digits_in}
 use Rattle.tw_session.specs.CommandLine.{Asked, IsAsked, IsRefusedInput}
-use Rattle.tw_session.specs.Lines.{fault_line, input_word_line, verify_line, opening_line, stuck_line, trap_line}
+use Rattle.tw_session.specs.Lines.{asm_line, fault_line, input_word_line, verify_line, opening_line, stuck_line, trap_line}
 use Rattle.tw_session.specs.Report.{report}
 use Rattle.tw_session.specs.Check.{IsCheckText}
 
@@ -70,31 +80,52 @@ abbrev pub RepliesByCheck : List Procedure → Reply → Type 0
 RepliesByCheck program r = (text : List ℕ) × IsCheckText program text × (r ≡ reply text Success)
 
 -- an accepted program is checked, or opened and run
-abbrev pub RepliesByAccepted : Order → List Procedure → Reply → Type 0
+abbrev pub RepliesByAccepted : VerifiedOrder → List Procedure → Reply → Type 0
 RepliesByAccepted Check program r = RepliesByCheck program r
 RepliesByAccepted (Run order) program r = RepliesByOpening program order r
 
 -- the program is accepted; or it is refused, and this is the first refusal
-abbrev pub RepliesByProgram : Order → List Procedure → Reply → Type 0
-RepliesByProgram order program r =
+abbrev pub RepliesByVerified : VerifiedOrder → List Procedure → Reply → Type 0
+RepliesByVerified order program r =
     (IsAccepted program × RepliesByAccepted order program r)
     ⊎ ((number : ℕ) × (procedure : ℕ) × (place : ℕ) × IsFirstRefusal program number procedure place × (r ≡ reply (verify_line number procedure place) Refused))
+
+-- the program's assembly text is written, or the program is verified
+abbrev pub RepliesByProgram : ProgramOrder → List Procedure → Reply → Type 0
+RepliesByProgram Disassemble program r = r ≡ reply (disassembly program) Success
+RepliesByProgram (Verified order) program r = RepliesByVerified order program r
 
 -- ---- the bytes
 
 -- the bytes spell a program, or have a first fault
-abbrev pub RepliesByBytes : Order → Result (List Procedure) Fault → Reply → Type 0
+abbrev pub RepliesByBytes : ProgramOrder → Result (List Procedure) Fault → Reply → Type 0
 RepliesByBytes order (Ok program) r = RepliesByProgram order program r
 RepliesByBytes order (Err f) r = r ≡ reply (fault_line (fault.fault_number f.no) f.offset) Refused
 
 -- the text is hex digits, two a byte, or isn't
-abbrev pub RepliesByText : Order → Result (List ℕ) FromHexError → Reply → Type 0
+abbrev pub RepliesByText : ProgramOrder → Result (List ℕ) FromHexError → Reply → Type 0
 RepliesByText order (Ok bytes) r = RepliesByBytes order (program_of bytes) r
 RepliesByText order (Err e) r = r ≡ reply (codes "refused H01\n") Refused
 
+-- ---- assembly text
+
+-- The text spells a program, whose bytes are written in hex digits; or it spells none, and its first fault is told.
+abbrev pub RepliesByAssembly : List ℕ → Reply → Type 0
+RepliesByAssembly text r =
+    ((program : List Procedure) × SpellsProgram program text × (r ≡ reply (encode_lower (spelling program) ++ codes "\n") Success))
+    ⊎ ((which : FaultNo) × (line : ℕ) × HasFault text which line × (r ≡ reply (asm_line (asm.fault_number which) line) Refused))
+
+-- ---- an order
+
+-- what is read is assembly text, or the hex text of a program
+abbrev pub RepliesByInput : Order → List ℕ → Reply → Type 0
+RepliesByInput Assemble input r =
+    (IsUtf8 input × RepliesByAssembly input r) ⊎ ((IsUtf8 input → ⊥) × (r ≡ reply (codes "refused H03\n") Refused))
+RepliesByInput (Program order) input r = RepliesByText order (decode_of (digits_in input)) r
+
 -- what a session may answer to an order and the bytes that it reads: too much input is refused before it is looked at
 abbrev pub MayReply : Order → List ℕ → Reply → Type 0
-MayReply order input r = MatchBool (nat_lt most_bytes (length input)) (r ≡ reply (codes "refused H02\n") Refused) (RepliesByText order (decode_of (digits_in input)) r)
+MayReply order input r = MatchBool (nat_lt most_bytes (length input)) (r ≡ reply (codes "refused H02\n") Refused) (RepliesByInput order input r)
 
 -- ---- the words
 

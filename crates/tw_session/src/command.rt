@@ -5,7 +5,10 @@ ghost use Rattle.clap.specs.Words.{app_of, found_of, kind_of, rows_of, rule_of, 
 ghost use Rattle.clap.specs.declared.Command.TheViews.{out-Command};
 ghost use Rattle.clap.specs.declared.error.ErrorKind.TheVariants.{ValueValidation};
 ghost use Rattle.tw_session.specs.CommandLine.{IsAsked, asked_by_words, asked_of, faults_behind, given_words};
-ghost use Rattle.tw_session.specs.CommandLine.{run_asked, check_line, command_line, input_rule, run_line, word_faults};
+ghost use Rattle.tw_session.specs.CommandLine.{bare_line, command_line, input_rule, plain_line, run_asked, run_line, word_faults};
+ghost use Rattle.tw_session.specs.declared.command.Order.TheVariants.{Program};
+ghost use Rattle.tw_session.specs.declared.command.ProgramOrder.TheVariants.{Verified};
+ghost use Rattle.tw_session.specs.declared.command.VerifiedOrder.TheVariants.{Run};
 ghost use Rattle.tw_session.specs.InputWords.{AreSpelled};
 ghost use Rattle.tw_session.specs.Options.{HasActors, limit, number_of, option_faults, option_rule};
 ghost use Rattle.std.specs.Int.{IsInRange};
@@ -20,7 +23,7 @@ use std::alloc::{AllocError, AllocFailed, Global};
 use tw_types::{Input, Items, Layout};
 use tw_words::digits;
 
-const ABOUT: &str = "Checks and runs dataflow programs of the task host.";
+const ABOUT: &str = "Assembles, checks and runs dataflow programs of the task host.";
 
 const RUN_ABOUT: &str = "Runs a program and reports its outputs.
 
@@ -50,6 +53,18 @@ Where it is accepted, a line for each procedure tells how many instructions a ta
 line how many engines and workers its targets need. Exit status: 0 accepted, 1 refused, 2 command line refused,
 5 memory ran out, 7 a read or write failed.";
 
+const ASM_ABOUT: &str = "Turns assembly text into a program.
+
+The text is read from standard input. What is written is the program as hex text, two digits a byte, in one line: what the
+other commands read. A text that spells no program is refused with the number and the line of its first fault.
+Exit status: 0 assembled, 1 refused, 2 command line refused, 5 memory ran out, 7 a read or write failed.";
+
+const DISASM_ABOUT: &str = "Writes a program as assembly text.
+
+The program is read from standard input as hex text: two digits a byte; spaces, tabs and line ends are skipped.
+It need not be one that is accepted. `tw asm` makes the same program of what is written.
+Exit status: 0 written, 1 refused, 2 command line refused, 5 memory ran out, 7 a read or write failed.";
+
 /// How a program is run.
 #[derive(Drop)]
 pub struct RunOrder {
@@ -61,13 +76,31 @@ pub struct RunOrder {
     pub inputs: Items<Input>,
 }
 
+/// What is asked for of a program that is accepted.
+#[derive(Drop)]
+pub enum VerifiedOrder {
+    /// Tell its budgets.
+    Check,
+    /// Run it.
+    Run(RunOrder),
+}
+
+/// What is asked for of a program that is read as hex text.
+#[derive(Drop)]
+pub enum ProgramOrder {
+    /// Write its assembly text.
+    Disassemble,
+    /// Verify it, and where it is accepted do this.
+    Verified(VerifiedOrder),
+}
+
 /// What the words ask for.
 #[derive(Drop)]
 pub enum Order {
-    /// Verify the program that is read.
-    Check,
-    /// Run the program that is read.
-    Run(RunOrder),
+    /// Write the bytes of the program whose assembly text is read.
+    Assemble,
+    /// Do this with the program whose hex text is read.
+    Program(ProgramOrder),
 }
 
 /// Why the words give no order.
@@ -97,11 +130,12 @@ impl<T: Drop> From<AllocFailed<T>> for NoOrder {
     }
 }
 
-fn check_command<'a>(alloc: Global) -> Command<'a>
-    ensures app { app_of result ≡ check_line }
+/// A command without options.
+fn plain_command<'a>(alloc: Global, name: &'a str, about: &'a str) -> Command<'a>
+    ensures app { app_of result ≡ plain_line name.entry.now }
     ensures local { (out-Command result).has_globals ≡ false }
 {
-    Command::new(alloc, "check").about(CHECK_ABOUT)
+    Command::new(alloc, name).about(about)
 }
 
 fn option_arg<'a>(alloc: Global, name: &'a str, help: &'a str) -> Arg<'a>
@@ -131,8 +165,9 @@ fn run_command<'a>(alloc: Global) -> Result<Command<'a>, AllocError>
     Ok(whole)
 }
 
-fn command<'a>(alloc: Global) -> Result<Command<'a>, AllocError>
-    ensures { IfOk result (λ c. app_of c ≡ command_line) }
+/// The program without its commands.
+fn bare_command<'a>(alloc: Global) -> Result<Command<'a>, AllocError>
+    ensures { IfOk result (λ c. app_of c ≡ bare_line) }
 {
     let bare = Command::new(alloc, "tw")
         .about(ABOUT)
@@ -140,7 +175,16 @@ fn command<'a>(alloc: Global) -> Result<Command<'a>, AllocError>
         .disable_help_subcommand(true)
         .subcommand_required(true);
     let named = bare.bin_name("tw")?;
-    let checking = named.subcommand(check_command(alloc))?;
+    Ok(named)
+}
+
+fn command<'a>(alloc: Global) -> Result<Command<'a>, AllocError>
+    ensures { IfOk result (λ c. app_of c ≡ command_line) }
+{
+    let bare = bare_command(alloc)?;
+    let assembling = bare.subcommand(plain_command(alloc, "asm", ASM_ABOUT))?;
+    let both = assembling.subcommand(plain_command(alloc, "disasm", DISASM_ABOUT))?;
+    let checking = both.subcommand(plain_command(alloc, "check", CHECK_ABOUT))?;
     let running = run_command(alloc)?;
     let whole = checking.subcommand(running)?;
     Ok(whole)
@@ -219,9 +263,9 @@ fn inputs_given(alloc: Global, matches: &ArgMatches<'_>) -> Result<Items<Input>,
 }
 
 /// The order to run, by what was found behind `run`.
-fn run_order(alloc: Global, matches: &ArgMatches<'_>) -> Result<Order, NoOrder>
+fn run_order(alloc: Global, matches: &ArgMatches<'_>) -> Result<RunOrder, NoOrder>
     ensures taken { IfOk result (λ order. (option_faults (rows_of (found_of matches.now)) ≡ [])
-        × IsAsked (run_asked (rows_of (found_of matches.now))) order) }
+        × IsAsked (run_asked (rows_of (found_of matches.now))) (Program (Verified (Run order)))) }
     ensures refused { IfErr result
         (HasReason (option_faults (rows_of (found_of matches.now))) (run_asked (rows_of (found_of matches.now)))) }
 {
@@ -232,11 +276,17 @@ fn run_order(alloc: Global, matches: &ArgMatches<'_>) -> Result<Order, NoOrder>
         return Err(NoOrder::Refused);
     };
     let inputs = inputs_given(alloc, matches)?;
-    Ok(Order::Run(RunOrder {
+    Ok(RunOrder {
         layout,
         limit,
         inputs,
-    }))
+    })
+}
+
+fn verified_order(order: VerifiedOrder) -> Order
+    ensures { result ≡ Program (Verified order) }
+{
+    Order::Program(ProgramOrder::Verified(order))
 }
 
 fn order_of(alloc: Global, matches: &ArgMatches<'_>) -> Result<Order, NoOrder>
@@ -246,8 +296,13 @@ fn order_of(alloc: Global, matches: &ArgMatches<'_>) -> Result<Order, NoOrder>
         (HasReason (faults_behind (subcommand_rows_of matches.now)) (asked_of (subcommand_rows_of matches.now))) }
 {
     match matches.subcommand() {
-        Some(("run", given)) => run_order(alloc, given),
-        _ => Ok(Order::Check),
+        Some(("run", given)) => {
+            let order = run_order(alloc, given)?;
+            Ok(verified_order(VerifiedOrder::Run(order)))
+        }
+        Some(("asm", _)) => Ok(Order::Assemble),
+        Some(("disasm", _)) => Ok(Order::Program(ProgramOrder::Disassemble)),
+        _ => Ok(verified_order(VerifiedOrder::Check)),
     }
 }
 

@@ -3,12 +3,14 @@
 ghost use Rattle.std.specs.Prelude.{◌≡◌, ℕ, List, [], ◌∷◌, codes};
 ghost use Rattle.clap.specs.declared.error.ErrorKind.TheVariants.{ArgumentConflict, DisplayHelp, InvalidSubcommand};
 ghost use Rattle.clap.specs.declared.error.ErrorKind.TheVariants.{InvalidValue, UnknownArgument, ValueValidation};
-ghost use Rattle.tw_session.specs.CommandLine.{Checks, Runs, asked_by_words, word_faults};
+ghost use Rattle.tw_session.specs.CommandLine.{Assembles, Checks, Disassembles, Runs, asked_by_words, word_faults};
 ghost use Rattle.tw_session.specs.Options.{actors};
 ghost use Rattle.tw_session.specs.InputWords.{OneInput, OneRefusedWord};
 
 /// Each command is taken, and asks for what its name says, with the options and words behind `run`.
 pub fn commands_are_taken()
+    ensures asm { (word_faults (codes "asm" ∷ []) ≡ []) × (asked_by_words (codes "asm" ∷ []) ≡ Assembles) }
+    ensures disasm { (word_faults (codes "disasm" ∷ []) ≡ []) × (asked_by_words (codes "disasm" ∷ []) ≡ Disassembles) }
     ensures check { (word_faults (codes "check" ∷ []) ≡ []) × (asked_by_words (codes "check" ∷ []) ≡ Checks) }
     ensures run { (word_faults (codes "run" ∷ []) ≡ [])
         × (asked_by_words (codes "run" ∷ []) ≡ Runs (actors 1 1 1) 10000 []) }

@@ -15,7 +15,7 @@ mod report;
 mod shell;
 mod status;
 
-pub use command::{Order, RunOrder};
+pub use command::{Order, ProgramOrder, RunOrder, VerifiedOrder};
 pub use input_words::input_of;
 pub use limit::EventLimit;
 pub use reply::{Reply, reply_to};

@@ -2,7 +2,7 @@
 
 ghost use Rattle.std.specs.Prelude.{◌≡◌, ◌++◌, ◌<◌, ◌+◌, ◌^◌, ◌∷◌, [], OnOk, decimal, length, take};
 ghost use Rattle.std.specs.Fmt.{signed_decimal};
-ghost use Rattle.tw_session.specs.Lines.{fault_line, input_word_line, opening_line, place_text};
+ghost use Rattle.tw_session.specs.Lines.{asm_line, fault_line, input_word_line, opening_line, place_text};
 ghost use Rattle.tw_session.specs.Lines.{trap_line, two_digits, value_text, verify_line};
 
 use std::alloc::{AllocError, Global};
@@ -81,6 +81,22 @@ pub fn put_fault_line(
     put(out, "refused F")?;
     put_two_digits(out, number)?;
     put_numbered(alloc, out, " at byte ", offset)?;
+    put(out, "\n")
+}
+
+/// Adds the line of an assembly text that spells no program.
+pub fn put_asm_line(
+    alloc: Global,
+    out: &mut Vec<u8>,
+    number: u8,
+    line: usize,
+) -> Result<(), AllocError>
+    requires { number < 100 }
+    ensures { OnOk result (out.new.items ≡ out.old.items ++ asm_line number line) }
+{
+    put(out, "refused A")?;
+    put_two_digits(out, number)?;
+    put_numbered(alloc, out, " at line ", line)?;
     put(out, "\n")
 }
 

@@ -1,8 +1,9 @@
 //! What a session answers to the bytes that it reads.
 
-ghost use Rattle.std.specs.Prelude.{◌≡◌, ◌<◌, List, IfOk};
-ghost use Rattle.tw_session.specs.Session.{MayReply, RepliesByAccepted, RepliesByBytes, RepliesByLayout};
-ghost use Rattle.tw_session.specs.Session.{RepliesByOpening, RepliesByProgram, RepliesByText, reply, run_reply};
+ghost use Rattle.std.specs.Prelude.{◌≡◌, ◌<◌, ◌++◌, List, IfOk, codes};
+ghost use Rattle.tw_session.specs.declared.command.Order.TheVariants.{Assemble};
+ghost use Rattle.tw_session.specs.Session.{MayReply, RepliesByAccepted, RepliesByAssembly, RepliesByBytes, RepliesByInput};
+ghost use Rattle.tw_session.specs.Session.{RepliesByLayout, RepliesByOpening, RepliesByProgram, RepliesByText, RepliesByVerified, reply, run_reply};
 ghost use Rattle.tw_session.specs.Input.{digits_in};
 ghost use Rattle.tw_session.specs.Lines.{opening_line};
 ghost use Rattle.tw_types.specs.declared.input.Input.{Input as AnInput};
@@ -13,18 +14,22 @@ ghost use Rattle.tw_code.specs.accepting.WellTyped.{IsAccepted};
 ghost use Rattle.tw_code.specs.machine.Bounds.{AreBelow, opening_bound};
 ghost use Rattle.tw_code.specs.machine.Opening.{opening};
 ghost use Rattle.tw_run.specs.Run.{IsOpened};
-ghost use Rattle.hex.specs.Hex.{decode_of};
+ghost use Rattle.tw_code.specs.format.Spelling.{spelling};
+ghost use Rattle.hex.specs.Hex.{decode_of, encode_lower};
 
 use crate::check::check_text;
-use crate::command::{Order, RunOrder};
+use crate::command::{Order, ProgramOrder, RunOrder, VerifiedOrder};
 use crate::input::{MOST_BYTES, digits};
 use crate::limit::EventLimit;
-use crate::lines::{put, put_fault_line, put_opening_line, put_trap_line, put_verify_line};
+use crate::lines::{
+    put, put_asm_line, put_fault_line, put_opening_line, put_trap_line, put_verify_line,
+};
 use crate::report::put_report;
 use crate::status::Close;
 use hex::FromHexError;
 use std::alloc::{AllocError, Global};
-use tw_code::{FaultNo, Program, decode};
+use tw_asm::{assemble, disassemble};
+use tw_code::{FaultNo, Program, decode, encode};
 use tw_machine::{OpenRefusal, Plain, State};
 use tw_run::{RunEnd, run};
 use tw_verify::{Verified, VerifyRefusal, verify};
@@ -108,7 +113,7 @@ fn opened_reply(
 }
 
 /// Opens and runs an accepted program.
-fn verified_reply(alloc: Global, order: &RunOrder, verified: Verified) -> Result<Reply, AllocError>
+fn run_of(alloc: Global, order: &RunOrder, verified: Verified) -> Result<Reply, AllocError>
     requires { IsAccepted verified.program }
     ensures { IfOk result (λ r. RepliesByOpening verified.program order.now (reply r.text.items r.close)) }
 {
@@ -128,22 +133,30 @@ fn verified_reply(alloc: Global, order: &RunOrder, verified: Verified) -> Result
 }
 
 /// Does what is ordered with an accepted program.
-fn accepted_reply(alloc: Global, order: &Order, verified: Verified) -> Result<Reply, AllocError>
+fn accepted_reply(
+    alloc: Global,
+    order: &VerifiedOrder,
+    verified: Verified,
+) -> Result<Reply, AllocError>
     requires { IsAccepted verified.program }
     ensures { IfOk result (λ r. RepliesByAccepted order.now verified.program (reply r.text.items r.close)) }
 {
     match order {
-        Order::Check => Ok(Reply {
+        VerifiedOrder::Check => Ok(Reply {
             text: check_text(alloc, &verified)?,
             close: Close::Success,
         }),
-        Order::Run(order) => verified_reply(alloc, order, verified),
+        VerifiedOrder::Run(order) => run_of(alloc, order, verified),
     }
 }
 
 /// Verifies a program, and does what is ordered if it is accepted.
-fn program_reply(alloc: Global, order: &Order, program: Program) -> Result<Reply, AllocError>
-    ensures { IfOk result (λ r. RepliesByProgram order.now program (reply r.text.items r.close)) }
+fn verified_reply(
+    alloc: Global,
+    order: &VerifiedOrder,
+    program: Program,
+) -> Result<Reply, AllocError>
+    ensures { IfOk result (λ r. RepliesByVerified order.now program (reply r.text.items r.close)) }
 {
     match verify(alloc, program) {
         Ok(verified) => accepted_reply(alloc, order, verified),
@@ -167,8 +180,24 @@ fn program_reply(alloc: Global, order: &Order, program: Program) -> Result<Reply
     }
 }
 
+/// Writes a program's assembly text, or verifies the program.
+fn program_reply(alloc: Global, order: &ProgramOrder, program: Program) -> Result<Reply, AllocError>
+    ensures { IfOk result (λ r. RepliesByProgram order.now program (reply r.text.items r.close)) }
+{
+    match order {
+        ProgramOrder::Disassemble => match disassemble(alloc, &program) {
+            Ok(text) => Ok(Reply {
+                text: text.into_bytes(),
+                close: Close::Success,
+            }),
+            Err(_) => Err(AllocError),
+        },
+        ProgramOrder::Verified(order) => verified_reply(alloc, order, program),
+    }
+}
+
 /// Decodes bytes, and does what is ordered with the program that they spell.
-fn bytes_reply(alloc: Global, order: &Order, bytes: &[u8]) -> Result<Reply, AllocError>
+fn bytes_reply(alloc: Global, order: &ProgramOrder, bytes: &[u8]) -> Result<Reply, AllocError>
     ensures { IfOk result (λ r. RepliesByBytes order.now (program_of bytes.now) (reply r.text.items r.close)) }
 {
     match decode(alloc, bytes) {
@@ -188,7 +217,7 @@ fn bytes_reply(alloc: Global, order: &Order, bytes: &[u8]) -> Result<Reply, Allo
 }
 
 /// Turns hex text into bytes, and answers to these.
-fn text_reply(alloc: Global, order: &Order, input: Vec<u8>) -> Result<Reply, AllocError>
+fn text_reply(alloc: Global, order: &ProgramOrder, input: Vec<u8>) -> Result<Reply, AllocError>
     ensures { IfOk result (λ r.
         RepliesByText order.now (decode_of (digits_in input.items)) (reply r.text.items r.close)) }
 {
@@ -199,6 +228,51 @@ fn text_reply(alloc: Global, order: &Order, input: Vec<u8>) -> Result<Reply, All
     }
 }
 
+/// A program as hex digits, in one line.
+fn hex_reply(alloc: Global, program: &Program) -> Result<Reply, AllocError>
+    ensures { IfOk result (λ r. reply r.text.items r.close ≡ reply (encode_lower (spelling program.now) ++ codes "\n") Close.Success) }
+{
+    let Ok(bytes) = encode(alloc, program) else {
+        return Err(AllocError);
+    };
+    let mut text = hex::encode(alloc, bytes)?.into_bytes();
+    put(&mut text, "\n")?;
+    Ok(Reply {
+        text,
+        close: Close::Success,
+    })
+}
+
+/// The program of an assembly text as hex digits, or the text's first fault.
+fn assembly_reply(alloc: Global, text: &str) -> Result<Reply, AllocError>
+    ensures { IfOk result (λ r. RepliesByAssembly text.now (reply r.text.items r.close)) }
+{
+    match assemble(alloc, text) {
+        Ok(program) => hex_reply(alloc, &program),
+        Err(fault) => match fault.no {
+            tw_asm::FaultNo::Memory => Err(AllocError),
+            no => {
+                let mut text = Vec::new(alloc);
+                put_asm_line(alloc, &mut text, no.number(), fault.line)?;
+                Ok(Reply {
+                    text,
+                    close: Close::Refused,
+                })
+            }
+        },
+    }
+}
+
+/// The reply to bytes that are to be assembly text.
+fn assembled_reply(alloc: Global, input: Vec<u8>) -> Result<Reply, AllocError>
+    ensures { IfOk result (λ r. RepliesByInput Assemble input.items (reply r.text.items r.close)) }
+{
+    match String::from_utf8(input) {
+        Ok(text) => assembly_reply(alloc, &text),
+        Err(_) => fixed_reply(alloc, "refused H03\n", Close::Refused),
+    }
+}
+
 /// The whole reply to an order and the bytes that were read; refused where memory is.
 pub fn reply_to(alloc: Global, order: &Order, input: Vec<u8>) -> Result<Reply, AllocError>
     ensures { IfOk result (λ r. MayReply order.now input.items (reply r.text.items r.close)) }
@@ -206,5 +280,8 @@ pub fn reply_to(alloc: Global, order: &Order, input: Vec<u8>) -> Result<Reply, A
     if input.len() > MOST_BYTES {
         return fixed_reply(alloc, "refused H02\n", Close::Refused);
     }
-    text_reply(alloc, order, input)
+    match order {
+        Order::Assemble => assembled_reply(alloc, input),
+        Order::Program(order) => text_reply(alloc, order, input),
+    }
 }

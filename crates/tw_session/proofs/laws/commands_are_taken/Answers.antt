@@ -5,4 +5,4 @@ use Rattle.tw_session.proofs.laws.commands_are_taken.Goals as goal
 
 pub returns : goal.returns
 unfolding clap_on_literals command_line
-returns c = record { check = (refl, refl); run = (refl, refl); inputs = (refl, refl); first = λ rest. (refl, refl); before = (refl, refl); between = (refl, refl); behind = (refl, refl) }
+returns c = record { asm = (refl, refl); disasm = (refl, refl); check = (refl, refl); run = (refl, refl); inputs = (refl, refl); first = λ rest. (refl, refl); before = (refl, refl); between = (refl, refl); behind = (refl, refl) }

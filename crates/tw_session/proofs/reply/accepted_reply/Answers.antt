@@ -1,10 +1,10 @@
 use Rattle.std.proofs.Common.{subst, sym}
 use Rattle.std.proofs.lemmas.Result.{IfOk-weaker}
 use Rattle.tw_session.specs.Session.{RepliesByAccepted, reply}
-use Rattle.tw_session.specs.declared.command.Order.{Order}
+use Rattle.tw_session.specs.declared.command.VerifiedOrder.{VerifiedOrder}
 use Rattle.tw_session.specs.declared.reply.Reply.{Reply}
 use Rattle.tw_session.proofs.reply.accepted_reply.Goals as goal
 
 pub returns-in-Run : goal.returns-in-Run
 returns-in-Run c =
-    IfOk-weaker _ _ _ (λ (r : Reply) h. subst (λ (o : Order). RepliesByAccepted o c.args.verified.program (reply r.text.items r.close)) (sym c.in-Run.is) h) c.verified_reply.ensures
+    IfOk-weaker _ _ _ (λ (r : Reply) h. subst (λ (o : VerifiedOrder). RepliesByAccepted o c.args.verified.program (reply r.text.items r.close)) (sym c.in-Run.is) h) c.run_of.ensures
