@@ -1,9 +1,0 @@
-use Rattle.std.proofs.Common.{List, inl, subst}
-use Rattle.std.proofs.lemmas.Result.{IfOk-weaker}
-use Rattle.tw_code.specs.declared.procedure.Procedure.{Procedure}
-use Rattle.tw_session.specs.Session.{RepliesByAccepted, reply}
-use Rattle.tw_session.proofs.reply.program_reply.Goals as goal
-
-pub returns-in-Ok : goal.returns-in-Ok
-returns-in-Ok c =
-    IfOk-weaker _ _ _ (λ r h. inl (c.in-Ok.ensures.sound, subst (λ (p : List Procedure). RepliesByAccepted c.args.order.now p (reply r.text.items r.close)) c.in-Ok.ensures.kept h)) c.accepted_reply.ensures
