@@ -1,4 +1,4 @@
 pub mod Rising
 pub mod Order
-pub mod TreeAt
+pub mod Sides
 pub mod Entries

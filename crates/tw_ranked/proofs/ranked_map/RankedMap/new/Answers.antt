@@ -3,4 +3,4 @@ use Rattle.tw_ranked.proofs.Entries.{nothing_seen}
 use Rattle.tw_ranked.proofs.ranked_map.RankedMap.new.Goals as goal
 
 pub returns : goal.returns
-returns g c = nothing_seen _ (ap (λ s. s.entries) c.new.ensures)
+returns g c = nothing_seen _ c.new.ensures
