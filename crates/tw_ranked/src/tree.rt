@@ -122,17 +122,17 @@ impl<V: Copy> Tree<V> {
         match key.cmp(&own.0) {
             Ordering::Less => {
                 let done = before.insert(alloc, key, value);
-                *self = balanced(before, own, after);
+                self.rebuild(before, own, after);
                 done
             }
             Ordering::Equal => {
                 own.1 = value;
-                *self = fork(before, own, after);
+                self.rebuild(before, own, after);
                 Ok(())
             }
             Ordering::Greater => {
                 let done = after.insert(alloc, key, value);
-                *self = balanced(before, own, after);
+                self.rebuild(before, own, after);
                 done
             }
         }
@@ -150,10 +150,21 @@ impl<V: Copy> Tree<V> {
         Ok(())
     }
 
+    /// Makes it of these, where one side may have one entry too many.
+    fn rebuild(&mut self, before: Box<Tree<V>>, own: (i64, V), after: Box<Tree<V>>)
+        requires room { length before.value + length after.value < 2 ^ 64 - 1 }
+        requires near { AreNearlyEven (length before.value) (length after.value) }
+        ensures entries { self.new ≡ before.value ++ own ∷ after.value }
+        ensures len { length self.new ≡ length before.value + length after.value + 1 }
+    {
+        *self = balanced(before, own, after);
+    }
+
     /// An entry of this tree, with the trees before and after it.
     fn take_apart(&mut self) -> (Box<Tree<V>>, (i64, V), Box<Tree<V>>)
         requires { 0 < length self.old }
         ensures entries { self.old ≡ result.0.value ++ result.1 ∷ result.2.value }
+        ensures len { length self.old ≡ length result.0.value + length result.2.value + 1 }
         ensures even { AreEven (length result.0.value) (length result.2.value) }
     {
         let Node::Fork {
@@ -172,7 +183,8 @@ impl<V: Copy> Tree<V> {
 fn fork<V: Copy>(before: Box<Tree<V>>, own: (i64, V), after: Box<Tree<V>>) -> Tree<V>
     requires room { length before.value + length after.value < 2 ^ 64 - 1 }
     requires even { AreEven (length before.value) (length after.value) }
-    ensures { result ≡ before.value ++ own ∷ after.value }
+    ensures entries { result ≡ before.value ++ own ∷ after.value }
+    ensures len { length result ≡ length before.value + length after.value + 1 }
 {
     let len = before.len() + after.len() + 1;
     Tree {
@@ -189,7 +201,8 @@ fn fork<V: Copy>(before: Box<Tree<V>>, own: (i64, V), after: Box<Tree<V>>) -> Tr
 fn balanced<V: Copy>(before: Box<Tree<V>>, own: (i64, V), after: Box<Tree<V>>) -> Tree<V>
     requires room { length before.value + length after.value < 2 ^ 64 - 1 }
     requires near { AreNearlyEven (length before.value) (length after.value) }
-    ensures { result ≡ before.value ++ own ∷ after.value }
+    ensures entries { result ≡ before.value ++ own ∷ after.value }
+    ensures len { length result ≡ length before.value + length after.value + 1 }
 {
     let (left, right) = (before.len(), after.len());
     if left / 3 > right {
@@ -205,7 +218,8 @@ fn balanced<V: Copy>(before: Box<Tree<V>>, own: (i64, V), after: Box<Tree<V>>) -
 fn lean_left<V: Copy>(mut before: Box<Tree<V>>, own: (i64, V), after: Box<Tree<V>>) -> Tree<V>
     requires room { length before.value + length after.value < 2 ^ 64 - 1 }
     requires heavy { length before.value ≡ 3 * (length after.value + 1) }
-    ensures { result ≡ before.value ++ own ∷ after.value }
+    ensures entries { result ≡ before.value ++ own ∷ after.value }
+    ensures len { length result ≡ length before.value + length after.value + 1 }
 {
     let (first, own_1, inner) = leaning_left(&mut before);
     *before = fork(inner, own, after);
@@ -216,6 +230,7 @@ fn lean_left<V: Copy>(mut before: Box<Tree<V>>, own: (i64, V), after: Box<Tree<V
 fn leaning_left<V: Copy>(tree: &mut Tree<V>) -> (Box<Tree<V>>, (i64, V), Box<Tree<V>>)
     requires { (0 < length tree.old) × (length tree.old < 2 ^ 64) }
     ensures entries { tree.old ≡ result.0.value ++ result.1 ∷ result.2.value }
+    ensures len { length tree.old ≡ length result.0.value + length result.2.value + 1 }
     ensures second { length result.2.value ≤ 2 * length result.0.value + 1 }
     ensures first { length result.0.value ≤ 8 * (length result.2.value + 1) }
 {
@@ -232,7 +247,8 @@ fn leaning_left<V: Copy>(tree: &mut Tree<V>) -> (Box<Tree<V>>, (i64, V), Box<Tre
 fn lean_right<V: Copy>(before: Box<Tree<V>>, own: (i64, V), mut after: Box<Tree<V>>) -> Tree<V>
     requires room { length before.value + length after.value < 2 ^ 64 - 1 }
     requires heavy { length after.value ≡ 3 * (length before.value + 1) }
-    ensures { result ≡ before.value ++ own ∷ after.value }
+    ensures entries { result ≡ before.value ++ own ∷ after.value }
+    ensures len { length result ≡ length before.value + length after.value + 1 }
 {
     let (inner, own_1, last) = leaning_right(&mut after);
     *after = fork(before, own, inner);
@@ -243,6 +259,7 @@ fn lean_right<V: Copy>(before: Box<Tree<V>>, own: (i64, V), mut after: Box<Tree<
 fn leaning_right<V: Copy>(tree: &mut Tree<V>) -> (Box<Tree<V>>, (i64, V), Box<Tree<V>>)
     requires { (0 < length tree.old) × (length tree.old < 2 ^ 64) }
     ensures entries { tree.old ≡ result.0.value ++ result.1 ∷ result.2.value }
+    ensures len { length tree.old ≡ length result.0.value + length result.2.value + 1 }
     ensures first { length result.0.value ≤ 2 * length result.2.value + 1 }
     ensures second { length result.2.value ≤ 8 * (length result.0.value + 1) }
 {
