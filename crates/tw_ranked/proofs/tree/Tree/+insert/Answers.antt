@@ -1,4 +1,4 @@
-use Rattle.std.proofs.Common.{◌≡◌, T, ◌++◌, ◌∷◌, sym, ap, ◌∙◌, arith, to_z-of_z, to_z, of_z, w64}
+use Rattle.std.proofs.Common.{◌≡◌, T, length, ◌++◌, ◌∷◌, sym, ap, ◌∙◌, arith, to_z-of_z, to_z, of_z, w64}
 use Rattle.std.specs.FinMap.{is_sorted, put}
 use Rattle.std.specs.Ordering.{int_cmp}
 use Rattle.tw_ranked.proofs.Sides.{if_done, if_refused, put_on_left, put_on_right, put_on_own}
@@ -39,3 +39,27 @@ returns-in-Greater-clause-refused g t c =
     let kept : c.insert-done-in-Greater.new.self ≡ c.deref_mut-in-Greater.result.now → c.rebuild-in-Greater.new.self ≡ c.args.self.now =
     λ e. c.rebuild-in-Greater.ensures.entries ∙ ap (λ es. p.0.value ++ p.1 ∷ es) (e ∙ c.deref_mut-in-Greater.ensures.value) ∙ sym c.take_apart-before.ensures.entries in
     if_refused c.insert-done-in-Greater.result kept c.insert-done-in-Greater.ensures.refused
+
+pub returns-in-Less-clause-not_shorter : goal.returns-in-Less-clause-not_shorter
+returns-in-Less-clause-not_shorter g t c = omega (arith, ap length c.deref_mut.ensures.value)
+
+pub returns-in-Less-clause-one_longer_at_most : goal.returns-in-Less-clause-one_longer_at_most
+returns-in-Less-clause-one_longer_at_most g t c = omega (arith, ap length c.deref_mut.ensures.value)
+
+pub rebuild-requires-clause-room : goal.rebuild-requires-clause-room
+rebuild-requires-clause-room g t c = omega (arith, ap length c.deref_mut.ensures.value)
+
+pub rebuild-requires-clause-near : goal.rebuild-requires-clause-near
+rebuild-requires-clause-near g t c = (omega (arith, ap length c.deref_mut.ensures.value), omega (arith, ap length c.deref_mut.ensures.value))
+
+pub returns-in-Greater-clause-not_shorter : goal.returns-in-Greater-clause-not_shorter
+returns-in-Greater-clause-not_shorter g t c = omega (arith, ap length c.deref_mut-in-Greater.ensures.value)
+
+pub returns-in-Greater-clause-one_longer_at_most : goal.returns-in-Greater-clause-one_longer_at_most
+returns-in-Greater-clause-one_longer_at_most g t c = omega (arith, ap length c.deref_mut-in-Greater.ensures.value)
+
+pub rebuild-requires-in-Greater-clause-room : goal.rebuild-requires-in-Greater-clause-room
+rebuild-requires-in-Greater-clause-room g t c = omega (arith, ap length c.deref_mut-in-Greater.ensures.value)
+
+pub rebuild-requires-in-Greater-clause-near : goal.rebuild-requires-in-Greater-clause-near
+rebuild-requires-in-Greater-clause-near g t c = (omega (arith, ap length c.deref_mut-in-Greater.ensures.value), omega (arith, ap length c.deref_mut-in-Greater.ensures.value))
