@@ -9,7 +9,6 @@ ghost use Rattle.tw_types.specs.StoreCalls.{value_in, members_in, set_to, one_re
 ghost use Rattle.tw_types.specs.StoreChecks.{is_unset};
 ghost use Rattle.tw_data.specs.Content.{ids_in, members_if, content_of, closed_datum, FitsType};
 
-use smallvec::SmallVec;
 use std::alloc::{AllocError, Global};
 use std::marker::Model;
 use tw_ranked::RankedMap;
@@ -33,7 +32,7 @@ pub struct Datum {
     content: Content,
     reads: u64,
     writes: u64,
-    subscribers: SmallVec<Subscriber, 2>,
+    subscribers: Vec<Subscriber>,
 }
 
 impl Model for Datum {
@@ -67,7 +66,7 @@ impl Datum {
             content,
             reads: 1,
             writes: 1,
-            subscribers: SmallVec::new(alloc),
+            subscribers: Vec::new(alloc),
         }
     }
 
@@ -81,7 +80,7 @@ impl Datum {
             content,
             reads: 1,
             writes: 0,
-            subscribers: SmallVec::new(alloc),
+            subscribers: Vec::new(alloc),
         }
     }
 

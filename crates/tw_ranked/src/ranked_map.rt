@@ -24,9 +24,9 @@ impl<V> Model for RankedMap<V> {
 
     ghost coded = { code coded_ℤ V.code };
 
-    ghost view = { λ m. from_sorted {R = int_cmp} m.tree.entries };
+    ghost view = { λ m. from_sorted {R = int_cmp} m.tree };
 
-    ghost invariant = { λ m. T (is_sorted int_cmp m.tree.entries) };
+    ghost invariant = { λ m. T (is_sorted int_cmp m.tree) };
 }
 
 impl<V: Copy> RankedMap<V> {

@@ -1,24 +1,16 @@
-//! A search tree of entries by their keys. The heights of a node's sides differ by one at most (an AVL tree, after
-//! Adelson-Velsky and Landis, 1962), and each node knows how many entries it has: so a key and an index are found in a
-//! number of steps that grows as the logarithm of the number of entries.
+//! A search tree of entries by their keys. Each node knows how many entries it has, and neither side of a node is more than
+//! three times as heavy as the other, where a side weighs one more than it has entries (after Nievergelt and Reingold,
+//! 1973): so a key and an index are found in a number of steps that grows as the logarithm of the number of entries.
 
-ghost use Rattle.std.specs.Prelude.{◌≡◌, ◌+◌, ◌-◌, ◌^◌, ◌<◌, ◌≤◌, length, slice_get, OnOk, OnErr, T};
+ghost use Rattle.std.specs.Prelude.{◌≡◌, ◌+◌, ◌-◌, ◌*◌, ◌^◌, ◌<◌, ◌≤◌, [], ◌∷◌, ◌++◌, length, slice_get, OnOk, OnErr, T};
 ghost use Rattle.std.specs.FinMap.{find, put, is_sorted};
 ghost use Rattle.std.specs.Ordering.{int_cmp};
-ghost use Rattle.tw_ranked.specs.Tree.{empty, seen, joined, higher, IsBalanced, IsNearlyBalanced, RebalancesTo};
-ghost use Rattle.tw_ranked.specs.declared.tree.Node.TheVariants.{Fork};
+ghost use Rattle.tw_ranked.specs.Tree.{AreEven, AreNearlyEven};
 
 use std::alloc::{AllocError, Global};
 use std::cmp::Ordering;
 use std::marker::Model;
 use std::mem;
-
-/// A value at its key.
-#[derive(Clone, Copy)]
-struct Entry<V> {
-    key: i64,
-    value: V,
-}
 
 /// Entries, each with a key of its own.
 #[cycle(tree)]
@@ -31,21 +23,19 @@ pub struct Tree<V> {
 #[derive(Drop)]
 enum Node<V> {
     Leaf,
-    /// One entry between those before and after it, with the number of all three and the height.
+    /// One entry between those before and after it, with the number of all three.
     Fork {
         before: Box<Tree<V>>,
-        own: Entry<V>,
+        own: (i64, V),
         len: usize,
-        height: usize,
         after: Box<Tree<V>>,
     },
 }
 
 impl<V> Model for Tree<V> {
-    ghost use Rattle.std.specs.Prelude.{length};
-    ghost use Rattle.tw_ranked.specs.Seen.{Seen};
+    ghost use Rattle.std.specs.Prelude.{List, ℤ, length};
 
-    ghost Value = { Seen V };
+    ghost Value = { List (ℤ × V) };
 
     ghost use Rattle.tw_ranked.specs.Tree.{seen, IsBalanced};
 
@@ -53,7 +43,7 @@ impl<V> Model for Tree<V> {
 
     ghost invariant = { λ t. IsBalanced t.node };
 
-    ghost size = { λ s. length s.entries };
+    ghost size = { length };
 
     ghost use Rattle.std.proofs.Common.{arith, length-append};
 
@@ -62,13 +52,13 @@ impl<V> Model for Tree<V> {
 
 impl<V: Copy> Tree<V> {
     pub fn new() -> Tree<V>
-        ensures { result ≡ empty }
+        ensures { result ≡ [] }
     {
         Tree { node: Node::Leaf }
     }
 
     pub fn len(&self) -> usize
-        ensures { result ≡ length self.now.entries }
+        ensures { result ≡ length self.now }
     {
         match self.node {
             Node::Leaf => 0,
@@ -76,19 +66,9 @@ impl<V: Copy> Tree<V> {
         }
     }
 
-    fn height(&self) -> usize
-        ensures height { result ≡ self.now.height }
-        ensures low { result ≤ length self.now.entries }
-    {
-        match self.node {
-            Node::Leaf => 0,
-            Node::Fork { height, .. } => height,
-        }
-    }
-
     /// The value at a key.
     pub fn get(&self, key: i64) -> Option<V>
-        ensures { result ≡ find int_cmp key self.now.entries }
+        ensures { T (is_sorted int_cmp self.now) → result ≡ find int_cmp key self.now }
     {
         match &self.node {
             Node::Leaf => None,
@@ -97,9 +77,9 @@ impl<V: Copy> Tree<V> {
                 own,
                 after,
                 ..
-            } => match key.cmp(&own.key) {
+            } => match key.cmp(&own.0) {
                 Ordering::Less => before.get(key),
-                Ordering::Equal => Some(own.value),
+                Ordering::Equal => Some(own.1),
                 Ordering::Greater => after.get(key),
             },
         }
@@ -107,7 +87,7 @@ impl<V: Copy> Tree<V> {
 
     /// The entry with so many smaller keys.
     pub fn nth(&self, index: usize) -> Option<(i64, V)>
-        ensures { result ≡ slice_get self.now.entries index }
+        ensures { result ≡ slice_get self.now index }
     {
         match &self.node {
             Node::Leaf => None,
@@ -120,7 +100,7 @@ impl<V: Copy> Tree<V> {
                 let place = before.len();
                 match index.cmp(&place) {
                     Ordering::Less => before.nth(index),
-                    Ordering::Equal => Some((own.key, own.value)),
+                    Ordering::Equal => Some(*own),
                     Ordering::Greater => after.nth(index - place - 1),
                 }
             }
@@ -129,166 +109,165 @@ impl<V: Copy> Tree<V> {
 
     /// Puts a value at a key.
     pub fn insert(&mut self, alloc: Global, key: i64, value: V) -> Result<(), AllocError>
-        requires room { length self.old.entries < 2 ^ 64 - 1 }
-        ensures added { OnOk result (self.new.entries ≡ put int_cmp key value self.old.entries) }
+        requires room { length self.old < 2 ^ 64 - 1 }
+        ensures added { OnOk result (T (is_sorted int_cmp self.old) → self.new ≡ put int_cmp key value self.old) }
         ensures refused { OnErr result (self.new ≡ self.old) }
-        ensures not_lower { self.old.height ≤ self.new.height }
-        ensures one_higher_at_most { self.new.height ≤ self.old.height + 1 }
+        ensures not_shorter { length self.old ≤ length self.new }
+        ensures one_longer_at_most { length self.new ≤ length self.old + 1 }
     {
-        match &mut self.node {
-            Node::Leaf => {
-                let before = Box::new(alloc, Tree::new())?;
-                let after = Box::new(alloc, Tree::new())?;
-                self.node = Node::Fork {
-                    before,
-                    own: Entry { key, value },
-                    len: 1,
-                    height: 1,
-                    after,
-                };
-                return Ok(());
-            }
-            Node::Fork {
-                before,
-                own,
-                after,
-                ..
-            } => match key.cmp(&own.key) {
-                Ordering::Less => before.insert(alloc, key, value)?,
-                Ordering::Equal => own.value = value,
-                Ordering::Greater => after.insert(alloc, key, value)?,
-            },
+        if self.len() == 0 {
+            return self.fill(alloc, (key, value));
         }
-        rebalance(&mut self.node);
+        let (mut before, mut own, mut after) = self.take_apart();
+        match key.cmp(&own.0) {
+            Ordering::Less => {
+                let done = before.insert(alloc, key, value);
+                self.rebuild(before, own, after);
+                done
+            }
+            Ordering::Equal => {
+                own.1 = value;
+                self.rebuild(before, own, after);
+                Ok(())
+            }
+            Ordering::Greater => {
+                let done = after.insert(alloc, key, value);
+                self.rebuild(before, own, after);
+                done
+            }
+        }
+    }
+
+    /// Puts the first entry.
+    fn fill(&mut self, alloc: Global, own: (i64, V)) -> Result<(), AllocError>
+        requires { length self.old ≡ 0 }
+        ensures added { OnOk result (self.new ≡ own ∷ []) }
+        ensures refused { OnErr result (self.new ≡ self.old) }
+    {
+        let before = Box::new(alloc, Tree::new())?;
+        let after = Box::new(alloc, Tree::new())?;
+        *self = fork(before, own, after);
         Ok(())
     }
 
-    fn open(self) -> Node<V>
-        ensures same { seen result ≡ self }
-        ensures balanced { IsBalanced result }
+    /// Makes it of these, where one side may have one entry too many.
+    fn rebuild(&mut self, before: Box<Tree<V>>, own: (i64, V), after: Box<Tree<V>>)
+        requires room { length before.value + length after.value < 2 ^ 64 - 1 }
+        requires near { AreNearlyEven (length before.value) (length after.value) }
+        ensures entries { self.new ≡ before.value ++ own ∷ after.value }
+        ensures len { length self.new ≡ length before.value + length after.value + 1 }
     {
-        self.node
+        *self = balanced(before, own, after);
     }
 
-    fn close(node: Node<V>) -> Tree<V>
-        requires { IsBalanced node }
-        ensures { result ≡ seen node }
+    /// An entry of this tree, with the trees before and after it.
+    fn take_apart(&mut self) -> (Box<Tree<V>>, (i64, V), Box<Tree<V>>)
+        requires { 0 < length self.old }
+        ensures entries { self.old ≡ result.0.value ++ result.1 ∷ result.2.value }
+        ensures len { length self.old ≡ length result.0.value + length result.2.value + 1 }
+        ensures even { AreEven (length result.0.value) (length result.2.value) }
     {
-        Tree { node }
-    }
-}
-
-/// Balances a node whose sides differ in height by two at most.
-fn rebalance<V: Copy>(node: &mut Node<V>)
-    requires { IsNearlyBalanced node.old }
-    ensures { RebalancesTo node.old node.new }
-{
-    *node = match mem::replace(node, Node::Leaf) {
-        Node::Leaf => Node::Leaf,
-        Node::Fork {
+        let Node::Fork {
             before,
             own,
             after,
             ..
-        } => {
-            let (left, right) = (before.height(), after.height());
-            if left > right + 1 {
-                lean_left(before, own, after)
-            } else if right > left + 1 {
-                lean_right(before, own, after)
-            } else {
-                fork(before, own, after)
-            }
-        }
-    };
+        } = mem::replace(&mut self.node, Node::Leaf)
+        else {
+            unreachable!()
+        };
+        (before, own, after)
+    }
 }
 
-fn fork<V: Copy>(before: Box<Tree<V>>, own: Entry<V>, after: Box<Tree<V>>) -> Node<V>
-    requires room { length before.value.entries + length after.value.entries < 2 ^ 64 - 1 }
-    ensures fork { result ≡ Fork before own (length before.value.entries + length after.value.entries + 1) (higher before.value after.value) after }
-    ensures low { higher before.value after.value ≤ length before.value.entries + length after.value.entries + 1 }
+fn fork<V: Copy>(before: Box<Tree<V>>, own: (i64, V), after: Box<Tree<V>>) -> Tree<V>
+    requires room { length before.value + length after.value < 2 ^ 64 - 1 }
+    requires even { AreEven (length before.value) (length after.value) }
+    ensures entries { result ≡ before.value ++ own ∷ after.value }
+    ensures len { length result ≡ length before.value + length after.value + 1 }
 {
     let len = before.len() + after.len() + 1;
-    let height = before.height().max(after.height()) + 1;
-    Node::Fork {
-        before,
-        own,
-        len,
-        height,
-        after,
+    Tree {
+        node: Node::Fork {
+            before,
+            own,
+            len,
+            after,
+        },
     }
 }
 
-/// Turns a node whose left side is two higher to the right.
-fn lean_left<V: Copy>(mut before: Box<Tree<V>>, own: Entry<V>, after: Box<Tree<V>>) -> Node<V>
-    requires sorted { T (is_sorted int_cmp (joined before.value own after.value)) }
-    requires two_higher { before.value.height ≡ after.value.height + 2 }
-    requires room { length before.value.entries + length after.value.entries < 2 ^ 64 - 1 }
-    ensures balanced { IsBalanced result }
-    ensures entries { (seen result).entries ≡ joined before.value own after.value }
-    ensures not_lower { before.value.height ≤ (seen result).height }
-    ensures one_higher_at_most { (seen result).height ≤ before.value.height + 1 }
+/// A tree of these, where one side may have one entry too many.
+fn balanced<V: Copy>(before: Box<Tree<V>>, own: (i64, V), after: Box<Tree<V>>) -> Tree<V>
+    requires room { length before.value + length after.value < 2 ^ 64 - 1 }
+    requires near { AreNearlyEven (length before.value) (length after.value) }
+    ensures entries { result ≡ before.value ++ own ∷ after.value }
+    ensures len { length result ≡ length before.value + length after.value + 1 }
 {
-    let Node::Fork {
-        before: first,
-        own: own_1,
-        after: mut inner,
-        ..
-    } = mem::replace(&mut *before, Tree::new()).open()
-    else {
-        unreachable!()
-    };
-    if first.height() >= inner.height() {
-        *before = Tree::close(fork(inner, own, after));
-        return fork(first, own_1, before);
+    let (left, right) = (before.len(), after.len());
+    if left / 3 > right {
+        lean_left(before, own, after)
+    } else if right / 3 > left {
+        lean_right(before, own, after)
+    } else {
+        fork(before, own, after)
     }
-    let Node::Fork {
-        before: second,
-        own: own_2,
-        after: third,
-        ..
-    } = mem::replace(&mut *inner, Tree::new()).open()
-    else {
-        unreachable!()
-    };
-    *inner = Tree::close(fork(first, own_1, second));
-    *before = Tree::close(fork(third, own, after));
-    fork(inner, own_2, before)
 }
 
-/// Turns a node whose right side is two higher to the left.
-fn lean_right<V: Copy>(before: Box<Tree<V>>, own: Entry<V>, mut after: Box<Tree<V>>) -> Node<V>
-    requires sorted { T (is_sorted int_cmp (joined before.value own after.value)) }
-    requires two_higher { after.value.height ≡ before.value.height + 2 }
-    requires room { length before.value.entries + length after.value.entries < 2 ^ 64 - 1 }
-    ensures balanced { IsBalanced result }
-    ensures entries { (seen result).entries ≡ joined before.value own after.value }
-    ensures not_lower { after.value.height ≤ (seen result).height }
-    ensures one_higher_at_most { (seen result).height ≤ after.value.height + 1 }
+/// Turns what is too heavy on its left side to the right.
+fn lean_left<V: Copy>(mut before: Box<Tree<V>>, own: (i64, V), after: Box<Tree<V>>) -> Tree<V>
+    requires room { length before.value + length after.value < 2 ^ 64 - 1 }
+    requires heavy { length before.value ≡ 3 * (length after.value + 1) }
+    ensures entries { result ≡ before.value ++ own ∷ after.value }
+    ensures len { length result ≡ length before.value + length after.value + 1 }
 {
-    let Node::Fork {
-        before: mut inner,
-        own: own_1,
-        after: last,
-        ..
-    } = mem::replace(&mut *after, Tree::new()).open()
-    else {
-        unreachable!()
-    };
-    if last.height() >= inner.height() {
-        *after = Tree::close(fork(before, own, inner));
-        return fork(after, own_1, last);
+    let (first, own_1, inner) = leaning_left(&mut before);
+    *before = fork(inner, own, after);
+    fork(first, own_1, before)
+}
+
+/// Takes a tree apart, where the second part may not be much heavier than the first.
+fn leaning_left<V: Copy>(tree: &mut Tree<V>) -> (Box<Tree<V>>, (i64, V), Box<Tree<V>>)
+    requires { (0 < length tree.old) × (length tree.old < 2 ^ 64) }
+    ensures entries { tree.old ≡ result.0.value ++ result.1 ∷ result.2.value }
+    ensures len { length tree.old ≡ length result.0.value + length result.2.value + 1 }
+    ensures second { length result.2.value ≤ 2 * length result.0.value + 1 }
+    ensures first { length result.0.value ≤ 8 * (length result.2.value + 1) }
+{
+    let (first, own, mut inner) = tree.take_apart();
+    if inner.len() / 2 <= first.len() {
+        return (first, own, inner);
     }
-    let Node::Fork {
-        before: first,
-        own: own_2,
-        after: second,
-        ..
-    } = mem::replace(&mut *inner, Tree::new()).open()
-    else {
-        unreachable!()
-    };
-    *after = Tree::close(fork(before, own, first));
-    *inner = Tree::close(fork(second, own_1, last));
-    fork(after, own_2, inner)
+    let (second, own_1, third) = inner.take_apart();
+    *inner = fork(first, own, second);
+    (inner, own_1, third)
+}
+
+/// Turns what is too heavy on its right side to the left.
+fn lean_right<V: Copy>(before: Box<Tree<V>>, own: (i64, V), mut after: Box<Tree<V>>) -> Tree<V>
+    requires room { length before.value + length after.value < 2 ^ 64 - 1 }
+    requires heavy { length after.value ≡ 3 * (length before.value + 1) }
+    ensures entries { result ≡ before.value ++ own ∷ after.value }
+    ensures len { length result ≡ length before.value + length after.value + 1 }
+{
+    let (inner, own_1, last) = leaning_right(&mut after);
+    *after = fork(before, own, inner);
+    fork(after, own_1, last)
+}
+
+/// Takes a tree apart, where the first part may not be much heavier than the second.
+fn leaning_right<V: Copy>(tree: &mut Tree<V>) -> (Box<Tree<V>>, (i64, V), Box<Tree<V>>)
+    requires { (0 < length tree.old) × (length tree.old < 2 ^ 64) }
+    ensures entries { tree.old ≡ result.0.value ++ result.1 ∷ result.2.value }
+    ensures len { length tree.old ≡ length result.0.value + length result.2.value + 1 }
+    ensures first { length result.0.value ≤ 2 * length result.2.value + 1 }
+    ensures second { length result.2.value ≤ 8 * (length result.0.value + 1) }
+{
+    let (mut inner, own, last) = tree.take_apart();
+    if inner.len() / 2 <= last.len() {
+        return (inner, own, last);
+    }
+    let (first, own_1, second) = inner.take_apart();
+    *inner = fork(second, own, last);
+    (first, own_1, inner)
 }

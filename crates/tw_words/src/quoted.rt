@@ -1,6 +1,6 @@
 //! Texts between quotes.
 
-ghost use Rattle.std.specs.Prelude.{◌≡◌, ◌++◌, ◌<◌, ℕ, List, IfOk, IsUtf8, MatchOption, OnOk, string_bytes};
+ghost use Rattle.std.specs.Prelude.{◌≡◌, ◌++◌, ◌<◌, [], ℕ, List, IfOk, IsUtf8, MatchOption, OnOk, string_bytes};
 ghost use Rattle.std.specs.Option.{option_map};
 ghost use Rattle.tw_words.specs.Quoted.{BeginsQuoted, escaped, hex_digit, quoted};
 ghost use Rattle.tw_words.specs.declared.escape.Escape.TheVariants.{Nothing};
@@ -10,17 +10,17 @@ use crate::escape::{Escape, Says, read_byte};
 use crate::first::after;
 use std::alloc::{AllocError, Global};
 
-/// The bytes of a text up to its closing quote, and what follows that.
-fn inside(alloc: Global, bytes: &[u8]) -> Result<Option<(Vec<u8>, &[u8])>, AllocError>
-    ensures { IfOk result (λ read. option_map (λ x. (x.0.items, x.1.now)) read ≡ inside_from Nothing bytes.now) }
+/// Adds the bytes of a text up to its closing quote, and gives what follows that.
+fn inside<'a>(text: &mut Vec<u8>, bytes: &'a [u8]) -> Result<Option<&'a [u8]>, AllocError>
+    requires { text.old.items ≡ [] }
+    ensures { IfOk result (λ read. option_map (λ rest. (text.new.items, rest.now)) read ≡ inside_from Nothing bytes.entry.now) }
 {
-    let mut text = Vec::new(alloc);
     let mut escape = Escape::Nothing;
     let mut count = 0;
     for byte in bytes {
         count += 1;
         match read_byte(escape, *byte) {
-            Says::End => return Ok(Some((text, &bytes[count..]))),
+            Says::End => return Ok(Some(&bytes[count..])),
             Says::Wrong => return Ok(None),
             Says::Into(next) => escape = next,
             Says::Byte(whole) => {
@@ -43,9 +43,10 @@ pub fn quoted_text(alloc: Global, bytes: &[u8]) -> Result<Option<(String, &[u8])
     let Some(opened) = after(b"\"", bytes) else {
         return Ok(None);
     };
-    match inside(alloc, opened)? {
+    let mut text = Vec::new(alloc);
+    match inside(&mut text, opened)? {
         None => Ok(None),
-        Some((text, rest)) => match String::from_utf8(text) {
+        Some(rest) => match String::from_utf8(text) {
             Ok(text) => Ok(Some((text, rest))),
             Err(_) => unreachable!(),
         },

@@ -7,4 +7,4 @@ use Rattle.tw_ranked.proofs.ranked_map.RankedMap.get.Goals as goal
 pub returns : goal.returns
 returns g c =
     let key : to_z w64 (of_z w64 c.args.key) ≡ c.args.key = grind (arith, to_z-of_z) in
-    c.get.ensures ∙ ap (λ k. find int_cmp k c.self.inside.tree.entries) key ∙ sym (get-from_sorted int_cmp c.self.inside.tree.entries c.args.key c.self.invariant) ∙ ap (λ m. map.get m c.args.key) c.self.view_is
+    c.get.ensures c.self.invariant ∙ ap (λ k. find int_cmp k c.self.inside.tree) key ∙ sym (get-from_sorted int_cmp c.self.inside.tree c.args.key c.self.invariant) ∙ ap (λ m. map.get m c.args.key) c.self.view_is
