@@ -9,7 +9,7 @@ use Rattle.std.specs.List.{Contains}
 use Rattle.std.specs.List.Sorted.{IsPermutation}
 use Rattle.std.specs.BinaryHeap.{IsUpperBound}
 use Rattle.std.proofs.lemmas.List.Elements.{Contains-append_left, Contains-append_right}
-use Rattle.std.proofs.lemmas.List.Sorted.{IsPermutation-append_right, IsPermutation-middle, IsPermutation-refl, IsPermutation-sym, IsPermutation-trans}
+use Rattle.std.proofs.lemmas.List.Sorted.{IsPermutation-append_right, IsPermutation-middle, IsPermutation-sym, IsPermutation-trans}
 use Rattle.tw_queue.specs.declared.rank.Rank.{Rank}
 use Rattle.tw_queue.specs.Ranks.{rank_cmp}
 use Rattle.tw_queue.specs.Places.{IsFirst, IsInFront, IsInOrder}
@@ -81,10 +81,6 @@ module _ (run rest : List Rank) where
   run_shows is front None item = none_of_run (none_in run item.3) front
   run_shows is front (Some x) item = run_is_first x.now item.3.0 item.1 is front
 
-  pub rest_shows : IsInFront rest run → (r : Option (Bor Rank)) → IsItemAt rest 0 r → IfSome r (λ x. IsUpperBound rank_cmp x.now rest) → IsFirst (run ++ rest) (option_copied r)
-  rest_shows front None item over = none_of_rest (none_in rest item.3) front
-  rest_shows front (Some x) item over = rest_is_first x.now item.3.0 item.1 over front
-
   -- ---- where it is taken
 
   pub run_gives : (new : List Rank) (r : Option Rank) → run ≡ option_to_list r ++ new → IfNone r (length run ≤ 0) → IsInOrder run → IsInFront run rest → IsFirst (run ++ rest) r
@@ -97,17 +93,9 @@ module _ (run rest : List Rank) where
   rest_gives None at some few over front = none_of_rest (none_in rest few) front
   rest_gives (Some x) at some few over front = rest_is_first x some at over front
 
-  pub run_less : (new : List Rank) (r : Option Rank) → run ≡ option_to_list r ++ new → IfSome r (λ x. IsPermutation (run ++ rest) (x ∷ (new ++ rest)))
-  run_less new None was = tt
-  run_less new (Some x) was = subst (λ xs. IsPermutation (xs ++ rest) (x ∷ (new ++ rest))) (sym was) (IsPermutation-refl (x ∷ (new ++ rest)))
-
   pub rest_less : (new : List Rank) (r : Option Rank) → IfSome r (λ x. IsPermutation rest (x ∷ new)) → IfSome r (λ x. IsPermutation (run ++ rest) (x ∷ (run ++ new)))
   rest_less new None moved = tt
   rest_less new (Some x) moved = IsPermutation-trans _ _ _ (IsPermutation-append_right run rest (x ∷ new) moved) (IsPermutation-middle run x new)
-
-  pub in_order_rest : (new : List Rank) (r : Option Rank) → run ≡ option_to_list r ++ new → IsInOrder run → IsInOrder new
-  in_order_rest new None was is = subst IsInOrder was is
-  in_order_rest new (Some x) was is = let order : IsInOrder (x ∷ new) = subst IsInOrder was is in order.1
 
   -- ---- where one comes
 
