@@ -2,7 +2,8 @@ pub mod Kept
 pub mod Bests
 pub mod Members
 pub mod Order
-pub mod Heaps
+pub mod Places
+pub mod Runs
 pub mod Ranking
 pub mod Rooms
 pub mod Indexing

@@ -7,7 +7,7 @@ use Rattle.tw_rights.specs.declared.arg.Arg.{Arg}
 use Rattle.tw_queue.specs.declared.index.Index.{Index}
 use Rattle.tw_queue.specs.Index.{has_room_for}
 use Rattle.tw_queue.specs.Queues.{Queues, room_for}
-use Rattle.tw_queue.proofs.Heaps.{both_true, left_true, right_true}
+use Rattle.tw_queue.proofs.Places.{both_true, left_true, right_true}
 
 abbrev queues_with : TasksOf Arg → Bool → Index → Queues
 queues_with tasks room index = record { tasks = tasks; control_room = room && index.control.has_room; leaf_room = room && index.leaf.has_room }

@@ -21,7 +21,7 @@ use Rattle.tw_queue.specs.Queues.{IsTarget, handed_out}
 use Rattle.tw_queue.specs.Index.{Ranking, IsRankBest}
 use Rattle.tw_queue.specs.Indexed.{IsIndex, IsEntryAt, rank_of, task_in}
 use Rattle.tw_queue.proofs.Bests.{IsAhead, best_is, best_none}
-use Rattle.tw_queue.proofs.Heaps.{left_true, right_true}
+use Rattle.tw_queue.proofs.Places.{left_true, right_true}
 use Rattle.tw_queue.proofs.Members.{all_at, contains_none}
 use Rattle.tw_queue.proofs.Indexing.{Entries, nat_itself, nat_same}
 use Rattle.tw_queue.proofs.Entries.{AreSeen, Stands}

@@ -18,7 +18,7 @@ listed Control index = index.control
 listed Leaf index = index.leaf
 
 abbrev pub ranks_of : Index → Ranking
-ranks_of index kind place = ranks_at (listed kind index).heaps place
+ranks_of index kind place = ranks_at (listed kind index).places place
 
 abbrev pub has_room_for : Kind → Index → Bool
 has_room_for kind index = (listed kind index).has_room

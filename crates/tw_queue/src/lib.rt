@@ -3,6 +3,7 @@
 
 mod index;
 mod lists;
+mod place;
 mod queues;
 mod rank;
 mod slots;

@@ -1,55 +1,56 @@
 //! The ranks of the tasks of one kind.
 
 ghost use Rattle.std.specs.Prelude.{◌≡◌, ◌<◌, ◌≤◌, [], IsOk, IfOk, IfSome, IfNone, OnOk, OnErr, replicate, true};
-ghost use Rattle.tw_queue.specs.Lists.{place_of, ranks_at, IsPushed, IsFirst, IsBestPlace, IsBest, IsTaken};
+ghost use Rattle.tw_queue.specs.Lists.{place_of, ranks_at, IsPushed, IsFirstAt, IsBestPlace, IsBest, IsTaken};
 
+use crate::place::Place;
 use crate::rank::Rank;
 use std::alloc::{AllocError, Global};
-use std::collections::BinaryHeap;
 use std::marker::Model;
 
-/// For each target a heap of the ranks of its tasks, and behind them one of those for any actor.
+/// For each target the ranks of its tasks, and behind them those for any actor.
 #[derive(Drop)]
 pub struct Lists {
-    heaps: Vec<BinaryHeap<Rank>>,
+    places: Vec<Place>,
 }
 
 impl Model for Lists {
-    ghost use Rattle.tw_queue.specs.Lists.{Listed, seen, AreHeaps};
+    ghost use Rattle.std.specs.Prelude.{◌≡◌, length};
+    ghost use Rattle.tw_queue.specs.Lists.{Listed, seen};
 
     ghost Value = { Listed };
 
-    ghost view = { λ lists. seen lists.heaps.items };
+    ghost view = { λ lists. seen lists.places.items };
 
-    ghost invariant = { λ lists. AreHeaps lists.heaps.items };
+    ghost invariant = { λ lists. length lists.places.items ≡ 17 };
 }
 
 impl Lists {
-    /// The place of the heap of the tasks for any actor.
+    /// The place of the tasks for any actor.
     const ANY: usize = 16;
 
     const COUNT: usize = 17;
 
-    /// Seventeen heaps without ranks.
+    /// Seventeen places without ranks.
     pub fn new(alloc: Global) -> Result<Lists, AllocError>
-        ensures { IfOk result (λ lists. lists.heaps ≡ replicate 17 []) }
+        ensures { IfOk result (λ lists. lists.places ≡ replicate 17 []) }
     {
-        let mut heaps = Vec::new(alloc);
+        let mut places = Vec::new(alloc);
         for _ in 0..Lists::COUNT {
-            heaps.push(BinaryHeap::new(alloc))?;
+            places.push(Place::new(alloc))?;
         }
-        Ok(Lists { heaps })
+        Ok(Lists { places })
     }
 
-    /// Makes room for one rank in every heap.
+    /// Makes room for one rank at every place.
     pub fn reserve(&mut self) -> Result<(), AllocError>
-        ensures same { self.new.heaps ≡ self.old.heaps }
+        ensures same { self.new.places ≡ self.old.places }
         ensures room { OnOk result (self.new.has_room ≡ true) }
         ensures kept { self.old.has_room ≡ true → self.new.has_room ≡ true }
     {
-        for place in 0..self.heaps.len() {
-            let heap = &mut self.heaps[place];
-            heap.reserve(1)?;
+        for index in 0..self.places.len() {
+            let place = &mut self.places[index];
+            place.reserve()?;
         }
         Ok(())
     }
@@ -57,18 +58,17 @@ impl Lists {
     /// Puts the rank of a task for this target.
     pub fn push(&mut self, target: Option<u8>, rank: Rank) -> Result<(), AllocError>
         requires { place_of target < 17 }
-        ensures pushed { OnOk result (IsPushed (place_of target) rank (ranks_at self.old.heaps) (ranks_at self.new.heaps)) }
-        ensures refused { OnErr result (self.new.heaps ≡ self.old.heaps) }
+        ensures pushed { OnOk result (IsPushed (place_of target) rank (ranks_at self.old.places) (ranks_at self.new.places)) }
+        ensures refused { OnErr result (self.new.places ≡ self.old.places) }
         ensures reserved { self.old.has_room ≡ true → IsOk result }
     {
-        let heap = &mut self.heaps[place_of(target)];
-        heap.push(rank)?;
-        Ok(())
+        let place = &mut self.places[place_of(target)];
+        place.push(rank)
     }
 
     /// The first of the ranks that an actor of this number may take.
     pub fn best(&self, number: u8) -> Option<Rank>
-        ensures { IsBest number (ranks_at self.now.heaps) result }
+        ensures { IsBest number (ranks_at self.now.places) result }
     {
         let (_, rank) = self.best_place(number)?;
         Some(rank)
@@ -76,19 +76,19 @@ impl Lists {
 
     /// Takes the first of the ranks that an actor of this number may take.
     pub fn take(&mut self, number: u8) -> Option<Rank>
-        ensures best { IsBest number (ranks_at self.old.heaps) result }
-        ensures taken { IfSome result (λ rank. IsTaken rank (ranks_at self.old.heaps) (ranks_at self.new.heaps)) }
-        ensures none { IfNone result (self.new.heaps ≡ self.old.heaps) }
+        ensures best { IsBest number (ranks_at self.old.places) result }
+        ensures taken { IfSome result (λ rank. IsTaken rank (ranks_at self.old.places) (ranks_at self.new.places)) }
+        ensures none { IfNone result (self.new.places ≡ self.old.places) }
         ensures room { self.old.has_room ≡ true → self.new.has_room ≡ true }
     {
-        let (place, _) = self.best_place(number)?;
-        let heap = &mut self.heaps[place];
-        heap.pop()
+        let (index, _) = self.best_place(number)?;
+        let place = &mut self.places[index];
+        place.pop()
     }
 
     /// The place of that rank, with the rank.
     fn best_place(&self, number: u8) -> Option<(usize, Rank)>
-        ensures { IsBestPlace number self.now.heaps result }
+        ensures { IsBestPlace number self.now.places result }
     {
         let own = usize::from(number);
         match (self.first(Lists::ANY), self.first(own)) {
@@ -105,13 +105,13 @@ impl Lists {
         }
     }
 
-    /// The first rank of a heap.
-    fn first(&self, place: usize) -> Option<Rank>
-        ensures { IsFirst place self.now.heaps result }
+    /// The first rank at a place.
+    fn first(&self, index: usize) -> Option<Rank>
+        ensures { IsFirstAt index self.now.places result }
     {
-        if place < self.heaps.len() {
-            let heap = &self.heaps[place];
-            heap.peek().copied()
+        if index < self.places.len() {
+            let place = &self.places[index];
+            place.first()
         } else {
             None
         }

@@ -1,4 +1,4 @@
-use Rattle.std.proofs.Common.{◌≡◌, inl, inr, true, false, rules, refl, subst, arith}
+use Rattle.std.proofs.Common.{◌≡◌, inl, inr, true, false, rules, refl, subst}
 use Rattle.std.specs.Ordering.{is_lt}
 use Rattle.std.specs.BinaryHeap.{IsUpperBound}
 use Rattle.tw_queue.specs.Ranks.{rank_cmp}
@@ -12,12 +12,12 @@ returns-then-lt c =
     let any = c.in-Some-Some.ensures in
     let first = c.in-Some-Some.ensures' in
     let lower : is_lt (rank_cmp c.in-Some-Some.any c.in-Some-Some.rank) ≡ true = search rules in (
-      first.0,
-      inr own,
       first.1,
+      inr own,
+      first.0.0,
       (
-        upper_over c.in-Some-Some.rank c.in-Some-Some.any (ranks_at c.args.self.now.heaps 16) (not_back c.in-Some-Some.any c.in-Some-Some.rank lower) any.2,
-        subst (λ p. IsUpperBound rank_cmp c.in-Some-Some.rank (ranks_at c.args.self.now.heaps p)) own first.2,
+        upper_over c.in-Some-Some.rank c.in-Some-Some.any (ranks_at c.args.self.now.places 16) (not_back c.in-Some-Some.any c.in-Some-Some.rank lower) any.0.1,
+        subst (λ p. IsUpperBound rank_cmp c.in-Some-Some.rank (ranks_at c.args.self.now.places p)) own first.0.1,
       ),
     )
 
@@ -27,12 +27,12 @@ returns-else-lt c =
     let any = c.in-Some-Some.ensures in
     let first = c.in-Some-Some.ensures' in
     let higher : is_lt (rank_cmp c.in-Some-Some.any c.in-Some-Some.rank) ≡ false = search rules in (
-      omega arith,
-      inl refl,
       any.1,
+      inl refl,
+      any.0.0,
       (
-        any.2,
-        upper_over c.in-Some-Some.any c.in-Some-Some.rank (ranks_at c.args.self.now.heaps c.args.number) higher
-            (subst (λ p. IsUpperBound rank_cmp c.in-Some-Some.rank (ranks_at c.args.self.now.heaps p)) own first.2),
+        any.0.1,
+        upper_over c.in-Some-Some.any c.in-Some-Some.rank (ranks_at c.args.self.now.places c.args.number) higher
+            (subst (λ p. IsUpperBound rank_cmp c.in-Some-Some.rank (ranks_at c.args.self.now.places p)) own first.0.1),
       ),
     )

@@ -1,47 +1,41 @@
-use Rattle.std.proofs.Common.{◌≡◌, ◌<◌, true, ap, sym, subst, ◌∙◌, length, arith}
+use Rattle.std.proofs.Common.{◌≡◌, ◌<◌, true, ap, sym, ◌∙◌, length, arith}
 use Rattle.std.specs.List.{list_all}
-use Rattle.std.specs.BinaryHeap.{IsHeap, heap_len, heap_capacity}
 use Rattle.std.proofs.Math.ListN.{length-set}
-use Rattle.tw_queue.specs.Ranks.{rank_cmp}
 use Rattle.tw_queue.specs.Lists.{has_room_in}
-use Rattle.tw_queue.proofs.Heaps.{heap_at, room_at, room_kept, room_more, same_ranks, still_heaps}
+use Rattle.tw_queue.proofs.Places.{room_at, room_kept, room_more, same_ranks}
 use Rattle.tw_queue.proofs.lists.Lists.reserve.Goals as goal
 
 pub returns-in_err-reserve-clause-same : goal.returns-in_err-reserve-clause-same
 returns-in_err-reserve-clause-same c =
-    let heaps = c.loop-place.self-inside.heaps.items in
-    let end = c.loop-place.invariant.end in
-    let low : c.loop-place.place < length heaps = omega arith in
-    same_ranks heaps c.loop-place.place low c.index_mut-heap.result.now c.reserve.new.self c.index_mut-heap.ensures.value c.reserve.ensures.items
-    ∙ c.loop-place.invariant.ranks ∙ ap (λ l. l.heaps) c.self.view_is
+    let places = c.loop-index.self-inside.places.items in
+    let end = c.loop-index.invariant.end in
+    let low : c.loop-index.index < length places = omega arith in
+    same_ranks places c.loop-index.index low c.index_mut-place.result.now c.reserve.new.self c.index_mut-place.ensures.value c.reserve.ensures.same
+    ∙ c.loop-index.invariant.ranks ∙ ap (λ l. l.places) c.self.view_is
 
 pub returns-in_err-reserve-clause-kept : goal.returns-in_err-reserve-clause-kept
 returns-in_err-reserve-clause-kept c = λ all.
-    let heaps = c.loop-place.self-inside.heaps.items in
-    let end = c.loop-place.invariant.end in
-    let low : c.loop-place.place < length heaps = omega arith in
-    let whole : list_all has_room_in heaps ≡ true = c.loop-place.invariant.kept (ap (λ l. l.has_room) c.self.view_is ∙ all) in
-    let old = room_at heaps c.loop-place.place low c.index_mut-heap.result.now c.reserve.new.self c.index_mut-heap.ensures.value whole in
-    let same = c.reserve.ensures.len in
-    let more = c.reserve.ensures.capacity in
-    let new : heap_len c.reserve.new.self < heap_capacity c.reserve.new.self = omega arith in
-    room_kept heaps c.loop-place.place low c.index_mut-heap.result.now c.reserve.new.self c.index_mut-heap.ensures.value whole new
+    let places = c.loop-index.self-inside.places.items in
+    let end = c.loop-index.invariant.end in
+    let low : c.loop-index.index < length places = omega arith in
+    let at = c.index_mut-place.ensures.value in
+    let whole : list_all has_room_in places ≡ true = c.loop-index.invariant.kept (ap (λ l. l.has_room) c.self.view_is ∙ all) in
+    let old = room_at places c.loop-index.index low c.index_mut-place.result.now c.reserve.new.self at whole in
+    room_kept places c.loop-index.index low c.index_mut-place.result.now c.reserve.new.self at whole (c.reserve.ensures.kept old)
 
-pub loop-place-preserved : goal.loop-place-preserved
-loop-place-preserved c =
-    let heaps = c.loop-place.self-inside.heaps.items in
-    let end = c.loop-place.invariant.end in
-    let low : c.loop-place.place < length heaps = omega arith in
-    let old = c.index_mut-heap.result.now in
+pub loop-index-preserved : goal.loop-index-preserved
+loop-index-preserved c =
+    let places = c.loop-index.self-inside.places.items in
+    let end = c.loop-index.invariant.end in
+    let low : c.loop-index.index < length places = omega arith in
+    let old = c.index_mut-place.result.now in
     let new = c.reserve.new.self in
-    let at = c.index_mut-heap.ensures.value in
-    let made = c.in_ok-reserve.ensures.ok in
-    let more : heap_len new < heap_capacity new = omega arith in
+    let at = c.index_mut-place.ensures.value in
+    let more : new.has_room ≡ true = c.in_ok-reserve.ensures.room in
     record {
-      ranks = same_ranks heaps c.loop-place.place low old new at c.reserve.ensures.items ∙ c.loop-place.invariant.ranks;
-      are = still_heaps heaps c.loop-place.place low old new at c.loop-place.invariant.are
-          (subst (IsHeap rank_cmp) (sym c.reserve.ensures.items) (heap_at heaps c.loop-place.place low old new at c.loop-place.invariant.are));
-      room = room_more heaps c.loop-place.place low old new at c.loop-place.invariant.room more;
-      kept = λ all. room_kept heaps c.loop-place.place low old new at (c.loop-place.invariant.kept all) more;
-      end = end ∙ sym (length-set heaps c.loop-place.place new);
+      ranks = same_ranks places c.loop-index.index low old new at c.reserve.ensures.same ∙ c.loop-index.invariant.ranks;
+      count = length-set places c.loop-index.index new ∙ c.loop-index.invariant.count;
+      room = room_more places c.loop-index.index low old new at c.loop-index.invariant.room more;
+      kept = λ all. room_kept places c.loop-index.index low old new at (c.loop-index.invariant.kept all) more;
+      end = end ∙ sym (length-set places c.loop-index.index new);
     }

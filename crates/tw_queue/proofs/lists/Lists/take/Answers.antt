@@ -1,23 +1,37 @@
-use Rattle.std.proofs.Common.{◌≡◌, ◌<◌, ap, subst, ◌∙◌, length, slice_set, arith}
+use Rattle.std.proofs.Common.{◌≡◌, ◌<◌, ap, sym, subst, ◌∙◌, length, slice_set, arith}
 use Rattle.std.specs.Option.{IfSome}
-use Rattle.tw_queue.specs.Lists.{IsTaken, ranks_at, ranks_in}
-use Rattle.tw_queue.proofs.Heaps.{room_at, room_kept, room_popped, taken_at}
+use Rattle.std.specs.List.{Contains}
+use Rattle.tw_queue.specs.Lists.{IsAheadOfAll, IsBest, IsTaken, ranks_at, ranks_in}
+use Rattle.tw_queue.proofs.Places.{best_at, room_at, room_kept, taken_at}
 use Rattle.tw_queue.proofs.lists.Lists.take.Goals as goal
+
+pub returns-clause-best : goal.returns-clause-best
+returns-clause-best c =
+    let places = c.self.inside.places.items in
+    let count : length places ≡ 17 = c.self.invariant in
+    let best = c.in_ok-index.ensures in
+    let low : c.in_ok-index.index < length places = omega (arith, best.0) in
+    let at = c.index_mut-place.ensures.value in
+    let whole = ap (λ l. l.places) c.self.view_is in
+    let there = subst (λ ps. Contains (ranks_at ps c.in_ok-index.index) c.in_ok-index.field-0-1) (sym whole) best.2 in
+    let ahead = subst (λ ps. IsAheadOfAll c.in_ok-index.field-0-1 c.args.number (ranks_at ps)) (sym whole) best.3 in
+    subst (λ ps. IsBest c.args.number (ranks_at ps) c.pop.result) whole
+    (best_at places c.in_ok-index.index low c.index_mut-place.result.now c.pop.new.self at c.args.number c.in_ok-index.field-0-1 best.1 there ahead c.pop.result c.pop.ensures.first)
 
 pub returns-clause-taken : goal.returns-clause-taken
 returns-clause-taken c =
-    let heaps = c.self.inside.heaps.items in
-    let count : length heaps ≡ 17 = c.self.invariant.count in
-    let low : c.in_ok-place.place < length heaps = omega (arith, c.in_ok-place.ensures.0) in
-    subst (λ l. IfSome c.pop.result (λ rank. IsTaken rank (ranks_at l.heaps) (ranks_at (ranks_in (slice_set heaps c.in_ok-place.place c.pop.new.self))))) c.self.view_is
-    (taken_at heaps c.in_ok-place.place low c.index_mut-heap.result.now c.pop.new.self c.index_mut-heap.ensures.value c.pop.result c.pop.ensures.permutation)
+    let places = c.self.inside.places.items in
+    let count : length places ≡ 17 = c.self.invariant in
+    let low : c.in_ok-index.index < length places = omega (arith, c.in_ok-index.ensures.0) in
+    subst (λ l. IfSome c.pop.result (λ rank. IsTaken rank (ranks_at l.places) (ranks_at (ranks_in (slice_set places c.in_ok-index.index c.pop.new.self))))) c.self.view_is
+    (taken_at places c.in_ok-index.index low c.index_mut-place.result.now c.pop.new.self c.index_mut-place.ensures.value c.pop.result c.pop.ensures.popped)
 
 pub returns-clause-room : goal.returns-clause-room
 returns-clause-room c = λ all.
-    let heaps = c.self.inside.heaps.items in
-    let count : length heaps ≡ 17 = c.self.invariant.count in
-    let low : c.in_ok-place.place < length heaps = omega (arith, c.in_ok-place.ensures.0) in
+    let places = c.self.inside.places.items in
+    let count : length places ≡ 17 = c.self.invariant in
+    let low : c.in_ok-index.index < length places = omega (arith, c.in_ok-index.ensures.0) in
     let whole = ap (λ l. l.has_room) c.self.view_is ∙ all in
-    room_kept heaps c.in_ok-place.place low c.index_mut-heap.result.now c.pop.new.self c.index_mut-heap.ensures.value whole
-    (room_popped c.pop.result c.index_mut-heap.result.now c.pop.new.self c.pop.ensures.len c.pop.ensures.unchanged c.pop.ensures.capacity
-    (room_at heaps c.in_ok-place.place low c.index_mut-heap.result.now c.pop.new.self c.index_mut-heap.ensures.value whole))
+    let at = c.index_mut-place.ensures.value in
+    room_kept places c.in_ok-index.index low c.index_mut-place.result.now c.pop.new.self at whole
+    (c.pop.ensures.room (room_at places c.in_ok-index.index low c.index_mut-place.result.now c.pop.new.self at whole))

@@ -1,0 +1,125 @@
+//! The ranks of the tasks of one kind and one target.
+
+ghost use Rattle.std.specs.Prelude.{◌≡◌, ◌++◌, ◌∷◌, [], true, false, IfNone, IfSome, IsOk, OnErr, OnOk};
+ghost use Rattle.std.specs.BinaryHeap.{IsHeap, heap_items};
+ghost use Rattle.std.specs.List.Sorted.{IsPermutation};
+ghost use Rattle.tw_queue.specs.Places.{IsFirst, IsInFront, IsInOrder};
+ghost use Rattle.tw_queue.specs.Ranks.{rank_cmp};
+
+use crate::rank::Rank;
+use std::alloc::{AllocError, Global};
+use std::collections::{BinaryHeap, VecDeque};
+use std::marker::Model;
+
+/// Ranks with the first of them at hand. Where tasks of one priority come in order, all ranks stand in the run, and each
+/// comes and goes in constant time.
+#[derive(Drop)]
+pub struct Place {
+    /// The first one in front, and none goes before one that stands in front of it.
+    run: VecDeque<Rank>,
+    /// Those that went before the last of the run when they came.
+    rest: BinaryHeap<Rank>,
+}
+
+impl Model for Place {
+    ghost use Rattle.std.specs.Prelude.{◌&&◌, ◌++◌, nat_lt};
+    ghost use Rattle.std.specs.BinaryHeap.{IsHeap, heap_items, heap_len, heap_capacity};
+    ghost use Rattle.std.specs.VecDeque.{deque_len, deque_capacity};
+    ghost use Rattle.tw_queue.specs.Places.{Placed, IsInOrder};
+    ghost use Rattle.tw_queue.specs.Ranks.{rank_cmp};
+
+    ghost Value = { Placed };
+
+    ghost view = { λ p. record {
+      ranks = p.run.items ++ heap_items p.rest;
+      has_room = nat_lt (deque_len p.run) (deque_capacity p.run) && nat_lt (heap_len p.rest) (heap_capacity p.rest);
+    } };
+
+    ghost invariant = { λ p. IsInOrder p.run.items × IsHeap rank_cmp (heap_items p.rest) };
+}
+
+impl Place {
+    /// No ranks.
+    pub fn new(alloc: Global) -> Place
+        ensures { result.ranks ≡ [] }
+    {
+        Place {
+            run: VecDeque::new(alloc),
+            rest: BinaryHeap::new(alloc),
+        }
+    }
+
+    /// Makes room for one rank.
+    pub fn reserve(&mut self) -> Result<(), AllocError>
+        ensures same { self.new.ranks ≡ self.old.ranks }
+        ensures room { OnOk result (self.new.has_room ≡ true) }
+        ensures kept { self.old.has_room ≡ true → self.new.has_room ≡ true }
+    {
+        self.run.reserve(1)?;
+        self.rest.reserve(1)
+    }
+
+    /// Puts a rank.
+    pub fn push(&mut self, rank: Rank) -> Result<(), AllocError>
+        ensures pushed { OnOk result (IsPermutation (rank ∷ self.old.ranks) self.new.ranks) }
+        ensures refused { OnErr result (self.new.ranks ≡ self.old.ranks) }
+        ensures reserved { self.old.has_room ≡ true → IsOk result }
+    {
+        if is_next(&self.run, rank) {
+            self.run.push_back(rank)?;
+        } else {
+            self.rest.push(rank)?;
+        }
+        Ok(())
+    }
+
+    /// The first rank.
+    pub fn first(&self) -> Option<Rank>
+        ensures { IsFirst self.now.ranks result }
+    {
+        if is_in_front(&self.run, &self.rest) {
+            self.run.front().copied()
+        } else {
+            self.rest.peek().copied()
+        }
+    }
+
+    /// Takes the first rank.
+    pub fn pop(&mut self) -> Option<Rank>
+        ensures first { IsFirst self.old.ranks result }
+        ensures popped { IfSome result (λ rank. IsPermutation self.old.ranks (rank ∷ self.new.ranks)) }
+        ensures none { IfNone result (self.new.ranks ≡ self.old.ranks) }
+        ensures room { self.old.has_room ≡ true → self.new.has_room ≡ true }
+    {
+        if is_in_front(&self.run, &self.rest) {
+            self.run.pop_front()
+        } else {
+            self.rest.pop()
+        }
+    }
+}
+
+/// Whether a rank goes after all ranks of a run.
+fn is_next(run: &VecDeque<Rank>, rank: Rank) -> bool
+    requires { IsInOrder run.now.items }
+    ensures { result ≡ true → IsInOrder (run.now.items ++ rank ∷ []) }
+{
+    match run.back() {
+        Some(last) => rank < *last,
+        None => true,
+    }
+}
+
+/// Whether the first rank of a run goes before all of the rest.
+fn is_in_front(run: &VecDeque<Rank>, rest: &BinaryHeap<Rank>) -> bool
+    requires run { IsInOrder run.now.items }
+    requires rest { IsHeap rank_cmp (heap_items rest.now) }
+    ensures yes { result ≡ true → IsInFront run.now.items (heap_items rest.now) }
+    ensures no { result ≡ false → IsInFront (heap_items rest.now) run.now.items }
+{
+    match (run.front(), rest.peek()) {
+        (Some(first), Some(top)) => *top < *first,
+        (Some(_), None) => true,
+        (None, _) => false,
+    }
+}
