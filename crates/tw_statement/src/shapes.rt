@@ -2,12 +2,14 @@
 
 ghost use Rattle.std.specs.Prelude.{◌≡◌, map};
 ghost use Rattle.tw_lines.specs.Seen.{seen as seen_word};
-ghost use Rattle.tw_statement.specs.reading.Lines.{line_in, value, right, number, one, goal, more, nothing};
+ghost use Rattle.tw_statement.specs.reading.Lines.{line_in, value, right, number, one, goal, type, more, nothing};
 ghost use Rattle.tw_statement.specs.reading.Operands.{as_is};
 
+use crate::gathering::type_of;
 use crate::operands::*;
 use crate::statement::Flaw;
 use tw_lines::Word;
+use tw_types::DataType;
 
 /// No operands.
 pub fn nothing_of(words: &[Word<'_>]) -> Result<(), Flaw>
@@ -109,6 +111,28 @@ pub fn two_rights(words: &[Word<'_>]) -> Result<(u8, u8), Flaw>
 {
     match words {
         [first, others @ ..] => both_of(right_of(first), only_right(others)),
+        [] => Err(Flaw::Form),
+    }
+}
+
+// ---- with a type
+
+/// A right register and a type.
+fn right_and_type(words: &[Word<'_>]) -> Result<(u8, DataType), Flaw>
+    ensures { result ≡ line_in (more right type) (map seen_word words.now) }
+{
+    match words {
+        [first, others @ ..] => both_of(right_of(first), type_of(others)),
+        [] => Err(Flaw::Form),
+    }
+}
+
+/// Two right registers and a type.
+pub fn two_rights_and_type(words: &[Word<'_>]) -> Result<(u8, (u8, DataType)), Flaw>
+    ensures { result ≡ line_in (more right (more right type)) (map seen_word words.now) }
+{
+    match words {
+        [first, others @ ..] => both_of(right_of(first), right_and_type(others)),
         [] => Err(Flaw::Form),
     }
 }

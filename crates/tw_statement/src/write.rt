@@ -71,6 +71,13 @@ fn put(out: &mut Vec<u8>, text: &str) -> Result<(), AllocError>
     out.extend_from_slice(text.as_bytes())
 }
 
+fn put_both(out: &mut Vec<u8>, front: &str, back: &str) -> Result<(), AllocError>
+    ensures { OnOk result (out.new.items ≡ out.old.items ++ (front.now ++ back.now)) }
+{
+    put(out, front)?;
+    put(out, back)
+}
+
 fn put_numbered(
     alloc: Global,
     out: &mut Vec<u8>,
@@ -80,16 +87,14 @@ fn put_numbered(
     ensures { OnOk result (out.new.items ≡ out.old.items ++ (front.now ++ decimal number)) }
 {
     let digits = format!(in alloc; "{number}")?;
-    put(out, front)?;
-    put(out, &digits)
+    put_both(out, front, &digits)
 }
 
 fn put_number(alloc: Global, out: &mut Vec<u8>, number: i64) -> Result<(), AllocError>
     ensures { OnOk result (out.new.items ≡ out.old.items ++ (codes " " ++ signed_decimal number)) }
 {
     let digits = format!(in alloc; "{number}")?;
-    put(out, " ")?;
-    put(out, &digits)
+    put_both(out, " ", &digits)
 }
 
 // ---- a part, with a space before each of its words
@@ -97,8 +102,7 @@ fn put_number(alloc: Global, out: &mut Vec<u8>, number: i64) -> Result<(), Alloc
 fn put_name(out: &mut Vec<u8>, name: &str) -> Result<(), AllocError>
     ensures { OnOk result (out.new.items ≡ out.old.items ++ behind (name.now ∷ [])) }
 {
-    put(out, " ")?;
-    put(out, name)
+    put_both(out, " ", name)
 }
 
 #[tactic(auto, using(crate::proofs::Lines::more_behind))]
