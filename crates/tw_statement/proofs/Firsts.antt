@@ -1,35 +1,64 @@
 -- What a first word promises.
-use Rattle.std.proofs.Common.{◌≡◌, ◌≢◌, inl, inr, ℕ, Bool, true, false, List, [], ◌∷◌, ◌++◌, codes, refl, sym, subst, ◌∙◌}
-use Rattle.std.specs.Prelude.{◌||◌, ◌↔◌, IsTrue}
-use Rattle.std.specs.List.{list_any}
-use Rattle.std.specs.Str.{bytes_eq}
+use Rattle.std.proofs.Common.{◌≡◌, ◌≢◌, ℕ, pos, Bool, true, false, List, [], ◌∷◌, ◌++◌, codes, Option, Some, None, sym, ap, subst, ◌∙◌, refl}
+use Rattle.std.specs.Prelude.{◌↔◌, IsTrue}
+use Rattle.std.specs.Option.{is_some}
 use Rattle.std.proofs.lemmas.List.{append_cancel_right}
-use Rattle.std.proofs.lemmas.Slice.Eq.{bytes_eq-Decides}
+use Rattle.tw_statement.proofs.Lined.{parts_of}
+use Rattle.tw_statement.proofs.Names.{name_decide}
+use Rattle.tw_statement.proofs.Table.{IsMade, made, named, named_back, parts_are}
+use Rattle.tw_statement.specs.Parts.{Part, Name, instr_parts}
 use Rattle.tw_statement.specs.Statement.{IsInstrWord, IsLabelWord, IsName}
-use Rattle.tw_statement.proofs.Rows.{IsAmong, among_instr_word, instr_word_among, names}
+use Rattle.tw_statement.specs.declared.opcode.Opcode.{Opcode}
+use Rattle.tw_statement.specs.reading.Lines.{Content, Line, LineContent, Operand, args, goal, instr_of, line_of, literal, more, natural, nothing, number, one, opcode_of, right, target, type, value, word_of}
+use Rattle.tw_statement.specs.reading.Operands.{further, is_name}
+use Rattle.tw_types.specs.declared.data_type.Scalar.TheVariants.{Int}
 
-pub label_by : (word name : List ℕ) (r : Bool) → word ≡ name ++ codes ":" → (IsTrue r ↔ IsName name) → IsTrue r ↔ IsLabelWord word
-label_by word name r is decides = (λ t. (name, decides.0 t, is), λ h. decides.1 (subst IsName (append_cancel_right h.0 name (codes ":") (sym h.2 ∙ is)) h.1))
+pub label_by : (word name : List ℕ) (r : Bool) → word ≡ name ++ codes ":" → r ≡ is_name name → IsTrue r ↔ IsLabelWord word
+label_by word name r is test = (
+  λ t. (name, (name_decide name).0 (sym test ∙ t), is),
+  λ h. test ∙ (name_decide name).1 (subst IsName (append_cancel_right h.0 name (codes ":") (sym h.2 ∙ is)) h.1),
+)
 
 pub no_label : (word : List ℕ) → ((front : List ℕ) → word ≢ front ++ codes ":") → IsLabelWord word → ⊥
 no_label word none h = none h.0 h.2
 
-among_either : (word name : List ℕ) (others : List (List ℕ)) (test more : Bool) → bytes_eq name word ≡ test → (IsTrue more ↔ IsAmong word others) → IsTrue (test || more) ↔ IsAmong word (name ∷ others)
-among_either word name others true more is rest = (λ t. inl (sym ((bytes_eq-Decides name word).0 is)), λ h. refl)
-among_either word name others false more is rest = (λ t. inr (rest.0 t), by)
+-- ---- names of instructions
+
+some_operand : (o : Operand) → Content o
+some_operand value = 0
+some_operand right = 0
+some_operand number = pos 0
+some_operand (natural low high) = 0
+some_operand literal = []
+some_operand target = None
+
+some_content : (l : Line) → LineContent l
+some_content nothing = tt
+some_content (one o) = some_operand o
+some_content goal = further 0
+some_content type = record { depth = 0; scalar = Int }
+some_content args = []
+some_content (more o l) = (some_operand o, some_content l)
+
+pub named_word : (word : List ℕ) (r : Bool) → r ≡ is_some (opcode_of word) → IsTrue r ↔ IsInstrWord word
+named_word word r is = (λ t. there (opcode_of word) refl (sym is ∙ t), λ h. is ∙ back h)
   where
-    by : IsAmong word (name ∷ others) → more ≡ true
-    by (inl e) = absurd (apart (sym is ∙ (bytes_eq-Decides name word).1 (sym e)))
+    there : (found : Option Opcode) → opcode_of word ≡ found → is_some found ≡ true → IsInstrWord word
+    there None e t = absurd (no t)
       where
-        apart : false ≡ true → ⊥
-        apart h = cc
-    by (inr h) = rest.1 h
+        no : false ≡ true → ⊥
+        no t = cc
+    there (Some o) e t =
+        let x = some_content (line_of o) in
+        (instr_of o x, parts_of (line_of o) x, parts_are o x ∙ ap (λ (name : List ℕ). Name name ∷ parts_of (line_of o) x) (sym (named_back word o e)))
 
-any_among : (word : List ℕ) (all : List (List ℕ)) → IsTrue (list_any (λ name. bytes_eq name word) all) ↔ IsAmong word all
-any_among word [] = (λ t. absurd cc, λ h. absurd h)
-any_among word (name ∷ others) = among_either word name others (bytes_eq name word) (list_any (λ other. bytes_eq other word) others) refl (any_among word others)
+    back : IsInstrWord word → is_some (opcode_of word) ≡ true
+    back (i, operands, e) = by (made i)
+      where
+        one_name : (a b : List ℕ) (ps qs : List Part) → Name a ∷ ps ≡ Name b ∷ qs → a ≡ b
+        one_name a b ps qs e = cc
 
-pub instr_by : (word : List ℕ) (r : Bool) → r ≡ list_any (λ name. bytes_eq name word) names → IsTrue r ↔ IsInstrWord word
-instr_by word r is =
-    let any = any_among word names in
-    (λ t. among_instr_word word (any.0 (subst IsTrue is t)), λ h. subst IsTrue (sym is) (any.1 (instr_word_among word h)))
+        by : IsMade i → is_some (opcode_of word) ≡ true
+        by (p, x, is) =
+            let same : word ≡ word_of p = one_name word (word_of p) operands (parts_of (line_of p) x) (sym e ∙ (ap instr_parts is ∙ parts_are p x)) in
+            ap (λ (name : List ℕ). is_some (opcode_of name)) same ∙ ap (λ (found : Option Opcode). is_some found) (named p)

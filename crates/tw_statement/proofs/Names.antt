@@ -27,7 +27,7 @@ all_decide : (text : List ℕ) → Decides (all_in_name text) (AllByRecursion Is
 all_decide [] = (λ _. tt, λ _. refl)
 all_decide (b ∷ others) = Decides-and (is_in_name b) (all_in_name others) (in_name_decide b) (all_decide others)
 
-name_decide : (text : List ℕ) → Decides (is_name text) (IsName text)
+pub name_decide : (text : List ℕ) → Decides (is_name text) (IsName text)
 name_decide [] = (λ e. absurd (no e), λ h. absurd h)
 name_decide (b ∷ others) = Decides-and (is_letter b) (all_in_name others) (letter_decide b) (all_decide others)
 

@@ -1,6 +1,6 @@
 -- The table of instructions once more, row by row: which sorts of parts follow a name, and which instruction they make. So
 -- what holds of each instruction's parts is gone through once, in `row`.
-use Rattle.std.proofs.Common.{◌≡◌, ◌==◌, ◌⊎◌, inl, inr, ℕ, zero, suc, ℤ, pos, Bool, true, false, List, [], ◌∷◌, map, codes, Option, None, refl, sym, ap, subst, ◌∙◌, eq-eqb}
+use Rattle.std.proofs.Common.{◌≡◌, ◌==◌, ◌⊎◌, inl, inr, ℕ, zero, suc, ℤ, pos, Bool, true, false, List, [], ◌∷◌, map, codes, Option, None, refl, sym, ap, ◌∙◌, eq-eqb}
 use Rattle.std.specs.Prelude.{◌&&◌, if◌then◌else◌}
 use Rattle.std.proofs.lemmas.Bool.{eqb-true}
 use Rattle.tw_code.specs.declared.instr.Action.{Action}
@@ -15,7 +15,6 @@ use Rattle.tw_types.specs.Nesting.{NestedScalar}
 use Rattle.tw_types.specs.declared.data_type.Scalar.TheVariants.{Int}
 use Rattle.tw_statement.specs.Parts.{Part, Name, Value, Right, Number, Natural, Literal, TypeOf, Skip, Target, instr_parts}
 use Rattle.tw_statement.specs.Seen.{with_skip}
-use Rattle.tw_statement.specs.Statement.{IsInstrWord}
 
 -- ---- a word among names
 
@@ -291,20 +290,3 @@ among_by word name others false is more e = inr (more e)
 pub among : (word : List ℕ) (all : List (List ℕ)) → is_in word all ≡ true → IsAmong word all
 among word [] e = absurd cc
 among word (name ∷ others) e = among_by word name others (same word name) refl (among word others) e
-
-from_among : (f : Row → List ℕ) (word : List ℕ) (all : List Row) → IsAmong word (map f all) → (r : Row) × (word ≡ f r)
-from_among f word [] h = absurd h
-from_among f word (r ∷ others) (inl e) = (r, e)
-from_among f word (r ∷ others) (inr h) = from_among f word others h
-
-names_made : map (λ (r : Row). name_of (r.make [])) rows ≡ names
-names_made = refl
-
-pub instr_word_among : (word : List ℕ) → IsInstrWord word → IsAmong word names
-instr_word_among word (i, operands, e) = subst (λ (w : List ℕ). IsAmong w names) (ap first_name e) (among (name_of i) names (row i).known)
-
-pub among_instr_word : (word : List ℕ) → IsAmong word names → IsInstrWord word
-among_instr_word word h =
-    let found = from_among (λ (r : Row). name_of (r.make [])) word rows (subst (IsAmong word) (sym names_made) h) in
-    let i = found.0.make [] in
-    (i, operands_of i, subst (λ (w : List ℕ). instr_parts i ≡ Name w ∷ operands_of i) (sym found.1) (row i).parts)

@@ -1,5 +1,6 @@
 -- The table of instructions, as it is read and as it is defined.
-use Rattle.std.proofs.Common.{◌≡◌, ℕ, Bool, true, false, cond, List, ◌∷◌, Option, Some, None, refl, ap, ◌∙◌}
+use Rattle.std.proofs.Common.{◌≡◌, ℕ, Bool, true, false, cond, List, [], ◌∷◌, Option, Some, None, refl, sym, ap, ◌∙◌}
+use Rattle.std.specs.List.{find}
 use Rattle.std.specs.Str.{bytes_eq}
 use Rattle.std.proofs.lemmas.Slice.Eq.{bytes_eq-Decides}
 use Rattle.tw_code.specs.declared.instr.Arithmetic.TheVariants.{Add, Subtract, Multiply, Divide, Remainder}
@@ -12,7 +13,7 @@ use Rattle.tw_statement.proofs.Lined.{MayParts, parts_of}
 use Rattle.tw_statement.specs.Parts.{Name, instr_parts}
 use Rattle.tw_statement.specs.declared.opcode.Opcode.{Opcode}
 use Rattle.tw_statement.specs.declared.opcode.Opcode.TheVariants as op
-use Rattle.tw_statement.specs.reading.Lines.{LineContent, before_colon, computing_named, data_named, instr_of, line_of, local_named, on, opcode_of, word_of}
+use Rattle.tw_statement.specs.reading.Lines.{LineContent, before_colon, instr_of, line_of, opcode_of, opcodes, word_of}
 use Rattle.tw_statement.specs.reading.Operands.{further}
 
 -- an instruction, by its code and its operands
@@ -208,34 +209,20 @@ no_colon op.Ret = refl
 abbrev IsBack : List ℕ → Option Opcode → Type 0
 IsBack name found = (o : Opcode) → found ≡ Some o → name ≡ word_of o
 
-one_more : (name : List ℕ) (o : Opcode) (others : Option Opcode) → IsBack name others → IsBack name (on name o others)
-one_more name o others back = by (bytes_eq name (word_of o)) refl
+found_among : (name : List ℕ) (all : List Opcode) → IsBack name (find (λ opcode. bytes_eq (word_of opcode) name) all)
+found_among name [] = λ o e. absurd (none o e)
   where
-    inner : {a b : Opcode} → Some a ≡ Some b → a ≡ b
-    inner e = cc
-
-    by : (t : Bool) → bytes_eq name (word_of o) ≡ t → IsBack name (cond t (Some o) others)
-    by true is = λ found e. (bytes_eq-Decides name (word_of o)).0 is ∙ ap word_of (inner e)
-    by false isnt = back
-
-no_more : (name : List ℕ) → IsBack name None
-no_more name o e = absurd (none e)
+    none : (o : Opcode) → None ≡ Some o → ⊥
+    none o e = cc
+found_among name (first ∷ others) = by (bytes_eq (word_of first) name) refl (found_among name others)
   where
-    none : None ≡ Some o → ⊥
-    none e = cc
+    inner : (o : Opcode) → Some first ≡ Some o → first ≡ o
+    inner o e = cc
 
-data_back : (name : List ℕ) → IsBack name (data_named name)
-data_back name =
-    one_more name op.New _ (one_more name op.Store _ (one_more name op.Get _ (one_more name op.Insert _ (one_more name op.Look _ (one_more name op.Size _ (one_more name op.SubscriptAt _ (one_more name op.CopyRead _ (one_more name op.CopyWrite _ (one_more name op.DropRead _ (one_more name op.DropWrite _ (one_more name op.Rule _ (one_more name op.Put _ (one_more name op.Ret _ (no_more name))))))))))))))
-
-computing_back : (name : List ℕ) (others : Option Opcode) → IsBack name others → IsBack name (computing_named name others)
-computing_back name others back =
-    one_more name (op.Compute Add) _ (one_more name (op.Compute Subtract) _ (one_more name (op.Compute Multiply) _ (one_more name (op.Compute Divide) _ (one_more name (op.Compute Remainder) _ (one_more name op.Concatenate _ (one_more name op.Length _ (one_more name op.Show _ (one_more name op.ReadInt _ (back)))))))))
-
-local_back : (name : List ℕ) (others : Option Opcode) → IsBack name others → IsBack name (local_named name others)
-local_back name others back =
-    one_more name op.Int _ (one_more name op.Text _ (one_more name op.Copy _ (one_more name op.Jump _ (one_more name op.JumpEqual _ (one_more name op.JumpLess _ (one_more name op.Repeat _ (one_more name op.End _ (back))))))))
+    by : (t : Bool) → bytes_eq (word_of first) name ≡ t → IsBack name (find (λ opcode. bytes_eq (word_of opcode) name) others) → IsBack name (cond t (Some first) (find (λ opcode. bytes_eq (word_of opcode) name) others))
+    by true is back = λ o e. sym ((bytes_eq-Decides (word_of first) name).0 is) ∙ ap word_of (inner o e)
+    by false isnt back = back
 
 pub named_back : (name : List ℕ) (o : Opcode) → opcode_of name ≡ Some o → name ≡ word_of o
 unfolding opcode_of
-named_back name o e = local_back name _ (computing_back name _ (data_back name)) o e
+named_back name o e = found_among name opcodes o e

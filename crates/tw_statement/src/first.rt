@@ -1,45 +1,14 @@
 //! What the first word of a line promises.
 
-ghost use Rattle.std.specs.Prelude.{◌≡◌, ◌≢◌, ◌⊎◌, ◌↔◌, ◌++◌, ℕ, List, MatchOption, IsTrue};
-ghost use Rattle.std.specs.List.{list_any};
-ghost use Rattle.std.specs.Str.{bytes_eq};
+ghost use Rattle.std.specs.Prelude.{◌⊎◌, ◌↔◌, MatchOption, IsTrue};
 ghost use Rattle.tw_statement.specs.declared.statement.First.{First};
-ghost use Rattle.tw_statement.specs.Statement.{IsInName, IsInstrWord, IsLabelWord, IsLetter, IsName, IsPromised};
+ghost use Rattle.tw_statement.specs.Statement.{IsInstrWord, IsLabelWord, IsPromised};
 
+use crate::label_names::{before, is_name};
+use crate::opcode::opcode_named;
 use crate::statement::First;
 
-fn is_letter(byte: u8) -> bool
-    ensures { IsTrue result ↔ IsLetter byte }
-{
-    matches!(byte, b'A'..=b'Z' | b'a'..=b'z')
-}
-
-fn is_in_name(byte: u8) -> bool
-    ensures { IsTrue result ↔ IsInName byte }
-{
-    is_letter(byte) || matches!(byte, b'0'..=b'9' | b'_')
-}
-
-/// Whether these bytes are a label's name, whatever its length.
-fn is_name(name: &[u8]) -> bool
-    ensures { IsTrue result ↔ IsName name.now }
-{
-    match name.split_first() {
-        Some((first, others)) => is_letter(*first) && others.iter().all(|byte| is_in_name(*byte)),
-        None => false,
-    }
-}
-
-/// What stands before these bytes, where they stand last.
-fn before<'a>(bytes: &'a [u8], end: &[u8]) -> Option<&'a [u8]>
-    ensures { MatchOption result
-        ((front : List ℕ) → bytes.entry.now ≢ front ++ end.now)
-        (λ front. bytes.entry.now ≡ front.now ++ end.now) }
-{
-    bytes.strip_suffix(end)
-}
-
-#[tactic(auto, using(crate::proofs::Firsts::label_by, crate::proofs::Firsts::no_label))]
+#[tactic(auto, using(crate::proofs::Firsts::no_label))]
 fn is_label(word: &[u8]) -> bool
     ensures { IsTrue result ↔ IsLabelWord word.now }
 {
@@ -49,23 +18,11 @@ fn is_label(word: &[u8]) -> bool
     }
 }
 
-fn is_among(word: &[u8], names: &[&str]) -> bool
-    ensures { result ≡ list_any (λ name. bytes_eq name.now word.now) names.now }
-{
-    names.iter().any(|name| name.as_bytes() == word)
-}
-
+#[tactic(auto, using(crate::proofs::Firsts::named_word))]
 fn is_instr_name(word: &[u8]) -> bool
     ensures { IsTrue result ↔ IsInstrWord word.now }
 {
-    is_among(
-        word,
-        &[
-            "INT", "TEXT", "COPY", "ADD", "SUB", "MUL", "DIV", "REM", "CAT", "LEN", "SHOW",
-            "READI", "JMP", "JEQ", "JLT", "REPEAT", "END", "NEW", "STORE", "GET", "INS", "LOOK",
-            "SIZE", "SUBAT", "DUPR", "DUPW", "DROPR", "DROPW", "RULE", "PUT", "RET",
-        ],
-    )
+    opcode_named(word).is_some()
 }
 
 /// What a first word promises, if anything.

@@ -5,7 +5,7 @@ ghost use Rattle.tw_lines.specs.Seen.{seen as seen_word};
 ghost use Rattle.tw_statement.specs.declared.opcode.Opcode.TheVariants as opcode;
 ghost use Rattle.tw_statement.specs.reading.Lines.{Gives, action_line, draft_in, drafted, line_in};
 
-use crate::gathering::{args_of, type_of};
+use crate::gathering::args_of;
 use crate::opcode::Opcode;
 use crate::operands::*;
 use crate::shapes::*;
@@ -266,16 +266,8 @@ fn text_of<'a>(alloc: Global, words: &[Word<'a>]) -> Result<Draft<'a>, Refusal>
 fn new_of<'a>(words: &[Word<'a>]) -> Result<Draft<'a>, Refusal>
     ensures { Gives drafted result (draft_in opcode.New (map seen_word words.now)) }
 {
-    match words {
-        [write, read, ty @ ..] => {
-            let (write, (read, ty)) = both_of(
-                right_of(write),
-                both_of(right_of(read), type_of(ty)),
-            )?;
-            Ok(straight(Instr::Data(DataInstr::New { write, read, ty })))
-        }
-        _ => Err(Refusal::Flawed(Flaw::Form)),
-    }
+    let (write, (read, ty)) = two_rights_and_type(words)?;
+    Ok(straight(Instr::Data(DataInstr::New { write, read, ty })))
 }
 
 /// The operands of RULE, and of PUT.

@@ -5,6 +5,7 @@ mod first;
 mod gathering;
 mod heads;
 mod instructions;
+mod label_names;
 mod opcode;
 mod operands;
 mod read;

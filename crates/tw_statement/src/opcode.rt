@@ -1,7 +1,10 @@
 //! Names of instructions.
 
 ghost use Rattle.std.specs.Prelude.{◌≡◌};
-ghost use Rattle.tw_statement.specs.reading.Lines.{computing_named, data_named, local_named, opcode_of};
+ghost use Rattle.std.specs.List.{find};
+ghost use Rattle.std.specs.Str.{bytes_eq};
+ghost use Rattle.tw_statement.specs.Parts.{operation_word};
+ghost use Rattle.tw_statement.specs.reading.Lines.{opcode_of, word_of};
 
 use tw_code::Arithmetic;
 
@@ -37,90 +40,61 @@ pub enum Opcode {
     Ret,
 }
 
-fn local_named(name: &[u8], others: Option<Opcode>) -> Option<Opcode>
-    ensures { result ≡ local_named name.now others }
+fn operation_word(operation: Arithmetic) -> &'static str
+    ensures { result.now ≡ operation_word operation }
 {
-    if name == b"INT".as_slice() {
-        Some(Opcode::Int)
-    } else if name == b"TEXT".as_slice() {
-        Some(Opcode::Text)
-    } else if name == b"COPY".as_slice() {
-        Some(Opcode::Copy)
-    } else if name == b"JMP".as_slice() {
-        Some(Opcode::Jump)
-    } else if name == b"JEQ".as_slice() {
-        Some(Opcode::JumpEqual)
-    } else if name == b"JLT".as_slice() {
-        Some(Opcode::JumpLess)
-    } else if name == b"REPEAT".as_slice() {
-        Some(Opcode::Repeat)
-    } else if name == b"END".as_slice() {
-        Some(Opcode::End)
-    } else {
-        others
+    match operation {
+        Arithmetic::Add => "ADD",
+        Arithmetic::Subtract => "SUB",
+        Arithmetic::Multiply => "MUL",
+        Arithmetic::Divide => "DIV",
+        Arithmetic::Remainder => "REM",
     }
 }
 
-fn computing_named(name: &[u8], others: Option<Opcode>) -> Option<Opcode>
-    ensures { result ≡ computing_named name.now others }
+/// The name of an instruction.
+pub fn word_of(opcode: Opcode) -> &'static str
+    ensures { result.now ≡ word_of opcode }
 {
-    if name == b"ADD".as_slice() {
-        Some(Opcode::Compute(Arithmetic::Add))
-    } else if name == b"SUB".as_slice() {
-        Some(Opcode::Compute(Arithmetic::Subtract))
-    } else if name == b"MUL".as_slice() {
-        Some(Opcode::Compute(Arithmetic::Multiply))
-    } else if name == b"DIV".as_slice() {
-        Some(Opcode::Compute(Arithmetic::Divide))
-    } else if name == b"REM".as_slice() {
-        Some(Opcode::Compute(Arithmetic::Remainder))
-    } else if name == b"CAT".as_slice() {
-        Some(Opcode::Concatenate)
-    } else if name == b"LEN".as_slice() {
-        Some(Opcode::Length)
-    } else if name == b"SHOW".as_slice() {
-        Some(Opcode::Show)
-    } else if name == b"READI".as_slice() {
-        Some(Opcode::ReadInt)
-    } else {
-        others
+    match opcode {
+        Opcode::Int => "INT",
+        Opcode::Text => "TEXT",
+        Opcode::Copy => "COPY",
+        Opcode::Compute(operation) => operation_word(operation),
+        Opcode::Concatenate => "CAT",
+        Opcode::Length => "LEN",
+        Opcode::Show => "SHOW",
+        Opcode::ReadInt => "READI",
+        Opcode::Jump => "JMP",
+        Opcode::JumpEqual => "JEQ",
+        Opcode::JumpLess => "JLT",
+        Opcode::Repeat => "REPEAT",
+        Opcode::End => "END",
+        Opcode::New => "NEW",
+        Opcode::Store => "STORE",
+        Opcode::Get => "GET",
+        Opcode::Insert => "INS",
+        Opcode::Look => "LOOK",
+        Opcode::Size => "SIZE",
+        Opcode::SubscriptAt => "SUBAT",
+        Opcode::CopyRead => "DUPR",
+        Opcode::CopyWrite => "DUPW",
+        Opcode::DropRead => "DROPR",
+        Opcode::DropWrite => "DROPW",
+        Opcode::Rule => "RULE",
+        Opcode::Put => "PUT",
+        Opcode::Ret => "RET",
     }
 }
 
-fn data_named(name: &[u8]) -> Option<Opcode>
-    ensures { result ≡ data_named name.now }
+/// The first of these with this name.
+fn named_among(name: &[u8], opcodes: &[Opcode]) -> Option<Opcode>
+    ensures { result ≡ find (λ opcode. bytes_eq (word_of opcode) name.now) opcodes.now }
 {
-    if name == b"NEW".as_slice() {
-        Some(Opcode::New)
-    } else if name == b"STORE".as_slice() {
-        Some(Opcode::Store)
-    } else if name == b"GET".as_slice() {
-        Some(Opcode::Get)
-    } else if name == b"INS".as_slice() {
-        Some(Opcode::Insert)
-    } else if name == b"LOOK".as_slice() {
-        Some(Opcode::Look)
-    } else if name == b"SIZE".as_slice() {
-        Some(Opcode::Size)
-    } else if name == b"SUBAT".as_slice() {
-        Some(Opcode::SubscriptAt)
-    } else if name == b"DUPR".as_slice() {
-        Some(Opcode::CopyRead)
-    } else if name == b"DUPW".as_slice() {
-        Some(Opcode::CopyWrite)
-    } else if name == b"DROPR".as_slice() {
-        Some(Opcode::DropRead)
-    } else if name == b"DROPW".as_slice() {
-        Some(Opcode::DropWrite)
-    } else if name == b"RULE".as_slice() {
-        Some(Opcode::Rule)
-    } else if name == b"PUT".as_slice() {
-        Some(Opcode::Put)
-    } else if name == b"RET".as_slice() {
-        Some(Opcode::Ret)
-    } else {
-        None
-    }
+    opcodes
+        .iter()
+        .copied()
+        .find(|opcode| word_of(*opcode).as_bytes() == name)
 }
 
 /// The instruction of this name.
@@ -128,5 +102,40 @@ fn data_named(name: &[u8]) -> Option<Opcode>
 pub fn opcode_named(name: &[u8]) -> Option<Opcode>
     ensures { result ≡ opcode_of name.now }
 {
-    local_named(name, computing_named(name, data_named(name)))
+    named_among(
+        name,
+        &[
+            Opcode::Int,
+            Opcode::Text,
+            Opcode::Copy,
+            Opcode::Compute(Arithmetic::Add),
+            Opcode::Compute(Arithmetic::Subtract),
+            Opcode::Compute(Arithmetic::Multiply),
+            Opcode::Compute(Arithmetic::Divide),
+            Opcode::Compute(Arithmetic::Remainder),
+            Opcode::Concatenate,
+            Opcode::Length,
+            Opcode::Show,
+            Opcode::ReadInt,
+            Opcode::Jump,
+            Opcode::JumpEqual,
+            Opcode::JumpLess,
+            Opcode::Repeat,
+            Opcode::End,
+            Opcode::New,
+            Opcode::Store,
+            Opcode::Get,
+            Opcode::Insert,
+            Opcode::Look,
+            Opcode::Size,
+            Opcode::SubscriptAt,
+            Opcode::CopyRead,
+            Opcode::CopyWrite,
+            Opcode::DropRead,
+            Opcode::DropWrite,
+            Opcode::Rule,
+            Opcode::Put,
+            Opcode::Ret,
+        ],
+    )
 }

@@ -3,8 +3,9 @@
 ghost use Rattle.std.specs.Prelude.{◌≡◌, ◌≤◌, IfOk};
 ghost use Rattle.tw_lines.specs.Words.{Bare};
 ghost use Rattle.tw_lines.specs.Seen.{seen as seen_word};
-ghost use Rattle.tw_statement.specs.reading.Operands.{as_is, both, digits_in, signed_in, natural_in, register_in, number_in, literal_in, own, target_in, is_letter, is_in_name, all_in_name, is_name, name_in, goal_in, scalar_in, piece_in, mode_in};
+ghost use Rattle.tw_statement.specs.reading.Operands.{as_is, both, digits_in, signed_in, natural_in, register_in, number_in, literal_in, own, target_in, goal_in, scalar_in, piece_in, mode_in};
 
+use crate::label_names::name_of;
 use crate::statement::Flaw;
 use std::alloc::{AllocError, Global};
 use std::marker::Model;
@@ -73,15 +74,21 @@ fn signed_of(text: &[u8]) -> Result<i64, Flaw>
     own_of(tw_words::number(text))
 }
 
+fn byte_in(low: u8, high: u8, text: &[u8]) -> Result<u8, Flaw>
+    ensures { result ≡ digits_in low high text.now }
+{
+    match digits_of(text, u64::from(low), u64::from(high)) {
+        Ok(number) => Ok(number as u8),
+        Err(flaw) => Err(flaw),
+    }
+}
+
 /// A number without a sign, of one byte.
 pub fn byte_of(low: u8, high: u8, word: &Word<'_>) -> Result<u8, Flaw>
     ensures { result ≡ natural_in low high (seen_word word.now) }
 {
     match word {
-        Word::Bare(text) => match digits_of(text, u64::from(low), u64::from(high)) {
-            Ok(number) => Ok(number as u8),
-            Err(flaw) => Err(flaw),
-        },
+        Word::Bare(text) => byte_in(low, high, text),
         Word::Quoted(_) => Err(Flaw::Form),
     }
 }
@@ -99,16 +106,23 @@ pub fn turns_of(word: &Word<'_>) -> Result<u16, Flaw>
     }
 }
 
+/// The number of a register, behind its letter.
+fn number_behind(letter: u8, text: &[u8]) -> Result<u8, Flaw>
+    ensures { result ≡ register_in letter (Bare text.now) }
+{
+    match text {
+        [first, rest @ ..] if *first == letter => byte_in(0, 15, rest),
+        _ => Err(Flaw::Form),
+    }
+}
+
 /// A register, by its letter and its number.
 fn register_of(letter: u8, word: &Word<'_>) -> Result<u8, Flaw>
     ensures { result ≡ register_in letter (seen_word word.now) }
 {
     match word {
-        Word::Bare([first, rest @ ..]) if *first == letter => match digits_of(rest, 0, 15) {
-            Ok(number) => Ok(number as u8),
-            Err(flaw) => Err(flaw),
-        },
-        _ => Err(Flaw::Form),
+        Word::Bare(text) => number_behind(letter, text),
+        Word::Quoted(_) => Err(Flaw::Form),
     }
 }
 
@@ -162,59 +176,12 @@ pub fn target_of(word: &Word<'_>) -> Result<Option<u8>, Flaw>
             if *text == b"any".as_slice() {
                 return Ok(None);
             }
-            match digits_of(text, 0, 15) {
-                Ok(number) => Ok(Some(number as u8)),
+            match byte_in(0, 15, text) {
+                Ok(number) => Ok(Some(number)),
                 Err(flaw) => Err(flaw),
             }
         }
         Word::Quoted(_) => Err(Flaw::Form),
-    }
-}
-
-fn is_letter(byte: u8) -> bool
-    ensures { result ≡ is_letter byte }
-{
-    65 <= byte && byte <= 90 || 97 <= byte && byte <= 122
-}
-
-fn is_in_name(byte: u8) -> bool
-    ensures { result ≡ is_in_name byte }
-{
-    is_letter(byte) || 48 <= byte && byte <= 57 || byte == b'_'
-}
-
-fn all_in_name(text: &[u8]) -> bool
-    ensures { result ≡ all_in_name text.now }
-{
-    for byte in text {
-        if !is_in_name(*byte) {
-            return false;
-        }
-    }
-    true
-}
-
-/// Whether it is a letter and then letters, digits or `_`.
-fn is_name(text: &[u8]) -> bool
-    ensures { result ≡ is_name text.now }
-{
-    match text {
-        [] => false,
-        [first, others @ ..] => is_letter(*first) && all_in_name(others),
-    }
-}
-
-/// A label's name, of at most 64 bytes.
-#[tactic(auto, unfolding(crate::specs::reading::Operands::name_in))]
-pub fn name_of(text: &[u8]) -> Result<&[u8], Flaw>
-    ensures { as_is (λ name. name.now) result ≡ name_in text.now }
-{
-    if !is_name(text) {
-        Err(Flaw::Form)
-    } else if text.len() > 64 {
-        Err(Flaw::Limit)
-    } else {
-        Ok(text)
     }
 }
 

@@ -1,17 +1,17 @@
 //! Statements from words.
 
-ghost use Rattle.std.specs.Prelude.{◌≡◌, ◌≢◌, ◌∷◌, ◌++◌, ℕ, List, MatchOption, map};
+ghost use Rattle.std.specs.Prelude.{◌≡◌, ◌∷◌, map};
 ghost use Rattle.tw_lines.specs.Seen.{seen as seen_word};
 ghost use Rattle.tw_lines.specs.Words.{Bare};
-ghost use Rattle.std.specs.Option.{option_map};
 ghost use Rattle.tw_statement.specs.Seen.{Answers, seen};
-ghost use Rattle.tw_statement.specs.reading.Lines.{Gives, before_colon, body_in, head_in, label_line, opcode_of, registers_in, statement_in};
+ghost use Rattle.tw_statement.specs.reading.Lines.{Gives, body_in, head_in, label_line, opcode_of, registers_in, statement_in};
 
 use crate::gathering::scalars_of;
 use crate::heads::{kind_of, params_of};
 use crate::instructions::draft_of;
+use crate::label_names::{before_colon, name_of};
 use crate::opcode::opcode_named;
-use crate::operands::{both_of, name_of};
+use crate::operands::both_of;
 use crate::statement::{Flaw, Refusal, Statement};
 use std::alloc::Global;
 use tw_lines::Word;
@@ -36,22 +36,6 @@ fn registers_of<'a>(alloc: Global, words: &[Word<'_>]) -> Result<Statement<'a>, 
 {
     let registers = scalars_of(alloc, words)?;
     Ok(Statement::Registers(registers?))
-}
-
-/// What stands before these bytes, where they stand last.
-fn before<'a>(bytes: &'a [u8], back: &[u8]) -> Option<&'a [u8]>
-    ensures { MatchOption result
-        ((front : List ℕ) → bytes.entry.now ≢ front ++ back.now)
-        (λ front. bytes.entry.now ≡ front.now ++ back.now) }
-{
-    bytes.strip_suffix(back)
-}
-
-/// What stands before a `:` at the end.
-fn before_colon(word: &[u8]) -> Option<&[u8]>
-    ensures { option_map (λ name. name.now) result ≡ before_colon word.now }
-{
-    before(word, b":")
 }
 
 /// A label, as one word.

@@ -3,14 +3,16 @@
 ghost use Rattle.std.specs.Prelude.{◌≡◌, ◌++◌, [], ◌∷◌, None, OnOk, codes, decimal, map};
 ghost use Rattle.std.specs.Fmt.{signed_decimal};
 ghost use Rattle.std.specs.List.{flat_map};
-ghost use Rattle.tw_statement.specs.Parts.{kind_word, mode_word, operation_word, scalar_word};
+ghost use Rattle.tw_statement.specs.Parts.{kind_word, mode_word, scalar_word};
 ghost use Rattle.tw_statement.specs.Parts.{Name as name_part, Target as target_part, TypeOf as type_part, action_parts, data_parts, local_parts, param_parts};
 ghost use Rattle.tw_statement.specs.Statement.{Code, Head, Label, Registers};
 ghost use Rattle.tw_statement.specs.Written.{goal_word, line_of, part_words};
+ghost use Rattle.tw_statement.specs.reading.Lines.{word_of};
 ghost use Rattle.tw_statement.specs.words.Lines.{behind, call_words, line_of_parts, seen_operand};
 
+use crate::opcode::{Opcode, word_of};
 use std::alloc::{AllocError, Global};
-use tw_code::{Action, Arithmetic, DataInstr, Instr, LocalInstr};
+use tw_code::{Action, DataInstr, Instr, LocalInstr};
 use tw_types::{DataType, Kind, Mode, Param, Scalar};
 use tw_words::put_quoted;
 
@@ -61,24 +63,19 @@ fn scalar_word(scalar: Scalar) -> &'static str
     }
 }
 
-fn operation_word(operation: Arithmetic) -> &'static str
-    ensures { result.now ≡ operation_word operation }
-{
-    match operation {
-        Arithmetic::Add => "ADD",
-        Arithmetic::Subtract => "SUB",
-        Arithmetic::Multiply => "MUL",
-        Arithmetic::Divide => "DIV",
-        Arithmetic::Remainder => "REM",
-    }
-}
-
 // ---- bytes
 
 fn put(out: &mut Vec<u8>, text: &str) -> Result<(), AllocError>
     ensures { OnOk result (out.new.items ≡ out.old.items ++ text.now) }
 {
     out.extend_from_slice(text.as_bytes())
+}
+
+fn put_both(out: &mut Vec<u8>, front: &str, back: &str) -> Result<(), AllocError>
+    ensures { OnOk result (out.new.items ≡ out.old.items ++ (front.now ++ back.now)) }
+{
+    put(out, front)?;
+    put(out, back)
 }
 
 fn put_numbered(
@@ -90,16 +87,14 @@ fn put_numbered(
     ensures { OnOk result (out.new.items ≡ out.old.items ++ (front.now ++ decimal number)) }
 {
     let digits = format!(in alloc; "{number}")?;
-    put(out, front)?;
-    put(out, &digits)
+    put_both(out, front, &digits)
 }
 
 fn put_number(alloc: Global, out: &mut Vec<u8>, number: i64) -> Result<(), AllocError>
     ensures { OnOk result (out.new.items ≡ out.old.items ++ (codes " " ++ signed_decimal number)) }
 {
     let digits = format!(in alloc; "{number}")?;
-    put(out, " ")?;
-    put(out, &digits)
+    put_both(out, " ", &digits)
 }
 
 // ---- a part, with a space before each of its words
@@ -107,8 +102,7 @@ fn put_number(alloc: Global, out: &mut Vec<u8>, number: i64) -> Result<(), Alloc
 fn put_name(out: &mut Vec<u8>, name: &str) -> Result<(), AllocError>
     ensures { OnOk result (out.new.items ≡ out.old.items ++ behind (name.now ∷ [])) }
 {
-    put(out, " ")?;
-    put(out, name)
+    put_both(out, " ", name)
 }
 
 #[tactic(auto, using(crate::proofs::Lines::more_behind))]
@@ -188,12 +182,12 @@ fn put_line(
     alloc: Global,
     out: &mut Vec<u8>,
     label: Option<usize>,
-    name: &str,
+    opcode: Opcode,
     operands: &[Operand<'_>],
 ) -> Result<(), AllocError>
-    ensures { OnOk result (out.new.items ≡ out.old.items ++ line_of_parts (goal_word label) (name_part name.now ∷ map seen_operand operands.now)) }
+    ensures { OnOk result (out.new.items ≡ out.old.items ++ line_of_parts (goal_word label) (name_part (word_of opcode) ∷ map seen_operand operands.now)) }
 {
-    put(out, name)?;
+    put(out, word_of(opcode))?;
     for operand in operands {
         put_operand(alloc, out, label, operand)?;
     }
@@ -213,21 +207,21 @@ fn put_local(
             alloc,
             out,
             label,
-            "INT",
+            Opcode::Int,
             &[Value(*to), Number(*value)],
         ),
         LocalInstr::Text { to, text } => put_line(
             alloc,
             out,
             label,
-            "TEXT",
+            Opcode::Text,
             &[Value(*to), Literal(text.as_str())],
         ),
         LocalInstr::Copy { to, from } => put_line(
             alloc,
             out,
             label,
-            "COPY",
+            Opcode::Copy,
             &[Value(*to), Value(*from)],
         ),
         LocalInstr::Compute {
@@ -240,7 +234,7 @@ fn put_local(
             alloc,
             out,
             label,
-            operation_word(*operation),
+            Opcode::Compute(*operation),
             &[Value(*to), Value(*left), Value(*right), Skip(*skip)],
         ),
         LocalInstr::Concatenate {
@@ -252,47 +246,53 @@ fn put_local(
             alloc,
             out,
             label,
-            "CAT",
+            Opcode::Concatenate,
             &[Value(*to), Value(*left), Value(*right), Skip(*skip)],
         ),
         LocalInstr::Length { to, from } => put_line(
             alloc,
             out,
             label,
-            "LEN",
+            Opcode::Length,
             &[Value(*to), Value(*from)],
         ),
         LocalInstr::Show { to, from } => put_line(
             alloc,
             out,
             label,
-            "SHOW",
+            Opcode::Show,
             &[Value(*to), Value(*from)],
         ),
         LocalInstr::ReadInt { to, from, skip } => put_line(
             alloc,
             out,
             label,
-            "READI",
+            Opcode::ReadInt,
             &[Value(*to), Value(*from), Skip(*skip)],
         ),
-        LocalInstr::Jump { skip } => put_line(alloc, out, label, "JMP", &[Skip(*skip)]),
+        LocalInstr::Jump { skip } => put_line(alloc, out, label, Opcode::Jump, &[Skip(*skip)]),
         LocalInstr::JumpEqual { left, right, skip } => put_line(
             alloc,
             out,
             label,
-            "JEQ",
+            Opcode::JumpEqual,
             &[Value(*left), Value(*right), Skip(*skip)],
         ),
         LocalInstr::JumpLess { left, right, skip } => put_line(
             alloc,
             out,
             label,
-            "JLT",
+            Opcode::JumpLess,
             &[Value(*left), Value(*right), Skip(*skip)],
         ),
-        LocalInstr::Repeat { turns } => put_line(alloc, out, label, "REPEAT", &[Natural(*turns)]),
-        LocalInstr::End => put_line(alloc, out, label, "END", &[]),
+        LocalInstr::Repeat { turns } => put_line(
+            alloc,
+            out,
+            label,
+            Opcode::Repeat,
+            &[Natural(*turns)],
+        ),
+        LocalInstr::End => put_line(alloc, out, label, Opcode::End, &[]),
     }
 }
 
@@ -309,21 +309,21 @@ fn put_data(
             alloc,
             out,
             label,
-            "NEW",
+            Opcode::New,
             &[Right(write), Right(read), TypeOf(ty)],
         ),
         DataInstr::Store { datum, from } => put_line(
             alloc,
             out,
             label,
-            "STORE",
+            Opcode::Store,
             &[Right(datum), Value(from)],
         ),
         DataInstr::Get { to, datum } => put_line(
             alloc,
             out,
             label,
-            "GET",
+            Opcode::Get,
             &[Value(to), Right(datum)],
         ),
         DataInstr::Insert {
@@ -335,7 +335,7 @@ fn put_data(
             alloc,
             out,
             label,
-            "INS",
+            Opcode::Insert,
             &[
                 Right(container),
                 Value(subscript),
@@ -352,7 +352,7 @@ fn put_data(
             alloc,
             out,
             label,
-            "LOOK",
+            Opcode::Look,
             &[
                 Right(member),
                 Right(container),
@@ -364,7 +364,7 @@ fn put_data(
             alloc,
             out,
             label,
-            "SIZE",
+            Opcode::Size,
             &[Value(to), Right(container)],
         ),
         DataInstr::SubscriptAt {
@@ -376,25 +376,37 @@ fn put_data(
             alloc,
             out,
             label,
-            "SUBAT",
+            Opcode::SubscriptAt,
             &[Value(to), Right(container), Value(index), Skip(skip)],
         ),
         DataInstr::CopyRead { to, from } => put_line(
             alloc,
             out,
             label,
-            "DUPR",
+            Opcode::CopyRead,
             &[Right(to), Right(from)],
         ),
         DataInstr::CopyWrite { to, from } => put_line(
             alloc,
             out,
             label,
-            "DUPW",
+            Opcode::CopyWrite,
             &[Right(to), Right(from)],
         ),
-        DataInstr::DropRead { right } => put_line(alloc, out, label, "DROPR", &[Right(right)]),
-        DataInstr::DropWrite { right } => put_line(alloc, out, label, "DROPW", &[Right(right)]),
+        DataInstr::DropRead { right } => put_line(
+            alloc,
+            out,
+            label,
+            Opcode::DropRead,
+            &[Right(right)],
+        ),
+        DataInstr::DropWrite { right } => put_line(
+            alloc,
+            out,
+            label,
+            Opcode::DropWrite,
+            &[Right(right)],
+        ),
     }
 }
 
@@ -416,12 +428,12 @@ fn put_argument(alloc: Global, out: &mut Vec<u8>, register: u8) -> Result<(), Al
 fn put_action(
     alloc: Global,
     out: &mut Vec<u8>,
-    name: &str,
+    opcode: Opcode,
     action: &Action,
 ) -> Result<(), AllocError>
-    ensures { OnOk result (out.new.items ≡ out.old.items ++ line_of_parts (goal_word None) (name_part name.now ∷ action_parts action.now)) }
+    ensures { OnOk result (out.new.items ≡ out.old.items ++ line_of_parts (goal_word None) (name_part (word_of opcode) ∷ action_parts action.now)) }
 {
-    put(out, name)?;
+    put(out, word_of(opcode))?;
     put_call(alloc, out, action)?;
     for register in action.args.as_slice() {
         put_argument(alloc, out, *register)?;
@@ -441,9 +453,9 @@ pub fn put_instr(
     match instr {
         Instr::Local(instr) => put_local(alloc, out, label, instr),
         Instr::Data(instr) => put_data(alloc, out, label, *instr),
-        Instr::Rule(action) => put_action(alloc, out, "RULE", action),
-        Instr::Put(action) => put_action(alloc, out, "PUT", action),
-        Instr::Ret => put(out, "RET\n"),
+        Instr::Rule(action) => put_action(alloc, out, Opcode::Rule, action),
+        Instr::Put(action) => put_action(alloc, out, Opcode::Put, action),
+        Instr::Ret => put_line(alloc, out, None, Opcode::Ret, &[]),
     }
 }
 

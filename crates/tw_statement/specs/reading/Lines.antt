@@ -1,5 +1,6 @@
 -- What the words behind a name say: a line an instruction.
 use Rattle.std.specs.Prelude.{◌≡◌, ℕ, suc, ◌+◌, ℤ, Bool, true, false, ◌&&◌, List, [], ◌∷◌, ◌++◌, length, codes, Option, Some, None, Result, Ok, Err, nat_lt, ◌==◌, if◌then◌else◌}
+use Rattle.std.specs.List.{find}
 use Rattle.std.specs.Str.{bytes_eq}
 use Rattle.tw_code.specs.declared.instr.Arithmetic.TheVariants.{Add, Subtract, Multiply, Divide, Remainder}
 use Rattle.tw_code.specs.declared.instr.DataInstr.TheVariants as on_data
@@ -289,25 +290,15 @@ word_of op.Rule = codes "RULE"
 word_of op.Put = codes "PUT"
 word_of op.Ret = codes "RET"
 
-abbrev pub on : List ℕ → Opcode → Option Opcode → Option Opcode
-on name o others = if bytes_eq name (word_of o) then Some o else others
-
-abbrev pub data_named : List ℕ → Option Opcode
-data_named name =
-    on name op.New (on name op.Store (on name op.Get (on name op.Insert (on name op.Look (on name op.Size (on name op.SubscriptAt (
-    on name op.CopyRead (on name op.CopyWrite (on name op.DropRead (on name op.DropWrite (on name op.Rule (on name op.Put (on name op.Ret None)))))))))))))
-
-abbrev pub computing_named : List ℕ → Option Opcode → Option Opcode
-computing_named name others =
-    on name (op.Compute Add) (on name (op.Compute Subtract) (on name (op.Compute Multiply) (on name (op.Compute Divide) (on name (op.Compute Remainder) (
-    on name op.Concatenate (on name op.Length (on name op.Show (on name op.ReadInt others))))))))
-
-abbrev pub local_named : List ℕ → Option Opcode → Option Opcode
-local_named name others =
-    on name op.Int (on name op.Text (on name op.Copy (on name op.Jump (on name op.JumpEqual (on name op.JumpLess (on name op.Repeat (on name op.End others)))))))
+-- each of them
+abbrev pub opcodes : List Opcode
+opcodes =
+    op.Int ∷ op.Text ∷ op.Copy ∷ op.Compute Add ∷ op.Compute Subtract ∷ op.Compute Multiply ∷ op.Compute Divide ∷ op.Compute Remainder ∷ op.Concatenate ∷ op.Length ∷ op.Show ∷ op.ReadInt ∷
+    op.Jump ∷ op.JumpEqual ∷ op.JumpLess ∷ op.Repeat ∷ op.End ∷ op.New ∷ op.Store ∷ op.Get ∷ op.Insert ∷ op.Look ∷ op.Size ∷ op.SubscriptAt ∷
+    op.CopyRead ∷ op.CopyWrite ∷ op.DropRead ∷ op.DropWrite ∷ op.Rule ∷ op.Put ∷ op.Ret ∷ []
 
 unfoldable pub opcode_of : List ℕ → Option Opcode
-opcode_of name = local_named name (computing_named name (data_named name))
+opcode_of name = find (λ opcode. bytes_eq (word_of opcode) name) opcodes
 
 -- ---- statements
 

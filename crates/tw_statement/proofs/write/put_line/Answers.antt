@@ -4,6 +4,7 @@ use Rattle.std.specs.List.{join_with_byte}
 use Rattle.tw_statement.specs.words.Lines.{seen_operand}
 use Rattle.tw_statement.specs.Written.{goal_word, part_words}
 use Rattle.tw_statement.proofs.Lines.{flat_mapped, wrote_item, wrote_line}
+use Rattle.tw_statement.specs.reading.Lines.{word_of}
 use Rattle.tw_statement.proofs.write.put_line.Goals as goal
 
 pub loop-operand-preserved : goal.loop-operand-preserved
@@ -12,6 +13,6 @@ loop-operand-preserved c =
 
 pub returns : goal.returns
 returns c =
-    subst (λ (words : List (List ℕ)). OnOk c.put-2.result (c.put-2.new.out.items ≡ c.args.out.now.items ++ (join_with_byte 32 (c.args.name.now ∷ words) ++ codes "\n"))) (flat_mapped (part_words (goal_word c.args.label)) seen_operand c.args.operands.now)
-    (wrote_line (λ operand. part_words (goal_word c.args.label) (seen_operand operand)) c.args.operands.now c.loop-operand.operand-index c.put-2.result c.args.out.now.items c.args.name.now [] c.loop-operand.out.items c.put-2.new.out.items
+    subst (λ (words : List (List ℕ)). OnOk c.put-2.result (c.put-2.new.out.items ≡ c.args.out.now.items ++ (join_with_byte 32 ((word_of c.args.opcode) ∷ words) ++ codes "\n"))) (flat_mapped (part_words (goal_word c.args.label)) seen_operand c.args.operands.now)
+    (wrote_line (λ operand. part_words (goal_word c.args.label) (seen_operand operand)) c.args.operands.now c.loop-operand.operand-index c.put-2.result c.args.out.now.items (word_of c.args.opcode) [] c.loop-operand.out.items c.put-2.new.out.items
     c.loop-operand-test.false c.loop-operand.invariant c.put-2.ensures)
