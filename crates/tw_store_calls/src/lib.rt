@@ -1,15 +1,17 @@
 //! The calls of the data store as a pool makes them: a caller for each, with what the caller knows then.
 #![tactic(auto)]
 
-ghost use Rattle.std.specs.Prelude.{◌≡◌, ◌<◌, ◌^◌, ℤ, IfOk, IfErr, IfSome, OnOk, OnErr, Some, length, true};
+ghost use Rattle.std.specs.Prelude.{◌≡◌, ◌<◌, ◌^◌, ℤ, [], IfOk, IfErr, IfSome, IfNone, MatchOption, OnOk, OnErr, Some, None};
+ghost use Rattle.std.specs.Prelude.{drop, false, is_some, length, option_map, replicate, slice_get, slice_index_or, slice_set, true};
 ghost use Rattle.std.specs.FinMap.{get};
 ghost use Rattle.std.specs.declared.result.Result.TheVariants.{Ok};
 ghost use Rattle.tw_types.specs.Value.{is_of};
-ghost use Rattle.tw_types.specs.StoreCalls.{created, read_copied, read_dropped, set_to, store_after, one_write_less, value_at};
+ghost use Rattle.tw_types.specs.Store.{empty_store};
+ghost use Rattle.tw_types.specs.StoreCalls.{created, inserted, member_at, read_copied, read_dropped, set_to, store_after, one_write_less, subscribed, value_at, write_copied};
 ghost use Rattle.tw_types.specs.StoreChecks.{may_store, may_retrieve, may_insert, may_look, may_read_members, may_copy_write, may_drop_read, may_drop_write};
 ghost use Rattle.tw_store.specs.Room.{HasReadRoom, HasWriteRoom};
-ghost use Rattle.tw_store.specs.Served.{IsHere, IsLeft, IsUnchanged, KeepsPlaces};
-ghost use Rattle.tw_store.specs.Calls.{HasMemberRoom};
+ghost use Rattle.tw_store.specs.Served.{IsHere, IsLeft, IsNow, IsUnchanged, KeepsPlaces};
+ghost use Rattle.tw_store.specs.Calls.{HasMemberRoom, closed_by};
 
 use std::alloc::{AllocError, Global};
 use tw_rights::{ReadRight, WriteRight};
@@ -18,7 +20,8 @@ use tw_types::{DataType, DatumId, Notice, RuleNo, Value};
 
 /// A store for two servers.
 pub fn open(alloc: Global) -> Result<Store, AllocError>
-    ensures { IfOk result (λ s. s.store.next ≡ 1) }
+    ensures store { IfOk result (λ s. s.store ≡ empty_store) }
+    ensures queues { IfOk result (λ s. s.queues ≡ replicate 2 []) }
 {
     Store::new(alloc, 2)
 }
@@ -86,6 +89,9 @@ pub fn put(
     requires here { IsHere store.old container.now }
     requires member_here { IsHere store.old member }
     requires allowed { may_insert (get store.old.store.live container.now.id) (get store.old.store.live member.id) ≡ Ok tt }
+    ensures there { IfOk result (λ there. is_some there ≡ is_some (member_at store.old.store container.now.id subscript)) }
+    ensures put { IfOk result (λ there. IfNone there (IsNow (inserted store.old.store container.now.id subscript member.id) store.old store.new)) }
+    ensures present { IfOk result (λ there. IfSome there (λ right. (right ≡ member) × IsUnchanged store.old store.new)) }
     ensures refused { OnErr result (IsUnchanged store.old store.new) }
     ensures back { IfErr result (λ back. back ≡ member) }
 {
@@ -103,6 +109,8 @@ pub fn first(store: &mut Store, container: &ReadRight) -> Option<ReadRight>
     requires kept { (k : ℤ) → may_look store.old.store container.now.id k ≡ Ok tt }
     requires room { (k : ℤ) → HasMemberRoom store.old.store container.now.id k }
     ensures here { IfSome result (λ right. IsHere store.new right) }
+    ensures read { IfSome result (λ right. IsNow (read_copied store.old.store right.id) store.old store.new) }
+    ensures none { IfNone result (IsUnchanged store.old store.new) }
 {
     if store.size(container) == 0 {
         return None;
@@ -122,7 +130,7 @@ pub fn twice(store: &mut Store, read: &ReadRight, write: &WriteRight) -> (ReadRi
     requires write_room { HasWriteRoom (get (read_copied store.old.store read.now.id).live write.now.id) }
     ensures read { result.0 ≡ read.now }
     ensures write { result.1 ≡ write.now }
-    ensures places { store.new.places ≡ store.old.places }
+    ensures counted { IsNow (write_copied (read_copied store.old.store read.now.id) write.now.id) store.old store.new }
 {
     let read = store.copy_read(read);
     let write = store.copy_write(write);
@@ -135,6 +143,7 @@ pub fn end(store: &mut Store, right: WriteRight) -> Result<(), WriteRight>
     requires allowed { may_drop_write (get store.old.store.live right.id) ≡ Ok tt }
     ensures dropped { OnOk result (IsLeft store.old store.new right.id one_write_less) }
     ensures refused { OnErr result (IsUnchanged store.old store.new) }
+    ensures back { IfErr result (λ back. back ≡ right) }
 {
     store.drop_write(right)
 }
@@ -147,7 +156,11 @@ pub fn asked(
     parameter: u8,
 ) -> Result<bool, AllocError>
     requires { IsHere store.old right.now }
-    ensures { OnErr result (IsUnchanged store.old store.new) }
+    ensures ready { IfOk result (λ ready. ready ≡ closed_by (get store.old.store.live right.now.id)) }
+    ensures noted { closed_by (get store.old.store.live right.now.id) ≡ false
+        → OnOk result (IsNow (subscribed store.old.store right.now.id (record { rule = rule; parameter = parameter })) store.old store.new) }
+    ensures closed { closed_by (get store.old.store.live right.now.id) ≡ true → IsUnchanged store.old store.new }
+    ensures refused { OnErr result (IsUnchanged store.old store.new) }
 {
     match store.ask(right, rule, parameter) {
         Ok(Asked::Closed) => Ok(true),
@@ -159,7 +172,10 @@ pub fn asked(
 /// A server's turn: its oldest notice.
 pub fn delivered(store: &mut Store, server: u8) -> Option<Notice>
     requires { server < length store.old.queues }
-    ensures { store.new.store ≡ store.old.store }
+    ensures oldest { result ≡ slice_get (slice_index_or store.old.queues server []) 0 }
+    ensures rest { store.new.queues ≡ slice_set store.old.queues server (drop 1 (slice_index_or store.old.queues server [])) }
+    ensures store { store.new.store ≡ store.old.store }
+    ensures places { store.new.places ≡ store.old.places }
 {
     store.take_note(server)
 }
@@ -167,12 +183,15 @@ pub fn delivered(store: &mut Store, server: u8) -> Option<Notice>
 /// Whether the datum of a right is closed.
 pub fn is_closed(store: &Store, right: &ReadRight) -> bool
     requires { IsHere store.now right.now }
+    ensures { result ≡ closed_by (get store.now.store.live right.now.id) }
 {
     store.view_at(right).closed()
 }
 
 /// For a report: the type of the datum of an id, if it is live.
-pub fn type_of(store: &Store, id: DatumId) -> Option<DataType> {
+pub fn type_of(store: &Store, id: DatumId) -> Option<DataType>
+    ensures { result ≡ option_map (λ datum. datum.ty) (get store.now.store.live id) }
+{
     match store.view(id) {
         Some(datum) => Some(datum.ty()),
         None => None,
@@ -181,7 +200,7 @@ pub fn type_of(store: &Store, id: DatumId) -> Option<DataType> {
 
 /// For a trial: a right on the datum of an id, if it is live. Nothing counts it.
 pub fn right_on(store: &Store, id: DatumId) -> Option<ReadRight>
-    ensures { IfSome result (λ right. IsHere store.now right) }
+    ensures { MatchOption result (get store.now.places id ≡ None) (λ right. (right.id ≡ id) × IsHere store.now right) }
 {
     match store.place_of(id) {
         Some(place) => Some(ReadRight::of(id, place)),
