@@ -212,6 +212,25 @@ no_goal_fault s labels place others line name words which b l n (inr u) =
       | inr c ↦ absurd (omega (arith, u.1.2, all_of (λ (label : Placed). place + 1 ≤ label.place) (ahead (place + 1) others) (record { name = name; place = u.1.0 }) (ahead_above (place + 1) others) c))
     ]))
 
+-- the numbers of lines, over plain numbers
+at_first : (at number : ℕ) → at ≡ number → at ≤ number
+at_first at number e = omega arith
+
+no_later : (at number k : ℕ) → at ≡ number → at ≤ number + suc k
+no_later at number k e = omega arith
+
+one_later : (at number k : ℕ) → at ≤ (number + 1) + k → at ≤ number + suc k
+one_later at number k low = omega arith
+
+from_here : (at number : ℕ) → at ≤ number → at ≤ number + 0
+from_here at number low = omega arith
+
+same_later : (at number k : ℕ) → at ≡ (number + 1) + k → at ≡ number + suc k
+same_later at number k e = omega arith
+
+one_on : (k : ℕ) → suc k + 1 ≡ suc (k + 1)
+one_on k = omega arith
+
 -- where the first goal that isn't found stands
 pub record Located (number : ℕ) (s : Situation) (ls : List (List ℕ)) (said : List (Option Statement)) (f : AsmFault) : Type 0 where
   pub index : ℕ
@@ -222,13 +241,12 @@ pub record Located (number : ℕ) (s : Situation) (ls : List (List ℕ)) (said :
 
 located_more : (number : ℕ) (s : Situation) (line : List ℕ) (x : Option Statement) (ls : List (List ℕ)) (said : List (Option Statement)) (f : AsmFault) → Located (number + 1) (after_line number x s) ls said f → Located number s (line ∷ ls) (x ∷ said) f
 located_more number s line x ls said f l =
-    let e : suc (l.index + 1) ≡ suc l.index + 1 = omega arith in
     record {
       index = suc l.index;
-      at_is = omega (arith, l.at_is);
+      at_is = same_later f.line number l.index l.at_is;
       line = l.line;
       line_is = l.line_is;
-      wrong = subst (λ (k : ℕ). GoalFault (situation_from (number + 1) (after_line number x s) (take l.index said)) (labels_ahead (drop k (x ∷ said))) l.line f.no) e l.wrong;
+      wrong = subst (λ (k : ℕ). GoalFault (situation_from (number + 1) (after_line number x s) (take l.index said)) (labels_ahead (drop k (x ∷ said))) l.line f.no) (sym (one_on l.index)) l.wrong;
     }
 
 names_it : (i : Instr) (goal : Option (List ℕ)) (words : List Word) (name : List ℕ) → goal ≡ Some name → IsRead (record { statement = Code i; goal = goal }) words → NamesLabel name words
@@ -308,18 +326,18 @@ first_here number s labels place line more others ahead_said f which (Head kind 
 first_here number s labels place line more others ahead_said f which (Registers registers) goal words b l q same a u g = absurd ((other_statement (Registers registers) goal words line l q (at_name s ahead_said line which g)).1)
 first_here number s labels place line more others ahead_said f which (Label name) goal words b l q same a u g = absurd ((other_statement (Label name) goal words line l q (at_name s ahead_said line which g)).1)
 first_here number s labels place line more others ahead_said f which (Code i) None words b l q same a u g = absurd (no_label_named i words line l q (at_name s ahead_said line which g))
-first_here number s labels place line more others ahead_said f which (Code i) (Some name) words b l q same a (inl u) g = omega (arith, u.3)
+first_here number s labels place line more others ahead_said f which (Code i) (Some name) words b l q same a (inl u) g = at_first f.line number u.3
 first_here number s labels place line more others ahead_said f which (Code i) (Some name) words b l q same a (inr u) g =
     absurd (found_no_fault s labels place u.0.1.0 number more others ahead_said line name words which b l q.1.2 u.0.1.1 same (λ c d. not_again (number + 1) (after number (Code i) s) more others name a c d) g)
 
 first_later : (number k : ℕ) (labels : List Placed) (place : ℕ) (others : List (Option Read)) (f : AsmFault) (statement : Statement) (goal : Option (List ℕ))
     → (FirstUnlinked (goals_from (number + 1) (labels_after statement place labels) (place_after statement place) others) f → f.line ≤ (number + 1) + k)
     → FirstUnlinked (goals_from number labels place (Some (record { statement = statement; goal = goal }) ∷ others)) f → f.line ≤ number + suc k
-first_later number k labels place others f (Head kind params) goal later u = omega (arith, later u)
-first_later number k labels place others f (Registers registers) goal later u = omega (arith, later u)
-first_later number k labels place others f (Label name) goal later u = omega (arith, later u)
-first_later number k labels place others f (Code i) goal later (inl u) = omega (arith, u.3)
-first_later number k labels place others f (Code i) goal later (inr u) = omega (arith, later u.1)
+first_later number k labels place others f (Head kind params) goal later u = one_later f.line number k (later u)
+first_later number k labels place others f (Registers registers) goal later u = one_later f.line number k (later u)
+first_later number k labels place others f (Label name) goal later u = one_later f.line number k (later u)
+first_later number k labels place others f (Code i) goal later (inl u) = no_later f.line number k u.3
+first_later number k labels place others f (Code i) goal later (inr u) = one_later f.line number k (later u.1)
 
 line_same : (a b : List ℕ) → ◌≡◌ {A = Option (List ℕ)} (Some a) (Some b) → b ≡ a
 line_same a b e = cc
@@ -336,19 +354,15 @@ first_at number s labels place (x ∷ more) (None ∷ others) (y ∷ said) f zer
     absurd (blank_says (λ skip word. word ≡ a.name) (Code a.names.i) a.words (line_once a.words [] x (subst (IsLine a.words) (line_same x line e) a.is_line) r.0) a.names.spells)
 first_at number s labels place (x ∷ more) (Some read ∷ others) (y ∷ said) f zero line which r l b u e g =
     let same = same_ahead (number + 1) (after number read.statement s) more others said r.1 (subst (λ (t : Situation). LinesSay (number + 1) t more said) (line_alike number s x (Some read) y r.0 l.0) l.1) in
-    let low : f.line ≤ number = first_here number s labels place x more others (labels_ahead said) f which read.statement read.goal r.0.0.0 b r.0.0.1 r.0.0.2 same r.1 u (subst (λ (z : List ℕ). GoalFault s (labels_ahead said) z which) (line_same x line e) g) in
-    omega (arith, low)
+    from_here f.line number (first_here number s labels place x more others (labels_ahead said) f which read.statement read.goal r.0.0.0 b r.0.0.1 r.0.0.2 same r.1 u (subst (λ (z : List ℕ). GoalFault s (labels_ahead said) z which) (line_same x line e) g))
 first_at number s labels place (x ∷ more) (None ∷ others) (y ∷ said) f (suc k) line which r l b u e g =
-    let n : suc k + 1 ≡ suc (k + 1) = omega arith in
     let t = line_alike number s x None y r.0 l.0 in
-    let g2 = subst (λ (j : ℕ). GoalFault (situation_from (number + 1) (after_line number y s) (take k said)) (labels_ahead (drop j (y ∷ said))) line which) n g in
-    let low : f.line ≤ (number + 1) + k = first_at (number + 1) s labels place more others said f k line which r.1 (subst (λ (z : Situation). LinesSay (number + 1) z more said) t l.1) (record { names = b.names; low = b.low }) u e
-    (subst (λ (z : Situation). GoalFault (situation_from (number + 1) z (take k said)) (labels_ahead (drop (k + 1) said)) line which) t g2) in
-    omega (arith, low)
+    let g2 = subst (λ (j : ℕ). GoalFault (situation_from (number + 1) (after_line number y s) (take k said)) (labels_ahead (drop j (y ∷ said))) line which) (one_on k) g in
+    one_later f.line number k (first_at (number + 1) s labels place more others said f k line which r.1 (subst (λ (z : Situation). LinesSay (number + 1) z more said) t l.1) (record { names = b.names; low = b.low }) u e
+    (subst (λ (z : Situation). GoalFault (situation_from (number + 1) z (take k said)) (labels_ahead (drop (k + 1) said)) line which) t g2))
 first_at number s labels place (x ∷ more) (Some read ∷ others) (y ∷ said) f (suc k) line which r l b u e g =
-    let n : suc k + 1 ≡ suc (k + 1) = omega arith in
     let t = line_alike number s x (Some read) y r.0 l.0 in
-    let g2 = subst (λ (j : ℕ). GoalFault (situation_from (number + 1) (after_line number y s) (take k said)) (labels_ahead (drop j (y ∷ said))) line which) n g in
+    let g2 = subst (λ (j : ℕ). GoalFault (situation_from (number + 1) (after_line number y s) (take k said)) (labels_ahead (drop j (y ∷ said))) line which) (one_on k) g in
     first_later number k labels place others f read.statement read.goal
     (λ v. first_at (number + 1) (after number read.statement s) (labels_after read.statement place labels) (place_after read.statement place) more others said f k line which r.1
     (subst (λ (z : Situation). LinesSay (number + 1) z more said) t l.1) (behind_more number read.statement labels place s b) v e

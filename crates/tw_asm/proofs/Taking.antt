@@ -18,7 +18,7 @@ use Rattle.tw_statement.specs.Seen.{IsRead, Read, seen}
 use Rattle.tw_statement.specs.Statement.{Statement, Code, Head, Label, AnyName, AnyShortName, HaveForm, IsPromised, Say}
 use Rattle.tw_asm.specs.declared.fault.FaultNo.TheVariants as fault
 use Rattle.tw_asm.specs.Fault.{Stage, Start, AfterHead, InBody, Begins, HasWords, LineFault, MayBegin, MayStand, Situation, empty, instructions, label_twice, limit, operand, procedures, word}
-use Rattle.tw_asm.specs.reading.Progress.{AreClosed, AtStart, BehindHead, Within, IsEmptyAt, IsGoalOf, IsLimit, IsLimitLine, IsMemory, IsNotClosed, Place, Progress, Section, Stopped, TakenLine, TakenStatement, WordsRead, begun, drafts_at, ended, situation_of, stage_of, step}
+use Rattle.tw_asm.specs.reading.Progress.{AreClosed, AreFinished, AtStart, BehindHead, Within, IsEmptyAt, IsGoalOf, IsLimit, IsLimitLine, IsMemory, IsNotClosed, IsNotFinished, Place, Progress, Section, Stopped, TakenLine, TakenStatement, WordsRead, begun, drafts_at, ended, situation_of, stage_of, step}
 use Rattle.tw_asm.specs.reading.Promise.{IsPromisedBy, promise}
 use Rattle.tw_asm.proofs.Begins.{first_of_words, line_begins, promise_once}
 use Rattle.tw_lines.proofs.Once.{blank_no_word, broken_here, broken_no_line, first_word_once, line_blank, line_once}
@@ -150,6 +150,22 @@ pub head_taken : (p : Progress) (number : ℕ) (kind : Kind) (params : List Para
 head_taken p number kind params all m c few =
     let n : length all ≡ length p.sections + begun p.place = ap length c.0 ∙ closed_length p.sections p.place m in
     ((whole_at p.place m c.1, omega (arith, n, few)), ap (λ (ss : List Section). record { sections = ss; head_line = number; place = BehindHead kind params }) c.0)
+
+-- ---- the end
+
+body_start : ◌≡◌ {A = Stage} InBody Start → ⊥
+body_start e = absurd cc
+
+abbrev in_body : List Section → ℕ → Section → Progress
+in_body sections head_line section = record { sections = sections; head_line = head_line; place = Within section }
+
+-- the last section ends with the text as it would end with another
+pub finished : (sections all : List Section) (head_line : ℕ) (section : Section) → AreClosed sections (Within section) all → AreFinished (in_body sections head_line section) all
+finished sections all head_line section c = ((refl, positive (length section.drafts) c.1), c.0)
+
+pub not_finished_there : (sections : List Section) (head_line : ℕ) (section : Section) (f : AsmFault) → IsNotClosed (Within section) head_line f → IsNotFinished (in_body sections head_line section) f
+not_finished_there sections head_line section f (inl m) = inl m
+not_finished_there sections head_line section f (inr e) = inr (e.0.0, inr (body_start, e.1, e.0.1))
 
 -- ---- the first word of a list
 

@@ -221,26 +221,21 @@ fn add_label<'a>(
     Ok(())
 }
 
-fn with_label<'a>(
-    mut section: Section<'a>,
-    number: usize,
-    name: &'a [u8],
-) -> Result<Section<'a>, AsmFault>
-    ensures { WithLabel (seen_section section.entry) number name.now result }
+fn with_label<'a>(section: &mut Section<'a>, number: usize, name: &'a [u8]) -> Result<(), AsmFault>
+    ensures { WithLabel (seen_section section.old) (seen_section section.new) number name.now result }
 {
     let place = section.drafts.len();
-    add_label(&mut section.labels, name, place, number)?;
-    Ok(section)
+    add_label(&mut section.labels, name, place, number)
 }
 
-fn with_draft<'a>(mut section: Section<'a>, line: DraftLine<'a>) -> Result<Section<'a>, AsmFault>
-    ensures { WithDraft (seen_section section.entry) (seen_draft line.entry) result }
+fn with_draft<'a>(section: &mut Section<'a>, line: DraftLine<'a>) -> Result<(), AsmFault>
+    ensures { WithDraft (seen_section section.old) (seen_section section.new) (seen_draft line.entry) result }
 {
     if section.drafts.len() >= 4096 {
         return Err(AsmFault::new(FaultNo::Limit, line.number));
     }
     section.drafts.push(line)?;
-    Ok(section)
+    Ok(())
 }
 
 fn take_label<'a>(
@@ -255,10 +250,10 @@ fn take_label<'a>(
         head_line,
         stage,
     } = reading;
-    let Stage::InBody(section) = stage else {
+    let Stage::InBody(mut section) = stage else {
         return Err(AsmFault::new(FaultNo::Word, number));
     };
-    let section = with_label(section, number, name)?;
+    with_label(&mut section, number, name)?;
     Ok(Reading {
         sections,
         head_line,
@@ -278,10 +273,10 @@ fn take_draft<'a>(
         head_line,
         stage,
     } = reading;
-    let Stage::InBody(section) = stage else {
+    let Stage::InBody(mut section) = stage else {
         return Err(AsmFault::new(FaultNo::Word, number));
     };
-    let section = with_draft(section, DraftLine { draft, number })?;
+    with_draft(&mut section, DraftLine { draft, number })?;
     Ok(Reading {
         sections,
         head_line,
@@ -340,20 +335,14 @@ fn finish<'a>(reading: Reading<'a>) -> Result<Vec<Section<'a>>, AsmFault>
     ensures { MatchResult result (λ all. AreFinished (seen_reading reading.entry) (map seen_section all.items)) (λ f. IsNotFinished (seen_reading reading.entry) f) }
 {
     let Reading {
-        mut sections,
+        sections,
         head_line,
         stage,
     } = reading;
     match stage {
         Stage::Start => Err(AsmFault::new(FaultNo::Limit, 1)),
         Stage::AfterHead { .. } => Err(AsmFault::new(FaultNo::Limit, head_line)),
-        Stage::InBody(section) => {
-            if section.drafts.is_empty() {
-                return Err(AsmFault::new(FaultNo::Limit, head_line));
-            }
-            sections.push(section)?;
-            Ok(sections)
-        }
+        Stage::InBody(section) => close(sections, head_line, Stage::InBody(section)),
     }
 }
 

@@ -5,7 +5,7 @@ ghost use Rattle.tw_session.specs.declared.command.Order.TheVariants.{Assemble};
 ghost use Rattle.tw_session.specs.Session.{MayReply, RepliesByAccepted, RepliesByAssembly, RepliesByBytes, RepliesByInput};
 ghost use Rattle.tw_session.specs.Session.{RepliesByLayout, RepliesByOpening, RepliesByProgram, RepliesByText, RepliesByVerified, reply, run_reply};
 ghost use Rattle.tw_session.specs.Input.{digits_in};
-ghost use Rattle.tw_session.specs.Lines.{opening_line};
+ghost use Rattle.tw_session.specs.Lines.{opening_line, verify_line};
 ghost use Rattle.tw_types.specs.declared.input.Input.{Input as AnInput};
 ghost use Rattle.tw_types.specs.declared.actor.Kind.TheVariants.{Control, Leaf};
 ghost use Rattle.tw_code.specs.format.Reading.{program_of};
@@ -150,6 +150,24 @@ fn accepted_reply(
     }
 }
 
+/// The reply where a program isn't accepted.
+fn refusal_reply(
+    alloc: Global,
+    number: u8,
+    procedure: usize,
+    place: usize,
+) -> Result<Reply, AllocError>
+    requires { number < 100 }
+    ensures { IfOk result (λ r. reply r.text.items r.close ≡ reply (verify_line number procedure place) Close.Refused) }
+{
+    let mut text = Vec::new(alloc);
+    put_verify_line(alloc, &mut text, number, procedure, place)?;
+    Ok(Reply {
+        text,
+        close: Close::Refused,
+    })
+}
+
 /// Verifies a program, and does what is ordered if it is accepted.
 fn verified_reply(
     alloc: Global,
@@ -162,20 +180,7 @@ fn verified_reply(
         Ok(verified) => accepted_reply(alloc, order, verified),
         Err(refused) => match refused.no {
             VerifyRefusal::Memory => Err(AllocError),
-            no => {
-                let mut text = Vec::new(alloc);
-                put_verify_line(
-                    alloc,
-                    &mut text,
-                    no.number(),
-                    refused.procedure,
-                    refused.place,
-                )?;
-                Ok(Reply {
-                    text,
-                    close: Close::Refused,
-                })
-            }
+            no => refusal_reply(alloc, no.number(), refused.procedure, refused.place),
         },
     }
 }

@@ -4,28 +4,36 @@ ghost use Rattle.std.specs.Prelude.{◌≡◌, ◌++◌, OnOk};
 ghost use Rattle.std.specs.Option.{option_copied};
 ghost use Rattle.std.specs.FinMap.{entries, get};
 ghost use Rattle.tw_types.specs.StoreCalls.{members_in};
-ghost use Rattle.tw_session.specs.Report.{container_head, datum_text, member_line, member_lines};
-ghost use Rattle.tw_session.specs.Report.{output_line, output_text, report};
+ghost use Rattle.tw_session.specs.Report.{closed_text, container_head, datum_text, member_line, member_lines};
+ghost use Rattle.tw_session.specs.Report.{output_line, output_text, report, scalar_text};
 
 use crate::lines::{put, put_decimal, put_numbered, put_signed, put_value};
 use std::alloc::{AllocError, Global};
 use tw_machine::{Datum, State};
 use tw_types::{DatumId, Scalar};
 
+fn scalar_text(scalar: Scalar) -> &'static str
+    ensures { result.now ≡ scalar_text scalar }
+{
+    match scalar {
+        Scalar::Int => "int",
+        Scalar::Text => "text",
+    }
+}
+
+fn closed_text(closed: bool) -> &'static str
+    ensures { result.now ≡ closed_text closed }
+{
+    if closed { " closed " } else { " open " }
+}
+
 /// Adds what a container holds, and whether it is closed.
 fn put_container_head(out: &mut Vec<u8>, datum: &Datum) -> Result<(), AllocError>
     ensures { OnOk result (out.new.items ≡ out.old.items ++ container_head datum.now) }
 {
     put(out, "cont ")?;
-    match datum.ty().scalar() {
-        Scalar::Int => put(out, "int")?,
-        Scalar::Text => put(out, "text")?,
-    }
-    if datum.closed() {
-        put(out, " closed ")
-    } else {
-        put(out, " open ")
-    }
+    put(out, scalar_text(datum.ty().scalar()))?;
+    put(out, closed_text(datum.closed()))
 }
 
 /// Adds what is in a datum, or that it was freed.

@@ -198,13 +198,13 @@ abbrev pub LabelAdded : List Placed → List Placed → List ℕ → ℕ → Res
 LabelAdded old new name place (Ok done) number = (Contains (map (λ label. label.name) old) name → ⊥) × (new ≡ old ++ (record { name = name; place = place } ∷ []))
 LabelAdded old new name place (Err f) number = IsMemory f ⊎ ((f.no ≡ fault.LabelTwice) × (f.line ≡ number) × Contains (map (λ label. label.name) old) name)
 
-abbrev pub WithLabel : Section → ℕ → List ℕ → Result sections.Section AsmFault → Type 0
-WithLabel section number name (Ok new) = (Contains (map (λ label. label.name) section.labels) name → ⊥) × (seen_section new ≡ labelled name section)
-WithLabel section number name (Err f) = IsMemory f ⊎ ((f.no ≡ fault.LabelTwice) × (f.line ≡ number) × Contains (map (λ label. label.name) section.labels) name)
+abbrev pub WithLabel : Section → Section → ℕ → List ℕ → Result (Unit {0}) AsmFault → Type 0
+WithLabel section new number name (Ok done) = (Contains (map (λ label. label.name) section.labels) name → ⊥) × (new ≡ labelled name section)
+WithLabel section new number name (Err f) = IsMemory f ⊎ ((f.no ≡ fault.LabelTwice) × (f.line ≡ number) × Contains (map (λ label. label.name) section.labels) name)
 
-abbrev pub WithDraft : Section → Drafted → Result sections.Section AsmFault → Type 0
-WithDraft section draft (Ok new) = (length section.drafts < 4096) × (seen_section new ≡ drafted draft section)
-WithDraft section draft (Err f) = IsMemory f ⊎ (IsLimit f draft.number × (4096 ≤ length section.drafts))
+abbrev pub WithDraft : Section → Section → Drafted → Result (Unit {0}) AsmFault → Type 0
+WithDraft section new draft (Ok done) = (length section.drafts < 4096) × (new ≡ drafted draft section)
+WithDraft section new draft (Err f) = IsMemory f ⊎ (IsLimit f draft.number × (4096 ≤ length section.drafts))
 
 -- all lines of the text were read
 pub record AreTextRead (ls : List (List ℕ)) (p : Progress) : Type 0 where

@@ -1,0 +1,14 @@
+use Rattle.std.proofs.Common.{◌∷◌, [], inr, refl, arith}
+use Rattle.std.proofs.lemmas.List.{length-map, map-append}
+use Rattle.tw_asm.specs.reading.Progress.{seen_draft}
+use Rattle.tw_asm.proofs.reading.with_draft.Goals as goal
+
+pub returns-then-len-ge4096 : goal.returns-then-len-ge4096
+returns-then-len-ge4096 c =
+    inr ((c.new.ensures.no, c.new.ensures.line), omega (arith, length-map c.args.section.now.drafts.items seen_draft, c.args.section.now.drafts.ok))
+
+pub returns : goal.returns
+returns c = (
+  omega (arith, length-map c.args.section.now.drafts.items seen_draft, c.args.section.now.drafts.ok),
+  rw (c.in_ok-push.ensures.items, map-append seen_draft c.args.section.now.drafts.items (c.args.line ∷ [])) refl,
+)
