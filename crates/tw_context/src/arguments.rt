@@ -3,7 +3,6 @@
 ghost use Rattle.std.specs.Prelude.{◌≡◌, ◌≤◌, length, map, slice_get, slice_set, IfOk, MatchResult, None, Ok, OnOk};
 ghost use Rattle.std.specs.Option.{option_copied};
 ghost use Rattle.tw_types.specs.Notices.{Notices};
-ghost use Rattle.tw_types.specs.Result.{must};
 ghost use Rattle.tw_code.specs.format.Program.{IsProgram};
 ghost use Rattle.tw_code.specs.machine.Arguments.{all_pass, called, handed_over, has_type, put_called, values_suit};
 ghost use Rattle.tw_code.specs.machine.Rights.{held};
@@ -12,10 +11,11 @@ ghost use Rattle.tw_context.specs.Attempts.{Fails, Gives};
 ghost use Rattle.tw_context.specs.Contexts.{context};
 
 use crate::code::procedure_of;
-use crate::failure::Failure;
+use crate::failure::{Failure, must};
 use crate::frame::Frame;
+use crate::lists::keep;
 use crate::position::Position;
-use crate::registers::value_at;
+use crate::registers::copy_at;
 use std::alloc::{AllocError, Global};
 use std::marker::Model;
 use tw_code::{Action, Procedure};
@@ -128,16 +128,6 @@ pub fn put_called<'a>(
     Ok(call)
 }
 
-fn must(holds: bool, cause: Cause) -> Result<(), Failure>
-    ensures { Gives (must holds cause) result }
-{
-    if holds {
-        Ok(())
-    } else {
-        Err(Failure::Trap(cause))
-    }
-}
-
 /// Whether a register is declared and its value is of the type of a parameter.
 fn has_type(position: &Position, register: u8, param: Param) -> bool
     ensures { result ≡ has_type (slice_get position.now.values register) param }
@@ -187,11 +177,11 @@ fn hand_over(
     let mut args = Vec::new(alloc);
     for (param, register) in params.iter().zip(registers) {
         let arg = if param.mode.is_val() {
-            Arg::Value(value_at(position, *register)?.try_clone(alloc)?)
+            Arg::Value(copy_at(alloc, position, *register)?)
         } else {
             Arg::Right(take_right(rights, *register)?)
         };
-        args.push(arg)?;
+        keep(&mut args, arg)?;
     }
     Ok(args)
 }

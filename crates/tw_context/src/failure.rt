@@ -1,6 +1,9 @@
 //! Why an instruction isn't made.
 
-use std::alloc::{AllocError, AllocFailed};
+ghost use Rattle.tw_types.specs.Result.{must};
+ghost use Rattle.tw_context.specs.Attempts.{Gives};
+
+use std::alloc::AllocError;
 use tw_types::Cause;
 
 /// Why an instruction, or a part of one, isn't made.
@@ -32,13 +35,13 @@ impl From<AllocError> for Failure {
     }
 }
 
-impl<T: Drop> From<AllocFailed<T>> for Failure {
-    ghost use Rattle.std.specs.Prelude.{◌≡◌};
-    ghost use Rattle.tw_context.specs.declared.failure.Failure.TheVariants.{NoMemory};
-
-    ghost from_gives = { λ _ failure. failure ≡ NoMemory };
-
-    fn from(_: AllocFailed<T>) -> Failure {
-        Failure::NoMemory
+/// Fails with the cause unless this holds.
+pub fn must(holds: bool, cause: Cause) -> Result<(), Failure>
+    ensures { Gives (must holds cause) result }
+{
+    if holds {
+        Ok(())
+    } else {
+        Err(Failure::Trap(cause))
     }
 }

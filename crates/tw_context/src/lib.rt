@@ -11,6 +11,7 @@ mod containers;
 mod data;
 mod failure;
 mod frame;
+mod lists;
 mod local;
 mod notices;
 mod position;

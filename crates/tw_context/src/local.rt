@@ -2,7 +2,7 @@
 
 ghost use Rattle.std.specs.Prelude.{◌≡◌, ◌<◌, ◌≤◌, ◌^◌, IfOk, MatchResult, if◌then◌else◌};
 ghost use Rattle.tw_types.specs.Outcome.{Went};
-ghost use Rattle.tw_code.specs.declared.instr.LocalInstr.TheVariants.{Int as INT, Text as TEXT, Copy as COPY, Compute as COMPUTE, Concatenate as CAT, Length as LEN, Show as SHOW, ReadInt as READI, JumpEqual as JEQ, JumpLess as JLT, Repeat as REPEAT, End as END};
+ghost use Rattle.tw_code.specs.declared.instr.LocalInstr.TheVariants.{Int as INT, Text as TEXT, Copy as COPY, Compute as COMPUTE, Concatenate as CAT, Length as LEN, Show as SHOW, ReadInt as READI, JumpEqual as JEQ, JumpLess as JLT, End as END};
 ghost use Rattle.tw_code.specs.machine.Local.{local_instr, same_value};
 ghost use Rattle.tw_code.specs.machine.Machine.{local_step, local_steps};
 ghost use Rattle.tw_code.specs.machine.Position.{at_goal, at_next_place};
@@ -172,14 +172,6 @@ fn jump_less(position: &mut Position, left: u8, right: u8, skip: u16) -> Result<
     Ok(())
 }
 
-fn repeat(position: &mut Position, turns: u16) -> Result<(), Failure>
-    requires { position.old.place < 2 ^ 63 }
-    ensures { Leaves (local_instr (REPEAT turns) position.old) position.old result position.new }
-{
-    position.begin_loop(turns)?;
-    Ok(())
-}
-
 fn end(position: &mut Position) -> Result<(), Failure>
     requires { position.old.place < 2 ^ 63 }
     ensures { Leaves (local_instr END position.old) position.old result position.new }
@@ -221,7 +213,7 @@ fn local_instr(alloc: Global, instr: &LocalInstr, position: &mut Position) -> Re
         }
         LocalInstr::JumpEqual { left, right, skip } => jump_equal(position, *left, *right, *skip),
         LocalInstr::JumpLess { left, right, skip } => jump_less(position, *left, *right, *skip),
-        LocalInstr::Repeat { turns } => repeat(position, *turns),
+        LocalInstr::Repeat { turns } => Ok(position.begin_loop(*turns)?),
         LocalInstr::End => end(position),
     }
 }

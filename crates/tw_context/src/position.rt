@@ -5,6 +5,7 @@ ghost use Rattle.std.specs.Option.{option_copied, option_map};
 ghost use Rattle.tw_code.specs.machine.Position.{at_next_place, at_goal, with_value};
 ghost use Rattle.tw_code.specs.machine.Position.{after_end};
 
+use crate::lists::keep;
 use std::alloc::{AllocError, Global};
 use std::marker::Model;
 use tw_types::Value;
@@ -162,7 +163,7 @@ fn copies_of(alloc: Global, values: &[Value]) -> Result<Vec<Value>, AllocError>
 {
     let mut copies = Vec::new(alloc);
     for value in values {
-        copies.push(value.try_clone(alloc)?)?;
+        keep(&mut copies, value.try_clone(alloc)?)?;
     }
     Ok(copies)
 }

@@ -5,9 +5,10 @@ ghost use Rattle.tw_code.specs.machine.Position.{must_have_type, value_at, int_a
 ghost use Rattle.tw_code.specs.machine.Rights.{held, must_be_empty};
 ghost use Rattle.tw_context.specs.Attempts.{Fails, Gives};
 
-use crate::failure::Failure;
+use crate::failure::{Failure, must};
 use crate::frame::Frame;
 use crate::position::Position;
+use std::alloc::Global;
 use tw_types::{Cause, DatumId, Scalar, Text, Value};
 
 /// The value of a declared register.
@@ -18,6 +19,13 @@ pub fn value_at(position: &Position, register: u8) -> Result<&Value, Failure>
     position
         .value(register)
         .ok_or(Failure::Trap(Cause::WrongRegister))
+}
+
+/// A copy of the value of a declared register.
+pub fn copy_at(alloc: Global, position: &Position, register: u8) -> Result<Value, Failure>
+    ensures { Gives (value_at position.now register) result }
+{
+    Ok(value_at(position, register)?.try_clone(alloc)?)
 }
 
 pub fn int_at(position: &Position, register: u8) -> Result<i64, Failure>
@@ -44,11 +52,7 @@ pub fn must_have_type(position: &Position, register: u8, ty: Scalar) -> Result<(
     ensures declared { OnOk result (register < length position.now.values) }
 {
     let value = value_at(position, register)?;
-    if value.scalar() == ty {
-        Ok(())
-    } else {
-        Err(Failure::Trap(Cause::WrongRegister))
-    }
+    must(value.scalar() == ty, Cause::WrongRegister)
 }
 
 /// The id in a right register that is used.
@@ -64,8 +68,5 @@ pub fn held(frame: &Frame, register: u8) -> Result<DatumId, Failure>
 pub fn must_be_empty(frame: &Frame, register: u8) -> Result<(), Failure>
     ensures { Gives (must_be_empty frame.now.rights register) result }
 {
-    match frame.right(register) {
-        Some(_) => Err(Failure::Trap(Cause::WrongRegister)),
-        None => Ok(()),
-    }
+    must(frame.right(register).is_none(), Cause::WrongRegister)
 }

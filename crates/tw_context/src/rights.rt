@@ -9,7 +9,7 @@ ghost use Rattle.tw_types.specs.StoreChecks.{may_drop_write};
 ghost use Rattle.tw_context.specs.Contexts.{Does, DoesQuietly};
 ghost use Rattle.tw_context.specs.Room.{HasRoom};
 
-use crate::failure::Failure;
+use crate::failure::{Failure, must};
 use crate::frame::Frame;
 use crate::notices::Notices;
 use crate::registers::{held, must_be_empty};
@@ -31,9 +31,7 @@ pub fn create(
 {
     must_be_empty(frame, write)?;
     must_be_empty(frame, read)?;
-    if write == read {
-        return Err(Failure::Trap(Cause::WrongRegister));
-    }
+    must(write != read, Cause::WrongRegister)?;
     let id = store.create(alloc, ty)?;
     frame.fill(write, id);
     frame.fill(read, id);

@@ -2,16 +2,19 @@
 
 ghost use Rattle.std.specs.Prelude.{◌≡◌, ◌<◌, ◌^◌, Ok, OnErr, OnOk};
 ghost use Rattle.std.specs.FinMap.{get};
-ghost use Rattle.std.specs.Option.{option_and_then, option_copied};
+ghost use Rattle.std.specs.Option.{ok_or, option_and_then, option_copied};
 ghost use Rattle.tw_code.specs.declared.instr.DataInstr.TheVariants.{Store as STORE, Get as GET};
 ghost use Rattle.tw_code.specs.machine.Data.{suits};
 ghost use Rattle.tw_code.specs.machine.Rights.{right_at};
 ghost use Rattle.tw_types.specs.Notices.{with_notices};
+ghost use Rattle.tw_types.specs.declared.cause.Cause.TheVariants.{UnsetDatum};
 ghost use Rattle.tw_types.specs.StoreCalls.{notices_of_stored, stored};
+ghost use Rattle.tw_types.specs.StoreCalls.{value_at as stored_at};
 ghost use Rattle.tw_types.specs.StoreChecks.{may_store};
+ghost use Rattle.tw_context.specs.Attempts.{Gives};
 ghost use Rattle.tw_context.specs.Contexts.{Does, DoesQuietly};
 
-use crate::failure::Failure;
+use crate::failure::{Failure, must};
 use crate::frame::Frame;
 use crate::notices::Notices;
 use crate::registers::{held, value_at};
@@ -72,18 +75,26 @@ pub fn store(
     Ok(())
 }
 
+/// A copy of the value of a scalar, which must be set.
+fn copy_of(alloc: Global, store: &Data, id: DatumId) -> Result<Value, Failure>
+    ensures { Gives (ok_or (stored_at store.now id) UnsetDatum) result }
+{
+    let value = store.value(id).ok_or(Failure::Trap(Cause::UnsetDatum))?;
+    Ok(value.try_clone(alloc)?)
+}
+
 pub fn get(alloc: Global, store: &Data, frame: &mut Frame, to: u8, datum: u8) -> Result<(), Failure>
     requires { frame.old.position.place < 2 ^ 63 }
     ensures { DoesQuietly (GET to datum) store.now frame.old result store.now frame.new }
 {
     let old = value_at(frame.position(), to)?;
-    if !suits(old, datum_at(store, frame, datum)) {
-        return Err(Failure::Trap(Cause::WrongRegister));
-    }
+    must(
+        suits(old, datum_at(store, frame, datum)),
+        Cause::WrongRegister,
+    )?;
     let id = held(frame, datum)?;
     store.may_retrieve(id)?;
-    let value = store.value(id).ok_or(Failure::Trap(Cause::UnsetDatum))?;
-    let copy = value.try_clone(alloc)?;
+    let copy = copy_of(alloc, store, id)?;
     frame.put(to, copy);
     Ok(())
 }

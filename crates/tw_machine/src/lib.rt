@@ -7,6 +7,7 @@
 mod calls;
 mod events;
 mod inputs;
+mod lists;
 mod opened;
 mod opening;
 mod plain;

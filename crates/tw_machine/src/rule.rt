@@ -6,6 +6,7 @@ ghost use Rattle.tw_code.specs.machine.State.{new_rule};
 ghost use Rattle.tw_context.specs.Arguments.{arg_of};
 ghost use Rattle.tw_machine.specs.Waiting.{right_in, unasked_id};
 
+use crate::lists::keep;
 use crate::task::Task;
 use std::alloc::{AllocError, Global};
 use std::marker::Model;
@@ -167,23 +168,22 @@ fn right_in(arg: &Arg) -> Option<DatumId>
 fn is_unasked(stage: Stage) -> bool
     ensures { result ≡ is_unasked stage }
 {
-    stage == Stage::Unasked
+    matches!(stage, Stage::Unasked)
 }
 
 fn is_settled(stage: Stage) -> bool
     ensures { result ≡ is_settled stage }
 {
-    stage == Stage::Free || stage == Stage::Ready
+    matches!(stage, Stage::Free | Stage::Ready)
 }
 
 fn first_stages(alloc: Global, params: &[Param]) -> Result<Vec<Stage>, AllocError>
     ensures { IfOk result (λ stages. stages.items ≡ map (λ p. first_stage p.mode) params.now) }
 {
-    let mut stages = Vec::new(alloc);
-    for param in params {
-        stages.push(first_stage(param.mode))?;
-    }
-    Ok(stages)
+    params
+        .iter()
+        .map(|param| first_stage(param.mode))
+        .collect(alloc)
 }
 
 fn first_stage(mode: Mode) -> Stage
@@ -223,7 +223,7 @@ fn copies_of(alloc: Global, args: &[Arg]) -> Result<Vec<Arg>, AllocError>
 {
     let mut copies = Vec::new(alloc);
     for arg in args {
-        copies.push(arg.try_clone(alloc)?)?;
+        keep(&mut copies, arg.try_clone(alloc)?)?;
     }
     Ok(copies)
 }

@@ -9,6 +9,7 @@ ghost use Rattle.tw_types.specs.Value.{blank_of};
 ghost use Rattle.tw_context.specs.Attempts.{Fails, Gives};
 ghost use Rattle.tw_context.specs.Arguments.{arg_of};
 
+use crate::lists::keep;
 use std::alloc::{AllocError, Global};
 use std::marker::Model;
 use tw_code::Procedure;
@@ -46,7 +47,7 @@ impl Task {
     {
         let mut args = Vec::new(alloc);
         for id in rights {
-            args.push(Arg::Right(*id))?;
+            keep(&mut args, Arg::Right(*id))?;
         }
         Ok(Task {
             kind: Kind::Control,
@@ -142,7 +143,7 @@ fn first_values(alloc: Global, args: &[Arg], registers: &[Scalar]) -> Result<Vec
             if declared != Some(value.scalar()) {
                 return Err(Failure::Trap(Cause::WrongRegister));
             }
-            values.push(value.try_clone(alloc)?)?;
+            keep(&mut values, value.try_clone(alloc)?)?;
         }
     }
     Ok(values)
@@ -156,7 +157,7 @@ fn add_blanks(
     ensures { OnOk result (values.new.items ≡ values.old.items ++ map blank_of registers.now) }
 {
     for ty in registers {
-        values.push(Value::blank(alloc, *ty))?;
+        keep(values, Value::blank(alloc, *ty))?;
     }
     Ok(())
 }

@@ -1,6 +1,0 @@
-use Rattle.std.proofs.Common.{◌≡◌, map, take}
-use Rattle.tw_types.specs.Rule.{first_stage}
-use Rattle.tw_machine.proofs.rule.first_stages.Given as goal
-
-abbrev pub invariant-loop-param : goal.invariant-loop-param
-invariant-loop-param l = l.stages.items ≡ map (λ p. first_stage p.mode) (take l.param-index l.params)
