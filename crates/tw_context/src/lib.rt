@@ -25,6 +25,7 @@ pub use code::{instr_at, procedure_of};
 pub use data::data_instr;
 pub use failure::Failure;
 pub use frame::Frame;
+pub use lists::keep;
 pub use local::local_steps;
 pub use notices::Notices;
 pub use position::Position;

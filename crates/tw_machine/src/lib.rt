@@ -7,7 +7,6 @@
 mod calls;
 mod events;
 mod inputs;
-mod lists;
 mod opened;
 mod opening;
 mod plain;

@@ -6,11 +6,10 @@ ghost use Rattle.tw_code.specs.machine.State.{new_rule};
 ghost use Rattle.tw_context.specs.Arguments.{arg_of};
 ghost use Rattle.tw_machine.specs.Waiting.{right_in, unasked_id};
 
-use crate::lists::keep;
 use crate::task::Task;
 use std::alloc::{AllocError, Global};
 use std::marker::Model;
-use tw_context::Arg;
+use tw_context::{Arg, keep};
 use tw_types::{DatumId, Kind, Mode, Param, Stage};
 
 /// A rule: the engine that holds it, what its task will be, with at most eight arguments, and the stage of each
