@@ -1,5 +1,5 @@
-//! Trials that run long: each prints one line, `agrees` or its first difference. With a word behind the name only the
-//! first one runs.
+//! Trials that run long: each prints one line, `agrees` or its first difference. With a word behind the name only those
+//! of refusals run, which are the first.
 #![tactic(auto)]
 
 mod calls;
@@ -16,6 +16,7 @@ mod puts;
 mod random;
 mod refused;
 mod refused_puts;
+mod refused_rules;
 mod rules;
 mod same;
 mod search;
@@ -42,9 +43,18 @@ fn has_word(rt: &HostRuntime) -> io::Result<bool> {
     Ok(env::args(rt)?.nth(1).is_some())
 }
 
-fn refusal_trial(rt: &HostRuntime) -> io::Result<()> {
-    let refused = refused::refused_calls_go(rt.alloc());
-    tell(rt, "refused calls of the store", refused)
+fn refusal_trials(rt: &HostRuntime) -> io::Result<()> {
+    let alloc = rt.alloc();
+    let calls = refused::refused_calls_go(alloc);
+    tell(rt, "refused calls of the store", calls)?;
+    let puts = refused_puts::refusals_change_nothing(alloc);
+    tell(rt, "200 puts, where memory may be refused, and takes", puts)?;
+    let rules = refused_rules::refusals_change_nothing(alloc);
+    tell(
+        rt,
+        "40 rules, where memory may be refused, and what is done with them",
+        rules,
+    )
 }
 
 fn store_trials(rt: &HostRuntime) -> io::Result<()> {
@@ -68,12 +78,6 @@ fn store_trials(rt: &HostRuntime) -> io::Result<()> {
 }
 
 fn queue_trials(rt: &HostRuntime) -> io::Result<()> {
-    let refused = refused_puts::refusals_change_nothing(rt.alloc());
-    tell(
-        rt,
-        "200 puts, where memory may be refused, and takes",
-        refused,
-    )?;
     let order = whole(order::best_goes_first(rt.alloc()));
     tell(rt, "the order in which tasks are taken", order)?;
     let puts = puts::puts_and_takes_are_the_searchs(rt.alloc());
@@ -112,7 +116,7 @@ fn verifier_trials(rt: &HostRuntime) -> io::Result<()> {
 }
 
 fn main(rt: HostRuntime) -> io::Result<()> {
-    refusal_trial(&rt)?;
+    refusal_trials(&rt)?;
     if has_word(&rt)? {
         return Ok(());
     }

@@ -95,7 +95,7 @@ fn stage_of(mode: Mode) -> Stage {
 }
 
 /// The datum of a parameter of a rule.
-fn datum_of(number: u64, parameter: u64) -> DatumId {
+pub fn datum_of(number: u64, parameter: u64) -> DatumId {
     DatumId::new(number.wrapping_mul(3).wrapping_add(parameter))
 }
 
@@ -114,7 +114,7 @@ fn push(args: &mut Bundle, arg: Arg) {
     }
 }
 
-fn args_of(number: u64, modes: [Mode; 3]) -> Bundle {
+pub fn args_of(number: u64, modes: [Mode; 3]) -> Bundle {
     let mut args = Bundle::new();
     push(&mut args, arg_of(modes[0], datum_of(number, 0)));
     push(&mut args, arg_of(modes[1], datum_of(number, 1)));
@@ -122,7 +122,7 @@ fn args_of(number: u64, modes: [Mode; 3]) -> Bundle {
     args
 }
 
-fn action_of(number: u64) -> Action {
+pub fn action_of(number: u64) -> Action {
     Action {
         procedure: u8::try_from(number % 64).unwrap_or(0),
         priority: 9,
@@ -130,7 +130,7 @@ fn action_of(number: u64) -> Action {
     }
 }
 
-fn params_of(modes: [Mode; 3]) -> [Param; 3] {
+pub fn params_of(modes: [Mode; 3]) -> [Param; 3] {
     let ty = DataType::int();
     [
         Param { mode: modes[0], ty },
@@ -159,7 +159,7 @@ fn add(table: &mut RuleTable, engine: u8, modes: [Mode; 3]) -> Option<u64> {
 }
 
 /// Asks for a parameter whose datum is open; whether it was unasked.
-fn mark_asked(table: &mut RuleTable, number: u64, parameter: u8) -> bool {
+pub fn mark_asked(table: &mut RuleTable, number: u64, parameter: u8) -> bool {
     let rule = RuleNo::new(number);
     match table.stage(rule, parameter) {
         Some(Stage::Unasked) => {
@@ -171,7 +171,7 @@ fn mark_asked(table: &mut RuleTable, number: u64, parameter: u8) -> bool {
 }
 
 /// Makes a parameter ready; whether it was unasked or waited.
-fn mark_ready(table: &mut RuleTable, number: u64, parameter: u8) -> bool {
+pub fn mark_ready(table: &mut RuleTable, number: u64, parameter: u8) -> bool {
     let rule = RuleNo::new(number);
     match table.stage(rule, parameter) {
         Some(Stage::Unasked) => {
@@ -187,7 +187,7 @@ fn mark_ready(table: &mut RuleTable, number: u64, parameter: u8) -> bool {
 }
 
 /// Releases a rule; whether it could be, and became the task that it was added for.
-fn release(table: &mut RuleTable, number: u64) -> bool {
+pub fn release(table: &mut RuleTable, number: u64) -> bool {
     let rule = RuleNo::new(number);
     match table.is_releasable(rule) {
         Some(true) => {
@@ -200,12 +200,12 @@ fn release(table: &mut RuleTable, number: u64) -> bool {
     }
 }
 
-fn asked_of(table: &RuleTable, engine: u8) -> Option<(u64, u8)> {
+pub fn asked_of(table: &RuleTable, engine: u8) -> Option<(u64, u8)> {
     let (rule, parameter) = table.next_ask(engine)?;
     Some((rule.number(), parameter))
 }
 
-fn released_of(table: &RuleTable, engine: u8) -> Option<u64> {
+pub fn released_of(table: &RuleTable, engine: u8) -> Option<u64> {
     let rule = table.next_release(engine)?;
     Some(rule.number())
 }
