@@ -10,7 +10,7 @@ use Rattle.tw_types.specs.Layout.{ActorCounts}
 use Rattle.tw_types.specs.Notices.{notice_cmp}
 use Rattle.tw_types.specs.Store.{server_of}
 use Rattle.tw_types.proofs.NoticeOrder.{notice_cmp_total, notice_cmp-IsAntisymmetric}
-use Rattle.tw_machine.specs.Waiting.{is_due}
+use Rattle.tw_machine.specs.Due.{is_due}
 
 module _ (p : Notice → Bool) where
   past : (k : ℕ) (xs : List Notice) → length xs ≤ k → list_any p (drop k xs) ≡ false

@@ -1,11 +1,8 @@
-pub mod Filling
 pub mod Frames
-pub mod Bests
 pub mod Takes
 pub mod Quiet
 pub mod InputData
 pub mod Parameters
-pub mod Numbered
 pub mod Standing
 pub mod Pending
 pub mod Due

@@ -20,10 +20,10 @@ use Rattle.tw_code.specs.machine.State.{Frame, Frames, State, with_task}
 use Rattle.tw_context.specs.declared.failure.Failure.{Failure}
 use Rattle.tw_context.specs.Attempts.{Fails, IsStopped, stopped_by}
 use Rattle.tw_context.proofs.Stops.{fails_then}
+use Rattle.tw_waiting.specs.Waiting.{RuleTable, TaskTable, rule_released, staged, task_put, unasked_id}
+use Rattle.tw_waiting.proofs.Numbered.{staged_some}
 use Rattle.tw_machine.specs.declared.tables.Tables.{Tables}
 use Rattle.tw_machine.specs.Events.{with_frames, with_tables}
-use Rattle.tw_machine.specs.Waiting.{RuleTable, TaskTable, rule_released, staged, task_put, unasked_id}
-use Rattle.tw_machine.proofs.Numbered.{staged_some}
 
 same_is : (a b : ℕ) → a ≡ b → (a == b) ≡ true
 same_is a b h = grind (arith, nat_tests)

@@ -13,8 +13,8 @@ use Rattle.tw_code.specs.machine.State.{Frame, Frames, State, with_frame}
 use Rattle.tw_context.specs.declared.stopped.Stopped.{Stopped}
 use Rattle.tw_context.specs.Attempts.{Changes, IsStopped}
 use Rattle.tw_context.specs.Room.{HasRoom}
+use Rattle.tw_waiting.specs.Waiting.{TaskTable}
 use Rattle.tw_machine.specs.declared.tables.Tables.{Tables}
-use Rattle.tw_machine.specs.Waiting.{TaskTable}
 
 -- ---- a state with other parts
 

@@ -14,16 +14,13 @@ ghost use Rattle.tw_code.specs.machine.Machine.{step};
 ghost use Rattle.tw_code.specs.machine.Inputs.{are_inputs_of, input_params};
 ghost use Rattle.tw_code.specs.machine.Opening.{opened, opening_of};
 ghost use Rattle.tw_context.specs.Attempts.{Changes};
+ghost use Rattle.tw_waiting.specs.Parts.{rules_of, tasks_of};
+ghost use Rattle.tw_machine.specs.Due.{is_due};
 ghost use Rattle.tw_machine.specs.Opening.{nothing_opened};
-ghost use Rattle.tw_machine.specs.Parts.{frames_of, rules_of, tasks_of};
-ghost use Rattle.tw_machine.specs.Waiting.{is_due};
+ghost use Rattle.tw_machine.specs.Parts.{frames_of};
 
 use crate::opened::Opened;
-use crate::rule::Rule;
-use crate::rules::Rules;
 use crate::tables::Tables;
-use crate::task::Task;
-use crate::tasks::Tasks;
 use crate::{calls, events, rule_events, take};
 use std::alloc::{AllocError, Global};
 use std::collections::BTreeMap;
@@ -32,6 +29,7 @@ use tw_code::Procedure;
 use tw_context::{Frame, Notices, Stopped};
 use tw_data::Datum;
 use tw_types::{Actor, DatumId, Ending, Event, Input, Layout, Notice, Param, RuleNo, TaskNo};
+use tw_waiting::{Rule, Rules, Task, Tasks};
 
 /// The data, the rules, the tasks that wait, the notices, the tasks that run, and the outputs.
 #[derive(Drop)]

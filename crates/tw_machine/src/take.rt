@@ -6,12 +6,12 @@ ghost use Rattle.tw_context.specs.Attempts.{Changes};
 ghost use Rattle.tw_machine.specs.Events.{with_frames, with_tasks};
 ghost use Rattle.tw_machine.specs.Parts.{frames_of};
 
-use crate::tasks::Tasks;
 use std::alloc::Global;
 use std::collections::BTreeMap;
 use tw_code::Procedure;
 use tw_context::{Frame, Stopped};
 use tw_types::{Actor, Layout};
+use tw_waiting::Tasks;
 
 /// The actor takes a task.
 pub fn take(

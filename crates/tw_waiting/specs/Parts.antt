@@ -1,0 +1,12 @@
+-- What the maps of the code stand for.
+use Rattle.std.specs.Prelude.{ℕ, List}
+use Rattle.std.specs.Ordering.{nat_cmp}
+use Rattle.std.specs.FinMap.{from_entries}
+use Rattle.tw_types.specs.Rule.{Rule, Rules}
+use Rattle.tw_types.specs.Task.{Task, Tasks}
+
+abbrev pub tasks_of : List (ℕ × Task) → Tasks
+tasks_of es = from_entries {R = nat_cmp} es
+
+abbrev pub rules_of : List (ℕ × Rule) → Rules
+rules_of es = from_entries {R = nat_cmp} es
