@@ -1,7 +1,7 @@
 //! The calls of the data store as a pool makes them: a caller for each, with what the caller knows then.
 #![tactic(auto)]
 
-ghost use Rattle.std.specs.Prelude.{◌≡◌, ◌<◌, ◌^◌, ℤ, [], IfOk, IfErr, IfSome, IfNone, MatchOption, OnOk, OnErr, Some, None};
+ghost use Rattle.std.specs.Prelude.{◌≡◌, ◌<◌, ◌+◌, ◌^◌, ℤ, [], IfOk, IfErr, IfSome, IfNone, MatchOption, OnOk, OnErr, Some, None};
 ghost use Rattle.std.specs.Prelude.{drop, false, is_some, length, option_map, replicate, slice_get, slice_index_or, slice_set, true};
 ghost use Rattle.std.specs.FinMap.{get, keys, len};
 ghost use Rattle.std.specs.Option.{option_and_then};
@@ -231,7 +231,8 @@ pub fn life(
 ) -> Result<Value, AllocError>
     requires next { store.old.store.next < 2 ^ 63 }
     requires fits { is_of value ty ≡ true }
-    ensures { IfOk result (λ read. read ≡ value) }
+    ensures read { IfOk result (λ read. read ≡ value) }
+    ensures made { OnOk result (store.new.store.next ≡ store.old.store.next + 1) }
 {
     let (write, read) = store.create(alloc, ty)?;
     match store.store(write, value) {
