@@ -1,5 +1,5 @@
 -- A scalar that was just made, and that was just set.
-use Rattle.std.proofs.Common.{◌≡◌, ℕ, Bool, true, false, ◌&&◌, [], Some, IfOk, refl, sym, ap, subst, ◌∙◌, arith}
+use Rattle.std.proofs.Common.{◌≡◌, ℕ, Bool, true, false, ◌&&◌, [], Some, IfOk, OnOk, refl, sym, ap, subst, ◌∙◌, arith}
 use Rattle.std.specs.Cmp.{nat_cmp_total}
 use Rattle.std.specs.FinMap.{get, nat_cmp-IsAntisymmetric}
 use Rattle.std.specs.declared.option.Option.{Option}
@@ -54,3 +54,11 @@ some_same x y h = cc
 pub if_same : {V E : Type 0} (r : Result V E) (o : Option V) (v : V) → o ≡ Some v → IfOk r (λ x. o ≡ Some x) → IfOk r (λ x. x ≡ v)
 if_same (Ok x) o v h e = some_same _ _ (sym e ∙ h)
 if_same (Err x) o v h e = tt
+
+-- a datum that is set takes no id
+pub next_kept : (s t : Store) (id : ℕ) (value : Value) (ty : NestedScalar) → get s.live id ≡ Some (new_datum ty) → t ≡ store_after s id (set_to value) → t.next ≡ s.next
+next_kept s t id value ty h after = ap (λ (x : Store). x.next) after ∙ rw h refl
+
+pub on_ok : {V E : Type 0} {P : Type 0} (r : Result V E) → P → OnOk r P
+on_ok (Ok x) p = p
+on_ok (Err x) p = tt

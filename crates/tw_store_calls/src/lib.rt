@@ -1,13 +1,14 @@
 //! The calls of the data store as a pool makes them: a caller for each, with what the caller knows then.
 #![tactic(auto)]
 
-ghost use Rattle.std.specs.Prelude.{◌≡◌, ◌<◌, ◌^◌, ℤ, [], IfOk, IfErr, IfSome, IfNone, MatchOption, OnOk, OnErr, Some, None};
+ghost use Rattle.std.specs.Prelude.{◌≡◌, ◌<◌, ◌+◌, ◌^◌, ℤ, [], IfOk, IfErr, IfSome, IfNone, MatchOption, OnOk, OnErr, Some, None};
 ghost use Rattle.std.specs.Prelude.{drop, false, is_some, length, option_map, replicate, slice_get, slice_index_or, slice_set, true};
-ghost use Rattle.std.specs.FinMap.{get};
+ghost use Rattle.std.specs.FinMap.{get, keys, len};
+ghost use Rattle.std.specs.Option.{option_and_then};
 ghost use Rattle.std.specs.declared.result.Result.TheVariants.{Ok};
 ghost use Rattle.tw_types.specs.Value.{is_of};
 ghost use Rattle.tw_types.specs.Store.{empty_store};
-ghost use Rattle.tw_types.specs.StoreCalls.{created, inserted, member_at, read_copied, read_dropped, set_to, store_after, one_write_less, subscribed, value_at, write_copied};
+ghost use Rattle.tw_types.specs.StoreCalls.{created, inserted, member_at, members_at, read_copied, read_dropped, set_to, store_after, one_write_less, subscribed, value_at, write_copied};
 ghost use Rattle.tw_types.specs.StoreChecks.{may_store, may_retrieve, may_insert, may_look, may_read_members, may_copy_write, may_drop_read, may_drop_write};
 ghost use Rattle.tw_store.specs.Room.{HasReadRoom, HasWriteRoom};
 ghost use Rattle.tw_store.specs.Served.{IsHere, IsLeft, IsNow, IsUnchanged, KeepsPlaces};
@@ -34,7 +35,9 @@ pub fn make(
 ) -> Result<(WriteRight, ReadRight), AllocError>
     requires { store.old.store.next < 2 ^ 63 }
     ensures made { OnOk result (store.new.store ≡ created store.old.store ty) }
+    ensures both { IfOk result (λ rights. (rights.0.id ≡ store.old.store.next) × (rights.1 ≡ rights.0)) }
     ensures here { IfOk result (λ rights. IsHere store.new rights.0) }
+    ensures quiet { store.new.queues ≡ store.old.queues }
     ensures refused { OnErr result (IsUnchanged store.old store.new) }
 {
     store.reserve_datum()?;
@@ -48,7 +51,7 @@ pub fn make(
 pub fn set(store: &mut Store, right: WriteRight, value: Value) -> Result<(), (WriteRight, Value)>
     requires here { IsHere store.old right }
     requires allowed { may_store value (get store.old.store.live right.id) ≡ Ok tt }
-    ensures stored { OnOk result (store.new.store ≡ store_after store.old.store right.id (set_to value)) }
+    ensures stored { OnOk result (IsLeft store.old store.new right.id (set_to value)) }
     ensures refused { OnErr result (IsUnchanged store.old store.new) }
     ensures back { IfErr result (λ back. back ≡ (right, value)) }
 {
@@ -69,6 +72,7 @@ pub fn take_value(store: &mut Store, alloc: Global, right: ReadRight) -> Result<
     ensures value { IfOk result (λ value. value_at store.old.store right.id ≡ Some value) }
     ensures dropped { OnOk result (store.new.store ≡ read_dropped store.old.store right.id) }
     ensures places { OnOk result (KeepsPlaces store.old store.new) }
+    ensures quiet { store.new.queues ≡ store.old.queues }
     ensures back { IfErr result (λ back. back ≡ right) }
     ensures refused { OnErr result (store.new ≡ store.old) }
 {
@@ -93,6 +97,7 @@ pub fn put(
     ensures put { IfOk result (λ there. IfNone there (IsNow (inserted store.old.store container.now.id subscript member.id) store.old store.new)) }
     ensures present { IfOk result (λ there. IfSome there (λ right. (right ≡ member) × IsUnchanged store.old store.new)) }
     ensures refused { OnErr result (IsUnchanged store.old store.new) }
+    ensures absent { OnErr result (member_at store.old.store container.now.id subscript ≡ None) }
     ensures back { IfErr result (λ back. back ≡ member) }
 {
     match store.insert(container, subscript, member) {
@@ -102,19 +107,26 @@ pub fn put(
     }
 }
 
-/// LOOK and SIZE: a right on the first member, if there is one.
+/// SIZE.
+pub fn size(store: &Store, container: &ReadRight) -> usize
+    requires here { IsHere store.now container.now }
+    requires closed { may_read_members (get store.now.store.live container.now.id) ≡ Ok tt }
+    ensures { result ≡ len (members_at store.now.store container.now.id) }
+{
+    store.size(container)
+}
+
+/// SUBAT and LOOK: a right on the member of the lowest subscript, if there is one.
 pub fn first(store: &mut Store, container: &ReadRight) -> Option<ReadRight>
     requires here { IsHere store.old container.now }
     requires closed { may_read_members (get store.old.store.live container.now.id) ≡ Ok tt }
     requires kept { (k : ℤ) → may_look store.old.store container.now.id k ≡ Ok tt }
     requires room { (k : ℤ) → HasMemberRoom store.old.store container.now.id k }
+    ensures lowest { option_map (λ right. right.id) result ≡ option_and_then (member_at store.old.store container.now.id) (slice_get (keys (members_at store.old.store container.now.id)) 0) }
     ensures here { IfSome result (λ right. IsHere store.new right) }
     ensures read { IfSome result (λ right. IsNow (read_copied store.old.store right.id) store.old store.new) }
     ensures none { IfNone result (IsUnchanged store.old store.new) }
 {
-    if store.size(container) == 0 {
-        return None;
-    }
     let Some(subscript) = store.subscript_at(container, 0) else {
         return None;
     };
@@ -161,6 +173,7 @@ pub fn asked(
         → OnOk result (IsNow (subscribed store.old.store right.now.id (record { rule = rule; parameter = parameter })) store.old store.new) }
     ensures closed { closed_by (get store.old.store.live right.now.id) ≡ true → IsUnchanged store.old store.new }
     ensures refused { OnErr result (IsUnchanged store.old store.new) }
+    ensures still_open { OnErr result (closed_by (get store.old.store.live right.now.id) ≡ false) }
 {
     match store.ask(right, rule, parameter) {
         Ok(Asked::Closed) => Ok(true),
@@ -218,7 +231,8 @@ pub fn life(
 ) -> Result<Value, AllocError>
     requires next { store.old.store.next < 2 ^ 63 }
     requires fits { is_of value ty ≡ true }
-    ensures { IfOk result (λ read. read ≡ value) }
+    ensures read { IfOk result (λ read. read ≡ value) }
+    ensures made { OnOk result (store.new.store.next ≡ store.old.store.next + 1) }
 {
     let (write, read) = store.create(alloc, ty)?;
     match store.store(write, value) {

@@ -16,3 +16,12 @@ returns-clause-room c =
     let at : c.server_of-server.result ≡ c.args.id % length c.args.queues.now.items = c.server_of-server.ensures.server ∙ ap (λ n. c.args.id % n) count in
     let inside : c.server_of-server.result < length c.args.queues.now.items = omega (arith, c.server_of-server.ensures.inside, count) in
     room_is c.args.queues.now.items c.index_mut-queue.result.now c.reserve.new.self c.server_of-server.result inside c.index_mut-queue.ensures.value c.reserve.result c.args.id c.args.count at c.reserve.ensures.ok
+
+pub returns-clause-reserved : goal.returns-clause-reserved
+returns-clause-reserved c =
+    let count : c.len.result ≡ length c.args.queues.now.items = search rules in
+    let at : c.server_of-server.result ≡ c.args.id % length c.args.queues.now.items = c.server_of-server.ensures.server ∙ ap (λ n. c.args.id % n) count in
+    let inside : c.server_of-server.result < length c.args.queues.now.items = omega (arith, c.server_of-server.ensures.inside, count) in
+    λ room.
+      let fit = fits c.args.queues.now.items c.index_mut-queue.result.now c.reserve.new.self c.server_of-server.result inside c.index_mut-queue.ensures.value c.args.id c.args.count at room in
+      search rules
