@@ -1,5 +1,5 @@
 -- The ranks of one kind, where one place changes.
-use Rattle.std.proofs.Common.{◌≡◌, ◌≢◌, ◌⊎◌, inl, inr, nat_eq, ℕ, zero, suc, ◌<◌, Bool, true, false, ◌+◌, ◌&&◌, List, [], ◌∷◌, ◌++◌, take, refl, sym, ap, subst, ◌∙◌, length, get_or, slice_set, arith}
+use Rattle.std.proofs.Common.{◌≡◌, ◌≢◌, ◌⊎◌, inl, inr, nat_eq, ℕ, zero, suc, ◌<◌, Bool, true, false, ◌+◌, List, [], ◌∷◌, ◌++◌, take, refl, sym, ap, subst, ◌∙◌, length, get_or, slice_set, arith}
 use Rattle.std.specs.declared.result.Result.{Result}
 use Rattle.std.specs.declared.result.Result.TheVariants.{Ok, Err}
 use Rattle.std.specs.Result.{OnErr, OnOk}
@@ -11,6 +11,7 @@ use Rattle.std.specs.List.{AllByRecursion, Contains, list_all}
 use Rattle.std.specs.List.Sorted.{IsPermutation}
 use Rattle.std.proofs.lemmas.List.{map-set, get_or-map, length-map, get_or-set_same, get_or-set_other, take_more_set}
 use Rattle.std.proofs.lemmas.List.Folds.{list_all-append}
+use Rattle.std.proofs.lemmas.Bool.{and_from, and_parts}
 use Rattle.std.proofs.lemmas.Bool.Decides.{nat_tests}
 use Rattle.std.proofs.Math.Seq.{map-set_same}
 use Rattle.tw_queue.specs.declared.rank.Rank.{Rank}
@@ -28,17 +29,6 @@ pub if_err : {T E P Q : Type 0} (r : Result T E) → (P → Q) → OnErr r P →
 if_err (Ok x) gives p = tt
 if_err (Err e) gives p = gives p
 
-pub both_true : (a b : Bool) → a ≡ true → b ≡ true → (a && b) ≡ true
-both_true a b e f = rw (e, f) refl
-
-pub left_true : (a b : Bool) → (a && b) ≡ true → a ≡ true
-left_true true b e = refl
-left_true false b e = e
-
-pub right_true : (a b : Bool) → (a && b) ≡ true → b ≡ true
-right_true true b e = e
-right_true false b e = cc
-
 module _ {X : Type 0} where
   pub each_at : (P : X → Type 0) (xs : List X) (k : ℕ) (d : X) → AllByRecursion P xs → k < length xs → P (get_or xs k d)
   each_at P [] k d all low = absurd (omega arith)
@@ -47,13 +37,13 @@ module _ {X : Type 0} where
 
   pub all_set : (p : X → Bool) (xs : List X) (k : ℕ) (w : X) → list_all p xs ≡ true → p w ≡ true → list_all p (slice_set xs k w) ≡ true
   all_set p [] k w all e = all
-  all_set p (x ∷ xs) zero w all e = both_true (p w) (list_all p xs) e (right_true (p x) _ all)
-  all_set p (x ∷ xs) (suc k) w all e = both_true (p x) _ (left_true (p x) _ all) (all_set p xs k w (right_true (p x) _ all) e)
+  all_set p (x ∷ xs) zero w all e = and_from (p w) (list_all p xs) e (and_parts (p x) _ all).1
+  all_set p (x ∷ xs) (suc k) w all e = and_from (p x) _ (and_parts (p x) _ all).0 (all_set p xs k w (and_parts (p x) _ all).1 e)
 
   pub all_get : (p : X → Bool) (xs : List X) (k : ℕ) (d : X) → list_all p xs ≡ true → k < length xs → p (get_or xs k d) ≡ true
   all_get p [] k d all low = absurd (omega arith)
-  all_get p (x ∷ xs) zero d all low = left_true (p x) _ all
-  all_get p (x ∷ xs) (suc k) d all low = all_get p xs k d (right_true (p x) _ all) (omega arith)
+  all_get p (x ∷ xs) zero d all low = (and_parts (p x) _ all).0
+  all_get p (x ∷ xs) (suc k) d all low = all_get p xs k d (and_parts (p x) _ all).1 (omega arith)
 
 abbrev ranks_of_place : Placed → List Rank
 ranks_of_place place = place.ranks
@@ -97,7 +87,7 @@ module _ (ps : List Placed) (place : ℕ) (low : place < length ps) (p w : Place
 
   pub room_more : list_all has_room_in (take place ps) ≡ true → w.has_room ≡ true → list_all has_room_in (take (place + 1) (slice_set ps place w)) ≡ true
   room_more all more = ap (list_all has_room_in) (take_more_set ps place w low) ∙ list_all-append has_room_in (take place ps) (w ∷ [])
-      ∙ both_true _ _ all (both_true _ _ more refl)
+      ∙ and_from _ _ all (and_from _ _ more refl)
 
   pub taken_at : (r : Option Rank) → IfSome r (λ rank. IsPermutation p.ranks (rank ∷ w.ranks)) → IfSome r (λ rank. IsTaken rank (ranks_at (ranks_in ps)) (ranks_at (ranks_in (slice_set ps place w))))
   taken_at None moved = tt

@@ -6,6 +6,7 @@ use Rattle.std.specs.List.{Contains}
 use Rattle.std.specs.declared.cmp.Ordering.{Ordering}
 use Rattle.std.specs.declared.cmp.Ordering.TheVariants.{Less, Equal, Greater}
 use Rattle.std.specs.Ordering.{is_lt, int_cmp, nat_cmp, ordering_then}
+use Rattle.std.proofs.lemmas.Bool.{and_parts}
 use Rattle.tw_types.specs.declared.actor.Actor.{Actor}
 use Rattle.tw_types.specs.declared.actor.Actor.TheVariants.{Engine, Server, Worker}
 use Rattle.tw_types.specs.declared.actor.Kind.{Kind}
@@ -21,7 +22,6 @@ use Rattle.tw_queue.specs.Queues.{IsTarget, handed_out}
 use Rattle.tw_queue.specs.Index.{Ranking, IsRankBest}
 use Rattle.tw_queue.specs.Indexed.{IsIndex, IsEntryAt, rank_of, task_in}
 use Rattle.tw_queue.proofs.Bests.{IsAhead, best_is, best_none}
-use Rattle.tw_queue.proofs.Places.{left_true, right_true}
 use Rattle.tw_queue.proofs.Members.{all_at, contains_none}
 use Rattle.tw_queue.proofs.Indexing.{Entries, nat_itself, nat_same}
 use Rattle.tw_queue.proofs.Entries.{AreSeen, Stands}
@@ -53,10 +53,10 @@ module _ (entry : Entries) (ranks : Ranking) (is : IsIndex entry ranks) (tasks :
   module _ (actor : Actor) (kind : Kind) (number : ℕ) (own : (k : Kind) → may_take actor k ≡ true → k ≡ kind) (may : may_take actor kind ≡ true) (is_number : number_in_kind actor ≡ number) where
     -- the rank of each task that the actor may take is one of those
     candidate : (q : ℕ) (v : Waiting) → entry q ≡ Some v → is_eligible actor (task_in v) ≡ true → Contains (ranks kind 16) (rank_of q v) ⊎ Contains (ranks kind number) (rank_of q v)
-    candidate q v e eligible = by (own_place v.target number (subst (λ n. is_for v.target n ≡ true) is_number (right_true (may_take actor v.kind) _ eligible)))
+    candidate q v e eligible = by (own_place v.target number (subst (λ n. is_for v.target n ≡ true) is_number (and_parts (may_take actor v.kind) _ eligible).1))
       where
         there : Contains (ranks kind (place_of v.target)) (rank_of q v)
-        there = subst (λ k. Contains (ranks k (place_of v.target)) (rank_of q v)) (own v.kind (left_true (may_take actor v.kind) _ eligible)) (is.complete q v e)
+        there = subst (λ k. Contains (ranks k (place_of v.target)) (rank_of q v)) (own v.kind (and_parts (may_take actor v.kind) _ eligible).0) (is.complete q v e)
 
         by : IsOwnPlace number (place_of v.target) → Contains (ranks kind 16) (rank_of q v) ⊎ Contains (ranks kind number) (rank_of q v)
         by (inl any) = inl (subst (λ p. Contains (ranks kind p) (rank_of q v)) any there)

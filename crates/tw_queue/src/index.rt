@@ -33,6 +33,7 @@ impl Index {
         ensures same { ranks_of self.new ≡ ranks_of self.old }
         ensures room { OnOk result (has_room_for kind self.new ≡ true) }
         ensures kept { (other : Kind) → has_room_for other self.old ≡ true → has_room_for other self.new ≡ true }
+        ensures reserved { has_room_for kind self.old ≡ true → IsOk result }
     {
         match kind {
             Kind::Control => self.control.reserve(),
@@ -45,6 +46,7 @@ impl Index {
         requires { IsTarget target }
         ensures pushed { OnOk result (IsRankAdded kind (place_of target) rank (ranks_of self.new) (ranks_of self.old)) }
         ensures refused { OnErr result (ranks_of self.new ≡ ranks_of self.old) }
+        ensures room { OnErr result ((other : Kind) → has_room_for other self.old ≡ true → has_room_for other self.new ≡ true) }
         ensures reserved { has_room_for kind self.old ≡ true → IsOk result }
     {
         match kind {

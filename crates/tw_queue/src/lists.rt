@@ -47,6 +47,7 @@ impl Lists {
         ensures same { self.new.places ≡ self.old.places }
         ensures room { OnOk result (self.new.has_room ≡ true) }
         ensures kept { self.old.has_room ≡ true → self.new.has_room ≡ true }
+        ensures reserved { self.old.has_room ≡ true → IsOk result }
     {
         for index in 0..self.places.len() {
             let place = &mut self.places[index];

@@ -54,6 +54,7 @@ impl Place {
         ensures same { self.new.ranks ≡ self.old.ranks }
         ensures room { OnOk result (self.new.has_room ≡ true) }
         ensures kept { self.old.has_room ≡ true → self.new.has_room ≡ true }
+        ensures reserved { self.old.has_room ≡ true → IsOk result }
     {
         self.run.reserve(1)?;
         self.rest.reserve(1)

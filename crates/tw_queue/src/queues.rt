@@ -73,6 +73,7 @@ impl TaskQueues {
         ensures same { self.new.tasks ≡ self.old.tasks }
         ensures room { OnOk result (room_for kind self.new ≡ true) }
         ensures kept { (other : Kind) → room_for other self.old ≡ true → room_for other self.new ≡ true }
+        ensures reserved { room_for kind self.old ≡ true → IsOk result }
     {
         self.tasks.reserve()?;
         self.index.reserve(kind)
@@ -90,6 +91,7 @@ impl TaskQueues {
         requires target { IsTarget target }
         ensures put { OnOk result (self.new.tasks ≡ map.insert self.old.tasks task.no (waiting kind priority target task)) }
         ensures refused { OnErr result (self.new.tasks ≡ self.old.tasks) }
+        ensures room { OnErr result ((other : Kind) → room_for other self.old ≡ true → room_for other self.new ≡ true) }
         ensures back { IfErr result (λ back. back ≡ task) }
         ensures reserved { room_for kind self.old ≡ true → IsOk result }
     {

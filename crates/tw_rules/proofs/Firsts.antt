@@ -1,6 +1,7 @@
 -- What an engine asks for and releases next, told by what the map of the rules answers.
 use Rattle.std.proofs.Common.{◌≡◌, ◌≤◌, ◌<◌, ℕ, ◌+◌, Bool, true, false, ◌&&◌, ◌||◌, cond, T, List, [], ◌∷◌, refl, sym, ap, subst, ◌∙◌, nat_eq, nat_lt, option_map, arith}
 use Rattle.std.specs.Prelude.{option_and_then}
+use Rattle.std.proofs.lemmas.Bool.{and_from, and_parts}
 use Rattle.std.proofs.lemmas.Bool.Decides.{nat_tests}
 use Rattle.std.specs.declared.cmp.Ordering.{Ordering}
 use Rattle.std.specs.declared.cmp.Ordering.TheVariants.{Less, Equal, Greater}
@@ -14,7 +15,7 @@ use Rattle.std.specs.List.{list_any}
 use Rattle.tw_types.specs.declared.stage.Stage.{Stage}
 use Rattle.tw_types.specs.Rule.{RuleOf, RulesOf, ask_or, first_unasked, has_unasked, is_releasable, is_unasked, next_ask, next_ask_of, next_release, next_release_of}
 use Rattle.tw_types.proofs.Rising.{first, second, find_below}
-use Rattle.tw_rules.proofs.Numbered.{both_true, left_true, nat_itself, nat_same, right_true}
+use Rattle.tw_rules.proofs.Numbered.{nat_itself, nat_same}
 
 tied : (o : Ordering) → is_eq o ≡ true → o ≡ Equal
 tied Less e = cc
@@ -154,8 +155,8 @@ module _ {A : Type 0} (engine : ℕ) where
     next_release_is number rule there own can least =
         release_of (entries rules)
         ∙ ap (option_map (λ e. e.0)) (least_first releases_of (entries rules) (number, rule) (entries_sorted rules) (sym (get-entries rules number) ∙ there)
-        (both_true _ _ (nat_itself rule.engine engine own) can)
-        (λ f at passes. least f.0 f.1 (get-entries rules f.0 ∙ at) (nat_same f.1.engine engine (left_true _ _ passes)) (right_true (nat_eq f.1.engine engine) _ passes)))
+        (and_from _ _ (nat_itself rule.engine engine own) can)
+        (λ f at passes. least f.0 f.1 (get-entries rules f.0 ∙ at) (nat_same f.1.engine engine (and_parts _ _ passes).0) (and_parts (nat_eq f.1.engine engine) _ passes).1))
 
     not_both : (a b : Bool) → (a ≡ true → b ≡ true → ⊥) → (a && b) ≡ false
     not_both true true h = absurd (h refl refl)
@@ -175,8 +176,8 @@ module _ {A : Type 0} (engine : ℕ) where
     next_ask_is number j rule there own has at least =
         ask_of (entries rules)
         ∙ ap (option_and_then asked_of) (least_first asks_of (entries rules) (number, rule) (entries_sorted rules) (sym (get-entries rules number) ∙ there)
-        (both_true _ _ (nat_itself rule.engine engine own) has)
-        (λ f is passes. least f.0 f.1 (get-entries rules f.0 ∙ is) (nat_same f.1.engine engine (left_true _ _ passes)) (right_true (nat_eq f.1.engine engine) _ passes)))
+        (and_from _ _ (nat_itself rule.engine engine own) has)
+        (λ f is passes. least f.0 f.1 (get-entries rules f.0 ∙ is) (nat_same f.1.engine engine (and_parts _ _ passes).0) (and_parts (nat_eq f.1.engine engine) _ passes).1))
         ∙ ap (option_map (λ j. (number, j))) at
 
     pub next_ask_none : ((q : ℕ) (other : RuleOf A) → get rules q ≡ Some other → other.engine ≡ engine → has_unasked other ≡ true → ⊥) → next_ask engine rules ≡ None

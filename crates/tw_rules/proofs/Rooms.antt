@@ -1,10 +1,11 @@
 -- Where a rule of an engine can be added for sure.
 use Rattle.std.proofs.Common.{◌≡◌, ◌≤◌, ◌<◌, inl, inr, ℕ, zero, suc, Bool, true, false, List, [], ◌∷◌, get_or, refl, sym, subst, ◌∙◌, slice_set, nat_lt, arith}
 use Rattle.std.specs.Prelude.{Some, slice_get}
+use Rattle.std.proofs.lemmas.Bool.{and_from, and_parts}
 use Rattle.tw_rules.specs.declared.agenda.Agenda.{Agenda}
 use Rattle.tw_rules.specs.Indexed.{agenda_room, has_place, rooms_of, Rules, AreAsks, AreReleases, IsFirstWanting, IsLeastPending, IsAgenda, IsIndexed}
 use Rattle.tw_rules.specs.Agendas.{IsSameAgenda}
-use Rattle.tw_rules.proofs.Numbered.{both_true, left_true, right_true, lt_test, test_lt, same_or_apart, get_set_same, get_set_other}
+use Rattle.tw_rules.proofs.Numbered.{lt_test, test_lt, same_or_apart, get_set_same, get_set_other}
 use Rattle.std.proofs.lemmas.Option.{slice_get_within}
 use Rattle.tw_rules.proofs.Changes.{all_agendas}
 
@@ -16,12 +17,12 @@ pub record HasRoom (has : Bool) (agendas : List Agenda) (engine : ℕ) : Type 0 
 
 pub has_room : (has : Bool) (agendas : List Agenda) (engine : ℕ) → get_or (rooms_of has agendas) engine false ≡ true → HasRoom has agendas engine
 has_room has [] engine h = cc
-has_room has (a ∷ agendas) zero h = record { agenda = a; at = refl; place = left_true has _ h; room = right_true has _ h }
+has_room has (a ∷ agendas) zero h = record { agenda = a; at = refl; place = (and_parts has _ h).0; room = (and_parts has _ h).1 }
 has_room has (a ∷ agendas) (suc engine) h = let rest = has_room has agendas engine h in record { agenda = rest.agenda; at = rest.at; place = rest.place; room = rest.room }
 
 pub room_is : (has : Bool) (agendas : List Agenda) (engine : ℕ) (agenda : Agenda) → slice_get agendas engine ≡ Some agenda → has ≡ true → agenda_room agenda ≡ true → get_or (rooms_of has agendas) engine false ≡ true
 room_is has [] engine agenda at place room = cc
-room_is has (a ∷ agendas) zero agenda at place room = let same : a ≡ agenda = cc in both_true _ _ place (subst (λ x. agenda_room x ≡ true) (sym same) room)
+room_is has (a ∷ agendas) zero agenda at place room = let same : a ≡ agenda = cc in and_from _ _ place (subst (λ x. agenda_room x ≡ true) (sym same) room)
 room_is has (a ∷ agendas) (suc engine) agenda at place room = room_is has agendas engine agenda at place room
 
 -- the same agendas
@@ -53,18 +54,18 @@ room_made new agendas at was after there place room = room_is new (slice_set age
 
 pub place_kept : (spare len capacity spare' len' capacity' : ℕ) → spare ≤ spare' → len' ≤ len → capacity ≤ capacity' → has_place spare len capacity ≡ true → has_place spare' len' capacity' ≡ true
 place_kept spare len capacity spare' len' capacity' a b d h =
-    let some : 0 < spare = test_lt _ _ (left_true _ _ h) in
-    let more : len < capacity = test_lt _ _ (right_true (nat_lt 0 spare) _ h) in
-    both_true _ _ (lt_test 0 spare' (omega arith)) (lt_test len' capacity' (omega arith))
+    let some : 0 < spare = test_lt _ _ (and_parts _ _ h).0 in
+    let more : len < capacity = test_lt _ _ (and_parts (nat_lt 0 spare) _ h).1 in
+    and_from _ _ (lt_test 0 spare' (omega arith)) (lt_test len' capacity' (omega arith))
 
 pub place_is : (spare len capacity : ℕ) → 0 < spare → len < capacity → has_place spare len capacity ≡ true
-place_is spare len capacity a b = both_true _ _ (lt_test 0 spare a) (lt_test len capacity b)
+place_is spare len capacity a b = and_from _ _ (lt_test 0 spare a) (lt_test len capacity b)
 
 pub place_spare : (spare len capacity : ℕ) → has_place spare len capacity ≡ true → 0 < spare
-place_spare spare len capacity h = test_lt _ _ (left_true _ _ h)
+place_spare spare len capacity h = test_lt _ _ (and_parts _ _ h).0
 
 pub place_capacity : (spare len capacity : ℕ) → has_place spare len capacity ≡ true → len < capacity
-place_capacity spare len capacity h = test_lt _ _ (right_true (nat_lt 0 spare) _ h)
+place_capacity spare len capacity h = test_lt _ _ (and_parts (nat_lt 0 spare) _ h).1
 
 -- ---- an agenda with the same rules
 

@@ -1,4 +1,4 @@
-use Rattle.std.proofs.Common.{◌≡◌, ℤ, ◌∷◌, refl, sym, ap, subst, ◌∙◌, arith, to_z-of_z, to_z, of_z, w64}
+use Rattle.std.proofs.Common.{◌≡◌, true, ℤ, ◌∷◌, refl, sym, ap, subst, ◌∙◌, arith, to_z-of_z, to_z, of_z, w64}
 use Rattle.std.specs.declared.option.Option.TheVariants.{None, Some}
 use Rattle.std.specs.FinMap as map
 use Rattle.std.specs.List.Sorted.{IsPermutation}
@@ -7,10 +7,16 @@ use Rattle.tw_queue.specs.Index.{ranks_of}
 use Rattle.tw_queue.specs.Indexed.{IsIndex, tasks_in}
 use Rattle.tw_queue.specs.Lists.{place_of}
 use Rattle.tw_queue.specs.Slots.{IsChangedAt, slot_at}
-use Rattle.tw_queue.specs.Queues.{waiting}
+use Rattle.tw_queue.specs.Queues.{room_for, waiting}
 use Rattle.tw_queue.proofs.Entries.{apart_put, fresh, tasks_put, updated}
 use Rattle.tw_queue.proofs.Indexing.{put_index, ranked}
+use Rattle.tw_queue.proofs.Rooms.{room_still}
 use Rattle.tw_queue.proofs.queues.TaskQueues.put.Goals as goal
+
+pub returns-in_default-push-clause-room : goal.returns-in_default-push-clause-room
+returns-in_default-push-clause-room c = λ other all.
+    room_still other (tasks_in c.self.inside.tasks.slots) (tasks_in c.reserve.new.self.slots) c.self.inside.tasks.has_room c.reserve.new.self.has_room c.self.inside.index c.push.new.self
+    c.reserve.ensures.kept (c.in_default-push.ensures.room other) (subst (λ q. room_for other q ≡ true) (sym c.self.view_is) all)
 
 pub invariant_of-self-2 : goal.invariant_of-self-2
 invariant_of-self-2 c =
