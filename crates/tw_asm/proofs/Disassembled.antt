@@ -1,5 +1,5 @@
 -- The text of a program spells it.
-use Rattle.std.proofs.Common.{◌≡◌, ◌≢◌, ◌==◌, ◌||◌, ◌≤◌, ◌<◌, ℕ, zero, suc, ◌+◌, Bool, true, false, List, [], ◌∷◌, ◌++◌, length, get_or, map, codes, Option, Some, None, refl, sym, ap, subst, ◌∙◌, append_assoc, append-nil, arith}
+use Rattle.std.proofs.Common.{◌≡◌, ◌≢◌, ◌==◌, ◌≤◌, ◌<◌, ℕ, zero, suc, ◌+◌, Bool, true, false, List, [], ◌∷◌, ◌++◌, length, get_or, map, codes, Option, Some, None, refl, sym, ap, subst, ◌∙◌, append_assoc, append-nil, arith}
 use Rattle.std.specs.Prelude.{IsUtf8, decimal, slice_index_or}
 use Rattle.std.specs.List.{AllByRecursion, AllPairs, Contains, concat, join_with_byte}
 use Rattle.std.specs.Option.{option_and_then}
@@ -7,6 +7,7 @@ use Rattle.std.specs.Str.Lines.{lines}
 use Rattle.std.proofs.lemmas.Bool.{eqb-true}
 use Rattle.std.proofs.lemmas.Bool.Decides.{nat_tests}
 use Rattle.std.proofs.lemmas.List.Elements.{Contains-append_left, Contains-append_right}
+use Rattle.std.proofs.lemmas.Str.{IsUtf8-append, IsUtf8-nil}
 use Rattle.tw_types.specs.DataType.{is_scalar}
 use Rattle.tw_types.specs.Nesting.{NestedScalar}
 use Rattle.tw_types.specs.declared.param.Mode.{Mode}
@@ -17,33 +18,34 @@ use Rattle.tw_code.specs.declared.procedure.Procedure.{Procedure}
 use Rattle.tw_code.specs.format.Program.{IsInstr, IsParam, IsProcedure, IsProgram, IsTypeUnder}
 use Rattle.tw_lines.specs.Words.{Bare, IsLine, Word}
 use Rattle.tw_lines.proofs.Breaks.{IsOneLine, one_lines_back, with_line_feed}
-use Rattle.tw_statement.specs.Parts.{Name, Part, skip_of}
-use Rattle.tw_statement.specs.Statement.{Code, Goals, Head, IsTypeOfMode, Label, Registers, SpellParts, Spells, Statement}
+use Rattle.tw_statement.specs.Parts.{skip_of}
+use Rattle.tw_statement.specs.Statement.{Code, Goals, Head, IsTypeOfMode, Label, Registers, Statement}
 use Rattle.tw_statement.specs.Written.{goal_word, line_of}
 use Rattle.tw_statement.proofs.Labels.{numbered_name, one_numbered}
-use Rattle.tw_statement.proofs.Once.{begins}
-use Rattle.tw_statement.proofs.Written.{AreHigh, IsGoal, IsLineOf, bare_line, head_written, instr_written, label_written, registers_written}
+use Rattle.tw_statement.proofs.Once.{begins, first_word}
+use Rattle.tw_statement.proofs.Quotes.{after_ascii}
+use Rattle.tw_statement.proofs.Written.{IsGoal, IsLineOf, all_append, bare_line, head_written, instr_written, label_written, registers_written}
 use Rattle.tw_asm.specs.Disassembly.{code_lines, disassembly, label_at, label_line, label_places, procedure_lines}
 use Rattle.tw_asm.specs.Spelling.{AreCode, GoesTo, HaveWords, Placed, SpellProcedures, SpellsProcedure, SpellsProgram}
 use Rattle.tw_asm.proofs.OwnLines.{words_of_goal}
-use Rattle.tw_asm.proofs.Places.{label_is, label_within, numbered}
-use Rattle.tw_asm.proofs.Utf8.{AreNumbered, all_append, disassembly_utf8}
+use Rattle.tw_asm.proofs.Places.{AreNumbered, label_is, label_within, numbered}
 
 -- ---- texts of lines
 
--- a text of lines that have words, one after the other
+-- a text of lines that have words, one after the other, in UTF-8
 record IsWritten (text : List ℕ) (words : List (List Word)) : Type 0 where
   pub each_line : List (List ℕ)
   pub parts : text ≡ concat (map with_line_feed each_line)
   pub single : AllByRecursion IsOneLine each_line
   pub have : HaveWords each_line words
+  pub utf8 : IsUtf8 text
 
 -- it may stand before any such text
 abbrev Writes : List ℕ → List (List Word) → Type 0
 Writes text words = (rest : List ℕ) (others : List (List Word)) → IsWritten rest others → IsWritten (text ++ rest) (words ++ others)
 
 nothing : IsWritten [] []
-nothing = record { each_line = []; parts = refl; single = tt; have = HaveWords.end }
+nothing = record { each_line = []; parts = refl; single = tt; have = HaveWords.end; utf8 = IsUtf8-nil }
 
 writes_nothing : Writes [] []
 writes_nothing rest others w = w
@@ -53,28 +55,16 @@ writes_both a b u v h k rest others w =
     subst (λ (text : List ℕ). IsWritten text ((u ++ v) ++ others)) (sym (append_assoc a b rest))
     (subst (λ (words : List (List Word)). IsWritten (a ++ (b ++ rest)) words) (sym (append_assoc u v others)) (h (b ++ rest) (v ++ others) (k rest others w)))
 
-no_break : (b : ℕ) → 32 ≤ b → (b == 10 || b == 13) ≡ false
-no_break b high = grind (arith, nat_tests)
-
-one_line : (line : List ℕ) → AreHigh line → IsOneLine line
-one_line [] h = tt
-one_line (b ∷ line) h = (no_break b h.0, one_line line h.1)
-
--- the words of a statement begin with a name
-some_word : (goals : Goals) (s : Statement) (words : List Word) → Spells goals s words → (rest : List Word) × (words ≡ Bare (begins s).word ∷ rest)
-some_word goals s words h =
-    let parts : SpellParts goals (Name (begins s).word ∷ (begins s).others) words = subst (λ (ps : List Part). SpellParts goals ps words) (begins s).parts h.parts in
-    (parts.1, parts.2 ∙ ap (λ (ws : List Word). ws ++ parts.1) parts.3)
-
 writes_line : (goals : Goals) (s : Statement) (line : List ℕ) (l : IsLineOf goals s line) → Writes (line ++ codes "\n") (l.words ∷ [])
 writes_line goals s line l rest others w =
-    let begin = some_word goals s l.words l.spells in
+    let begin = first_word goals s l.words l.spells in
     record {
       each_line = line ∷ w.each_line;
       parts = ap (λ (text : List ℕ). (line ++ codes "\n") ++ text) w.parts;
-      single = (one_line line l.high, w.single);
+      single = (l.single, w.single);
       have = subst (λ (ws : List Word). HaveWords (line ∷ w.each_line) (ws ∷ others)) (sym begin.1)
           (HaveWords.one_more line w.each_line (Bare (begins s).word) begin.0 others (subst (λ (ws : List Word). IsLine ws line) begin.1 l.is_line) w.have);
+      utf8 = subst IsUtf8 (sym (append_assoc line (codes "\n") rest)) (IsUtf8-append line (10 ∷ rest) l.utf8 (after_ascii 10 rest (omega arith) w.utf8));
     }
 
 -- ---- labels and their places
@@ -271,11 +261,24 @@ written_program (p ∷ program) h =
       writes = writes_both (procedure_lines p) (disassembly program) first.words others.words first.writes others.writes;
     }
 
+record IsWholeText (program : List Procedure) (text : List ℕ) : Type 0 where
+  pub words : List (List Word)
+  pub spell : SpellProcedures program words
+  pub written : IsWritten text words
+
+whole_text : (program : List Procedure) → AllByRecursion IsProcedure program → IsWholeText program (disassembly program)
+whole_text program h =
+    let w = written_program program h in
+    record {
+      words = w.words;
+      spell = w.spell;
+      written = subst (λ (text : List ℕ). IsWritten text w.words) (append-nil (disassembly program)) (subst (λ (words : List (List Word)). IsWritten (disassembly program ++ []) words) (append-nil w.words) (w.writes [] [] nothing));
+    }
+
 pub disassembly_spells : (program : List Procedure) → IsProgram program → SpellsProgram program (disassembly program)
 disassembly_spells program h =
-    let w = written_program program h.1 in
-    let t : IsWritten (disassembly program) w.words =
-    subst (λ (text : List ℕ). IsWritten text w.words) (append-nil (disassembly program)) (subst (λ (words : List (List Word)). IsWritten (disassembly program ++ []) words) (append-nil w.words) (w.writes [] [] nothing)) in
+    let w = whole_text program h.1 in
+    let t = w.written in
     record {
       words = w.words;
       lines_are = subst (λ (ls : List (List ℕ)). HaveWords ls w.words) (sym (ap lines t.parts ∙ one_lines_back t.each_line t.single)) t.have;
@@ -284,4 +287,4 @@ disassembly_spells program h =
     }
 
 pub disassembly_text : (program : List Procedure) → IsProgram program → IsUtf8 (disassembly program)
-disassembly_text program h = disassembly_utf8 program h.1 numbered
+disassembly_text program h = (whole_text program h.1).written.utf8

@@ -5,44 +5,27 @@ use Rattle.std.proofs.lemmas.List.Elements.{Contains-append_cases, Contains-appe
 use Rattle.std.specs.List.{AllByRecursion, Contains, flat_map, slice_get, slice_index_or}
 use Rattle.std.specs.Str.Lines.{lines}
 use Rattle.tw_code.specs.declared.instr.Instr.{Instr}
-use Rattle.tw_lines.specs.Words.{Bare, IsLine, Word}
+use Rattle.tw_lines.specs.Words.{IsLine, Word}
 use Rattle.tw_statement.specs.Seen.{IsRead, Read}
-use Rattle.tw_statement.specs.Statement.{Statement, Head, Registers, Label, Code, AnyShortName, Goals, NamesLabel, Spells}
+use Rattle.tw_statement.specs.Statement.{Statement, Head, Registers, Label, Code, AnyShortName, NamesLabel}
 use Rattle.tw_asm.specs.declared.fault.AsmFault.{AsmFault}
 use Rattle.tw_asm.specs.declared.fault.FaultNo.{FaultNo}
 use Rattle.tw_asm.specs.Fault.{GoalFault, IsFirstGoalFault, IsWhole, LineSays, LinesSay, MayStand, Situation, after, after_line, at_start, labels_ahead, not_forward, situation_from, unknown}
 use Rattle.tw_asm.specs.Spelling.{Placed}
 use Rattle.tw_asm.specs.reading.Goals.{FirstUnlinked, Goal, IsNoGoal, StandsAt, section_goals}
 use Rattle.tw_asm.specs.reading.Progress.{HasSections, LineRead, LinesRead, Progress, Section, line_step, outset, situation_of}
-use Rattle.tw_asm.proofs.Alike.{AreAlike, after_alike, alike}
-use Rattle.tw_asm.proofs.Begins.{first_of_words}
+use Rattle.tw_asm.proofs.Alike.{AreAlike, alike}
 use Rattle.tw_lines.proofs.Once.{line_once}
 use Rattle.tw_asm.proofs.Names.{named_once}
 use Rattle.tw_asm.proofs.Found.{ahead, ahead_by, all_goals, goals_are, goals_from, labels_after, place_after}
-use Rattle.tw_asm.proofs.Steps.{lines_say, read_says, said_by, situation_is, statement_of, step_after}
+use Rattle.tw_asm.proofs.Steps.{line_after, line_says, lines_say, read_says, said_by, situation_is, statement_of}
+use Rattle.tw_asm.proofs.Twice.{both_alike, line_is_same, none_spelled, same_ahead}
+use Rattle.tw_asm.proofs.Walk.{all_of, contains_none, higher, name_among}
 
 -- ---- elements
 
-all_at : {X : Type 0} (P : X → Type 0) (y : X) (ys : List X) (x : X) → P y → (Contains ys x → P x) → (k : ℕ) → k < suc (length ys) → slice_index_or (y ∷ ys) k x ≡ x → P x
-all_at P y ys x here others zero low e = subst P e here
-all_at P y ys x here others (suc k) low e = others (k, omega (arith, low), e)
-
-pub all_of : {X : Type 0} (P : X → Type 0) (xs : List X) (x : X) → AllByRecursion P xs → Contains xs x → P x
-all_of P [] x a c = absurd (omega (arith, c.1))
-all_of P (y ∷ ys) x a c = all_at P y ys x a.0 (λ d. all_of P ys x a.1 d) c.0 c.1 c.2
-
-image_at : {X Y : Type 0} (f : X → Y) (y : X) (ys : List X) (x : X) → (Contains ys x → Contains (map f ys) (f x)) → (k : ℕ) → k < suc (length ys) → slice_index_or (y ∷ ys) k x ≡ x → Contains (f y ∷ map f ys) (f x)
-image_at f y ys x others zero low e = (0, omega arith, ap f e)
-image_at f y ys x others (suc k) low e =
-    let r = others (k, omega (arith, low), e) in
-    (suc r.0, omega (arith, r.1), r.2)
-
-pub image_of : {X Y : Type 0} (f : X → Y) (xs : List X) (x : X) → Contains xs x → Contains (map f xs) (f x)
-image_of f [] x c = absurd (omega (arith, c.1))
-image_of f (y ∷ ys) x c = image_at f y ys x (λ d. image_of f ys x d) c.0 c.1 c.2
-
 name_in : (labels : List Placed) (name : List ℕ) (place : ℕ) → Contains labels (record { name = name; place = place }) → Contains (map (λ (label : Placed). label.name) labels) name
-name_in labels name place c = image_of (λ (label : Placed). label.name) labels (record { name = name; place = place }) c
+name_in labels name place c = name_among labels (record { name = name; place = place }) c
 
 -- ---- lines that are read, by their situations
 
@@ -51,10 +34,6 @@ AreRead number s [] [] = Unit {0}
 AreRead number s [] (read ∷ others) = ⊥
 AreRead number s (line ∷ more) [] = ⊥
 AreRead number s (line ∷ more) (read ∷ others) = LineRead s line read × AreRead (number + 1) (after_line number (statement_of read) s) more others
-
-line_after : (number : ℕ) (p : Progress) (line : List ℕ) (read : Option Read) → LineRead (situation_of p) line read → situation_of (line_step number read p) ≡ after_line number (statement_of read) (situation_of p)
-line_after number p line None r = refl
-line_after number p line (Some read) r = step_after number read.statement read.goal p r.1
 
 pub are_read : (number : ℕ) (p : Progress) (ls : List (List ℕ)) (reads : List (Option Read)) → LinesRead number p ls reads → AreRead number (situation_of p) ls reads
 are_read number p [] [] r = tt
@@ -100,10 +79,6 @@ pub record Behind (labels : List Placed) (place : ℕ) (s : Situation) : Type 0 
   pub names : map (λ label. label.name) labels ≡ s.labels
   pub low : AllByRecursion (λ label. label.place ≤ place) labels
 
-higher : (k n : ℕ) (labels : List Placed) → k ≤ n → AllByRecursion (λ label. label.place ≤ k) labels → AllByRecursion (λ label. label.place ≤ n) labels
-higher k n [] le a = tt
-higher k n (l ∷ labels) le a = (omega (arith, le, a.0), higher k n labels le a.1)
-
 low_more : (name : List ℕ) (place : ℕ) (labels : List Placed) → AllByRecursion (λ label. label.place ≤ place) labels → AllByRecursion (λ label. label.place ≤ place) (labels ++ (record { name = name; place = place } ∷ []))
 low_more name place [] a = (omega arith, tt)
 low_more name place (l ∷ labels) a = (a.0, low_more name place labels a.1)
@@ -118,9 +93,6 @@ behind_more number (Label name) labels place s b = record {
 behind_more number (Code i) labels place s b = record { names = b.names; low = higher place (place + 1) labels (omega arith) b.low }
 
 -- a name behind isn't ahead
-head_may : {Z : Type 0} (name : List ℕ) → Contains {X = List ℕ} [] name → Z
-head_may name c = absurd (omega (arith, c.1))
-
 label_again : (s : Situation) (other : List ℕ) (said : List (Option Statement)) (name : List ℕ) → (Contains s.labels other → ⊥) → (Contains (s.labels ++ (other ∷ [])) name → Contains (labels_ahead said) name → ⊥)
     → Contains s.labels name → (k : ℕ) → k < suc (length (labels_ahead said)) → slice_index_or (other ∷ labels_ahead said) k name ≡ name → ⊥
 label_again s other said name new others c zero low e = new (subst (Contains s.labels) (sym e) c)
@@ -128,13 +100,13 @@ label_again s other said name new others c (suc k) low e = others (Contains-appe
 
 again_by : (number : ℕ) (s : Situation) (statement : Statement) (said : List (Option Statement)) (name : List ℕ) → MayStand statement s
     → (Contains (after number statement s).labels name → Contains (labels_ahead said) name → ⊥) → Contains s.labels name → Contains (labels_ahead (Some statement ∷ said)) name → ⊥
-again_by number s (Head kind params) said name m others c d = head_may name d
+again_by number s (Head kind params) said name m others c d = contains_none name d
 again_by number s (Registers registers) said name m others c d = others c d
 again_by number s (Code i) said name m others c d = others c d
 again_by number s (Label other) said name m others c d = label_again s other said name m.1 others c d.0 d.1 d.2
 
 not_again : (number : ℕ) (s : Situation) (ls : List (List ℕ)) (reads : List (Option Read)) (name : List ℕ) → AreRead number s ls reads → Contains s.labels name → Contains (labels_ahead (said_by reads)) name → ⊥
-not_again number s [] [] name r c d = head_may name d
+not_again number s [] [] name r c d = contains_none name d
 not_again number s [] (read ∷ others) name r c d = absurd r
 not_again number s (line ∷ more) [] name r c d = absurd r
 not_again number s (line ∷ more) (None ∷ others) name r c d = not_again (number + 1) s more others name r.1 c d
@@ -143,56 +115,14 @@ not_again number s (line ∷ more) (Some read ∷ others) name r c d =
 
 -- ---- two readings of the same lines
 
-nil_cons : (x : Word) (others : List Word) → ◌≡◌ {A = List Word} [] (x ∷ others) → ⊥
-nil_cons x others p = cc
-
-blank_says : (G : Goals) (statement : Statement) (words : List Word) → words ≡ [] → Spells G statement words → ⊥
-blank_says G statement words e s =
-    let f = first_of_words G statement words s in
-    nil_cons (Bare f.word) f.others (sym e ∙ f.parts)
-
-read_alike : (s : Situation) (line : List ℕ) (read : Read) (statement : Statement) → LineRead s line (Some read) → LineSays s line (Some statement) → AreAlike statement read.statement
-read_alike s line read statement r l =
-    alike AnyShortName AnyShortName statement read.statement l.0.0 l.0.2.0 (subst (λ (ws : List Word). Spells AnyShortName read.statement ws) (line_once r.0.0 l.0.0 line r.0.1 l.0.1) (read_says read r.0.0 r.0.2).0)
-
 line_alike : (number : ℕ) (s : Situation) (line : List ℕ) (read : Option Read) (said : Option Statement) → LineRead s line read → LineSays s line said → after_line number said s ≡ after_line number (statement_of read) s
-line_alike number s line None None r l = refl
-line_alike number s line None (Some statement) r l = absurd (blank_says AnyShortName statement l.0.0 (line_once l.0.0 [] line l.0.1 r) l.0.2.0)
-line_alike number s line (Some read) None r l = absurd (blank_says AnyShortName read.statement r.0.0 (line_once r.0.0 [] line r.0.1 l) (read_says read r.0.0 r.0.2).0)
-line_alike number s line (Some read) (Some statement) r l = after_alike number statement read.statement s (read_alike s line read statement r l)
+line_alike number s line read said r l = both_alike number s line said (statement_of read) l (line_says s line read r)
 
-ahead_alike : (statement read : Statement) (a b : List (Option Statement)) → AreAlike statement read → labels_ahead a ≡ labels_ahead b → labels_ahead (Some statement ∷ a) ≡ labels_ahead (Some read ∷ b)
-ahead_alike (Head kind params) (Head k ps) a b x e = refl
-ahead_alike (Registers registers) (Registers others) a b x e = e
-ahead_alike (Label name) (Label other) a b x e = ap (λ (n : List ℕ). n ∷ labels_ahead a) x ∙ ap (λ (names : List (List ℕ)). other ∷ names) e
-ahead_alike (Code i) (Code j) a b x e = e
-ahead_alike (Head kind params) (Registers registers) a b x e = absurd x
-ahead_alike (Head kind params) (Label name) a b x e = absurd x
-ahead_alike (Head kind params) (Code i) a b x e = absurd x
-ahead_alike (Registers registers) (Head kind params) a b x e = absurd x
-ahead_alike (Registers registers) (Label name) a b x e = absurd x
-ahead_alike (Registers registers) (Code i) a b x e = absurd x
-ahead_alike (Label name) (Head kind params) a b x e = absurd x
-ahead_alike (Label name) (Registers registers) a b x e = absurd x
-ahead_alike (Label name) (Code i) a b x e = absurd x
-ahead_alike (Code i) (Head kind params) a b x e = absurd x
-ahead_alike (Code i) (Registers registers) a b x e = absurd x
-ahead_alike (Code i) (Label name) a b x e = absurd x
-
-same_ahead : (number : ℕ) (s : Situation) (ls : List (List ℕ)) (reads : List (Option Read)) (said : List (Option Statement)) → AreRead number s ls reads → LinesSay number s ls said → labels_ahead said ≡ labels_ahead (said_by reads)
-same_ahead number s [] [] [] r l = refl
-same_ahead number s [] [] (x ∷ said) r l = absurd l
-same_ahead number s [] (read ∷ others) said r l = absurd r
-same_ahead number s (line ∷ more) [] said r l = absurd r
-same_ahead number s (line ∷ more) (read ∷ others) [] r l = absurd l
-same_ahead number s (line ∷ more) (read ∷ others) (x ∷ said) r l =
-    at read x r.0 l.0 (same_ahead (number + 1) (after_line number (statement_of read) s) more others said r.1 (subst (λ (t : Situation). LinesSay (number + 1) t more said) (line_alike number s line read x r.0 l.0) l.1))
-  where
-    at : (read : Option Read) (x : Option Statement) → LineRead s line read → LineSays s line x → labels_ahead said ≡ labels_ahead (said_by others) → labels_ahead (x ∷ said) ≡ labels_ahead (statement_of read ∷ said_by others)
-    at None None a b e = e
-    at None (Some statement) a b e = absurd (blank_says AnyShortName statement b.0.0 (line_once b.0.0 [] line b.0.1 a) b.0.2.0)
-    at (Some read) None a b e = absurd (blank_says AnyShortName read.statement a.0.0 (line_once a.0.0 [] line a.0.1 b) (read_says read a.0.0 a.0.2).0)
-    at (Some read) (Some statement) a b e = ahead_alike statement read.statement said (said_by others) (read_alike s line read statement a b) e
+reads_say : (number : ℕ) (s : Situation) (ls : List (List ℕ)) (reads : List (Option Read)) → AreRead number s ls reads → LinesSay number s ls (said_by reads)
+reads_say number s [] [] r = tt
+reads_say number s [] (read ∷ others) r = absurd r
+reads_say number s (line ∷ more) [] r = absurd r
+reads_say number s (line ∷ more) (read ∷ others) r = (line_says s line read r.0, reads_say (number + 1) (after_line number (statement_of read) s) more others r.1)
 
 -- ---- a goal that isn't found
 
@@ -339,9 +269,6 @@ first_later number k labels place others f (Label name) goal later u = one_later
 first_later number k labels place others f (Code i) goal later (inl u) = no_later f.line number k u.3
 first_later number k labels place others f (Code i) goal later (inr u) = one_later f.line number k (later u.1)
 
-line_same : (a b : List ℕ) → ◌≡◌ {A = Option (List ℕ)} (Some a) (Some b) → b ≡ a
-line_same a b e = cc
-
 pub first_at : (number : ℕ) (s : Situation) (labels : List Placed) (place : ℕ) (ls : List (List ℕ)) (reads : List (Option Read)) (said : List (Option Statement)) (f : AsmFault) (index : ℕ) (line : List ℕ) (which : FaultNo)
     → AreRead number s ls reads → LinesSay number s ls said → Behind labels place s → FirstUnlinked (goals_from number labels place reads) f
     → slice_get ls index ≡ Some line → GoalFault (situation_from number s (take index said)) (labels_ahead (drop (index + 1) said)) line which → f.line ≤ number + index
@@ -351,10 +278,10 @@ first_at number s labels place (x ∷ more) [] said f index line which r l b u e
 first_at number s labels place (x ∷ more) (read ∷ others) [] f index line which r l b u e g = absurd l
 first_at number s labels place (x ∷ more) (None ∷ others) (y ∷ said) f zero line which r l b u e g =
     let a = at_name s (labels_ahead said) line which g in
-    absurd (blank_says (λ skip word. word ≡ a.name) (Code a.names.i) a.words (line_once a.words [] x (subst (IsLine a.words) (line_same x line e) a.is_line) r.0) a.names.spells)
+    absurd (none_spelled (λ skip word. word ≡ a.name) (Code a.names.i) a.words (line_once a.words [] x (subst (IsLine a.words) (line_is_same x line e) a.is_line) r.0) a.names.spells)
 first_at number s labels place (x ∷ more) (Some read ∷ others) (y ∷ said) f zero line which r l b u e g =
-    let same = same_ahead (number + 1) (after number read.statement s) more others said r.1 (subst (λ (t : Situation). LinesSay (number + 1) t more said) (line_alike number s x (Some read) y r.0 l.0) l.1) in
-    from_here f.line number (first_here number s labels place x more others (labels_ahead said) f which read.statement read.goal r.0.0.0 b r.0.0.1 r.0.0.2 same r.1 u (subst (λ (z : List ℕ). GoalFault s (labels_ahead said) z which) (line_same x line e) g))
+    let same = same_ahead (number + 1) (after number read.statement s) more said (said_by others) (subst (λ (t : Situation). LinesSay (number + 1) t more said) (line_alike number s x (Some read) y r.0 l.0) l.1) (reads_say (number + 1) (after number read.statement s) more others r.1) in
+    from_here f.line number (first_here number s labels place x more others (labels_ahead said) f which read.statement read.goal r.0.0.0 b r.0.0.1 r.0.0.2 same r.1 u (subst (λ (z : List ℕ). GoalFault s (labels_ahead said) z which) (line_is_same x line e) g))
 first_at number s labels place (x ∷ more) (None ∷ others) (y ∷ said) f (suc k) line which r l b u e g =
     let t = line_alike number s x None y r.0 l.0 in
     let g2 = subst (λ (j : ℕ). GoalFault (situation_from (number + 1) (after_line number y s) (take k said)) (labels_ahead (drop j (y ∷ said))) line which) (one_on k) g in

@@ -6,10 +6,11 @@ use Rattle.std.specs.List.{flat_map}
 use Rattle.tw_code.specs.declared.instr.Instr.{Instr}
 use Rattle.tw_statement.specs.Seen.{Read}
 use Rattle.tw_statement.specs.Statement.{Statement, Head, Registers, Label, Code}
-use Rattle.tw_asm.specs.Fault.{Stage, Start, AfterHead, InBody, MayStand}
+use Rattle.tw_asm.specs.Fault.{MayStand}
 use Rattle.tw_asm.specs.Spelling.{Placed}
 use Rattle.tw_asm.specs.reading.Goals.{Goal, goals_in, section_goals}
 use Rattle.tw_asm.specs.reading.Progress.{AtStart, BehindHead, Within, Drafted, LinesRead, Place, Progress, Section, drafts_at, ended, labels_at, line_step, progress_from, situation_of, step}
+use Rattle.tw_asm.proofs.Stages.{body_head, head_body, progress, start_body, start_head}
 
 -- ---- labels and goals line by line
 
@@ -74,9 +75,6 @@ ended_goals sections (Within section) =
     flat_map-append section_goals sections (section ∷ [])
     ∙ ap (λ (gs : List Goal). flat_map section_goals sections ++ gs) (append-nil (section_goals section) ∙ ap (λ (ls : List Placed). goals_in ls 0 section.drafts) (sym (append-nil section.labels)))
 
-abbrev state : List Section → ℕ → Place → Progress
-state sections head_line place = record { sections = sections; head_line = head_line; place = place }
-
 -- the goals once these lines are read
 abbrev pub all_goals : Progress → List Goal
 all_goals p = flat_map section_goals (ended p.sections p.place)
@@ -84,38 +82,23 @@ all_goals p = flat_map section_goals (ended p.sections p.place)
 abbrev pub goals_by : ℕ → Progress → List (Option Read) → List Goal
 goals_by number p reads = flat_map section_goals p.sections ++ (open_goals p.place (ahead (length (drafts_at p.place)) reads) ++ goals_from number (labels_at p.place) (length (drafts_at p.place)) reads)
 
-no_way : {Z : Type 0} (s t : Stage) → ◌≡◌ {A = Stage} s t → (◌≡◌ {A = Stage} s t → ⊥) → Z
-no_way s t e n = absurd (n e)
-
-start_body : ◌≡◌ {A = Stage} Start InBody → ⊥
-start_body e = absurd cc
-
-due_body : ◌≡◌ {A = Stage} AfterHead InBody → ⊥
-due_body e = absurd cc
-
-start_due : ◌≡◌ {A = Stage} Start AfterHead → ⊥
-start_due e = absurd cc
-
-body_due : ◌≡◌ {A = Stage} InBody AfterHead → ⊥
-body_due e = absurd cc
-
 -- one line on, the same goals
-goals_step : (number : ℕ) (statement : Statement) (goal : Option (List ℕ)) (sections : List Section) (head_line : ℕ) (place : Place) (others : List (Option Read)) → MayStand statement (situation_of (state sections head_line place))
-    → goals_by (number + 1) (step number statement goal (state sections head_line place)) others ≡ goals_by number (state sections head_line place) (Some (record { statement = statement; goal = goal }) ∷ others)
+goals_step : (number : ℕ) (statement : Statement) (goal : Option (List ℕ)) (sections : List Section) (head_line : ℕ) (place : Place) (others : List (Option Read)) → MayStand statement (situation_of (progress sections head_line place))
+    → goals_by (number + 1) (step number statement goal (progress sections head_line place)) others ≡ goals_by number (progress sections head_line place) (Some (record { statement = statement; goal = goal }) ∷ others)
 goals_step number (Head kind params) goal sections head_line place others m =
     ap (λ (gs : List Goal). gs ++ goals_from (number + 1) [] 0 others) (ended_goals sections place)
     ∙ append_assoc (flat_map section_goals sections) (open_goals place []) (goals_from (number + 1) [] 0 others)
-goals_step number (Registers registers) goal sections head_line AtStart others m = absurd (start_due m)
+goals_step number (Registers registers) goal sections head_line AtStart others m = start_head m
 goals_step number (Registers registers) goal sections head_line (BehindHead kind params) others m = refl
-goals_step number (Registers registers) goal sections head_line (Within section) others m = absurd (body_due m)
-goals_step number (Label name) goal sections head_line AtStart others m = absurd (start_body m.0)
-goals_step number (Label name) goal sections head_line (BehindHead kind params) others m = absurd (due_body m.0)
+goals_step number (Registers registers) goal sections head_line (Within section) others m = body_head m
+goals_step number (Label name) goal sections head_line AtStart others m = start_body m.0
+goals_step number (Label name) goal sections head_line (BehindHead kind params) others m = head_body m.0
 goals_step number (Label name) goal sections head_line (Within section) others m =
     let k = length section.drafts in
     ap (λ (ls : List Placed). flat_map section_goals sections ++ (goals_in ls 0 section.drafts ++ goals_from (number + 1) (section.labels ++ (record { name = name; place = length section.drafts } ∷ [])) (length section.drafts) others))
     (append_assoc section.labels (record { name = name; place = length section.drafts } ∷ []) (ahead (length section.drafts) others))
-goals_step number (Code i) goal sections head_line AtStart others m = absurd (start_body m.0)
-goals_step number (Code i) goal sections head_line (BehindHead kind params) others m = absurd (due_body m.0)
+goals_step number (Code i) goal sections head_line AtStart others m = start_body m.0
+goals_step number (Code i) goal sections head_line (BehindHead kind params) others m = head_body m.0
 goals_step number (Code i) goal sections head_line (Within section) others m =
     code_goals number i goal sections section others
   where

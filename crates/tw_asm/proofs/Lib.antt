@@ -1,7 +1,6 @@
 pub mod Alike
 pub mod Begins
 pub mod Disassembled
-pub mod Endings
 pub mod First
 pub mod Found
 pub mod LabelMaps
@@ -11,10 +10,11 @@ pub mod Ones
 pub mod OwnLines
 pub mod Places
 pub mod Spelled
+pub mod Stages
 pub mod Steps
 pub mod Taking
 pub mod Told
+pub mod Twice
 pub mod Unique
 pub mod Unspelled
-pub mod Utf8
 pub mod Walk

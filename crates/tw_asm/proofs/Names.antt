@@ -5,6 +5,7 @@ use Rattle.tw_lines.specs.Words.{Bare, Word}
 use Rattle.tw_statement.specs.Parts.{Part, Skip, Target, instr_parts}
 use Rattle.tw_statement.specs.Statement.{Code, Goals, NamesLabel, SpellParts, SpellsPart, Spells}
 use Rattle.tw_statement.proofs.Rows.{row, skips_last}
+use Rattle.tw_statement.proofs.Spelled.{bare_is}
 
 abbrev NoGoal : Goals
 NoGoal skip word = ⊥
@@ -46,9 +47,6 @@ last_or word (first ∷ others) = last_or first others
 last_push : (word : Word) (front : List Word) (last : Word) → last_or word (front ++ (last ∷ [])) ≡ last
 last_push word [] last = refl
 last_push word (first ∷ front) last = last_push first front last
-
-bare_is : (v w : List ℕ) → Bare v ≡ Bare w → v ≡ w
-bare_is v w e = cc
 
 last_same : (v w : List ℕ) (words front back : List Word) → words ≡ front ++ (Bare v ∷ []) → words ≡ back ++ (Bare w ∷ []) → v ≡ w
 last_same v w words front back e f =

@@ -1,5 +1,5 @@
 -- The labels of a procedure's code: few enough to have numbers of the machine, and none past the code's length.
-use Rattle.std.proofs.Common.{◌≡◌, ◌==◌, ◌≤◌, ◌<◌, ℕ, ◌+◌, Bool, true, false, cond, filter, List, [], ◌∷◌, ◌++◌, length, get_or, Option, Some, None, refl, subst, arith}
+use Rattle.std.proofs.Common.{◌≡◌, ◌==◌, ◌≤◌, ◌<◌, ◌^◌, ℕ, ◌+◌, Bool, true, false, cond, filter, List, [], ◌∷◌, ◌++◌, length, get_or, Option, Some, None, refl, subst, arith}
 use Rattle.std.specs.Prelude.{not, nat_lt}
 use Rattle.std.specs.List.{AllByRecursion}
 use Rattle.std.proofs.lemmas.Bool.{eqb-true}
@@ -11,7 +11,10 @@ use Rattle.tw_code.specs.declared.procedure.Procedure.{Procedure}
 use Rattle.tw_code.specs.format.Program.{IsProcedure}
 use Rattle.tw_statement.specs.Parts.{skip_of}
 use Rattle.tw_asm.specs.Disassembly.{first_ones, goal_from, goals_from, label_at, label_places}
-use Rattle.tw_asm.proofs.Utf8.{AreNumbered}
+
+-- the labels' numbers are the machine's
+abbrev pub AreNumbered : List ℕ → Type 0
+AreNumbered labels = (place number : ℕ) → label_at labels place ≡ Some number → number < 2 ^ 64
 
 -- ---- how many
 

@@ -18,13 +18,15 @@ use Rattle.tw_code.specs.format.Program.{IsDataInstr, IsInstr, IsLocalInstr, IsP
 use Rattle.tw_lines.specs.Words.{Bare, IsLine, Word}
 use Rattle.tw_statement.specs.Seen.{IsRead, NoName, Read, data_with_skip, local_with_skip, with_skip}
 use Rattle.tw_statement.specs.Statement.{Statement, Head, Registers, Label, Code, AnyShortName, Goals, IsInLimits, Spells}
-use Rattle.tw_asm.specs.Fault.{Stage, Start, AfterHead, InBody, IsWhole, MayStand}
+use Rattle.tw_asm.specs.Fault.{IsWhole, MayStand}
 use Rattle.tw_asm.specs.Spelling.{AreCode, GoesTo, HaveWords, Placed, SpellProcedures, SpellsProcedure, SpellsProgram}
 use Rattle.tw_asm.specs.reading.Goals.{AreLinkedCode, AreLinkedProcedures, HasLabelsWithin, IsLinkedProcedure, IsLinkedTo, goals_in}
 use Rattle.tw_asm.specs.reading.Progress.{AtStart, BehindHead, Within, Drafted, HasSections, IsGoalOf, LinesRead, Place, Progress, Section, begun, ended, line_step, outset, progress_from, situation_of, step}
-use Rattle.tw_statement.proofs.Once.{resolved_spells}
+use Rattle.tw_statement.proofs.Once.{resolved_spells, spells_more}
 use Rattle.tw_asm.proofs.Begins.{first_of_words}
-use Rattle.tw_asm.proofs.Steps.{read_says, spells_more}
+use Rattle.tw_asm.proofs.Stages.{body_head, body_start, head_body, head_start, progress, start_body, start_head}
+use Rattle.tw_asm.proofs.Steps.{read_says}
+use Rattle.tw_asm.proofs.Walk.{higher}
 
 -- ---- bodies whose goals aren't looked for yet
 
@@ -69,10 +71,13 @@ labels_within place _ _ _ (a_draft _ d ws labels drafts others q more) =
 
 -- ---- skips for goals
 
+no_name : (goals : Goals) (statement : Statement) (words : List Word) → Spells NoName statement words → Spells goals statement words
+no_name goals statement words s = spells_more NoName goals (λ skip name n. absurd n) statement words s
+
 linked_spells : (all : List Placed) (place : ℕ) (draft : Instr) (goal : Option (List ℕ)) (i : Instr) (words : List Word)
     → IsRead (record { statement = Code draft; goal = goal }) words → IsLinkedTo all place goal draft i → Spells (GoesTo all place) (Code i) words
 linked_spells all place draft None i words r l =
-    subst (λ (x : Instr). Spells (GoesTo all place) (Code x) words) (sym l) (spells_more NoName (GoesTo all place) (λ skip name n. absurd n) (Code draft) words r.1)
+    subst (λ (x : Instr). Spells (GoesTo all place) (Code x) words) (sym l) (no_name (GoesTo all place) (Code draft) words r.1)
 linked_spells all place draft (Some name) i words r l =
     subst (λ (x : Instr). Spells (GoesTo all place) (Code x) words) (sym l.3) (resolved_spells (GoesTo all place) name l.0 draft words r l.1)
 
@@ -81,7 +86,7 @@ pub linked_code : (all : List Placed) (place : ℕ) (labels : List Placed) (draf
 linked_code all place _ _ _ [] (no_drafts _) l = AreCode.end place
 linked_code all place _ _ _ (i ∷ code) (no_drafts _) l = absurd l
 linked_code all place _ _ _ is (a_label _ n ws labels drafts others a b more) l =
-    AreCode.label place n ws labels is others (spells_more NoName (GoesTo all place) (λ skip name n. absurd n) (Label n) ws a) b (linked_code all place labels drafts others is more l)
+    AreCode.label place n ws labels is others (no_name (GoesTo all place) (Label n) ws a) b (linked_code all place labels drafts others is more l)
 linked_code all place _ _ _ [] (a_draft _ d ws labels drafts others q more) l = absurd l
 linked_code all place _ _ _ (i ∷ is) (a_draft _ d ws labels drafts others q more) l =
     AreCode.instruction place i ws labels is others (linked_spells all place d.instr d.goal i ws q l.0) (linked_code all (place + 1) labels drafts others is more l.1)
@@ -155,9 +160,6 @@ pub record IsSection (section : Section) (words : List (List Word)) : Type 0 whe
   pub once : AllPairs (λ a b. a ≢ b) (map (λ label. label.name) section.labels)
   pub few : length section.drafts ≤ 4096
 
-no_name : (goals : Goals) (statement : Statement) (words : List Word) → Spells NoName statement words → Spells goals statement words
-no_name goals statement words s = spells_more NoName goals (λ skip name n. absurd n) statement words s
-
 linked_procedure : (section : Section) (words : List (List Word)) (procedure : Procedure) → IsSection section words → IsLinkedProcedure section procedure → SpellsProcedure procedure words
 linked_procedure section words procedure s l = record {
   head = s.head;
@@ -223,37 +225,16 @@ pub record IsSpelled (p : Progress) (words : List (List Word)) : Type 0 where
   pub place_is : IsPlace p.place current
   pub few : length p.sections + begun p.place ≤ 64
 
-abbrev state : List Section → ℕ → Place → Progress
-state sections head_line place = record { sections = sections; head_line = head_line; place = place }
-
 plain : (statement : Statement) (goal : Option (List ℕ)) (words : List Word) → goal ≡ None → IsRead (record { statement = statement; goal = goal }) words → Spells NoName statement words
 plain statement None words e r = r.1
 plain statement (Some name) words e r = absurd cc
-
-no_start : {Z : Type 0} → ◌≡◌ {A = Stage} InBody Start → Z
-no_start e = absurd cc
-
-no_start_due : {Z : Type 0} → ◌≡◌ {A = Stage} AfterHead Start → Z
-no_start_due e = absurd cc
-
-no_body_due : {Z : Type 0} → ◌≡◌ {A = Stage} AfterHead InBody → Z
-no_body_due e = absurd cc
-
-no_body_start : {Z : Type 0} → ◌≡◌ {A = Stage} Start InBody → Z
-no_body_start e = absurd cc
-
-no_head_start : {Z : Type 0} → ◌≡◌ {A = Stage} Start AfterHead → Z
-no_head_start e = absurd cc
-
-no_head_body : {Z : Type 0} → ◌≡◌ {A = Stage} InBody AfterHead → Z
-no_head_body e = absurd cc
 
 word_more : (all done current : List (List Word)) (words : List Word) → all ≡ done ++ current → all ++ (words ∷ []) ≡ done ++ (current ++ (words ∷ []))
 word_more all done current words e = ap (λ (x : List (List Word)). x ++ (words ∷ [])) e ∙ append_assoc done current (words ∷ [])
 
 head_step : (number : ℕ) (kind : Kind) (params : List Param) (goal : Option (List ℕ)) (sections : List Section) (head_line : ℕ) (place : Place) (all : List (List Word)) (words : List Word)
-    → IsSpelled (state sections head_line place) all → IsRead (record { statement = Head kind params; goal = goal }) words → MayStand (Head kind params) (situation_of (state sections head_line place)) → goal ≡ None
-    → IsSpelled (step number (Head kind params) goal (state sections head_line place)) (all ++ (words ∷ []))
+    → IsSpelled (progress sections head_line place) all → IsRead (record { statement = Head kind params; goal = goal }) words → MayStand (Head kind params) (situation_of (progress sections head_line place)) → goal ≡ None
+    → IsSpelled (step number (Head kind params) goal (progress sections head_line place)) (all ++ (words ∷ []))
 head_step number kind params goal sections head_line AtStart all words s r m g = record {
   done = s.done;
   current = words ∷ [];
@@ -262,9 +243,9 @@ head_step number kind params goal sections head_line AtStart all words s r m g =
   place_is = (words, refl, plain (Head kind params) goal words g r, read_limits (Head kind params) goal words r);
   few = omega (arith, m.1);
 }
-head_step number kind params goal sections head_line (BehindHead k ps) all words s r m g = elim (m.0) [ inl e ↦ no_start_due e | inr e ↦ no_body_due e.0 ]
+head_step number kind params goal sections head_line (BehindHead k ps) all words s r m g = elim (m.0) [ inl e ↦ head_start e | inr e ↦ head_body e.0 ]
 head_step number kind params goal sections head_line (Within section) all words s r m g =
-    let some : 0 < length section.drafts = elim (m.0) [ inl e ↦ no_start e | inr e ↦ e.1 ] in
+    let some : 0 < length section.drafts = elim (m.0) [ inl e ↦ body_start e | inr e ↦ e.1 ] in
     record {
       done = s.done ++ s.current;
       current = words ∷ [];
@@ -278,9 +259,9 @@ none_pairs : AllPairs (λ (a b : List ℕ). a ≢ b) []
 none_pairs = λ i j d a b. absurd (omega (arith, b))
 
 registers_step : (number : ℕ) (registers : List Scalar) (goal : Option (List ℕ)) (sections : List Section) (head_line : ℕ) (place : Place) (all : List (List Word)) (words : List Word)
-    → IsSpelled (state sections head_line place) all → IsRead (record { statement = Registers registers; goal = goal }) words → MayStand (Registers registers) (situation_of (state sections head_line place)) → goal ≡ None
-    → IsSpelled (step number (Registers registers) goal (state sections head_line place)) (all ++ (words ∷ []))
-registers_step number registers goal sections head_line AtStart all words s r m g = no_head_start m
+    → IsSpelled (progress sections head_line place) all → IsRead (record { statement = Registers registers; goal = goal }) words → MayStand (Registers registers) (situation_of (progress sections head_line place)) → goal ≡ None
+    → IsSpelled (step number (Registers registers) goal (progress sections head_line place)) (all ++ (words ∷ []))
+registers_step number registers goal sections head_line AtStart all words s r m g = start_head m
 registers_step number registers goal sections head_line (BehindHead kind params) all words s r m g =
     let h = s.place_is in
     record {
@@ -303,7 +284,7 @@ registers_step number registers goal sections head_line (BehindHead kind params)
       };
       few = s.few;
     }
-registers_step number registers goal sections head_line (Within section) all words s r m g = no_head_body m
+registers_step number registers goal sections head_line (Within section) all words s r m g = body_head m
 
 body_more : (words : List (List Word)) (head registers : List Word) (body : List (List Word)) (more : List Word) → words ≡ head ∷ registers ∷ body → words ++ (more ∷ []) ≡ head ∷ registers ∷ (body ++ (more ∷ []))
 body_more words head registers body more e = ap (λ (x : List (List Word)). x ++ (more ∷ [])) e
@@ -315,14 +296,13 @@ new_name labels name place once new =
     subst (AllPairs (λ (a b : List ℕ). a ≢ b)) (sym (map-append (λ (label : Placed). label.name) labels (record { name = name; place = place } ∷ [])))
     (all_pairs_push (λ (a b : List ℕ). a ≢ b) names name once (λ k d low e. new (k, low, get_or_default names k name d low ∙ e)))
 
-label_step : (number : ℕ) (name : List ℕ) (goal : Option (List ℕ)) (sections : List Section) (head_line : ℕ) (place : Place) (all : List (List Word)) (words : List Word)
-    → IsSpelled (state sections head_line place) all → IsRead (record { statement = Label name; goal = goal }) words → MayStand (Label name) (situation_of (state sections head_line place)) → goal ≡ None
-    → IsSpelled (step number (Label name) goal (state sections head_line place)) (all ++ (words ∷ []))
-label_step number name goal sections head_line AtStart all words s r m g = no_body_start m.0
-label_step number name goal sections head_line (BehindHead kind params) all words s r m g = no_body_due m.0
-label_step number name goal sections head_line (Within section) all words s r m g =
+-- one line more within a section, which then has these labels and drafts
+body_step : (sections : List Section) (head_line : ℕ) (section : Section) (labels : List Placed) (drafts : List Drafted) (all : List (List Word)) (words : List Word)
+    → IsSpelled (progress sections head_line (Within section)) all → ((body : List (List Word)) → AreDrafts 0 section.labels section.drafts body → AreDrafts 0 labels drafts (body ++ (words ∷ [])))
+    → AllPairs (λ a b. a ≢ b) (map (λ (label : Placed). label.name) labels) → length drafts ≤ 4096
+    → IsSpelled (progress sections head_line (Within (record section { labels = labels; drafts = drafts }))) (all ++ (words ∷ []))
+body_step sections head_line section labels drafts all words s more once few =
     let x = s.place_is in
-    let here : 0 + length section.drafts ≡ length section.drafts = omega arith in
     record {
       done = s.done;
       current = s.current ++ (words ∷ []);
@@ -337,40 +317,35 @@ label_step number name goal sections head_line (Within section) all words s r m 
         params_fit = x.params_fit;
         registers_are = x.registers_are;
         registers_fit = x.registers_fit;
-        drafts_are = subst (λ (k : ℕ). AreDrafts 0 (section.labels ++ (record { name = name; place = k } ∷ [])) section.drafts (x.body ++ (words ∷ []))) here (label_more 0 section.labels section.drafts x.body name words x.drafts_are (plain (Label name) goal words g r) (read_limits (Label name) goal words r));
-        once = new_name section.labels name (length section.drafts) x.once m.1;
-        few = x.few;
+        drafts_are = more x.body x.drafts_are;
+        once = once;
+        few = few;
       };
       few = s.few;
     }
 
+label_step : (number : ℕ) (name : List ℕ) (goal : Option (List ℕ)) (sections : List Section) (head_line : ℕ) (place : Place) (all : List (List Word)) (words : List Word)
+    → IsSpelled (progress sections head_line place) all → IsRead (record { statement = Label name; goal = goal }) words → MayStand (Label name) (situation_of (progress sections head_line place)) → goal ≡ None
+    → IsSpelled (step number (Label name) goal (progress sections head_line place)) (all ++ (words ∷ []))
+label_step number name goal sections head_line AtStart all words s r m g = start_body m.0
+label_step number name goal sections head_line (BehindHead kind params) all words s r m g = head_body m.0
+label_step number name goal sections head_line (Within section) all words s r m g =
+    let here : 0 + length section.drafts ≡ length section.drafts = omega arith in
+    body_step sections head_line section (section.labels ++ (record { name = name; place = length section.drafts } ∷ [])) section.drafts all words s
+    (λ body d.
+        subst (λ (k : ℕ). AreDrafts 0 (section.labels ++ (record { name = name; place = k } ∷ [])) section.drafts (body ++ (words ∷ []))) here
+        (label_more 0 section.labels section.drafts body name words d (plain (Label name) goal words g r) (read_limits (Label name) goal words r)))
+    (new_name section.labels name (length section.drafts) s.place_is.once m.1) s.place_is.few
+
 code_step : (number : ℕ) (i : Instr) (goal : Option (List ℕ)) (sections : List Section) (head_line : ℕ) (place : Place) (all : List (List Word)) (words : List Word)
-    → IsSpelled (state sections head_line place) all → IsRead (record { statement = Code i; goal = goal }) words → MayStand (Code i) (situation_of (state sections head_line place))
-    → IsSpelled (step number (Code i) goal (state sections head_line place)) (all ++ (words ∷ []))
-code_step number i goal sections head_line AtStart all words s r m = no_body_start m.0
-code_step number i goal sections head_line (BehindHead kind params) all words s r m = no_body_due m.0
+    → IsSpelled (progress sections head_line place) all → IsRead (record { statement = Code i; goal = goal }) words → MayStand (Code i) (situation_of (progress sections head_line place))
+    → IsSpelled (step number (Code i) goal (progress sections head_line place)) (all ++ (words ∷ []))
+code_step number i goal sections head_line AtStart all words s r m = start_body m.0
+code_step number i goal sections head_line (BehindHead kind params) all words s r m = head_body m.0
 code_step number i goal sections head_line (Within section) all words s r m =
-    let x = s.place_is in
-    record {
-      done = s.done;
-      current = s.current ++ (words ∷ []);
-      parts = word_more all s.done s.current words s.parts;
-      sections_are = s.sections_are;
-      place_is = record {
-        head = x.head;
-        registers = x.registers;
-        body = x.body ++ (words ∷ []);
-        parts = body_more s.current x.head x.registers x.body words x.parts;
-        head_is = x.head_is;
-        params_fit = x.params_fit;
-        registers_are = x.registers_are;
-        registers_fit = x.registers_fit;
-        drafts_are = draft_more 0 section.labels section.drafts x.body (record { instr = i; goal = goal; number = number }) words x.drafts_are r;
-        once = x.once;
-        few = omega (arith, m.1, length-append section.drafts (record { instr = i; goal = goal; number = number } ∷ []));
-      };
-      few = s.few;
-    }
+    let draft : Drafted = record { instr = i; goal = goal; number = number } in
+    body_step sections head_line section section.labels (section.drafts ++ (draft ∷ [])) all words s
+    (λ body d. draft_more 0 section.labels section.drafts body draft words d r) s.place_is.once (omega (arith, m.1, length-append section.drafts (draft ∷ [])))
 
 spelled_step : (number : ℕ) (statement : Statement) (goal : Option (List ℕ)) (p : Progress) (all : List (List Word)) (words : List Word)
     → IsSpelled p all → IsRead (record { statement = statement; goal = goal }) words → MayStand statement (situation_of p) → IsGoalOf statement goal → IsSpelled (step number statement goal p) (all ++ (words ∷ []))
@@ -411,9 +386,9 @@ pub record AreEnded (sections : List Section) (words : List (List Word)) : Type 
   pub some : 1 ≤ length sections
   pub few : length sections ≤ 64
 
-ended_at : (sections : List Section) (head_line : ℕ) (place : Place) (words : List (List Word)) → IsSpelled (state sections head_line place) words → IsWhole (situation_of (state sections head_line place)) → AreEnded (ended sections place) words
-ended_at sections head_line AtStart words s w = no_body_start w.0
-ended_at sections head_line (BehindHead kind params) words s w = no_body_due w.0
+ended_at : (sections : List Section) (head_line : ℕ) (place : Place) (words : List (List Word)) → IsSpelled (progress sections head_line place) words → IsWhole (situation_of (progress sections head_line place)) → AreEnded (ended sections place) words
+ended_at sections head_line AtStart words s w = start_body w.0
+ended_at sections head_line (BehindHead kind params) words s w = head_body w.0
 ended_at sections head_line (Within section) words s w = record {
   sections_are = subst (AreSections (sections ++ (section ∷ []))) (sym s.parts) (section_more sections s.done section s.current s.sections_are s.place_is w.1);
   some = omega (arith, length-append sections (section ∷ []));
@@ -454,14 +429,10 @@ spells_program text all procedures h l =
       is_program = is_program text all procedures h l;
     }
 
-raised : (k n : ℕ) (labels : List Placed) → k ≤ n → AllByRecursion (λ label. label.place ≤ k) labels → AllByRecursion (λ label. label.place ≤ n) labels
-raised k n [] le a = tt
-raised k n (l ∷ labels) le a = (omega (arith, le, a.0), raised k n labels le a.1)
-
 sections_within : (sections : List Section) (words : List (List Word)) → AreSections sections words → AllByRecursion HasLabelsWithin sections
 sections_within _ _ no_sections = tt
 sections_within _ _ (a_section x others first after a n more) =
-    (raised (0 + length x.drafts) 4096 x.labels (omega (arith, a.few)) (labels_within 0 x.labels x.drafts a.body a.drafts_are), sections_within others after more)
+    (higher (0 + length x.drafts) 4096 x.labels (omega (arith, a.few)) (labels_within 0 x.labels x.drafts a.body a.drafts_are), sections_within others after more)
 
 pub labels_fit : (text : List ℕ) (all : List Section) → HasSections text all → AllByRecursion HasLabelsWithin all
 labels_fit text all h = let s = sections_spelled text all h in sections_within all s.words s.ended.sections_are

@@ -7,37 +7,20 @@ use Rattle.std.proofs.lemmas.List.FromFn.{get_or-enumerate_from, length-enumerat
 use Rattle.std.specs.List.{enumerate_from}
 use Rattle.std.specs.Str.Lines.{lines}
 use Rattle.tw_lines.specs.Words.{Word}
-use Rattle.tw_statement.specs.Parts.{Part, Name, Value, Right, Number, Natural, Literal, TypeOf, Skip, Target}
 use Rattle.tw_statement.specs.Seen.{IsRead, NoName, OnlyName, Read}
-use Rattle.tw_statement.specs.Statement.{Statement, Head, Registers, Label, Code, AnyShortName, Goals, IsShortName, Say, SpellParts, SpellsPart, Spells}
+use Rattle.tw_statement.specs.Statement.{Statement, Head, Registers, Label, Code, AnyShortName, IsShortName, Say}
+use Rattle.tw_statement.proofs.Once.{spells_more}
 use Rattle.tw_asm.specs.declared.fault.AsmFault.{AsmFault}
 use Rattle.tw_asm.specs.declared.fault.FaultNo.{FaultNo}
-use Rattle.tw_asm.specs.Fault.{Stage, Start, AfterHead, InBody, Situation, IsLineFault, IsUnfinished, LineFault, LineSays, LinesSay, MayStand, after, after_line, situation_from}
+use Rattle.tw_asm.specs.Fault.{Stage, AfterHead, InBody, Situation, IsLineFault, IsUnfinished, LineFault, LineSays, LinesSay, MayStand, after, after_line, situation_from}
 use Rattle.tw_asm.specs.Spelling.{Placed}
 use Rattle.tw_asm.specs.reading.Progress.{AtStart, BehindHead, Within, LineRead, LinesRead, Place, Progress, Section, AreNotRead, AreTextRead, IsMemory, IsNotFinished, line_step, outset, progress_from, situation_of, step}
+use Rattle.tw_asm.proofs.Stages.{body_head, head_body, head_start, progress, start_body, start_head}
 
 -- ---- the situation after a statement
 
 name_of : Placed → List ℕ
 name_of label = label.name
-
-abbrev progress : List Section → ℕ → Place → Progress
-progress sections head_line place = record { sections = sections; head_line = head_line; place = place }
-
-start_head : {Z : Type 0} → ◌≡◌ {A = Stage} Start AfterHead → Z
-start_head e = absurd cc
-
-start_body : {Z : Type 0} → ◌≡◌ {A = Stage} Start InBody → Z
-start_body e = absurd cc
-
-head_start : {Z : Type 0} → ◌≡◌ {A = Stage} AfterHead Start → Z
-head_start e = absurd cc
-
-head_body : {Z : Type 0} → ◌≡◌ {A = Stage} AfterHead InBody → Z
-head_body e = absurd cc
-
-body_head : {Z : Type 0} → ◌≡◌ {A = Stage} InBody AfterHead → Z
-body_head e = absurd cc
 
 abbrev counted : Stage → ℕ → List (List ℕ) → ℕ → ℕ → Situation
 counted stage head_line labels procedures instructions = record { stage = stage; procedures = procedures; head_line = head_line; labels = labels; instructions = instructions }
@@ -69,27 +52,6 @@ step_after number statement goal p m = step_at number statement goal p.sections 
 
 -- ---- what is read is said
 
-part_more : (G H : Goals) → ((skip : ℕ) (name : List ℕ) → G skip name → H skip name) → (part : Part) (words : List Word) → SpellsPart G part words → SpellsPart H part words
-part_more G H more (Name word) words s = s
-part_more G H more (Value register) words s = s
-part_more G H more (Right register) words s = s
-part_more G H more (Number number) words s = s
-part_more G H more (Natural number) words s = s
-part_more G H more (Literal text) words s = s
-part_more G H more (TypeOf ty) words s = s
-part_more G H more (Skip skip) words (inl s) = inl s
-part_more G H more (Skip skip) words (inr s) = inr (s.0, more skip s.0 s.1, s.2)
-part_more G H more (Target None) words s = s
-part_more G H more (Target (Some number)) words s = s
-
-parts_more : (G H : Goals) → ((skip : ℕ) (name : List ℕ) → G skip name → H skip name) → (parts : List Part) (words : List Word) → SpellParts G parts words → SpellParts H parts words
-parts_more G H more [] words s = s
-parts_more G H more (part ∷ parts) words s = (s.0, s.1, s.2, part_more G H more part s.0 s.3, parts_more G H more parts s.1 s.4)
-
--- where these goals are goals too
-pub spells_more : (G H : Goals) → ((skip : ℕ) (name : List ℕ) → G skip name → H skip name) → (statement : Statement) (words : List Word) → Spells G statement words → Spells H statement words
-spells_more G H more statement words s = record { form = s.form; parts = parts_more G H more _ words s.parts }
-
 only_short : (name : List ℕ) → IsShortName name → (skip : ℕ) (word : List ℕ) → OnlyName name skip word → AnyShortName skip word
 only_short name short skip word only = subst IsShortName (sym only.1) short
 
@@ -109,11 +71,11 @@ statement_of (Some read) = Some read.statement
 abbrev pub said_by : List (Option Read) → List (Option Statement)
 said_by reads = map statement_of reads
 
-line_says : (s : Situation) (line : List ℕ) (read : Option Read) → LineRead s line read → LineSays s line (statement_of read)
+pub line_says : (s : Situation) (line : List ℕ) (read : Option Read) → LineRead s line read → LineSays s line (statement_of read)
 line_says s line None r = r
 line_says s line (Some read) r = ((r.0.0, r.0.1, read_says read r.0.0 r.0.2), r.1)
 
-line_after : (number : ℕ) (p : Progress) (line : List ℕ) (read : Option Read) → LineRead (situation_of p) line read → situation_of (line_step number read p) ≡ after_line number (statement_of read) (situation_of p)
+pub line_after : (number : ℕ) (p : Progress) (line : List ℕ) (read : Option Read) → LineRead (situation_of p) line read → situation_of (line_step number read p) ≡ after_line number (statement_of read) (situation_of p)
 line_after number p line None r = refl
 line_after number p line (Some read) r = step_after number read.statement read.goal p r.1
 

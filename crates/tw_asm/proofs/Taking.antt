@@ -17,19 +17,18 @@ use Rattle.tw_statement.specs.declared.statement.First.TheVariants as first
 use Rattle.tw_statement.specs.Seen.{IsRead, Read, seen}
 use Rattle.tw_statement.specs.Statement.{Statement, Code, Head, Label, AnyName, AnyShortName, HaveForm, IsPromised, Say}
 use Rattle.tw_asm.specs.declared.fault.FaultNo.TheVariants as fault
-use Rattle.tw_asm.specs.Fault.{Stage, Start, AfterHead, InBody, Begins, HasWords, LineFault, MayBegin, MayStand, Situation, empty, instructions, label_twice, limit, operand, procedures, word}
+use Rattle.tw_asm.specs.Fault.{Stage, Start, InBody, Begins, HasWords, LineFault, MayBegin, MayStand, Situation, empty, instructions, label_twice, limit, operand, procedures, word}
 use Rattle.tw_asm.specs.reading.Progress.{AreClosed, AreFinished, AtStart, BehindHead, Within, IsEmptyAt, IsGoalOf, IsLimit, IsLimitLine, IsMemory, IsNotClosed, IsNotFinished, Place, Progress, Section, Stopped, TakenLine, TakenStatement, WordsRead, begun, drafts_at, ended, situation_of, stage_of, step}
 use Rattle.tw_asm.specs.reading.Promise.{IsPromisedBy, promise}
-use Rattle.tw_asm.proofs.Begins.{first_of_words, line_begins, promise_once}
+use Rattle.tw_asm.proofs.Begins.{first_of_words, front_of, line_begins}
 use Rattle.tw_lines.proofs.Once.{blank_no_word, broken_here, broken_no_line, first_word_once, line_blank, line_once}
-use Rattle.tw_asm.proofs.Steps.{read_says, spells_more}
+use Rattle.tw_asm.proofs.Stages.{body_start, head_body, progress, start_body}
+use Rattle.tw_asm.proofs.Steps.{read_says}
+use Rattle.tw_statement.proofs.Once.{one_promise, spells_more}
 
 begins : (s : Situation) (line : List ℕ) (w : Word) (rest : List ℕ) (promised : First) → IsFirstWord w line rest → IsPromisedBy w promised → MayBegin s.stage promised → Begins s line promised
 begins s line (Bare bytes) rest promised f p m = (bytes, rest, f, p, m)
 begins s line (Quoted text) rest promised f p m = absurd p
-
-line_first : (w : Word) (others : List Word) (line : List ℕ) → IsLine (w ∷ others) line → (rest : List ℕ) × IsFirstWord w line rest
-line_first w others line l = (l.1.0, l.1.1)
 
 broken_front : (w : Word) (others : List Word) (line : List ℕ) → IsBrokenLine (w ∷ others) line → (rest : List ℕ) × IsFirstWord w line rest
 broken_front w others line l = (l.1.0, l.1.1)
@@ -45,7 +44,7 @@ word_fault number s line w rest f none =
     (λ promised x. none promised (subst (λ (v : Word). IsPromisedBy v promised) (sym (first_word_once w (Bare x.0) line rest x.1 f x.2).0) x.3) x.4)
 
 pub line_word_fault : (number : ℕ) (s : Situation) (line : List ℕ) (w : Word) (others : List Word) → IsLine (w ∷ others) line → ((promised : First) → IsPromisedBy w promised → MayBegin s.stage promised → ⊥) → LineFault number s line fault.Word number
-line_word_fault number s line w others l none = let f = line_first w others line l in word_fault number s line w f.0 f.1 none
+line_word_fault number s line w others l none = let f = front_of w others line l in word_fault number s line w f.0 f.1 none
 
 pub broken_word_fault : (number : ℕ) (s : Situation) (line : List ℕ) (w : Word) (others : List Word) → IsBrokenLine (w ∷ others) line → ((promised : First) → IsPromisedBy w promised → MayBegin s.stage promised → ⊥) → LineFault number s line fault.Word number
 broken_word_fault number s line w others l none = let f = broken_front w others line l in word_fault number s line w f.0 f.1 none
@@ -57,14 +56,8 @@ broken_operand number s line w others promised l p m =
 
 pub form_fault : (number : ℕ) (s : Situation) (line : List ℕ) (w : Word) (others : List Word) (promised : First) → IsLine (w ∷ others) line → IsPromisedBy w promised → MayBegin s.stage promised → (HaveForm (w ∷ others) → ⊥) → LineFault number s line fault.Operand number
 form_fault number s line w others promised l p m none =
-    let f = line_first w others line l in
+    let f = front_of w others line l in
     operand promised (begins s line w f.0 promised f.1 p m) (λ h. none (subst HaveForm (line_once h.0 (w ∷ others) line h.1 l) h.2))
-
-start_body : ◌≡◌ {A = Stage} Start InBody → ⊥
-start_body e = absurd cc
-
-due_body : ◌≡◌ {A = Stage} AfterHead InBody → ⊥
-due_body e = absurd cc
 
 pub empty_is : (place : Place) → IsEmptyAt place → (stage_of place ≡ InBody) × (length (drafts_at place) ≡ 0)
 empty_is AtStart e = absurd e
@@ -72,26 +65,26 @@ empty_is (BehindHead kind params) e = absurd e
 empty_is (Within section) e = (refl, e)
 
 pub is_empty : (place : Place) → stage_of place ≡ InBody → length (drafts_at place) ≡ 0 → IsEmptyAt place
-is_empty AtStart s e = absurd (start_body s)
-is_empty (BehindHead kind params) s e = absurd (due_body s)
+is_empty AtStart s e = start_body s
+is_empty (BehindHead kind params) s e = head_body s
 is_empty (Within section) s e = e
 
 pub limit_fault : (number at : ℕ) (p : Progress) (line : List ℕ) (w : Word) (others : List Word) (promised : First) → IsLine (w ∷ others) line → IsPromisedBy w promised → MayBegin (stage_of p.place) promised
     → HaveForm (w ∷ others) → ((statement : Statement) → Say statement (w ∷ others) → ⊥) → IsLimitLine p promised number at → LineFault number (situation_of p) line fault.Limit at
 limit_fault number at p line w others promised l b m form none (inl h) =
-    let f = line_first w others line l in
+    let f = front_of w others line l in
     let x = begins (situation_of p) line w f.0 promised f.1 b m in
     subst (LineFault number (situation_of p) line fault.Limit) (sym h.2)
     (empty (subst (Begins (situation_of p) line) h.0 x) (w ∷ others, l, form) (empty_is p.place h.1))
 limit_fault number at p line w others promised l b m form none (inr h) =
-    let f = line_first w others line l in
+    let f = front_of w others line l in
     subst (LineFault number (situation_of p) line fault.Limit) (sym h.1)
     (limit promised (begins (situation_of p) line w f.0 promised f.1 b m) (w ∷ others, l, form) (λ e x. h.0 e (is_empty p.place x.0 x.1))
     (λ statement ws k say. none statement (subst (Say statement) (line_once ws (w ∷ others) line k l) say)))
 
 -- the statement is what the first word promised
 promised_by : (w v : Word) (bytes : List ℕ) (a b : First) → w ≡ Bare bytes → IsPromisedBy w a → IsPromised b bytes → a ≡ b
-promised_by w v bytes a b e p q = promise_once a b bytes (subst (λ (x : Word). IsPromisedBy x a) e p) q
+promised_by w v bytes a b e p q = one_promise a b bytes (subst (λ (x : Word). IsPromisedBy x a) e p) q
 
 cons_head : (w v : Word) (ws vs : List Word) → ◌≡◌ {A = List Word} (w ∷ ws) (v ∷ vs) → w ≡ v
 cons_head w v ws vs e = cc
@@ -153,19 +146,13 @@ head_taken p number kind params all m c few =
 
 -- ---- the end
 
-body_start : ◌≡◌ {A = Stage} InBody Start → ⊥
-body_start e = absurd cc
-
-abbrev in_body : List Section → ℕ → Section → Progress
-in_body sections head_line section = record { sections = sections; head_line = head_line; place = Within section }
-
 -- the last section ends with the text as it would end with another
-pub finished : (sections all : List Section) (head_line : ℕ) (section : Section) → AreClosed sections (Within section) all → AreFinished (in_body sections head_line section) all
+pub finished : (sections all : List Section) (head_line : ℕ) (section : Section) → AreClosed sections (Within section) all → AreFinished (progress sections head_line (Within section)) all
 finished sections all head_line section c = ((refl, positive (length section.drafts) c.1), c.0)
 
-pub not_finished_there : (sections : List Section) (head_line : ℕ) (section : Section) (f : AsmFault) → IsNotClosed (Within section) head_line f → IsNotFinished (in_body sections head_line section) f
+pub not_finished_there : (sections : List Section) (head_line : ℕ) (section : Section) (f : AsmFault) → IsNotClosed (Within section) head_line f → IsNotFinished (progress sections head_line (Within section)) f
 not_finished_there sections head_line section f (inl m) = inl m
-not_finished_there sections head_line section f (inr e) = inr (e.0.0, inr (body_start, e.1, e.0.1))
+not_finished_there sections head_line section f (inr e) = inr (e.0.0, inr (λ same. body_start same, e.1, e.0.1))
 
 -- ---- the first word of a list
 
@@ -182,20 +169,20 @@ a_first {X} (y ∷ others) x e = (others, ap (λ (z : X). z ∷ others) (same y 
 -- ---- labels and instructions
 
 pub draft_stopped : (sections : List Section) (head_line number : ℕ) (section : Section) (i : Instr) (goal : Option (List ℕ)) (f : AsmFault) → IsMemory f ⊎ (IsLimit f number × (4096 ≤ length section.drafts))
-    → Stopped (record { sections = sections; head_line = head_line; place = Within section }) number (record { statement = Code i; goal = goal }) f
+    → Stopped (progress sections head_line (Within section)) number (record { statement = Code i; goal = goal }) f
 draft_stopped sections head_line number section i goal f (inl x) = inl x
 draft_stopped sections head_line number section i goal f (inr x) = inr (λ line words l r.
-    let s = situation_of (record { sections = sections; head_line = head_line; place = Within section }) in
+    let s = situation_of (progress sections head_line (Within section)) in
     subst (λ (which : FaultNo). LineFault number s line which f.line) (sym x.0.0)
     (subst (LineFault number s line fault.Limit) (sym x.0.1)
     (instructions i words refl l (read_says (record { statement = Code i; goal = goal }) words r) x.1)))
 
 pub label_stopped : (sections : List Section) (head_line number : ℕ) (section : Section) (name : List ℕ) (f : AsmFault)
     → IsMemory f ⊎ ((f.no ≡ fault.LabelTwice) × (f.line ≡ number) × Contains (map (λ label. label.name) section.labels) name)
-    → Stopped (record { sections = sections; head_line = head_line; place = Within section }) number (record { statement = Label name; goal = None }) f
+    → Stopped (progress sections head_line (Within section)) number (record { statement = Label name; goal = None }) f
 label_stopped sections head_line number section name f (inl x) = inl x
 label_stopped sections head_line number section name f (inr x) = inr (λ line words l r.
-    let s = situation_of (record { sections = sections; head_line = head_line; place = Within section }) in
+    let s = situation_of (progress sections head_line (Within section)) in
     subst (λ (which : FaultNo). LineFault number s line which f.line) (sym x.0)
     (subst (LineFault number s line fault.LabelTwice) (sym x.1)
     (label_twice name words refl l (read_says (record { statement = Label name; goal = None }) words r) x.2)))

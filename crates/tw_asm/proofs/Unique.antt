@@ -12,23 +12,17 @@ use Rattle.tw_statement.specs.Statement.{Statement, Head, Registers, Label, Code
 use Rattle.tw_asm.specs.Spelling.{AreCode, GoesTo, HaveWords, Placed, SpellProcedures, SpellsProcedure, SpellsProgram}
 use Rattle.tw_asm.proofs.Alike.{alike}
 use Rattle.tw_lines.proofs.Once.{line_once}
-use Rattle.tw_statement.proofs.Spelled.{AreNames}
+use Rattle.tw_statement.proofs.Spelled.{AreNames, cons_is, never_cons}
 use Rattle.tw_statement.proofs.Once.{spelled_once}
 use Rattle.tw_asm.proofs.Walk.{AreOnce, contains_cases, contains_none, labels_short, name_among, names_of, once_by_pairs}
-
-nil_cons : {A : Type 0} {Z : Type 0} (x : A) (xs : List A) → ◌≡◌ {A = List A} [] (x ∷ xs) → Z
-nil_cons x xs e = absurd cc
-
-cons_same : {A : Type 0} (x y : A) (xs ys : List A) → x ∷ xs ≡ y ∷ ys → (x ≡ y) × (xs ≡ ys)
-cons_same x y xs ys e = (cc, cc)
 
 -- ---- the words of lines
 
 words_once : (ls : List (List ℕ)) (a b : List (List Word)) → HaveWords ls a → HaveWords ls b → a ≡ b
 words_once [] _ _ HaveWords.end HaveWords.end = refl
 words_once (line ∷ ls) _ _ (HaveWords.blank _ _ a is more) (HaveWords.blank _ _ b other rest) = words_once ls a b more rest
-words_once (line ∷ ls) _ _ (HaveWords.blank _ _ a is more) (HaveWords.one_more _ _ word behind b other rest) = nil_cons word behind (line_once [] (word ∷ behind) line is other)
-words_once (line ∷ ls) _ _ (HaveWords.one_more _ _ word behind a is more) (HaveWords.blank _ _ b other rest) = nil_cons word behind (line_once [] (word ∷ behind) line other is)
+words_once (line ∷ ls) _ _ (HaveWords.blank _ _ a is more) (HaveWords.one_more _ _ word behind b other rest) = absurd (never_cons word behind (line_once (word ∷ behind) [] line other is))
+words_once (line ∷ ls) _ _ (HaveWords.one_more _ _ word behind a is more) (HaveWords.blank _ _ b other rest) = absurd (never_cons word behind (line_once (word ∷ behind) [] line is other))
 words_once (line ∷ ls) _ _ (HaveWords.one_more _ _ word behind a is more) (HaveWords.one_more _ _ first after b other rest) =
     ap (λ (x : List Word). x ∷ a) (line_once (word ∷ behind) (first ∷ after) line is other) ∙ ap (λ (x : List (List Word)). (first ∷ after) ∷ x) (words_once ls a b more rest)
 
@@ -73,11 +67,11 @@ body_once all every place _ _ _ _ _ _ behind rest (AreCode.label _ name words la
 body_once all every place _ _ _ _ _ _ behind rest (AreCode.instruction _ i words labels code body h more) (AreCode.end _) e a b =
     no_code_anew (GoesTo all place) i words (body ++ behind) (subst IsAnew (sym e) b) h
 body_once all every place _ _ _ _ _ _ behind rest (AreCode.label _ name words labels code body h limits more) (AreCode.instruction _ i first others instrs front k later) e a b =
-    no_label_code (GoesTo all place) (GoesTo every place) name i words first (cons_same words first (body ++ behind) (front ++ rest) e).0 h k
+    no_label_code (GoesTo all place) (GoesTo every place) name i words first (cons_is words first (body ++ behind) (front ++ rest) e).0 h k
 body_once all every place _ _ _ _ _ _ behind rest (AreCode.instruction _ i words labels code body h more) (AreCode.label _ name first others instrs front k limits later) e a b =
-    no_label_code (GoesTo every place) (GoesTo all place) name i first words (sym (cons_same words first (body ++ behind) (front ++ rest) e).0) k h
+    no_label_code (GoesTo every place) (GoesTo all place) name i first words (sym (cons_is words first (body ++ behind) (front ++ rest) e).0) k h
 body_once all every place _ _ _ _ _ _ behind rest (AreCode.label _ name words labels code body h limits more) (AreCode.label _ other first others instrs front k bounds later) e a b =
-    let same = cons_same words first (body ++ behind) (front ++ rest) e in
+    let same = cons_is words first (body ++ behind) (front ++ rest) e in
     let names : name ≡ other = alike (GoesTo all place) (GoesTo every place) (Label name) (Label other) words h (subst (λ (x : List Word). Spells (GoesTo every place) (Label other) x) (sym same.0) k) in
     let r = body_once all every place labels code body others instrs front behind rest more later same.1 a b in
     record {
@@ -86,7 +80,7 @@ body_once all every place _ _ _ _ _ _ behind rest (AreCode.label _ name words la
       rest_is = r.rest_is;
     }
 body_once all every place _ _ _ _ _ _ behind rest (AreCode.instruction _ i words labels code body h more) (AreCode.instruction _ j first others instrs front k later) e a b =
-    let same = cons_same words first (body ++ behind) (front ++ rest) e in
+    let same = cons_is words first (body ++ behind) (front ++ rest) e in
     let r = body_once all every (place + 1) labels code body others instrs front behind rest more later same.1 a b in
     record {
       labels_are = r.labels_are;
@@ -160,8 +154,8 @@ record SameProcedure (p q : Procedure) (behind rest : List (List Word)) : Type 0
 procedure_once : (p q : Procedure) (first front behind rest : List (List Word)) → SpellsProcedure p first → SpellsProcedure q front → first ++ behind ≡ front ++ rest → IsAnew behind → IsAnew rest → SameProcedure p q behind rest
 procedure_once p q first front behind rest h k e a b =
     let full : h.head ∷ h.registers ∷ (h.body ++ behind) ≡ k.head ∷ k.registers ∷ (k.body ++ rest) = ap (λ (x : List (List Word)). x ++ behind) (sym h.parts) ∙ (e ∙ ap (λ (x : List (List Word)). x ++ rest) k.parts) in
-    let heads = cons_same h.head k.head (h.registers ∷ (h.body ++ behind)) (k.registers ∷ (k.body ++ rest)) full in
-    let lists = cons_same h.registers k.registers (h.body ++ behind) (k.body ++ rest) heads.1 in
+    let heads = cons_is h.head k.head (h.registers ∷ (h.body ++ behind)) (k.registers ∷ (k.body ++ rest)) full in
+    let lists = cons_is h.registers k.registers (h.body ++ behind) (k.body ++ rest) heads.1 in
     let body = body_once h.labels k.labels 0 h.labels p.code h.body k.labels q.code k.body behind rest h.body_is k.body_is lists.1 a b in
     let head = head_same p.kind q.kind p.params q.params (plain_once (Head p.kind p.params) (Head q.kind q.params) h.head k.head heads.0 h.head_is k.head_is) in
     let registers = registers_same p.registers q.registers (plain_once (Registers p.registers) (Registers q.registers) h.registers k.registers lists.0 h.registers_are k.registers_are) in
@@ -171,7 +165,7 @@ procedure_once p q first front behind rest h k e a b =
     record { procedure_is = procedure_same p q head.0 head.1 registers code; rest_is = body.rest_is }
 
 no_words : {Z : Type 0} (p : Procedure) (first behind : List (List Word)) → SpellsProcedure p first → [] ≡ first ++ behind → Z
-no_words p first behind h e = nil_cons h.head (h.registers ∷ (h.body ++ behind)) (e ∙ ap (λ (x : List (List Word)). x ++ behind) h.parts)
+no_words p first behind h e = absurd (never_cons h.head (h.registers ∷ (h.body ++ behind)) (ap (λ (x : List (List Word)). x ++ behind) (sym h.parts) ∙ sym e))
 
 programs_once : (p q : List Procedure) (a b : List (List Word)) → SpellProcedures p a → SpellProcedures q b → a ≡ b → p ≡ q
 programs_once _ _ _ _ SpellProcedures.end SpellProcedures.end e = refl

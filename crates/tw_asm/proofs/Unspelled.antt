@@ -1,29 +1,27 @@
 -- A text with a fault spells no program.
-use Rattle.std.proofs.Common.{◌≡◌, ◌⊎◌, ℕ, zero, suc, ◌+◌, ◌<◌, List, [], ◌∷◌, ◌++◌, length, take, drop, Option, Some, None, inl, inr, refl, sym, subst, ap, ◌∙◌, arith}
+use Rattle.std.proofs.Common.{◌≡◌, ◌⊎◌, ℕ, zero, suc, ◌+◌, ◌<◌, List, [], ◌∷◌, ◌++◌, length, take, drop, Option, Some, None, inl, inr, refl, sym, subst, ◌∙◌, arith}
 use Rattle.std.specs.List.{Contains, slice_get}
 use Rattle.std.specs.Str.Lines.{lines}
 use Rattle.tw_code.specs.declared.instr.Instr.{Instr}
 use Rattle.tw_code.specs.declared.procedure.Procedure.{Procedure}
 use Rattle.tw_lines.specs.Words.{Bare, IsLine, Word}
-use Rattle.tw_statement.specs.Statement.{Statement, Head, Registers, Label, Code, AnyName, AnyShortName, IsPromised, NamesLabel, Say, Spells}
+use Rattle.tw_statement.specs.Statement.{Statement, Head, Registers, Label, Code, AnyName, AnyShortName, IsPromised, NamesLabel, Say}
 use Rattle.tw_statement.specs.declared.statement.First.{First}
 use Rattle.tw_statement.specs.declared.statement.First.TheVariants as first
 use Rattle.tw_asm.specs.declared.fault.FaultNo.{FaultNo}
 use Rattle.tw_asm.specs.reading.Promise.{promise}
-use Rattle.tw_asm.specs.Fault.{Stage, Start, AfterHead, InBody, Begins, GoalFault, HasWords, IsEmpty, IsFirstFault, IsLineFault, IsUnfinished, IsWhole, LineFault, LineSays, LinesSay, MayBegin, MayStand, Situation, after_line, at_start, labels_ahead, situation, situation_from, not_forward, unknown}
+use Rattle.tw_asm.specs.Fault.{Stage, Start, InBody, Begins, GoalFault, HasWords, IsEmpty, IsFirstFault, IsLineFault, IsUnfinished, IsWhole, LineFault, LineSays, LinesSay, MayBegin, MayStand, Situation, after_line, at_start, labels_ahead, situation, situation_from, not_forward, unknown}
 use Rattle.tw_asm.specs.Spelling.{SpellsProgram}
-use Rattle.tw_asm.proofs.Alike.{AreAlike, after_alike, alike}
-use Rattle.tw_asm.proofs.Begins.{first_in_line, line_begins, promise_once}
-use Rattle.tw_lines.proofs.Once.{blank_no_word, first_word_once, line_blank, line_once}
-use Rattle.tw_asm.proofs.Walk.{LinesHold, more_goals, lines_hold, none_spelled, program_said, program_says}
+use Rattle.tw_asm.proofs.Alike.{AreAlike}
+use Rattle.tw_asm.proofs.Begins.{first_in_line, line_begins}
+use Rattle.tw_asm.proofs.Stages.{start_body}
+use Rattle.tw_asm.proofs.Twice.{both_alike, line_is_same, nothing_says, others_say, same_ahead, says_alike}
+use Rattle.tw_lines.proofs.Once.{blank_no_word, first_word_once, line_blank}
+use Rattle.tw_statement.proofs.Once.{one_promise, spells_more}
+use Rattle.tw_statement.proofs.Spelled.{bare_is}
+use Rattle.tw_asm.proofs.Walk.{LinesHold, lines_hold, program_said, program_says}
 
 -- ---- stages
-
-start_body : {Z : Type 0} → ◌≡◌ {A = Stage} Start InBody → Z
-start_body e = absurd cc
-
-due_body : {Z : Type 0} → ◌≡◌ {A = Stage} AfterHead InBody → Z
-due_body e = absurd cc
 
 whole_not_empty : (s : Situation) → IsWhole s → s.instructions ≡ 0 → ⊥
 whole_not_empty s w e = omega (arith, w.1, e)
@@ -44,22 +42,12 @@ may_begin (Code i) s may = subst (λ (stage : Stage). MayBegin stage first.Body)
 nothing_begins : {Z : Type 0} (s : Situation) (line : List ℕ) (promised : First) → IsLine [] line → Begins s line promised → Z
 nothing_begins s line promised blank b = absurd (blank_no_word (Bare b.0) line b.1 (line_blank line blank) b.2)
 
-nothing_says : {Z : Type 0} (statement : Statement) (words : List Word) (line : List ℕ) → IsLine [] line → IsLine words line → Say statement words → Z
-nothing_says statement words line blank is say = absurd (none_spelled AnyShortName statement words (line_once words [] line is blank) say.0)
-
-says_alike : (s t : Statement) (words others : List Word) (line : List ℕ) → IsLine words line → Say s words → IsLine others line → Say t others → AreAlike s t
-says_alike s t words others line is say other_is other =
-    alike AnyShortName AnyShortName s t words say.0 (subst (λ (ws : List Word). Spells AnyShortName t ws) (line_once others words line other_is is) other.0)
-
-bare_same : (v w : List ℕ) → Bare v ≡ Bare w → v ≡ w
-bare_same v w e = cc
-
 -- the line's first word promises its statement
 promises : (s : Situation) (line : List ℕ) (statement : Statement) (words : List Word) (promised : First) → IsLine words line → Say statement words → Begins s line promised → promised ≡ promise statement
 promises s line statement words promised is say b =
     let f = first_in_line AnyShortName statement words line is say.0 in
-    let same = bare_same b.0 f.word (first_word_once (Bare b.0) (Bare f.word) line b.1 f.rest b.2 f.first).0 in
-    promise_once promised (promise statement) f.word (subst (IsPromised promised) same b.3) f.promised
+    let same = bare_is b.0 f.word (first_word_once (Bare b.0) (Bare f.word) line b.1 f.rest b.2 f.first).0 in
+    one_promise promised (promise statement) f.word (subst (IsPromised promised) same b.3) f.promised
 
 registers_head : {Z : Type 0} → ◌≡◌ {A = First} first.Head first.Registers → Z
 registers_head e = absurd cc
@@ -78,19 +66,15 @@ not_empty s (inl start) e = not_start s e.0 start
 not_empty s (inr whole) e = whole_not_empty s whole e.1
 
 label_may : (statement : Statement) (name : List ℕ) (s : Situation) → AreAlike statement (Label name) → MayStand statement s → Contains s.labels name → ⊥
-label_may (Head kind params) name s a may c = absurd a
-label_may (Registers registers) name s a may c = absurd a
 label_may (Label other) name s a may c = may.1 (subst (Contains s.labels) (sym a) c)
-label_may (Code i) name s a may c = absurd a
+label_may statement name s a may c = absurd a
 
 code_may : (statement : Statement) (i : Instr) (s : Situation) → AreAlike statement (Code i) → MayStand statement s → s.instructions < 4096
-code_may (Head kind params) i s a may = absurd a
-code_may (Registers registers) i s a may = absurd a
-code_may (Label name) i s a may = absurd a
 code_may (Code j) i s a may = may.1
+code_may statement i s a may = absurd a
 
 has_words : (statement : Statement) (words : List Word) (line : List ℕ) → IsLine words line → Say statement words → HasWords line
-has_words statement words line is say = (words, is, (statement, more_goals AnyShortName AnyName (λ skip name short. short.0) statement words say.0))
+has_words statement words line is say = (words, is, (statement, spells_more AnyShortName AnyName (λ skip name short. short.0) statement words say.0))
 
 blank_no_fault : (number : ℕ) (s : Situation) (line : List ℕ) (which : FaultNo) (at : ℕ) → IsLine [] line → LineFault number s line which at → ⊥
 blank_no_fault number s line _ _ blank (LineFault.word some none) = some blank
@@ -116,49 +100,12 @@ line_no_fault number s line (Some statement) which at l f = said_no_fault number
 
 -- ---- two readings of the same lines
 
-both_alike : (number : ℕ) (s : Situation) (line : List ℕ) (a b : Option Statement) → LineSays s line a → LineSays s line b → after_line number a s ≡ after_line number b s
-both_alike number s line None None h k = refl
-both_alike number s line None (Some statement) h k = nothing_says statement k.0.0 line h k.0.1 k.0.2
-both_alike number s line (Some statement) None h k = nothing_says statement h.0.0 line k h.0.1 h.0.2
-both_alike number s line (Some statement) (Some other) h k = after_alike number statement other s (says_alike statement other h.0.0 k.0.0 line h.0.1 h.0.2 k.0.1 k.0.2)
-
-ahead_by : (s t : Statement) (a b : List (Option Statement)) → AreAlike s t → labels_ahead a ≡ labels_ahead b → labels_ahead (Some s ∷ a) ≡ labels_ahead (Some t ∷ b)
-ahead_by (Head kind params) (Head k ps) a b x e = refl
-ahead_by (Registers registers) (Registers others) a b x e = e
-ahead_by (Label name) (Label other) a b x e = ap (λ (n : List ℕ). n ∷ labels_ahead a) x ∙ ap (λ (names : List (List ℕ)). other ∷ names) e
-ahead_by (Code i) (Code j) a b x e = e
-ahead_by (Head kind params) (Registers registers) a b x e = absurd x
-ahead_by (Head kind params) (Label name) a b x e = absurd x
-ahead_by (Head kind params) (Code i) a b x e = absurd x
-ahead_by (Registers registers) (Head kind params) a b x e = absurd x
-ahead_by (Registers registers) (Label name) a b x e = absurd x
-ahead_by (Registers registers) (Code i) a b x e = absurd x
-ahead_by (Label name) (Head kind params) a b x e = absurd x
-ahead_by (Label name) (Registers registers) a b x e = absurd x
-ahead_by (Label name) (Code i) a b x e = absurd x
-ahead_by (Code i) (Head kind params) a b x e = absurd x
-ahead_by (Code i) (Registers registers) a b x e = absurd x
-ahead_by (Code i) (Label name) a b x e = absurd x
-
-ahead_alike : (s : Situation) (line : List ℕ) (x y : Option Statement) (a b : List (Option Statement)) → LineSays s line x → LineSays s line y → labels_ahead a ≡ labels_ahead b → labels_ahead (x ∷ a) ≡ labels_ahead (y ∷ b)
-ahead_alike s line None None a b h k e = e
-ahead_alike s line None (Some statement) a b h k e = nothing_says statement k.0.0 line h k.0.1 k.0.2
-ahead_alike s line (Some statement) None a b h k e = nothing_says statement h.0.0 line k h.0.1 h.0.2
-ahead_alike s line (Some statement) (Some other) a b h k e = ahead_by statement other a b (says_alike statement other h.0.0 k.0.0 line h.0.1 h.0.2 k.0.1 k.0.2) e
-
--- the rest of another reading, from the situation of this one
-others_say : (number : ℕ) (s : Situation) (line : List ℕ) (more : List (List ℕ)) (x y : Option Statement) (others : List (Option Statement)) → LineSays s line x → LineSays s line y
-    → LinesSay (number + 1) (after_line number y s) more others → LinesSay (number + 1) (after_line number x s) more others
-others_say number s line more x y others h k l = subst (λ (t : Situation). LinesSay (number + 1) t more others) (sym (both_alike number s line x y h k)) l
-
-same_ahead : (number : ℕ) (s : Situation) (ls : List (List ℕ)) (a b : List (Option Statement)) → LinesHold number s ls a → LinesSay number s ls b → labels_ahead a ≡ labels_ahead b
-same_ahead number s [] [] [] h l = refl
-same_ahead number s [] (x ∷ a) b h l = absurd h
-same_ahead number s [] [] (y ∷ b) h l = absurd l
-same_ahead number s (line ∷ more) [] b h l = absurd h
-same_ahead number s (line ∷ more) (x ∷ a) [] h l = absurd l
-same_ahead number s (line ∷ more) (x ∷ a) (y ∷ b) h l =
-    ahead_alike s line x y a b h.0 l.0 (same_ahead (number + 1) (after_line number x s) more a b h.2 (others_say number s line more x y b h.0 l.0 l.1))
+-- what holds is said
+hold_say : (number : ℕ) (s : Situation) (ls : List (List ℕ)) (held : List (Option Statement)) → LinesHold number s ls held → LinesSay number s ls held
+hold_say number s [] [] h = tt
+hold_say number s [] (x ∷ held) h = absurd h
+hold_say number s (line ∷ more) [] h = absurd h
+hold_say number s (line ∷ more) (x ∷ held) h = (h.0, hold_say (number + 1) (after_line number x s) more held h.2)
 
 -- ---- no fault of a line
 
@@ -196,9 +143,6 @@ ahead_no_fault : (s : Situation) (ahead others : List (List ℕ)) (line : List �
 ahead_no_fault s ahead others line _ named e (unknown name words is n before absent) = absent (subst (λ (names : List (List ℕ)). Contains names name) e (named name words is n).1)
 ahead_no_fault s ahead others line _ named e (not_forward name words is n before) = (named name words is n).0 before
 
-line_is_same : (a b : List ℕ) → ◌≡◌ {A = Option (List ℕ)} (Some a) (Some b) → b ≡ a
-line_is_same a b e = cc
-
 no_line : (line : List ℕ) (k : ℕ) → slice_get {X = List ℕ} [] k ≡ Some line → ⊥
 no_line line zero e = absurd cc
 no_line line (suc k) e = absurd cc
@@ -210,7 +154,7 @@ no_goal_fault number s [] (x ∷ held) said index line which h l e g = absurd h
 no_goal_fault number s (first ∷ more) [] said index line which h l e g = absurd h
 no_goal_fault number s (first ∷ more) (x ∷ held) [] index line which h l e g = absurd l
 no_goal_fault number s (first ∷ more) (x ∷ held) (y ∷ said) zero line which h l e g =
-    ahead_no_fault s (labels_ahead held) (labels_ahead said) first which h.1 (same_ahead (number + 1) (after_line number x s) more held said h.2 (others_say number s first more x y said h.0 l.0 l.1))
+    ahead_no_fault s (labels_ahead held) (labels_ahead said) first which h.1 (same_ahead (number + 1) (after_line number x s) more held said (hold_say (number + 1) (after_line number x s) more held h.2) (others_say number s first more x y said h.0 l.0 l.1))
     (subst (λ (z : List ℕ). GoalFault s (labels_ahead said) z which) (line_is_same first line e) g)
 no_goal_fault number s (first ∷ more) (x ∷ held) (y ∷ said) (suc k) line which h l e g =
     let n : suc k + 1 ≡ suc (k + 1) = omega arith in

@@ -1,36 +1,19 @@
 -- The lines of a text that spells a program can follow, one after the other, and each goal is ahead.
 use Rattle.std.proofs.Common.{◌≡◌, ◌≢◌, ◌⊎◌, ℕ, zero, suc, ◌+◌, ◌<◌, ◌≤◌, List, [], ◌∷◌, ◌++◌, length, map, Option, Some, None, inl, inr, refl, sym, subst, ap, ◌∙◌, arith}
-use Rattle.std.proofs.lemmas.List.Elements.{Contains-push_cases}
+use Rattle.std.proofs.lemmas.List.Elements.{All-contains, All-from_recursion, Contains-push_cases}
 use Rattle.std.specs.List.{AllByRecursion, AllPairs, Contains, slice_index_or}
 use Rattle.tw_code.specs.declared.instr.Instr.{Instr}
 use Rattle.tw_code.specs.declared.procedure.Procedure.{Procedure}
 use Rattle.tw_code.specs.format.Program.{IsInstr, IsProcedure}
 use Rattle.tw_lines.specs.Words.{IsLine, Word}
-use Rattle.tw_statement.specs.Parts.{Part, Skip, Target}
-use Rattle.tw_statement.specs.Statement.{Statement, Head, Registers, Label, Code, AnyShortName, Goals, IsShortName, NamesLabel, Say, SpellParts, SpellsPart, Spells}
+use Rattle.tw_statement.specs.Statement.{Statement, Head, Registers, Label, Code, AnyShortName, Goals, IsShortName, NamesLabel, Say, Spells}
 use Rattle.tw_asm.specs.Fault.{Start, InBody, IsWhole, LineSays, MayStand, Situation, after, after_line, labels_ahead}
 use Rattle.tw_asm.specs.Spelling.{AreCode, GoesTo, HaveWords, Placed, SpellProcedures, SpellsProcedure}
 use Rattle.tw_asm.proofs.Alike.{AreAlike, alike}
-use Rattle.tw_asm.proofs.Begins.{first_of_words}
 use Rattle.tw_lines.proofs.Once.{line_once}
 use Rattle.tw_asm.proofs.Names.{named_goal}
-
--- ---- more goals
-
-part_more : (G H : Goals) → ((skip : ℕ) (name : List ℕ) → G skip name → H skip name) → (part : Part) (words : List Word) → SpellsPart G part words → SpellsPart H part words
-part_more G H more (Skip skip) words (inl s) = inl s
-part_more G H more (Skip skip) words (inr s) = inr (s.0, more skip s.0 s.1, s.2)
-part_more G H more (Target None) words s = s
-part_more G H more (Target (Some number)) words s = s
-part_more G H more part words s = s
-
-parts_more : (G H : Goals) → ((skip : ℕ) (name : List ℕ) → G skip name → H skip name) → (parts : List Part) (words : List Word) → SpellParts G parts words → SpellParts H parts words
-parts_more G H more [] words s = s
-parts_more G H more (part ∷ parts) words s = (s.0, s.1, s.2, part_more G H more part s.0 s.3, parts_more G H more parts s.1 s.4)
-
--- where these goals are goals too
-pub more_goals : (G H : Goals) → ((skip : ℕ) (name : List ℕ) → G skip name → H skip name) → (statement : Statement) (words : List Word) → Spells G statement words → Spells H statement words
-more_goals G H more statement words s = record { form = s.form; parts = parts_more G H more _ words s.parts }
+use Rattle.tw_asm.proofs.Twice.{none_spelled}
+use Rattle.tw_statement.proofs.Once.{spells_more}
 
 -- ---- elements
 
@@ -49,6 +32,13 @@ contains_cases x xs y c = first_or_later x xs y c.0 c.1 c.2
 
 pub contains_none : {Z : Type 0} {X : Type 0} (x : X) → Contains {X = X} [] x → Z
 contains_none x c = absurd (omega (arith, c.1))
+
+pub all_of : {X : Type 0} (P : X → Type 0) (xs : List X) (x : X) → AllByRecursion P xs → Contains xs x → P x
+all_of P xs x a c = All-contains P xs x (All-from_recursion P xs a) c
+
+pub higher : (k n : ℕ) (labels : List Placed) → k ≤ n → AllByRecursion (λ label. label.place ≤ k) labels → AllByRecursion (λ label. label.place ≤ n) labels
+higher k n [] le a = tt
+higher k n (l ∷ labels) le a = (omega (arith, le, a.0), higher k n labels le a.1)
 
 abbrev pub names_of : List Placed → List (List ℕ)
 names_of labels = map (λ label. label.name) labels
@@ -131,7 +121,7 @@ record Within (all : List Placed) (place : ℕ) (labels : List Placed) (count : 
 
 says_short : (all : List Placed) (place : ℕ) (statement : Statement) (words : List Word) → ((label : Placed) → Contains all label → IsShortName label.name) → Spells (GoesTo all place) statement words
     → Spells AnyShortName statement words
-says_short all place statement words short h = more_goals (GoesTo all place) AnyShortName (λ skip name goal. short (record { name = name; place = place + 1 + skip }) goal) statement words h
+says_short all place statement words short h = spells_more (GoesTo all place) AnyShortName (λ skip name goal. short (record { name = name; place = place + 1 + skip }) goal) statement words h
 
 within_label : (all : List Placed) (place : ℕ) (name : List ℕ) (labels : List Placed) (count number : ℕ) (s : Situation) → Within all place (record { name = name; place = place } ∷ labels) count s
     → Within all place labels count (after number (Label name) s)
@@ -210,7 +200,7 @@ abbrev pub procedure_said : (p : Procedure) (words : List (List Word)) → Spell
 procedure_said p words h = Head p.kind p.params ∷ Registers p.registers ∷ said_in h.labels 0 h.labels p.code h.body h.body_is
 
 says_plain : (statement : Statement) (words : List Word) → Spells (GoesTo [] 0) statement words → Spells AnyShortName statement words
-says_plain statement words h = more_goals (GoesTo [] 0) AnyShortName (λ skip name goal. contains_none {X = Placed} (record { name = name; place = 0 + 1 + skip }) goal) statement words h
+says_plain statement words h = spells_more (GoesTo [] 0) AnyShortName (λ skip name goal. contains_none {X = Placed} (record { name = name; place = 0 + 1 + skip }) goal) statement words h
 
 within_start : (p : Procedure) (words : List (List Word)) (h : SpellsProcedure p words) (s : Situation) (number other : ℕ) → IsProcedure p
     → Within h.labels 0 h.labels (length p.code) (after other (Registers p.registers) (after number (Head p.kind p.params) s))
@@ -285,14 +275,6 @@ ahead_more (Head kind params) said others e = refl
 ahead_more (Registers registers) said others e = e
 ahead_more (Label name) said others e = ap (λ (names : List (List ℕ)). name ∷ names) e
 ahead_more (Code i) said others e = e
-
-nil_cons : (x : Word) (others : List Word) → ◌≡◌ {A = List Word} [] (x ∷ others) → ⊥
-nil_cons x others p = cc
-
-pub none_spelled : (G : Goals) (statement : Statement) (words : List Word) → words ≡ [] → Spells G statement words → ⊥
-none_spelled G statement words e h =
-    let f = first_of_words G statement words h in
-    nil_cons _ f.others (sym e ∙ f.parts)
 
 blank_names : (s : Situation) (ahead : List (List ℕ)) (line : List ℕ) → IsLine [] line → LineNamesAhead s ahead line
 blank_names s ahead line blank name words is n = absurd (none_spelled (λ skip word. word ≡ name) (Code n.i) words (line_once words [] line is blank) n.spells)

@@ -239,49 +239,31 @@ fn with_draft<'a>(section: &mut Section<'a>, line: DraftLine<'a>) -> Result<(), 
 }
 
 fn take_label<'a>(
-    reading: Reading<'a>,
+    mut reading: Reading<'a>,
     number: usize,
     name: &'a [u8],
 ) -> Result<Reading<'a>, AsmFault>
     ensures { MayBegin (stage_of (seen_stage reading.entry.stage)) promised.Body → TakenStatement (seen_reading reading.entry) number (record { statement = Label name.now; goal = None }) result }
 {
-    let Reading {
-        sections,
-        head_line,
-        stage,
-    } = reading;
-    let Stage::InBody(mut section) = stage else {
+    let Stage::InBody(section) = &mut reading.stage else {
         return Err(AsmFault::new(FaultNo::Word, number));
     };
-    with_label(&mut section, number, name)?;
-    Ok(Reading {
-        sections,
-        head_line,
-        stage: Stage::InBody(section),
-    })
+    with_label(section, number, name)?;
+    Ok(reading)
 }
 
 fn take_draft<'a>(
-    reading: Reading<'a>,
+    mut reading: Reading<'a>,
     number: usize,
     draft: Draft<'a>,
 ) -> Result<Reading<'a>, AsmFault>
     ensures { MayBegin (stage_of (seen_stage reading.entry.stage)) promised.Body → TakenStatement (seen_reading reading.entry) number (record { statement = Code draft.entry.instr; goal = bytes_of draft.entry.goal }) result }
 {
-    let Reading {
-        sections,
-        head_line,
-        stage,
-    } = reading;
-    let Stage::InBody(mut section) = stage else {
+    let Stage::InBody(section) = &mut reading.stage else {
         return Err(AsmFault::new(FaultNo::Word, number));
     };
-    with_draft(&mut section, DraftLine { draft, number })?;
-    Ok(Reading {
-        sections,
-        head_line,
-        stage: Stage::InBody(section),
-    })
+    with_draft(section, DraftLine { draft, number })?;
+    Ok(reading)
 }
 
 fn take_statement<'a>(

@@ -1,5 +1,5 @@
 -- What is read answers which words spell which statements.
-use Rattle.std.proofs.Common.{◌≡◌, ℕ, List, [], ◌∷◌, ◌++◌, map, codes, Option, Some, None, inl, inr, Result, Ok, Err, refl, sym, ap, subst, ◌∙◌}
+use Rattle.std.proofs.Common.{◌≡◌, ℕ, List, [], ◌∷◌, ◌++◌, map, codes, Option, Some, None, Result, Ok, Err, refl, sym, ap, subst, ◌∙◌}
 use Rattle.std.specs.List.{AllByRecursion, flat_map}
 use Rattle.tw_code.specs.declared.instr.Instr.{Instr}
 use Rattle.tw_lines.specs.Words.{Word, Bare}
@@ -7,10 +7,11 @@ use Rattle.tw_statement.proofs.Colons.{before}
 use Rattle.tw_statement.proofs.Lined.{HasLine, MayLine, found, goals_by, label_named, line_read, parts_may, parts_of, spelled, unnumbered}
 use Rattle.tw_statement.proofs.OperandWords.{IsFine}
 use Rattle.tw_statement.proofs.Readings.{Reads}
+use Rattle.tw_statement.proofs.Spelled.{bare_is, parts_more}
 use Rattle.tw_statement.proofs.Table.{made, named, named_back, no_colon, parts_are, within, within_back}
-use Rattle.tw_statement.specs.Parts.{Part, Name, Value, Right, Number, Natural, Literal, TypeOf, Skip, Target, instr_parts, kind_word, param_parts, register_part}
+use Rattle.tw_statement.specs.Parts.{Part, Name, instr_parts, kind_word, param_parts, register_part}
 use Rattle.tw_statement.specs.Seen.{IsFlawed, IsRead, NoName, OnlyName, Read}
-use Rattle.tw_statement.specs.Statement.{AnyName, AnyShortName, Code, Goals, Head, IsInLimits, IsName, Label, Registers, SpellParts, Spells, SpellsPart, Statement, statement_parts}
+use Rattle.tw_statement.specs.Statement.{AnyName, AnyShortName, Code, Goals, Head, IsInLimits, IsName, Label, Registers, SpellParts, Spells, Statement, statement_parts}
 use Rattle.tw_statement.specs.declared.opcode.Opcode.{Opcode}
 use Rattle.tw_statement.specs.declared.statement.Flaw.{Flaw}
 use Rattle.tw_statement.specs.declared.statement.Flaw.TheVariants.{Form, Limit}
@@ -33,17 +34,14 @@ first_is G name parts w ws (first, others, cut, h, rest) =
     tail_is : w ∷ ws ≡ Bare name ∷ others → ws ≡ others
     tail_is e = cc
 
-pub name_is : (a b : List ℕ) → Bare a ≡ Bare b → a ≡ b
-name_is a b e = cc
-
 -- ---- instructions
 
 -- a statement that begins with an instruction's name is made of it and of operands that its line has
 abbrev IsCode : (G : Goals) → Opcode → List Word → Statement → Type 0
 IsCode G o ws statement = (x : LineContent (line_of o)) × (statement ≡ Code (instr_of o x)) × SpellParts G (parts_of (line_of o) x) ws
 
-none_some : (o : Opcode) → None ≡ Some o → ⊥
-none_some o e = cc
+pub none_some : {A : Type 0} (a : A) → None ≡ Some a → ⊥
+none_some a e = cc
 
 one_code : (a b : Opcode) → Some a ≡ Some b → a ≡ b
 one_code a b e = cc
@@ -59,7 +57,7 @@ regs_is_none = refl
 code_parts : (G : Goals) (o p : Opcode) (x : LineContent (line_of p)) (word : List ℕ) (ws : List Word) → opcode_of word ≡ Some o → SpellParts G (instr_parts (instr_of p x)) (Bare word ∷ ws) → IsCode G o ws (Code (instr_of p x))
 code_parts G o p x word ws is h =
     let k = first_is G (word_of p) (parts_of (line_of p) x) (Bare word) ws (subst (λ (ps : List Part). SpellParts G ps (Bare word ∷ ws)) (parts_are p x) h) in
-    let same : p ≡ o = one_code p o (sym (ap opcode_of (name_is word (word_of p) k.0) ∙ named p) ∙ is) in
+    let same : p ≡ o = one_code p o (sym (ap opcode_of (bare_is word (word_of p) k.0) ∙ named p) ∙ is) in
     at p o same x k.1
   where
     at : (p o : Opcode) → p ≡ o → (x : LineContent (line_of p)) → SpellParts G (parts_of (line_of p) x) ws → IsCode G o ws (Code (instr_of p x))
@@ -67,11 +65,11 @@ code_parts G o p x word ws is h =
 
 is_code : (G : Goals) (o : Opcode) (word : List ℕ) (ws : List Word) → opcode_of word ≡ Some o → (statement : Statement) → SpellParts G (statement_parts statement) (Bare word ∷ ws) → IsCode G o ws statement
 is_code G o word ws is (Head kind params) h =
-    absurd (none_some o (sym proc_is_none ∙ (sym (ap opcode_of (name_is word (codes "proc") (first_is G (codes "proc") (Name (kind_word kind) ∷ flat_map param_parts params) (Bare word) ws h).0)) ∙ is)))
+    absurd (none_some o (sym proc_is_none ∙ (sym (ap opcode_of (bare_is word (codes "proc") (first_is G (codes "proc") (Name (kind_word kind) ∷ flat_map param_parts params) (Bare word) ws h).0)) ∙ is)))
 is_code G o word ws is (Registers registers) h =
-    absurd (none_some o (sym regs_is_none ∙ (sym (ap opcode_of (name_is word (codes "regs") (first_is G (codes "regs") (map register_part registers) (Bare word) ws h).0)) ∙ is)))
+    absurd (none_some o (sym regs_is_none ∙ (sym (ap opcode_of (bare_is word (codes "regs") (first_is G (codes "regs") (map register_part registers) (Bare word) ws h).0)) ∙ is)))
 is_code G o word ws is (Label name) h =
-    let e : word ≡ name ++ codes ":" = name_is word (name ++ codes ":") (first_is G (name ++ codes ":") [] (Bare word) ws h).0 in
+    let e : word ≡ name ++ codes ":" = bare_is word (name ++ codes ":") (first_is G (name ++ codes ":") [] (Bare word) ws h).0 in
     absurd (no_name (sym (no_colon o) ∙ (ap before_colon (sym (named_back word o is) ∙ e) ∙ before name)))
   where
     no_name : None ≡ Some name → ⊥
@@ -91,24 +89,6 @@ short_is_name skip name h = h.0
 with_name : (G : Goals) (o : Opcode) (x : LineContent (line_of o)) (word : List ℕ) (ws : List Word) → word ≡ word_of o → SpellParts G (parts_of (line_of o) x) ws → Spells G (Code (instr_of o x)) (Bare word ∷ ws)
 with_name G o x word ws is h = record { form = tt; parts = subst (λ (ps : List Part). SpellParts G ps (Bare word ∷ ws)) (sym (parts_are o x)) (Bare word ∷ [], ws, refl, ap (λ (t : List ℕ). Bare t ∷ []) is, h) }
 
--- goals that say more
-part_widened : (G H : Goals) → ((skip : ℕ) (name : List ℕ) → G skip name → H skip name) → (part : Part) (ws : List Word) → SpellsPart G part ws → SpellsPart H part ws
-part_widened G H to (Name word) ws h = h
-part_widened G H to (Value n) ws h = h
-part_widened G H to (Right n) ws h = h
-part_widened G H to (Number n) ws h = h
-part_widened G H to (Natural n) ws h = h
-part_widened G H to (Literal text) ws h = h
-part_widened G H to (TypeOf ty) ws h = h
-part_widened G H to (Skip skip) ws (inl h) = inl h
-part_widened G H to (Skip skip) ws (inr h) = inr (h.0, to skip h.0 h.1, h.2)
-part_widened G H to (Target None) ws h = h
-part_widened G H to (Target (Some n)) ws h = h
-
-widened : (G H : Goals) → ((skip : ℕ) (name : List ℕ) → G skip name → H skip name) → (parts : List Part) (ws : List Word) → SpellParts G parts ws → SpellParts H parts ws
-widened G H to [] ws h = h
-widened G H to (part ∷ parts) ws (first, others, cut, h, rest) = (first, others, cut, part_widened G H to part first h, widened G H to parts others rest)
-
 code_read_so : (o : Opcode) (word : List ℕ) (ws : List Word) → opcode_of word ≡ Some o → (x : LineContent (line_of o)) → HasLine (line_of o) ws x → MayLine (line_of o) x
     → IsRead (code_read (instr_of o x, label_in (line_of o) x)) (Bare word ∷ ws)
 code_read_so o word ws is x has may = by (label_in (line_of o) x) refl
@@ -126,7 +106,7 @@ code_read_so o word ws is x has may = by (label_in (line_of o) x) refl
             with_name (OnlyName name) o x word ws (named_back word o is) parts,
             record {
               i = instr_of o x;
-              spells = with_name (λ skip w. w ≡ name) o x word ws (named_back word o is) (widened (OnlyName name) (λ skip w. w ≡ name) (λ _ _ k. k.1) (parts_of (line_of o) x) ws parts);
+              spells = with_name (λ skip w. w ≡ name) o x word ws (named_back word o is) (parts_more (OnlyName name) (λ skip w. w ≡ name) (λ _ _ k. k.1) (parts_of (line_of o) x) ws parts);
               names = λ other s. let c = is_code (λ _ _. ⊥) o word ws is (Code other) s.parts in unnumbered (line_of o) ws x c.0 name has e c.2;
             },
           ),
@@ -136,10 +116,10 @@ code_has_form : (o : Opcode) (word : List ℕ) (ws : List Word) → opcode_of wo
 code_has_form o word ws is x has = by (label_in (line_of o) x) refl (spelled (line_of o) ws x has)
   where
     by : (label : Option (List ℕ)) → label_in (line_of o) x ≡ label → SpellParts (goals_by label) (parts_of (line_of o) x) ws → Spells AnyName (Code (instr_of o x)) (Bare word ∷ ws)
-    by None e parts = with_name AnyName o x word ws (named_back word o is) (widened NoName AnyName (λ _ _ k. absurd k) (parts_of (line_of o) x) ws parts)
+    by None e parts = with_name AnyName o x word ws (named_back word o is) (parts_more NoName AnyName (λ _ _ k. absurd k) (parts_of (line_of o) x) ws parts)
     by (Some name) e parts =
         let found = label_named (line_of o) ws x name has e in
-        with_name AnyName o x word ws (named_back word o is) (widened (OnlyName name) AnyName (λ _ n k. subst IsName (sym k.1) found.0) (parts_of (line_of o) x) ws parts)
+        with_name AnyName o x word ws (named_back word o is) (parts_more (OnlyName name) AnyName (λ _ n k. subst IsName (sym k.1) found.0) (parts_of (line_of o) x) ws parts)
 
 pub code_judged : (o : Opcode) (word : List ℕ) (ws : List Word) → opcode_of word ≡ Some o → (r : Result (LineContent (line_of o)) Flaw) → Reads (HasLine (line_of o) ws) (MayLine (line_of o)) r
     → Judged (as_is code_read (as_is (λ x. (instr_of o x, label_in (line_of o) x)) r)) (Bare word ∷ ws)

@@ -4,12 +4,13 @@ use Rattle.std.specs.List.{AllByRecursion, flat_map}
 use Rattle.std.proofs.lemmas.Bool.{eqb-true}
 use Rattle.tw_code.specs.format.Program.{IsList, IsParam, IsTypeUnder}
 use Rattle.tw_lines.specs.Words.{Word, Bare}
-use Rattle.tw_statement.proofs.Answered.{Judged, first_is, name_is, proc_is_none}
-use Rattle.tw_statement.proofs.OperandWords.{Free, kind_read, other_bytes}
-use Rattle.tw_statement.proofs.ParamWords.{HaveParams, IsShallowParam, one_mode, params_read, scalar_apart}
+use Rattle.tw_statement.proofs.Answered.{Judged, first_is, none_some, proc_is_none}
+use Rattle.tw_statement.proofs.OperandWords.{Free, kind_read, other_bytes, scalar_apart}
+use Rattle.tw_statement.proofs.ParamWords.{HaveParams, IsShallowParam, one_mode, params_read}
 use Rattle.tw_statement.proofs.Readings.{Reads, both_read}
-use Rattle.tw_statement.proofs.Sayings.{code_first, no_label, none_some, nonempty}
+use Rattle.tw_statement.proofs.Sayings.{code_first, no_label, nonempty}
 use Rattle.tw_statement.proofs.Sequences.{few_read}
+use Rattle.tw_statement.proofs.Spelled.{bare_is}
 use Rattle.tw_statement.specs.Parts.{Name, kind_word, mode_word, param_parts, register_part, scalar_word}
 use Rattle.tw_statement.specs.Seen.{NoName}
 use Rattle.tw_statement.specs.Statement.{AnyName, AnyShortName, Code, Goals, Head, IsInLimits, IsTypeOfMode, Label, Registers, SpellParts, Spells, Statement}
@@ -183,8 +184,8 @@ IsHeadOf w ws x = (w ≡ Bare (kind_word x.0)) × HaveParams None ws x.1
 
 head_parts_of : (G : Goals) (ws : List Word) (statement : Statement) → Spells G statement (Bare (codes "proc") ∷ ws) → (kind : Kind) × (params : List Param) × (statement ≡ Head kind params) × AllByRecursion HasItsForm params × SpellParts G (Name (kind_word kind) ∷ flat_map param_parts params) ws
 head_parts_of G ws (Head kind params) h = (kind, params, refl, h.form, (first_is G (codes "proc") (Name (kind_word kind) ∷ flat_map param_parts params) (Bare (codes "proc")) ws h.parts).1)
-head_parts_of G ws (Registers rs) h = absurd (proc_first (name_is (codes "proc") (codes "regs") (first_is G (codes "regs") (map register_part rs) (Bare (codes "proc")) ws h.parts).0))
-head_parts_of G ws (Label name) h = absurd (no_label (codes "proc") name proc_no_label (name_is (codes "proc") (name ++ codes ":") (first_is G (name ++ codes ":") [] (Bare (codes "proc")) ws h.parts).0))
+head_parts_of G ws (Registers rs) h = absurd (proc_first (bare_is (codes "proc") (codes "regs") (first_is G (codes "regs") (map register_part rs) (Bare (codes "proc")) ws h.parts).0))
+head_parts_of G ws (Label name) h = absurd (no_label (codes "proc") name proc_no_label (bare_is (codes "proc") (name ++ codes ":") (first_is G (name ++ codes ":") [] (Bare (codes "proc")) ws h.parts).0))
 head_parts_of G ws (Code i) h = let k = code_first G i (codes "proc") ws h.parts in absurd (none_some k.0 (sym proc_is_none ∙ k.1))
 
 is_head : (G : Goals) (w : Word) (ws : List Word) (statement : Statement) → Spells G statement (Bare (codes "proc") ∷ w ∷ ws) → (x : Kind × List Param) × (statement ≡ Head x.0 x.1) × IsHeadOf w ws x

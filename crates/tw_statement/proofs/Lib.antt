@@ -4,6 +4,7 @@ pub mod Firsts
 pub mod Skips
 pub mod Lines
 pub mod Once
+pub mod Quotes
 pub mod Written
 pub mod Labels
 pub mod OwnSkip

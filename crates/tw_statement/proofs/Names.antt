@@ -8,6 +8,7 @@ use Rattle.std.proofs.lemmas.Bool.Decides.{Decides-and, Decides-or, Decides-eqb,
 use Rattle.tw_code.specs.format.Program.{IsSkip}
 use Rattle.tw_lines.specs.Words.{Word, Bare, Quoted}
 use Rattle.tw_statement.proofs.Numbers.{digits_read, within_decide}
+use Rattle.tw_statement.proofs.OperandWords.{apart}
 use Rattle.tw_statement.proofs.Readings.{Reads, carried}
 use Rattle.tw_statement.specs.Statement.{IsInName, IsLetter, IsName, SpellsWith}
 use Rattle.tw_statement.specs.declared.statement.Flaw.TheVariants.{Form, Limit}
@@ -57,9 +58,6 @@ MayGoal skip (Some name) = length name ≤ 64
 pub no_letter : (b : ℕ) → IsLetter b → b ≡ 43 → ⊥
 no_letter b (inl h) e = omega arith
 no_letter b (inr h) e = omega arith
-
-apart : (b c : ℕ) → (b == c) ≡ false → b ≡ c → ⊥
-apart b c e is = grind (arith, nat_tests)
 
 pub goal_read : (w : Word) → Reads (λ g. HasGoal w g.skip g.label) (λ g. MayGoal g.skip g.label) (goal_in w)
 goal_read (Quoted text) = λ g h. none g.skip g.label h

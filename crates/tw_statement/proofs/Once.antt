@@ -18,7 +18,7 @@ use Rattle.tw_statement.specs.Statement.{Code, Goals, HasForm, Head, IsPromised,
 use Rattle.tw_statement.specs.declared.statement.First.{First}
 use Rattle.tw_statement.specs.declared.statement.First.TheVariants as first
 use Rattle.tw_statement.proofs.Rows.{AreAlike, alike_by_sorts, behind_first, class_of_word, different, ends_in_colon, first_name, have_sorts, name_of, operands_of, row, row_among, rows, same}
-use Rattle.tw_statement.proofs.Spelled.{AreNames, ByName, Resolved, all_tied, as_is, by_name, cons_is, named, parts_more, resolved, tied_are, unnamed, with_goal}
+use Rattle.tw_statement.proofs.Spelled.{AreNames, ByName, Resolved, all_tied, as_is, bare_is, by_name, cons_is, named, parts_more, resolved, tied_are, unnamed, with_goal}
 
 -- ---- what a statement's parts are of
 
@@ -112,22 +112,19 @@ begins (Registers registers) = record { word = codes "regs"; others = map regist
 begins (Label name) = record { word = name ++ codes ":"; others = []; parts = refl; class = label_class name }
 begins (Code i) = record { word = name_of i; others = operands_of i; parts = (row i).parts; class = (row i).class }
 
-bare_is : (v w : List ℕ) → Bare v ≡ Bare w → v ≡ w
-bare_is v w e = cc
-
 -- words of a statement begin with its first word
-first_word : (goals : Goals) (s : Statement) (words : List Word) → Spells goals s words → (rest : List Word) × (words ≡ Bare (begins s).word ∷ rest)
+pub first_word : (goals : Goals) (s : Statement) (words : List Word) → Spells goals s words → (rest : List Word) × (words ≡ Bare (begins s).word ∷ rest)
 first_word goals s words h =
     let parts : SpellParts goals (Name (begins s).word ∷ (begins s).others) words = subst (λ (ps : List Part). SpellParts goals ps words) (begins s).parts h.parts in
     (parts.1, parts.2 ∙ ap (λ (ws : List Word). ws ++ parts.1) parts.3)
 
-same_word : (a b : Goals) (s t : Statement) (words : List Word) → Spells a s words → Spells b t words → (begins s).word ≡ (begins t).word
+pub same_word : (a b : Goals) (s t : Statement) (words : List Word) → Spells a s words → Spells b t words → (begins s).word ≡ (begins t).word
 same_word a b s t words h k =
     let u = first_word a s words h in
     let v = first_word b t words k in
     bare_is (begins s).word (begins t).word (cons_is (Bare (begins s).word) (Bare (begins t).word) u.0 v.0 (sym u.1 ∙ v.1)).0
 
-same_class : (a b : Goals) (s t : Statement) (words : List Word) → Spells a s words → Spells b t words → class_of s ≡ class_of t
+pub same_class : (a b : Goals) (s t : Statement) (words : List Word) → Spells a s words → Spells b t words → class_of s ≡ class_of t
 same_class a b s t words h k = sym (begins s).class ∙ ap class_of_word (same_word a b s t words h k) ∙ (begins t).class
 
 abbrev pub first_of_class : ℕ → First

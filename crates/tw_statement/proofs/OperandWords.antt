@@ -50,7 +50,7 @@ Has o w c = SpellsPart NoName (part_of o c) (w ∷ [])
 no : false ≡ true → ⊥
 no e = cc
 
-apart : (b c : ℕ) → (b == c) ≡ false → b ≡ c → ⊥
+pub apart : (b c : ℕ) → (b == c) ≡ false → b ≡ c → ⊥
 apart b c e is = grind (arith, nat_tests)
 
 pub register_read : (letter : ℕ) (w : Word) → Reads (λ n. SpellsWith (letter ∷ []) n (w ∷ [])) IsRegister (register_in letter w)
@@ -151,6 +151,11 @@ other_bytes text word isnt e = no (sym isnt ∙ (bytes_eq-Decides text word).1 (
   where
     inner : Bare text ≡ Bare word → text ≡ word
     inner e = cc
+
+-- the word of a scalar is no `cont`
+pub scalar_apart : (s : Scalar) → Bare (scalar_word s) ≡ Bare (codes "cont") → ⊥
+scalar_apart scalar.Int e = other_bytes (codes "int") (codes "cont") refl e
+scalar_apart scalar.Text e = other_bytes (codes "text") (codes "cont") refl e
 
 quoted_apart : (text word : List ℕ) → Quoted text ≡ Bare word → ⊥
 quoted_apart text word e = cc

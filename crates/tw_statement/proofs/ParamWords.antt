@@ -4,7 +4,7 @@ use Rattle.std.specs.Prelude.{nat_lt}
 use Rattle.std.specs.List.{AllByRecursion}
 use Rattle.std.proofs.lemmas.Bool.Decides.{nat_tests}
 use Rattle.tw_lines.specs.Words.{Word, Bare}
-use Rattle.tw_statement.proofs.OperandWords.{Free, IsPieceOf, mode_read, other_bytes, piece_read}
+use Rattle.tw_statement.proofs.OperandWords.{Free, IsPieceOf, mode_read, other_bytes, piece_read, scalar_apart}
 use Rattle.tw_statement.proofs.Readings.{Reads, both_read, carried, likewise}
 use Rattle.tw_statement.proofs.Sequences.{nothing_after, nothing_before, put_first, regroup, together}
 use Rattle.tw_statement.specs.Parts.{mode_word, scalar_word}
@@ -117,10 +117,6 @@ item_read mode k depth s (inr h) = by (nat_lt 3 k) refl
     by : (t : Bool) → nat_lt 3 k ≡ t → Reads (λ p. p ≡ param_of mode (record { depth = depth; scalar = s })) IsShallowParam (as_is (param_of mode) (cond t (Err Limit) (Ok (record { depth = k; scalar = s }))))
     by true e = ((param_of mode (record { depth = depth; scalar = s }), refl), λ p is m. absurd (omega (arith, h.1, subst IsShallowParam is m)))
     by false e = absurd (grind (arith, nat_tests))
-
-pub scalar_apart : (s : Scalar) → Bare (scalar_word s) ≡ Bare (codes "cont") → ⊥
-scalar_apart scalar.Int e = other_bytes (codes "int") (codes "cont") refl e
-scalar_apart scalar.Text e = other_bytes (codes "text") (codes "cont") refl e
 
 pub one_scalar : (a b : Scalar) → Bare (scalar_word a) ≡ Bare (scalar_word b) → a ≡ b
 one_scalar scalar.Int scalar.Int e = refl

@@ -4,13 +4,14 @@ use Rattle.std.specs.List.{AllByRecursion, flat_map}
 use Rattle.tw_code.specs.declared.instr.Instr.{Instr}
 use Rattle.tw_code.specs.format.Program.{IsList}
 use Rattle.tw_lines.specs.Words.{Word, Bare}
-use Rattle.tw_statement.proofs.Answered.{Judged, first_is, name_is, regs_is_none}
+use Rattle.tw_statement.proofs.Answered.{Judged, first_is, none_some, regs_is_none}
 use Rattle.tw_statement.proofs.Colons.{before, found_before}
 use Rattle.tw_statement.proofs.Lined.{parts_of}
 use Rattle.tw_statement.proofs.Names.{IsThisName, name_read}
 use Rattle.tw_statement.proofs.OperandWords.{Free, other_bytes, scalar_read}
 use Rattle.tw_statement.proofs.Readings.{Reads}
 use Rattle.tw_statement.proofs.Sequences.{HaveEach, each_long, each_read, few_read}
+use Rattle.tw_statement.proofs.Spelled.{bare_is}
 use Rattle.tw_statement.proofs.Table.{made, named, parts_are}
 use Rattle.tw_statement.specs.Parts.{Part, Name, instr_parts, kind_word, param_parts, register_part, scalar_word}
 use Rattle.tw_statement.specs.Seen.{NoName}
@@ -30,10 +31,7 @@ code_first G i word ws h = by (made i)
     by (p, x, e) =
         let parts = subst (λ (j : Instr). SpellParts G (instr_parts j) (Bare word ∷ ws)) e h in
         let k = first_is G (word_of p) (parts_of (line_of p) x) (Bare word) ws (subst (λ (ps : List Part). SpellParts G ps (Bare word ∷ ws)) (parts_are p x) parts) in
-        (p, ap opcode_of (name_is word (word_of p) k.0) ∙ named p)
-
-pub none_some : {A : Type 0} (a : A) → None ≡ Some a → ⊥
-none_some a e = cc
+        (p, ap opcode_of (bare_is word (word_of p) k.0) ∙ named p)
 
 pub nonempty : (G : Goals) (name : List ℕ) (parts : List Part) → SpellParts G (Name name ∷ parts) [] → ⊥
 nonempty G name parts (first, others, cut, h, rest) = no_word (cut ∙ ap (λ (vs : List Word). vs ++ others) h)
@@ -72,9 +70,9 @@ regs_no_label : before_colon (codes "regs") ≡ None
 regs_no_label = refl
 
 is_registers : (G : Goals) (ws : List Word) (statement : Statement) → SpellParts G (statement_parts statement) (Bare (codes "regs") ∷ ws) → (rs : List Scalar) × (statement ≡ Registers rs) × HaveEach IsScalarWord ws rs
-is_registers G ws (Head kind params) h = absurd (regs_first (name_is (codes "regs") (codes "proc") (first_is G (codes "proc") (Name (kind_word kind) ∷ flat_map param_parts params) (Bare (codes "regs")) ws h).0))
+is_registers G ws (Head kind params) h = absurd (regs_first (bare_is (codes "regs") (codes "proc") (first_is G (codes "proc") (Name (kind_word kind) ∷ flat_map param_parts params) (Bare (codes "regs")) ws h).0))
 is_registers G ws (Registers rs) h = (rs, refl, scalars_down G ws rs (first_is G (codes "regs") (map register_part rs) (Bare (codes "regs")) ws h).1)
-is_registers G ws (Label name) h = absurd (no_label (codes "regs") name regs_no_label (name_is (codes "regs") (name ++ codes ":") (first_is G (name ++ codes ":") [] (Bare (codes "regs")) ws h).0))
+is_registers G ws (Label name) h = absurd (no_label (codes "regs") name regs_no_label (bare_is (codes "regs") (name ++ codes ":") (first_is G (name ++ codes ":") [] (Bare (codes "regs")) ws h).0))
 is_registers G ws (Code i) h = let k = code_first G i (codes "regs") ws h in absurd (none_some k.0 (sym regs_is_none ∙ k.1))
 
 registers_spelled : (G : Goals) (ws : List Word) (rs : List Scalar) → HaveEach IsScalarWord ws rs → Spells G (Registers rs) (Bare (codes "regs") ∷ ws)
@@ -99,9 +97,9 @@ registers_answered ws =
 
 is_label : (G : Goals) (word : List ℕ) (ws : List Word) → word ≢ codes "proc" → word ≢ codes "regs" → opcode_of word ≡ None → (statement : Statement) → SpellParts G (statement_parts statement) (Bare word ∷ ws)
     → (name : List ℕ) × (statement ≡ Label name) × (word ≡ name ++ codes ":") × (ws ≡ [])
-is_label G word ws no_proc no_regs no_code (Head kind params) h = absurd (no_proc (name_is word (codes "proc") (first_is G (codes "proc") (Name (kind_word kind) ∷ flat_map param_parts params) (Bare word) ws h).0))
-is_label G word ws no_proc no_regs no_code (Registers rs) h = absurd (no_regs (name_is word (codes "regs") (first_is G (codes "regs") (map register_part rs) (Bare word) ws h).0))
-is_label G word ws no_proc no_regs no_code (Label name) h = let k = first_is G (name ++ codes ":") [] (Bare word) ws h in (name, refl, name_is word (name ++ codes ":") k.0, k.1)
+is_label G word ws no_proc no_regs no_code (Head kind params) h = absurd (no_proc (bare_is word (codes "proc") (first_is G (codes "proc") (Name (kind_word kind) ∷ flat_map param_parts params) (Bare word) ws h).0))
+is_label G word ws no_proc no_regs no_code (Registers rs) h = absurd (no_regs (bare_is word (codes "regs") (first_is G (codes "regs") (map register_part rs) (Bare word) ws h).0))
+is_label G word ws no_proc no_regs no_code (Label name) h = let k = first_is G (name ++ codes ":") [] (Bare word) ws h in (name, refl, bare_is word (name ++ codes ":") k.0, k.1)
 is_label G word ws no_proc no_regs no_code (Code i) h = let k = code_first G i word ws h in absurd (none_some k.0 (sym no_code ∙ k.1))
 
 module _ (word : List ℕ) (no_proc : word ≢ codes "proc") (no_regs : word ≢ codes "regs") (no_code : opcode_of word ≡ None) where

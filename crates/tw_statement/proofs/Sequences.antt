@@ -9,7 +9,7 @@ use Rattle.tw_code.specs.format.Program.{IsList}
 use Rattle.tw_lines.specs.Seen.{seen}
 use Rattle.tw_lines.specs.Words.{Word, Bare}
 use Rattle.tw_lines.specs.declared.word.Word as words
-use Rattle.tw_statement.proofs.OperandWords.{Free, IsPieceOf, other_bytes, piece_read, scalar_read}
+use Rattle.tw_statement.proofs.OperandWords.{Free, IsPieceOf, piece_read, scalar_apart, scalar_read}
 use Rattle.tw_statement.proofs.Readings.{Reads, both_read, carried, likewise}
 use Rattle.tw_statement.specs.Parts.{scalar_word}
 use Rattle.tw_statement.specs.declared.statement.Flaw.{Flaw}
@@ -18,7 +18,6 @@ use Rattle.tw_statement.specs.reading.Lines.{are_containers, each, each_from, fe
 use Rattle.tw_statement.specs.reading.Operands.{as_is, both, piece_in, scalar_in}
 use Rattle.tw_types.specs.Nesting.{NestedScalar}
 use Rattle.tw_types.specs.declared.data_type.Scalar.{Scalar}
-use Rattle.tw_types.specs.declared.data_type.Scalar.TheVariants as scalar
 
 no : false ≡ true → ⊥
 no e = cc
@@ -179,10 +178,6 @@ type_read k (w ∷ x ∷ ws) = by (piece_in w) (piece_read w) (type_read (suc k)
         both_first : {rest : List Word} → w ≡ Bare (codes "cont") → x ∷ ws ≡ rest → w ∷ x ∷ ws ≡ Bare (codes "cont") ∷ rest
         both_first e f = cc
     by (Ok (Some s)) p h = λ ty g. scalar_apart s (sym p.0 ∙ (more_words w x ws g.0 ty.scalar g.2).2)
-      where
-        scalar_apart : (s : Scalar) → Bare (scalar_word s) ≡ Bare (codes "cont") → ⊥
-        scalar_apart scalar.Int e = other_bytes (codes "int") (codes "cont") refl e
-        scalar_apart scalar.Text e = other_bytes (codes "text") (codes "cont") refl e
     by (Err Form) p h = λ ty g. p None (more_words w x ws g.0 ty.scalar g.2).2
     by (Err Limit) p h = absurd (p.1 p.0.0 p.0.1 tt)
 

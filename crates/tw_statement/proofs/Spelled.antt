@@ -39,7 +39,7 @@ AllTied a b (p ∷ ps) (q ∷ qs) = AreTied a b p q × AllTied a b ps qs
 
 -- ---- words
 
-bare_is : (v w : List ℕ) → Bare v ≡ Bare w → v ≡ w
+pub bare_is : (v w : List ℕ) → Bare v ≡ Bare w → v ≡ w
 bare_is v w e = cc
 
 quoted_is : (v w : List ℕ) → Quoted v ≡ Quoted w → v ≡ w
@@ -199,7 +199,7 @@ module _ (a b : Goals) (names : AreNames a) (others : AreNames b) where
 
 -- ---- other goals
 
-pub part_more : (a b : Goals) → ((skip : ℕ) (name : List ℕ) → a skip name → b skip name) → (p : Part) (words : List Word) → SpellsPart a p words → SpellsPart b p words
+part_more : (a b : Goals) → ((skip : ℕ) (name : List ℕ) → a skip name → b skip name) → (p : Part) (words : List Word) → SpellsPart a p words → SpellsPart b p words
 part_more a b more (Skip n) words (inl h) = inl h
 part_more a b more (Skip n) words (inr (name, goal, is)) = inr (name, more n name goal, is)
 part_more a b more (Target None) words h = h

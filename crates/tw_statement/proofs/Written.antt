@@ -1,14 +1,17 @@
 -- What is written of a statement spells it.
-use Rattle.std.proofs.Common.{◌≡◌, ◌≢◌, inl, inr, ◌≤◌, ◌<◌, ◌^◌, ◌==◌, ◌/◌, ◌%◌, ℕ, zero, suc, ℤ, pos, negsuc, Bool, true, false, List, [], ◌∷◌, ◌++◌, map, length, codes, Option, Some, None, refl, sym, ap, subst, ◌∙◌, arith}
-use Rattle.std.specs.Prelude.{FitsSigned, replicate, ◌&&◌, ◌||◌, nat_lt, if◌then◌else◌, decimal}
+use Rattle.std.proofs.Common.{◌≡◌, ◌≢◌, inl, inr, ◌≤◌, ◌<◌, ◌^◌, ◌==◌, ℕ, zero, suc, ℤ, pos, negsuc, Bool, true, false, List, [], ◌∷◌, ◌++◌, map, length, codes, Option, Some, None, refl, ap, subst, ◌∙◌, arith}
+use Rattle.std.specs.Prelude.{FitsSigned, IsUtf8, replicate, ◌&&◌, ◌||◌, nat_lt, if◌then◌else◌, decimal}
 use Rattle.std.specs.Fmt.{signed_decimal}
 use Rattle.std.specs.Int.{w64}
 use Rattle.std.specs.List.{AllByRecursion, flat_map, join_with_byte}
+use Rattle.std.specs.Str.{IsAscii}
 use Rattle.std.specs.Str.Parse.{AllDigits, IsNumeral}
 use Rattle.std.proofs.lemmas.Bool.{ltb-true}
 use Rattle.std.proofs.lemmas.Bool.Decides.{nat_tests}
 use Rattle.std.proofs.lemmas.Fmt.{decimal_is_IsNumeral}
 use Rattle.std.proofs.lemmas.List.{map-append}
+use Rattle.std.proofs.lemmas.Str.{IsUtf8-append, IsUtf8-from_ascii, IsUtf8-nil}
+use Rattle.std.proofs.lemmas.Str.Ascii.{IsAscii-cons, IsAscii-nil}
 use Rattle.std.proofs.lemmas.Str.Parse.{digit_from_value}
 use Rattle.tw_code.specs.declared.instr.Action.{Action}
 use Rattle.tw_code.specs.declared.instr.Arithmetic.{Arithmetic}
@@ -20,7 +23,7 @@ use Rattle.tw_code.specs.declared.instr.Instr.TheVariants as instr
 use Rattle.tw_code.specs.declared.instr.LocalInstr.{LocalInstr}
 use Rattle.tw_code.specs.declared.instr.LocalInstr.TheVariants as local
 use Rattle.tw_code.specs.format.Program.{IsAction, IsDataInstr, IsInstr, IsLocalInstr, IsRegister, IsSkip, IsTarget}
-use Rattle.tw_lines.specs.Words.{AreFirstWords, Bare, IsAtEdge, IsLine, IsWord, Quoted, Word, is_edge}
+use Rattle.tw_lines.specs.Words.{Bare, IsLine, IsWord, Quoted, Word, is_edge}
 use Rattle.tw_types.specs.declared.actor.Kind.{Kind}
 use Rattle.tw_types.specs.declared.actor.Kind.TheVariants.{Control, Leaf}
 use Rattle.tw_types.specs.declared.data_type.Scalar.{Scalar}
@@ -28,15 +31,17 @@ use Rattle.tw_types.specs.declared.data_type.Scalar.TheVariants.{Int, Text}
 use Rattle.tw_types.specs.declared.param.Mode.{Mode}
 use Rattle.tw_types.specs.declared.param.Mode.TheVariants.{Val, Closed, Ref, Write}
 use Rattle.tw_types.specs.declared.param.Param.{Param}
-use Rattle.tw_words.specs.Quoted.{escaped, hex_digit, quoted}
+use Rattle.tw_words.specs.Quoted.{quoted}
 use Rattle.tw_words.proofs.Numerals.{shown}
 use Rattle.tw_words.proofs.Written.{quoted_spells}
-use Rattle.tw_statement.specs.words.Lines.{behind}
+use Rattle.tw_lines.proofs.Breaks.{IsOneLine}
+use Rattle.tw_lines.proofs.Writing.{AreWords, joined_line, joined_one_line, quoted_one_line}
 use Rattle.tw_statement.specs.Parts.{Literal, Name, Natural, Number, Part, Right, Skip, Target, TypeOf, Value, kind_word, mode_word, operation_word, param_parts, register_part, scalar_word, skip_among, skip_of, instr_parts}
 use Rattle.tw_statement.specs.Statement.{Code, Goals, HasForm, Head, IsInLimits, IsInName, IsName, Label, Registers, SpellParts, Spells, SpellsPart, SpellsWith, Statement, statement_parts}
 use Rattle.tw_statement.specs.Written.{goal_word, part_words}
-use Rattle.tw_statement.proofs.Lines.{line_is}
-use Rattle.tw_statement.proofs.Rows.{different, is_last, row, skips_last, sort_of}
+use Rattle.tw_statement.proofs.OperandWords.{apart}
+use Rattle.tw_statement.proofs.Quotes.{after_ascii, quoted_utf8}
+use Rattle.tw_statement.proofs.Rows.{both_true, different, is_last, row, skips_last, sort_of}
 
 -- ---- words as they are written
 
@@ -79,55 +84,33 @@ parts_texts skip_word (part ∷ parts) =
 
 -- ---- words in a line
 
--- no control byte stands in these
-abbrev pub AreHigh : List ℕ → Type 0
-AreHigh bytes = AllByRecursion (λ b. 32 ≤ b) bytes
-
-all_append : {A : Type 0} (P : A → Type 0) (xs ys : List A) → AllByRecursion P xs → AllByRecursion P ys → AllByRecursion P (xs ++ ys)
+pub all_append : {A : Type 0} (P : A → Type 0) (xs ys : List A) → AllByRecursion P xs → AllByRecursion P ys → AllByRecursion P (xs ++ ys)
 all_append P [] ys h k = k
 all_append P (x ∷ xs) ys h k = (h.0, all_append P xs ys h.1 k)
 
 -- how a written word stands in a line
 abbrev pub IsWellWritten : Word → Type 0
-IsWellWritten word = IsWord word (text_of word) × AreHigh (text_of word)
+IsWellWritten word = IsWord word (text_of word) × IsOneLine (text_of word) × IsUtf8 (text_of word)
 
-behind_high : (words : List Word) → AllByRecursion IsWellWritten words → AreHigh (behind (map text_of words))
-behind_high [] h = tt
-behind_high (word ∷ words) h = (omega arith, all_append (λ b. 32 ≤ b) (text_of word) (behind (map text_of words)) h.0.1 (behind_high words h.1))
+are_words : (words : List Word) → AllByRecursion IsWellWritten words → AreWords words (map text_of words)
+are_words [] h = tt
+are_words (word ∷ words) h = (h.0.0, are_words words h.1)
 
-behind_edge : (words : List Word) → IsAtEdge (behind (map text_of words))
-behind_edge [] = tt
-behind_edge (word ∷ words) = refl
+are_one_lines : (words : List Word) → AllByRecursion IsWellWritten words → AllByRecursion IsOneLine (map text_of words)
+are_one_lines [] h = tt
+are_one_lines (word ∷ words) h = (h.0.1, are_one_lines words h.1)
 
-behind_words : (words : List Word) → AllByRecursion IsWellWritten words → AreFirstWords words (behind (map text_of words)) []
-behind_words [] h = refl
-behind_words (word ∷ words) h = (
-  behind (map text_of words),
-  record { gap = 32 ∷ []; text = text_of word; parts = refl; is_gap = (refl, tt); is_word = h.0.0; edge = behind_edge words },
-  behind_words words h.1,
-)
-
--- words with one space between them are a line of these words
-pub joined_line : (words : List Word) → AllByRecursion IsWellWritten words → IsLine words (join_with_byte 32 (map text_of words)) × AreHigh (join_with_byte 32 (map text_of words))
-joined_line [] h = (([], refl, record { gap = []; rest = []; parts = refl; is_gap = tt; is_end = tt }), tt)
-joined_line (word ∷ words) h = (
-  (
-    [],
-    (
-      behind (map text_of words),
-      record { gap = []; text = text_of word; parts = line_is (text_of word) (map text_of words); is_gap = tt; is_word = h.0.0; edge = behind_edge words },
-      behind_words words h.1,
-    ),
-    record { gap = []; rest = []; parts = refl; is_gap = tt; is_end = tt },
-  ),
-  subst AreHigh (sym (line_is (text_of word) (map text_of words))) (all_append (λ b. 32 ≤ b) (text_of word) (behind (map text_of words)) h.0.1 (behind_high words h.1)),
-)
+joined_utf8 : (words : List Word) → AllByRecursion IsWellWritten words → IsUtf8 (join_with_byte 32 (map text_of words))
+joined_utf8 [] h = IsUtf8-nil
+joined_utf8 (word ∷ []) h = h.0.2
+joined_utf8 (word ∷ next ∷ words) h =
+    IsUtf8-append (text_of word) (32 ∷ join_with_byte 32 (map text_of (next ∷ words))) h.0.2 (after_ascii 32 (join_with_byte 32 (map text_of (next ∷ words))) (omega arith) (joined_utf8 (next ∷ words) h.1))
 
 -- ---- bare words
 
--- a byte over `"` that begins no comment
+-- an ASCII byte over `"` that begins no comment
 abbrev pub IsClear : ℕ → Type 0
-IsClear b = (35 ≤ b) × (b ≢ 59)
+IsClear b = (35 ≤ b) × (b < 128) × (b ≢ 59)
 
 abbrev pub AreClear : List ℕ → Type 0
 AreClear bytes = AllByRecursion IsClear bytes
@@ -137,11 +120,18 @@ clear_edge b low other = grind (arith, nat_tests)
 
 clear_edges : (bytes : List ℕ) → AreClear bytes → AllByRecursion (λ b. is_edge b ≡ false) bytes
 clear_edges [] h = tt
-clear_edges (b ∷ bytes) h = (clear_edge b h.0.0 h.0.1, clear_edges bytes h.1)
+clear_edges (b ∷ bytes) h = (clear_edge b h.0.0 h.0.2, clear_edges bytes h.1)
 
-clear_high : (bytes : List ℕ) → AreClear bytes → AreHigh bytes
-clear_high [] h = tt
-clear_high (b ∷ bytes) h = let low = h.0.0 in (omega arith, clear_high bytes h.1)
+no_break : (b : ℕ) → 35 ≤ b → (b == 10 || b == 13) ≡ false
+no_break b low = grind (arith, nat_tests)
+
+clear_one_line : (bytes : List ℕ) → AreClear bytes → IsOneLine bytes
+clear_one_line [] h = tt
+clear_one_line (b ∷ bytes) h = (no_break b h.0.0, clear_one_line bytes h.1)
+
+clear_ascii : (bytes : List ℕ) → AreClear bytes → IsAscii bytes
+clear_ascii [] h = IsAscii-nil
+clear_ascii (b ∷ bytes) h = IsAscii-cons b bytes h.0.1 (clear_ascii bytes h.1)
 
 -- some bytes, all of them clear
 abbrev pub IsClearWord : List ℕ → Type 0
@@ -150,14 +140,14 @@ IsClearWord (b ∷ bytes) = AreClear (b ∷ bytes)
 
 bare_word : (word : List ℕ) → IsClearWord word → IsWellWritten (Bare word)
 bare_word [] h = absurd h
-bare_word (b ∷ bytes) h = (((no_quote h.0.0, clear_edges (b ∷ bytes) h), refl), clear_high (b ∷ bytes) h)
+bare_word (b ∷ bytes) h = (((no_quote h.0.0, clear_edges (b ∷ bytes) h), refl), clear_one_line (b ∷ bytes) h, IsUtf8-from_ascii (b ∷ bytes) (clear_ascii (b ∷ bytes) h))
   where
     no_quote : 35 ≤ b → b ≢ 34
     no_quote low e = omega arith
 
 -- the same by a test
 abbrev is_clear : ℕ → Bool
-is_clear b = if b == 59 then false else nat_lt 34 b
+is_clear b = if b == 59 then false else nat_lt 34 b && nat_lt b 128
 
 abbrev are_clear : List ℕ → Bool
 are_clear [] = true
@@ -167,31 +157,26 @@ abbrev pub is_clear_word : List ℕ → Bool
 is_clear_word [] = false
 is_clear_word (b ∷ bytes) = are_clear (b ∷ bytes)
 
-apart : (a b : ℕ) → (a == b) ≡ false → a ≢ b
-apart a b e same = grind (arith, nat_tests)
-
-clear_by : (b : ℕ) (sign over : Bool) → (b == 59) ≡ sign → nat_lt 34 b ≡ over → (if sign then false else over) ≡ true → IsClear b
-clear_by b true over s o e = absurd cc
-clear_by b false false s o e = absurd cc
-clear_by b false true s o e = let low = ltb-true 34 b o in (omega (arith, low), apart b 59 s)
+clear_by : (b : ℕ) (sign over under : Bool) → (b == 59) ≡ sign → nat_lt 34 b ≡ over → nat_lt b 128 ≡ under → (if sign then false else over && under) ≡ true → IsClear b
+clear_by b false true true s o u e =
+    let low = ltb-true 34 b o in
+    let high = ltb-true b 128 u in
+    (omega (arith, low), omega (arith, high), apart b 59 s)
+clear_by b sign over under s o u e = absurd cc
 
 is_clear-true : (b : ℕ) → is_clear b ≡ true → IsClear b
-is_clear-true b e = clear_by b (b == 59) (nat_lt 34 b) refl refl e
-
-both : (a b : Bool) → (a && b) ≡ true → (a ≡ true) × (b ≡ true)
-both true b e = (refl, e)
-both false b e = absurd cc
+is_clear-true b e = clear_by b (b == 59) (nat_lt 34 b) (nat_lt b 128) refl refl refl e
 
 are_clear-true : (bytes : List ℕ) → are_clear bytes ≡ true → AreClear bytes
 are_clear-true [] e = tt
-are_clear-true (b ∷ bytes) e = let h = both (is_clear b) (are_clear bytes) e in (is_clear-true b h.0, are_clear-true bytes h.1)
+are_clear-true (b ∷ bytes) e = let h = both_true (is_clear b) (are_clear bytes) e in (is_clear-true b h.0, are_clear-true bytes h.1)
 
 clear_word : (word : List ℕ) → is_clear_word word ≡ true → IsClearWord word
 clear_word [] e = absurd cc
 clear_word (b ∷ bytes) e = are_clear-true (b ∷ bytes) e
 
 digit_clear : (d : ℕ) → 48 ≤ d → d ≤ 57 → IsClear d
-digit_clear d low high = (omega arith, λ e. absurd (omega arith))
+digit_clear d low high = (omega arith, omega arith, λ e. absurd (omega arith))
 
 digits_clear : (digits : List ℕ) → AllDigits 10 digits → AreClear digits
 digits_clear [] h = tt
@@ -214,14 +199,14 @@ name_clear : (name : List ℕ) → IsName name → AreClear name
 name_clear [] h = absurd h
 name_clear (b ∷ others) h = (in_name b (inl h.0), all others h.1)
   where
-    over : (c low : ℕ) → low ≤ c → 60 ≤ low → IsClear c
-    over c low h k = (omega arith, λ e. absurd (omega arith))
+    over : (c : ℕ) → 60 ≤ c → c < 128 → IsClear c
+    over c low high = (omega arith, high, λ e. absurd (omega arith))
 
     in_name : (c : ℕ) → IsInName c → IsClear c
-    in_name c (inl (inl range)) = over c 65 range.0 (omega arith)
-    in_name c (inl (inr range)) = over c 97 range.0 (omega arith)
+    in_name c (inl (inl range)) = over c (omega (arith, range.0)) (omega (arith, range.1))
+    in_name c (inl (inr range)) = over c (omega (arith, range.0)) (omega (arith, range.1))
     in_name c (inr (inl range)) = digit_clear c range.0 range.1
-    in_name c (inr (inr e)) = over c 95 (let same : c ≡ 95 = e in omega arith) (omega arith)
+    in_name c (inr (inr e)) = over c (omega (arith, e)) (omega (arith, e))
 
     all : (cs : List ℕ) → AllByRecursion IsInName cs → AreClear cs
     all [] k = tt
@@ -230,29 +215,6 @@ name_clear (b ∷ others) h = (in_name b (inl h.0), all others h.1)
 label_clear : (name : List ℕ) → IsName name → IsClearWord (name ++ codes ":")
 label_clear [] h = absurd h
 label_clear (b ∷ others) h = all_append IsClear (b ∷ others) (codes ":") (name_clear (b ∷ others) h) (is_clear-true 58 refl, tt)
-
--- ---- quoted words
-
-hex_high : (n : ℕ) → 32 ≤ hex_digit n
-hex_high n = grind (arith, nat_tests)
-
-not_low : (b : ℕ) → (nat_lt b 32 || b == 127) ≡ false → 32 ≤ b
-not_low b e = grind (arith, nat_tests)
-
-escaped_by : (b : ℕ) (q s n c : Bool) → (nat_lt b 32 || b == 127) ≡ c
-    → AreHigh (if q then codes "\\\"" else if s then codes "\\\\" else if n then codes "\\n" else if c then codes "\\x" ++ (hex_digit (b / 16) ∷ hex_digit (b % 16) ∷ []) else b ∷ [])
-escaped_by b true s n c is = (omega arith, (omega arith, tt))
-escaped_by b false true n c is = (omega arith, (omega arith, tt))
-escaped_by b false false true c is = (omega arith, (omega arith, tt))
-escaped_by b false false false true is = (omega arith, (omega arith, (hex_high (b / 16), (hex_high (b % 16), tt))))
-escaped_by b false false false false is = (not_low b is, tt)
-
-escaped_high : (text : List ℕ) → AreHigh (flat_map escaped text)
-escaped_high [] = tt
-escaped_high (b ∷ text) = all_append (λ c. 32 ≤ c) (escaped b) (flat_map escaped text) (escaped_by b (b == 34) (b == 92) (b == 10) (nat_lt b 32 || b == 127) refl) (escaped_high text)
-
-quoted_word : (text : List ℕ) → IsWellWritten (Quoted text)
-quoted_word text = (quoted_spells text, (omega arith, all_append (λ b. 32 ≤ b) (flat_map escaped text) (codes "\"") (escaped_high text) (omega arith, tt)))
 
 -- ---- parts
 
@@ -263,7 +225,7 @@ IsInPart (Value register) = IsRegister register
 IsInPart (Right register) = IsRegister register
 IsInPart (Number number) = FitsSigned w64 number
 IsInPart (Natural number) = number ≤ 65535
-IsInPart (Literal text) = Unit {0}
+IsInPart (Literal text) = IsUtf8 text
 IsInPart (TypeOf ty) = Unit {0}
 IsInPart (Skip skip) = IsSkip skip
 IsInPart (Target target) = IsTarget target
@@ -303,7 +265,7 @@ module _ (goals : Goals) (skip_word : ℕ → List ℕ) where
       (digits_spell (codes "d") n small, (bare_word (codes "d" ++ decimal n) (numbered_clear (codes "d") n (is_clear-true 100 refl, tt) small), tt))
   part_well (Number n) h g = ((signed_decimal n, shown n h, refl), (bare_word (signed_decimal n) (signed_clear n h), tt))
   part_well (Natural n) h g = let small = number_small n h in (digits_spell [] n small, (bare_word (decimal n) (numbered_clear [] n tt small), tt))
-  part_well (Literal text) h g = (refl, (quoted_word text, tt))
+  part_well (Literal text) h g = (refl, ((quoted_spells text, quoted_one_line text, quoted_utf8 text h), tt))
   part_well (TypeOf ty) h g = (refl, conts_well ty.depth ty.scalar)
   part_well (Skip n) h g = let goal = g n refl in (goal.0, (bare_word (skip_word n) goal.1, tt))
   part_well (Target None) h g = (refl, (bare_word (codes "any") (clear_word (codes "any") refl), tt))
@@ -333,7 +295,7 @@ operation_clear Remainder = clear_word (codes "REM") refl
 
 local_in : (i : LocalInstr) → IsLocalInstr i → AllByRecursion IsInPart (statement_parts (Code (instr.Local i)))
 local_in (local.Int to value) h = (clear_word (codes "INT") refl, (h.0, (h.1, tt)))
-local_in (local.Text to text) h = (clear_word (codes "TEXT") refl, (h.0, (tt, tt)))
+local_in (local.Text to text) h = (clear_word (codes "TEXT") refl, (h.0, (h.1.utf8, tt)))
 local_in (local.Copy to from) h = (clear_word (codes "COPY") refl, (h.0, (h.1, tt)))
 local_in (local.Concatenate to left right skip) h = (clear_word (codes "CAT") refl, (h.0, (h.1, (h.2, (h.3, tt)))))
 local_in (local.Length to from) h = (clear_word (codes "LEN") refl, (h.0, (h.1, tt)))
@@ -408,12 +370,13 @@ statement_in (Code i) form h = instr_in i h
 
 -- ---- statements
 
--- a line of words that spell the statement; no control byte stands in it
+-- a line of words that spell the statement, in UTF-8
 pub record IsLineOf (goals : Goals) (s : Statement) (line : List ℕ) : Type 0 where
   pub words : List Word
   pub spells : Spells goals s words
   pub is_line : IsLine words line
-  pub high : AreHigh line
+  pub single : IsOneLine line
+  pub utf8 : IsUtf8 line
 
 -- the line of a statement, without its line feed
 abbrev pub bare_line : (ℕ → List ℕ) → Statement → List ℕ
@@ -423,12 +386,12 @@ pub written_spells : (goals : Goals) (skip_word : ℕ → List ℕ) (s : Stateme
 written_spells goals skip_word s form limits goal =
     let well = parts_well goals skip_word (statement_parts s) (statement_in s form limits) goal in
     let texts = ap (join_with_byte 32) (parts_texts skip_word (statement_parts s)) in
-    let line = joined_line (written skip_word s) well.1 in
     record {
       words = written skip_word s;
       spells = record { form = form; parts = well.0 };
-      is_line = subst (IsLine (written skip_word s)) texts line.0;
-      high = subst AreHigh texts line.1;
+      is_line = subst (IsLine (written skip_word s)) texts (joined_line (written skip_word s) (map text_of (written skip_word s)) (are_words (written skip_word s) well.1));
+      single = subst IsOneLine texts (joined_one_line (map text_of (written skip_word s)) (are_one_lines (written skip_word s) well.1));
+      utf8 = subst IsUtf8 texts (joined_utf8 (written skip_word s) well.1);
     }
 
 -- ---- the goals of the disassembler

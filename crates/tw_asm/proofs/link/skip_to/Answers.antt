@@ -3,7 +3,7 @@ use Rattle.std.specs.List.{Contains}
 use Rattle.std.specs.Option.{is_some}
 use Rattle.tw_asm.specs.Spelling.{Placed}
 use Rattle.tw_asm.specs.reading.Progress.{seen_label}
-use Rattle.tw_asm.proofs.First.{all_of}
+use Rattle.tw_asm.proofs.Walk.{all_of}
 use Rattle.tw_asm.proofs.LabelMaps.{label_found, name_absent}
 use Rattle.tw_asm.proofs.link.skip_to.Goals as goal
 

@@ -1,0 +1,57 @@
+-- Two readings of the same lines are alike.
+use Rattle.std.proofs.Common.{◌≡◌, ℕ, ◌+◌, List, [], ◌∷◌, Option, Some, None, refl, sym, subst, ap, ◌∙◌}
+use Rattle.tw_lines.specs.Words.{Bare, IsLine, Word}
+use Rattle.tw_lines.proofs.Once.{line_once}
+use Rattle.tw_statement.specs.Statement.{Statement, Head, Registers, Label, Code, AnyShortName, Goals, Say, Spells}
+use Rattle.tw_statement.proofs.Once.{begins, first_word}
+use Rattle.tw_statement.proofs.Spelled.{never_cons}
+use Rattle.tw_asm.specs.Fault.{LineSays, LinesSay, Situation, after_line, labels_ahead}
+use Rattle.tw_asm.proofs.Alike.{AreAlike, after_alike, alike}
+
+pub none_spelled : (G : Goals) (statement : Statement) (words : List Word) → words ≡ [] → Spells G statement words → ⊥
+none_spelled G statement words e h =
+    let f = first_word G statement words h in
+    never_cons (Bare (begins statement).word) f.0 (sym f.1 ∙ e)
+
+pub nothing_says : {Z : Type 0} (statement : Statement) (words : List Word) (line : List ℕ) → IsLine [] line → IsLine words line → Say statement words → Z
+nothing_says statement words line blank is say = absurd (none_spelled AnyShortName statement words (line_once words [] line is blank) say.0)
+
+pub says_alike : (s t : Statement) (words others : List Word) (line : List ℕ) → IsLine words line → Say s words → IsLine others line → Say t others → AreAlike s t
+says_alike s t words others line is say other_is other =
+    alike AnyShortName AnyShortName s t words say.0 (subst (λ (ws : List Word). Spells AnyShortName t ws) (line_once others words line other_is is) other.0)
+
+pub both_alike : (number : ℕ) (s : Situation) (line : List ℕ) (a b : Option Statement) → LineSays s line a → LineSays s line b → after_line number a s ≡ after_line number b s
+both_alike number s line None None h k = refl
+both_alike number s line None (Some statement) h k = nothing_says statement k.0.0 line h k.0.1 k.0.2
+both_alike number s line (Some statement) None h k = nothing_says statement h.0.0 line k h.0.1 h.0.2
+both_alike number s line (Some statement) (Some other) h k = after_alike number statement other s (says_alike statement other h.0.0 k.0.0 line h.0.1 h.0.2 k.0.1 k.0.2)
+
+ahead_by : (s t : Statement) (a b : List (Option Statement)) → AreAlike s t → labels_ahead a ≡ labels_ahead b → labels_ahead (Some s ∷ a) ≡ labels_ahead (Some t ∷ b)
+ahead_by (Head kind params) (Head k ps) a b x e = refl
+ahead_by (Registers registers) (Registers others) a b x e = e
+ahead_by (Label name) (Label other) a b x e = ap (λ (n : List ℕ). n ∷ labels_ahead a) x ∙ ap (λ (names : List (List ℕ)). other ∷ names) e
+ahead_by (Code i) (Code j) a b x e = e
+ahead_by s t a b x e = absurd x
+
+ahead_alike : (s : Situation) (line : List ℕ) (x y : Option Statement) (a b : List (Option Statement)) → LineSays s line x → LineSays s line y → labels_ahead a ≡ labels_ahead b → labels_ahead (x ∷ a) ≡ labels_ahead (y ∷ b)
+ahead_alike s line None None a b h k e = e
+ahead_alike s line None (Some statement) a b h k e = nothing_says statement k.0.0 line h k.0.1 k.0.2
+ahead_alike s line (Some statement) None a b h k e = nothing_says statement h.0.0 line k h.0.1 h.0.2
+ahead_alike s line (Some statement) (Some other) a b h k e = ahead_by statement other a b (says_alike statement other h.0.0 k.0.0 line h.0.1 h.0.2 k.0.1 k.0.2) e
+
+-- the rest of another reading, from the situation of this one
+pub others_say : (number : ℕ) (s : Situation) (line : List ℕ) (more : List (List ℕ)) (x y : Option Statement) (others : List (Option Statement)) → LineSays s line x → LineSays s line y
+    → LinesSay (number + 1) (after_line number y s) more others → LinesSay (number + 1) (after_line number x s) more others
+others_say number s line more x y others h k l = subst (λ (t : Situation). LinesSay (number + 1) t more others) (sym (both_alike number s line x y h k)) l
+
+pub same_ahead : (number : ℕ) (s : Situation) (ls : List (List ℕ)) (a b : List (Option Statement)) → LinesSay number s ls a → LinesSay number s ls b → labels_ahead a ≡ labels_ahead b
+same_ahead number s [] [] [] h l = refl
+same_ahead number s [] (x ∷ a) b h l = absurd h
+same_ahead number s [] [] (y ∷ b) h l = absurd l
+same_ahead number s (line ∷ more) [] b h l = absurd h
+same_ahead number s (line ∷ more) (x ∷ a) [] h l = absurd l
+same_ahead number s (line ∷ more) (x ∷ a) (y ∷ b) h l =
+    ahead_alike s line x y a b h.0 l.0 (same_ahead (number + 1) (after_line number x s) more a b h.1 (others_say number s line more x y b h.0 l.0 l.1))
+
+pub line_is_same : (a b : List ℕ) → ◌≡◌ {A = Option (List ℕ)} (Some a) (Some b) → b ≡ a
+line_is_same a b e = cc
