@@ -1,8 +1,6 @@
-pub mod Asking
+pub mod Causes
 pub mod Lists
-pub mod Lowest
 pub mod Mistakes
-pub mod OneMore
 pub mod Places
 pub mod Programs
 pub mod Reaching

@@ -15,7 +15,7 @@ use Rattle.tw_code.specs.accepting.WellTyped.{LeadsTo, IsEndOf, IsWellTyped, Bri
 use Rattle.tw_verify.specs.declared.rows.Reached.{Reached}
 use Rattle.tw_verify.specs.Passes.{lowest_at, HasChanged}
 use Rattle.tw_verify.proofs.Lists.{get_pushed}
-use Rattle.tw_verify.proofs.Lowest.{IsCause, cause_at, least_at}
+use Rattle.tw_verify.proofs.Causes.{IsCause, cause_at, least_at}
 use Rattle.tw_verify.proofs.Places.{loop_within}
 use Rattle.tw_verify.proofs.Reaching.{outcome_number, HasReached, IsRow}
 use Rattle.tw_verify.proofs.Typings.{onward_later, agree, brought_typing, reached_typing, reached_same}

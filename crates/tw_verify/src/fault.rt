@@ -4,9 +4,8 @@ ghost use Rattle.std.specs.Prelude.{◌≡◌, [], ◌∷◌, ◌++◌, OnOk};
 ghost use Rattle.tw_verify.specs.Passes.{refusal_of};
 ghost use Rattle.tw_verify.specs.declared.fault.Fault.TheVariants.{Memory as NoMemory};
 
-use crate::refusal::VerifyRefusal;
-use crate::violation::Violation;
 use std::alloc::AllocError;
+use tw_typing::{VerifyRefusal, Violation};
 
 /// Why a pass over one procedure stops.
 #[derive(Clone, Copy)]

@@ -4,26 +4,21 @@
 //! place, and a budget, how many instructions a task may do; a refused one comes back with its first refusal.
 #![tactic(auto)]
 
-mod arguments;
 mod fault;
 mod findings;
-mod instructions;
 mod laws;
 mod loops;
 mod needs;
 mod pass;
-mod questions;
-mod refusal;
+mod refused;
 mod rows;
 mod structure;
-mod typing;
 mod verified;
 mod verifier;
-mod violation;
 
 pub use laws::no_trap;
-pub use refusal::{Refused, VerifyRefusal};
+pub use refused::Refused;
 pub use tw_invariant::{budgets_held, counts_held, notes_held, types_held};
-pub use typing::{Right, Typing};
+pub use tw_typing::{Right, Typing, VerifyRefusal};
 pub use verified::Verified;
 pub use verifier::verify;

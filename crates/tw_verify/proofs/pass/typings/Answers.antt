@@ -7,9 +7,10 @@ use Rattle.tw_code.specs.accepting.Question.{refusal_in}
 use Rattle.tw_code.specs.machine.Rights.{Typing}
 use Rattle.tw_code.specs.accepting.Typing.{start_typing, asks_at}
 use Rattle.tw_code.specs.accepting.WellTyped.{IsEndOf, IsWellTyped}
+use Rattle.tw_typing.specs.Violations.{violation_number}
 use Rattle.tw_verify.specs.declared.rows.Reached.{Reached}
-use Rattle.tw_verify.specs.Passes.{first_row, HasChanged, lowest_at, violation_number}
-use Rattle.tw_verify.proofs.Lowest.{nothing_at}
+use Rattle.tw_verify.specs.Passes.{first_row, HasChanged, lowest_at}
+use Rattle.tw_verify.proofs.Causes.{nothing_at}
 use Rattle.tw_verify.proofs.Mistakes.{none_typed, typed_more, unreached, refusal_at}
 use Rattle.tw_verify.proofs.Reaching.{IsRow, HasReached, start_row, rows_more, whole_slice}
 use Rattle.tw_verify.proofs.pass.typings.Goals as goal

@@ -1,0 +1,23 @@
+//! A program that is refused.
+
+use std::fmt;
+use thiserror::Error;
+use tw_code::Program;
+use tw_typing::VerifyRefusal;
+
+/// A program that isn't accepted, with its first refusal.
+#[derive(Drop, Error)]
+#[error("refused V{:02} in procedure {procedure} at place {place}", .no.number())]
+pub struct Refused {
+    pub program: Program,
+    pub no: VerifyRefusal,
+    pub procedure: usize,
+    pub place: usize,
+}
+
+/// As it is displayed, without the program.
+impl fmt::Debug for Refused {
+    fn fmt<W: fmt::Write>(&self, f: &mut fmt::Formatter<W>) -> fmt::Result {
+        write!(f, "{self}")
+    }
+}
