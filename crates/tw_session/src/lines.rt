@@ -1,6 +1,6 @@
 //! The lines that a session writes, added to the end of a text.
 
-ghost use Rattle.std.specs.Prelude.{◌≡◌, ◌++◌, ◌<◌, ◌+◌, ◌^◌, ◌∷◌, [], OnOk, decimal, length, take};
+ghost use Rattle.std.specs.Prelude.{◌≡◌, ◌++◌, ◌<◌, ◌+◌, ◌^◌, ◌∷◌, [], OnOk, codes, decimal, length, take};
 ghost use Rattle.std.specs.Fmt.{signed_decimal};
 ghost use Rattle.tw_session.specs.Lines.{asm_line, fault_line, input_word_line, opening_line, place_text};
 ghost use Rattle.tw_session.specs.Lines.{trap_line, two_digits, value_text, verify_line};
@@ -68,6 +68,24 @@ pub fn put_value(alloc: Global, out: &mut Vec<u8>, value: &Value) -> Result<(), 
     }
 }
 
+/// Adds the line of a refusal: its number in two digits, and where it was met.
+fn put_refused(
+    alloc: Global,
+    out: &mut Vec<u8>,
+    head: &str,
+    number: u8,
+    at: &str,
+    count: usize,
+) -> Result<(), AllocError>
+    requires { number < 100 }
+    ensures { OnOk result (out.new.items ≡ out.old.items ++ (head.now ++ (two_digits number ++ (at.now ++ (decimal count ++ codes "\n"))))) }
+{
+    put(out, head)?;
+    put_two_digits(out, number)?;
+    put_numbered(alloc, out, at, count)?;
+    put(out, "\n")
+}
+
 /// Adds the line of bytes that are no program.
 pub fn put_fault_line(
     alloc: Global,
@@ -78,10 +96,7 @@ pub fn put_fault_line(
     requires { number < 100 }
     ensures { OnOk result (out.new.items ≡ out.old.items ++ fault_line number offset) }
 {
-    put(out, "refused F")?;
-    put_two_digits(out, number)?;
-    put_numbered(alloc, out, " at byte ", offset)?;
-    put(out, "\n")
+    put_refused(alloc, out, "refused F", number, " at byte ", offset)
 }
 
 /// Adds the line of an assembly text that spells no program.
@@ -94,10 +109,7 @@ pub fn put_asm_line(
     requires { number < 100 }
     ensures { OnOk result (out.new.items ≡ out.old.items ++ asm_line number line) }
 {
-    put(out, "refused A")?;
-    put_two_digits(out, number)?;
-    put_numbered(alloc, out, " at line ", line)?;
-    put(out, "\n")
+    put_refused(alloc, out, "refused A", number, " at line ", line)
 }
 
 fn put_place(
