@@ -47,7 +47,7 @@ nothing_begins s line promised blank b = absurd (blank_no_word (Bare b.0) line b
 nothing_says : {Z : Type 0} (statement : Statement) (words : List Word) (line : List ℕ) → IsLine [] line → IsLine words line → Say statement words → Z
 nothing_says statement words line blank is say = absurd (none_spelled AnyShortName statement words (line_once words [] line is blank) say.0)
 
-says_alike : (s t : Statement) (words others : List Word) (line : List ℕ) → IsLine words line → Say s words → IsLine others line → Say t others → AreAlike s t
+pub says_alike : (s t : Statement) (words others : List Word) (line : List ℕ) → IsLine words line → Say s words → IsLine others line → Say t others → AreAlike s t
 says_alike s t words others line is say other_is other =
     alike AnyShortName AnyShortName s t words say.0 (subst (λ (ws : List Word). Spells AnyShortName t ws) (line_once others words line other_is is) other.0)
 
@@ -89,7 +89,7 @@ code_may (Registers registers) i s a may = absurd a
 code_may (Label name) i s a may = absurd a
 code_may (Code j) i s a may = may.1
 
-has_words : (statement : Statement) (words : List Word) (line : List ℕ) → IsLine words line → Say statement words → HasWords line
+pub has_words : (statement : Statement) (words : List Word) (line : List ℕ) → IsLine words line → Say statement words → HasWords line
 has_words statement words line is say = (words, is, (statement, more_goals AnyShortName AnyName (λ skip name short. short.0) statement words say.0))
 
 blank_no_fault : (number : ℕ) (s : Situation) (line : List ℕ) (which : FaultNo) (at : ℕ) → IsLine [] line → LineFault number s line which at → ⊥
@@ -110,13 +110,13 @@ said_no_fault number s line statement ws _ _ l h may (LineFault.limit promised b
 said_no_fault number s line statement ws _ _ l h may (LineFault.procedures b has e many) = omega (arith, many, (head_may statement s (promises s line statement ws first.Head l h b) may).1)
 said_no_fault number s line statement ws _ _ l h may (LineFault.instructions i words body is say many) = omega (arith, many, code_may statement i s (says_alike statement (Code i) ws words line l h is say) may)
 
-line_no_fault : (number : ℕ) (s : Situation) (line : List ℕ) (said : Option Statement) (which : FaultNo) (at : ℕ) → LineSays s line said → LineFault number s line which at → ⊥
+pub line_no_fault : (number : ℕ) (s : Situation) (line : List ℕ) (said : Option Statement) (which : FaultNo) (at : ℕ) → LineSays s line said → LineFault number s line which at → ⊥
 line_no_fault number s line None which at l f = blank_no_fault number s line which at l f
 line_no_fault number s line (Some statement) which at l f = said_no_fault number s line statement l.0.0 which at l.0.1 l.0.2 l.1 f
 
 -- ---- two readings of the same lines
 
-both_alike : (number : ℕ) (s : Situation) (line : List ℕ) (a b : Option Statement) → LineSays s line a → LineSays s line b → after_line number a s ≡ after_line number b s
+pub both_alike : (number : ℕ) (s : Situation) (line : List ℕ) (a b : Option Statement) → LineSays s line a → LineSays s line b → after_line number a s ≡ after_line number b s
 both_alike number s line None None h k = refl
 both_alike number s line None (Some statement) h k = nothing_says statement k.0.0 line h k.0.1 k.0.2
 both_alike number s line (Some statement) None h k = nothing_says statement h.0.0 line k h.0.1 h.0.2
@@ -147,7 +147,7 @@ ahead_alike s line (Some statement) None a b h k e = nothing_says statement h.0.
 ahead_alike s line (Some statement) (Some other) a b h k e = ahead_by statement other a b (says_alike statement other h.0.0 k.0.0 line h.0.1 h.0.2 k.0.1 k.0.2) e
 
 -- the rest of another reading, from the situation of this one
-others_say : (number : ℕ) (s : Situation) (line : List ℕ) (more : List (List ℕ)) (x y : Option Statement) (others : List (Option Statement)) → LineSays s line x → LineSays s line y
+pub others_say : (number : ℕ) (s : Situation) (line : List ℕ) (more : List (List ℕ)) (x y : Option Statement) (others : List (Option Statement)) → LineSays s line x → LineSays s line y
     → LinesSay (number + 1) (after_line number y s) more others → LinesSay (number + 1) (after_line number x s) more others
 others_say number s line more x y others h k l = subst (λ (t : Situation). LinesSay (number + 1) t more others) (sym (both_alike number s line x y h k)) l
 
@@ -185,7 +185,7 @@ ends_whole number s (line ∷ more) (x ∷ held) (y ∷ said) h l =
     subst (λ (t : Situation). IsWhole (situation_from (number + 1) t said)) (both_alike number s line x y h.0 l.0)
     (ends_whole (number + 1) (after_line number x s) more held said h.2 (others_say number s line more x y said h.0 l.0 l.1))
 
-finished : (s : Situation) (at : ℕ) → IsWhole s → IsUnfinished s at → ⊥
+pub finished : (s : Situation) (at : ℕ) → IsWhole s → IsUnfinished s at → ⊥
 finished s at whole (inl start) = not_start s whole.0 start.0
 finished s at whole (inr empty) = whole_not_empty s whole empty.1
 
@@ -196,7 +196,7 @@ ahead_no_fault : (s : Situation) (ahead others : List (List ℕ)) (line : List �
 ahead_no_fault s ahead others line _ named e (unknown name words is n before absent) = absent (subst (λ (names : List (List ℕ)). Contains names name) e (named name words is n).1)
 ahead_no_fault s ahead others line _ named e (not_forward name words is n before) = (named name words is n).0 before
 
-line_is_same : (a b : List ℕ) → ◌≡◌ {A = Option (List ℕ)} (Some a) (Some b) → b ≡ a
+pub line_is_same : (a b : List ℕ) → ◌≡◌ {A = Option (List ℕ)} (Some a) (Some b) → b ≡ a
 line_is_same a b e = cc
 
 no_line : (line : List ℕ) (k : ℕ) → slice_get {X = List ℕ} [] k ≡ Some line → ⊥
