@@ -6,6 +6,7 @@ pub mod Found
 pub mod LabelMaps
 pub mod Linked
 pub mod Names
+pub mod OneFault
 pub mod Ones
 pub mod OwnLines
 pub mod Places

@@ -73,7 +73,7 @@ code_may : (statement : Statement) (i : Instr) (s : Situation) → AreAlike stat
 code_may (Code j) i s a may = may.1
 code_may statement i s a may = absurd a
 
-has_words : (statement : Statement) (words : List Word) (line : List ℕ) → IsLine words line → Say statement words → HasWords line
+pub has_words : (statement : Statement) (words : List Word) (line : List ℕ) → IsLine words line → Say statement words → HasWords line
 has_words statement words line is say = (words, is, (statement, spells_more AnyShortName AnyName (λ skip name short. short.0) statement words say.0))
 
 blank_no_fault : (number : ℕ) (s : Situation) (line : List ℕ) (which : FaultNo) (at : ℕ) → IsLine [] line → LineFault number s line which at → ⊥
@@ -94,7 +94,7 @@ said_no_fault number s line statement ws _ _ l h may (LineFault.limit promised b
 said_no_fault number s line statement ws _ _ l h may (LineFault.procedures b has e many) = omega (arith, many, (head_may statement s (promises s line statement ws first.Head l h b) may).1)
 said_no_fault number s line statement ws _ _ l h may (LineFault.instructions i words body is say many) = omega (arith, many, code_may statement i s (says_alike statement (Code i) ws words line l h is say) may)
 
-line_no_fault : (number : ℕ) (s : Situation) (line : List ℕ) (said : Option Statement) (which : FaultNo) (at : ℕ) → LineSays s line said → LineFault number s line which at → ⊥
+pub line_no_fault : (number : ℕ) (s : Situation) (line : List ℕ) (said : Option Statement) (which : FaultNo) (at : ℕ) → LineSays s line said → LineFault number s line which at → ⊥
 line_no_fault number s line None which at l f = blank_no_fault number s line which at l f
 line_no_fault number s line (Some statement) which at l f = said_no_fault number s line statement l.0.0 which at l.0.1 l.0.2 l.1 f
 
@@ -132,7 +132,7 @@ ends_whole number s (line ∷ more) (x ∷ held) (y ∷ said) h l =
     subst (λ (t : Situation). IsWhole (situation_from (number + 1) t said)) (both_alike number s line x y h.0 l.0)
     (ends_whole (number + 1) (after_line number x s) more held said h.2 (others_say number s line more x y said h.0 l.0 l.1))
 
-finished : (s : Situation) (at : ℕ) → IsWhole s → IsUnfinished s at → ⊥
+pub finished : (s : Situation) (at : ℕ) → IsWhole s → IsUnfinished s at → ⊥
 finished s at whole (inl start) = not_start s whole.0 start.0
 finished s at whole (inr empty) = whole_not_empty s whole empty.1
 

@@ -1,7 +1,13 @@
--- That a text spells one program.
+-- That a text spells one program, and that it has one first fault.
 use Rattle.std.specs.Prelude.{◌≡◌, ℕ, List}
 use Rattle.tw_code.specs.declared.procedure.Procedure.{Procedure}
+use Rattle.tw_asm.specs.declared.fault.FaultNo.{FaultNo}
+use Rattle.tw_asm.specs.Fault.{IsFirstFault}
 use Rattle.tw_asm.specs.Spelling.{SpellsProgram}
 
 abbrev pub SpellsOnce : Type 0
 SpellsOnce = (text : List ℕ) (p q : List Procedure) → SpellsProgram p text → SpellsProgram q text → p ≡ q
+
+-- one number, and one line
+abbrev pub OneFirstFault : Type 0
+OneFirstFault = (text : List ℕ) (which other : FaultNo) (line number : ℕ) → IsFirstFault text which line → IsFirstFault text other number → (which ≡ other) × (line ≡ number)

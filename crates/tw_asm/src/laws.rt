@@ -1,8 +1,13 @@
 //! What holds of all texts.
 
-ghost use Rattle.tw_asm.specs.Laws.{SpellsOnce};
+ghost use Rattle.tw_asm.specs.Laws.{OneFirstFault, SpellsOnce};
 
 /// A text spells at most one program. So the text that `disassemble` gives is assembled to the program that it was given.
 pub fn spells_once()
     ensures { SpellsOnce }
+{}
+
+/// A text has at most one first fault. So `assemble` can tell no other one, whatever its way.
+pub fn one_first_fault()
+    ensures { OneFirstFault }
 {}

@@ -11,4 +11,4 @@ mod reading;
 pub use assembler::assemble;
 pub use disassembler::disassemble;
 pub use fault::{AsmFault, FaultNo};
-pub use laws::spells_once;
+pub use laws::{one_first_fault, spells_once};

@@ -1,0 +1,227 @@
+-- A text has one first fault.
+use Rattle.std.proofs.Common.{◌≡◌, ℕ, zero, suc, ◌+◌, ◌≤◌, List, [], ◌∷◌, ◌++◌, length, take, drop, Option, inl, inr, refl, sym, subst, ap, ◌∙◌, arith}
+use Rattle.std.specs.List.{Contains, slice_get}
+use Rattle.std.specs.Str.Lines.{lines}
+use Rattle.tw_code.specs.declared.instr.Instr.{Instr}
+use Rattle.tw_lines.specs.Words.{Bare, IsLine, Word}
+use Rattle.tw_statement.specs.Statement.{Statement, Label, Code, AnyShortName, IsPromised, NamesLabel, Say}
+use Rattle.tw_statement.specs.declared.statement.First.{First}
+use Rattle.tw_statement.specs.declared.statement.First.TheVariants as first
+use Rattle.tw_asm.specs.declared.fault.FaultNo.{FaultNo}
+use Rattle.tw_asm.specs.Fault.{Stage, InBody, Begins, GoalFault, IsEndFault, IsFirstFault, IsFirstGoalFault, IsLineFault, IsUnfinished, LineFault, LineSays, LinesSay, MayBegin, Situation, after_line, at_start, labels_ahead, situation, situation_from, not_forward, unknown}
+use Rattle.tw_asm.proofs.Begins.{line_begins}
+use Rattle.tw_asm.proofs.Names.{named_once}
+use Rattle.tw_asm.proofs.Twice.{both_alike, line_is_same, others_say, says_alike}
+use Rattle.tw_asm.proofs.Unspelled.{finished, has_words, line_no_fault}
+use Rattle.tw_lines.proofs.Once.{first_word_once, line_once}
+use Rattle.tw_statement.proofs.Once.{one_promise}
+
+-- ---- faults of one line
+
+bare_same : (v w : List ℕ) → Bare v ≡ Bare w → v ≡ w
+bare_same v w e = cc
+
+begins_once : (s : Situation) (line : List ℕ) (p q : First) → Begins s line p → Begins s line q → p ≡ q
+begins_once s line p q b c =
+    let same = bare_same b.0 c.0 (first_word_once (Bare b.0) (Bare c.0) line b.1 c.1 b.2 c.2).0 in
+    one_promise p q c.0 (subst (IsPromised p) same b.3) c.3
+
+body_head : {Z : Type 0} → ◌≡◌ {A = First} first.Body first.Head → Z
+body_head e = absurd cc
+
+body_may : (s : Situation) → s.stage ≡ InBody → MayBegin s.stage first.Body
+body_may s body = subst (λ (stage : Stage). MayBegin stage first.Body) (sym body) (inr refl)
+
+label_begins : (s : Situation) (line name : List ℕ) (words : List Word) → s.stage ≡ InBody → IsLine words line → Say (Label name) words → Begins s line first.Body
+label_begins s line name words body is say = line_begins AnyShortName (Label name) words s line is say.0 (body_may s body)
+
+code_begins : (s : Situation) (line : List ℕ) (i : Instr) (words : List Word) → s.stage ≡ InBody → IsLine words line → Say (Code i) words → Begins s line first.Body
+code_begins s line i words body is say = line_begins AnyShortName (Code i) words s line is say.0 (body_may s body)
+
+line_faults : (number : ℕ) (s : Situation) (line : List ℕ) (a b : FaultNo) (m n : ℕ) → LineFault number s line a m → LineFault number s line b n → (a ≡ b) × (m ≡ n)
+line_faults number s line _ _ _ _ (LineFault.word some1 none1) (LineFault.word some2 none2) = (refl, refl)
+line_faults number s line _ _ _ _ (LineFault.word some1 none1) (LineFault.operand p2 b2 formless2) = absurd (none1 p2 b2)
+line_faults number s line _ _ _ _ (LineFault.word some1 none1) (LineFault.label_twice name2 words2 body2 is2 say2 c2) = absurd (none1 first.Body (label_begins s line name2 words2 body2 is2 say2))
+line_faults number s line _ _ _ _ (LineFault.word some1 none1) (LineFault.empty b2 has2 e2) = absurd (none1 first.Head b2)
+line_faults number s line _ _ _ _ (LineFault.word some1 none1) (LineFault.limit p2 b2 has2 full2 unsaid2) = absurd (none1 p2 b2)
+line_faults number s line _ _ _ _ (LineFault.word some1 none1) (LineFault.procedures b2 has2 full2 many2) = absurd (none1 first.Head b2)
+line_faults number s line _ _ _ _ (LineFault.word some1 none1) (LineFault.instructions i2 words2 body2 is2 say2 many2) = absurd (none1 first.Body (code_begins s line i2 words2 body2 is2 say2))
+line_faults number s line _ _ _ _ (LineFault.operand p1 b1 formless1) (LineFault.word some2 none2) = absurd (none2 p1 b1)
+line_faults number s line _ _ _ _ (LineFault.operand p1 b1 formless1) (LineFault.operand p2 b2 formless2) = (refl, refl)
+line_faults number s line _ _ _ _ (LineFault.operand p1 b1 formless1) (LineFault.label_twice name2 words2 body2 is2 say2 c2) = absurd (formless1 (has_words (Label name2) words2 line is2 say2))
+line_faults number s line _ _ _ _ (LineFault.operand p1 b1 formless1) (LineFault.empty b2 has2 e2) = absurd (formless1 has2)
+line_faults number s line _ _ _ _ (LineFault.operand p1 b1 formless1) (LineFault.limit p2 b2 has2 full2 unsaid2) = absurd (formless1 has2)
+line_faults number s line _ _ _ _ (LineFault.operand p1 b1 formless1) (LineFault.procedures b2 has2 full2 many2) = absurd (formless1 has2)
+line_faults number s line _ _ _ _ (LineFault.operand p1 b1 formless1) (LineFault.instructions i2 words2 body2 is2 say2 many2) = absurd (formless1 (has_words (Code i2) words2 line is2 say2))
+line_faults number s line _ _ _ _ (LineFault.label_twice name1 words1 body1 is1 say1 c1) (LineFault.word some2 none2) = absurd (none2 first.Body (label_begins s line name1 words1 body1 is1 say1))
+line_faults number s line _ _ _ _ (LineFault.label_twice name1 words1 body1 is1 say1 c1) (LineFault.operand p2 b2 formless2) = absurd (formless2 (has_words (Label name1) words1 line is1 say1))
+line_faults number s line _ _ _ _ (LineFault.label_twice name1 words1 body1 is1 say1 c1) (LineFault.label_twice name2 words2 body2 is2 say2 c2) = (refl, refl)
+line_faults number s line _ _ _ _ (LineFault.label_twice name1 words1 body1 is1 say1 c1) (LineFault.empty b2 has2 e2) = absurd (body_head (begins_once s line first.Body first.Head (label_begins s line name1 words1 body1 is1 say1) b2))
+line_faults number s line _ _ _ _ (LineFault.label_twice name1 words1 body1 is1 say1 c1) (LineFault.limit p2 b2 has2 full2 unsaid2) = absurd (unsaid2 (Label name1) words1 is1 say1)
+line_faults number s line _ _ _ _ (LineFault.label_twice name1 words1 body1 is1 say1 c1) (LineFault.procedures b2 has2 full2 many2) = absurd (body_head (begins_once s line first.Body first.Head (label_begins s line name1 words1 body1 is1 say1) b2))
+line_faults number s line _ _ _ _ (LineFault.label_twice name1 words1 body1 is1 say1 c1) (LineFault.instructions i2 words2 body2 is2 say2 many2) = absurd (says_alike (Label name1) (Code i2) words1 words2 line is1 say1 is2 say2)
+line_faults number s line _ _ _ _ (LineFault.empty b1 has1 e1) (LineFault.word some2 none2) = absurd (none2 first.Head b1)
+line_faults number s line _ _ _ _ (LineFault.empty b1 has1 e1) (LineFault.operand p2 b2 formless2) = absurd (formless2 has1)
+line_faults number s line _ _ _ _ (LineFault.empty b1 has1 e1) (LineFault.label_twice name2 words2 body2 is2 say2 c2) = absurd (body_head (begins_once s line first.Body first.Head (label_begins s line name2 words2 body2 is2 say2) b1))
+line_faults number s line _ _ _ _ (LineFault.empty b1 has1 e1) (LineFault.empty b2 has2 e2) = (refl, refl)
+line_faults number s line _ _ _ _ (LineFault.empty b1 has1 e1) (LineFault.limit p2 b2 has2 full2 unsaid2) = absurd (full2 (begins_once s line p2 first.Head b2 b1) e1)
+line_faults number s line _ _ _ _ (LineFault.empty b1 has1 e1) (LineFault.procedures b2 has2 full2 many2) = absurd (full2 e1)
+line_faults number s line _ _ _ _ (LineFault.empty b1 has1 e1) (LineFault.instructions i2 words2 body2 is2 say2 many2) = absurd (body_head (begins_once s line first.Body first.Head (code_begins s line i2 words2 body2 is2 say2) b1))
+line_faults number s line _ _ _ _ (LineFault.limit p1 b1 has1 full1 unsaid1) (LineFault.word some2 none2) = absurd (none2 p1 b1)
+line_faults number s line _ _ _ _ (LineFault.limit p1 b1 has1 full1 unsaid1) (LineFault.operand p2 b2 formless2) = absurd (formless2 has1)
+line_faults number s line _ _ _ _ (LineFault.limit p1 b1 has1 full1 unsaid1) (LineFault.label_twice name2 words2 body2 is2 say2 c2) = absurd (unsaid1 (Label name2) words2 is2 say2)
+line_faults number s line _ _ _ _ (LineFault.limit p1 b1 has1 full1 unsaid1) (LineFault.empty b2 has2 e2) = absurd (full1 (begins_once s line p1 first.Head b1 b2) e2)
+line_faults number s line _ _ _ _ (LineFault.limit p1 b1 has1 full1 unsaid1) (LineFault.limit p2 b2 has2 full2 unsaid2) = (refl, refl)
+line_faults number s line _ _ _ _ (LineFault.limit p1 b1 has1 full1 unsaid1) (LineFault.procedures b2 has2 full2 many2) = (refl, refl)
+line_faults number s line _ _ _ _ (LineFault.limit p1 b1 has1 full1 unsaid1) (LineFault.instructions i2 words2 body2 is2 say2 many2) = (refl, refl)
+line_faults number s line _ _ _ _ (LineFault.procedures b1 has1 full1 many1) (LineFault.word some2 none2) = absurd (none2 first.Head b1)
+line_faults number s line _ _ _ _ (LineFault.procedures b1 has1 full1 many1) (LineFault.operand p2 b2 formless2) = absurd (formless2 has1)
+line_faults number s line _ _ _ _ (LineFault.procedures b1 has1 full1 many1) (LineFault.label_twice name2 words2 body2 is2 say2 c2) = absurd (body_head (begins_once s line first.Body first.Head (label_begins s line name2 words2 body2 is2 say2) b1))
+line_faults number s line _ _ _ _ (LineFault.procedures b1 has1 full1 many1) (LineFault.empty b2 has2 e2) = absurd (full1 e2)
+line_faults number s line _ _ _ _ (LineFault.procedures b1 has1 full1 many1) (LineFault.limit p2 b2 has2 full2 unsaid2) = (refl, refl)
+line_faults number s line _ _ _ _ (LineFault.procedures b1 has1 full1 many1) (LineFault.procedures b2 has2 full2 many2) = (refl, refl)
+line_faults number s line _ _ _ _ (LineFault.procedures b1 has1 full1 many1) (LineFault.instructions i2 words2 body2 is2 say2 many2) = (refl, refl)
+line_faults number s line _ _ _ _ (LineFault.instructions i1 words1 body1 is1 say1 many1) (LineFault.word some2 none2) = absurd (none2 first.Body (code_begins s line i1 words1 body1 is1 say1))
+line_faults number s line _ _ _ _ (LineFault.instructions i1 words1 body1 is1 say1 many1) (LineFault.operand p2 b2 formless2) = absurd (formless2 (has_words (Code i1) words1 line is1 say1))
+line_faults number s line _ _ _ _ (LineFault.instructions i1 words1 body1 is1 say1 many1) (LineFault.label_twice name2 words2 body2 is2 say2 c2) = absurd (says_alike (Label name2) (Code i1) words2 words1 line is2 say2 is1 say1)
+line_faults number s line _ _ _ _ (LineFault.instructions i1 words1 body1 is1 say1 many1) (LineFault.empty b2 has2 e2) = absurd (body_head (begins_once s line first.Body first.Head (code_begins s line i1 words1 body1 is1 say1) b2))
+line_faults number s line _ _ _ _ (LineFault.instructions i1 words1 body1 is1 say1 many1) (LineFault.limit p2 b2 has2 full2 unsaid2) = (refl, refl)
+line_faults number s line _ _ _ _ (LineFault.instructions i1 words1 body1 is1 say1 many1) (LineFault.procedures b2 has2 full2 many2) = (refl, refl)
+line_faults number s line _ _ _ _ (LineFault.instructions i1 words1 body1 is1 say1 many1) (LineFault.instructions i2 words2 body2 is2 say2 many2) = (refl, refl)
+
+-- ---- two readings of the same lines
+
+same_end : (number : ℕ) (s : Situation) (ls : List (List ℕ)) (said told : List (Option Statement)) → LinesSay number s ls said → LinesSay number s ls told
+    → situation_from number s said ≡ situation_from number s told
+same_end number s [] [] [] h l = refl
+same_end number s [] (x ∷ said) told h l = absurd h
+same_end number s [] [] (y ∷ told) h l = absurd l
+same_end number s (line ∷ more) [] told h l = absurd h
+same_end number s (line ∷ more) (x ∷ said) [] h l = absurd l
+same_end number s (line ∷ more) (x ∷ said) (y ∷ told) h l =
+    same_end (number + 1) (after_line number x s) more said told h.1 (others_say number s line more x y told h.0 l.0 l.1)
+    ∙ ap (λ (t : Situation). situation_from (number + 1) t told) (both_alike number s line x y h.0 l.0)
+
+same_at : (index number : ℕ) (s : Situation) (ls : List (List ℕ)) (said told : List (Option Statement)) → LinesSay number s ls said → LinesSay number s ls told
+    → situation_from number s (take index said) ≡ situation_from number s (take index told)
+same_at zero number s ls said told h l = refl
+same_at (suc k) number s [] [] [] h l = refl
+same_at (suc k) number s [] (x ∷ said) told h l = absurd h
+same_at (suc k) number s [] [] (y ∷ told) h l = absurd l
+same_at (suc k) number s (line ∷ more) [] told h l = absurd h
+same_at (suc k) number s (line ∷ more) (x ∷ said) [] h l = absurd l
+same_at (suc k) number s (line ∷ more) (x ∷ said) (y ∷ told) h l =
+    same_at k (number + 1) (after_line number x s) more said told h.1 (others_say number s line more x y told h.0 l.0 l.1)
+    ∙ ap (λ (t : Situation). situation_from (number + 1) t (take k told)) (both_alike number s line x y h.0 l.0)
+
+-- ---- the first line that can't follow
+
+head_line_is : (x y : List ℕ) (xs ys : List (List ℕ)) → ◌≡◌ {A = List (List ℕ)} (x ∷ xs) (y ∷ ys) → x ≡ y
+head_line_is x y xs ys e = cc
+
+more_lines_are : (x y : List ℕ) (xs ys : List (List ℕ)) → ◌≡◌ {A = List (List ℕ)} (x ∷ xs) (y ∷ ys) → xs ≡ ys
+more_lines_are x y xs ys e = cc
+
+line_fault_at : (k l : ℕ) (t u : Situation) (line next : List ℕ) (which : FaultNo) (at : ℕ) → l ≡ k → u ≡ t → next ≡ line → LineFault l u next which at → LineFault k t line which at
+line_fault_at k l t u line next which at e f g h =
+    subst (λ (z : List ℕ). LineFault k t z which at) g (subst (λ (v : Situation). LineFault k v next which at) f (subst (λ (j : ℕ). LineFault j u next which at) e h))
+
+one_line_fault : (number : ℕ) (s : Situation) (before after : List (List ℕ)) (line next : List ℕ) (others more : List (List ℕ)) (said told : List (Option Statement)) (k l : ℕ) (t u : Situation) (a b : FaultNo) (m n : ℕ)
+    → before ++ (line ∷ others) ≡ after ++ (next ∷ more) → LinesSay number s before said → LinesSay number s after told → k ≡ length before + number → l ≡ length after + number
+    → situation_from number s said ≡ t → situation_from number s told ≡ u → LineFault k t line a m → LineFault l u next b n → (a ≡ b) × (m ≡ n)
+one_line_fault number s [] [] line next others more [] [] k l t u a b m n e h j ke le te ue f g =
+    line_faults k t line a b m n f (line_fault_at k l t u line next b n (omega (arith, ke, le)) (sym ue ∙ te) (sym (head_line_is line next others more e)) g)
+one_line_fault number s [] [] line next others more (x ∷ said) told k l t u a b m n e h j ke le te ue f g = absurd h
+one_line_fault number s [] [] line next others more [] (y ∷ told) k l t u a b m n e h j ke le te ue f g = absurd j
+one_line_fault number s [] (second ∷ after) line next others more [] [] k l t u a b m n e h j ke le te ue f g = absurd j
+one_line_fault number s [] (second ∷ after) line next others more [] (y ∷ told) k l t u a b m n e h j ke le te ue f g =
+    absurd (line_no_fault k s second y a m j.0 (line_fault_at k k s t second line a m refl (sym te) (head_line_is line second others (after ++ (next ∷ more)) e) f))
+one_line_fault number s [] (second ∷ after) line next others more (x ∷ said) told k l t u a b m n e h j ke le te ue f g = absurd h
+one_line_fault number s (first ∷ before) [] line next others more [] told k l t u a b m n e h j ke le te ue f g = absurd h
+one_line_fault number s (first ∷ before) [] line next others more (x ∷ said) [] k l t u a b m n e h j ke le te ue f g =
+    absurd (line_no_fault l s first x b n h.0 (line_fault_at l l s u first next b n refl (sym ue) (sym (head_line_is first next (before ++ (line ∷ others)) more e)) g))
+one_line_fault number s (first ∷ before) [] line next others more (x ∷ said) (y ∷ told) k l t u a b m n e h j ke le te ue f g = absurd j
+one_line_fault number s (first ∷ before) (second ∷ after) line next others more [] told k l t u a b m n e h j ke le te ue f g = absurd h
+one_line_fault number s (first ∷ before) (second ∷ after) line next others more (x ∷ said) [] k l t u a b m n e h j ke le te ue f g = absurd j
+one_line_fault number s (first ∷ before) (second ∷ after) line next others more (x ∷ said) (y ∷ told) k l t u a b m n e h j ke le te ue f g =
+    let same = head_line_is first second (before ++ (line ∷ others)) (after ++ (next ∷ more)) e in
+    let here : LineSays s first y = subst (λ (z : List ℕ). LineSays s z y) (sym same) j.0 in
+    one_line_fault (number + 1) (after_line number x s) before after line next others more said told k l t u a b m n
+    (more_lines_are first second (before ++ (line ∷ others)) (after ++ (next ∷ more)) e) h.1 (others_say number s first after x y told h.0 here j.1)
+    (omega (arith, ke)) (omega (arith, le)) te (ap (λ (v : Situation). situation_from (number + 1) v told) (both_alike number s first x y h.0 here) ∙ ue) f g
+
+next_said : (number : ℕ) (s : Situation) (before : List (List ℕ)) (line : List ℕ) (more : List (List ℕ)) (said told : List (Option Statement)) → LinesSay number s (before ++ (line ∷ more)) said → LinesSay number s before told
+    → (x : Option Statement) × LineSays (situation_from number s told) line x
+next_said number s [] line more [] told h l = absurd h
+next_said number s [] line more (x ∷ said) [] h l = (x, h.0)
+next_said number s [] line more (x ∷ said) (y ∷ told) h l = absurd l
+next_said number s (first ∷ before) line more [] told h l = absurd h
+next_said number s (first ∷ before) line more (x ∷ said) [] h l = absurd l
+next_said number s (first ∷ before) line more (x ∷ said) (y ∷ told) h l =
+    let r = next_said (number + 1) (after_line number x s) before line more said told h.1 (others_say number s first before x y told h.0 l.0 l.1) in
+    (r.0, subst (λ (t : Situation). LineSays (situation_from (number + 1) t told) line r.0) (both_alike number s first x y h.0 l.0) r.1)
+
+-- where all lines can follow, no line has a fault
+no_line_fault : {Z : Type 0} (text : List ℕ) (which : FaultNo) (at : ℕ) (said : List (Option Statement)) → LinesSay 1 at_start (lines text) said → IsLineFault text which at → Z
+no_line_fault text which at said h f =
+    let next = next_said 1 at_start f.before f.line f.others said f.said (subst (λ (ls : List (List ℕ)). LinesSay 1 at_start ls said) f.parts h) f.say in
+    absurd (line_no_fault (length f.before + 1) (situation f.said) f.line next.0 which at next.1 f.wrong)
+
+-- ---- the text's end
+
+unfinished_once : (s : Situation) (m n : ℕ) → IsUnfinished s m → IsUnfinished s n → m ≡ n
+unfinished_once s m n (inl a) (inl b) = a.1 ∙ sym b.1
+unfinished_once s m n (inl a) (inr b) = absurd (b.0 a.0)
+unfinished_once s m n (inr a) (inl b) = absurd (a.0 b.0)
+unfinished_once s m n (inr a) (inr b) = a.2 ∙ sym b.2
+
+no_end_fault : {Z : Type 0} (text : List ℕ) (which other : FaultNo) (at number : ℕ) → IsEndFault text which at → IsFirstGoalFault text other number → Z
+no_end_fault text which other at number f g =
+    absurd (finished (situation g.0.said) at g.0.whole (subst (λ (t : Situation). IsUnfinished t at) (same_end 1 at_start (lines text) f.said g.0.said f.say g.0.say) f.unfinished))
+
+-- ---- goals
+
+name_once : (line name other : List ℕ) (words others : List Word) → IsLine words line → NamesLabel name words → IsLine others line → NamesLabel other others → name ≡ other
+name_once line name other words others is n other_is o = named_once name other words n (subst (NamesLabel other) (line_once others words line other_is is) o)
+
+goal_faults : (s : Situation) (ahead behind : List (List ℕ)) (line : List ℕ) (a b : FaultNo) → GoalFault s ahead line a → GoalFault s behind line b → a ≡ b
+goal_faults s ahead behind line _ _ (unknown name words is n before absent) (unknown other others other_is o before2 absent2) = refl
+goal_faults s ahead behind line _ _ (unknown name words is n before absent) (not_forward other others other_is o there) =
+    absurd (before (subst (Contains s.labels) (sym (name_once line name other words others is n other_is o)) there))
+goal_faults s ahead behind line _ _ (not_forward name words is n there) (unknown other others other_is o before absent) =
+    absurd (before (subst (Contains s.labels) (name_once line name other words others is n other_is o) there))
+goal_faults s ahead behind line _ _ (not_forward name words is n there) (not_forward other others other_is o there2) = refl
+
+goal_fault_at : (s t : Situation) (ahead : List (List ℕ)) (line next : List ℕ) (which : FaultNo) → s ≡ t → next ≡ line → GoalFault s ahead next which → GoalFault t ahead line which
+goal_fault_at s t ahead line next which e f g = subst (λ (z : List ℕ). GoalFault t ahead z which) f (subst (λ (v : Situation). GoalFault v ahead next which) e g)
+
+one_goal_fault : (text : List ℕ) (a b : FaultNo) (m n : ℕ) → IsFirstGoalFault text a m → IsFirstGoalFault text b n → (a ≡ b) × (m ≡ n)
+one_goal_fault text a b m n f g =
+    let low : m ≤ n = f.1 b n g.0 in
+    let high : n ≤ m = g.1 a m f.0 in
+    let index : g.0.index ≡ f.0.index = omega (arith, low, high, f.0.at_is, g.0.at_is) in
+    let there : situation_from 1 at_start (take g.0.index g.0.said) ≡ situation (take f.0.index f.0.said) =
+    ap (λ (k : ℕ). situation (take k g.0.said)) index ∙ same_at f.0.index 1 at_start (lines text) g.0.said f.0.said g.0.say f.0.say in
+    let line : g.0.line ≡ f.0.line = line_is_same f.0.line g.0.line (sym f.0.line_is ∙ ap (slice_get (lines text)) (sym index) ∙ g.0.line_is) in (
+      goal_faults (situation (take f.0.index f.0.said)) (labels_ahead (drop (f.0.index + 1) f.0.said)) (labels_ahead (drop (g.0.index + 1) g.0.said)) f.0.line a b f.0.wrong
+          (goal_fault_at (situation (take g.0.index g.0.said)) (situation (take f.0.index f.0.said)) (labels_ahead (drop (g.0.index + 1) g.0.said)) f.0.line g.0.line b there line g.0.wrong),
+      omega (arith, low, high),
+    )
+
+-- ---- the first fault
+
+pub one_first_fault : (text : List ℕ) (which other : FaultNo) (line number : ℕ) → IsFirstFault text which line → IsFirstFault text other number → (which ≡ other) × (line ≡ number)
+one_first_fault text which other line number (inl f) (inl g) =
+    one_line_fault 1 at_start f.before g.before f.line g.line f.others g.others f.said g.said (length f.before + 1) (length g.before + 1) (situation f.said) (situation g.said) which other line number
+    (sym f.parts ∙ g.parts) f.say g.say refl refl refl refl f.wrong g.wrong
+one_first_fault text which other line number (inl f) (inr (inl g)) = no_line_fault text which line g.said g.say f
+one_first_fault text which other line number (inl f) (inr (inr g)) = no_line_fault text which line g.0.said g.0.say f
+one_first_fault text which other line number (inr (inl f)) (inl g) = no_line_fault text other number f.said f.say g
+one_first_fault text which other line number (inr (inr f)) (inl g) = no_line_fault text other number f.0.said f.0.say g
+one_first_fault text which other line number (inr (inl f)) (inr (inl g)) = (
+  f.number ∙ sym g.number,
+  unfinished_once (situation g.said) line number (subst (λ (t : Situation). IsUnfinished t line) (same_end 1 at_start (lines text) f.said g.said f.say g.say) f.unfinished) g.unfinished,
+)
+one_first_fault text which other line number (inr (inl f)) (inr (inr g)) = no_end_fault text which other line number f g
+one_first_fault text which other line number (inr (inr f)) (inr (inl g)) = no_end_fault text other which number line g f
+one_first_fault text which other line number (inr (inr f)) (inr (inr g)) = one_goal_fault text which other line number f g
