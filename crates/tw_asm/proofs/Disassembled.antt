@@ -261,24 +261,15 @@ written_program (p ∷ program) h =
       writes = writes_both (procedure_lines p) (disassembly program) first.words others.words first.writes others.writes;
     }
 
-record IsWholeText (program : List Procedure) (text : List ℕ) : Type 0 where
-  pub words : List (List Word)
-  pub spell : SpellProcedures program words
-  pub written : IsWritten text words
-
-whole_text : (program : List Procedure) → AllByRecursion IsProcedure program → IsWholeText program (disassembly program)
+whole_text : (program : List Procedure) (h : AllByRecursion IsProcedure program) → IsWritten (disassembly program) (written_program program h).words
 whole_text program h =
     let w = written_program program h in
-    record {
-      words = w.words;
-      spell = w.spell;
-      written = subst (λ (text : List ℕ). IsWritten text w.words) (append-nil (disassembly program)) (subst (λ (words : List (List Word)). IsWritten (disassembly program ++ []) words) (append-nil w.words) (w.writes [] [] nothing));
-    }
+    subst (λ (text : List ℕ). IsWritten text w.words) (append-nil (disassembly program)) (subst (λ (words : List (List Word)). IsWritten (disassembly program ++ []) words) (append-nil w.words) (w.writes [] [] nothing))
 
 pub disassembly_spells : (program : List Procedure) → IsProgram program → SpellsProgram program (disassembly program)
 disassembly_spells program h =
-    let w = whole_text program h.1 in
-    let t = w.written in
+    let w = written_program program h.1 in
+    let t = whole_text program h.1 in
     record {
       words = w.words;
       lines_are = subst (λ (ls : List (List ℕ)). HaveWords ls w.words) (sym (ap lines t.parts ∙ one_lines_back t.each_line t.single)) t.have;
@@ -287,4 +278,4 @@ disassembly_spells program h =
     }
 
 pub disassembly_text : (program : List Procedure) → IsProgram program → IsUtf8 (disassembly program)
-disassembly_text program h = (whole_text program h.1).written.utf8
+disassembly_text program h = (whole_text program h.1).utf8

@@ -92,39 +92,24 @@ linked_code all place _ _ _ (i ∷ is) (a_draft _ d ws labels drafts others q mo
     AreCode.instruction place i ws labels is others (linked_spells all place d.instr d.goal i ws q l.0) (linked_code all (place + 1) labels drafts others is more l.1)
 
 local_fits : (skip : ℕ) (i : LocalInstr) → skip ≤ 65535 → IsLocalInstr i → IsLocalInstr (local_with_skip skip i)
-local_fits skip (local.Int to value) f l = l
-local_fits skip (local.Text to text) f l = l
-local_fits skip (local.Copy to from) f l = l
 local_fits skip (local.Compute operation to left right old) f l = (l.0, l.1, l.2, (omega arith, f))
 local_fits skip (local.Concatenate to left right old) f l = (l.0, l.1, l.2, (omega arith, f))
-local_fits skip (local.Length to from) f l = l
-local_fits skip (local.Show to from) f l = l
 local_fits skip (local.ReadInt to from old) f l = (l.0, l.1, (omega arith, f))
 local_fits skip (local.Jump old) f l = (omega arith, f)
 local_fits skip (local.JumpEqual left right old) f l = (l.0, l.1, (omega arith, f))
 local_fits skip (local.JumpLess left right old) f l = (l.0, l.1, (omega arith, f))
-local_fits skip (local.Repeat turns) f l = l
-local_fits skip local.End f l = l
+local_fits skip i f l = l
 
 data_fits : (skip : ℕ) (i : DataInstr) → skip ≤ 65535 → IsDataInstr i → IsDataInstr (data_with_skip skip i)
-data_fits skip (on_data.New write read ty) f l = l
-data_fits skip (on_data.Store datum from) f l = l
-data_fits skip (on_data.Get to datum) f l = l
 data_fits skip (on_data.Insert container subscript member old) f l = (l.0, l.1, l.2, (omega arith, f))
 data_fits skip (on_data.Look member container subscript old) f l = (l.0, l.1, l.2, (omega arith, f))
-data_fits skip (on_data.Size to container) f l = l
 data_fits skip (on_data.SubscriptAt to container index old) f l = (l.0, l.1, l.2, (omega arith, f))
-data_fits skip (on_data.CopyRead to from) f l = l
-data_fits skip (on_data.CopyWrite to from) f l = l
-data_fits skip (on_data.DropRead right) f l = l
-data_fits skip (on_data.DropWrite right) f l = l
+data_fits skip i f l = l
 
 skip_fits : (skip : ℕ) (i : Instr) → skip ≤ 65535 → IsInstr i → IsInstr (with_skip skip i)
 skip_fits skip (instr.Local i) f l = local_fits skip i f l
 skip_fits skip (instr.Data i) f l = data_fits skip i f l
-skip_fits skip (instr.Rule action) f l = l
-skip_fits skip (instr.Put action) f l = l
-skip_fits skip instr.Ret f l = l
+skip_fits skip i f l = l
 
 linked_fits : (all : List Placed) (place : ℕ) (draft : Instr) (goal : Option (List ℕ)) (i : Instr) → IsInstr draft → IsLinkedTo all place goal draft i → IsInstr i
 linked_fits all place draft None i f l = subst IsInstr (sym l) f
