@@ -1,5 +1,5 @@
 -- A heap of numbers with the least one first.
-use Rattle.std.proofs.Common.{◌≡◌, ◌≤◌, ◌<◌, inl, inr, ℕ, Bool, true, false, cond, List, [], ◌∷◌, map, length, refl, sym, subst, nat_eq, nat_lt, Bor, arith}
+use Rattle.std.proofs.Common.{◌≡◌, ◌≤◌, ◌<◌, inl, inr, ℕ, Bool, true, false, cond, List, [], ◌∷◌, map, length, refl, sym, ap, subst, nat_eq, nat_lt, Bor, arith}
 use Rattle.std.proofs.lemmas.Bool.Decides.{nat_tests}
 use Rattle.std.specs.declared.cmp.Ordering.{Ordering}
 use Rattle.std.specs.declared.cmp.Ordering.TheVariants.{Less, Equal, Greater}
@@ -77,6 +77,12 @@ popped items rest (Some x) least size is len none moved upper heap =
 
     same : x.0 ≡ least
     same = omega (arith, under, over)
+
+-- an item leaves only where there was one
+pub emptied : (items rest : List Item) (o : Option Item) (P : Type 0) → map number_of items ≡ [] → IfSome o (λ x. IsPermutation items (x ∷ rest)) → IfNone o ((rest ≡ items) × P) → map number_of rest ≡ []
+emptied [] rest None P e moved same = ap (map number_of) same.0
+emptied [] rest (Some x) P e moved same = absurd (contains_none x (Contains-permutation _ _ x (IsPermutation-sym _ _ moved) (contains_here x rest)))
+emptied (y ∷ items) rest o P e moved same = cc
 
 pub fewer : (xs ys : List ℕ) (x : ℕ) → IsPermutation xs (x ∷ ys) → length ys < length xs
 fewer xs ys x moved = let same : length (x ∷ ys) ≡ length xs = length_permutation xs (x ∷ ys) moved in omega arith

@@ -107,6 +107,7 @@ impl Releases {
     /// Takes the least number out.
     pub fn drop_first(&mut self)
         ensures rest { IsWithoutLeast self.old.numbers self.new.numbers }
+        ensures none { self.old.numbers ≡ [] → self.new.numbers ≡ [] }
         ensures promised { self.new.promised ≡ self.old.promised }
         ensures room { self.old.has_room ≡ true → self.new.has_room ≡ true }
     {
