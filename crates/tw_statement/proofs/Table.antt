@@ -51,159 +51,54 @@ made instr.Ret = (op.Ret, tt, refl)
 
 pub parts_are : (o : Opcode) (x : LineContent (line_of o)) → instr_parts (instr_of o x) ≡ Name (word_of o) ∷ parts_of (line_of o) x
 parts_are op.Int x = refl
-parts_are op.Text x = refl
-parts_are op.Copy x = refl
-parts_are (op.Compute operation) x = refl
-parts_are op.Concatenate x = refl
-parts_are op.Length x = refl
-parts_are op.Show x = refl
-parts_are op.ReadInt x = refl
-parts_are op.Jump x = refl
-parts_are op.JumpEqual x = refl
-parts_are op.JumpLess x = refl
-parts_are op.Repeat x = refl
-parts_are op.End x = refl
-parts_are op.New x = refl
-parts_are op.Store x = refl
-parts_are op.Get x = refl
-parts_are op.Insert x = refl
-parts_are op.Look x = refl
-parts_are op.Size x = refl
-parts_are op.SubscriptAt x = refl
-parts_are op.CopyRead x = refl
-parts_are op.CopyWrite x = refl
-parts_are op.DropRead x = refl
-parts_are op.DropWrite x = refl
-parts_are op.Rule x = refl
-parts_are op.Put x = refl
-parts_are op.Ret x = refl
+parts_are o x = refl
 
 pub within : (o : Opcode) (x : LineContent (line_of o)) → MayParts (line_of o) x → IsInstr (instr_of o x)
-within op.Int x m = m
-within op.Text x m = m
-within op.Copy x m = m
 within (op.Compute operation) x m = (m.0, m.1.0, m.1.1.0, m.1.1.1)
 within op.Concatenate x m = (m.0, m.1.0, m.1.1.0, m.1.1.1)
-within op.Length x m = m
-within op.Show x m = m
 within op.ReadInt x m = (m.0, m.1.0, m.1.1)
-within op.Jump x m = m
 within op.JumpEqual x m = (m.0, m.1.0, m.1.1)
 within op.JumpLess x m = (m.0, m.1.0, m.1.1)
-within op.Repeat x m = m
-within op.End x m = m
 within op.New x m = (m.0, m.1.0, m.1.1)
-within op.Store x m = m
-within op.Get x m = m
 within op.Insert x m = (m.0, m.1.0, m.1.1.0, m.1.1.1)
 within op.Look x m = (m.0, m.1.0, m.1.1.0, m.1.1.1)
-within op.Size x m = m
 within op.SubscriptAt x m = (m.0, m.1.0, m.1.1.0, m.1.1.1)
-within op.CopyRead x m = m
-within op.CopyWrite x m = m
-within op.DropRead x m = m
-within op.DropWrite x m = m
 within op.Rule x m = record { procedure = m.0; priority = m.1.0; target = m.1.1.0; args = m.1.1.1 }
 within op.Put x m = record { procedure = m.0; priority = m.1.0; target = m.1.1.0; args = m.1.1.1 }
-within op.Ret x m = m
+within o x m = m
 
 pub within_back : (o : Opcode) (x : LineContent (line_of o)) → IsInstr (instr_of o x) → MayParts (line_of o) x
-within_back op.Int x m = m
-within_back op.Text x m = m
-within_back op.Copy x m = m
 within_back (op.Compute operation) x m = (m.0, (m.1, (m.2, m.3)))
 within_back op.Concatenate x m = (m.0, (m.1, (m.2, m.3)))
-within_back op.Length x m = m
-within_back op.Show x m = m
 within_back op.ReadInt x m = (m.0, (m.1, m.2))
-within_back op.Jump x m = m
 within_back op.JumpEqual x m = (m.0, (m.1, m.2))
 within_back op.JumpLess x m = (m.0, (m.1, m.2))
-within_back op.Repeat x m = m
-within_back op.End x m = m
 within_back op.New x m = (m.0, (m.1, m.2))
-within_back op.Store x m = m
-within_back op.Get x m = m
 within_back op.Insert x m = (m.0, (m.1, (m.2, m.3)))
 within_back op.Look x m = (m.0, (m.1, (m.2, m.3)))
-within_back op.Size x m = m
 within_back op.SubscriptAt x m = (m.0, (m.1, (m.2, m.3)))
-within_back op.CopyRead x m = m
-within_back op.CopyWrite x m = m
-within_back op.DropRead x m = m
-within_back op.DropWrite x m = m
 within_back op.Rule x m = (m.procedure, (m.priority, (m.target, m.args)))
 within_back op.Put x m = (m.procedure, (m.priority, (m.target, m.args)))
-within_back op.Ret x m = m
+within_back o x m = m
 
 -- ---- names
 
 pub named : (o : Opcode) → opcode_of (word_of o) ≡ Some o
 unfolding opcode_of
-named op.Int = refl
-named op.Text = refl
-named op.Copy = refl
 named (op.Compute Add) = refl
 named (op.Compute Subtract) = refl
 named (op.Compute Multiply) = refl
 named (op.Compute Divide) = refl
 named (op.Compute Remainder) = refl
-named op.Concatenate = refl
-named op.Length = refl
-named op.Show = refl
-named op.ReadInt = refl
-named op.Jump = refl
-named op.JumpEqual = refl
-named op.JumpLess = refl
-named op.Repeat = refl
-named op.End = refl
-named op.New = refl
-named op.Store = refl
-named op.Get = refl
-named op.Insert = refl
-named op.Look = refl
-named op.Size = refl
-named op.SubscriptAt = refl
-named op.CopyRead = refl
-named op.CopyWrite = refl
-named op.DropRead = refl
-named op.DropWrite = refl
-named op.Rule = refl
-named op.Put = refl
-named op.Ret = refl
+named o = refl
 
 pub no_colon : (o : Opcode) → before_colon (word_of o) ≡ None
-no_colon op.Int = refl
-no_colon op.Text = refl
-no_colon op.Copy = refl
 no_colon (op.Compute Add) = refl
 no_colon (op.Compute Subtract) = refl
 no_colon (op.Compute Multiply) = refl
 no_colon (op.Compute Divide) = refl
 no_colon (op.Compute Remainder) = refl
-no_colon op.Concatenate = refl
-no_colon op.Length = refl
-no_colon op.Show = refl
-no_colon op.ReadInt = refl
-no_colon op.Jump = refl
-no_colon op.JumpEqual = refl
-no_colon op.JumpLess = refl
-no_colon op.Repeat = refl
-no_colon op.End = refl
-no_colon op.New = refl
-no_colon op.Store = refl
-no_colon op.Get = refl
-no_colon op.Insert = refl
-no_colon op.Look = refl
-no_colon op.Size = refl
-no_colon op.SubscriptAt = refl
-no_colon op.CopyRead = refl
-no_colon op.CopyWrite = refl
-no_colon op.DropRead = refl
-no_colon op.DropWrite = refl
-no_colon op.Rule = refl
-no_colon op.Put = refl
-no_colon op.Ret = refl
+no_colon o = refl
 
 -- a name that is found is that of its instruction
 abbrev IsBack : List ℕ → Option Opcode → Type 0
