@@ -318,8 +318,8 @@ label_step number name goal sections head_line (Within section) all words s r m 
     let here : 0 + length section.drafts ≡ length section.drafts = omega arith in
     body_step sections head_line section (section.labels ++ (record { name = name; place = length section.drafts } ∷ [])) section.drafts all words s
     (λ body d.
-        subst (λ (k : ℕ). AreDrafts 0 (section.labels ++ (record { name = name; place = k } ∷ [])) section.drafts (body ++ (words ∷ []))) here
-        (label_more 0 section.labels section.drafts body name words d (plain (Label name) goal words g r) (read_limits (Label name) goal words r)))
+    subst (λ (k : ℕ). AreDrafts 0 (section.labels ++ (record { name = name; place = k } ∷ [])) section.drafts (body ++ (words ∷ []))) here
+    (label_more 0 section.labels section.drafts body name words d (plain (Label name) goal words g r) (read_limits (Label name) goal words r)))
     (new_name section.labels name (length section.drafts) s.place_is.once m.1) s.place_is.few
 
 code_step : (number : ℕ) (i : Instr) (goal : Option (List ℕ)) (sections : List Section) (head_line : ℕ) (place : Place) (all : List (List Word)) (words : List Word)

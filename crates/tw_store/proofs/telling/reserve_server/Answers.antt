@@ -23,5 +23,5 @@ returns-clause-reserved c =
     let at : c.server_of-server.result ≡ c.args.id % length c.args.queues.now.items = c.server_of-server.ensures.server ∙ ap (λ n. c.args.id % n) count in
     let inside : c.server_of-server.result < length c.args.queues.now.items = omega (arith, c.server_of-server.ensures.inside, count) in
     λ room.
-      let fit = fits c.args.queues.now.items c.index_mut-queue.result.now c.reserve.new.self c.server_of-server.result inside c.index_mut-queue.ensures.value c.args.id c.args.count at room in
-      search rules
+    let fit = fits c.args.queues.now.items c.index_mut-queue.result.now c.reserve.new.self c.server_of-server.result inside c.index_mut-queue.ensures.value c.args.id c.args.count at room in
+    search rules
