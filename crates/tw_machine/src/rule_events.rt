@@ -82,7 +82,7 @@ fn is_of_server(layout: Layout, server: u8, id: DatumId) -> bool
     server < servers && id.number() % u64::from(servers) == u64::from(server)
 }
 
-/// The oldest notice that the server delivers, if one waits.
+/// A notice that the server delivers, if one waits: the oldest, which no clause says.
 pub fn oldest_notice(layout: Layout, server: u8, notices: &Notices) -> Option<Notice>
     ensures { MatchOption result ((n : ANotice) → is_due layout server notices.now n ≡ false) (λ n. is_due layout server notices.now n ≡ true) }
 {

@@ -179,7 +179,7 @@ impl State {
         self.tables.rules.next_release(engine)
     }
 
-    /// The oldest notice that a server of the layout delivers, if one waits.
+    /// A notice that a server of the layout delivers, if one waits: the oldest, which no clause says.
     pub fn oldest_notice(&self, layout: Layout, server: u8) -> Option<Notice>
         ensures { MatchOption result ((n : ANotice) → is_due layout server self.now.notices n ≡ false) (λ n. is_due layout server self.now.notices n ≡ true) }
     {
