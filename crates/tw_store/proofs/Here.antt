@@ -1,4 +1,4 @@
-use Rattle.std.proofs.Common.{◌≡◌, ◌≢◌, ◌<◌, ◌≤◌, ◌%◌, ℕ, ℤ, Bool, true, false, cond, List, [], length, map, refl, sym, ap, subst, ◌∙◌, get_or, IfSome, IfNone, IsSome, Some, None, IfOk, is_some, not, option_and_then, option_map, arith, inl, inr, ◌⊎◌}
+use Rattle.std.proofs.Common.{◌≡◌, ◌≢◌, ◌≤◌, ◌%◌, ℕ, ℤ, Bool, true, false, cond, List, [], length, map, refl, sym, ap, subst, ◌∙◌, get_or, IfSome, IfNone, IsSome, Some, None, IfOk, is_some, option_map, arith, inl, inr, ◌⊎◌}
 use Rattle.std.proofs.lemmas.List.{length-map}
 use Rattle.std.specs.declared.option.Option.{Option}
 use Rattle.std.specs.declared.result.Result.{Result}
@@ -19,8 +19,8 @@ use Rattle.tw_store.specs.Placed.{PlacedDatum}
 use Rattle.tw_store.specs.Parts.{Queues, served_of, notices_in, rooms_in}
 use Rattle.tw_store.specs.Served.{Served, IsHere, IsNow, IsLeft, IsUnchanged, KeepsPlaces, queued, waiting_for, HasNoticeRoom}
 use Rattle.tw_store.specs.Slots.{Slots, StandsAs, AreSeated, live_of, places_of, datum_in, place_in, Remains, IsChanged, IsChangedAt, IsSettled}
-use Rattle.tw_store.proofs.Shown.{seat_of, IsSeat, search_slots, get_nowhere, StandsAt, StandsNowhere}
-use Rattle.tw_store.proofs.Remain.{live_at, place_at, some_is, of_some, if_some, place_stays, place_leaves, apart_left, seated_left}
+use Rattle.tw_store.proofs.Shown.{seat_of, search_slots, get_nowhere, StandsAt, StandsNowhere}
+use Rattle.tw_store.proofs.Remain.{live_at, place_at, some_is, of_some, place_stays, place_leaves, apart_left, seated_left}
 
 -- the slot of a right that is live here
 pub record Seat (slots : Slots) (s : Served) (right : Right) (place : ℕ) : Type 0 where

@@ -1,9 +1,9 @@
 -- The ids of members that have places.
-use Rattle.std.proofs.Common.{◌≡◌, ◌≢◌, nat_eq, ℕ, zero, suc, ℤ, Bool, true, false, cond, ◌&&◌, T, List, [], ◌∷◌, Option, Some, None, refl, sym, ap, subst, ◌∙◌, map as each, length, slice_get, option_map, pos, negsuc, arith, ◌+◌, ◌≤◌, fold, drop, inl, inr}
-use Rattle.std.specs.Ordering.{int_cmp, eq_by_cmp, is_lt}
+use Rattle.std.proofs.Common.{◌≡◌, ◌≢◌, nat_eq, ℕ, zero, suc, ℤ, Bool, true, false, cond, T, List, [], ◌∷◌, Option, Some, None, refl, sym, ap, ◌∙◌, map as each, length, slice_get, option_map, pos, negsuc, arith, ◌+◌, ◌≤◌, fold, drop, inl, inr}
+use Rattle.std.specs.Ordering.{int_cmp, eq_by_cmp}
 use Rattle.std.specs.Cmp.{int_cmp_total}
 use Rattle.std.specs.FinMap as map
-use Rattle.std.specs.FinMap.{FinMap, int_cmp-IsAntisymmetric, find, is_sorted, entries, entries_sorted, entries-from_sorted, get-entries, get-insert, get-empty, len-entries, len-empty, same_map, empty_of_len}
+use Rattle.std.specs.FinMap.{int_cmp-IsAntisymmetric, find, is_sorted, entries, entries_sorted, entries-from_sorted, get-entries, get-insert, len-entries, len-empty, same_map, empty_of_len}
 use Rattle.std.specs.FinMap.Entries.{below_all}
 use Rattle.std.specs.Map.{keys_of}
 use Rattle.std.proofs.lemmas.List.{length-map, drop_all}

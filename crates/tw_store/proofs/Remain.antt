@@ -1,16 +1,16 @@
 -- Slots of which some are left, with what was known of them.
-use Rattle.std.proofs.Common.{◌≡◌, ◌≢◌, ◌<◌, ◌+◌, ◌-◌, ℕ, ℤ, suc, zero, Bool, true, false, cond, List, [], ◌∷◌, refl, sym, ap, subst, ◌∙◌, arith, get_or, set, inl, inr, ◌⊎◌, slice_get, option_map, fold, IfSome, IsSome, OnOk, OnErr}
+use Rattle.std.proofs.Common.{◌≡◌, ◌≢◌, ◌<◌, ◌+◌, ◌-◌, ℕ, ℤ, suc, zero, Bool, true, false, cond, List, [], ◌∷◌, refl, sym, ap, subst, ◌∙◌, arith, get_or, set, inl, inr, fold, IfSome, IsSome, OnOk, OnErr}
 use Rattle.std.specs.declared.option.Option.{Option}
 use Rattle.std.specs.declared.option.Option.TheVariants.{None, Some}
 use Rattle.std.specs.declared.result.Result.{Result}
 use Rattle.std.specs.declared.result.Result.TheVariants.{Ok, Err}
 use Rattle.std.proofs.lemmas.Bool.Decides.{eqb_tells}
-use Rattle.std.specs.Ordering.{nat_cmp, int_cmp, eq_by_cmp}
-use Rattle.std.specs.Cmp.{nat_cmp_total, int_cmp_total}
+use Rattle.std.specs.Ordering.{int_cmp, eq_by_cmp}
+use Rattle.std.specs.Cmp.{int_cmp_total}
 use Rattle.std.specs.FinMap as map
-use Rattle.std.specs.FinMap.{FinMap, get, insert, remove, get-insert}
-use Rattle.tw_types.specs.Store.{Data, Datum, Store, drop_read_within, settled, is_unheld, members_of, subscribers_cleared}
-use Rattle.tw_types.specs.StoreCalls.{changed, store_after, with_member}
+use Rattle.std.specs.FinMap.{get, insert, remove, get-insert}
+use Rattle.tw_types.specs.Store.{Datum, drop_read_within, settled, is_unheld, members_of, subscribers_cleared}
+use Rattle.tw_types.specs.StoreCalls.{with_member}
 use Rattle.tw_store.specs.declared.member.Member.{Member}
 use Rattle.tw_store.specs.declared.slot.Slot.{Slot}
 use Rattle.tw_store.specs.Placed.{PlacedDatum, PlacedMembers, with_placed_member}

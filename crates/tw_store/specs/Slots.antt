@@ -6,7 +6,7 @@ use Rattle.tw_types.specs.Store.{Data, Datum, Store}
 use Rattle.tw_types.specs.StoreCalls.{changed, store_after}
 use Rattle.tw_store.specs.declared.member.Member.{Member}
 use Rattle.tw_store.specs.declared.slot.Slot.{Slot}
-use Rattle.tw_store.specs.Placed.{PlacedDatum, PlacedMembers}
+use Rattle.tw_store.specs.Placed.{PlacedMembers}
 
 abbrev pub Slots : Type 0
 Slots = List (Option Slot)

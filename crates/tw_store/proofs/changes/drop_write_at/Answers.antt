@@ -1,5 +1,5 @@
 use Rattle.std.proofs.Common.{sym, ap}
-use Rattle.tw_types.specs.StoreCalls.{set_to, one_write_less}
+use Rattle.tw_types.specs.StoreCalls.{one_write_less}
 use Rattle.tw_store.specs.Placed.{PlacedDatum}
 use Rattle.tw_store.proofs.Remain.{written_remains, written_settled, seated_left, if_some}
 use Rattle.tw_store.proofs.changes.drop_write_at.Goals as goal

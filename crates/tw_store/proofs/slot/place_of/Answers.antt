@@ -1,6 +1,5 @@
-use Rattle.std.proofs.Common.{◌<◌, ℕ, zero, ap, inl, inr, refl, sym, arith, ◌∙◌}
+use Rattle.std.proofs.Common.{zero, ap, inl, inr, refl, sym, arith, ◌∙◌}
 use Rattle.slab.proofs.SlabLemmas.{Contains-cons, Contains-cons_cases, Contains-entries}
-use Rattle.tw_store.specs.declared.slot.Slot.{Slot}
 use Rattle.tw_store.proofs.slot.place_of.Goals as goal
 
 pub loop-place-init : goal.loop-place-init

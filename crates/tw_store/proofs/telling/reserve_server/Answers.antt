@@ -1,6 +1,5 @@
-use Rattle.std.proofs.Common.{◌≡◌, ◌<◌, ◌%◌, length, map, get_or, ap, sym, ◌∙◌, subst, arith, rules}
-use Rattle.tw_types.specs.Store.{notice_to}
-use Rattle.tw_store.proofs.Queues.{told_is, kept_is, same_is, room_is, fits}
+use Rattle.std.proofs.Common.{◌≡◌, ◌<◌, ◌%◌, length, ap, ◌∙◌, arith, rules}
+use Rattle.tw_store.proofs.Queues.{same_is, room_is, fits}
 use Rattle.tw_store.proofs.telling.reserve_server.Goals as goal
 
 pub returns-clause-same : goal.returns-clause-same

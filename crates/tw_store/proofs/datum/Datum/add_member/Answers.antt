@@ -1,6 +1,6 @@
 use Rattle.std.proofs.Common.{◌≡◌, sym, ap, ◌∙◌, arith, to_z-of_z, to_z, of_z, w64}
 use Rattle.std.specs.FinMap as map
-use Rattle.tw_types.specs.Store.{Members, Datum, Contains}
+use Rattle.tw_types.specs.Store.{Members, Contains}
 use Rattle.tw_store.specs.declared.datum.Content.{Content}
 use Rattle.tw_store.specs.Placed.{PlacedDatum, PlacedMembers, with_placed_member, content_of, placed_in, ids_of}
 use Rattle.tw_store.proofs.Ids.{insert_bare}

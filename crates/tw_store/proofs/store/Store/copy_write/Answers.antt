@@ -1,4 +1,4 @@
-use Rattle.std.proofs.Common.{◌<◌, sym, ap, subst}
+use Rattle.std.proofs.Common.{◌<◌, subst}
 use Rattle.tw_types.specs.StoreCalls.{one_write_more}
 use Rattle.tw_store.specs.Room.{HasWriteRoom}
 use Rattle.tw_store.specs.declared.slot.Slot.{Slot}

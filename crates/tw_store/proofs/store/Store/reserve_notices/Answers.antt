@@ -1,4 +1,4 @@
-use Rattle.std.proofs.Common.{◌≡◌, ◌≤◌, ◌%◌, sym, ap, subst, ◌∙◌, length, get_or, List}
+use Rattle.std.proofs.Common.{◌≤◌, ◌%◌, sym, ap, subst, length, get_or, List}
 use Rattle.std.specs.FinMap.{get}
 use Rattle.tw_types.specs.declared.notice.Subscriber.{Subscriber}
 use Rattle.tw_store.specs.Served.{waiting_for}

@@ -1,6 +1,5 @@
-use Rattle.std.proofs.Common.{sym, ap, ◌∙◌}
+use Rattle.std.proofs.Common.{ap, ◌∙◌}
 use Rattle.std.specs.FinMap as map
-use Rattle.tw_types.specs.StoreCalls.{subscript_after}
 use Rattle.tw_store.proofs.Here.{seat, is_there, read_is, members_is}
 use Rattle.tw_store.proofs.store.Store.size.Goals as goal
 

@@ -1,4 +1,4 @@
-use Rattle.std.proofs.Common.{◌≡◌, arith, to_z-of_z, to_z, of_z, w64, sym, ap, ◌∙◌}
+use Rattle.std.proofs.Common.{◌≡◌, arith, to_z-of_z, to_z, of_z, w64, ap, ◌∙◌}
 use Rattle.std.specs.FinMap as map
 use Rattle.tw_types.specs.StoreCalls.{subscript_after, members_in}
 use Rattle.tw_store.proofs.Here.{seat, is_there, read_is, members_is}

@@ -1,4 +1,3 @@
-use Rattle.std.proofs.Common.{sym, ap, ◌∙◌, Some}
 use Rattle.tw_store.proofs.Here.{seat, is_there, read_is}
 use Rattle.tw_store.proofs.store.Store.view_at.Goals as goal
 
