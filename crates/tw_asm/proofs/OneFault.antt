@@ -15,15 +15,13 @@ use Rattle.tw_asm.proofs.Twice.{both_alike, line_is_same, others_say, says_alike
 use Rattle.tw_asm.proofs.Unspelled.{finished, has_words, line_no_fault}
 use Rattle.tw_lines.proofs.Once.{first_word_once, line_once}
 use Rattle.tw_statement.proofs.Once.{one_promise}
+use Rattle.tw_statement.proofs.Spelled.{bare_is}
 
 -- ---- faults of one line
 
-bare_same : (v w : List ℕ) → Bare v ≡ Bare w → v ≡ w
-bare_same v w e = cc
-
 begins_once : (s : Situation) (line : List ℕ) (p q : First) → Begins s line p → Begins s line q → p ≡ q
 begins_once s line p q b c =
-    let same = bare_same b.0 c.0 (first_word_once (Bare b.0) (Bare c.0) line b.1 c.1 b.2 c.2).0 in
+    let same = bare_is b.0 c.0 (first_word_once (Bare b.0) (Bare c.0) line b.1 c.1 b.2 c.2).0 in
     one_promise p q c.0 (subst (IsPromised p) same b.3) c.3
 
 body_head : {Z : Type 0} → ◌≡◌ {A = First} first.Body first.Head → Z
