@@ -92,7 +92,7 @@ fn read_of<'a>(alloc: Global, words: &[Word<'a>]) -> Result<Statement<'a>, Refus
     }
 }
 
-/// The statement that words are, or the lowest number of what is wrong with them.
+/// The statement that words are, or what is wrong with them: their form before a limit.
 pub fn statement_of<'a>(alloc: Global, words: &[Word<'a>]) -> Result<Statement<'a>, Refusal>
     ensures { Answers result (map seen_word words.now) }
 {

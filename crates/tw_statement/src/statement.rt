@@ -8,7 +8,7 @@ use tw_types::{Items, Kind, Param, Scalar};
 pub enum Flaw {
     /// An operand has another form, or there are too few or too many.
     Form,
-    /// A number, a count, a name or a text is past its limit.
+    /// A number, a count, a nesting of containers, a name or a text is past its limit.
     Limit,
 }
 
