@@ -1,4 +1,4 @@
-//! Readers that are slow or fail in mid-stream, writers that fail, and words that could not be had.
+//! Readers that are slow, fail in mid-stream or never end, writers that fail, and words that could not be had.
 
 use std::alloc::Global;
 use std::io;
@@ -109,6 +109,35 @@ fn a_read_fails(rt: HostRuntime) -> Result<(), Fail> {
         );
         assert_eq!(rt; told, (true, true), "after {calls}");
     }
+    Ok(())
+}
+
+/// Gives digits without end, as many a call as there is room for, and counts them.
+#[derive(Drop)]
+struct Endless {
+    given: usize,
+}
+
+impl Read for Endless {
+    fn read(&mut self, buf: &mut [u8]) -> io::Result<usize> {
+        buf.fill(b'1');
+        self.given = self.given.saturating_add(buf.len());
+        Ok(buf.len())
+    }
+}
+
+#[test]
+fn no_byte_is_read_past_the_first_too_many(rt: HostRuntime) -> Result<(), Fail> {
+    let words = words(rt.alloc())?;
+    let mut reader = Endless { given: 0 };
+    let mut writer = Vec::new(rt.alloc());
+    let status = session(&rt, words.as_slice(), &mut reader, &mut writer).code();
+    let told = (
+        status,
+        writer.as_slice() == "refused H02\n".as_bytes(),
+        reader.given,
+    );
+    assert_eq!(rt; told, (1, true, 16_777_217));
     Ok(())
 }
 
