@@ -53,21 +53,18 @@ budget_within program all k own t inside at = by (slice_get program k) refl
 
 -- ---- and aren't refused
 
+pub not_accepted : (program : List Procedure) (p : Procedure) (number place : ℕ) → IsAcceptedProcedure program p → IsProcedureRefusal program p number place → ⊥
+not_accepted program p number place own (inl s) = let both : None ≡ Some number = sym (own.structured place) ∙ s.here in cc
+not_accepted program p number place own (inr (s, inl t)) = t.none (take (place + 1) own.typable.0) (well_typed_front program p own.typable.0 (length p.code) (place + 1) own.typable.1 (omega (arith, t.inside)))
+not_accepted program p number place own (inr (s, inr (t, b))) =
+    let over = b.over in
+    let walk = over.2 in
+    let most = own.budget.1.most walk.0 walk.1 in
+    absurd (omega (arith, over.1, walk.2, most, own.budget.2))
+
 pub not_both : (program : List Procedure) (number procedure place : ℕ) → IsAccepted program → IsFirstRefusal program number procedure place → ⊥
 not_both program number procedure place a (inl r) = let both : true ≡ false = sym a.main ∙ r.shape in cc
-not_both program number procedure place a (inr r) = by r.refusal
-  where
-    own : IsAcceptedProcedure program r.p
-    own = a.each procedure r.p r.here
-
-    by : IsProcedureRefusal program r.p number place → ⊥
-    by (inl s) = let both : None ≡ Some number = sym (own.structured place) ∙ s.here in cc
-    by (inr (s, inl t)) = t.none (take (place + 1) own.typable.0) (well_typed_front program r.p own.typable.0 (length r.p.code) (place + 1) own.typable.1 (omega (arith, t.inside)))
-    by (inr (s, inr (t, b))) =
-        let over = b.over in
-        let walk = over.2 in
-        let most = own.budget.1.most walk.0 walk.1 in
-        absurd (omega (arith, over.1, walk.2, most, own.budget.2))
+not_both program number procedure place a (inr r) = not_accepted program r.p number place (a.each procedure r.p r.here) r.refusal
 
 is_memory : (cause : VerifyRefusal) → (cause ≡ refusal.Memory) ⊎ (cause ≢ refusal.Memory)
 is_memory refusal.Memory = inl refl

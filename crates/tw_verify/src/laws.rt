@@ -1,7 +1,8 @@
-//! What holds of accepted programs when they run.
+//! What holds of all programs, and of accepted ones when they run.
 
 ghost use Rattle.tw_code.specs.machine.Holders.{Typings};
 ghost use Rattle.tw_invariant.specs.NoTrap.{AreRight, NoTrap};
+ghost use Rattle.tw_verify.specs.Laws.{AcceptedUnrefused, OneFirstRefusal};
 ghost use Rattle.tw_verify.specs.Typed.{typings_of};
 
 use crate::verified::Verified;
@@ -16,3 +17,10 @@ pub fn no_trap(verified: &Verified)
 {
     let _procedures = verified.program().procedures();
 }
+
+/// A program has at most one first refusal, and an accepted one has none. So `verify` can tell no other one, whatever its
+/// way.
+pub fn one_first_refusal()
+    ensures one { OneFirstRefusal }
+    ensures accepted { AcceptedUnrefused }
+{}

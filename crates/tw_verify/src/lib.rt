@@ -16,7 +16,7 @@ mod structure;
 mod verified;
 mod verifier;
 
-pub use laws::no_trap;
+pub use laws::{no_trap, one_first_refusal};
 pub use refused::Refused;
 pub use tw_invariant::{budgets_held, counts_held, notes_held, types_held};
 pub use tw_typing::{Right, Typing, VerifyRefusal};
