@@ -15,7 +15,8 @@ use crate::fault::{AsmFault, FaultNo};
 use indexmap::IndexMap;
 use std::alloc::Global;
 use tw_lines::{Word, words_of};
-use tw_statement::{Draft, First, Flaw, Refusal, Statement, first_of, statement_of};
+use tw_parser::{Flaw, Refusal, first_of, statement_of};
+use tw_statement::{Draft, First, Statement};
 use tw_types::{Items, Kind, Param, Scalar};
 
 /// An instruction whose goal isn't looked for yet, and the number of its line.

@@ -39,7 +39,6 @@ use Rattle.tw_lines.proofs.Writing.{AreWords, joined_line, joined_one_line, quot
 use Rattle.tw_statement.specs.Parts.{Literal, Name, Natural, Number, Part, Right, Skip, Target, TypeOf, Value, kind_word, mode_word, operation_word, param_parts, register_part, scalar_word, skip_among, skip_of, instr_parts}
 use Rattle.tw_statement.specs.Statement.{Code, Goals, HasForm, Head, IsInLimits, IsInName, IsName, Label, Registers, SpellParts, Spells, SpellsPart, SpellsWith, Statement, statement_parts}
 use Rattle.tw_statement.specs.Written.{goal_word, part_words}
-use Rattle.tw_statement.proofs.OperandWords.{apart}
 use Rattle.tw_statement.proofs.Quotes.{after_ascii, quoted_utf8}
 use Rattle.tw_statement.proofs.Rows.{both_true, different, is_last, row, skips_last, sort_of}
 
@@ -161,7 +160,7 @@ clear_by : (b : ℕ) (sign over under : Bool) → (b == 59) ≡ sign → nat_lt 
 clear_by b false true true s o u e =
     let low = ltb-true 34 b o in
     let high = ltb-true b 128 u in
-    (omega (arith, low), omega (arith, high), apart b 59 s)
+    (omega (arith, low), omega (arith, high), λ is. different b 59 is s)
 clear_by b sign over under s o u e = absurd cc
 
 is_clear-true : (b : ℕ) → is_clear b ≡ true → IsClear b

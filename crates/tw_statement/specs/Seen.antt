@@ -1,6 +1,6 @@
--- How contracts see what the code keeps of a statement, and what its readers answer.
+-- How contracts see what the code keeps of a statement, and of one whose label isn't known yet.
 use Rattle.std.specs.Borrow.{Bor}
-use Rattle.std.specs.Prelude.{◌≡◌, ℕ, List, Option, Some, None, Result, Ok, Err}
+use Rattle.std.specs.Prelude.{◌≡◌, ℕ, List, Option, Some, None}
 use Rattle.tw_code.specs.declared.instr.DataInstr.{DataInstr}
 use Rattle.tw_code.specs.declared.instr.DataInstr.TheVariants as on_data
 use Rattle.tw_code.specs.declared.instr.Instr.{Instr}
@@ -8,13 +8,9 @@ use Rattle.tw_code.specs.declared.instr.Instr.TheVariants as instr
 use Rattle.tw_code.specs.declared.instr.LocalInstr.{LocalInstr}
 use Rattle.tw_code.specs.declared.instr.LocalInstr.TheVariants as local
 use Rattle.tw_lines.specs.Words.{Word}
-use Rattle.tw_statement.specs.declared.statement.Flaw.{Flaw}
-use Rattle.tw_statement.specs.declared.statement.Flaw.TheVariants as flaw
-use Rattle.tw_statement.specs.declared.statement.Refusal.{Refusal}
-use Rattle.tw_statement.specs.declared.statement.Refusal.TheVariants as refusal
 use Rattle.tw_statement.specs.declared.statement.Statement as statements
 use Rattle.tw_statement.specs.declared.statement.Statement.TheVariants as statement
-use Rattle.tw_statement.specs.Statement.{Statement, Head, Registers, Label, Code, Goals, Spells, IsInLimits, IsShortName, HaveForm, Say, NamesLabel}
+use Rattle.tw_statement.specs.Statement.{Statement, Head, Registers, Label, Code, Goals, Spells, IsInLimits, IsShortName, NamesLabel}
 
 -- a statement, and the label that it names where it is an instruction
 pub record Read : Type 0 where
@@ -45,17 +41,6 @@ IsRead read words = IsInLimits read.statement × spelled read.goal
     spelled : Option (List ℕ) → Type 0
     spelled None = Spells NoName read.statement words
     spelled (Some name) = IsShortName name × Spells (OnlyName name) read.statement words × NamesLabel name words
-
--- what is wrong with these words, after a first word that promises a statement
-abbrev pub IsFlawed : Flaw → List Word → Type 0
-IsFlawed flaw.Form words = HaveForm words → ⊥
-IsFlawed flaw.Limit words = HaveForm words × ((statement : Statement) → Say statement words → ⊥)
-
--- what reading answers, memory aside
-abbrev pub Answers : Result statements.Statement Refusal → List Word → Type 0
-Answers (Ok read) words = IsRead (seen read) words
-Answers (Err refusal.OutOfMemory) words = Unit {0}
-Answers (Err (refusal.Flawed flaw)) words = IsFlawed flaw words
 
 -- ---- an instruction with another skip, where it has one
 

@@ -4,7 +4,7 @@ ghost use Rattle.std.specs.Prelude.{◌≡◌};
 ghost use Rattle.std.specs.List.{find};
 ghost use Rattle.std.specs.Str.{bytes_eq};
 ghost use Rattle.tw_statement.specs.Parts.{operation_word};
-ghost use Rattle.tw_statement.specs.reading.Lines.{opcode_of, word_of};
+ghost use Rattle.tw_statement.specs.Names.{opcode_of, word_of};
 
 use tw_code::Arithmetic;
 
@@ -98,7 +98,7 @@ fn named_among(name: &[u8], opcodes: &[Opcode]) -> Option<Opcode>
 }
 
 /// The instruction of this name.
-#[tactic(auto, unfolding(crate::specs::reading::Lines::opcode_of))]
+#[tactic(auto, unfolding(crate::specs::Names::opcode_of))]
 pub fn opcode_named(name: &[u8]) -> Option<Opcode>
     ensures { result ≡ opcode_of name.now }
 {

@@ -7,7 +7,7 @@ ghost use Rattle.tw_statement.specs.Parts.{kind_word, mode_word, scalar_word};
 ghost use Rattle.tw_statement.specs.Parts.{Name as name_part, Target as target_part, TypeOf as type_part, action_parts, data_parts, local_parts, param_parts};
 ghost use Rattle.tw_statement.specs.Statement.{Code, Head, Label, Registers};
 ghost use Rattle.tw_statement.specs.Written.{goal_word, line_of, part_words};
-ghost use Rattle.tw_statement.specs.reading.Lines.{word_of};
+ghost use Rattle.tw_statement.specs.Names.{word_of};
 ghost use Rattle.tw_statement.specs.words.Lines.{behind, call_words, line_of_parts, seen_operand};
 
 use crate::opcode::{Opcode, word_of};

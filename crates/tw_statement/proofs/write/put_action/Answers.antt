@@ -3,7 +3,7 @@ use Rattle.std.specs.Prelude.{OnOk}
 use Rattle.std.specs.List.{join_with_byte}
 use Rattle.tw_statement.specs.words.Lines.{call_words}
 use Rattle.tw_statement.proofs.Lines.{action_line, arg_words, wrote_arg, wrote_line}
-use Rattle.tw_statement.specs.reading.Lines.{word_of}
+use Rattle.tw_statement.specs.Names.{word_of}
 use Rattle.tw_statement.proofs.write.put_action.Goals as goal
 
 pub loop-register-preserved : goal.loop-register-preserved

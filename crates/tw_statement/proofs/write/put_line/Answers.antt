@@ -4,7 +4,7 @@ use Rattle.std.specs.List.{join_with_byte}
 use Rattle.tw_statement.specs.words.Lines.{seen_operand}
 use Rattle.tw_statement.specs.Written.{goal_word, part_words}
 use Rattle.tw_statement.proofs.Lines.{flat_mapped, wrote_item, wrote_line}
-use Rattle.tw_statement.specs.reading.Lines.{word_of}
+use Rattle.tw_statement.specs.Names.{word_of}
 use Rattle.tw_statement.proofs.write.put_line.Goals as goal
 
 pub loop-operand-preserved : goal.loop-operand-preserved

@@ -2,7 +2,7 @@ use Rattle.std.proofs.Common.{◌≡◌, ◌++◌, [], take}
 use Rattle.std.specs.List.{flat_map}
 use Rattle.tw_statement.specs.words.Lines.{behind, seen_operand}
 use Rattle.tw_statement.specs.Written.{goal_word, part_words}
-use Rattle.tw_statement.specs.reading.Lines.{word_of}
+use Rattle.tw_statement.specs.Names.{word_of}
 use Rattle.tw_statement.proofs.write.put_line.Given as goal
 
 abbrev pub invariant-loop-operand : goal.invariant-loop-operand

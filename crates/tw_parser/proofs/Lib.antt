@@ -1,0 +1,14 @@
+pub mod Answered
+pub mod Colons
+pub mod Firsts
+pub mod HeadWords
+pub mod Lined
+pub mod Names
+pub mod Numbers
+pub mod OperandWords
+pub mod ParamWords
+pub mod Readings
+pub mod Sayings
+pub mod Sequences
+pub mod Table
+pub mod Whole
