@@ -10,9 +10,9 @@ use Rattle.tw_types.specs.Store.{Data, Datum}
 use Rattle.tw_types.specs.Task.{Arg}
 use Rattle.tw_code.specs.machine.Arguments.{HandedOver, all_pass, handed_over, values_suit}
 use Rattle.tw_code.specs.machine.Rights.{Rights}
-use Rattle.tw_context.specs.declared.failure.Failure.{Failure}
-use Rattle.tw_context.specs.declared.failure.Failure.TheVariants as failure
-use Rattle.tw_context.specs.Attempts.{Fails}
+use Rattle.tw_local.specs.declared.failure.Failure.{Failure}
+use Rattle.tw_local.specs.declared.failure.Failure.TheVariants as failure
+use Rattle.tw_local.specs.Attempts.{Fails}
 
 -- what fails first
 pub fails_before : {A B : Type 0} (r : Result A Cause) (next : A → Result B Cause) (why : Failure) → Fails r why → Fails (r >>= next) why

@@ -5,8 +5,8 @@ use Rattle.tw_types.specs.Store.{Store}
 use Rattle.tw_code.specs.declared.instr.DataInstr.{DataInstr}
 use Rattle.tw_code.specs.machine.Data.{Context, data_instr}
 use Rattle.tw_code.specs.machine.State.{Frame}
-use Rattle.tw_context.specs.declared.failure.Failure.{Failure}
-use Rattle.tw_context.specs.Attempts.{Fails}
+use Rattle.tw_local.specs.declared.failure.Failure.{Failure}
+use Rattle.tw_local.specs.Attempts.{Fails}
 
 -- all that an instruction on data reads and changes
 abbrev pub context : Store → Notices → Frame → Context

@@ -7,19 +7,15 @@ ghost use Rattle.tw_code.specs.format.Program.{IsProgram};
 ghost use Rattle.tw_code.specs.machine.Arguments.{all_pass, called, handed_over, has_type, put_called, values_suit};
 ghost use Rattle.tw_code.specs.machine.Rights.{held};
 ghost use Rattle.tw_context.specs.Arguments.{arg_of, test_of};
-ghost use Rattle.tw_context.specs.Attempts.{Fails, Gives};
+ghost use Rattle.tw_local.specs.Attempts.{Fails, Gives};
 ghost use Rattle.tw_context.specs.Contexts.{context};
 
-use crate::code::procedure_of;
-use crate::failure::{Failure, must};
 use crate::frame::Frame;
-use crate::lists::keep;
-use crate::position::Position;
-use crate::registers::copy_at;
 use std::alloc::{AllocError, Global};
 use std::marker::Model;
 use tw_code::{Action, Procedure};
 use tw_data::{Data, Datum};
+use tw_local::{Failure, Position, copy_at, keep, must, procedure_of};
 use tw_types::{Cause, DatumId, Kind, Mode, Param, Value};
 
 /// An argument: a value, or a right on a datum.

@@ -5,10 +5,10 @@ ghost use Rattle.tw_code.specs.declared.instr.DataInstr.TheVariants.{Insert as I
 ghost use Rattle.tw_context.specs.Contexts.{DoesQuietly};
 ghost use Rattle.tw_context.specs.Room.{HasRoom};
 
-use crate::failure::Failure;
 use crate::frame::Frame;
-use crate::registers::{held, int_at, must_be_empty, must_have_type};
+use crate::registers::{held, must_be_empty};
 use tw_data::Data;
+use tw_local::{Failure, int_at, must_have_type};
 use tw_types::{Scalar, Value};
 
 pub fn insert(

@@ -4,13 +4,13 @@ ghost use Rattle.std.specs.Prelude.{◌<◌, ◌^◌};
 ghost use Rattle.tw_context.specs.Contexts.{Does};
 ghost use Rattle.tw_context.specs.Room.{HasRoom};
 
-use crate::failure::Failure;
 use crate::frame::Frame;
 use crate::notices::Notices;
 use crate::{containers, rights, scalars};
 use std::alloc::Global;
 use tw_code::DataInstr;
 use tw_data::Data;
+use tw_local::Failure;
 
 /// One instruction on data.
 pub fn data_instr(

@@ -6,27 +6,15 @@
 #![tactic(auto)]
 
 mod arguments;
-mod code;
 mod containers;
 mod data;
-mod failure;
 mod frame;
-mod lists;
-mod local;
 mod notices;
-mod position;
 mod registers;
 mod rights;
 mod scalars;
-mod stopped;
 
 pub use arguments::{Arg, Call, called, put_called};
-pub use code::{instr_at, procedure_of};
 pub use data::data_instr;
-pub use failure::Failure;
 pub use frame::Frame;
-pub use lists::keep;
-pub use local::local_steps;
 pub use notices::Notices;
-pub use position::Position;
-pub use stopped::Stopped;

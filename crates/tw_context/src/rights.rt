@@ -9,12 +9,12 @@ ghost use Rattle.tw_types.specs.StoreChecks.{may_drop_write};
 ghost use Rattle.tw_context.specs.Contexts.{Does, DoesQuietly};
 ghost use Rattle.tw_context.specs.Room.{HasRoom};
 
-use crate::failure::{Failure, must};
 use crate::frame::Frame;
 use crate::notices::Notices;
 use crate::registers::{held, must_be_empty};
 use std::alloc::{AllocError, Global};
 use tw_data::Data;
+use tw_local::{Failure, must};
 use tw_types::{Cause, DataType, DatumId};
 
 pub fn create(

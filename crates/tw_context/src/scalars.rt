@@ -11,15 +11,15 @@ ghost use Rattle.tw_types.specs.declared.cause.Cause.TheVariants.{UnsetDatum};
 ghost use Rattle.tw_types.specs.StoreCalls.{notices_of_stored, stored};
 ghost use Rattle.tw_types.specs.StoreCalls.{value_at as stored_at};
 ghost use Rattle.tw_types.specs.StoreChecks.{may_store};
-ghost use Rattle.tw_context.specs.Attempts.{Gives};
+ghost use Rattle.tw_local.specs.Attempts.{Gives};
 ghost use Rattle.tw_context.specs.Contexts.{Does, DoesQuietly};
 
-use crate::failure::{Failure, must};
 use crate::frame::Frame;
 use crate::notices::Notices;
-use crate::registers::{held, value_at};
+use crate::registers::held;
 use std::alloc::{AllocError, Global};
 use tw_data::{Data, Datum};
+use tw_local::{Failure, must, value_at};
 use tw_types::{Cause, DatumId, Value};
 
 /// Whether a value is of the type of a datum, where that is a live scalar.

@@ -8,7 +8,7 @@ ghost use Rattle.tw_code.specs.declared.procedure.Procedure.{Procedure as AProce
 ghost use Rattle.tw_code.specs.format.Program.{IsProgram};
 ghost use Rattle.tw_code.specs.machine.Machine.{call_event};
 ghost use Rattle.tw_code.specs.machine.State.{State as Meaning};
-ghost use Rattle.tw_context.specs.Attempts.{Changes};
+ghost use Rattle.tw_local.specs.Attempts.{Changes};
 ghost use Rattle.tw_context.specs.Room.{HasRoom};
 ghost use Rattle.tw_machine.specs.Events.{CallComes, HaveRoom, TablesCome, with_frames, with_tables};
 ghost use Rattle.tw_machine.specs.Parts.{frames_of};
@@ -17,7 +17,8 @@ use crate::tables::Tables;
 use std::alloc::Global;
 use std::collections::BTreeMap;
 use tw_code::{Action, DataInstr, Instr, Procedure};
-use tw_context::{Call, Frame, Stopped, called, data_instr, instr_at, procedure_of, put_called};
+use tw_context::{Call, Frame, called, data_instr, put_called};
+use tw_local::{Stopped, instr_at, procedure_of};
 use tw_types::{Actor, Kind};
 use tw_waiting::{Rule, Task};
 

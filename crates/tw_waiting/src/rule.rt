@@ -9,7 +9,8 @@ ghost use Rattle.tw_waiting.specs.Waiting.{right_in, unasked_id};
 use crate::task::Task;
 use std::alloc::{AllocError, Global};
 use std::marker::Model;
-use tw_context::{Arg, keep};
+use tw_context::Arg;
+use tw_local::keep;
 use tw_types::{DatumId, Kind, Mode, Param, Stage};
 
 /// A rule: the engine that holds it, what its task will be, with at most eight arguments, and the stage of each

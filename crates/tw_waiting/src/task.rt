@@ -6,13 +6,14 @@ ghost use Rattle.tw_code.specs.machine.State.{filled, frame_of, ids_in, values_i
 ghost use Rattle.tw_code.specs.machine.Rights.{first_rights};
 ghost use Rattle.tw_code.specs.machine.Opening.{main_task};
 ghost use Rattle.tw_types.specs.Value.{blank_of};
-ghost use Rattle.tw_context.specs.Attempts.{Fails, Gives};
+ghost use Rattle.tw_local.specs.Attempts.{Fails, Gives};
 ghost use Rattle.tw_context.specs.Arguments.{arg_of};
 
 use std::alloc::{AllocError, Global};
 use std::marker::Model;
 use tw_code::Procedure;
-use tw_context::{Arg, Failure, Frame, keep, procedure_of};
+use tw_context::{Arg, Frame};
+use tw_local::{Failure, keep, procedure_of};
 use tw_types::{Actor, Cause, DatumId, Kind, Scalar, TaskNo, Value};
 
 /// A task: its procedure with the kind of that, the target if it has one, and at most eight arguments.

@@ -1,7 +1,7 @@
 use Rattle.std.proofs.Common.{vec_len, ◌∙◌}
 use Rattle.tw_code.specs.machine.Position.{Loop}
-use Rattle.tw_context.proofs.Turns.{turn_again, turn_over}
-use Rattle.tw_context.proofs.position.end_turn_in.Goals as goal
+use Rattle.tw_local.proofs.Turns.{turn_again, turn_over}
+use Rattle.tw_local.proofs.position.end_turn_in.Goals as goal
 
 pub returns-then-inner-gt1-clause-next : goal.returns-then-inner-gt1-clause-next
 returns-then-inner-gt1-clause-next c =

@@ -7,7 +7,7 @@ ghost use Rattle.tw_code.specs.machine.Local.{local_instr, same_value};
 ghost use Rattle.tw_code.specs.machine.Machine.{local_step, local_steps};
 ghost use Rattle.tw_code.specs.machine.Position.{at_goal, at_next_place};
 ghost use Rattle.tw_code.specs.machine.Position.{Position as Where};
-ghost use Rattle.tw_context.specs.Attempts.{Changes, Gives, IsStopped, Leaves};
+ghost use Rattle.tw_local.specs.Attempts.{Changes, Gives, IsStopped, Leaves};
 
 use crate::code::instr_at;
 use crate::failure::Failure;

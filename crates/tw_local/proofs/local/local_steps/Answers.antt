@@ -1,7 +1,7 @@
 use Rattle.std.proofs.Common.{arith}
 use Rattle.std.proofs.lemmas.Result.{err_from_is_err_and}
-use Rattle.tw_context.proofs.Steps.{step_goes, step_stopped}
-use Rattle.tw_context.proofs.local.local_steps.Goals as goal
+use Rattle.tw_local.proofs.Steps.{step_goes, step_stopped}
+use Rattle.tw_local.proofs.local.local_steps.Goals as goal
 
 pub returns-in_err-local_step : goal.returns-in_err-local_step
 returns-in_err-local_step c =

@@ -5,9 +5,9 @@ use Rattle.tw_types.proofs.Outcomes.{went_first}
 use Rattle.tw_code.specs.declared.instr.Instr.{Instr}
 use Rattle.tw_code.specs.machine.Position.{Position}
 use Rattle.tw_code.specs.machine.Machine.{local_step, local_steps}
-use Rattle.tw_context.specs.declared.stopped.Stopped.{Stopped}
-use Rattle.tw_context.specs.Attempts.{IsStopped}
-use Rattle.tw_context.proofs.Stops.{stopped_then, stopped_is}
+use Rattle.tw_local.specs.declared.stopped.Stopped.{Stopped}
+use Rattle.tw_local.specs.Attempts.{IsStopped}
+use Rattle.tw_local.proofs.Stops.{stopped_then, stopped_is}
 
 -- the steps that are left begin with one
 next_step : (n k : ℕ) (code : List Instr) (at : Position) → k < n → local_steps (n - k) code at ≡ (local_step code at >>= local_steps (n - (k + 1)) code)

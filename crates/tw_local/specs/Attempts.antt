@@ -2,10 +2,10 @@
 use Rattle.std.specs.Prelude.{◌≡◌, Result, Ok, Err}
 use Rattle.tw_types.specs.declared.cause.Cause.{Cause}
 use Rattle.tw_types.specs.Outcome.{Outcome, Went, NotEnabled, Trap}
-use Rattle.tw_context.specs.declared.failure.Failure.{Failure}
-use Rattle.tw_context.specs.declared.failure.Failure.TheVariants as failure
-use Rattle.tw_context.specs.declared.stopped.Stopped.{Stopped}
-use Rattle.tw_context.specs.declared.stopped.Stopped.TheVariants as stopped
+use Rattle.tw_local.specs.declared.failure.Failure.{Failure}
+use Rattle.tw_local.specs.declared.failure.Failure.TheVariants as failure
+use Rattle.tw_local.specs.declared.stopped.Stopped.{Stopped}
+use Rattle.tw_local.specs.declared.stopped.Stopped.TheVariants as stopped
 
 -- ---- instructions
 

@@ -14,7 +14,7 @@ pub enum Stopped {
 
 impl From<Failure> for Stopped {
     ghost use Rattle.std.specs.Prelude.{◌≡◌};
-    ghost use Rattle.tw_context.specs.Attempts.{stopped_by};
+    ghost use Rattle.tw_local.specs.Attempts.{stopped_by};
 
     ghost from_gives = { λ failure stopped. stopped ≡ stopped_by failure };
 
@@ -28,7 +28,7 @@ impl From<Failure> for Stopped {
 
 impl From<AllocError> for Stopped {
     ghost use Rattle.std.specs.Prelude.{◌≡◌};
-    ghost use Rattle.tw_context.specs.declared.stopped.Stopped.TheVariants.{NoMemory};
+    ghost use Rattle.tw_local.specs.declared.stopped.Stopped.TheVariants.{NoMemory};
 
     ghost from_gives = { λ _ stopped. stopped ≡ NoMemory };
 
@@ -39,7 +39,7 @@ impl From<AllocError> for Stopped {
 
 impl<T: Drop> From<AllocFailed<T>> for Stopped {
     ghost use Rattle.std.specs.Prelude.{◌≡◌};
-    ghost use Rattle.tw_context.specs.declared.stopped.Stopped.TheVariants.{NoMemory};
+    ghost use Rattle.tw_local.specs.declared.stopped.Stopped.TheVariants.{NoMemory};
 
     ghost from_gives = { λ _ stopped. stopped ≡ NoMemory };
 

@@ -1,7 +1,7 @@
 //! Why an instruction isn't made.
 
 ghost use Rattle.tw_types.specs.Result.{must};
-ghost use Rattle.tw_context.specs.Attempts.{Gives};
+ghost use Rattle.tw_local.specs.Attempts.{Gives};
 
 use std::alloc::AllocError;
 use tw_types::Cause;
@@ -15,7 +15,7 @@ pub enum Failure {
 
 impl From<Cause> for Failure {
     ghost use Rattle.std.specs.Prelude.{◌≡◌};
-    ghost use Rattle.tw_context.specs.declared.failure.Failure.TheVariants.{Trap};
+    ghost use Rattle.tw_local.specs.declared.failure.Failure.TheVariants.{Trap};
 
     ghost from_gives = { λ cause failure. failure ≡ Trap cause };
 
@@ -26,7 +26,7 @@ impl From<Cause> for Failure {
 
 impl From<AllocError> for Failure {
     ghost use Rattle.std.specs.Prelude.{◌≡◌};
-    ghost use Rattle.tw_context.specs.declared.failure.Failure.TheVariants.{NoMemory};
+    ghost use Rattle.tw_local.specs.declared.failure.Failure.TheVariants.{NoMemory};
 
     ghost from_gives = { λ _ failure. failure ≡ NoMemory };
 
