@@ -1,8 +1,3 @@
-pub mod Members
-pub mod InputReading
-pub mod InputLaws
-pub mod Options
-pub mod Words
 pub mod Reports
 pub mod Openings
 pub mod Checks

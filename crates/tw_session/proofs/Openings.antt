@@ -10,7 +10,7 @@ use Rattle.tw_machine.specs.PlainView.{PlainView}
 use Rattle.tw_machine.specs.declared.refusal.OpenRefusal.{OpenRefusal}
 use Rattle.tw_machine.specs.declared.refusal.OpenRefusal.TheVariants.{InputCount, InputType, Memory, MainShape}
 use Rattle.tw_machine.specs.Opening.{IsTold, open_refusal_number, refusal_of}
-use Rattle.tw_session.specs.declared.command.RunOrder.{RunOrder}
+use Rattle.tw_command.specs.declared.command.RunOrder.{RunOrder}
 use Rattle.tw_session.specs.declared.status.Close.TheVariants.{Refused}
 use Rattle.tw_session.specs.Lines.{opening_line}
 use Rattle.tw_session.specs.Session.{Reply, reply, RepliesByLayout, RepliesByOpening}

@@ -9,9 +9,9 @@ use Rattle.tw_asm.specs.Answers.{HasFault, IsFault}
 use Rattle.tw_asm.specs.declared.fault.FaultNo.{FaultNo}
 use Rattle.tw_asm.specs.declared.fault.FaultNo.TheVariants as asm
 use Rattle.tw_session.specs.Input.{most_bytes}
-use Rattle.tw_session.specs.CommandLine.{Asked, IsAsked}
+use Rattle.tw_command.specs.CommandLine.{Asked, IsAsked}
 use Rattle.tw_session.specs.Session.{Reply, reply, RepliesByInput, MayReply, MayAnswer, ComesOf}
-use Rattle.tw_session.specs.declared.command.Order.{Order}
+use Rattle.tw_command.specs.declared.command.Order.{Order}
 use Rattle.tw_session.specs.declared.status.Close.{Close}
 use Rattle.tw_session.specs.declared.status.Close.TheVariants.{Refused}
 use Rattle.tw_session.specs.declared.status.Status.{Status}

@@ -12,13 +12,13 @@ use Rattle.tw_code.specs.machine.State.{State}
 use Rattle.tw_code.specs.machine.Inputs.{has_input_count, has_fitting_inputs}
 use Rattle.tw_code.specs.accepting.Needs.{HasTargets}
 use Rattle.tw_code.specs.accepting.WellTyped.{IsAccepted, IsFirstRefusal}
-use Rattle.tw_session.specs.declared.command.Order.{Order}
-use Rattle.tw_session.specs.declared.command.Order.TheVariants.{Assemble, Program}
-use Rattle.tw_session.specs.declared.command.ProgramOrder.{ProgramOrder}
-use Rattle.tw_session.specs.declared.command.ProgramOrder.TheVariants.{Disassemble, Verified}
-use Rattle.tw_session.specs.declared.command.VerifiedOrder.{VerifiedOrder}
-use Rattle.tw_session.specs.declared.command.VerifiedOrder.TheVariants.{Check, Run}
-use Rattle.tw_session.specs.declared.command.RunOrder.{RunOrder}
+use Rattle.tw_command.specs.declared.command.Order.{Order}
+use Rattle.tw_command.specs.declared.command.Order.TheVariants.{Assemble, Program}
+use Rattle.tw_command.specs.declared.command.ProgramOrder.{ProgramOrder}
+use Rattle.tw_command.specs.declared.command.ProgramOrder.TheVariants.{Disassemble, Verified}
+use Rattle.tw_command.specs.declared.command.VerifiedOrder.{VerifiedOrder}
+use Rattle.tw_command.specs.declared.command.VerifiedOrder.TheVariants.{Check, Run}
+use Rattle.tw_command.specs.declared.command.RunOrder.{RunOrder}
 use Rattle.tw_session.specs.declared.status.Close.{Close}
 use Rattle.tw_session.specs.declared.status.Close.TheVariants.{Success, Refused, CommandLine, Stuck, Limit, Trapped}
 use Rattle.tw_session.specs.declared.status.Status.{Status}
@@ -33,7 +33,7 @@ use Rattle.tw_run.specs.declared.run_end.RunEnd.{RunEnd}
 use Rattle.tw_run.specs.declared.run_end.RunEnd.TheVariants as run_end
 use Rattle.tw_run.specs.Run.{IsRun, Setup}
 use Rattle.tw_session.specs.Input.{most_bytes, digits_in}
-use Rattle.tw_session.specs.CommandLine.{Asked, IsAsked, IsRefusedInput}
+use Rattle.tw_command.specs.CommandLine.{Asked, IsAsked, IsRefusedInput}
 use Rattle.tw_session.specs.Lines.{asm_line, fault_line, input_word_line, verify_line, opening_line, stuck_line, trap_line}
 use Rattle.tw_session.specs.Report.{report}
 use Rattle.tw_session.specs.Check.{IsCheckText}

@@ -4,20 +4,14 @@
 #![tactic(auto)]
 
 mod check;
-mod command;
 mod input;
-mod input_words;
-mod laws;
-mod limit;
 mod lines;
 mod reply;
 mod report;
 mod shell;
 mod status;
 
-pub use command::{Order, ProgramOrder, RunOrder, VerifiedOrder};
-pub use input_words::input_of;
-pub use limit::EventLimit;
 pub use reply::{Reply, reply_to};
 pub use shell::{session, without_words};
 pub use status::{Close, Status};
+pub use tw_command::{EventLimit, Order, ProgramOrder, RunOrder, VerifiedOrder, input_of};

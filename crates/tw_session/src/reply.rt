@@ -1,7 +1,7 @@
 //! What a session answers to the bytes that it reads.
 
 ghost use Rattle.std.specs.Prelude.{◌≡◌, ◌<◌, ◌++◌, List, IfOk, codes};
-ghost use Rattle.tw_session.specs.declared.command.Order.TheVariants.{Assemble};
+ghost use Rattle.tw_command.specs.declared.command.Order.TheVariants.{Assemble};
 ghost use Rattle.tw_session.specs.Session.{MayReply, RepliesByAccepted, RepliesByAssembly, RepliesByBytes, RepliesByInput};
 ghost use Rattle.tw_session.specs.Session.{RepliesByLayout, RepliesByOpening, RepliesByProgram, RepliesByText, RepliesByVerified, reply, run_reply};
 ghost use Rattle.tw_session.specs.Input.{digits_in};
@@ -18,9 +18,7 @@ ghost use Rattle.tw_code.specs.format.Spelling.{spelling};
 ghost use Rattle.hex.specs.Hex.{decode_of, encode_lower};
 
 use crate::check::check_text;
-use crate::command::{Order, ProgramOrder, RunOrder, VerifiedOrder};
 use crate::input::{MOST_BYTES, digits};
-use crate::limit::EventLimit;
 use crate::lines::{
     put, put_asm_line, put_fault_line, put_opening_line, put_trap_line, put_verify_line,
 };
@@ -30,6 +28,7 @@ use hex::FromHexError;
 use std::alloc::{AllocError, Global};
 use tw_asm::{assemble, disassemble};
 use tw_code::{FaultNo, Program, decode, encode};
+use tw_command::{EventLimit, Order, ProgramOrder, RunOrder, VerifiedOrder};
 use tw_machine::{OpenRefusal, Plain, State};
 use tw_run::{RunEnd, run};
 use tw_verify::{Verified, VerifyRefusal, verify};

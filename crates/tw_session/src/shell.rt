@@ -2,17 +2,17 @@
 
 ghost use Rattle.std.specs.Prelude.{◌≡◌, ◌≢◌, ℕ, [], map, codes, string_bytes, IfSome};
 ghost use Rattle.std.specs.Io.KnownBytes.{Appends, Keeps};
-ghost use Rattle.tw_session.specs.CommandLine.{Asked, IsAsked, IsRefusedInput, asked_by_words, word_faults};
+ghost use Rattle.tw_command.specs.CommandLine.{Asked, IsAsked, IsRefusedInput, asked_by_words, word_faults};
 ghost use Rattle.tw_session.specs.Session.{ComesOf};
 ghost use Rattle.tw_session.specs.Status.{ComesOfFaults, ComesOfRefusedInput};
 
-use crate::command::{NoOrder, Order, read_order};
 use crate::input::{NoInput, read_input};
 use crate::lines::put_input_word_line;
 use crate::reply::reply_to;
 use crate::status::{Close, Status};
 use std::alloc::Global;
 use std::io::{ErrorKind, Read, Write};
+use tw_command::{NoOrder, Order, read_order};
 
 /// Writes the whole text, once.
 fn write_text<W: Write>(writer: &mut W, text: &[u8], status: Status) -> Status

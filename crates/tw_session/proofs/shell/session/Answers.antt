@@ -1,7 +1,7 @@
 use Rattle.std.proofs.Common.{◌≡◌, ℕ, map, string_bytes, subst}
-use Rattle.tw_session.specs.CommandLine.{asked_by_words}
+use Rattle.tw_command.specs.CommandLine.{asked_by_words}
 use Rattle.tw_session.specs.Status.{ComesOfRefusedInput}
-use Rattle.tw_session.proofs.InputLaws.{never_refused, one_number}
+use Rattle.tw_command.proofs.InputLaws.{never_refused, one_number}
 use Rattle.tw_session.proofs.shell.session.Goals as goal
 
 pub returns-in-Ok-clause-refused_input : goal.returns-in-Ok-clause-refused_input

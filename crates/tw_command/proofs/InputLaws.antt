@@ -1,0 +1,174 @@
+-- A word spells one input alone, and one input word alone is the first that spells none.
+use Rattle.std.proofs.Common.{◌≡◌, ◌<◌, ◌+◌, ℕ, ℤ, suc, false, eqb, Bor, List, [], ◌∷◌, ◌++◌, drop, get_or, length, map, take, refl, sym, ap, subst, ◌∙◌, append_assoc, arith, codes}
+use Rattle.std.proofs.lemmas.List.{length-map, length-take, map-append, take-append-drop, take-map, take_more}
+use Rattle.std.proofs.lemmas.Bool.{eqb-false}
+use Rattle.tw_types.specs.declared.input.Input.{Input}
+use Rattle.tw_types.specs.declared.input.Input.TheVariants as input
+use Rattle.tw_words.specs.Quoted.{SpellsQuoted}
+use Rattle.tw_command.specs.InputWords.{AreBehind, AreJoined, AreSpelled, IsRefusedWord, OneInput, OneRefusedWord, SpellsInput, SpellsInt, SpellsMember}
+use Rattle.tw_command.specs.CommandLine.{Asked, Assembles, Disassembles, Checks, Runs, IsAsked, IsRefusedInput}
+use Rattle.tw_command.specs.declared.command.Order.{Order}
+use Rattle.tw_command.specs.reading.Members.{IsStop}
+use Rattle.tw_command.proofs.InputReading.{one_int, one_int_member, one_text_member}
+use Rattle.tw_command.proofs.Members.{stops}
+
+-- ---- lists
+
+-- two members that stand before a comma or the end of one text are one
+abbrev pub IsOne : {A : Type 0} → (A → List ℕ → Type 0) → Type 0
+IsOne {A} Spells = (x y : A) (first other rest after : List ℕ) → Spells x first → Spells y other → IsStop 44 rest → IsStop 44 after → first ++ rest ≡ other ++ after → (x ≡ y) × (rest ≡ after)
+
+module _ {A : Type 0} (Spells : A → List ℕ → Type 0) (one : IsOne Spells) where
+  comma_is : (xs ys : List ℕ) → 44 ∷ xs ≡ 44 ∷ ys → xs ≡ ys
+  comma_is xs ys e = cc
+
+  never_comma : {Z : Type 0} (xs : List ℕ) → [] ≡ 44 ∷ xs → Z
+  never_comma xs e = absurd cc
+
+  one_behind : (xs ys : List A) (text : List ℕ) → AreBehind Spells xs text → AreBehind Spells ys text → xs ≡ ys
+  one_behind [] [] text h k = refl
+  one_behind [] (y ∷ ys) text h k = never_comma (k.0 ++ k.1) (sym h ∙ k.4)
+  one_behind (x ∷ xs) [] text h k = never_comma (h.0 ++ h.1) (sym k ∙ h.4)
+  one_behind (x ∷ xs) (y ∷ ys) text h k =
+      let same = one x y h.0 k.0 h.1 k.1 h.2 k.2 (stops Spells xs h.1 h.3) (stops Spells ys k.1 k.3) (comma_is _ _ (sym h.4 ∙ k.4)) in
+      ap (λ (z : A). z ∷ xs) same.0 ∙ ap (λ (zs : List A). y ∷ zs) (one_behind xs ys k.1 (subst (AreBehind Spells xs) same.1 h.3) k.3)
+
+  pub one_list : (nonempty : (x : A) (text : List ℕ) → Spells x text → text ≡ [] → ⊥) (xs ys : List A) (text : List ℕ) → AreJoined Spells xs text → AreJoined Spells ys text → xs ≡ ys
+  one_list some [] [] text h k = refl
+  one_list some [] (y ∷ ys) text h k = absurd (some y k.0 k.2 (front_none k.0 k.1 (sym k.4 ∙ h)))
+    where
+      front_none : (xs ys : List ℕ) → xs ++ ys ≡ [] → xs ≡ []
+      front_none [] ys e = refl
+      front_none (x ∷ xs) ys e = absurd cc
+  one_list some (x ∷ xs) [] text h k = absurd (some x h.0 h.2 (front_none h.0 h.1 (sym h.4 ∙ k)))
+    where
+      front_none : (xs ys : List ℕ) → xs ++ ys ≡ [] → xs ≡ []
+      front_none [] ys e = refl
+      front_none (x ∷ xs) ys e = absurd cc
+  one_list some (x ∷ xs) (y ∷ ys) text h k =
+      let same = one x y h.0 k.0 h.1 k.1 h.2 k.2 (stops Spells xs h.1 h.3) (stops Spells ys k.1 k.3) (sym h.4 ∙ k.4) in
+      ap (λ (z : A). z ∷ xs) same.0 ∙ ap (λ (zs : List A). y ∷ zs) (one_behind xs ys k.1 (subst (AreBehind Spells xs) same.1 h.3) k.3)
+
+-- a member has its `=`
+some_member : {A : Type 0} (Spells : A → List ℕ → Type 0) (x : ℤ × A) (text : List ℕ) → SpellsMember Spells x text → text ≡ [] → ⊥
+some_member Spells x text (subscript, value, h, k, e) none = never subscript (sym e ∙ none)
+  where
+    never : (xs : List ℕ) → xs ++ 61 ∷ value ≡ [] → ⊥
+    never [] f = cc
+    never (b ∷ xs) f = cc
+
+-- ---- a word
+
+-- words whose letters differ somewhere
+apart : (k : ℕ) (xs ys : List ℕ) → eqb (get_or xs k 0) (get_or ys k 0) ≡ false → xs ≡ ys → ⊥
+apart k xs ys differ e = eqb-false (get_or xs k 0) (get_or ys k 0) differ (ap (λ (t : List ℕ). get_or t k 0) e)
+
+pub one_input : OneInput
+one_input word (input.Int n) (input.Int m) (x, e, h) (y, f, k) = ap input.Int (one_int n m y (subst (SpellsInt n) (same (sym e ∙ f)) h) k)
+  where
+    same : codes "int:" ++ x ≡ codes "int:" ++ y → x ≡ y
+    same q = cc
+one_input word (input.Int n) (input.Text text) (x, e, h) f = absurd (apart 0 (codes "int:" ++ x) (codes "text:" ++ text) refl (sym e ∙ f))
+one_input word (input.Int n) (input.Ints ms) (x, e, h) (y, f, k) = absurd (apart 3 (codes "int:" ++ x) (codes "ints:" ++ y) refl (sym e ∙ f))
+one_input word (input.Int n) (input.Texts ms) (x, e, h) (y, f, k) = absurd (apart 0 (codes "int:" ++ x) (codes "texts:" ++ y) refl (sym e ∙ f))
+one_input word (input.Text text) (input.Int n) e (y, f, k) = absurd (apart 0 (codes "text:" ++ text) (codes "int:" ++ y) refl (sym e ∙ f))
+one_input word (input.Text text) (input.Text other) e f = ap input.Text (same (sym e ∙ f))
+  where
+    same : codes "text:" ++ text ≡ codes "text:" ++ other → text ≡ other
+    same q = cc
+one_input word (input.Text text) (input.Ints ms) e (y, f, k) = absurd (apart 0 (codes "text:" ++ text) (codes "ints:" ++ y) refl (sym e ∙ f))
+one_input word (input.Text text) (input.Texts ms) e (y, f, k) = absurd (apart 4 (codes "text:" ++ text) (codes "texts:" ++ y) refl (sym e ∙ f))
+one_input word (input.Ints ms) (input.Int n) (x, e, h) (y, f, k) = absurd (apart 3 (codes "ints:" ++ x) (codes "int:" ++ y) refl (sym e ∙ f))
+one_input word (input.Ints ms) (input.Text text) (x, e, h) f = absurd (apart 0 (codes "ints:" ++ x) (codes "text:" ++ text) refl (sym e ∙ f))
+one_input word (input.Ints ms) (input.Ints ns) (x, e, h) (y, f, k) =
+    ap input.Ints (one_list (SpellsMember SpellsInt) one_int_member (some_member SpellsInt) ms ns y (subst (AreJoined (SpellsMember SpellsInt) ms) (same (sym e ∙ f)) h) k)
+  where
+    same : codes "ints:" ++ x ≡ codes "ints:" ++ y → x ≡ y
+    same q = cc
+one_input word (input.Ints ms) (input.Texts ns) (x, e, h) (y, f, k) = absurd (apart 0 (codes "ints:" ++ x) (codes "texts:" ++ y) refl (sym e ∙ f))
+one_input word (input.Texts ms) (input.Int n) (x, e, h) (y, f, k) = absurd (apart 0 (codes "texts:" ++ x) (codes "int:" ++ y) refl (sym e ∙ f))
+one_input word (input.Texts ms) (input.Text text) (x, e, h) f = absurd (apart 4 (codes "texts:" ++ x) (codes "text:" ++ text) refl (sym e ∙ f))
+one_input word (input.Texts ms) (input.Ints ns) (x, e, h) (y, f, k) = absurd (apart 0 (codes "texts:" ++ x) (codes "ints:" ++ y) refl (sym e ∙ f))
+one_input word (input.Texts ms) (input.Texts ns) (x, e, h) (y, f, k) =
+    ap input.Texts (one_list (SpellsMember SpellsQuoted) one_text_member (some_member SpellsQuoted) ms ns y (subst (AreJoined (SpellsMember SpellsQuoted) ms) (same (sym e ∙ f)) h) k)
+  where
+    same : codes "texts:" ++ x ≡ codes "texts:" ++ y → x ≡ y
+    same q = cc
+
+-- ---- all words
+
+heads : (w v : List ℕ) (ws vs : List (List ℕ)) → w ∷ ws ≡ v ∷ vs → (w ≡ v) × (ws ≡ vs)
+heads w v ws vs e = (cc, cc)
+
+-- the words before two words that spell nothing are as many, where each of them spells an input
+as_many : (before others : List (List ℕ)) (word other : List ℕ) (later after : List (List ℕ)) (inputs given : List Input) → before ++ word ∷ later ≡ others ++ other ∷ after
+    → AreSpelled inputs before → AreSpelled given others → ((x : Input) → SpellsInput x word → ⊥) → ((x : Input) → SpellsInput x other → ⊥) → length before ≡ length others
+as_many [] [] word other later after inputs given e h k none nothing = refl
+as_many [] (w ∷ others) word other later after inputs [] e h k none nothing = absurd k
+as_many [] (w ∷ others) word other later after inputs (x ∷ given) e h k none nothing = absurd (none x (subst (SpellsInput x) (sym (heads word w later (others ++ other ∷ after) e).0) k.0))
+as_many (w ∷ before) [] word other later after [] given e h k none nothing = absurd h
+as_many (w ∷ before) [] word other later after (x ∷ inputs) given e h k none nothing = absurd (nothing x (subst (SpellsInput x) (heads w other (before ++ word ∷ later) after e).0 h.0))
+as_many (w ∷ before) (v ∷ others) word other later after [] given e h k none nothing = absurd h
+as_many (w ∷ before) (v ∷ others) word other later after (x ∷ inputs) [] e h k none nothing = absurd k
+as_many (w ∷ before) (v ∷ others) word other later after (x ∷ inputs) (y ∷ given) e h k none nothing =
+    ap suc (as_many before others word other later after inputs given (heads w v (before ++ word ∷ later) (others ++ other ∷ after) e).1 h.1 k.1 none nothing)
+
+pub one_refused_word : OneRefusedWord
+one_refused_word words number other (before, inputs, word, later, e, h, none, is) (others, given, second, after, f, k, nothing, also) =
+    is ∙ ap suc (as_many before others word second later after inputs given (sym e ∙ f) h k none nothing) ∙ sym also
+
+-- where each word spells an input, none is refused
+pub none_refused : (words : List (List ℕ)) (inputs : List Input) (number : ℕ) → AreSpelled inputs words → IsRefusedWord words number → ⊥
+none_refused words inputs number all (before, given, word, later, e, h, none, is) = by before inputs (subst (AreSpelled inputs) e all)
+  where
+    by : (before : List (List ℕ)) (inputs : List Input) → AreSpelled inputs (before ++ word ∷ later) → ⊥
+    by [] [] k = k
+    by [] (x ∷ inputs) k = none x k.0
+    by (w ∷ before) [] k = k
+    by (w ∷ before) (x ∷ inputs) k = by before inputs k.1
+
+-- ---- as they are read
+
+-- one word more
+pub spelled_more : (inputs : List Input) (words : List (List ℕ)) (x : Input) (word : List ℕ) → AreSpelled inputs words → SpellsInput x word → AreSpelled (inputs ++ x ∷ []) (words ++ word ∷ [])
+spelled_more [] [] x word h k = (k, tt)
+spelled_more [] (w ∷ words) x word h k = absurd h
+spelled_more (y ∷ inputs) [] x word h k = absurd h
+spelled_more (y ∷ inputs) (w ∷ words) x word h k = (h.0, spelled_more inputs words x word h.1 k)
+
+-- the words that were read, and the one that comes
+word_at : (words : List (Bor (List ℕ))) (i : ℕ) (d : Bor (List ℕ)) → i < length words → take (i + 1) (map (λ w. w.now) words) ≡ take i (map (λ w. w.now) words) ++ (get_or words i d).now ∷ []
+word_at words i d lt =
+    take-map (λ w. w.now) (i + 1) words
+    ∙ ap (map (λ w. w.now)) (take_more words i d lt)
+    ∙ map-append (λ w. w.now) (take i words) (get_or words i d ∷ [])
+    ∙ ap (λ (t : List (List ℕ)). t ++ (get_or words i d).now ∷ []) (sym (take-map (λ w. w.now) i words))
+
+pub one_word_more : (inputs new : List Input) (words : List (Bor (List ℕ))) (i : ℕ) (d : Bor (List ℕ)) (x : Input) → i < length words → AreSpelled inputs (take i (map (λ w. w.now) words))
+    → SpellsInput x (get_or words i d).now → new ≡ inputs ++ x ∷ [] → AreSpelled new (take (i + 1) (map (λ w. w.now) words))
+one_word_more inputs new words i d x lt h k is =
+    subst (λ (xs : List Input). AreSpelled xs (take (i + 1) (map (λ w. w.now) words))) (sym is)
+    (subst (AreSpelled (inputs ++ x ∷ [])) (sym (word_at words i d lt)) (spelled_more inputs (take i (map (λ w. w.now) words)) x (get_or words i d).now h k))
+
+-- the first word that spells no input
+pub refused_at : (inputs : List Input) (words : List (Bor (List ℕ))) (i : ℕ) (d : Bor (List ℕ)) → i < length words → AreSpelled inputs (take i (map (λ w. w.now) words))
+    → ((given : Input) → SpellsInput given (get_or words i d).now → ⊥) → IsRefusedWord (map (λ w. w.now) words) (i + 1)
+refused_at inputs words i d lt h none =
+    let texts = map (λ (w : Bor (List ℕ)). w.now) words in
+    let all : length texts ≡ length words = length-map words (λ (w : Bor (List ℕ)). w.now) in
+    let parts : texts ≡ take i texts ++ (get_or words i d).now ∷ drop (i + 1) texts =
+    sym (take-append-drop (i + 1) texts) ∙ ap (λ (t : List (List ℕ)). t ++ drop (i + 1) texts) (word_at words i d lt) ∙ append_assoc (take i texts) ((get_or words i d).now ∷ []) (drop (i + 1) texts) in
+    (take i texts, inputs, (get_or words i d).now, drop (i + 1) texts, parts, h, none, omega (arith, lt, all, length-take i texts))
+
+-- what is asked for is no refused word, and one word alone is refused
+pub never_refused : (asked : Asked) (order : Order) (number : ℕ) → IsAsked asked order → IsRefusedInput asked number → ⊥
+never_refused Assembles order number is_asked h = h
+never_refused Disassembles order number is_asked h = h
+never_refused Checks order number is_asked h = h
+never_refused (Runs layout most words) order number (run, is, layout_is, limit_is, spelled) h = none_refused words run.inputs number spelled h
+
+pub one_number : (asked : Asked) (number other : ℕ) → IsRefusedInput asked number → IsRefusedInput asked other → number ≡ other
+one_number Assembles number other h k = absurd h
+one_number Disassembles number other h k = absurd h
+one_number Checks number other h k = absurd h
+one_number (Runs layout most words) number other h k = one_refused_word words number other h k

@@ -1,0 +1,5 @@
+pub mod Members
+pub mod InputReading
+pub mod InputLaws
+pub mod Options
+pub mod Words

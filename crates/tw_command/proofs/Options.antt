@@ -1,0 +1,102 @@
+-- The number of an option, by what the reader of digits answers.
+use Rattle.std.proofs.Common.{arith, ◌≡◌, ◌<◌, ◌∙◌, ◌&&◌, ℕ, Bool, true, false, List, [], ◌∷◌, get_or, inl, refl, sym, ap, cond, subst, Option, Some, None}
+use Rattle.std.specs.Prelude.{nat_le, nat_lt, is_some, Result, Ok, Err}
+use Rattle.std.specs.Char.{digit_value}
+use Rattle.std.specs.Int.{IsInRange}
+use Rattle.std.specs.List.{list_all}
+use Rattle.std.specs.Option.{option_map_or}
+use Rattle.std.specs.Result.{result_ok}
+use Rattle.std.specs.Str.Parse.{AllDigits, digits_value}
+use Rattle.std.proofs.lemmas.Bool.{leb-true, le-leb, ltb-true, lt-ltb}
+use Rattle.std.proofs.lemmas.List.Folds.{list_all_at}
+use Rattle.clap.specs.ValueTests.{is_numeral}
+use Rattle.clap.specs.Words.{Kinds, Row, Text, first_value, rows_of}
+use Rattle.clap.specs.declared.parser.matches.Found.{Found}
+use Rattle.clap.specs.declared.error.ErrorKind.TheVariants.{DisplayHelp, ValueValidation}
+use Rattle.clap.proofs.WalkLemmas.{both, first_value-rows}
+use Rattle.tw_words.specs.Number.{IsRead, SpellsDigits}
+use Rattle.tw_words.specs.declared.numbers.Flaw.{Flaw}
+use Rattle.tw_words.specs.declared.numbers.Flaw.TheVariants.{Form, Limit}
+use Rattle.tw_types.specs.Layout.{ActorCounts}
+use Rattle.tw_command.specs.Options.{HasActors, NumberOption, actors_told, engines, limit, number_in, number_of, number_options, option_faults}
+use Rattle.tw_command.specs.Order.{HasReason}
+use Rattle.tw_command.specs.CommandLine.{Asked}
+use Rattle.tw_command.specs.declared.command.NoOrder.TheVariants.{Refused}
+
+-- ---- the digits
+
+digits_tested : (ds : List ℕ) → AllDigits 10 ds → list_all (λ d. nat_lt (digit_value d) 10) ds ≡ true
+digits_tested [] h = refl
+digits_tested (d ∷ ds) h = rw (lt-ltb (digit_value d) 10 h.0) (digits_tested ds h.1)
+
+digits_found : (ds : List ℕ) → list_all (λ d. nat_lt (digit_value d) 10) ds ≡ true → AllDigits 10 ds
+digits_found [] e = tt
+digits_found (d ∷ ds) e = let parts = both _ _ e in (ltb-true _ _ parts.0, digits_found ds parts.1)
+
+abbrev passes : ℕ → Text → Bool
+passes most text = is_numeral text && (nat_le 1 (digits_value 10 text) && nat_le (digits_value 10 text) most)
+
+passed : (most n : ℕ) (text : Text) → SpellsDigits n text → IsInRange 1 most n → passes most text ≡ true
+passed most n text h inside =
+    let value = h.value in
+    rw (lt-ltb _ _ h.digits.0, digits_tested text h.digits.1, value, le-leb _ _ inside.0, le-leb _ _ inside.1) refl
+
+spelled : (most : ℕ) (text : Text) → passes most text ≡ true → SpellsDigits (digits_value 10 text) text × IsInRange 1 most (digits_value 10 text)
+spelled most text e =
+    let parts = both _ _ e in
+    let digits = both _ _ parts.0 in
+    let range = both _ _ parts.1 in
+    (record { digits = (ltb-true _ _ digits.0, digits_found text digits.1); value = refl }, (leb-true _ _ range.0, leb-true _ _ range.1))
+
+-- ---- the word of an option
+
+read_number : (most n : ℕ) (text : Text) → SpellsDigits n text → IsInRange 1 most n → number_in most text ≡ Some n
+read_number most n text h inside =
+    let value = h.value in
+    ap (λ (b : Bool). cond b (Some (digits_value 10 text)) None) (passed most n text h inside) ∙ ap Some value
+
+no_number : (most : ℕ) (text : Text) (flaw : Flaw) → IsRead (λ n. SpellsDigits n text) (IsInRange 1 most) (Err flaw) → number_in most text ≡ None
+no_number most text flaw h = go (passes most text) refl flaw h
+  where
+    go : (b : Bool) → passes most text ≡ b → (f : Flaw) → IsRead (λ n. SpellsDigits n text) (IsInRange 1 most) (Err f) → cond (passes most text) (Some (digits_value 10 text)) None ≡ None
+    go false e f h = rw e refl
+    go true e Form h = let is = spelled most text e in absurd (h (digits_value 10 text) is.0)
+    go true e Limit (n, k, out) =
+        let is = spelled most text e in
+        let value = k.value in
+        absurd (out (rw (← value) is.1))
+
+-- what is read of the word is its number
+pub number_read : (most : ℕ) (text : Text) (read : Result ℕ Flaw) (o : Option ℕ) → IsRead (λ n. SpellsDigits n text) (IsInRange 1 most) read → o ≡ result_ok read → o ≡ number_in most text
+number_read most text (Ok n) o h e = e ∙ sym (read_number most n text h.0 h.1)
+number_read most text (Err flaw) o h e = e ∙ sym (no_number most text flaw h)
+
+-- ---- what clap found
+
+pub given : (f : Found) (o : NumberOption) (text : Text) → Some text ≡ first_value f o.name → number_of o (rows_of f) ≡ number_in o.most text
+given f o text e = ap (λ (t : Option Text). option_map_or (number_in o.most) t (Some o.default)) (sym (e ∙ first_value-rows f o.name))
+
+pub not_given : (f : Found) (o : NumberOption) → None ≡ first_value f o.name → number_of o (rows_of f) ≡ Some o.default
+not_given f o e = ap (λ (t : Option Text). option_map_or (number_in o.most) t (Some o.default)) (sym (e ∙ first_value-rows f o.name))
+
+-- ---- all options
+
+-- an option without a number is a fault
+pub one_refused : (rows : List Row) (i : ℕ) → i < 4 → number_of (get_or number_options i engines) rows ≡ None → option_faults rows ≡ ValueValidation ∷ []
+one_refused rows i lt e = ap (λ (b : Bool). cond b [] (ValueValidation ∷ [])) (list_all_at (λ o. is_some (number_of o rows)) number_options i engines lt (ap is_some e))
+
+pub limit_refused : (rows : List Row) → None ≡ number_of limit rows → option_faults rows ≡ ValueValidation ∷ []
+limit_refused rows e = one_refused rows 3 (omega arith) (sym e)
+
+pub has_fault : (kinds : Kinds) (asked : Asked) → kinds ≡ ValueValidation ∷ [] → HasReason kinds asked Refused
+has_fault kinds asked e = subst (λ (k : Kinds). HasReason k asked Refused) (sym e) (ValueValidation, inl refl, no_help)
+  where
+    no_help : ValueValidation ≡ DisplayHelp → ⊥
+    no_help e = cc
+
+-- where each has one, they are those that are told
+pub all_taken : (rows : List Row) (layout : ActorCounts) (n : ℕ) → HasActors rows layout → number_of limit rows ≡ Some n → option_faults rows ≡ []
+all_taken rows layout n h e = rw (h.0, h.1, h.2, e) refl
+
+pub actors_are : (rows : List Row) (layout : ActorCounts) → HasActors rows layout → layout ≡ actors_told rows
+actors_are rows layout h = rw (h.0, h.1, h.2) refl

@@ -1,0 +1,24 @@
+use Rattle.std.proofs.Common.{rules, ◌≡◌, ◌∙◌, ap, ap₂}
+use Rattle.std.specs.Prelude.{codes}
+use Rattle.clap.specs.Words.{App, app_of, with_subcommand}
+use Rattle.tw_command.specs.CommandLine.{bare_line, command_line, plain_line, run_line}
+use Rattle.tw_command.proofs.command.command.Goals as goal
+
+abbrev with_asm : App
+with_asm = with_subcommand bare_line (plain_line (codes "asm")).top
+
+abbrev with_both : App
+with_both = with_subcommand with_asm (plain_line (codes "disasm")).top
+
+pub returns : goal.returns
+unfolding command_line
+returns c =
+    let bare : app_of c.in_ok-bare.bare ≡ bare_line = c.in_ok-bare.ensures in
+    let asm : app_of c.plain_command.result ≡ plain_line (codes "asm") = c.plain_command.ensures.app in
+    let disasm : app_of c.plain_command-2.result ≡ plain_line (codes "disasm") = c.plain_command-2.ensures.app in
+    let check : app_of c.plain_command-3.result ≡ plain_line (codes "check") = c.plain_command-3.ensures.app in
+    let run : app_of c.in_ok-running.running ≡ run_line = c.in_ok-running.ensures.app in
+    let assembling : app_of c.in_ok-assembling.assembling ≡ with_asm = c.in_ok-assembling.ensures.shape (search rules) ∙ ap₂ with_subcommand bare (ap (λ (a : App). a.top) asm) in
+    let both : app_of c.in_ok-both.both ≡ with_both = c.in_ok-both.ensures.shape (search rules) ∙ ap₂ with_subcommand assembling (ap (λ (a : App). a.top) disasm) in
+    let checking : app_of c.in_ok-checking.checking ≡ with_subcommand with_both (plain_line (codes "check")).top = c.in_ok-checking.ensures.shape (search rules) ∙ ap₂ with_subcommand both (ap (λ (a : App). a.top) check) in
+    c.in_ok-whole.ensures.shape (search rules) ∙ ap₂ with_subcommand checking (ap (λ (a : App). a.top) run)

@@ -1,0 +1,11 @@
+use Rattle.std.proofs.Common.{length, IsUtf8}
+use Rattle.tw_command.specs.InputWords.{SpellsMember}
+use Rattle.tw_words.specs.Quoted.{SpellsQuoted}
+use Rattle.tw_command.proofs.Members.{AreRead}
+use Rattle.tw_command.proofs.input_words.texts.Given as goal
+
+abbrev pub invariant-loop-members : goal.invariant-loop-members
+invariant-loop-members l = record { read : AreRead (SpellsMember SpellsQuoted) l.list l.members.items l.rest; utf8 : IsUtf8 l.rest }
+
+abbrev pub decreases-loop-members : goal.decreases-loop-members
+decreases-loop-members l = length l.rest

@@ -1,0 +1,8 @@
+use Rattle.std.proofs.Common.{refl}
+use Rattle.clap.proofs.OnLiterals.{clap_on_literals}
+use Rattle.tw_command.specs.CommandLine.{command_line}
+use Rattle.tw_command.proofs.laws.commands_are_taken.Goals as goal
+
+pub returns : goal.returns
+unfolding clap_on_literals command_line
+returns c = record { asm = (refl, refl); disasm = (refl, refl); check = (refl, refl); run = (refl, refl); inputs = (refl, refl); first = λ rest. (refl, refl); before = (refl, refl); between = (refl, refl); behind = (refl, refl) }

@@ -1,0 +1,8 @@
+use Rattle.std.proofs.Common.{refl}
+use Rattle.clap.proofs.OnLiterals.{clap_on_literals}
+use Rattle.tw_command.specs.CommandLine.{command_line}
+use Rattle.tw_command.proofs.laws.strangers_are_refused.Goals as goal
+
+pub returns : goal.returns
+unfolding clap_on_literals command_line
+returns c = record { command = refl; help = refl; option = refl; input = refl; second = refl; twice = refl; bare = refl; none = refl; past = refl; word = refl }

@@ -1,0 +1,95 @@
+-- The command line: what clap is told of it, and what the words then ask for.
+use Rattle.std.specs.Prelude.{◌≡◌, ℕ, true, List, [], Option, Some, None, codes, bytes_eq, fold, if◌then◌else◌, map, unwrap_or}
+use Rattle.clap.specs.Kinds.{or_else}
+use Rattle.clap.specs.Lexer.{usize_max}
+use Rattle.clap.specs.Words.{App, Kinds, Row, Rule, Text, all_of, fault_of, new_app, new_rule, subcommand_of, with_rule, with_subcommand}
+use Rattle.tw_types.specs.Layout.{ActorCounts}
+use Rattle.tw_command.specs.InputWords.{AreSpelled, IsRefusedWord}
+use Rattle.tw_command.specs.Options.{actors_told, limit, number_options, option_faults, option_rule, told}
+use Rattle.tw_command.specs.declared.command.Order.{Order}
+use Rattle.tw_command.specs.declared.command.Order.TheVariants.{Assemble, Program}
+use Rattle.tw_command.specs.declared.command.ProgramOrder.TheVariants.{Disassemble, Verified}
+use Rattle.tw_command.specs.declared.command.VerifiedOrder.TheVariants.{Check, Run}
+use Rattle.tw_command.specs.declared.command.RunOrder.{RunOrder}
+
+-- a command without options
+abbrev pub plain_line : Text → App
+plain_line name = new_app name
+
+-- the words behind `run`, however many
+abbrev pub input_rule : Rule
+input_rule = record (new_rule (codes "input")) { range = Some (record { start_inclusive = 0; end_inclusive = usize_max }) }
+
+-- `run`, with its options and input words
+abbrev pub run_line : App
+run_line = with_rule (fold with_rule (new_app (codes "run")) (map (λ o. option_rule o.name) number_options)) input_rule
+
+-- the words come without the program's own name, and a command must be among them
+abbrev pub bare_line : App
+bare_line = record (new_app (codes "tw")) {
+  top = record (new_app (codes "tw")).top {
+    no_binary_name = true;
+    disable_help_subcommand = true;
+    subcommand_required = true;
+  };
+}
+
+-- the whole command line
+unfoldable pub command_line : App
+command_line = with_subcommand (with_subcommand (with_subcommand (with_subcommand bare_line
+    (plain_line (codes "asm")).top) (plain_line (codes "disasm")).top) (plain_line (codes "check")).top) run_line.top
+
+-- ---- what the words ask for
+
+-- the input words among what clap found
+abbrev pub given_words : List Row → List Text
+given_words rows = unwrap_or (all_of (codes "input") rows) []
+
+-- the command that was named; `run` with its actors, the most events of the run, and the input words
+pub data Asked : Type 0 where
+  Assembles : Asked
+  Disassembles : Asked
+  Checks : Asked
+  Runs : ActorCounts → ℕ → List Text → Asked
+
+-- `run`, by what clap found behind it
+abbrev pub run_asked : List Row → Asked
+run_asked rows = Runs (actors_told rows) (told limit rows) (given_words rows)
+
+abbrev pub asked_of : Option (Text × List Row) → Asked
+asked_of None = Checks
+asked_of (Some named) =
+    if bytes_eq named.0 (codes "run") then run_asked named.1 else
+    if bytes_eq named.0 (codes "asm") then Assembles else
+    if bytes_eq named.0 (codes "disasm") then Disassembles else
+    Checks
+
+-- what the program's words ask for
+abbrev pub asked_by_words : List Text → Asked
+asked_by_words words = asked_of (subcommand_of command_line words)
+
+-- the order that is asked for: each input word spells its input
+abbrev pub IsAsked : Asked → Order → Type 0
+IsAsked Assembles order = order ≡ Assemble
+IsAsked Disassembles order = order ≡ Program Disassemble
+IsAsked Checks order = order ≡ Program (Verified Check)
+IsAsked (Runs layout most words) order =
+    (run : RunOrder) × (order ≡ Program (Verified (Run run))) × (run.layout ≡ layout) × (run.limit ≡ most) × AreSpelled run.inputs words
+
+-- or the word of this number, counted from 1, is the first that spells no input
+abbrev pub IsRefusedInput : Asked → ℕ → Type 0
+IsRefusedInput Assembles number = ⊥
+IsRefusedInput Disassembles number = ⊥
+IsRefusedInput Checks number = ⊥
+IsRefusedInput (Runs layout most words) number = IsRefusedWord words number
+
+-- ---- what refuses the words
+
+-- of the options
+abbrev pub faults_behind : Option (Text × List Row) → Kinds
+faults_behind None = []
+faults_behind (Some named) = if bytes_eq named.0 (codes "run") then option_faults named.1 else []
+
+-- nothing where they are taken; the faults that clap finds go before an option's
+abbrev pub word_faults : List Text → Kinds
+word_faults words = or_else (fault_of command_line words) (faults_behind (subcommand_of command_line words))

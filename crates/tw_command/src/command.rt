@@ -1,0 +1,326 @@
+//! The command line.
+
+ghost use Rattle.std.specs.Prelude.{◌≡◌, false, [], ◌∷◌, map, IfOk, IfErr, IfSome, MatchOption, string_bytes};
+ghost use Rattle.clap.specs.Words.{app_of, found_of, kind_of, rows_of, rule_of, subcommand_rows_of};
+ghost use Rattle.clap.specs.declared.Command.TheViews.{out-Command};
+ghost use Rattle.clap.specs.declared.error.ErrorKind.TheVariants.{ValueValidation};
+ghost use Rattle.tw_command.specs.CommandLine.{IsAsked, asked_by_words, asked_of, faults_behind, given_words};
+ghost use Rattle.tw_command.specs.CommandLine.{bare_line, command_line, input_rule, plain_line, run_asked, run_line, word_faults};
+ghost use Rattle.tw_command.specs.declared.command.Order.TheVariants.{Program};
+ghost use Rattle.tw_command.specs.declared.command.ProgramOrder.TheVariants.{Verified};
+ghost use Rattle.tw_command.specs.declared.command.VerifiedOrder.TheVariants.{Run};
+ghost use Rattle.tw_command.specs.InputWords.{AreSpelled};
+ghost use Rattle.tw_command.specs.Options.{HasActors, limit, number_of, option_faults, option_rule};
+ghost use Rattle.std.specs.Int.{IsInRange};
+ghost use Rattle.tw_command.specs.Order.{HasReason, IsInputReason, IsReason};
+ghost use Rattle.tw_command.specs.declared.command.NoOrder.TheVariants.{NoMemory};
+
+use crate::input_words::input_of;
+use crate::limit::EventLimit;
+use clap::error::ErrorKind;
+use clap::{Arg, ArgMatches, Command, Error};
+use std::alloc::{AllocError, AllocFailed, Global};
+use tw_types::{Input, Items, Layout};
+use tw_words::digits;
+
+const ABOUT: &str = "Assembles, checks and runs dataflow programs of the task host.";
+
+const RUN_ABOUT: &str = "Runs a program and reports its outputs.
+
+The program is read from standard input as hex text: two digits a byte; spaces, tabs and line ends are skipped.
+Its inputs are the words behind the command, one word each, in the order of main's parameters. Examples: int:-7,
+text:abc, ints:1=7,5=-3 and texts:1=\"abc\",2=\"\"; the subscripts of a container rise, and it may have no member.
+Between quotes \\\", \\\\, \\n and \\x with two hex digits are read.
+Options take a number in decimal digits, and stand before, behind or between the inputs.
+The report has a line for each output, with a line for each member behind a container's, and then how the run ended.
+Exit status: 0 quiet, 1 refused, 2 command line or input word refused, 3 stuck, 4 event limit, 5 memory ran out,
+6 trap, 7 a read or write failed.";
+
+const ENGINES_HELP: &str = "How many engines: 1 to 4 (default: 1)";
+
+const SERVERS_HELP: &str = "How many servers: 1 to 4 (default: 1)";
+
+const WORKERS_HELP: &str = "How many workers: 1 to 16 (default: 1)";
+
+const LIMIT_HELP: &str = "The most events: 1 to 1000000 (default: 10000)";
+
+const INPUT_HELP: &str = "An input: int:, text:, ints: or texts:, and its value";
+
+const CHECK_ABOUT: &str = "Verifies a program and reports its budgets.
+
+The program is read from standard input as hex text: two digits a byte; spaces, tabs and line ends are skipped.
+Where it is accepted, a line for each procedure tells how many instructions a task of it does at most, and a last
+line how many engines and workers its targets need. Exit status: 0 accepted, 1 refused, 2 command line refused,
+5 memory ran out, 7 a read or write failed.";
+
+const ASM_ABOUT: &str = "Turns assembly text into a program.
+
+The text is read from standard input. What is written is the program as hex text, two digits a byte, in one line: what the
+other commands read. A text that spells no program is refused with the number and the line of its first fault.
+Exit status: 0 assembled, 1 refused, 2 command line refused, 5 memory ran out, 7 a read or write failed.";
+
+const DISASM_ABOUT: &str = "Writes a program as assembly text.
+
+The program is read from standard input as hex text: two digits a byte; spaces, tabs and line ends are skipped.
+It need not be one that is accepted. `tw asm` makes the same program of what is written.
+Exit status: 0 written, 1 refused, 2 command line refused, 5 memory ran out, 7 a read or write failed.";
+
+/// How a program is run.
+#[derive(Drop)]
+pub struct RunOrder {
+    /// The actors.
+    pub layout: Layout,
+    /// How many events may be made.
+    pub limit: EventLimit,
+    /// Main's inputs, one for each input word, in their order.
+    pub inputs: Items<Input>,
+}
+
+/// What is asked for of a program that is accepted.
+#[derive(Drop)]
+pub enum VerifiedOrder {
+    /// Tell its budgets.
+    Check,
+    /// Run it.
+    Run(RunOrder),
+}
+
+/// What is asked for of a program that is read as hex text.
+#[derive(Drop)]
+pub enum ProgramOrder {
+    /// Write its assembly text.
+    Disassemble,
+    /// Verify it, and where it is accepted do this.
+    Verified(VerifiedOrder),
+}
+
+/// What the words ask for.
+#[derive(Drop)]
+pub enum Order {
+    /// Write the bytes of the program whose assembly text is read.
+    Assemble,
+    /// Do this with the program whose hex text is read.
+    Program(ProgramOrder),
+}
+
+/// Why the words give no order.
+#[derive(Drop)]
+pub enum NoOrder {
+    /// They ask for this help.
+    Help(String),
+    /// No command of `tw` takes them, or an option has no number in its range.
+    Refused,
+    /// The input word of this number, counted from 1, is the first that spells no input; all else is taken.
+    InputWord(usize),
+    /// Memory was refused on the way.
+    NoMemory,
+}
+
+impl From<AllocError> for NoOrder {
+    ghost from_gives = { λ _ e. e ≡ NoMemory };
+
+    fn from(_error: AllocError) -> NoOrder {
+        NoOrder::NoMemory
+    }
+}
+
+impl<T: Drop> From<AllocFailed<T>> for NoOrder {
+    ghost from_gives = { λ _ e. e ≡ NoMemory };
+
+    fn from(_failed: AllocFailed<T>) -> NoOrder {
+        NoOrder::NoMemory
+    }
+}
+
+/// A command without options.
+fn plain_command<'a>(alloc: Global, name: &'a str, about: &'a str) -> Command<'a>
+    ensures app { app_of result ≡ plain_line name.entry.now }
+    ensures local { (out-Command result).has_globals ≡ false }
+{
+    Command::new(alloc, name).about(about)
+}
+
+fn option_arg<'a>(alloc: Global, name: &'a str, help: &'a str) -> Arg<'a>
+    ensures rule { rule_of result ≡ option_rule name.entry.now }
+    ensures local { result.global ≡ false }
+{
+    Arg::new(alloc, name).long(name).help(help)
+}
+
+fn input_arg<'a>(alloc: Global) -> Arg<'a>
+    ensures rule { rule_of result ≡ input_rule }
+    ensures local { result.global ≡ false }
+{
+    Arg::new(alloc, "input").num_args(0..).help(INPUT_HELP)
+}
+
+fn run_command<'a>(alloc: Global) -> Result<Command<'a>, AllocError>
+    ensures app { IfOk result (λ c. app_of c ≡ run_line) }
+    ensures local { IfOk result (λ c. (out-Command c).has_globals ≡ false) }
+{
+    let bare = Command::new(alloc, "run").about(RUN_ABOUT);
+    let engines = bare.arg(option_arg(alloc, "engines", ENGINES_HELP))?;
+    let servers = engines.arg(option_arg(alloc, "servers", SERVERS_HELP))?;
+    let workers = servers.arg(option_arg(alloc, "workers", WORKERS_HELP))?;
+    let limit = workers.arg(option_arg(alloc, "limit", LIMIT_HELP))?;
+    let whole = limit.arg(input_arg(alloc))?;
+    Ok(whole)
+}
+
+/// The program without its commands.
+fn bare_command<'a>(alloc: Global) -> Result<Command<'a>, AllocError>
+    ensures { IfOk result (λ c. app_of c ≡ bare_line) }
+{
+    let bare = Command::new(alloc, "tw")
+        .about(ABOUT)
+        .no_binary_name(true)
+        .disable_help_subcommand(true)
+        .subcommand_required(true);
+    let named = bare.bin_name("tw")?;
+    Ok(named)
+}
+
+fn command<'a>(alloc: Global) -> Result<Command<'a>, AllocError>
+    ensures { IfOk result (λ c. app_of c ≡ command_line) }
+{
+    let bare = bare_command(alloc)?;
+    let assembling = bare.subcommand(plain_command(alloc, "asm", ASM_ABOUT))?;
+    let both = assembling.subcommand(plain_command(alloc, "disasm", DISASM_ABOUT))?;
+    let checking = both.subcommand(plain_command(alloc, "check", CHECK_ABOUT))?;
+    let running = run_command(alloc)?;
+    let whole = checking.subcommand(running)?;
+    Ok(whole)
+}
+
+fn reason_of(alloc: Global, error: &Error) -> NoOrder
+    ensures { IsReason (kind_of error.now) result }
+{
+    match error.kind() {
+        ErrorKind::DisplayHelp => match error.to_string(alloc) {
+            Ok(text) => NoOrder::Help(text),
+            Err(_) => NoOrder::NoMemory,
+        },
+        ErrorKind::OutOfMemory => NoOrder::NoMemory,
+        _ => NoOrder::Refused,
+    }
+}
+
+/// The number from 1 to `most` that an option has, or `default` where it isn't given.
+fn number_given(matches: &ArgMatches<'_>, name: &str, most: u64, default: u64) -> Option<u64>
+    requires { IsInRange 1 most default }
+    ensures number { result
+        ≡ number_of (record { name = name.now; most = most; default = default }) (rows_of (found_of matches.now)) }
+    ensures range { IfSome result (IsInRange 1 most) }
+{
+    let Some(word) = matches.get_str(name) else {
+        return Some(default);
+    };
+    digits(word.as_bytes(), 1, most).ok()
+}
+
+/// The actors that the options tell.
+fn layout_given(matches: &ArgMatches<'_>) -> Option<Layout>
+    ensures { MatchOption result
+        (option_faults (rows_of (found_of matches.now)) ≡ ValueValidation ∷ [])
+        (HasActors (rows_of (found_of matches.now))) }
+{
+    let engines = number_given(matches, "engines", u64::from(Layout::MAX_ENGINES), 1)?;
+    let servers = number_given(matches, "servers", u64::from(Layout::MAX_SERVERS), 1)?;
+    let workers = number_given(matches, "workers", u64::from(Layout::MAX_WORKERS), 1)?;
+    Layout::new(engines as u8, servers as u8, workers as u8).ok()
+}
+
+/// The most events that the options tell.
+fn limit_given(matches: &ArgMatches<'_>) -> Option<EventLimit>
+    ensures { result ≡ number_of limit (rows_of (found_of matches.now)) }
+{
+    let events = number_given(matches, "limit", EventLimit::MAX as u64, 10_000)?;
+    EventLimit::new(events as usize)
+}
+
+/// The inputs that words spell.
+fn inputs_of(alloc: Global, words: &[&str]) -> Result<Items<Input>, NoOrder>
+    ensures spelled { IfOk result (λ inputs. AreSpelled inputs (map (λ word. word.now) words.now)) }
+    ensures refused { IfErr result (IsInputReason (map (λ word. word.now) words.now)) }
+{
+    let mut inputs = Vec::new(alloc);
+    for (index, word) in words.iter().enumerate() {
+        match input_of(alloc, word)? {
+            Some(input) => inputs.push(input)?,
+            None => return Err(NoOrder::InputWord(index + 1)),
+        }
+    }
+    Ok(Items::from(inputs))
+}
+
+/// The inputs that the words behind `run` spell.
+fn inputs_given(alloc: Global, matches: &ArgMatches<'_>) -> Result<Items<Input>, NoOrder>
+    ensures spelled { IfOk result (λ inputs. AreSpelled inputs (given_words (rows_of (found_of matches.now)))) }
+    ensures refused { IfErr result (IsInputReason (given_words (rows_of (found_of matches.now)))) }
+{
+    match matches.get_strs("input") {
+        Some(words) => inputs_of(alloc, words),
+        None => inputs_of(alloc, &[]),
+    }
+}
+
+/// The order to run, by what was found behind `run`.
+fn run_order(alloc: Global, matches: &ArgMatches<'_>) -> Result<RunOrder, NoOrder>
+    ensures taken { IfOk result (λ order. (option_faults (rows_of (found_of matches.now)) ≡ [])
+        × IsAsked (run_asked (rows_of (found_of matches.now))) (Program (Verified (Run order)))) }
+    ensures refused { IfErr result
+        (HasReason (option_faults (rows_of (found_of matches.now))) (run_asked (rows_of (found_of matches.now)))) }
+{
+    let Some(layout) = layout_given(matches) else {
+        return Err(NoOrder::Refused);
+    };
+    let Some(limit) = limit_given(matches) else {
+        return Err(NoOrder::Refused);
+    };
+    let inputs = inputs_given(alloc, matches)?;
+    Ok(RunOrder {
+        layout,
+        limit,
+        inputs,
+    })
+}
+
+fn verified_order(order: VerifiedOrder) -> Order
+    ensures { result ≡ Program (Verified order) }
+{
+    Order::Program(ProgramOrder::Verified(order))
+}
+
+fn order_of(alloc: Global, matches: &ArgMatches<'_>) -> Result<Order, NoOrder>
+    ensures taken { IfOk result (λ order. (faults_behind (subcommand_rows_of matches.now) ≡ [])
+        × IsAsked (asked_of (subcommand_rows_of matches.now)) order) }
+    ensures refused { IfErr result
+        (HasReason (faults_behind (subcommand_rows_of matches.now)) (asked_of (subcommand_rows_of matches.now))) }
+{
+    match matches.subcommand() {
+        Some(("run", given)) => {
+            let order = run_order(alloc, given)?;
+            Ok(verified_order(VerifiedOrder::Run(order)))
+        }
+        Some(("asm", _)) => Ok(Order::Assemble),
+        Some(("disasm", _)) => Ok(Order::Program(ProgramOrder::Disassemble)),
+        _ => Ok(verified_order(VerifiedOrder::Check)),
+    }
+}
+
+/// Reads the order from the program's words, without its own name.
+///
+/// What clap finds wrong goes first, then an option without a number in its range, then the first input word that spells
+/// no input. What a help text says, no clause tells; nor that memory was refused where that is answered.
+pub fn read_order(alloc: Global, words: &[String]) -> Result<Order, NoOrder>
+    ensures taken { IfOk result (λ order. (word_faults (map string_bytes words.now) ≡ [])
+        × IsAsked (asked_by_words (map string_bytes words.now)) order) }
+    ensures refused { IfErr result
+        (HasReason (word_faults (map string_bytes words.now)) (asked_by_words (map string_bytes words.now))) }
+{
+    let matches = match command(alloc)?.try_get_matches_from(words) {
+        Ok(matches) => matches,
+        Err(error) => return Err(reason_of(alloc, &error)),
+    };
+    order_of(alloc, &matches)
+}

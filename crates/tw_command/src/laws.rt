@@ -1,0 +1,53 @@
+//! What the reading of words says at some words.
+
+ghost use Rattle.std.specs.Prelude.{◌≡◌, ℕ, List, [], ◌∷◌, codes};
+ghost use Rattle.clap.specs.declared.error.ErrorKind.TheVariants.{ArgumentConflict, DisplayHelp, InvalidSubcommand};
+ghost use Rattle.clap.specs.declared.error.ErrorKind.TheVariants.{InvalidValue, UnknownArgument, ValueValidation};
+ghost use Rattle.tw_command.specs.CommandLine.{Assembles, Checks, Disassembles, Runs, asked_by_words, word_faults};
+ghost use Rattle.tw_command.specs.Options.{actors};
+ghost use Rattle.tw_command.specs.InputWords.{OneInput, OneRefusedWord};
+
+/// Each command is taken, and asks for what its name says, with the options and words behind `run`.
+pub fn commands_are_taken()
+    ensures asm { (word_faults (codes "asm" ∷ []) ≡ []) × (asked_by_words (codes "asm" ∷ []) ≡ Assembles) }
+    ensures disasm { (word_faults (codes "disasm" ∷ []) ≡ []) × (asked_by_words (codes "disasm" ∷ []) ≡ Disassembles) }
+    ensures check { (word_faults (codes "check" ∷ []) ≡ []) × (asked_by_words (codes "check" ∷ []) ≡ Checks) }
+    ensures run { (word_faults (codes "run" ∷ []) ≡ [])
+        × (asked_by_words (codes "run" ∷ []) ≡ Runs (actors 1 1 1) 10000 []) }
+    ensures inputs { (word_faults (codes "run" ∷ codes "int:7" ∷ codes "text:a" ∷ []) ≡ [])
+        × (asked_by_words (codes "run" ∷ codes "int:7" ∷ codes "text:a" ∷ [])
+        ≡ Runs (actors 1 1 1) 10000 (codes "int:7" ∷ codes "text:a" ∷ [])) }
+    ensures first { (rest : List ℕ) → (word_faults (codes "run" ∷ (105 ∷ rest) ∷ []) ≡ [])
+        × (asked_by_words (codes "run" ∷ (105 ∷ rest) ∷ []) ≡ Runs (actors 1 1 1) 10000 ((105 ∷ rest) ∷ [])) }
+    ensures before { (word_faults (codes "run" ∷ codes "--workers" ∷ codes "16" ∷ codes "int:7" ∷ []) ≡ [])
+        × (asked_by_words (codes "run" ∷ codes "--workers" ∷ codes "16" ∷ codes "int:7" ∷ [])
+        ≡ Runs (actors 1 1 16) 10000 (codes "int:7" ∷ [])) }
+    ensures between { (word_faults (codes "run" ∷ codes "int:7" ∷ codes "--servers=3" ∷ codes "int:8" ∷ []) ≡ [])
+        × (asked_by_words (codes "run" ∷ codes "int:7" ∷ codes "--servers=3" ∷ codes "int:8" ∷ [])
+        ≡ Runs (actors 1 3 1) 10000 (codes "int:7" ∷ codes "int:8" ∷ [])) }
+    ensures behind { (word_faults (codes "run" ∷ codes "int:7" ∷ codes "--limit" ∷ codes "9" ∷ codes "--engines=2" ∷ [])
+        ≡ [])
+        × (asked_by_words (codes "run" ∷ codes "int:7" ∷ codes "--limit" ∷ codes "9" ∷ codes "--engines=2" ∷ [])
+        ≡ Runs (actors 2 1 1) 9 (codes "int:7" ∷ [])) }
+{}
+
+/// Words are refused that name no command, or come after `check`; so is an option that isn't known, comes twice, or has
+/// no number in its range.
+pub fn strangers_are_refused()
+    ensures command { word_faults (codes "walk" ∷ []) ≡ UnknownArgument ∷ InvalidSubcommand ∷ [] }
+    ensures help { word_faults (codes "run" ∷ codes "--help" ∷ []) ≡ DisplayHelp ∷ [] }
+    ensures option { word_faults (codes "run" ∷ codes "--trace" ∷ []) ≡ UnknownArgument ∷ [] }
+    ensures input { word_faults (codes "check" ∷ codes "int:7" ∷ []) ≡ UnknownArgument ∷ [] }
+    ensures second { word_faults (codes "check" ∷ codes "--workers" ∷ codes "2" ∷ []) ≡ UnknownArgument ∷ [] }
+    ensures twice { word_faults (codes "run" ∷ codes "--limit=5" ∷ codes "--limit=5" ∷ []) ≡ ArgumentConflict ∷ [] }
+    ensures bare { word_faults (codes "run" ∷ codes "--limit" ∷ []) ≡ InvalidValue ∷ [] }
+    ensures none { word_faults (codes "run" ∷ codes "--workers" ∷ codes "0" ∷ []) ≡ ValueValidation ∷ [] }
+    ensures past { word_faults (codes "run" ∷ codes "--workers" ∷ codes "17" ∷ codes "7" ∷ []) ≡ ValueValidation ∷ [] }
+    ensures word { word_faults (codes "run" ∷ codes "--engines" ∷ codes "+1" ∷ []) ≡ ValueValidation ∷ [] }
+{}
+
+/// A word spells one input alone, and one input word alone is the first that spells none.
+pub fn words_spell_one_input()
+    ensures input { OneInput }
+    ensures refused { OneRefusedWord }
+{}

@@ -1,0 +1,14 @@
+//! The command line of `tw`: which words give which order.
+//!
+//! `read_order` takes all words, and `input_of` one word that is to spell an input. Nothing is read or written here.
+#![tactic(auto)]
+
+mod command;
+mod input_words;
+mod laws;
+mod limit;
+
+pub use command::{NoOrder, Order, ProgramOrder, RunOrder, VerifiedOrder, read_order};
+pub use input_words::input_of;
+pub use laws::{commands_are_taken, strangers_are_refused, words_spell_one_input};
+pub use limit::EventLimit;

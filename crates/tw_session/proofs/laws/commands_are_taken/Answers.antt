@@ -1,8 +1,0 @@
-use Rattle.std.proofs.Common.{refl}
-use Rattle.clap.proofs.OnLiterals.{clap_on_literals}
-use Rattle.tw_session.specs.CommandLine.{command_line}
-use Rattle.tw_session.proofs.laws.commands_are_taken.Goals as goal
-
-pub returns : goal.returns
-unfolding clap_on_literals command_line
-returns c = record { asm = (refl, refl); disasm = (refl, refl); check = (refl, refl); run = (refl, refl); inputs = (refl, refl); first = λ rest. (refl, refl); before = (refl, refl); between = (refl, refl); behind = (refl, refl) }
