@@ -17,7 +17,7 @@ use Rattle.tw_store.specs.Placed.{PlacedDatum, PlacedMembers, with_placed_member
 use Rattle.tw_store.specs.Slots.{Slots, live_of, places_of, datum_in, place_in, AreApart, IsAt, AllAt, AreSeated, Stood, Remains, IsChanged, IsChangedAt, IsSettled}
 use Rattle.tw_store.proofs.Shown.{map_of, get_shown, get_nowhere, search_slots, same_slot, no_slot, shown_put, shown_gone, apart_put, set_there, set_others, seat_of, IsSeat}
 use Rattle.tw_store.proofs.Live.{same, changed_is, after_is, settled_held, settled_gone}
-use Rattle.tw_store.proofs.Drops.{drop_absent, drop_unread, drop_held, drop_lowest, drop_last}
+use Rattle.tw_types.proofs.Drops.{drop_absent, drop_unread, drop_held, drop_lowest, drop_last}
 
 -- ---- what is left
 

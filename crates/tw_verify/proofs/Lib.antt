@@ -6,5 +6,4 @@ pub mod Places
 pub mod Programs
 pub mod Reaching
 pub mod RightTypings
-pub mod Scalars
 pub mod Typings

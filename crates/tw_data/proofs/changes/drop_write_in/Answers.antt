@@ -3,7 +3,7 @@ use Rattle.std.specs.FinMap.{insert}
 use Rattle.tw_data.specs.Parts.{data_of}
 use Rattle.tw_data.proofs.Live.{found, written}
 use Rattle.tw_types.specs.StoreCalls.{one_write_less}
-use Rattle.tw_data.proofs.Passed.{none_is, drop_write_live, drop_write_write}
+use Rattle.tw_types.proofs.Passed.{none_is, drop_write_live, drop_write_write}
 use Rattle.tw_data.proofs.Closes.{after_is}
 use Rattle.tw_data.proofs.changes.drop_write_in.Goals as goal
 

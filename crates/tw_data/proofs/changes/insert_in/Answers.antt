@@ -3,7 +3,7 @@ use Rattle.tw_data.specs.Parts.{data_of}
 use Rattle.tw_data.proofs.Live.{found, written, same}
 use Rattle.std.specs.FinMap.{insert}
 use Rattle.tw_types.specs.StoreCalls.{with_member}
-use Rattle.tw_data.proofs.Passed.{none_is, insert_live, insert_container}
+use Rattle.tw_types.proofs.Passed.{none_is, insert_live, insert_container}
 use Rattle.tw_data.proofs.Views.{changed_is, on_ok, on_err}
 use Rattle.tw_data.proofs.changes.insert_in.Goals as goal
 

@@ -8,7 +8,7 @@ use Rattle.tw_types.proofs.Maps.{remove_insert}
 use Rattle.tw_data.specs.Parts.{data_of}
 use Rattle.tw_data.proofs.Live.{found, written, written_found, looked, removed}
 use Rattle.tw_types.specs.Store.{drop_read_within, is_unheld, members_of}
-use Rattle.tw_data.proofs.Drops.{same_members, drop_absent, drop_unread, drop_held, drop_lowest, drop_last, fold_next, fold_end}
+use Rattle.tw_types.proofs.Drops.{same_members, drop_absent, drop_unread, drop_held, drop_lowest, drop_last, fold_next, fold_end}
 use Rattle.tw_data.proofs.freeing.+freeing.Goals as goal
 use Rattle.tw_data.proofs.freeing.+freeing.Goals.{drop_each-in-Some, drop_each-in_default}
 

@@ -4,7 +4,7 @@ use Rattle.std.specs.FinMap as map
 use Rattle.tw_data.specs.Parts.{data_of}
 use Rattle.tw_data.proofs.Live.{found, removed}
 use Rattle.tw_types.specs.Store.{drop_read_within}
-use Rattle.tw_data.proofs.Drops.{same_members}
+use Rattle.tw_types.proofs.Drops.{same_members}
 use Rattle.tw_types.proofs.Maps.{if_none, if_some}
 use Rattle.tw_data.proofs.Closes.{settled_held, settled_gone}
 use Rattle.tw_data.proofs.freeing.settle.Goals as goal

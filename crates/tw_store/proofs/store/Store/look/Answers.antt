@@ -7,7 +7,7 @@ use Rattle.tw_store.specs.Served.{IsHere, IsNow}
 use Rattle.tw_store.specs.Parts.{served_of}
 use Rattle.tw_store.specs.declared.member.Member.{Member}
 use Rattle.tw_store.specs.declared.slot.Slot.{Slot}
-use Rattle.tw_store.proofs.Passed.{look_kept}
+use Rattle.tw_types.proofs.Passed.{look_kept}
 use Rattle.tw_store.proofs.Remain.{if_some}
 use Rattle.tw_store.proofs.Here.{seat, is_there, read_is, member_is, no_member, member_here, member_seat, member_room, right_on, now_is, now_seated, unchanged}
 use Rattle.tw_store.proofs.store.Store.look.Goals as goal
