@@ -57,6 +57,7 @@ impl Position {
         }
     }
 
+    /// The place of the instruction that comes next; places count from 0.
     pub fn place(&self) -> usize
         ensures { result ≡ self.now.place }
     {
@@ -80,6 +81,7 @@ impl Position {
         self.place += 1;
     }
 
+    /// Goes on at the next place.
     pub fn go_on(&mut self)
         requires { self.old.place < 2 ^ 63 }
         ensures { self.new ≡ at_next_place self.old }

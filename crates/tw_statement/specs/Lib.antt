@@ -1,5 +1,6 @@
 -- Statements of assembly text: Parts is the table of what each has, Statement says which words spell it, and Written how
--- it is written. Names has the names of instructions, and Seen says how the code's statements are seen.
+-- it is written. Seen says how the code's statements are seen. Names is for the parser alone: the names of Parts once more,
+-- by opcode.
 pub mod Parts
 pub mod Statement
 pub mod Written
