@@ -1,5 +1,5 @@
 -- What right typings say of the code, and of a task that runs: what is asked, what is left, and what its registers hold.
-use Rattle.std.proofs.Common.{◌≡◌, ℕ, ◌+◌, ◌<◌, true, List, [], length, slice_get, get_or, Option, Some, None, refl, sym, ap, subst, ◌∙◌, arith}
+use Rattle.std.proofs.Common.{◌≡◌, ℕ, ◌+◌, ◌<◌, true, List, [], length, slice_get, Option, Some, None, refl, sym, ap, subst, ◌∙◌, arith}
 use Rattle.std.proofs.lemmas.List.{length-map}
 use Rattle.std.proofs.lemmas.Option.{slice_get-get_or, slice_get-map, slice_get_within, same_Some}
 use Rattle.std.specs.FinMap.{get}
@@ -15,7 +15,6 @@ use Rattle.tw_code.specs.declared.flow.Way.TheVariants.{Done, Refused}
 use Rattle.tw_code.specs.declared.instr.Instr.{Instr}
 use Rattle.tw_code.specs.declared.procedure.Procedure.{Procedure}
 use Rattle.tw_code.specs.accepting.Flow.{flow_of, flows, onward}
-use Rattle.tw_code.specs.accepting.Structure.{end_of}
 use Rattle.tw_code.specs.accepting.Typing.{after, asks, start_typing}
 use Rattle.tw_code.specs.accepting.WellTyped.{IsEndOf}
 use Rattle.tw_code.specs.format.Program.{IsProgram}
@@ -24,7 +23,7 @@ use Rattle.tw_code.specs.machine.Machine.{local_steps}
 use Rattle.tw_code.specs.machine.Position.{Position, goal_of}
 use Rattle.tw_code.specs.machine.Rights.{Right, Rights, Typing, right_at}
 use Rattle.tw_code.specs.machine.State.{Frame, State, context_of}
-use Rattle.tw_budget.proofs.Places.{begun, end_within, no_refusals, not_last, stays}
+use Rattle.tw_budget.proofs.Places.{end_within, no_refusals, not_last, stays}
 use Rattle.tw_budget.specs.Sound.{IsSound}
 use Rattle.tw_invariant.specs.Invariant.{IsHeld, RightsFit}
 use Rattle.tw_invariant.specs.NoTrap.{AreRight}

@@ -8,7 +8,7 @@ use Rattle.tw_code.specs.declared.procedure.Procedure.{Procedure}
 use Rattle.tw_code.specs.accepting.Flow.{flows}
 use Rattle.tw_code.specs.accepting.Structure.{IsStructureRefusal, structure_refusal_at}
 use Rattle.tw_code.specs.accepting.Typing.{start_typing}
-use Rattle.tw_code.specs.accepting.WellTyped.{IsFirstRefusal, IsLowestRefusal, IsProcedureRefusal, IsTypingRefusal, IsWellTyped}
+use Rattle.tw_code.specs.accepting.WellTyped.{IsLowestRefusal, IsProcedureRefusal, IsTypingRefusal, IsWellTyped}
 use Rattle.tw_code.specs.machine.Rights.{Typing}
 use Rattle.tw_verify.specs.Laws.{OneFirstRefusal}
 use Rattle.tw_verify.proofs.Programs.{not_accepted}

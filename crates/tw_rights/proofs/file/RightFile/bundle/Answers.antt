@@ -1,4 +1,4 @@
-use Rattle.std.proofs.Common.{List, ◌≡◌, ◌<◌, ◌++◌, ◌∷◌, [], ◌+◌, sym, ap, subst, ◌∙◌, arith, length, length-append, drop}
+use Rattle.std.proofs.Common.{List, ◌∷◌, [], ◌+◌, sym, ap, subst, arith, length, length-append, drop}
 use Rattle.std.specs.Vec.Iter.{into_iter_items}
 use Rattle.tw_types.specs.declared.value.Value.{Value}
 use Rattle.tw_rights.specs.declared.arg.Arg.{Arg}
