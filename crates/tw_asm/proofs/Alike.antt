@@ -1,10 +1,10 @@
 -- Statements of the same words differ in skips alone.
 use Rattle.std.proofs.Common.{◌≡◌, ℕ, List, codes, refl, ap}
 use Rattle.std.proofs.lemmas.List.{append_cancel_right}
-use Rattle.tw_lines.specs.Words.{Word}
-use Rattle.tw_statement.specs.Statement.{Statement, Head, Registers, Label, Code, Goals, Spells}
-use Rattle.tw_statement.proofs.Once.{begins, class_of, same_class, same_word}
-use Rattle.tw_statement.proofs.Rows.{different}
+use Rattle.tw_words.specs.Words.{Word}
+use Rattle.tw_asm.specs.Statement.{Statement, Head, Registers, Label, Code, Goals, Spells}
+use Rattle.tw_asm.proofs.Once.{begins, class_of, same_class, same_word}
+use Rattle.tw_asm.proofs.Rows.{different}
 use Rattle.tw_asm.specs.Fault.{Situation, after}
 
 abbrev pub AreAlike : Statement → Statement → Type 0

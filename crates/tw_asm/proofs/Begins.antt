@@ -1,9 +1,9 @@
 -- What the first word of a line promises.
 use Rattle.std.proofs.Common.{◌≡◌, ℕ, List, ◌∷◌, refl, subst}
-use Rattle.tw_lines.specs.Words.{Bare, IsFirstWord, IsLine, Word}
-use Rattle.tw_statement.specs.declared.statement.First.{First}
-use Rattle.tw_statement.specs.Statement.{Statement, Head, Registers, Label, Code, Goals, IsPromised, Spells}
-use Rattle.tw_statement.proofs.Once.{begins, first_word, promise_of, promised}
+use Rattle.tw_words.specs.Words.{Bare, IsFirstWord, IsLine, Word}
+use Rattle.tw_asm.specs.declared.statement.First.{First}
+use Rattle.tw_asm.specs.Statement.{Statement, Head, Registers, Label, Code, Goals, IsPromised, Spells}
+use Rattle.tw_asm.proofs.Once.{begins, first_word, promise_of, promised}
 use Rattle.tw_asm.specs.Fault.{Begins, MayBegin, Situation}
 use Rattle.tw_asm.specs.reading.Promise.{promise}
 

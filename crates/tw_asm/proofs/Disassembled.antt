@@ -16,15 +16,15 @@ use Rattle.tw_types.specs.declared.param.Param.{Param}
 use Rattle.tw_code.specs.declared.instr.Instr.{Instr}
 use Rattle.tw_code.specs.declared.procedure.Procedure.{Procedure}
 use Rattle.tw_code.specs.format.Program.{IsInstr, IsParam, IsProcedure, IsProgram, IsTypeUnder}
-use Rattle.tw_lines.specs.Words.{Bare, IsLine, Word}
-use Rattle.tw_lines.proofs.Breaks.{IsOneLine, one_lines_back, with_line_feed}
-use Rattle.tw_statement.specs.Parts.{skip_of}
-use Rattle.tw_statement.specs.Statement.{Code, Goals, Head, IsTypeOfMode, Label, Registers, Statement}
-use Rattle.tw_statement.specs.Written.{goal_word, line_of}
-use Rattle.tw_statement.proofs.Labels.{numbered_name, one_numbered}
-use Rattle.tw_statement.proofs.Once.{begins, first_word}
-use Rattle.tw_statement.proofs.Quotes.{after_ascii}
-use Rattle.tw_statement.proofs.Written.{IsGoal, IsLineOf, all_append, bare_line, head_written, instr_written, label_written, registers_written}
+use Rattle.tw_words.specs.Words.{Bare, IsLine, Word}
+use Rattle.tw_words.proofs.Breaks.{IsOneLine, one_lines_back, with_line_feed}
+use Rattle.tw_asm.specs.Parts.{skip_of}
+use Rattle.tw_asm.specs.Statement.{Code, Goals, Head, IsTypeOfMode, Label, Registers, Statement}
+use Rattle.tw_asm.specs.Written.{goal_word, line_of}
+use Rattle.tw_asm.proofs.Labels.{numbered_name, one_numbered}
+use Rattle.tw_asm.proofs.Once.{begins, first_word}
+use Rattle.tw_asm.proofs.Quotes.{after_ascii}
+use Rattle.tw_asm.proofs.Written.{IsGoal, IsLineOf, all_append, bare_line, head_written, instr_written, label_written, registers_written}
 use Rattle.tw_asm.specs.Disassembly.{code_lines, disassembly, label_at, label_line, label_places, procedure_lines}
 use Rattle.tw_asm.specs.Spelling.{AreCode, GoesTo, HaveWords, Placed, SpellProcedures, SpellsProcedure, SpellsProgram}
 use Rattle.tw_asm.proofs.OwnLines.{words_of_goal}

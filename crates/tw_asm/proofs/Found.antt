@@ -4,8 +4,8 @@ use Rattle.std.proofs.lemmas.Grind.{flat_map-append}
 use Rattle.std.proofs.lemmas.List.{append-nil, length-append}
 use Rattle.std.specs.List.{flat_map}
 use Rattle.tw_code.specs.declared.instr.Instr.{Instr}
-use Rattle.tw_statement.specs.Seen.{Read}
-use Rattle.tw_statement.specs.Statement.{Statement, Head, Registers, Label, Code}
+use Rattle.tw_asm.specs.Seen.{Read}
+use Rattle.tw_asm.specs.Statement.{Statement, Head, Registers, Label, Code}
 use Rattle.tw_asm.specs.Fault.{MayStand}
 use Rattle.tw_asm.specs.Spelling.{Placed}
 use Rattle.tw_asm.specs.reading.Goals.{Goal, goals_in, section_goals}

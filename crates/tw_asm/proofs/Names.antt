@@ -1,68 +1,104 @@
--- The label that an instruction's words name.
-use Rattle.std.proofs.Common.{◌≡◌, ℕ, Bool, true, false, List, [], ◌∷◌, ◌++◌, Some, None, inl, inr, refl, sym, subst, ap, ◌∙◌, append_assoc}
-use Rattle.tw_code.specs.declared.instr.Instr.{Instr}
-use Rattle.tw_lines.specs.Words.{Bare, Word}
-use Rattle.tw_statement.specs.Parts.{Part, Skip, Target, instr_parts}
-use Rattle.tw_statement.specs.Statement.{Code, Goals, NamesLabel, SpellParts, SpellsPart, Spells}
-use Rattle.tw_statement.proofs.Rows.{row, skips_last}
-use Rattle.tw_statement.proofs.Spelled.{bare_is}
+-- The readings of names, and of goals.
+use Rattle.std.proofs.Common.{◌≡◌, ◌==◌, ℕ, ◌≤◌, Bool, true, false, cond, List, [], ◌∷◌, length, codes, Option, Some, None, inl, inr, Ok, Err, Decides, refl, sym, ap, subst, ◌∙◌, arith}
+use Rattle.std.specs.Prelude.{nat_lt, ◌||◌}
+use Rattle.std.specs.Int.{IsInRange}
+use Rattle.std.specs.List.{AllByRecursion}
+use Rattle.std.proofs.lemmas.Bool.{eqb-true, ltb-true}
+use Rattle.std.proofs.lemmas.Bool.Decides.{Decides-and, Decides-or, Decides-eqb, nat_tests}
+use Rattle.tw_code.specs.format.Program.{IsSkip}
+use Rattle.tw_words.specs.Words.{Word, Bare, Quoted}
+use Rattle.tw_asm.proofs.Numbers.{digits_read, within_decide}
+use Rattle.tw_asm.proofs.OperandWords.{apart}
+use Rattle.tw_asm.proofs.Readings.{Reads, carried}
+use Rattle.tw_asm.specs.Statement.{IsInName, IsLetter, IsName, SpellsWith}
+use Rattle.tw_asm.specs.declared.refusal.Flaw.TheVariants.{Form, Limit}
+use Rattle.tw_asm.specs.reading.Operands.{all_in_name, as_is, at_label, digits_in, further, goal_in, is_in_name, is_letter, is_name, is_within, name_in}
+use Rattle.tw_words.specs.Number.{SpellsDigits}
 
-abbrev NoGoal : Goals
-NoGoal skip word = ⊥
+no : false ≡ true → ⊥
+no e = cc
 
--- the words of parts name no label, or one with the last word
-data LastNamed (goals : Goals) (parts : List Part) (words : List Word) : Type 0 where
-  none_named : SpellParts NoGoal parts words → LastNamed goals parts words
-  named_last : (skip : ℕ) (name : List ℕ) (front : List Word) → goals skip name → words ≡ front ++ (Bare name ∷ []) → LastNamed goals parts words
+letter_decide : (b : ℕ) → Decides (is_letter b) (IsLetter b)
+letter_decide b = Decides-or (is_within 65 90 b) (is_within 97 122 b) (within_decide 65 90 b) (within_decide 97 122 b)
 
-abbrev is_skip : Part → Bool
-is_skip (Skip skip) = true
-is_skip part = false
+in_name_decide : (b : ℕ) → Decides (is_in_name b) (IsInName b)
+in_name_decide b = Decides-or (is_letter b) (is_within 48 57 b || (b == 95)) (letter_decide b) (Decides-or (is_within 48 57 b) (b == 95) (within_decide 48 57 b) (Decides-eqb b 95))
 
-plain : (goals : Goals) (part : Part) (words : List Word) → is_skip part ≡ false → SpellsPart goals part words → SpellsPart NoGoal part words
-plain goals (Skip skip) words other h = absurd cc
-plain goals (Target None) words other h = h
-plain goals (Target (Some number)) words other h = h
-plain goals part words other h = h
+all_decide : (text : List ℕ) → Decides (all_in_name text) (AllByRecursion IsInName text)
+all_decide [] = (λ _. tt, λ _. refl)
+all_decide (b ∷ others) = Decides-and (is_in_name b) (all_in_name others) (in_name_decide b) (all_decide others)
 
-behind_plain : (goals : Goals) (part : Part) (parts : List Part) (first others words : List Word) → is_skip part ≡ false → words ≡ first ++ others → SpellsPart goals part first → LastNamed goals parts others → LastNamed goals (part ∷ parts) words
-behind_plain goals part parts first others words other is h (none_named hs) = none_named (first, others, is, plain goals part first other h, hs)
-behind_plain goals part parts first others words other is h (named_last skip name front goal e) =
-    named_last skip name (first ++ front) goal (is ∙ ap (λ (x : List Word). first ++ x) e ∙ sym (append_assoc first front (Bare name ∷ [])))
+pub name_decide : (text : List ℕ) → Decides (is_name text) (IsName text)
+name_decide [] = (λ e. absurd (no e), λ h. absurd h)
+name_decide (b ∷ others) = Decides-and (is_letter b) (all_in_name others) (letter_decide b) (all_decide others)
 
-last_named : (goals : Goals) (parts : List Part) (words : List Word) → skips_last parts ≡ true → SpellParts goals parts words → LastNamed goals parts words
-last_named goals [] words last h = none_named h
-last_named goals (Skip skip ∷ []) words last (first, others, is, inl h, none) = none_named (first, others, is, inl h, none)
-last_named goals (Skip skip ∷ []) words last (first, others, is, inr (name, goal, has), none) =
-    named_last skip name [] goal (is ∙ ap (λ (x : List Word). x ++ others) has ∙ ap (λ (x : List Word). Bare name ∷ x) none)
-last_named goals (Skip skip ∷ part ∷ parts) words last h = absurd cc
-last_named goals (part ∷ parts) words last (first, others, is, h, hs) = behind_plain goals part parts first others words refl is h (last_named goals parts others last hs)
+-- this name, in these bytes
+abbrev pub IsThisName : List ℕ → List ℕ → Type 0
+IsThisName text name = IsName name × (text ≡ name)
 
--- ---- the last word
-
-abbrev last_or : Word → List Word → Word
-last_or word [] = word
-last_or word (first ∷ others) = last_or first others
-
-last_push : (word : Word) (front : List Word) (last : Word) → last_or word (front ++ (last ∷ [])) ≡ last
-last_push word [] last = refl
-last_push word (first ∷ front) last = last_push first front last
-
-last_same : (v w : List ℕ) (words front back : List Word) → words ≡ front ++ (Bare v ∷ []) → words ≡ back ++ (Bare w ∷ []) → v ≡ w
-last_same v w words front back e f =
-    bare_is v w (sym (last_push (Bare []) front (Bare v)) ∙ ap (last_or (Bare [])) (sym e ∙ f) ∙ last_push (Bare []) back (Bare w))
+pub name_read : (text : List ℕ) → Reads (IsThisName text) (λ name. length name ≤ 64) (name_in text)
+unfolding name_in
+name_read text = by (is_name text) (nat_lt 64 (length text)) refl refl
+  where
+    by : (n l : Bool) → is_name text ≡ n → nat_lt 64 (length text) ≡ l → Reads (IsThisName text) (λ name. length name ≤ 64) (cond n (cond l (Err Limit) (Ok text)) (Err Form))
+    by true true is long = ((text, ((name_decide text).0 is, refl)), λ name h m. absurd (omega (arith, ltb-true 64 (length text) long, subst (λ (t : List ℕ). length t ≤ 64) (sym h.1) m)))
+    by true false is short = (((name_decide text).0 is, refl), grind (arith, nat_tests))
+    by false l isnt _ = λ name h. no (sym isnt ∙ (name_decide text).1 (subst IsName (sym h.1) h.0))
 
 -- ---- goals
 
--- words that name a label spell an instruction by that name alone
-pub named_goal : (goals : Goals) (i : Instr) (name : List ℕ) (words : List Word) → NamesLabel name words → Spells goals (Code i) words → (skip : ℕ) × goals skip name
-named_goal goals i name words n s =
-    both (last_named (λ skip word. word ≡ name) (instr_parts n.i) words (row n.i).last n.spells.parts) (last_named goals (instr_parts i) words (row i).last s.parts)
-  where
-    both : LastNamed (λ skip word. word ≡ name) (instr_parts n.i) words → LastNamed goals (instr_parts i) words → (skip : ℕ) × goals skip name
-    both (none_named h) k = absurd (n.names n.i (record { form = tt; parts = h }))
-    both (named_last skip word front is e) (none_named k) = absurd (n.names i (record { form = tt; parts = k }))
-    both (named_last skip word front is e) (named_last other_skip other back goal f) = (other_skip, subst (goals other_skip) (last_same other word words back front f e ∙ is) goal)
+abbrev pub HasGoal : Word → ℕ → Option (List ℕ) → Type 0
+HasGoal w skip None = SpellsWith (codes "+") skip (w ∷ [])
+HasGoal w skip (Some name) = (skip ≡ 0) × IsName name × (w ≡ Bare name)
 
-pub named_once : (name other : List ℕ) (words : List Word) → NamesLabel name words → NamesLabel other words → name ≡ other
-named_once name other words a b = (named_goal (λ skip word. word ≡ other) b.i name words a b.spells).1
+abbrev pub MayGoal : ℕ → Option (List ℕ) → Type 0
+MayGoal skip None = IsSkip skip
+MayGoal skip (Some name) = length name ≤ 64
+
+pub no_letter : (b : ℕ) → IsLetter b → b ≡ 43 → ⊥
+no_letter b (inl h) e = omega arith
+no_letter b (inr h) e = omega arith
+
+pub goal_read : (w : Word) → Reads (λ g. HasGoal w g.skip g.label) (λ g. MayGoal g.skip g.label) (goal_in w)
+goal_read (Quoted text) = λ g h. none g.skip g.label h
+  where
+    none : (skip : ℕ) (label : Option (List ℕ)) → HasGoal (Quoted text) skip label → ⊥
+    none skip None (digits, spells, e) = cc
+    none skip (Some name) (z, is, e) = cc
+goal_read (Bare []) = λ g h. none g.skip g.label h
+  where
+    none : (skip : ℕ) (label : Option (List ℕ)) → HasGoal (Bare []) skip label → ⊥
+    none skip None (digits, spells, e) = cc
+    none skip (Some name) (z, is, e) = empty name is e
+      where
+        empty : (name : List ℕ) → IsName name → Bare [] ≡ Bare name → ⊥
+        empty [] h e = h
+        empty (b ∷ others) h e = cc
+goal_read (Bare (b ∷ rest)) = by (b == 43) refl
+  where
+    tail_is : (digits : List ℕ) → Bare (b ∷ rest) ∷ [] ≡ Bare (43 ∷ digits) ∷ [] → digits ≡ rest
+    tail_is digits e = cc
+
+    head_is : (digits : List ℕ) → Bare (b ∷ rest) ∷ [] ≡ Bare (43 ∷ digits) ∷ [] → b ≡ 43
+    head_is digits e = cc
+
+    name_is : (name : List ℕ) → Bare (b ∷ rest) ≡ Bare name → b ∷ rest ≡ name
+    name_is name e = cc
+
+    plus : b ≡ 43 → (skip : ℕ) (label : Option (List ℕ)) → HasGoal (Bare (b ∷ rest)) skip label → (n : ℕ) × SpellsDigits n rest × (record { skip = skip; label = label } ≡ further n)
+    plus is skip None (digits, spells, e) = (skip, subst (SpellsDigits skip) (tail_is digits e) spells, refl)
+    plus is skip (Some name) (z, is_name, e) = absurd (no_letter b (subst IsName (sym (name_is name e)) is_name).0 is)
+
+    named : (b ≡ 43 → ⊥) → (skip : ℕ) (label : Option (List ℕ)) → HasGoal (Bare (b ∷ rest)) skip label → (name : List ℕ) × IsThisName (b ∷ rest) name × (record { skip = skip; label = label } ≡ at_label name)
+    named isnt skip None (digits, spells, e) = absurd (isnt (head_is digits e))
+    named isnt skip (Some name) (z, is_name, e) = (name, (is_name, name_is name e), ap (λ (n : ℕ). record { skip = n; label = Some name }) z)
+
+    by : (t : Bool) → (b == 43) ≡ t → Reads (λ g. HasGoal (Bare (b ∷ rest)) g.skip g.label) (λ g. MayGoal g.skip g.label) (cond t (as_is further (digits_in 0 65535 rest)) (as_is at_label (name_in (b ∷ rest))))
+    by true is =
+        carried further (λ n. SpellsDigits n rest) (IsInRange 0 65535) (λ g. HasGoal (Bare (b ∷ rest)) g.skip g.label) (λ g. MayGoal g.skip g.label)
+        (λ n h. (rest, h, ap (λ (c : ℕ). Bare (c ∷ rest) ∷ []) (eqb-true b 43 is))) (λ g h. plus (eqb-true b 43 is) g.skip g.label h)
+        (λ n h m. m) (λ n h m. m) (digits_in 0 65535 rest) (digits_read 0 65535 rest)
+    by false is =
+        carried at_label (IsThisName (b ∷ rest)) (λ name. length name ≤ 64) (λ g. HasGoal (Bare (b ∷ rest)) g.skip g.label) (λ g. MayGoal g.skip g.label)
+        (λ name h. (refl, h.0, ap (λ (t : List ℕ). Bare t) h.1)) (λ g h. named (apart b 43 is) g.skip g.label h)
+        (λ n h m. m) (λ n h m. m) (name_in (b ∷ rest)) (name_read (b ∷ rest))

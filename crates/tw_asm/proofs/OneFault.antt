@@ -3,19 +3,19 @@ use Rattle.std.proofs.Common.{◌≡◌, ℕ, zero, suc, ◌+◌, ◌≤◌, Lis
 use Rattle.std.specs.List.{Contains, slice_get}
 use Rattle.std.specs.Str.Lines.{lines}
 use Rattle.tw_code.specs.declared.instr.Instr.{Instr}
-use Rattle.tw_lines.specs.Words.{Bare, IsLine, Word}
-use Rattle.tw_statement.specs.Statement.{Statement, Label, Code, AnyShortName, IsPromised, NamesLabel, Say}
-use Rattle.tw_statement.specs.declared.statement.First.{First}
-use Rattle.tw_statement.specs.declared.statement.First.TheVariants as first
+use Rattle.tw_words.specs.Words.{Bare, IsLine, Word}
+use Rattle.tw_asm.specs.Statement.{Statement, Label, Code, AnyShortName, IsPromised, NamesLabel, Say}
+use Rattle.tw_asm.specs.declared.statement.First.{First}
+use Rattle.tw_asm.specs.declared.statement.First.TheVariants as first
 use Rattle.tw_asm.specs.declared.fault.FaultNo.{FaultNo}
 use Rattle.tw_asm.specs.Fault.{Stage, InBody, Begins, GoalFault, IsEndFault, IsFirstFault, IsFirstGoalFault, IsLineFault, IsUnfinished, LineFault, LineSays, LinesSay, MayBegin, Situation, after_line, at_start, labels_ahead, situation, situation_from, not_forward, unknown}
 use Rattle.tw_asm.proofs.Begins.{line_begins}
-use Rattle.tw_asm.proofs.Names.{named_once}
+use Rattle.tw_asm.proofs.NamedLabels.{named_once}
 use Rattle.tw_asm.proofs.Twice.{both_alike, line_is_same, others_say, says_alike}
 use Rattle.tw_asm.proofs.Unspelled.{finished, has_words, line_no_fault}
-use Rattle.tw_lines.proofs.Once.{first_word_once, line_once}
-use Rattle.tw_statement.proofs.Once.{one_promise}
-use Rattle.tw_statement.proofs.Spelled.{bare_is}
+use Rattle.tw_words.proofs.Once.{first_word_once, line_once}
+use Rattle.tw_asm.proofs.Once.{one_promise}
+use Rattle.tw_asm.proofs.Spelled.{bare_is}
 
 -- ---- faults of one line
 

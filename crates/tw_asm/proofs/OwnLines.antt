@@ -4,10 +4,10 @@ use Rattle.std.specs.Prelude.{decimal}
 use Rattle.std.specs.List.{flat_map, join_with_byte}
 use Rattle.std.specs.Option.{option_and_then}
 use Rattle.tw_code.specs.declared.instr.Instr.{Instr}
-use Rattle.tw_statement.specs.Parts.{Part, Skip, Target, instr_parts, skip_among, skip_of}
-use Rattle.tw_statement.specs.Statement.{Code}
-use Rattle.tw_statement.specs.Written.{goal_word, line_of, part_words}
-use Rattle.tw_statement.proofs.Rows.{is_last, row, skips_last}
+use Rattle.tw_asm.specs.Parts.{Part, Skip, Target, instr_parts, skip_among, skip_of}
+use Rattle.tw_asm.specs.Statement.{Code}
+use Rattle.tw_asm.specs.Written.{goal_word, line_of, part_words}
+use Rattle.tw_asm.proofs.Rows.{is_last, row, skips_last}
 use Rattle.tw_asm.specs.Disassembly.{label_at}
 
 module _ (f g : ℕ → List ℕ) where

@@ -9,7 +9,7 @@ use Rattle.std.proofs.lemmas.List.Quantifiers.{position-Some}
 use Rattle.tw_code.specs.declared.instr.Instr.{Instr}
 use Rattle.tw_code.specs.declared.procedure.Procedure.{Procedure}
 use Rattle.tw_code.specs.format.Program.{IsProcedure}
-use Rattle.tw_statement.specs.Parts.{skip_of}
+use Rattle.tw_asm.specs.Parts.{skip_of}
 use Rattle.tw_asm.specs.Disassembly.{first_ones, goal_from, goals_from, label_at, label_places}
 
 -- the labels' numbers are the machine's

@@ -1,423 +1,310 @@
--- The procedures that have been read, and the words that spell them.
-use Rattle.std.proofs.Common.{◌≡◌, ◌≢◌, ℕ, suc, ◌+◌, ◌<◌, ◌≤◌, List, [], ◌∷◌, ◌++◌, length, map, Option, Some, None, inl, inr, refl, sym, subst, ap, ◌∙◌, append_assoc, arith}
-use Rattle.std.proofs.lemmas.List.{append-nil, get_or_default, length-append, map-append}
-use Rattle.std.proofs.lemmas.List.Quantifiers.{all_pairs_push}
-use Rattle.std.specs.Str.Lines.{lines}
-use Rattle.std.specs.List.{AllByRecursion, AllPairs, Contains}
-use Rattle.tw_types.specs.declared.actor.Kind.{Kind}
+-- Words spell one list of parts alone, but for names of skips.
+use Rattle.std.proofs.Common.{◌≡◌, ◌⊎◌, inl, inr, ℕ, zero, suc, true, List, [], ◌∷◌, ◌++◌, map, codes, Option, Some, None, refl, sym, ap, subst, ◌∙◌, arith}
+use Rattle.std.proofs.lemmas.List.{append_cancel_left}
+use Rattle.std.specs.Prelude.{replicate}
+use Rattle.std.specs.Int.{IsInRange}
+use Rattle.tw_words.specs.Words.{Word, Bare, Quoted}
 use Rattle.tw_types.specs.declared.data_type.Scalar.{Scalar}
-use Rattle.tw_types.specs.declared.param.Param.{Param}
-use Rattle.tw_code.specs.declared.instr.DataInstr.{DataInstr}
-use Rattle.tw_code.specs.declared.instr.DataInstr.TheVariants as on_data
-use Rattle.tw_code.specs.declared.instr.Instr.{Instr}
-use Rattle.tw_code.specs.declared.instr.Instr.TheVariants as instr
-use Rattle.tw_code.specs.declared.instr.LocalInstr.{LocalInstr}
-use Rattle.tw_code.specs.declared.instr.LocalInstr.TheVariants as local
-use Rattle.tw_code.specs.declared.procedure.Procedure.{Procedure}
-use Rattle.tw_code.specs.format.Program.{IsDataInstr, IsInstr, IsLocalInstr, IsProcedure, IsProgram}
-use Rattle.tw_lines.specs.Words.{Bare, IsLine, Word}
-use Rattle.tw_statement.specs.Seen.{IsRead, NoName, Read, data_with_skip, local_with_skip, with_skip}
-use Rattle.tw_statement.specs.Statement.{Statement, Head, Registers, Label, Code, AnyShortName, Goals, IsInLimits, Spells}
-use Rattle.tw_asm.specs.Fault.{IsWhole, MayStand}
-use Rattle.tw_asm.specs.Spelling.{AreCode, GoesTo, HaveWords, Placed, SpellProcedures, SpellsProcedure, SpellsProgram}
-use Rattle.tw_asm.specs.reading.Goals.{AreLinkedCode, AreLinkedProcedures, HasLabelsWithin, IsLinkedProcedure, IsLinkedTo, goals_in}
-use Rattle.tw_asm.specs.reading.Progress.{AtStart, BehindHead, Within, Drafted, HasSections, IsGoalOf, LinesRead, Place, Progress, Section, begun, ended, line_step, outset, progress_from, situation_of, step}
-use Rattle.tw_statement.proofs.Once.{resolved_spells, spells_more}
-use Rattle.tw_asm.proofs.Begins.{first_of_words}
-use Rattle.tw_asm.proofs.Stages.{body_head, body_start, head_body, head_start, progress, start_body, start_head}
-use Rattle.tw_asm.proofs.Steps.{read_says}
-use Rattle.tw_asm.proofs.Walk.{higher}
+use Rattle.tw_types.specs.declared.data_type.Scalar.TheVariants.{Int, Text}
+use Rattle.tw_words.specs.Number.{SpellsDigits, SpellsNumber}
+use Rattle.tw_words.proofs.Numerals.{one_number, one_size}
+use Rattle.tw_asm.specs.Parts.{Part, Name, Value, Right, Number, Natural, Literal, TypeOf, Skip, Target, scalar_word}
+use Rattle.tw_asm.specs.Seen.{NoName, OnlyName}
+use Rattle.tw_asm.specs.Statement.{Goals, IsName, SpellParts, SpellsPart, SpellsWith}
+use Rattle.tw_asm.proofs.Rows.{AreAlike, different, is_last, reskip, skips_last, sort_of}
 
--- ---- bodies whose goals aren't looked for yet
+-- these goals are names of labels
+abbrev pub AreNames : Goals → Type 0
+AreNames goals = (skip : ℕ) (name : List ℕ) → goals skip name → IsName name
 
-pub data AreDrafts : ℕ → List Placed → List Drafted → List (List Word) → Type 0 where
-  no_drafts : (place : ℕ) → AreDrafts place [] [] []
-  a_label : (place : ℕ) (name : List ℕ) (words : List Word) (labels : List Placed) (drafts : List Drafted) (others : List (List Word))
-      → Spells NoName (Label name) words → IsInLimits (Label name) → AreDrafts place labels drafts others
-      → AreDrafts place (record { name = name; place = place } ∷ labels) drafts (words ∷ others)
-  a_draft : (place : ℕ) (draft : Drafted) (words : List Word) (labels : List Placed) (drafts : List Drafted) (others : List (List Word))
-      → IsRead (record { statement = Code draft.instr; goal = draft.goal }) words → AreDrafts (place + 1) labels drafts others
-      → AreDrafts place labels (draft ∷ drafts) (words ∷ others)
+-- two skips that one name stands for
+pub record AreNamed (a b : Goals) (p q : Part) : Type 0 where
+  pub n : ℕ
+  pub m : ℕ
+  pub name : List ℕ
+  pub first : p ≡ Skip n
+  pub second : q ≡ Skip m
+  pub goal : a n name
+  pub other : b m name
 
-label_more : (place : ℕ) (labels : List Placed) (drafts : List Drafted) (body : List (List Word)) (name : List ℕ) (words : List Word)
-    → AreDrafts place labels drafts body → Spells NoName (Label name) words → IsInLimits (Label name)
-    → AreDrafts place (labels ++ (record { name = name; place = place + length drafts } ∷ [])) drafts (body ++ (words ∷ []))
-label_more place _ _ _ name words (no_drafts _) s l =
-    let e : place ≡ place + 0 = omega arith in
-    subst (λ (k : ℕ). AreDrafts place (record { name = name; place = k } ∷ []) [] (words ∷ [])) e (a_label place name words [] [] [] s l (no_drafts place))
-label_more place _ _ _ name words (a_label _ n ws labels drafts others a b more) s l =
-    a_label place n ws (labels ++ (record { name = name; place = place + length drafts } ∷ [])) drafts (others ++ (words ∷ [])) a b (label_more place labels drafts others name words more s l)
-label_more place _ _ _ name words (a_draft _ draft ws labels drafts others r more) s l =
-    let e : (place + 1) + length drafts ≡ place + suc (length drafts) = omega arith in
-    a_draft place draft ws (labels ++ (record { name = name; place = place + suc (length drafts) } ∷ [])) drafts (others ++ (words ∷ [])) r
-    (subst (λ (k : ℕ). AreDrafts (place + 1) (labels ++ (record { name = name; place = k } ∷ [])) drafts (others ++ (words ∷ []))) e (label_more (place + 1) labels drafts others name words more s l))
+-- what the same words say of two parts
+abbrev pub AreTied : Goals → Goals → Part → Part → Type 0
+AreTied a b p q = (p ≡ q) ⊎ AreNamed a b p q
 
-draft_more : (place : ℕ) (labels : List Placed) (drafts : List Drafted) (body : List (List Word)) (draft : Drafted) (words : List Word)
-    → AreDrafts place labels drafts body → IsRead (record { statement = Code draft.instr; goal = draft.goal }) words
-    → AreDrafts place labels (drafts ++ (draft ∷ [])) (body ++ (words ∷ []))
-draft_more place _ _ _ draft words (no_drafts _) r = a_draft place draft words [] [] [] r (no_drafts (place + 1))
-draft_more place _ _ _ draft words (a_label _ n ws labels drafts others a b more) r =
-    a_label place n ws labels (drafts ++ (draft ∷ [])) (others ++ (words ∷ [])) a b (draft_more place labels drafts others draft words more r)
-draft_more place _ _ _ draft words (a_draft _ d ws labels drafts others q more) r =
-    a_draft place d ws labels (drafts ++ (draft ∷ [])) (others ++ (words ∷ [])) q (draft_more (place + 1) labels drafts others draft words more r)
+abbrev pub AllTied : Goals → Goals → List Part → List Part → Type 0
+AllTied a b [] [] = Unit {0}
+AllTied a b [] (q ∷ qs) = ⊥
+AllTied a b (p ∷ ps) [] = ⊥
+AllTied a b (p ∷ ps) (q ∷ qs) = AreTied a b p q × AllTied a b ps qs
 
--- labels stand within the code, or behind its last instruction
-pub labels_within : (place : ℕ) (labels : List Placed) (drafts : List Drafted) (body : List (List Word)) → AreDrafts place labels drafts body → AllByRecursion (λ label. label.place ≤ place + length drafts) labels
-labels_within place _ _ _ (no_drafts _) = tt
-labels_within place _ _ _ (a_label _ n ws labels drafts others a b more) = (omega arith, labels_within place labels drafts others more)
-labels_within place _ _ _ (a_draft _ d ws labels drafts others q more) =
-    let e : (place + 1) + length drafts ≡ place + suc (length drafts) = omega arith in
-    subst (λ (k : ℕ). AllByRecursion (λ (label : Placed). label.place ≤ k) labels) e (labels_within (place + 1) labels drafts others more)
+-- ---- words
 
--- ---- skips for goals
+pub bare_is : (v w : List ℕ) → Bare v ≡ Bare w → v ≡ w
+bare_is v w e = cc
 
-no_name : (goals : Goals) (statement : Statement) (words : List Word) → Spells NoName statement words → Spells goals statement words
-no_name goals statement words s = spells_more NoName goals (λ skip name n. absurd n) statement words s
+quoted_is : (v w : List ℕ) → Quoted v ≡ Quoted w → v ≡ w
+quoted_is v w e = cc
 
-linked_spells : (all : List Placed) (place : ℕ) (draft : Instr) (goal : Option (List ℕ)) (i : Instr) (words : List Word)
-    → IsRead (record { statement = Code draft; goal = goal }) words → IsLinkedTo all place goal draft i → Spells (GoesTo all place) (Code i) words
-linked_spells all place draft None i words r l =
-    subst (λ (x : Instr). Spells (GoesTo all place) (Code x) words) (sym l) (no_name (GoesTo all place) (Code draft) words r.1)
-linked_spells all place draft (Some name) i words r l =
-    subst (λ (x : Instr). Spells (GoesTo all place) (Code x) words) (sym l.3) (resolved_spells (GoesTo all place) name l.0 draft words r l.1)
+pub cons_is : {A : Type 0} (v w : A) (x y : List A) → v ∷ x ≡ w ∷ y → (v ≡ w) × (x ≡ y)
+cons_is v w x y e = (cc, cc)
 
-pub linked_code : (all : List Placed) (place : ℕ) (labels : List Placed) (drafts : List Drafted) (body : List (List Word)) (code : List Instr)
-    → AreDrafts place labels drafts body → AreLinkedCode (goals_in all place drafts) code → AreCode all place labels code body
-linked_code all place _ _ _ [] (no_drafts _) l = AreCode.end place
-linked_code all place _ _ _ (i ∷ code) (no_drafts _) l = absurd l
-linked_code all place _ _ _ is (a_label _ n ws labels drafts others a b more) l =
-    AreCode.label place n ws labels is others (no_name (GoesTo all place) (Label n) ws a) b (linked_code all place labels drafts others is more l)
-linked_code all place _ _ _ [] (a_draft _ d ws labels drafts others q more) l = absurd l
-linked_code all place _ _ _ (i ∷ is) (a_draft _ d ws labels drafts others q more) l =
-    AreCode.instruction place i ws labels is others (linked_spells all place d.instr d.goal i ws q l.0) (linked_code all (place + 1) labels drafts others is more l.1)
+pub never_cons : {A : Type 0} (v : A) (x : List A) → v ∷ x ≡ [] → ⊥
+never_cons v x e = cc
 
-local_fits : (skip : ℕ) (i : LocalInstr) → skip ≤ 65535 → IsLocalInstr i → IsLocalInstr (local_with_skip skip i)
-local_fits skip (local.Compute operation to left right old) f l = (l.0, l.1, l.2, (omega arith, f))
-local_fits skip (local.Concatenate to left right old) f l = (l.0, l.1, l.2, (omega arith, f))
-local_fits skip (local.ReadInt to from old) f l = (l.0, l.1, (omega arith, f))
-local_fits skip (local.Jump old) f l = (omega arith, f)
-local_fits skip (local.JumpEqual left right old) f l = (l.0, l.1, (omega arith, f))
-local_fits skip (local.JumpLess left right old) f l = (l.0, l.1, (omega arith, f))
-local_fits skip i f l = l
+-- two words that stand first
+pub first_words : (v w : Word) (f g x y : List Word) → f ≡ v ∷ [] → g ≡ w ∷ [] → f ++ x ≡ g ++ y → (v ≡ w) × (f ≡ g) × (x ≡ y)
+first_words v w f g x y is has e =
+    let both = cons_is v w x y (ap (λ (h : List Word). h ++ x) (sym is) ∙ e ∙ ap (λ (h : List Word). h ++ y) has) in
+    (both.0, is ∙ ap (λ (u : Word). u ∷ []) both.0 ∙ sym has, both.1)
 
-data_fits : (skip : ℕ) (i : DataInstr) → skip ≤ 65535 → IsDataInstr i → IsDataInstr (data_with_skip skip i)
-data_fits skip (on_data.Insert container subscript member old) f l = (l.0, l.1, l.2, (omega arith, f))
-data_fits skip (on_data.Look member container subscript old) f l = (l.0, l.1, l.2, (omega arith, f))
-data_fits skip (on_data.SubscriptAt to container index old) f l = (l.0, l.1, l.2, (omega arith, f))
-data_fits skip i f l = l
+digits_same : (front : List ℕ) (n m : ℕ) (f g x y : List Word) → SpellsWith front n f → SpellsWith front m g → f ++ x ≡ g ++ y → (n ≡ m) × (f ≡ g) × (x ≡ y)
+digits_same front n m f g x y (ds, h, is) (cs, k, has) e =
+    let same = first_words (Bare (front ++ ds)) (Bare (front ++ cs)) f g x y is has e in
+    let digits = append_cancel_left front ds cs (bare_is (front ++ ds) (front ++ cs) same.0) in
+    (one_size n m cs (subst (SpellsDigits n) digits h) k, same.1, same.2)
 
-skip_fits : (skip : ℕ) (i : Instr) → skip ≤ 65535 → IsInstr i → IsInstr (with_skip skip i)
-skip_fits skip (instr.Local i) f l = local_fits skip i f l
-skip_fits skip (instr.Data i) f l = data_fits skip i f l
-skip_fits skip i f l = l
+-- ---- types
 
-linked_fits : (all : List Placed) (place : ℕ) (draft : Instr) (goal : Option (List ℕ)) (i : Instr) → IsInstr draft → IsLinkedTo all place goal draft i → IsInstr i
-linked_fits all place draft None i f l = subst IsInstr (sym l) f
-linked_fits all place draft (Some name) i f l = subst IsInstr (sym l.3) (skip_fits l.0 draft (omega (arith, l.2)) f)
+cont_is_no_scalar : (s : Scalar) (x y : List Word) → Bare (scalar_word s) ∷ x ≡ Bare (codes "cont") ∷ y → ⊥
+cont_is_no_scalar Int x y e =
+    let words = bare_is (codes "int") (codes "cont") (cons_is (Bare (codes "int")) (Bare (codes "cont")) x y e).0 in
+    different 105 99 (cons_is 105 99 (codes "nt") (codes "ont") words).0 refl
+cont_is_no_scalar Text x y e =
+    let words = bare_is (codes "text") (codes "cont") (cons_is (Bare (codes "text")) (Bare (codes "cont")) x y e).0 in
+    different 116 99 (cons_is 116 99 (codes "ext") (codes "ont") words).0 refl
 
-read_limits : (statement : Statement) (goal : Option (List ℕ)) (words : List Word) → IsRead (record { statement = statement; goal = goal }) words → IsInLimits statement
-read_limits statement None words r = r.0
-read_limits statement (Some name) words r = r.0
+scalars_are : (s t : Scalar) → scalar_word s ≡ scalar_word t → s ≡ t
+scalars_are Int Int e = refl
+scalars_are Text Text e = refl
+scalars_are Int Text e = absurd (by e)
+  where
+    by : codes "int" ≡ codes "text" → ⊥
+    by h = cc
+scalars_are Text Int e = absurd (by e)
+  where
+    by : codes "text" ≡ codes "int" → ⊥
+    by h = cc
 
-pub linked_limits : (all : List Placed) (place : ℕ) (labels : List Placed) (drafts : List Drafted) (body : List (List Word)) (is : List Instr)
-    → AreDrafts place labels drafts body → AreLinkedCode (goals_in all place drafts) is → AllByRecursion IsInstr is × (length is ≡ length drafts)
-linked_limits all place _ _ _ [] (no_drafts _) l = (tt, refl)
-linked_limits all place _ _ _ (i ∷ is) (no_drafts _) l = absurd l
-linked_limits all place _ _ _ is (a_label _ n ws labels drafts others a b more) l = linked_limits all place labels drafts others is more l
-linked_limits all place _ _ _ [] (a_draft _ d ws labels drafts others q more) l = absurd l
-linked_limits all place _ _ _ (i ∷ is) (a_draft _ d ws labels drafts others q more) l =
-    let m = linked_limits all (place + 1) labels drafts others is more l.1 in
-    ((linked_fits all place d.instr d.goal i (read_limits (Code d.instr) d.goal ws q) l.0, m.0), ap suc m.1)
+abbrev pub type_words : ℕ → Scalar → List Word
+type_words depth scalar = replicate depth (Bare (codes "cont")) ++ (Bare (scalar_word scalar) ∷ [])
 
--- ---- sections
+one_type : (d e : ℕ) (s t : Scalar) (x y : List Word) → type_words d s ++ x ≡ type_words e t ++ y → (d ≡ e) × (s ≡ t) × (x ≡ y)
+one_type zero zero s t x y h =
+    let both = cons_is (Bare (scalar_word s)) (Bare (scalar_word t)) x y h in
+    (refl, scalars_are s t (bare_is (scalar_word s) (scalar_word t) both.0), both.1)
+one_type zero (suc e) s t x y h = absurd (cont_is_no_scalar s x (type_words e t ++ y) h)
+one_type (suc d) zero s t x y h = absurd (cont_is_no_scalar t y (type_words d s ++ x) (sym h))
+one_type (suc d) (suc e) s t x y h =
+    let both = cons_is (Bare (codes "cont")) (Bare (codes "cont")) (type_words d s ++ x) (type_words e t ++ y) h in
+    let more = one_type d e s t x y both.1 in
+    (ap suc more.0, more.1, more.2)
 
--- the words of a section, within the limits but for having an instruction
-pub record IsSection (section : Section) (words : List (List Word)) : Type 0 where
-  pub head : List Word
-  pub registers : List Word
-  pub body : List (List Word)
-  pub parts : words ≡ head ∷ registers ∷ body
-  pub head_is : Spells NoName (Head section.kind section.params) head
-  pub params_fit : IsInLimits (Head section.kind section.params)
-  pub registers_are : Spells NoName (Registers section.registers) registers
-  pub registers_fit : IsInLimits (Registers section.registers)
-  pub drafts_are : AreDrafts 0 section.labels section.drafts body
-  pub once : AllPairs (λ a b. a ≢ b) (map (λ label. label.name) section.labels)
-  pub few : length section.drafts ≤ 4096
+-- ---- parts
 
-linked_procedure : (section : Section) (words : List (List Word)) (procedure : Procedure) → IsSection section words → IsLinkedProcedure section procedure → SpellsProcedure procedure words
-linked_procedure section words procedure s l = record {
-  head = s.head;
-  registers = s.registers;
-  body = s.body;
-  labels = section.labels;
-  parts = s.parts;
-  head_is = rw (l.kind, l.params) (no_name (GoesTo [] 0) (Head section.kind section.params) s.head s.head_is);
-  registers_are = rw l.registers (no_name (GoesTo [] 0) (Registers section.registers) s.registers s.registers_are);
-  body_is = linked_code section.labels 0 section.labels section.drafts s.body procedure.code s.drafts_are l.code;
-  once = s.once;
-}
+plus_is_no_name : (ds name : List ℕ) → codes "+" ++ ds ≡ name → IsName name → ⊥
+plus_is_no_name ds [] e h = h
+plus_is_no_name ds (b ∷ others) e h = no_letter (cons_is 43 b ds others e).0 h.0
+  where
+    no_letter : 43 ≡ b → IsInRange 65 90 b ⊎ IsInRange 97 122 b → ⊥
+    no_letter is (inl (low, high)) = omega arith
+    no_letter is (inr (low, high)) = omega arith
 
-linked_within : (section : Section) (words : List (List Word)) (procedure : Procedure) → IsSection section words → 0 < length section.drafts → IsLinkedProcedure section procedure → IsProcedure procedure
-linked_within section words procedure s some l =
-    let m = linked_limits section.labels 0 section.labels section.drafts s.body procedure.code s.drafts_are l.code in
-    record {
-      params = rw l.params s.params_fit;
-      registers = rw l.registers s.registers_fit;
-      code = ((omega (arith, m.1), omega (arith, m.1, s.few)), m.0);
-    }
+any_is_no_digits : (n : ℕ) (ds : List ℕ) → codes "any" ≡ ds → SpellsDigits n ds → ⊥
+any_is_no_digits n ds e h = no_digit (subst (SpellsDigits n) (sym e) h)
+  where
+    no_digit : SpellsDigits n (codes "any") → ⊥
+    no_digit spells = omega (arith, spells.digits.1.0)
 
--- sections one after the other, each with an instruction
-pub data AreSections : List Section → List (List Word) → Type 0 where
-  no_sections : AreSections [] []
-  a_section : (section : Section) (others : List Section) (first after : List (List Word)) → IsSection section first → 0 < length section.drafts
-      → AreSections others after → AreSections (section ∷ others) (first ++ after)
+module _ (a b : Goals) (names : AreNames a) (others : AreNames b) where
+  skips_same : (n m : ℕ) (f g x y : List Word) → SpellsPart a (Skip n) f → SpellsPart b (Skip m) g → f ++ x ≡ g ++ y → AreTied a b (Skip n) (Skip m) × (f ≡ g) × (x ≡ y)
+  skips_same n m f g x y (inl h) (inl k) e = let same = digits_same (codes "+") n m f g x y h k e in (inl (ap Skip same.0), same.1, same.2)
+  skips_same n m f g x y (inl (ds, h, is)) (inr (name, goal, has)) e =
+      let same = first_words (Bare (codes "+" ++ ds)) (Bare name) f g x y is has e in
+      absurd (plus_is_no_name ds name (bare_is (codes "+" ++ ds) name same.0) (others m name goal))
+  skips_same n m f g x y (inr (name, goal, is)) (inl (ds, k, has)) e =
+      let same = first_words (Bare name) (Bare (codes "+" ++ ds)) f g x y is has e in
+      absurd (plus_is_no_name ds name (sym (bare_is name (codes "+" ++ ds) same.0)) (names n name goal))
+  skips_same n m f g x y (inr (name, goal, is)) (inr (other, to, has)) e =
+      let same = first_words (Bare name) (Bare other) f g x y is has e in (
+        inr (record { n = n; m = m; name = other; first = refl; second = refl; goal = subst (a n) (bare_is name other same.0) goal; other = to }),
+        same.1,
+        same.2,
+      )
 
-section_more : (sections : List Section) (words : List (List Word)) (section : Section) (last : List (List Word)) → AreSections sections words → IsSection section last → 0 < length section.drafts
-    → AreSections (sections ++ (section ∷ [])) (words ++ last)
-section_more _ _ section last no_sections s some = subst (AreSections (section ∷ [])) (append-nil last) (a_section section [] last [] s some no_sections)
-section_more _ _ section last (a_section x others first after a n more) s some =
-    subst (AreSections (x ∷ (others ++ (section ∷ [])))) (sym (append_assoc first after last)) (a_section x (others ++ (section ∷ [])) first (after ++ last) a n (section_more others after section last more s some))
+  targets_same : (s t : Option ℕ) (f g x y : List Word) → SpellsPart a (Target s) f → SpellsPart b (Target t) g → f ++ x ≡ g ++ y → AreTied a b (Target s) (Target t) × (f ≡ g) × (x ≡ y)
+  targets_same None None f g x y h k e = let same = first_words (Bare (codes "any")) (Bare (codes "any")) f g x y h k e in (inl refl, same.1, same.2)
+  targets_same None (Some m) f g x y h (ds, k, has) e =
+      let same = first_words (Bare (codes "any")) (Bare ds) f g x y h has e in
+      absurd (any_is_no_digits m ds (bare_is (codes "any") ds same.0) k)
+  targets_same (Some n) None f g x y (ds, h, is) k e =
+      let same = first_words (Bare ds) (Bare (codes "any")) f g x y is k e in
+      absurd (any_is_no_digits n ds (sym (bare_is ds (codes "any") same.0)) h)
+  targets_same (Some n) (Some m) f g x y h k e = let same = digits_same [] n m f g x y h k e in (inl (ap (λ (i : ℕ). Target (Some i)) same.0), same.1, same.2)
 
-pub linked_sections : (sections : List Section) (words : List (List Word)) (procedures : List Procedure) → AreSections sections words → AreLinkedProcedures sections procedures → SpellProcedures procedures words
-linked_sections _ _ [] no_sections l = SpellProcedures.end
-linked_sections _ _ (p ∷ ps) no_sections l = absurd l
-linked_sections _ _ [] (a_section x others first after a n more) l = absurd l
-linked_sections _ _ (p ∷ ps) (a_section x others first after a n more) l =
-    SpellProcedures.one_more p ps first after (linked_procedure x first p a l.0) (linked_sections others after ps more l.1)
+  -- words that stand first spell one part alone of a sort
+  one_part : (p q : Part) (f g x y : List Word) → sort_of p ≡ sort_of q → SpellsPart a p f → SpellsPart b q g → f ++ x ≡ g ++ y → AreTied a b p q × (f ≡ g) × (x ≡ y)
+  one_part (Name v) (Name w) f g x y s h k e = let same = first_words (Bare v) (Bare w) f g x y h k e in (inl (ap Name (bare_is v w same.0)), same.1, same.2)
+  one_part (Value n) (Value m) f g x y s h k e = let same = digits_same (codes "v") n m f g x y h k e in (inl (ap Value same.0), same.1, same.2)
+  one_part (Right n) (Right m) f g x y s h k e = let same = digits_same (codes "d") n m f g x y h k e in (inl (ap Right same.0), same.1, same.2)
+  one_part (Number n) (Number m) f g x y s (v, h, is) (w, k, has) e =
+      let same = first_words (Bare v) (Bare w) f g x y is has e in
+      (inl (ap Number (one_number n m w (subst (SpellsNumber n) (bare_is v w same.0) h) k)), same.1, same.2)
+  one_part (Natural n) (Natural m) f g x y s h k e = let same = digits_same [] n m f g x y h k e in (inl (ap Natural same.0), same.1, same.2)
+  one_part (Literal v) (Literal w) f g x y s h k e = let same = first_words (Quoted v) (Quoted w) f g x y h k e in (inl (ap Literal (quoted_is v w same.0)), same.1, same.2)
+  one_part (TypeOf t) (TypeOf u) f g x y s h k e =
+      let same = one_type t.depth u.depth t.scalar u.scalar x y (ap (λ (ws : List Word). ws ++ x) (sym h) ∙ e ∙ ap (λ (ws : List Word). ws ++ y) k) in (
+        inl (ap (λ (d : ℕ). TypeOf (record { depth = d; scalar = t.scalar })) same.0 ∙ ap (λ (c : Scalar). TypeOf (record { depth = u.depth; scalar = c })) same.1),
+        h ∙ ap (λ (d : ℕ). type_words d t.scalar) same.0 ∙ ap (type_words u.depth) same.1 ∙ sym k,
+        same.2,
+      )
+  one_part (Skip n) (Skip m) f g x y s h k e = skips_same n m f g x y h k e
+  one_part (Target t) (Target u) f g x y s h k e = targets_same t u f g x y h k e
+  one_part p q f g x y s h k e = different (sort_of p) (sort_of q) s refl
 
-pub linked_procedures : (sections : List Section) (words : List (List Word)) (procedures : List Procedure) → AreSections sections words → AreLinkedProcedures sections procedures
-    → AllByRecursion IsProcedure procedures × (length procedures ≡ length sections)
-linked_procedures _ _ [] no_sections l = (tt, refl)
-linked_procedures _ _ (p ∷ ps) no_sections l = absurd l
-linked_procedures _ _ [] (a_section x others first after a n more) l = absurd l
-linked_procedures _ _ (p ∷ ps) (a_section x others first after a n more) l =
-    let m = linked_procedures others after ps more l.1 in
-    ((linked_within x first p a n l.0, m.0), ap suc m.1)
+  some_word : (q : Part) (g y : List Word) → SpellsPart b q g → g ++ y ≡ [] → ⊥
+  some_word (Name w) g y k e = never_cons (Bare w) y (ap (λ (ws : List Word). ws ++ y) (sym k) ∙ e)
+  some_word (Value m) g y (ds, k, has) e = never_cons (Bare (codes "v" ++ ds)) y (ap (λ (ws : List Word). ws ++ y) (sym has) ∙ e)
+  some_word (Right m) g y (ds, k, has) e = never_cons (Bare (codes "d" ++ ds)) y (ap (λ (ws : List Word). ws ++ y) (sym has) ∙ e)
+  some_word (Number m) g y (w, k, has) e = never_cons (Bare w) y (ap (λ (ws : List Word). ws ++ y) (sym has) ∙ e)
+  some_word (Natural m) g y (ds, k, has) e = never_cons (Bare ds) y (ap (λ (ws : List Word). ws ++ y) (sym has) ∙ e)
+  some_word (Literal t) g y k e = never_cons (Quoted t) y (ap (λ (ws : List Word). ws ++ y) (sym k) ∙ e)
+  some_word (TypeOf ty) g y k e = some_type ty.depth (ap (λ (ws : List Word). ws ++ y) (sym k) ∙ e)
+    where
+      some_type : (d : ℕ) → type_words d ty.scalar ++ y ≡ [] → ⊥
+      some_type zero h = never_cons (Bare (scalar_word ty.scalar)) y h
+      some_type (suc d) h = never_cons (Bare (codes "cont")) (type_words d ty.scalar ++ y) h
+  some_word (Skip m) g y (inl (ds, k, has)) e = never_cons (Bare (codes "+" ++ ds)) y (ap (λ (ws : List Word). ws ++ y) (sym has) ∙ e)
+  some_word (Skip m) g y (inr (name, k, has)) e = never_cons (Bare name) y (ap (λ (ws : List Word). ws ++ y) (sym has) ∙ e)
+  some_word (Target None) g y k e = never_cons (Bare (codes "any")) y (ap (λ (ws : List Word). ws ++ y) (sym k) ∙ e)
+  some_word (Target (Some m)) g y (ds, k, has) e = never_cons (Bare ds) y (ap (λ (ws : List Word). ws ++ y) (sym has) ∙ e)
 
--- ---- what has been read is spelled
+module _ (a b : Goals) (names : AreNames a) (others : AreNames b) where
+  -- the same words spell one list of parts alone, but for named skips
+  pub all_tied : (ps qs : List Part) (words ends : List Word) → AreAlike ps qs → words ≡ ends → SpellParts a ps words → SpellParts b qs ends → AllTied a b ps qs
+  all_tied [] [] words ends alike e h k = tt
+  all_tied [] (q ∷ qs) words ends alike e h (g, y, has, k, ks) = absurd (some_word a b names others q g y k (sym has ∙ sym e ∙ h))
+  all_tied (p ∷ ps) [] words ends alike e (f, x, is, h, hs) k = absurd (some_word b a others names p f x h (sym is ∙ e ∙ k))
+  all_tied (p ∷ ps) (q ∷ qs) words ends alike e (f, x, is, h, hs) (g, y, has, k, ks) =
+      let one = one_part a b names others p q f g x y alike.0 h k (sym is ∙ e ∙ has) in
+      (one.0, all_tied ps qs x y alike.1 one.2 hs ks)
 
-abbrev pub IsPlace : Place → List (List Word) → Type 0
-IsPlace AtStart words = words ≡ []
-IsPlace (BehindHead kind params) words = (head : List Word) × (words ≡ head ∷ []) × Spells NoName (Head kind params) head × IsInLimits (Head kind params)
-IsPlace (Within section) words = IsSection section words
+  -- where a name stands for one skip alone
+  pub tied_are : ((n m : ℕ) (name : List ℕ) → a n name → b m name → n ≡ m) → (ps qs : List Part) → AllTied a b ps qs → ps ≡ qs
+  tied_are alone [] [] h = refl
+  tied_are alone [] (q ∷ qs) h = absurd h
+  tied_are alone (p ∷ ps) [] h = absurd h
+  tied_are alone (p ∷ ps) (q ∷ qs) (inl e, h) = ap (λ (r : Part). r ∷ ps) e ∙ ap (λ (rs : List Part). q ∷ rs) (tied_are alone ps qs h)
+  tied_are alone (p ∷ ps) (q ∷ qs) (inr n, h) =
+      ap (λ (r : Part). r ∷ ps) (n.first ∙ ap Skip (alone n.n n.m n.name n.goal n.other) ∙ sym n.second) ∙ ap (λ (rs : List Part). q ∷ rs) (tied_are alone ps qs h)
 
-pub record IsSpelled (p : Progress) (words : List (List Word)) : Type 0 where
-  pub done : List (List Word)
-  pub current : List (List Word)
-  pub parts : words ≡ done ++ current
-  pub sections_are : AreSections p.sections done
-  pub place_is : IsPlace p.place current
-  pub few : length p.sections + begun p.place ≤ 64
+-- ---- other goals
 
-plain : (statement : Statement) (goal : Option (List ℕ)) (words : List Word) → goal ≡ None → IsRead (record { statement = statement; goal = goal }) words → Spells NoName statement words
-plain statement None words e r = r.1
-plain statement (Some name) words e r = absurd cc
+part_more : (a b : Goals) → ((skip : ℕ) (name : List ℕ) → a skip name → b skip name) → (p : Part) (words : List Word) → SpellsPart a p words → SpellsPart b p words
+part_more a b more (Skip n) words (inl h) = inl h
+part_more a b more (Skip n) words (inr (name, goal, is)) = inr (name, more n name goal, is)
+part_more a b more (Target None) words h = h
+part_more a b more (Target (Some n)) words h = h
+part_more a b more p words h = h
 
-word_more : (all done current : List (List Word)) (words : List Word) → all ≡ done ++ current → all ++ (words ∷ []) ≡ done ++ (current ++ (words ∷ []))
-word_more all done current words e = ap (λ (x : List (List Word)). x ++ (words ∷ [])) e ∙ append_assoc done current (words ∷ [])
+pub parts_more : (a b : Goals) → ((skip : ℕ) (name : List ℕ) → a skip name → b skip name) → (ps : List Part) (words : List Word) → SpellParts a ps words → SpellParts b ps words
+parts_more a b more [] words h = h
+parts_more a b more (p ∷ ps) words (f, x, is, h, hs) = (f, x, is, part_more a b more p f h, parts_more a b more ps x hs)
 
-head_step : (number : ℕ) (kind : Kind) (params : List Param) (goal : Option (List ℕ)) (sections : List Section) (head_line : ℕ) (place : Place) (all : List (List Word)) (words : List Word)
-    → IsSpelled (progress sections head_line place) all → IsRead (record { statement = Head kind params; goal = goal }) words → MayStand (Head kind params) (situation_of (progress sections head_line place)) → goal ≡ None
-    → IsSpelled (step number (Head kind params) goal (progress sections head_line place)) (all ++ (words ∷ []))
-head_step number kind params goal sections head_line AtStart all words s r m g = record {
-  done = s.done;
-  current = words ∷ [];
-  parts = ap (λ (x : List (List Word)). x ++ (words ∷ [])) (s.parts ∙ ap (λ (x : List (List Word)). s.done ++ x) s.place_is ∙ append-nil s.done);
-  sections_are = s.sections_are;
-  place_is = (words, refl, plain (Head kind params) goal words g r, read_limits (Head kind params) goal words r);
-  few = omega (arith, m.1);
-}
-head_step number kind params goal sections head_line (BehindHead k ps) all words s r m g = elim (m.0) [ inl e ↦ head_start e | inr e ↦ head_body e.0 ]
-head_step number kind params goal sections head_line (Within section) all words s r m g =
-    let some : 0 < length section.drafts = elim (m.0) [ inl e ↦ body_start e | inr e ↦ e.1 ] in
-    record {
-      done = s.done ++ s.current;
-      current = words ∷ [];
-      parts = ap (λ (x : List (List Word)). x ++ (words ∷ [])) s.parts;
-      sections_are = section_more sections s.done section s.current s.sections_are s.place_is some;
-      place_is = (words, refl, plain (Head kind params) goal words g r, read_limits (Head kind params) goal words r);
-      few = omega (arith, m.1, length-append sections (section ∷ []));
-    }
+-- ---- a skip by its name
 
-none_pairs : AllPairs (λ (a b : List ℕ). a ≢ b) []
-none_pairs = λ i j d a b. absurd (omega (arith, b))
+last_is : (parts : List Part) → is_last parts ≡ true → parts ≡ []
+last_is [] e = refl
+last_is (p ∷ ps) e = absurd cc
 
-registers_step : (number : ℕ) (registers : List Scalar) (goal : Option (List ℕ)) (sections : List Section) (head_line : ℕ) (place : Place) (all : List (List Word)) (words : List Word)
-    → IsSpelled (progress sections head_line place) all → IsRead (record { statement = Registers registers; goal = goal }) words → MayStand (Registers registers) (situation_of (progress sections head_line place)) → goal ≡ None
-    → IsSpelled (step number (Registers registers) goal (progress sections head_line place)) (all ++ (words ∷ []))
-registers_step number registers goal sections head_line AtStart all words s r m g = start_head m
-registers_step number registers goal sections head_line (BehindHead kind params) all words s r m g =
-    let h = s.place_is in
-    record {
-      done = s.done;
-      current = h.0 ∷ words ∷ [];
-      parts = word_more all s.done s.current words s.parts ∙ ap (λ (x : List (List Word)). s.done ++ (x ++ (words ∷ []))) h.1;
-      sections_are = s.sections_are;
-      place_is = record {
-        head = h.0;
-        registers = words;
-        body = [];
-        parts = refl;
-        head_is = h.2;
-        params_fit = h.3;
-        registers_are = plain (Registers registers) goal words g r;
-        registers_fit = read_limits (Registers registers) goal words r;
-        drafts_are = no_drafts 0;
-        once = none_pairs;
-        few = omega arith;
-      };
-      few = s.few;
-    }
-registers_step number registers goal sections head_line (Within section) all words s r m g = body_head m
+-- the words of parts where one name stands as the skip, or no name
+pub data ByName (goals : Goals) (name : List ℕ) (ps qs : List Part) (words : List Word) : Type 0 where
+  unnamed : SpellParts NoName ps words → ByName goals name ps qs words
+  named : (skip : ℕ) → goals skip name → qs ≡ map (reskip skip) ps → ByName goals name ps qs words
 
-body_more : (words : List (List Word)) (head registers : List Word) (body : List (List Word)) (more : List Word) → words ≡ head ∷ registers ∷ body → words ++ (more ∷ []) ≡ head ∷ registers ∷ (body ++ (more ∷ []))
-body_more words head registers body more e = ap (λ (x : List (List Word)). x ++ (more ∷ [])) e
+module _ (goals : Goals) (name : List ℕ) (names : AreNames goals) (is_name : IsName name) where
+  only : AreNames (OnlyName name)
+  only skip word (none, is) = subst IsName (sym is) is_name
 
-new_name : (labels : List Placed) (name : List ℕ) (place : ℕ) → AllPairs (λ a b. a ≢ b) (map (λ (label : Placed). label.name) labels) → (Contains (map (λ (label : Placed). label.name) labels) name → ⊥)
-    → AllPairs (λ a b. a ≢ b) (map (λ (label : Placed). label.name) (labels ++ (record { name = name; place = place } ∷ [])))
-new_name labels name place once new =
-    let names = map (λ (label : Placed). label.name) labels in
-    subst (AllPairs (λ (a b : List ℕ). a ≢ b)) (sym (map-append (λ (label : Placed). label.name) labels (record { name = name; place = place } ∷ [])))
-    (all_pairs_push (λ (a b : List ℕ). a ≢ b) names name once (λ k d low e. new (k, low, get_or_default names k name d low ∙ e)))
+  plain : (p : Part) → (sort_of p ≡ 7 → ⊥) → (f : List Word) → SpellsPart (OnlyName name) p f → SpellsPart NoName p f
+  plain (Skip n) not f h = absurd (not refl)
+  plain (Target None) not f h = h
+  plain (Target (Some n)) not f h = h
+  plain p not f h = h
 
--- one line more within a section, which then has these labels and drafts
-body_step : (sections : List Section) (head_line : ℕ) (section : Section) (labels : List Placed) (drafts : List Drafted) (all : List (List Word)) (words : List Word)
-    → IsSpelled (progress sections head_line (Within section)) all → ((body : List (List Word)) → AreDrafts 0 section.labels section.drafts body → AreDrafts 0 labels drafts (body ++ (words ∷ [])))
-    → AllPairs (λ a b. a ≢ b) (map (λ (label : Placed). label.name) labels) → length drafts ≤ 4096
-    → IsSpelled (progress sections head_line (Within (record section { labels = labels; drafts = drafts }))) (all ++ (words ∷ []))
-body_step sections head_line section labels drafts all words s more once few =
-    let x = s.place_is in
-    record {
-      done = s.done;
-      current = s.current ++ (words ∷ []);
-      parts = word_more all s.done s.current words s.parts;
-      sections_are = s.sections_are;
-      place_is = record {
-        head = x.head;
-        registers = x.registers;
-        body = x.body ++ (words ∷ []);
-        parts = body_more s.current x.head x.registers x.body words x.parts;
-        head_is = x.head_is;
-        params_fit = x.params_fit;
-        registers_are = x.registers_are;
-        registers_fit = x.registers_fit;
-        drafts_are = more x.body x.drafts_are;
-        once = once;
-        few = few;
-      };
-      few = s.few;
-    }
+  keeps : (p : Part) (skip : ℕ) → (sort_of p ≡ 7 → ⊥) → reskip skip p ≡ p
+  keeps (Skip n) skip not = absurd (not refl)
+  keeps p skip not = refl
 
-label_step : (number : ℕ) (name : List ℕ) (goal : Option (List ℕ)) (sections : List Section) (head_line : ℕ) (place : Place) (all : List (List Word)) (words : List Word)
-    → IsSpelled (progress sections head_line place) all → IsRead (record { statement = Label name; goal = goal }) words → MayStand (Label name) (situation_of (progress sections head_line place)) → goal ≡ None
-    → IsSpelled (step number (Label name) goal (progress sections head_line place)) (all ++ (words ∷ []))
-label_step number name goal sections head_line AtStart all words s r m g = start_body m.0
-label_step number name goal sections head_line (BehindHead kind params) all words s r m g = head_body m.0
-label_step number name goal sections head_line (Within section) all words s r m g =
-    let here : 0 + length section.drafts ≡ length section.drafts = omega arith in
-    body_step sections head_line section (section.labels ++ (record { name = name; place = length section.drafts } ∷ [])) section.drafts all words s
-    (λ body d.
-    subst (λ (k : ℕ). AreDrafts 0 (section.labels ++ (record { name = name; place = k } ∷ [])) section.drafts (body ++ (words ∷ []))) here
-    (label_more 0 section.labels section.drafts body name words d (plain (Label name) goal words g r) (read_limits (Label name) goal words r)))
-    (new_name section.labels name (length section.drafts) s.place_is.once m.1) s.place_is.few
+  tied_plain : (p q : Part) → (sort_of p ≡ 7 → ⊥) → AreTied (OnlyName name) goals p q → p ≡ q
+  tied_plain p q not (inl e) = e
+  tied_plain p q not (inr n) = absurd (not (ap sort_of n.first))
 
-code_step : (number : ℕ) (i : Instr) (goal : Option (List ℕ)) (sections : List Section) (head_line : ℕ) (place : Place) (all : List (List Word)) (words : List Word)
-    → IsSpelled (progress sections head_line place) all → IsRead (record { statement = Code i; goal = goal }) words → MayStand (Code i) (situation_of (progress sections head_line place))
-    → IsSpelled (step number (Code i) goal (progress sections head_line place)) (all ++ (words ∷ []))
-code_step number i goal sections head_line AtStart all words s r m = start_body m.0
-code_step number i goal sections head_line (BehindHead kind params) all words s r m = head_body m.0
-code_step number i goal sections head_line (Within section) all words s r m =
-    let draft : Drafted = record { instr = i; goal = goal; number = number } in
-    body_step sections head_line section section.labels (section.drafts ++ (draft ∷ [])) all words s
-    (λ body d. draft_more 0 section.labels section.drafts body draft words d r) s.place_is.once (omega (arith, m.1, length-append section.drafts (draft ∷ [])))
+  behind_plain : (p q : Part) (ps qs : List Part) (f x words : List Word) → (sort_of p ≡ 7 → ⊥) → words ≡ f ++ x → SpellsPart (OnlyName name) p f → AreTied (OnlyName name) goals p q → ByName goals name ps qs x → ByName goals name (p ∷ ps) (q ∷ qs) words
+  behind_plain p q ps qs f x words not is h tied (unnamed hs) = unnamed (f, x, is, plain p not f h, hs)
+  behind_plain p q ps qs f x words not is h tied (named skip goal e) =
+      named skip goal (ap (λ (r : Part). r ∷ qs) (sym (tied_plain p q not tied) ∙ sym (keeps p skip not)) ∙ ap (λ (rs : List Part). reskip skip p ∷ rs) e)
 
-spelled_step : (number : ℕ) (statement : Statement) (goal : Option (List ℕ)) (p : Progress) (all : List (List Word)) (words : List Word)
-    → IsSpelled p all → IsRead (record { statement = statement; goal = goal }) words → MayStand statement (situation_of p) → IsGoalOf statement goal → IsSpelled (step number statement goal p) (all ++ (words ∷ []))
-spelled_step number (Head kind params) goal p all words s r m g = head_step number kind params goal p.sections p.head_line p.place all words s r m g
-spelled_step number (Registers registers) goal p all words s r m g = registers_step number registers goal p.sections p.head_line p.place all words s r m g
-spelled_step number (Label name) goal p all words s r m g = label_step number name goal p.sections p.head_line p.place all words s r m g
-spelled_step number (Code i) goal p all words s r m g = code_step number i goal p.sections p.head_line p.place all words s r m
+  at_skip : (n m : ℕ) (f g x y words : List Word) → words ≡ f ++ x → x ≡ [] → f ++ x ≡ g ++ y → SpellsPart (OnlyName name) (Skip n) f → SpellsPart goals (Skip m) g → ByName goals name (Skip n ∷ []) (Skip m ∷ []) words
+  at_skip n m f g x y words is none e (inl h) k = unnamed (f, x, is, inl h, none)
+  at_skip n m f g x y words is none e (inr (word, (zero_is, same), has)) (inl (ds, k, are)) =
+      let one = first_words (Bare word) (Bare (codes "+" ++ ds)) f g x y has are e in
+      absurd (plus_is_no_name ds name (sym (bare_is word (codes "+" ++ ds) one.0) ∙ same) is_name)
+  at_skip n m f g x y words is none e (inr (word, (zero_is, same), has)) (inr (other, goal, are)) =
+      let one = first_words (Bare word) (Bare other) f g x y has are e in
+      named m (subst (goals m) (sym (bare_is word other one.0) ∙ same) goal) refl
 
-pub record AreTold (number : ℕ) (p : Progress) (ls : List (List ℕ)) (reads : List (Option Read)) (all : List (List Word)) : Type 0 where
-  pub words : List (List Word)
-  pub lines_are : HaveWords ls words
-  pub spelled : IsSpelled (progress_from number p reads) (all ++ words)
+  skip_only : (n m : ℕ) (ps qs : List Part) (f g x y words : List Word) → ps ≡ [] → qs ≡ [] → words ≡ f ++ x → x ≡ [] → f ++ x ≡ g ++ y → SpellsPart (OnlyName name) (Skip n) f → SpellsPart goals (Skip m) g
+      → ByName goals name (Skip n ∷ ps) (Skip m ∷ qs) words
+  skip_only n m ps qs f g x y words no_ps no_qs is none e h k =
+      subst (λ (rs : List Part). ByName goals name (Skip n ∷ rs) (Skip m ∷ qs) words) (sym no_ps)
+      (subst (λ (rs : List Part). ByName goals name (Skip n ∷ []) (Skip m ∷ rs) words) (sym no_qs) (at_skip n m f g x y words is none e h k))
 
-one_line : (ls : List (List ℕ)) (line : List ℕ) (ws : List Word) (words : List (List Word)) (first : Word) (after : List Word) → ws ≡ first ∷ after → IsLine ws line → HaveWords ls words → HaveWords (line ∷ ls) (ws ∷ words)
-one_line ls line ws words first after e l h =
-    subst (λ (x : List Word). HaveWords (line ∷ ls) (x ∷ words)) (sym e) (HaveWords.one_more line ls first after words (subst (λ (x : List Word). IsLine x line) e l) h)
+  none_behind : (qs : List Part) (y : List Word) → SpellParts goals qs y → y ≡ [] → qs ≡ []
+  none_behind [] y h e = refl
+  none_behind (q ∷ qs) y (g, z, has, k, ks) e = absurd (some_word (OnlyName name) goals only names q g z k (sym has ∙ e))
 
-pub told : (number : ℕ) (p : Progress) (ls : List (List ℕ)) (reads : List (Option Read)) (all : List (List Word)) → LinesRead number p ls reads → IsSpelled p all → AreTold number p ls reads all
-told number p [] [] all r s = record { words = []; lines_are = HaveWords.end; spelled = subst (IsSpelled p) (sym (append-nil all)) s }
-told number p [] (read ∷ others) all r s = absurd r
-told number p (line ∷ after) [] all r s = absurd r
-told number p (line ∷ after) (None ∷ others) all r s =
-    let t = told (number + 1) p after others all r.1 s in
-    record { words = t.words; lines_are = HaveWords.blank line after t.words r.0 t.lines_are; spelled = t.spelled }
-told number p (line ∷ after) (Some read ∷ others) all r s =
-    let f = first_of_words AnyShortName read.statement r.0.0.0 (read_says read r.0.0.0 r.0.0.2).0 in
-    let t = told (number + 1) (line_step number (Some read) p) after others (all ++ (r.0.0.0 ∷ [])) r.1 (spelled_step number read.statement read.goal p all r.0.0.0 s r.0.0.2 r.0.1 r.0.2) in
-    record {
-      words = r.0.0.0 ∷ t.words;
-      lines_are = one_line after line r.0.0.0 t.words (Bare f.word) f.others f.parts r.0.0.1 t.lines_are;
-      spelled = subst (IsSpelled (progress_from (number + 1) (line_step number (Some read) p) others)) (append_assoc all (r.0.0.0 ∷ []) t.words) t.spelled;
-    }
+  spells_none : (ps : List Part) (x : List Word) → ps ≡ [] → SpellParts (OnlyName name) ps x → x ≡ []
+  spells_none [] x e h = h
+  spells_none (p ∷ ps) x e h = absurd (never_cons p ps e)
 
--- ---- the whole program
+  -- words of parts of the same sorts, with a name as a skip, or with none
+  pub by_name : (ps qs : List Part) (words ends : List Word) → skips_last ps ≡ true → AreAlike ps qs → words ≡ ends → SpellParts (OnlyName name) ps words → SpellParts goals qs ends → ByName goals name ps qs words
+  by_name [] [] words ends last alike e h k = unnamed h
+  by_name [] (q ∷ qs) words ends last alike e h (g, y, has, k, ks) = absurd (some_word (OnlyName name) goals only names q g y k (sym has ∙ sym e ∙ h))
+  by_name (p ∷ ps) [] words ends last alike e (f, x, is, h, hs) k = absurd (some_word goals (OnlyName name) names only p f x h (sym is ∙ e ∙ k))
+  by_name (Skip n ∷ ps) (Skip m ∷ qs) words ends last alike e (f, x, is, h, hs) (g, y, has, k, ks) =
+      let no_ps = last_is ps last in
+      let none = spells_none ps x no_ps hs in
+      let same = sym is ∙ e ∙ has in
+      let one = one_part (OnlyName name) goals only names (Skip n) (Skip m) f g x y refl h k same in
+      skip_only n m ps qs f g x y words no_ps (none_behind qs y ks (sym one.2 ∙ none)) is none same h k
+  by_name (Skip n ∷ ps) (q ∷ qs) words ends last alike e h k = different 7 (sort_of q) alike.0 refl
+  by_name (p ∷ ps) (q ∷ qs) words ends last alike e (f, x, is, h, hs) (g, y, has, k, ks) =
+      let one = one_part (OnlyName name) goals only names p q f g x y alike.0 h k (sym is ∙ e ∙ has) in
+      behind_plain p q ps qs f x words (λ seven. different (sort_of p) 7 seven refl) is h one.0 (by_name ps qs x y last alike.1 one.2 hs ks)
 
-pub record AreEnded (sections : List Section) (words : List (List Word)) : Type 0 where
-  pub sections_are : AreSections sections words
-  pub some : 1 ≤ length sections
-  pub few : length sections ≤ 64
+-- the words of parts where a name stands as the skip are those of the parts with the skip for which it stands
+pub data Resolved (goals : Goals) (skip : ℕ) (ps : List Part) (words : List Word) : Type 0 where
+  as_is : SpellParts NoName ps words → Resolved goals skip ps words
+  with_goal : SpellParts goals (map (reskip skip) ps) words → Resolved goals skip ps words
 
-ended_at : (sections : List Section) (head_line : ℕ) (place : Place) (words : List (List Word)) → IsSpelled (progress sections head_line place) words → IsWhole (situation_of (progress sections head_line place)) → AreEnded (ended sections place) words
-ended_at sections head_line AtStart words s w = start_body w.0
-ended_at sections head_line (BehindHead kind params) words s w = head_body w.0
-ended_at sections head_line (Within section) words s w = record {
-  sections_are = subst (AreSections (sections ++ (section ∷ []))) (sym s.parts) (section_more sections s.done section s.current s.sections_are s.place_is w.1);
-  some = omega (arith, length-append sections (section ∷ []));
-  few = omega (arith, s.few, length-append sections (section ∷ []));
-}
+module _ (goals : Goals) (name : List ℕ) (skip : ℕ) (goal : goals skip name) where
+  kept : (p : Part) → (sort_of p ≡ 7 → ⊥) → (f : List Word) → SpellsPart (OnlyName name) p f → SpellsPart NoName p f × SpellsPart goals (reskip skip p) f
+  kept (Skip n) not f h = absurd (not refl)
+  kept (Target None) not f h = (h, h)
+  kept (Target (Some n)) not f h = (h, h)
+  kept p not f h = (h, h)
 
-outset_spelled : IsSpelled outset []
-outset_spelled = record { done = []; current = []; parts = refl; sections_are = no_sections; place_is = refl; few = omega arith }
+  behind_kept : (p : Part) (ps : List Part) (f x words : List Word) → (sort_of p ≡ 7 → ⊥) → words ≡ f ++ x → SpellsPart (OnlyName name) p f → Resolved goals skip ps x → Resolved goals skip (p ∷ ps) words
+  behind_kept p ps f x words not is h (as_is hs) = as_is (f, x, is, (kept p not f h).0, hs)
+  behind_kept p ps f x words not is h (with_goal hs) = with_goal (f, x, is, (kept p not f h).1, hs)
 
-pub record AreSpelled (text : List ℕ) (sections : List Section) : Type 0 where
-  pub words : List (List Word)
-  pub lines_are : HaveWords (lines text) words
-  pub ended : AreEnded sections words
+  at_goal : (n : ℕ) (ps : List Part) (f x words : List Word) → ps ≡ [] → words ≡ f ++ x → SpellsPart (OnlyName name) (Skip n) f → SpellParts (OnlyName name) ps x → Resolved goals skip (Skip n ∷ ps) words
+  at_goal n [] f x words none is (inl h) hs = as_is (f, x, is, inl h, hs)
+  at_goal n [] f x words none is (inr (word, (zero_is, same), has)) hs = with_goal (f, x, is, inr (name, goal, has ∙ ap (λ (w : List ℕ). Bare w ∷ []) same), hs)
+  at_goal n (p ∷ ps) f x words none is h hs = absurd (never_cons p ps none)
 
-pub sections_spelled : (text : List ℕ) (all : List Section) → HasSections text all → AreSpelled text all
-sections_spelled text all h =
-    let t = told 1 outset (lines text) h.read.reads [] h.read.are_read outset_spelled in
-    let s = subst (λ (p : Progress). IsSpelled p t.words) (sym h.read.progress) t.spelled in
-    record {
-      words = t.words;
-      lines_are = t.lines_are;
-      ended = subst (λ (x : List Section). AreEnded x t.words) (sym h.sections_are) (ended_at h.p.sections h.p.head_line h.p.place t.words s h.whole);
-    }
-
-pub is_program : (text : List ℕ) (all : List Section) (procedures : List Procedure) → HasSections text all → AreLinkedProcedures all procedures → IsProgram procedures
-is_program text all procedures h l =
-    let s = sections_spelled text all h in
-    let m = linked_procedures all s.words procedures s.ended.sections_are l in
-    ((omega (arith, m.1, s.ended.some), omega (arith, m.1, s.ended.few)), m.0)
-
-pub spells_program : (text : List ℕ) (all : List Section) (procedures : List Procedure) → HasSections text all → AreLinkedProcedures all procedures → SpellsProgram procedures text
-spells_program text all procedures h l =
-    let s = sections_spelled text all h in
-    record {
-      words = s.words;
-      lines_are = s.lines_are;
-      procedures_are = linked_sections all s.words procedures s.ended.sections_are l;
-      is_program = is_program text all procedures h l;
-    }
-
-sections_within : (sections : List Section) (words : List (List Word)) → AreSections sections words → AllByRecursion HasLabelsWithin sections
-sections_within _ _ no_sections = tt
-sections_within _ _ (a_section x others first after a n more) =
-    (higher (0 + length x.drafts) 4096 x.labels (omega (arith, a.few)) (labels_within 0 x.labels x.drafts a.body a.drafts_are), sections_within others after more)
-
-pub labels_fit : (text : List ℕ) (all : List Section) → HasSections text all → AllByRecursion HasLabelsWithin all
-labels_fit text all h = let s = sections_spelled text all h in sections_within all s.words s.ended.sections_are
+  pub resolved : (ps : List Part) (words : List Word) → skips_last ps ≡ true → SpellParts (OnlyName name) ps words → Resolved goals skip ps words
+  resolved [] words last h = as_is h
+  resolved (Skip n ∷ ps) words last (f, x, is, h, hs) = at_goal n ps f x words (last_is ps last) is h hs
+  resolved (p ∷ ps) words last (f, x, is, h, hs) = behind_kept p ps f x words (λ seven. different (sort_of p) 7 seven refl) is h (resolved ps x last hs)

@@ -6,10 +6,10 @@ use Rattle.std.proofs.Math.Seq.{split_at}
 use Rattle.std.proofs.lemmas.List.FromFn.{get_or-enumerate_from, length-enumerate_from}
 use Rattle.std.specs.List.{enumerate_from}
 use Rattle.std.specs.Str.Lines.{lines}
-use Rattle.tw_lines.specs.Words.{Word}
-use Rattle.tw_statement.specs.Seen.{IsRead, NoName, OnlyName, Read}
-use Rattle.tw_statement.specs.Statement.{Statement, Head, Registers, Label, Code, AnyShortName, IsShortName, Say}
-use Rattle.tw_statement.proofs.Once.{spells_more}
+use Rattle.tw_words.specs.Words.{Word}
+use Rattle.tw_asm.specs.Seen.{IsRead, NoName, OnlyName, Read}
+use Rattle.tw_asm.specs.Statement.{Statement, Head, Registers, Label, Code, AnyShortName, IsShortName, Say}
+use Rattle.tw_asm.proofs.Once.{spells_more}
 use Rattle.tw_asm.specs.declared.fault.AsmFault.{AsmFault}
 use Rattle.tw_asm.specs.declared.fault.FaultNo.{FaultNo}
 use Rattle.tw_asm.specs.Fault.{Stage, AfterHead, InBody, Situation, IsLineFault, IsUnfinished, LineFault, LineSays, LinesSay, MayStand, after, after_line, situation_from}

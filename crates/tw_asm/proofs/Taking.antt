@@ -2,29 +2,29 @@
 use Rattle.std.proofs.lemmas.List.{length-append}
 use Rattle.std.specs.List.{Contains, slice_get}
 use Rattle.tw_code.specs.declared.instr.Instr.{Instr}
-use Rattle.tw_lines.specs.Seen.{IsRead as IsLineRead}
-use Rattle.tw_statement.specs.declared.statement.Statement as statements
-use Rattle.tw_statement.specs.declared.statement.Statement.TheVariants as statement
+use Rattle.tw_words.specs.Seen.{IsRead as IsLineRead}
+use Rattle.tw_asm.specs.declared.statement.Statement as statements
+use Rattle.tw_asm.specs.declared.statement.Statement.TheVariants as statement
 use Rattle.tw_asm.specs.declared.reading.Reading as readings
 use Rattle.tw_types.specs.declared.actor.Kind.{Kind}
 use Rattle.tw_types.specs.declared.param.Param.{Param}
 use Rattle.tw_asm.specs.declared.fault.AsmFault.{AsmFault}
 use Rattle.tw_asm.specs.declared.fault.FaultNo.{FaultNo}
 use Rattle.std.proofs.Common.{◌≡◌, ◌⊎◌, ℕ, zero, suc, ◌+◌, ◌<◌, ◌≤◌, List, [], ◌∷◌, length, map, Bool, true, false, Option, Some, None, Result, Ok, Err, inl, inr, refl, sym, subst, ap, ◌∙◌, arith}
-use Rattle.tw_lines.specs.Words.{Bare, IsBrokenLine, IsFirstWord, IsLine, Quoted, Word}
-use Rattle.tw_statement.specs.declared.statement.First.{First}
-use Rattle.tw_statement.specs.declared.statement.First.TheVariants as first
-use Rattle.tw_statement.specs.Seen.{IsRead, Read, seen}
-use Rattle.tw_statement.specs.Statement.{Statement, Code, Head, Label, AnyName, AnyShortName, HaveForm, IsPromised, Say}
+use Rattle.tw_words.specs.Words.{Bare, IsBrokenLine, IsFirstWord, IsLine, Quoted, Word}
+use Rattle.tw_asm.specs.declared.statement.First.{First}
+use Rattle.tw_asm.specs.declared.statement.First.TheVariants as first
+use Rattle.tw_asm.specs.Seen.{IsRead, Read, seen}
+use Rattle.tw_asm.specs.Statement.{Statement, Code, Head, Label, AnyName, AnyShortName, HaveForm, IsPromised, Say}
 use Rattle.tw_asm.specs.declared.fault.FaultNo.TheVariants as fault
 use Rattle.tw_asm.specs.Fault.{Stage, Start, InBody, Begins, HasWords, LineFault, MayBegin, MayStand, Situation, empty, instructions, label_twice, limit, operand, procedures, word}
 use Rattle.tw_asm.specs.reading.Progress.{AreClosed, AreFinished, AtStart, BehindHead, Within, IsEmptyAt, IsGoalOf, IsLimit, IsLimitLine, IsMemory, IsNotClosed, IsNotFinished, Place, Progress, Section, Stopped, TakenLine, TakenStatement, WordsRead, begun, drafts_at, ended, situation_of, stage_of, step}
 use Rattle.tw_asm.specs.reading.Promise.{IsPromisedBy, promise}
 use Rattle.tw_asm.proofs.Begins.{first_of_words, front_of, line_begins}
-use Rattle.tw_lines.proofs.Once.{blank_no_word, broken_here, broken_no_line, first_word_once, line_blank, line_once}
+use Rattle.tw_words.proofs.Once.{blank_no_word, broken_here, broken_no_line, first_word_once, line_blank, line_once}
 use Rattle.tw_asm.proofs.Stages.{body_start, head_body, progress, start_body}
 use Rattle.tw_asm.proofs.Steps.{read_says}
-use Rattle.tw_statement.proofs.Once.{one_promise, spells_more}
+use Rattle.tw_asm.proofs.Once.{one_promise, spells_more}
 
 begins : (s : Situation) (line : List ℕ) (w : Word) (rest : List ℕ) (promised : First) → IsFirstWord w line rest → IsPromisedBy w promised → MayBegin s.stage promised → Begins s line promised
 begins s line (Bare bytes) rest promised f p m = (bytes, rest, f, p, m)

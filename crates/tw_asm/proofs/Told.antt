@@ -8,7 +8,7 @@ use Rattle.tw_asm.specs.Fault.{GoalFault, IsFirstFault, LineFault, Situation, em
 use Rattle.tw_asm.specs.reading.Progress.{AreNotRead, HasSections, IsMemory, Section}
 use Rattle.tw_asm.specs.reading.Goals.{FirstUnlinked, section_goals}
 use Rattle.std.specs.List.{flat_map}
-use Rattle.tw_asm.proofs.First.{first_goal_fault}
+use Rattle.tw_asm.proofs.FirstGoals.{first_goal_fault}
 use Rattle.tw_asm.proofs.Unspelled.{fault_none}
 
 line_no : (number : ℕ) (s : Situation) (line : List ℕ) (which : FaultNo) (at : ℕ) → LineFault number s line which at → which ≡ fault.Memory → ⊥

@@ -1,10 +1,10 @@
 -- Two readings of the same lines are alike.
 use Rattle.std.proofs.Common.{◌≡◌, ℕ, ◌+◌, List, [], ◌∷◌, Option, Some, None, refl, sym, subst, ap, ◌∙◌}
-use Rattle.tw_lines.specs.Words.{Bare, IsLine, Word}
-use Rattle.tw_lines.proofs.Once.{line_once}
-use Rattle.tw_statement.specs.Statement.{Statement, Head, Registers, Label, Code, AnyShortName, Goals, Say, Spells}
-use Rattle.tw_statement.proofs.Once.{begins, first_word}
-use Rattle.tw_statement.proofs.Spelled.{never_cons}
+use Rattle.tw_words.specs.Words.{Bare, IsLine, Word}
+use Rattle.tw_words.proofs.Once.{line_once}
+use Rattle.tw_asm.specs.Statement.{Statement, Head, Registers, Label, Code, AnyShortName, Goals, Say, Spells}
+use Rattle.tw_asm.proofs.Once.{begins, first_word}
+use Rattle.tw_asm.proofs.Spelled.{never_cons}
 use Rattle.tw_asm.specs.Fault.{LineSays, LinesSay, Situation, after_line, labels_ahead}
 use Rattle.tw_asm.proofs.Alike.{AreAlike, after_alike, alike}
 

@@ -7,13 +7,13 @@ use Rattle.tw_types.specs.declared.data_type.Scalar.{Scalar}
 use Rattle.tw_types.specs.declared.param.Param.{Param}
 use Rattle.tw_code.specs.declared.instr.Instr.{Instr}
 use Rattle.tw_code.specs.declared.procedure.Procedure.{Procedure}
-use Rattle.tw_lines.specs.Words.{Word}
-use Rattle.tw_statement.specs.Statement.{Statement, Head, Registers, Label, Code, Goals, IsShortName, Spells}
+use Rattle.tw_words.specs.Words.{Word}
+use Rattle.tw_asm.specs.Statement.{Statement, Head, Registers, Label, Code, Goals, IsShortName, Spells}
 use Rattle.tw_asm.specs.Spelling.{AreCode, GoesTo, HaveWords, Placed, SpellProcedures, SpellsProcedure, SpellsProgram}
 use Rattle.tw_asm.proofs.Alike.{alike}
-use Rattle.tw_lines.proofs.Once.{line_once}
-use Rattle.tw_statement.proofs.Spelled.{AreNames, cons_is, never_cons}
-use Rattle.tw_statement.proofs.Once.{spelled_once}
+use Rattle.tw_words.proofs.Once.{line_once}
+use Rattle.tw_asm.proofs.Spelled.{AreNames, cons_is, never_cons}
+use Rattle.tw_asm.proofs.Once.{spelled_once}
 use Rattle.tw_asm.proofs.Walk.{AreOnce, contains_cases, contains_none, labels_short, name_among, names_of, once_by_pairs}
 
 -- ---- the words of lines

@@ -4,10 +4,10 @@ use Rattle.std.specs.List.{Contains, slice_get}
 use Rattle.std.specs.Str.Lines.{lines}
 use Rattle.tw_code.specs.declared.instr.Instr.{Instr}
 use Rattle.tw_code.specs.declared.procedure.Procedure.{Procedure}
-use Rattle.tw_lines.specs.Words.{Bare, IsLine, Word}
-use Rattle.tw_statement.specs.Statement.{Statement, Head, Registers, Label, Code, AnyName, AnyShortName, IsPromised, NamesLabel, Say}
-use Rattle.tw_statement.specs.declared.statement.First.{First}
-use Rattle.tw_statement.specs.declared.statement.First.TheVariants as first
+use Rattle.tw_words.specs.Words.{Bare, IsLine, Word}
+use Rattle.tw_asm.specs.Statement.{Statement, Head, Registers, Label, Code, AnyName, AnyShortName, IsPromised, NamesLabel, Say}
+use Rattle.tw_asm.specs.declared.statement.First.{First}
+use Rattle.tw_asm.specs.declared.statement.First.TheVariants as first
 use Rattle.tw_asm.specs.declared.fault.FaultNo.{FaultNo}
 use Rattle.tw_asm.specs.reading.Promise.{promise}
 use Rattle.tw_asm.specs.Fault.{Stage, Start, InBody, Begins, GoalFault, HasWords, IsEmpty, IsFirstFault, IsLineFault, IsUnfinished, IsWhole, LineFault, LineSays, LinesSay, MayBegin, MayStand, Situation, after_line, at_start, labels_ahead, situation, situation_from, not_forward, unknown}
@@ -16,9 +16,9 @@ use Rattle.tw_asm.proofs.Alike.{AreAlike}
 use Rattle.tw_asm.proofs.Begins.{first_in_line, line_begins}
 use Rattle.tw_asm.proofs.Stages.{start_body}
 use Rattle.tw_asm.proofs.Twice.{both_alike, line_is_same, nothing_says, others_say, same_ahead, says_alike}
-use Rattle.tw_lines.proofs.Once.{blank_no_word, first_word_once, line_blank}
-use Rattle.tw_statement.proofs.Once.{one_promise, spells_more}
-use Rattle.tw_statement.proofs.Spelled.{bare_is}
+use Rattle.tw_words.proofs.Once.{blank_no_word, first_word_once, line_blank}
+use Rattle.tw_asm.proofs.Once.{one_promise, spells_more}
+use Rattle.tw_asm.proofs.Spelled.{bare_is}
 use Rattle.tw_asm.proofs.Walk.{LinesHold, lines_hold, program_said, program_says}
 
 -- ---- stages

@@ -5,15 +5,15 @@ use Rattle.std.specs.List.{AllByRecursion, AllPairs, Contains, slice_index_or}
 use Rattle.tw_code.specs.declared.instr.Instr.{Instr}
 use Rattle.tw_code.specs.declared.procedure.Procedure.{Procedure}
 use Rattle.tw_code.specs.format.Program.{IsInstr, IsProcedure}
-use Rattle.tw_lines.specs.Words.{IsLine, Word}
-use Rattle.tw_statement.specs.Statement.{Statement, Head, Registers, Label, Code, AnyShortName, Goals, IsShortName, NamesLabel, Say, Spells}
+use Rattle.tw_words.specs.Words.{IsLine, Word}
+use Rattle.tw_asm.specs.Statement.{Statement, Head, Registers, Label, Code, AnyShortName, Goals, IsShortName, NamesLabel, Say, Spells}
 use Rattle.tw_asm.specs.Fault.{Start, InBody, IsWhole, LineSays, MayStand, Situation, after, after_line, labels_ahead}
 use Rattle.tw_asm.specs.Spelling.{AreCode, GoesTo, HaveWords, Placed, SpellProcedures, SpellsProcedure}
 use Rattle.tw_asm.proofs.Alike.{AreAlike, alike}
-use Rattle.tw_lines.proofs.Once.{line_once}
-use Rattle.tw_asm.proofs.Names.{named_goal}
+use Rattle.tw_words.proofs.Once.{line_once}
+use Rattle.tw_asm.proofs.NamedLabels.{named_goal}
 use Rattle.tw_asm.proofs.Twice.{none_spelled}
-use Rattle.tw_statement.proofs.Once.{spells_more}
+use Rattle.tw_asm.proofs.Once.{spells_more}
 
 -- ---- elements
 

@@ -4,9 +4,9 @@ use Rattle.std.specs.Fmt.{decimal}
 use Rattle.std.specs.List.{flat_map, position}
 use Rattle.tw_code.specs.declared.instr.Instr.{Instr}
 use Rattle.tw_code.specs.declared.procedure.Procedure.{Procedure}
-use Rattle.tw_statement.specs.Parts.{skip_of}
-use Rattle.tw_statement.specs.Statement.{Head, Registers, Label, Code}
-use Rattle.tw_statement.specs.Written.{goal_word, line_of}
+use Rattle.tw_asm.specs.Parts.{skip_of}
+use Rattle.tw_asm.specs.Statement.{Head, Registers, Label, Code}
+use Rattle.tw_asm.specs.Written.{goal_word, line_of}
 
 -- ---- goals
 

@@ -7,10 +7,10 @@ use Rattle.std.specs.Prelude.{◌≡◌, ◌≢◌, ◌⊎◌, ℕ, ◌+◌, ◌
 use Rattle.tw_code.specs.declared.instr.Instr.{Instr}
 use Rattle.std.specs.List.{Contains}
 use Rattle.std.specs.Str.Lines.{lines}
-use Rattle.tw_lines.specs.Words.{Bare, IsFirstWord, IsLine, Word}
-use Rattle.tw_statement.specs.declared.statement.First.{First}
-use Rattle.tw_statement.specs.declared.statement.First.TheVariants as first
-use Rattle.tw_statement.specs.Statement.{Statement, Head, Registers, Label, Code, HaveForm, IsPromised, NamesLabel, Say}
+use Rattle.tw_words.specs.Words.{Bare, IsFirstWord, IsLine, Word}
+use Rattle.tw_asm.specs.declared.statement.First.{First}
+use Rattle.tw_asm.specs.declared.statement.First.TheVariants as first
+use Rattle.tw_asm.specs.Statement.{Statement, Head, Registers, Label, Code, HaveForm, IsPromised, NamesLabel, Say}
 use Rattle.tw_asm.specs.declared.fault.FaultNo.{FaultNo}
 use Rattle.tw_asm.specs.declared.fault.FaultNo.TheVariants as fault
 

@@ -5,8 +5,8 @@ use Rattle.std.specs.Str.Lines.{lines}
 use Rattle.tw_code.specs.declared.instr.Instr.{Instr}
 use Rattle.tw_code.specs.declared.procedure.Procedure.{Procedure}
 use Rattle.tw_code.specs.format.Program.{IsProgram}
-use Rattle.tw_lines.specs.Words.{Word, IsLine}
-use Rattle.tw_statement.specs.Statement.{Code, Goals, Head, IsInLimits, Label, Registers, Spells}
+use Rattle.tw_words.specs.Words.{Word, IsLine}
+use Rattle.tw_asm.specs.Statement.{Code, Goals, Head, IsInLimits, Label, Registers, Spells}
 
 -- the words of each line that has any
 pub data HaveWords : List (List ℕ) → List (List Word) → Type 0 where

@@ -2,3 +2,6 @@
 pub mod Promise
 pub mod Progress
 pub mod Goals
+pub mod Operands
+pub mod Lines
+pub mod Heads

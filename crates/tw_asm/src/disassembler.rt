@@ -4,14 +4,15 @@ ghost use Rattle.std.specs.Prelude.{◌≡◌, ◌<◌, ◌++◌, ◌+◌, ◌^�
 ghost use Rattle.std.specs.Option.{option_and_then};
 ghost use Rattle.tw_asm.specs.Disassembly.{code_lines, disassembly, label_at, label_line, label_places, procedure_lines};
 ghost use Rattle.tw_asm.specs.Spelling.{SpellsProgram};
-ghost use Rattle.tw_statement.specs.Parts.{skip_of};
-ghost use Rattle.tw_statement.specs.Statement.{Code};
-ghost use Rattle.tw_statement.specs.Written.{goal_word, line_of};
+ghost use Rattle.tw_asm.specs.Parts.{skip_of};
+ghost use Rattle.tw_asm.specs.Statement.{Code};
+ghost use Rattle.tw_asm.specs.Written.{goal_word, line_of};
 
 use indexmap::IndexSet;
 use std::alloc::{AllocError, Global};
 use tw_code::{Instr, NoMemory, Procedure, Program};
-use tw_statement::{put_head, put_instr, put_label, put_registers, skip_of};
+use crate::skip::skip_of;
+use crate::write::{put_head, put_instr, put_label, put_registers};
 
 /// The places of the labels of a procedure's code, in the order in which they are first named.
 fn label_places(alloc: Global, code: &[Instr]) -> Result<IndexSet<usize>, AllocError>

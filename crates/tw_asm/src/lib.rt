@@ -1,12 +1,29 @@
 //! Assembly text: programs from it, and the one text of a program.
+//!
+//! * From text: `assemble` reads it line by line; a line's words promise a statement by the first of them, and say it or are
+//!   flawed; then skips are linked to labels.
+//! * To text: `disassemble` writes a line a statement.
 #![tactic(auto)]
 
 mod assembler;
 mod disassembler;
 mod fault;
+mod first;
+mod gathering;
+mod heads;
+mod instructions;
+mod label_names;
 mod laws;
 mod link;
+mod opcode;
+mod operands;
+mod read;
 mod reading;
+mod refusal;
+mod shapes;
+mod skip;
+mod statement;
+mod write;
 
 pub use assembler::assemble;
 pub use disassembler::disassemble;

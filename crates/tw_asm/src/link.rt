@@ -10,7 +10,7 @@ use crate::reading::{DraftLine, Section};
 use indexmap::IndexMap;
 use std::alloc::Global;
 use tw_code::{Instr, Procedure};
-use tw_statement::with_skip;
+use crate::skip::with_skip;
 use tw_types::Items;
 
 /// The skip from the instruction at a place to a label.

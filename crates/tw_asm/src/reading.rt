@@ -5,18 +5,20 @@ ghost use Rattle.std.specs.Prelude.{None};
 ghost use Rattle.tw_asm.specs.Fault.{MayBegin};
 ghost use Rattle.tw_asm.specs.reading.Progress.{AreClosed, AreFinished, AreNotRead, HasSections, IsEmptyAt, IsNotClosed, IsNotFinished, LabelAdded, LinesAreRead, TakenLine, TakenStatement, WithDraft, WithLabel, WordsRead, IsLimitLine, seen_draft, seen_label, seen_reading, seen_section, seen_stage, stage_of};
 ghost use Rattle.tw_asm.specs.reading.Promise.{IsPromisedBy, promise};
-ghost use Rattle.tw_lines.specs.Seen.{seen as seen_word};
-ghost use Rattle.tw_statement.specs.Seen.{bytes_of, seen as seen_statement};
-ghost use Rattle.tw_statement.specs.Statement.{Code, Head, Label, Registers};
-ghost use Rattle.tw_statement.specs.declared.statement.First.TheVariants as promised;
-ghost use Rattle.tw_statement.specs.declared.statement.First.{First};
+ghost use Rattle.tw_words.specs.Seen.{seen as seen_word};
+ghost use Rattle.tw_asm.specs.Seen.{bytes_of, seen as seen_statement};
+ghost use Rattle.tw_asm.specs.Statement.{Code, Head, Label, Registers};
+ghost use Rattle.tw_asm.specs.declared.statement.First.TheVariants as promised;
+ghost use Rattle.tw_asm.specs.declared.statement.First.{First};
 
 use crate::fault::{AsmFault, FaultNo};
 use indexmap::IndexMap;
 use std::alloc::Global;
-use tw_lines::{Word, words_of};
-use tw_parser::{Flaw, Refusal, first_of, statement_of};
-use tw_statement::{Draft, First, Statement};
+use tw_words::{Word, words_of};
+use crate::first::first_of;
+use crate::read::statement_of;
+use crate::refusal::{Flaw, Refusal};
+use crate::statement::{Draft, First, Statement};
 use tw_types::{Items, Kind, Param, Scalar};
 
 /// An instruction whose goal isn't looked for yet, and the number of its line.

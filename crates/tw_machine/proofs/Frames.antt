@@ -12,8 +12,8 @@ use Rattle.tw_code.specs.declared.procedure.Procedure.{Procedure}
 use Rattle.tw_code.specs.machine.Bounds.{AreBelow}
 use Rattle.tw_code.specs.machine.State.{Frame, State}
 use Rattle.tw_code.specs.machine.Machine.{call_event, end_event, local_event}
-use Rattle.tw_local.specs.declared.stopped.Stopped.{Stopped}
-use Rattle.tw_local.specs.Attempts.{Changes}
+use Rattle.tw_instr.specs.declared.stopped.Stopped.{Stopped}
+use Rattle.tw_instr.specs.Attempts.{Changes}
 use Rattle.tw_machine.specs.declared.tables.Tables.{Tables}
 use Rattle.tw_machine.specs.Events.{FrameComes, FramesCome, HaveRoom, TablesCome, with_frames, with_tables}
 use Rattle.tw_machine.specs.Parts.{frames_of}

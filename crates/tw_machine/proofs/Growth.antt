@@ -8,8 +8,8 @@ use Rattle.tw_code.specs.machine.Bounds.{AreBelow, size_of}
 use Rattle.tw_code.specs.machine.Machine.{step}
 use Rattle.tw_code.specs.machine.State.{State}
 use Rattle.tw_code.proofs.Growth.{below_more, step_grows}
-use Rattle.tw_local.specs.declared.stopped.Stopped.{Stopped}
-use Rattle.tw_local.specs.Attempts.{Changes}
+use Rattle.tw_instr.specs.declared.stopped.Stopped.{Stopped}
+use Rattle.tw_instr.specs.Attempts.{Changes}
 
 module _ (program : List Procedure) (layout : ActorCounts) (event : Event) (old new : State) (bound : ℕ) where
   pub changes_below : (made : Result (Unit {0}) Stopped) → Changes (step program layout event old) old made new → AreBelow bound old → AreBelow (bound + size_of event) new

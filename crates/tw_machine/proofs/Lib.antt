@@ -7,3 +7,6 @@ pub mod Standing
 pub mod Pending
 pub mod Due
 pub mod Growth
+pub mod Filling
+pub mod Bests
+pub mod Numbered

@@ -17,11 +17,11 @@ use Rattle.tw_code.specs.declared.procedure.Procedure.{Procedure}
 use Rattle.tw_code.specs.machine.Arguments.{procedure_of}
 use Rattle.tw_code.specs.machine.Machine.{ask_event, asked, own_rule, release_event}
 use Rattle.tw_code.specs.machine.State.{Frame, Frames, State, with_task}
-use Rattle.tw_local.specs.declared.failure.Failure.{Failure}
-use Rattle.tw_local.specs.Attempts.{Fails, IsStopped, stopped_by}
-use Rattle.tw_local.proofs.Stops.{fails_then}
-use Rattle.tw_waiting.specs.Waiting.{RuleTable, TaskTable, rule_released, staged, task_put, unasked_id}
-use Rattle.tw_waiting.proofs.Numbered.{staged_some}
+use Rattle.tw_instr.specs.declared.failure.Failure.{Failure}
+use Rattle.tw_instr.specs.Attempts.{Fails, IsStopped, stopped_by}
+use Rattle.tw_instr.proofs.Stops.{fails_then}
+use Rattle.tw_machine.specs.Waiting.{RuleTable, TaskTable, rule_released, staged, task_put, unasked_id}
+use Rattle.tw_machine.proofs.Numbered.{staged_some}
 use Rattle.tw_machine.specs.declared.tables.Tables.{Tables}
 use Rattle.tw_machine.specs.Events.{with_frames, with_tables}
 

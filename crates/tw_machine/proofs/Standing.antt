@@ -9,8 +9,8 @@ use Rattle.tw_code.specs.declared.procedure.Procedure.{Procedure}
 use Rattle.tw_code.specs.machine.Arguments.{procedure_of}
 use Rattle.tw_code.specs.machine.Machine.{call_by, call_event, instr_at}
 use Rattle.tw_code.specs.machine.State.{Frame, State}
-use Rattle.tw_local.specs.declared.stopped.Stopped.{Stopped}
-use Rattle.tw_local.specs.Attempts.{IsStopped}
+use Rattle.tw_instr.specs.declared.stopped.Stopped.{Stopped}
+use Rattle.tw_instr.specs.Attempts.{IsStopped}
 use Rattle.tw_machine.specs.declared.tables.Tables.{Tables}
 use Rattle.tw_machine.specs.Events.{CallComes, TablesCome, with_tables}
 

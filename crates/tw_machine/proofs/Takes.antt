@@ -12,9 +12,9 @@ use Rattle.tw_types.specs.Task.{Task, best}
 use Rattle.tw_code.specs.declared.procedure.Procedure.{Procedure}
 use Rattle.tw_code.specs.machine.State.{Frame, State, frame_of, with_frame}
 use Rattle.tw_code.specs.machine.Machine.{take_event}
-use Rattle.tw_local.specs.declared.failure.Failure.{Failure}
-use Rattle.tw_local.specs.Attempts.{Fails, IsStopped, stopped_by}
-use Rattle.tw_local.proofs.Stops.{fails_then}
+use Rattle.tw_instr.specs.declared.failure.Failure.{Failure}
+use Rattle.tw_instr.specs.Attempts.{Fails, IsStopped, stopped_by}
+use Rattle.tw_instr.proofs.Stops.{fails_then}
 
 -- the state without a task
 abbrev pub without : State → ℕ → State

@@ -1,7 +1,7 @@
 -- What is told of an attempt at an event.
 use Rattle.std.specs.Prelude.{Result, Ok, Err}
-use Rattle.tw_local.specs.declared.stopped.Stopped.{Stopped}
-use Rattle.tw_local.specs.declared.stopped.Stopped.TheVariants as stopped
+use Rattle.tw_instr.specs.declared.stopped.Stopped.{Stopped}
+use Rattle.tw_instr.specs.declared.stopped.Stopped.TheVariants as stopped
 use Rattle.tw_machine.specs.declared.stepped.Stepped.{Stepped}
 use Rattle.tw_machine.specs.declared.stepped.Stepped.TheVariants as stepped
 

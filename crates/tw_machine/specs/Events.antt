@@ -10,10 +10,10 @@ use Rattle.tw_code.specs.declared.procedure.Procedure.{Procedure}
 use Rattle.tw_code.specs.machine.Arguments.{procedure_of}
 use Rattle.tw_code.specs.machine.Machine.{call_by, instr_at}
 use Rattle.tw_code.specs.machine.State.{Frame, Frames, State, with_frame}
-use Rattle.tw_local.specs.declared.stopped.Stopped.{Stopped}
-use Rattle.tw_local.specs.Attempts.{Changes, IsStopped}
-use Rattle.tw_context.specs.Room.{HasRoom}
-use Rattle.tw_waiting.specs.Waiting.{TaskTable}
+use Rattle.tw_instr.specs.declared.stopped.Stopped.{Stopped}
+use Rattle.tw_instr.specs.Attempts.{Changes, IsStopped}
+use Rattle.tw_instr.specs.Room.{HasRoom}
+use Rattle.tw_machine.specs.Waiting.{TaskTable}
 use Rattle.tw_machine.specs.declared.tables.Tables.{Tables}
 
 -- ---- a state with other parts

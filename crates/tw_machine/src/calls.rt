@@ -8,8 +8,8 @@ ghost use Rattle.tw_code.specs.declared.procedure.Procedure.{Procedure as AProce
 ghost use Rattle.tw_code.specs.format.Program.{IsProgram};
 ghost use Rattle.tw_code.specs.machine.Machine.{call_event};
 ghost use Rattle.tw_code.specs.machine.State.{State as Meaning};
-ghost use Rattle.tw_local.specs.Attempts.{Changes};
-ghost use Rattle.tw_context.specs.Room.{HasRoom};
+ghost use Rattle.tw_instr.specs.Attempts.{Changes};
+ghost use Rattle.tw_instr.specs.Room.{HasRoom};
 ghost use Rattle.tw_machine.specs.Events.{CallComes, HaveRoom, TablesCome, with_frames, with_tables};
 ghost use Rattle.tw_machine.specs.Parts.{frames_of};
 
@@ -17,10 +17,12 @@ use crate::tables::Tables;
 use std::alloc::Global;
 use std::collections::BTreeMap;
 use tw_code::{Action, DataInstr, Instr, Procedure};
-use tw_context::{Call, Frame, called, data_instr, put_called};
-use tw_local::{Stopped, instr_at, procedure_of};
+use tw_instr::{
+    Call, Frame, Stopped, called, data_instr, instr_at, procedure_of, put_called,
+};
 use tw_types::{Actor, Kind};
-use tw_waiting::{Rule, Task};
+use crate::rule::Rule;
+use crate::task::Task;
 
 /// The frame's task does a RULE.
 fn make_rule(

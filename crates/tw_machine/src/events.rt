@@ -6,15 +6,14 @@ ghost use Rattle.tw_types.specs.declared.actor.Actor.{Actor as AnActor};
 ghost use Rattle.tw_types.specs.Outcome.{Went};
 ghost use Rattle.tw_code.specs.machine.Machine.{end_event, local_event};
 ghost use Rattle.tw_code.specs.machine.State.{State as Meaning};
-ghost use Rattle.tw_local.specs.Attempts.{Fails, IsStopped};
+ghost use Rattle.tw_instr.specs.Attempts.{Fails, IsStopped};
 ghost use Rattle.tw_machine.specs.Events.{FrameComes, FramesCome, instr_of, with_frames};
 ghost use Rattle.tw_machine.specs.Parts.{frames_of};
 
 use std::alloc::Global;
 use std::collections::BTreeMap;
 use tw_code::{Instr, Procedure};
-use tw_context::Frame;
-use tw_local::{Failure, Stopped, instr_at, local_steps, procedure_of};
+use tw_instr::{Failure, Frame, Stopped, instr_at, local_steps, procedure_of};
 use tw_types::{Actor, Cause};
 
 /// The actor's task does so many local instructions.

@@ -2,6 +2,9 @@
 //!
 //! Each event is the machine's own, cause for cause. Nothing is kept of the rights that tasks hold but the ids of the
 //! data, so a program that breaks the rules of rights is met with a trap and not refused beforehand.
+//!
+//! * `Plain` is a machine with its program: `open`, `step`, `ending`, `state`.
+//! * `State` is what a machine has: live data, tasks that run or wait, rules that are pending, notices.
 #![tactic(auto)]
 
 mod calls;
@@ -11,16 +14,20 @@ mod opened;
 mod opening;
 mod plain;
 mod refusal;
+mod rule;
 mod rule_events;
+mod rules;
 mod state;
 mod stepped;
 mod tables;
 mod take;
+mod task;
+mod tasks;
 
 pub use plain::Plain;
 pub use refusal::{OpenRefusal, OpenRefused};
+pub use rule::Rule;
 pub use state::State;
 pub use stepped::Stepped;
-pub use tw_context::{Arg, Frame};
-pub use tw_data::Datum;
-pub use tw_waiting::{Rule, Task};
+pub use task::Task;
+pub use tw_instr::{Arg, Datum, Frame};

@@ -12,7 +12,7 @@ ghost use Rattle.tw_machine.specs.Opening.{nothing_opened};
 
 use std::alloc::{AllocError, Global};
 use std::marker::Model;
-use tw_data::{Content, Data, RankedMap};
+use tw_instr::{Content, Data, RankedMap};
 use tw_types::{DataType, DatumId, Input, InputText, Param, Text, Value};
 
 /// The data of main's parameters so far, the ids that main is given, and those of the host's outputs.

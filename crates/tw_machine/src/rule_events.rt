@@ -8,7 +8,7 @@ ghost use Rattle.tw_types.specs.Outcome.{enabled};
 ghost use Rattle.tw_types.specs.Store.{server_of};
 ghost use Rattle.tw_code.specs.machine.Machine.{ask_event, deliver_event, own_rule, release_event};
 ghost use Rattle.tw_code.specs.machine.State.{State as Meaning};
-ghost use Rattle.tw_local.specs.Attempts.{Changes};
+ghost use Rattle.tw_instr.specs.Attempts.{Changes};
 ghost use Rattle.tw_machine.specs.Due.{is_due};
 ghost use Rattle.tw_machine.specs.Events.{TablesChange, with_frames, with_tables};
 ghost use Rattle.tw_machine.specs.Parts.{frames_of};
@@ -17,10 +17,9 @@ use crate::tables::Tables;
 use std::alloc::Global;
 use std::collections::BTreeMap;
 use tw_code::Procedure;
-use tw_context::{Frame, Notices};
-use tw_local::{Stopped, procedure_of};
+use tw_instr::{Frame, Notices, Stopped, procedure_of};
 use tw_types::{Actor, Cause, DatumId, Layout, Notice, RuleNo, Stage, Subscriber};
-use tw_waiting::Rule;
+use crate::rule::Rule;
 
 /// The rule of the number, if the engine holds it and runs no task.
 fn own_rule<'a>(

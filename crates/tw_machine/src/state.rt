@@ -13,8 +13,8 @@ ghost use Rattle.tw_code.specs.machine.Ending.{ending, is_quiet};
 ghost use Rattle.tw_code.specs.machine.Machine.{step};
 ghost use Rattle.tw_code.specs.machine.Inputs.{are_inputs_of, input_params};
 ghost use Rattle.tw_code.specs.machine.Opening.{opened, opening_of};
-ghost use Rattle.tw_local.specs.Attempts.{Changes};
-ghost use Rattle.tw_waiting.specs.Parts.{rules_of, tasks_of};
+ghost use Rattle.tw_instr.specs.Attempts.{Changes};
+ghost use Rattle.tw_machine.specs.Parts.{rules_of, tasks_of};
 ghost use Rattle.tw_machine.specs.Due.{is_due};
 ghost use Rattle.tw_machine.specs.Opening.{nothing_opened};
 ghost use Rattle.tw_machine.specs.Parts.{frames_of};
@@ -26,11 +26,12 @@ use std::alloc::{AllocError, Global};
 use std::collections::BTreeMap;
 use std::marker::Model;
 use tw_code::Procedure;
-use tw_context::{Frame, Notices};
-use tw_data::Datum;
-use tw_local::Stopped;
+use tw_instr::{Datum, Frame, Notices, Stopped};
 use tw_types::{Actor, DatumId, Ending, Event, Input, Layout, Notice, Param, RuleNo, TaskNo};
-use tw_waiting::{Rule, Rules, Task, Tasks};
+use crate::rule::Rule;
+use crate::rules::Rules;
+use crate::task::Task;
+use crate::tasks::Tasks;
 
 /// The data, the rules, the tasks that wait, the notices, the tasks that run, and the outputs.
 #[derive(Drop)]

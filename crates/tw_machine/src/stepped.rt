@@ -1,6 +1,6 @@
 //! Answers to events.
 
-use tw_local::Stopped;
+use tw_instr::Stopped;
 use tw_types::Cause;
 
 /// What an event came to.

@@ -2,17 +2,16 @@
 
 ghost use Rattle.tw_code.specs.machine.Machine.{take_event};
 ghost use Rattle.tw_code.specs.machine.State.{State as Meaning};
-ghost use Rattle.tw_local.specs.Attempts.{Changes};
+ghost use Rattle.tw_instr.specs.Attempts.{Changes};
 ghost use Rattle.tw_machine.specs.Events.{with_frames, with_tasks};
 ghost use Rattle.tw_machine.specs.Parts.{frames_of};
 
 use std::alloc::Global;
 use std::collections::BTreeMap;
 use tw_code::Procedure;
-use tw_context::Frame;
-use tw_local::Stopped;
+use tw_instr::{Frame, Stopped};
 use tw_types::{Actor, Layout};
-use tw_waiting::Tasks;
+use crate::tasks::Tasks;
 
 /// The actor takes a task.
 pub fn take(

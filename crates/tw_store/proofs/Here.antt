@@ -11,7 +11,7 @@ use Rattle.tw_types.specs.declared.notice.Notice.{Notice}
 use Rattle.tw_types.specs.declared.notice.Subscriber.{Subscriber}
 use Rattle.tw_types.specs.declared.value.Value.{Value}
 use Rattle.tw_rights.specs.Rights.{Right}
-use Rattle.tw_store.specs.Room.{HasReadRoom}
+use Rattle.tw_types.specs.Room.{HasReadRoom}
 use Rattle.tw_store.specs.Calls.{HasMemberRoom}
 use Rattle.tw_store.specs.declared.member.Member.{Member}
 use Rattle.tw_store.specs.declared.slot.Slot.{Slot}

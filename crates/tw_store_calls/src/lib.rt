@@ -10,7 +10,7 @@ ghost use Rattle.tw_types.specs.Value.{is_of};
 ghost use Rattle.tw_types.specs.Store.{empty_store};
 ghost use Rattle.tw_types.specs.StoreCalls.{created, inserted, member_at, members_at, read_copied, read_dropped, set_to, store_after, one_write_less, subscribed, value_at, write_copied};
 ghost use Rattle.tw_types.specs.StoreChecks.{may_store, may_retrieve, may_insert, may_look, may_read_members, may_copy_write, may_drop_read, may_drop_write};
-ghost use Rattle.tw_store.specs.Room.{HasReadRoom, HasWriteRoom};
+ghost use Rattle.tw_types.specs.Room.{HasReadRoom, HasWriteRoom};
 ghost use Rattle.tw_store.specs.Served.{IsHere, IsLeft, IsNow, IsUnchanged, KeepsPlaces};
 ghost use Rattle.tw_store.specs.Calls.{HasMemberRoom, closed_by};
 

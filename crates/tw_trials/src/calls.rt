@@ -4,7 +4,7 @@ ghost use Rattle.std.specs.Prelude.{◌≡◌, ◌<◌, ◌^◌, IfSome, IsTrue}
 ghost use Rattle.std.specs.FinMap.{get};
 ghost use Rattle.std.specs.declared.result.Result.TheVariants.{Ok};
 ghost use Rattle.tw_types.specs.StoreChecks.{may_insert};
-ghost use Rattle.tw_store.specs.Room.{HasReadRoom, HasWriteRoom};
+ghost use Rattle.tw_types.specs.Room.{HasReadRoom, HasWriteRoom};
 ghost use Rattle.tw_store.specs.Calls.{HasMemberRoom};
 ghost use Rattle.tw_store.specs.Served.{IsHere};
 

@@ -15,6 +15,7 @@ pub mod Value
 pub mod Store
 pub mod StoreCalls
 pub mod StoreChecks
+pub mod Room
 pub mod Notices
 pub mod Task
 pub mod Rule

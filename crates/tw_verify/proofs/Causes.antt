@@ -5,8 +5,8 @@ use Rattle.std.specs.Bool.{then_some}
 use Rattle.std.specs.Option.{option_map}
 use Rattle.std.proofs.lemmas.Bool.{leb-true, leb-false}
 use Rattle.std.proofs.lemmas.Option.{same_Some}
-use Rattle.tw_typing.specs.declared.violation.Violation.{Violation}
-use Rattle.tw_typing.specs.Violations.{lowest_of, violation_number}
+use Rattle.tw_verify.specs.declared.violation.Violation.{Violation}
+use Rattle.tw_verify.specs.Violations.{lowest_of, violation_number}
 use Rattle.tw_verify.specs.Passes.{lowest_at}
 
 -- ---- the lower of two

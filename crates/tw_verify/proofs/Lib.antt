@@ -7,3 +7,6 @@ pub mod Programs
 pub mod Reaching
 pub mod RightTypings
 pub mod Typings
+pub mod Asking
+pub mod Numbers
+pub mod OneMore

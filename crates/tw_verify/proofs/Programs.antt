@@ -7,12 +7,12 @@ use Rattle.tw_code.specs.accepting.Flow.{flows}
 use Rattle.tw_code.specs.accepting.MainShape.{has_main_shape}
 use Rattle.tw_code.specs.accepting.Walk.{IsBudget, greatest_budget}
 use Rattle.tw_code.specs.accepting.WellTyped.{IsAcceptedProcedure, IsAccepted, IsProcedureRefusal, IsFirstRefusal}
-use Rattle.tw_typing.specs.declared.refusal.VerifyRefusal.{VerifyRefusal}
-use Rattle.tw_typing.specs.declared.refusal.VerifyRefusal.TheVariants as refusal
-use Rattle.tw_typing.specs.declared.violation.Violation.{Violation}
-use Rattle.tw_typing.specs.declared.violation.Violation.TheVariants as broken
-use Rattle.tw_typing.specs.Refusal.{verify_refusal_number}
-use Rattle.tw_typing.specs.Violations.{refusal_for}
+use Rattle.tw_verify.specs.declared.refusal.VerifyRefusal.{VerifyRefusal}
+use Rattle.tw_verify.specs.declared.refusal.VerifyRefusal.TheVariants as refusal
+use Rattle.tw_verify.specs.declared.violation.Violation.{Violation}
+use Rattle.tw_verify.specs.declared.violation.Violation.TheVariants as broken
+use Rattle.tw_verify.specs.Refusal.{verify_refusal_number}
+use Rattle.tw_verify.specs.Violations.{refusal_for}
 use Rattle.tw_verify.specs.declared.fault.Fault.{Fault}
 use Rattle.tw_verify.specs.declared.fault.Fault.TheVariants as fault
 use Rattle.tw_verify.specs.declared.findings.Findings.{Findings}

@@ -21,11 +21,11 @@ use Rattle.tw_code.specs.accepting.Flow.{flow_of, onward}
 use Rattle.tw_code.specs.machine.Rights.{Right, Typing}
 use Rattle.tw_code.specs.accepting.Typing.{start_typing, after}
 use Rattle.tw_code.specs.accepting.WellTyped.{LeadsTo, Brings, IsReached}
-use Rattle.tw_typing.specs.Same.{mode_rank, same_right, same_typing}
+use Rattle.tw_verify.specs.Same.{mode_rank, same_right, same_typing}
 use Rattle.tw_verify.specs.declared.rows.Reached.{Reached}
 use Rattle.tw_verify.specs.Passes.{is_place, noted, sent, first_row}
 use Rattle.tw_verify.proofs.Lists.{get_front, get_last}
-use Rattle.tw_invariant.proofs.Scalars.{same_types, type_itself}
+use Rattle.tw_no_trap.proofs.Scalars.{same_types, type_itself}
 use Rattle.tw_verify.proofs.Typings.{onward_later}
 
 -- ---- the same typing

@@ -1,7 +1,11 @@
--- What a reader must believe: as what a verified program is seen (Typed). Which programs are accepted, and what refuses
--- another, stands with the programs; the numbers of the refusals, in tw_typing; what `no_trap` says, in tw_invariant.
--- Laws says that there is one first refusal, and of accepted programs none.
+-- What a reader must believe: as what a verified program is seen (Typed), which refusal a violation is (Violations), by which
+-- number (Refusal), and when two typings are the same (Same). Which programs are accepted, what refuses another, and what an
+-- instruction asks and leaves stand with the programs, under `accepting`; what `no_trap` says, in tw_no_trap. Laws says that
+-- there is one first refusal, and of accepted programs none.
 pub mod Typed
+pub mod Violations
+pub mod Refusal
+pub mod Same
 pub mod Laws
 -- What only private functions speak of.
 pub mod Loops

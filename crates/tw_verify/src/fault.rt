@@ -5,7 +5,8 @@ ghost use Rattle.tw_verify.specs.Passes.{refusal_of};
 ghost use Rattle.tw_verify.specs.declared.fault.Fault.TheVariants.{Memory as NoMemory};
 
 use std::alloc::AllocError;
-use tw_typing::{VerifyRefusal, Violation};
+use crate::refusal::VerifyRefusal;
+use crate::violation::Violation;
 
 /// Why a pass over one procedure stops.
 #[derive(Clone, Copy)]

@@ -1,7 +1,7 @@
 //! What holds of all programs, and of accepted ones when they run.
 
 ghost use Rattle.tw_code.specs.machine.Holders.{Typings};
-ghost use Rattle.tw_invariant.specs.NoTrap.{AreRight, NoTrap};
+ghost use Rattle.tw_no_trap.specs.NoTrap.{AreRight, NoTrap};
 ghost use Rattle.tw_verify.specs.Laws.{AcceptedUnrefused, OneFirstRefusal};
 ghost use Rattle.tw_verify.specs.Typed.{typings_of};
 

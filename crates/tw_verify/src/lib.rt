@@ -2,23 +2,36 @@
 //!
 //! An accepted program has for each procedure a list of typings, which says what every right register holds at every
 //! place, and a budget, how many instructions a task may do; a refused one comes back with its first refusal.
+//!
+//! * Of one place: `place_refusal` tells what is broken there, the lowest number first; `Typing` is what right registers hold.
+//! * Of a program: `verify`, and what a `Verified` keeps.
+//! * Of all runs: the law `no_trap`.
 #![tactic(auto)]
 
+mod arguments;
 mod fault;
 mod findings;
+mod instructions;
 mod laws;
 mod loops;
 mod needs;
 mod pass;
+mod questions;
+mod refusal;
 mod refused;
 mod rows;
 mod structure;
+mod typing;
 mod verified;
 mod verifier;
+mod violation;
 
+pub use instructions::place_refusal;
 pub use laws::{no_trap, one_first_refusal};
+pub use refusal::VerifyRefusal;
 pub use refused::Refused;
-pub use tw_invariant::{budgets_held, counts_held, notes_held, types_held};
-pub use tw_typing::{Right, Typing, VerifyRefusal};
+pub use tw_no_trap::{budgets_held, counts_held, notes_held, types_held};
+pub use typing::{Right, Typing};
 pub use verified::Verified;
 pub use verifier::verify;
+pub use violation::Violation;

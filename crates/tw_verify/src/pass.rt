@@ -10,7 +10,7 @@ ghost use Rattle.tw_code.specs.machine.Rights.{Typing};
 ghost use Rattle.tw_code.specs.accepting.Typing.{asks_at};
 ghost use Rattle.tw_code.specs.accepting.Walk.{IsBudget, greatest_budget};
 ghost use Rattle.tw_code.specs.accepting.WellTyped.{IsEndOf, IsWellTyped, IsTypingRefusal, IsBudgetRefusal, IsProcedureRefusal};
-ghost use Rattle.tw_typing.specs.Violations.{violation_number};
+ghost use Rattle.tw_verify.specs.Violations.{violation_number};
 ghost use Rattle.tw_verify.specs.Loops.{AreLoops};
 ghost use Rattle.tw_verify.specs.Passes.{IfFault, HasChanged, lowest_at};
 ghost use Rattle.tw_verify.specs.Verified.{AreFindings};
@@ -24,7 +24,10 @@ use std::alloc::Global;
 use tw_budget::{BudgetRefusal, budgets};
 use tw_code::{Instr, Procedure};
 use tw_types::Items;
-use tw_typing::{Typing, Violation, lowest, place_refusal};
+use crate::instructions::place_refusal;
+use crate::questions::lowest;
+use crate::typing::Typing;
+use crate::violation::Violation;
 
 fn typing_at(typings: &[Typing], place: usize) -> Option<Typing>
     ensures { result ≡ slice_get typings.now place }

@@ -3,7 +3,7 @@
 use std::fmt;
 use thiserror::Error;
 use tw_code::Program;
-use tw_typing::VerifyRefusal;
+use crate::refusal::VerifyRefusal;
 
 /// A program that isn't accepted, with its first refusal.
 #[derive(Drop, Error)]

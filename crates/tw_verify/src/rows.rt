@@ -10,7 +10,7 @@ ghost use Rattle.tw_verify.specs.declared.rows.Reached.{Reached};
 
 use std::alloc::{AllocError, Global};
 use tw_code::{Flow, Instr, Procedure, Way};
-use tw_typing::Typing;
+use crate::typing::Typing;
 
 /// What has reached a place so far: the typing that came first, and whether another one came.
 #[derive(Clone, Copy)]

@@ -4,14 +4,14 @@ ghost use Rattle.std.specs.Prelude.{◌≡◌, ◌<◌, length, OnOk, IfErr, ◌
 ghost use Rattle.std.specs.Option.{option_map};
 ghost use Rattle.tw_code.specs.accepting.Flow.{flows};
 ghost use Rattle.tw_code.specs.accepting.Structure.{same_block, is_in_block, skips_in_block, is_matched, ends_well, structure_refusal_at, IsStructured, IsStructureRefusal};
-ghost use Rattle.tw_typing.specs.Violations.{violation_number};
+ghost use Rattle.tw_verify.specs.Violations.{violation_number};
 ghost use Rattle.tw_verify.specs.Loops.{AreLoops};
 ghost use Rattle.tw_verify.specs.Passes.{IfFault};
 
 use crate::fault::Fault;
 use crate::loops::Loops;
 use tw_code::{Flow, Instr, flow_at};
-use tw_typing::Violation;
+use crate::violation::Violation;
 
 /// How many loops may stand in one another.
 const MAX_DEPTH: usize = 4;

@@ -3,8 +3,8 @@
 ghost use Rattle.std.specs.Prelude.{◌≡◌, ◌≢◌, IfOk, IfErr, OnOk};
 ghost use Rattle.tw_code.specs.format.Program.{IsProgram};
 ghost use Rattle.tw_code.specs.accepting.WellTyped.{IsAccepted, IsFirstRefusal};
-ghost use Rattle.tw_typing.specs.Refusal.{verify_refusal_number};
-ghost use Rattle.tw_typing.specs.declared.refusal.VerifyRefusal.TheVariants.{Memory};
+ghost use Rattle.tw_verify.specs.Refusal.{verify_refusal_number};
+ghost use Rattle.tw_verify.specs.declared.refusal.VerifyRefusal.TheVariants.{Memory};
 ghost use Rattle.tw_verify.specs.Passes.{IsRefusal};
 ghost use Rattle.tw_verify.specs.Verified.{IsTyped};
 
@@ -16,7 +16,7 @@ use crate::verified::Verified;
 use std::alloc::Global;
 use tw_code::{Procedure, Program, has_main_shape};
 use tw_types::Items;
-use tw_typing::VerifyRefusal;
+use crate::refusal::VerifyRefusal;
 
 /// What is found out about each procedure of an accepted program.
 fn all_findings(alloc: Global, procedures: &[Procedure]) -> Result<Items<Findings>, Refusal>

@@ -2,3 +2,8 @@ pub mod Numerals
 pub mod Insides
 pub mod Written
 pub mod Utf8
+pub mod Once
+pub mod Texts
+pub mod FirstWords
+pub mod Breaks
+pub mod Writing

@@ -1,6 +1,7 @@
-//! The words that texts of the task host share: numbers in decimal digits, and texts between quotes.
+//! The words that texts of the task host share: the words of a line, numbers in decimal digits, and texts between quotes.
 //!
-//! Input words, reports and assembly text write them alike. What is written here is read back.
+//! Input words, reports and assembly text write numbers and texts alike, and what is written here is read back. In a line
+//! words are parted by spaces, tabs and carriage returns; a `;` outside a quoted text begins a comment.
 #![tactic(auto)]
 
 mod escape;
@@ -8,8 +9,10 @@ mod first;
 mod laws;
 mod numbers;
 mod quoted;
+mod word;
 
 pub use first::after;
 pub use laws::{numbers_are_read_back, quoted_texts_are_read_back};
 pub use numbers::{Flaw, digits, number};
 pub use quoted::{put_quoted, quoted_text};
+pub use word::{Line, Word, words_of};

@@ -7,12 +7,12 @@ use Rattle.tw_types.specs.declared.actor.Kind.{Kind}
 use Rattle.tw_types.specs.declared.data_type.Scalar.{Scalar}
 use Rattle.tw_types.specs.declared.param.Param.{Param}
 use Rattle.tw_code.specs.declared.instr.Instr.{Instr}
-use Rattle.tw_lines.specs.Words.{IsLine, Word}
-use Rattle.tw_statement.specs.declared.statement.First.{First}
-use Rattle.tw_statement.specs.declared.statement.First.TheVariants as first
-use Rattle.tw_statement.specs.declared.statement.Statement as statements
-use Rattle.tw_statement.specs.Seen.{Read, IsRead, bytes_of, seen}
-use Rattle.tw_statement.specs.Statement.{Statement, Head, Registers, Label, Code}
+use Rattle.tw_words.specs.Words.{IsLine, Word}
+use Rattle.tw_asm.specs.declared.statement.First.{First}
+use Rattle.tw_asm.specs.declared.statement.First.TheVariants as first
+use Rattle.tw_asm.specs.declared.statement.Statement as statements
+use Rattle.tw_asm.specs.Seen.{Read, IsRead, bytes_of, seen}
+use Rattle.tw_asm.specs.Statement.{Statement, Head, Registers, Label, Code}
 use Rattle.tw_asm.specs.declared.fault.AsmFault.{AsmFault}
 use Rattle.tw_asm.specs.declared.fault.FaultNo.TheVariants as fault
 use Rattle.tw_asm.specs.declared.reading.DraftLine as draft_lines

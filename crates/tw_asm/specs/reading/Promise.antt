@@ -1,8 +1,8 @@
 -- First words and what they promise.
-use Rattle.tw_lines.specs.Words.{Word, Bare, Quoted}
-use Rattle.tw_statement.specs.declared.statement.First.{First}
-use Rattle.tw_statement.specs.declared.statement.First.TheVariants as first
-use Rattle.tw_statement.specs.Statement.{Statement, Head, Registers, Label, Code, IsPromised}
+use Rattle.tw_words.specs.Words.{Word, Bare, Quoted}
+use Rattle.tw_asm.specs.declared.statement.First.{First}
+use Rattle.tw_asm.specs.declared.statement.First.TheVariants as first
+use Rattle.tw_asm.specs.Statement.{Statement, Head, Registers, Label, Code, IsPromised}
 
 abbrev pub IsPromisedBy : Word → First → Type 0
 IsPromisedBy (Bare word) promised = IsPromised promised word

@@ -10,7 +10,7 @@ use Rattle.tw_code.specs.declared.procedure.Procedure.{Procedure}
 use Rattle.tw_code.specs.machine.Bounds.{size_of}
 use Rattle.tw_code.specs.machine.Due.{IsDue, IsDueFree, event_of, instr_here}
 use Rattle.tw_code.specs.machine.State.{State, Frame}
-use Rattle.tw_context.specs.Stretch.{IsStretch}
+use Rattle.tw_instr.specs.Stretch.{IsStretch}
 use Rattle.tw_run.specs.driver.Seats.{seat_count}
 
 -- what the driver takes a stretch to have at most

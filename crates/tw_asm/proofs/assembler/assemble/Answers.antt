@@ -1,7 +1,7 @@
 use Rattle.std.proofs.Common.{map}
 use Rattle.std.proofs.lemmas.Result.{err_from_is_err_and}
 use Rattle.tw_asm.specs.reading.Progress.{seen_section}
-use Rattle.tw_asm.proofs.Spelled.{is_program, labels_fit, spells_program}
+use Rattle.tw_asm.proofs.SpelledSections.{is_program, labels_fit, spells_program}
 use Rattle.tw_asm.proofs.Told.{not_linked, not_read}
 use Rattle.tw_asm.proofs.assembler.assemble.Goals as goal
 

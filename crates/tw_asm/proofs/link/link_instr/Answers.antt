@@ -1,5 +1,5 @@
 use Rattle.std.proofs.Common.{map, inr, sym, subst, ap}
-use Rattle.tw_statement.specs.Seen.{bytes_of}
+use Rattle.tw_asm.specs.Seen.{bytes_of}
 use Rattle.tw_asm.specs.reading.Goals.{IsNoGoal}
 use Rattle.tw_asm.specs.reading.Progress.{seen_label}
 use Rattle.tw_asm.proofs.link.link_instr.Goals as goal

@@ -1,5 +1,5 @@
 use Rattle.std.proofs.Common.{Option, Ok, subst}
-use Rattle.tw_statement.specs.declared.statement.Statement as statements
+use Rattle.tw_asm.specs.declared.statement.Statement as statements
 use Rattle.tw_asm.specs.reading.Progress.{WordsRead, seen_reading}
 use Rattle.tw_asm.proofs.Taking.{line_taken}
 use Rattle.tw_asm.proofs.reading.take_line.Goals as goal

@@ -4,7 +4,7 @@ use Rattle.std.specs.FinMap.{insert}
 use Rattle.tw_types.specs.Outcome.{Went}
 use Rattle.tw_machine.specs.Events.{with_frames, with_tasks}
 use Rattle.tw_machine.specs.Parts.{frames_of}
-use Rattle.tw_waiting.specs.Waiting.{TaskTable}
+use Rattle.tw_machine.specs.Waiting.{TaskTable}
 use Rattle.tw_types.proofs.ActorOrder.{actor_cmp_total, actor_cmp-IsAntisymmetric}
 use Rattle.tw_types.proofs.Maps.{found_view, inserted_view}
 use Rattle.tw_machine.proofs.Takes.{take_outside, take_busy, take_none, take_stopped, take_goes}

@@ -1,6 +1,6 @@
 use Rattle.std.proofs.Common.{subst}
 use Rattle.tw_code.specs.format.Program.{IsProgram}
-use Rattle.tw_invariant.proofs.Safe as safe
+use Rattle.tw_no_trap.proofs.Safe as safe
 use Rattle.tw_verify.specs.Typed.{typings_of}
 use Rattle.tw_verify.proofs.laws.no_trap.Goals as goal
 

@@ -3,8 +3,8 @@ use Rattle.std.specs.Prelude.{if◌then◌else◌}
 use Rattle.std.specs.Option.{option_map}
 use Rattle.tw_code.specs.accepting.Question.{refusal_in}
 use Rattle.tw_code.specs.accepting.Typing.{asks_at}
-use Rattle.tw_typing.specs.declared.violation.Violation.TheVariants.{TypingsDiffer, TypingChanged}
-use Rattle.tw_typing.specs.Violations.{lowest_of, violation_number}
+use Rattle.tw_verify.specs.declared.violation.Violation.TheVariants.{TypingsDiffer, TypingChanged}
+use Rattle.tw_verify.specs.Violations.{lowest_of, violation_number}
 use Rattle.tw_verify.proofs.Causes.{then_number}
 use Rattle.tw_verify.proofs.pass.typing_refusal.Goals as goal
 

@@ -5,7 +5,7 @@ use Rattle.std.proofs.lemmas.Option.{slice_get_past}
 use Rattle.std.specs.Option.{option_and_then, option_map}
 use Rattle.tw_code.specs.accepting.Flow.{flow_of, flows}
 use Rattle.tw_code.specs.accepting.Structure.{structure_refusal, structure_refusal_at}
-use Rattle.tw_typing.specs.Violations.{violation_number}
+use Rattle.tw_verify.specs.Violations.{violation_number}
 use Rattle.tw_verify.proofs.structure.ask_structure.Goals as goal
 
 pub loop-place-preserved : goal.loop-place-preserved

@@ -1,6 +1,6 @@
 use Rattle.std.proofs.Common.{◌<◌, subst}
 use Rattle.tw_types.specs.StoreCalls.{one_write_more}
-use Rattle.tw_store.specs.Room.{HasWriteRoom}
+use Rattle.tw_types.specs.Room.{HasWriteRoom}
 use Rattle.tw_store.specs.declared.slot.Slot.{Slot}
 use Rattle.tw_store.proofs.Remain.{if_some}
 use Rattle.tw_store.proofs.Here.{seat, is_there, now_is, now_seated}

@@ -2,7 +2,7 @@ use Rattle.std.proofs.Common.{◌≡◌, ◌<◌, sym, ap, subst, ◌∙◌, ari
 use Rattle.std.specs.FinMap.{get}
 use Rattle.tw_types.specs.StoreCalls.{members_in, member_at, read_copied, one_read_more}
 use Rattle.tw_rights.specs.Rights.{Right}
-use Rattle.tw_store.specs.Room.{HasReadRoom}
+use Rattle.tw_types.specs.Room.{HasReadRoom}
 use Rattle.tw_store.specs.Served.{IsHere, IsNow}
 use Rattle.tw_store.specs.Parts.{served_of}
 use Rattle.tw_store.specs.declared.member.Member.{Member}

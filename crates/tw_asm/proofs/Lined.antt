@@ -1,0 +1,289 @@
+-- The readings of lines, whatever the instruction.
+use Rattle.std.proofs.Common.{◌≡◌, ℕ, ◌≤◌, List, [], ◌∷◌, ◌++◌, length, map, replicate, codes, Option, Some, None, inl, inr, refl, sym, ap, subst, ◌∙◌, arith}
+use Rattle.std.specs.List.{AllByRecursion}
+use Rattle.tw_code.specs.format.Program.{IsList, IsRegister, IsSkip}
+use Rattle.tw_words.specs.Words.{Word, Bare}
+use Rattle.tw_asm.proofs.Names.{HasGoal, MayGoal, goal_read, no_letter}
+use Rattle.tw_asm.proofs.OperandWords.{Has, IsFine, May, natural_read, operand_read, part_of}
+use Rattle.tw_asm.proofs.Readings.{Reads, both_read}
+use Rattle.tw_asm.proofs.Sequences.{HaveEach, IsTypeBehind, each_long, each_read, few_read, type_read}
+use Rattle.tw_asm.specs.Parts.{Part, Natural, TypeOf, Skip, scalar_word}
+use Rattle.tw_asm.specs.Seen.{NoName, OnlyName}
+use Rattle.tw_asm.specs.Statement.{Goals, IsName, SpellParts, SpellsPart, SpellsWith}
+use Rattle.tw_asm.specs.reading.Lines.{Content, Line, LineContent, Operand, args, each, goal, label_in, line_in, literal, more, natural, nothing, number, one, right, target, type, value}
+use Rattle.tw_asm.specs.reading.Operands.{at_label, further, natural_in}
+use Rattle.tw_types.specs.Nesting.{NestedScalar}
+
+abbrev pub IsArg : Word → ℕ → Type 0
+IsArg w n = SpellsWith [] n (w ∷ [])
+
+abbrev pub HasLine : (l : Line) → List Word → LineContent l → Type 0
+HasLine nothing [] x = Unit {0}
+HasLine nothing (w ∷ ws) x = ⊥
+HasLine (one o) [] x = ⊥
+HasLine (one o) (w ∷ []) x = Has o w x
+HasLine (one o) (w ∷ v ∷ ws) x = ⊥
+HasLine goal [] x = ⊥
+HasLine goal (w ∷ []) x = HasGoal w x.skip x.label
+HasLine goal (w ∷ v ∷ ws) x = ⊥
+HasLine type ws x = IsTypeBehind 0 ws x
+HasLine args ws x = HaveEach IsArg ws x
+HasLine (more o l) [] x = ⊥
+HasLine (more o l) (w ∷ ws) x = Has o w x.0 × HasLine l ws x.1
+
+abbrev pub MayLine : (l : Line) → LineContent l → Type 0
+MayLine nothing x = Unit {0}
+MayLine (one o) x = May o x
+MayLine goal x = MayGoal x.skip x.label
+MayLine type x = x.depth ≤ 3
+MayLine args x = IsList 0 8 IsRegister x
+MayLine (more o l) x = May o x.0 × MayLine l x.1
+
+pub line_read : (l : Line) (ws : List Word) → AllByRecursion IsFine ws → Reads (HasLine l ws) (MayLine l) (line_in l ws)
+line_read nothing [] fine = (tt, tt)
+line_read nothing (w ∷ ws) fine = λ x h. h
+line_read (one o) [] fine = λ x h. h
+line_read (one o) (w ∷ []) fine = operand_read o w fine.0
+line_read (one o) (w ∷ v ∷ ws) fine = λ x h. h
+line_read goal [] fine = λ x h. h
+line_read goal (w ∷ []) fine = goal_read w
+line_read goal (w ∷ v ∷ ws) fine = λ x h. h
+line_read type ws fine = type_read 0 ws
+line_read args ws fine =
+    few_read (HaveEach IsArg ws) IsRegister 8 (each (natural_in 0 15) ws) (λ xs ys h k. each_long IsArg ws xs h ∙ sym (each_long IsArg ws ys k))
+    (each_read IsArg IsRegister (natural_in 0 15) (λ w. natural_read 0 15 w) ws)
+line_read (more o l) [] fine = λ x h. h
+line_read (more o l) (w ∷ ws) fine = both_read (Has o w) (May o) (HasLine l ws) (MayLine l) _ (line_in l ws) (operand_read o w fine.0) (line_read l ws fine.1)
+
+-- ---- parts
+
+abbrev pub parts_of : (l : Line) → LineContent l → List Part
+parts_of nothing x = []
+parts_of (one o) x = part_of o x ∷ []
+parts_of goal x = Skip x.skip ∷ []
+parts_of type x = TypeOf x ∷ []
+parts_of args x = map Natural x
+parts_of (more o l) x = part_of o x.0 ∷ parts_of l x.1
+
+-- the limits but for names
+abbrev pub MayParts : (l : Line) → LineContent l → Type 0
+MayParts nothing x = Unit {0}
+MayParts (one o) x = May o x
+MayParts goal x = IsSkip x.skip
+MayParts type x = x.depth ≤ 3
+MayParts args x = IsList 0 8 IsRegister x
+MayParts (more o l) x = May o x.0 × MayParts l x.1
+
+abbrev pub goals_by : Option (List ℕ) → Goals
+goals_by None = NoName
+goals_by (Some name) = OnlyName name
+
+-- what is no skip is spelled alike with all goals
+plain : (o : Operand) (c : Content o) (G H : Goals) (ws : List Word) → SpellsPart G (part_of o c) ws → SpellsPart H (part_of o c) ws
+plain value c G H ws h = h
+plain right c G H ws h = h
+plain number c G H ws h = h
+plain (natural low high) c G H ws h = h
+plain literal c G H ws h = h
+plain target None G H ws h = h
+plain target (Some n) G H ws h = h
+
+word_alone : (o : Operand) (c : Content o) (G : Goals) (ws : List Word) → SpellsPart G (part_of o c) ws → (w : Word) × (ws ≡ w ∷ [])
+word_alone value c G ws h = (_, h.2)
+word_alone right c G ws h = (_, h.2)
+word_alone number c G ws h = (_, h.2)
+word_alone (natural low high) c G ws h = (_, h.2)
+word_alone literal c G ws h = (_, h)
+word_alone target None G ws h = (_, h)
+word_alone target (Some n) G ws h = (_, h.2)
+
+append_nil : (ws : List Word) → ws ≡ ws ++ []
+append_nil [] = refl
+append_nil (w ∷ ws) = ap (λ (vs : List Word). w ∷ vs) (append_nil ws)
+
+args_up : (G : Goals) (ws : List Word) (ns : List ℕ) → HaveEach IsArg ws ns → SpellParts G (map Natural ns) ws
+args_up G [] [] h = refl
+args_up G [] (n ∷ ns) h = absurd h
+args_up G (w ∷ ws) [] h = absurd h
+args_up G (w ∷ ws) (n ∷ ns) h = (w ∷ [], ws, refl, h.0, args_up G ws ns h.1)
+
+goal_up : (w : Word) (skip : ℕ) (label : Option (List ℕ)) → HasGoal w skip label → SpellParts (goals_by label) (Skip skip ∷ []) (w ∷ [])
+goal_up w skip None h = (w ∷ [], [], refl, inl h, refl)
+goal_up w skip (Some name) (z, is_name, e) = (w ∷ [], [], refl, inr (name, (z, refl), ap (λ (v : Word). v ∷ []) e), refl)
+
+type_up : (ws : List Word) (ty : NestedScalar) → IsTypeBehind 0 ws ty → ws ≡ replicate ty.depth (Bare (codes "cont")) ++ (Bare (scalar_word ty.scalar) ∷ [])
+type_up ws ty (j, d, e) =
+    let same : j ≡ ty.depth = omega (arith, d) in
+    subst (λ (k : ℕ). ws ≡ replicate k (Bare (codes "cont")) ++ (Bare (scalar_word ty.scalar) ∷ [])) same e
+
+-- a line that is read is spelled
+pub spelled : (l : Line) (ws : List Word) (x : LineContent l) → HasLine l ws x → SpellParts (goals_by (label_in l x)) (parts_of l x) ws
+spelled nothing [] x h = refl
+spelled nothing (w ∷ ws) x h = absurd h
+spelled (one o) [] x h = absurd h
+spelled (one o) (w ∷ []) x h = (w ∷ [], [], refl, h, refl)
+spelled (one o) (w ∷ v ∷ ws) x h = absurd h
+spelled goal [] x h = absurd h
+spelled goal (w ∷ []) x h = goal_up w x.skip x.label h
+spelled goal (w ∷ v ∷ ws) x h = absurd h
+spelled type ws x h = (ws, [], append_nil ws, type_up ws x h, refl)
+spelled args ws x h = args_up NoName ws x h
+spelled (more o l) [] x h = absurd h
+spelled (more o l) (w ∷ ws) x h = (w ∷ [], ws, refl, plain o x.0 NoName (goals_by (label_in l x.1)) (w ∷ []) h.0, spelled l ws x.1 h.1)
+
+-- ---- and back
+
+module _ (G : Goals) (names : (skip : ℕ) (name : List ℕ) → G skip name → IsName name) where
+  args_down : (ws : List Word) (ns : List ℕ) → SpellParts G (map Natural ns) ws → HaveEach IsArg ws ns
+  args_down [] [] e = tt
+  args_down (w ∷ ws) [] e = absurd (some e)
+    where
+      some : w ∷ ws ≡ [] → ⊥
+      some e = cc
+  args_down [] (n ∷ ns) (first, others, cut, h, rest) = absurd (none (ap (λ (vs : List Word). vs ++ others) h.2))
+    where
+      none : first ++ others ≡ Bare ([] ++ h.0) ∷ others → ⊥
+      none e = nothing_is (cut ∙ e)
+        where
+          nothing_is : [] ≡ Bare ([] ++ h.0) ∷ others → ⊥
+          nothing_is e = cc
+  args_down (w ∷ ws) (n ∷ ns) (first, others, cut, h, rest) =
+      let whole : w ∷ ws ≡ Bare h.0 ∷ others = cut ∙ ap (λ (vs : List Word). vs ++ others) h.2 in
+      ((h.0, h.1, ap (λ (v : Word). v ∷ []) (head_is whole)), args_down ws ns (subst (SpellParts G (map Natural ns)) (sym (tail_is whole)) rest))
+    where
+      head_is : {v : Word} {vs : List Word} → w ∷ ws ≡ v ∷ vs → w ≡ v
+      head_is e = cc
+
+      tail_is : {v : Word} {vs : List Word} → w ∷ ws ≡ v ∷ vs → ws ≡ vs
+      tail_is e = cc
+
+  abbrev AreShort : Type 0
+  AreShort = (skip : ℕ) (name : List ℕ) → G skip name → length name ≤ 64
+
+  abbrev Found : (l : Line) → List Word → LineContent l → Type 0
+  Found l ws x = (y : LineContent l) × HasLine l ws y × (AreShort → MayParts l x → MayLine l y)
+
+  at_first : (l : Line) (x : LineContent l) (w : Word) (first others ws : List Word) → ws ≡ first ++ others → first ≡ w ∷ [] → others ≡ [] → Found l (w ∷ []) x → Found l ws x
+  at_first l x w first others ws cut is none found = subst (λ (vs : List Word). Found l vs x) (sym (cut ∙ (ap (λ (vs : List Word). vs ++ others) is ∙ ap (λ (vs : List Word). w ∷ vs) none))) found
+
+  goal_down : (ws : List Word) (skip : ℕ) (first others : List Word) → ws ≡ first ++ others → SpellsPart G (Skip skip) first → others ≡ [] → (label : Option (List ℕ)) → Found goal ws (record { skip = skip; label = label })
+  goal_down ws skip first others cut (inl h) none label =
+      at_first goal (record { skip = skip; label = label }) (Bare (codes "+" ++ h.0)) first others ws cut h.2 none (further skip, (h.0, h.1, refl), λ short m. m)
+  goal_down ws skip first others cut (inr h) none label =
+      at_first goal (record { skip = skip; label = label }) (Bare h.0) first others ws cut h.2 none (at_label h.0, (refl, names skip h.0 h.1, refl), λ short m. short skip h.0 h.1)
+
+  pub found : (l : Line) (ws : List Word) (x : LineContent l) → SpellParts G (parts_of l x) ws → Found l ws x
+  found nothing [] x e = (tt, tt, λ _ m. tt)
+  found nothing (w ∷ ws) x e = absurd (some e)
+    where
+      some : w ∷ ws ≡ [] → ⊥
+      some e = cc
+  found (one o) ws x (first, others, cut, h, none) =
+      let w = word_alone o x G first h in
+      at_first (one o) x w.0 first others ws cut w.1 none (x, plain o x G NoName (w.0 ∷ []) (subst (SpellsPart G (part_of o x)) w.1 h), λ _ m. m)
+  found goal ws x (first, others, cut, h, none) = goal_down ws x.skip first others cut h none x.label
+  found type ws x (first, others, cut, h, none) =
+      (x, (x.depth, omega arith, cut ∙ (ap (λ (vs : List Word). first ++ vs) none ∙ (sym (append_nil first) ∙ h))), λ _ m. m)
+  found args ws x h = (x, args_down ws x h, λ _ m. m)
+  found (more o l) ws x (first, others, cut, h, rest) =
+      let w = word_alone o x.0 G first h in
+      let y = found l others x.1 rest in
+      subst (λ (vs : List Word). Found (more o l) vs x) (sym (cut ∙ ap (λ (vs : List Word). vs ++ others) w.1))
+      ((x.0, y.0), (plain o x.0 G NoName (w.0 ∷ []) (subst (SpellsPart G (part_of o x.0)) w.1 h), y.1), λ short m. (m.0, y.2 short m.1))
+
+-- a line that names a label has no number of instructions
+goal_named : (w : Word) (skip other : ℕ) (label : Option (List ℕ)) (name : List ℕ) → HasGoal w skip label → label ≡ Some name → SpellParts (λ _ _. ⊥) (Skip other ∷ []) (w ∷ []) → ⊥
+goal_named w skip other None name h e s = none e
+  where
+    none : None ≡ Some name → ⊥
+    none e = cc
+goal_named w skip other (Some given) name h e (first, others, cut, inr k, none) = k.1
+goal_named w skip other (Some given) name (z, is_name, same) e (first, others, cut, inl k, none) = plus given is_name (ap (λ (v : Word). v ∷ others) (sym same) ∙ whole (cut ∙ ap (λ (vs : List Word). vs ++ others) k.2))
+  where
+    whole : w ∷ [] ≡ Bare (codes "+" ++ k.0) ∷ others → w ∷ others ≡ Bare (codes "+" ++ k.0) ∷ others
+    whole e = cc
+
+    plus : (given : List ℕ) → IsName given → Bare given ∷ others ≡ Bare (43 ∷ k.0) ∷ others → ⊥
+    plus [] h e = h
+    plus (b ∷ rest) h e = no_letter b h.0 (first_byte e)
+      where
+        first_byte : Bare (b ∷ rest) ∷ others ≡ Bare (43 ∷ k.0) ∷ others → b ≡ 43
+        first_byte e = cc
+
+pub unnumbered : (l : Line) (ws : List Word) (x y : LineContent l) (name : List ℕ) → HasLine l ws x → label_in l x ≡ Some name → SpellParts (λ _ _. ⊥) (parts_of l y) ws → ⊥
+unnumbered nothing ws x y name h e s = none e
+  where
+    none : None ≡ Some name → ⊥
+    none e = cc
+unnumbered (one o) ws x y name h e s = none e
+  where
+    none : None ≡ Some name → ⊥
+    none e = cc
+unnumbered goal [] x y name h e s = h
+unnumbered goal (w ∷ []) x y name h e s = goal_named w x.skip y.skip x.label name h e s
+unnumbered goal (w ∷ v ∷ ws) x y name h e s = h
+unnumbered type ws x y name h e s = none e
+  where
+    none : None ≡ Some name → ⊥
+    none e = cc
+unnumbered args ws x y name h e s = none e
+  where
+    none : None ≡ Some name → ⊥
+    none e = cc
+unnumbered (more o l) [] x y name h e s = h
+unnumbered (more o l) (w ∷ ws) x y name h e (first, others, cut, k, rest) =
+    let v = word_alone o y.0 (λ _ _. ⊥) first k in
+    unnumbered l ws x.1 y.1 name h.1 e (subst (SpellParts (λ _ _. ⊥) (parts_of l y.1)) (sym (tail_is (cut ∙ ap (λ (vs : List Word). vs ++ others) v.1))) rest)
+  where
+    tail_is : {v : Word} {vs : List Word} → w ∷ ws ≡ v ∷ vs → ws ≡ vs
+    tail_is e = cc
+
+-- what is read within the limits has its parts within theirs
+pub parts_may : (l : Line) (ws : List Word) (x : LineContent l) → HasLine l ws x → MayLine l x → MayParts l x
+parts_may nothing ws x h m = tt
+parts_may (one o) ws x h m = m
+parts_may goal [] x h m = absurd h
+parts_may goal (w ∷ []) x h m = by x.skip x.label h m
+  where
+    by : (skip : ℕ) (label : Option (List ℕ)) → HasGoal w skip label → MayGoal skip label → IsSkip skip
+    by skip None h m = m
+    by skip (Some name) h m = (omega arith, omega (arith, h.0))
+parts_may goal (w ∷ v ∷ ws) x h m = absurd h
+parts_may type ws x h m = m
+parts_may args ws x h m = m
+parts_may (more o l) [] x h m = absurd h
+parts_may (more o l) (w ∷ ws) x h m = (m.0, parts_may l ws x.1 h.1 m.1)
+
+-- a label that is read is a name, and short within the limits
+pub label_named : (l : Line) (ws : List Word) (x : LineContent l) (name : List ℕ) → HasLine l ws x → label_in l x ≡ Some name → IsName name × (MayLine l x → length name ≤ 64)
+label_named nothing ws x name h e = absurd (none e)
+  where
+    none : None ≡ Some name → ⊥
+    none e = cc
+label_named (one o) ws x name h e = absurd (none e)
+  where
+    none : None ≡ Some name → ⊥
+    none e = cc
+label_named goal [] x name h e = absurd h
+label_named goal (w ∷ []) x name h e = by x.skip x.label h e
+  where
+    by : (skip : ℕ) (label : Option (List ℕ)) → HasGoal w skip label → label ≡ Some name → IsName name × (MayGoal skip label → length name ≤ 64)
+    by skip None h e = absurd (none e)
+      where
+        none : None ≡ Some name → ⊥
+        none e = cc
+    by skip (Some found) h e = (subst IsName (inner e) h.1, λ m. subst (λ (t : List ℕ). length t ≤ 64) (inner e) m)
+      where
+        inner : Some found ≡ Some name → found ≡ name
+        inner e = cc
+label_named goal (w ∷ v ∷ ws) x name h e = absurd h
+label_named type ws x name h e = absurd (none e)
+  where
+    none : None ≡ Some name → ⊥
+    none e = cc
+label_named args ws x name h e = absurd (none e)
+  where
+    none : None ≡ Some name → ⊥
+    none e = cc
+label_named (more o l) [] x name h e = absurd h
+label_named (more o l) (w ∷ ws) x name h e = let k = label_named l ws x.1 name h.1 e in (k.0, λ m. k.1 m.1)

@@ -1,0 +1,92 @@
+-- Lines as they are written from left to right.
+use Rattle.std.proofs.Common.{arith, ◌≡◌, ℕ, ◌+◌, ◌<◌, ◌≤◌, suc, List, [], ◌∷◌, ◌++◌, length, map, take, get_or, codes, Option, Some, None, refl, sym, ap, subst, ◌∙◌, append_assoc, append-nil}
+use Rattle.std.specs.Prelude.{OnOk, decimal, Result, Ok, Err}
+use Rattle.std.specs.Fmt.{signed_decimal}
+use Rattle.std.specs.List.{flat_map, join_with_byte}
+use Rattle.std.proofs.Math.Seq.{take-suc}
+use Rattle.std.proofs.lemmas.List.{take_all}
+use Rattle.std.proofs.lemmas.Grind.{flat_map-append}
+use Rattle.tw_code.specs.declared.instr.Action.{Action}
+use Rattle.tw_asm.specs.Parts.{Natural, Number, Target, action_parts}
+use Rattle.tw_asm.specs.words.Lines.{behind, call_words, spaced}
+use Rattle.tw_asm.specs.Written.{goal_word, part_words}
+
+pub line_is : (word : List ℕ) (words : List (List ℕ)) → join_with_byte 32 (word ∷ words) ≡ word ++ behind words
+line_is word [] = sym (append-nil word)
+line_is word (next ∷ words) = ap (λ (rest : List ℕ). word ++ (32 ∷ rest)) (line_is next words)
+
+pub more_behind : (out : List ℕ) (words more : List (List ℕ)) → (out ++ behind words) ++ behind more ≡ out ++ behind (words ++ more)
+more_behind out words more = append_assoc out (behind words) (behind more) ∙ ap (λ (xs : List ℕ). out ++ xs) (sym (flat_map-append spaced words more))
+
+pub param_behind : (out : List ℕ) (word : List ℕ) (words : List (List ℕ)) → (out ++ behind (word ∷ [])) ++ behind words ≡ out ++ behind (word ∷ words ++ [])
+param_behind out word words = more_behind out (word ∷ []) words ∙ ap (λ (ws : List (List ℕ)). out ++ behind (word ∷ ws)) (sym (append-nil words))
+
+-- ---- loops over what is written
+
+module _ {X : Type 0} (each : X → List (List ℕ)) (xs : List X) (i : ℕ) where
+  -- behind what stands there already, the words of one more are written
+  pub wrote : (d : X) (there out new : List ℕ) → i < length xs → out ≡ there ++ behind (flat_map each (take i xs)) → new ≡ out ++ behind (each (get_or xs i d)) → new ≡ there ++ behind (flat_map each (take (i + 1) xs))
+  wrote d there out new inside before after =
+      let next : i + 1 ≡ suc i = omega arith in
+      after
+      ∙ ap (λ (ys : List ℕ). ys ++ behind (each (get_or xs i d))) before
+      ∙ more_behind there (flat_map each (take i xs)) (each (get_or xs i d))
+      ∙ ap (λ (ws : List (List ℕ)). there ++ behind (flat_map each (take i xs) ++ ws)) (sym (append-nil (each (get_or xs i d))))
+      ∙ ap (λ (ws : List (List ℕ)). there ++ behind ws) (sym (flat_map-append each (take i xs) (get_or xs i d ∷ [])))
+      ∙ ap (λ (ys : List X). there ++ behind (flat_map each ys)) (sym (take-suc xs i d inside) ∙ ap (λ (k : ℕ). take k xs) (sym next))
+
+  pub wrote_item : (x : X) (there out new : List ℕ) → i < length xs → x ≡ get_or xs i x → out ≡ there ++ behind (flat_map each (take i xs)) → new ≡ out ++ behind (each x) → new ≡ there ++ behind (flat_map each (take (i + 1) xs))
+  wrote_item x there out new inside is before after = wrote x there out new inside before (after ∙ ap (λ (y : X). out ++ behind (each y)) is)
+
+  -- all are written, behind a first word and some words more
+  pub wrote_line : {T E : Type 0} (r : Result T E) (old word : List ℕ) (front : List (List ℕ)) (out new : List ℕ) → length xs ≤ i
+      → out ≡ ((old ++ word) ++ behind front) ++ behind (flat_map each (take i xs)) → OnOk r (new ≡ out ++ codes "\n") → OnOk r (new ≡ old ++ (join_with_byte 32 (word ∷ front ++ flat_map each xs) ++ codes "\n"))
+  wrote_line (Ok x) old word front out new all before after =
+      after
+      ∙ ap (λ (ys : List ℕ). ys ++ codes "\n")
+      (
+      before
+      ∙ more_behind (old ++ word) front (flat_map each (take i xs))
+      ∙ ap (λ (ys : List X). (old ++ word) ++ behind (front ++ flat_map each ys)) (take_all i xs all)
+      ∙ append_assoc old word (behind (front ++ flat_map each xs))
+      ∙ ap (λ (line : List ℕ). old ++ line) (sym (line_is word (front ++ flat_map each xs)))
+      )
+      ∙ append_assoc old (join_with_byte 32 (word ∷ front ++ flat_map each xs)) (codes "\n")
+  wrote_line (Err e) old word front out new all before after = after
+
+-- arguments, as they stand in another list that is the same
+abbrev pub arg_words : ℕ → List (List ℕ)
+arg_words arg = decimal arg ∷ []
+
+pub wrote_arg : (args listed : List ℕ) (i d : ℕ) (there out new : List ℕ) → listed ≡ args → i < length listed → out ≡ there ++ behind (flat_map arg_words (take i args)) → new ≡ out ++ behind (arg_words (get_or listed i d))
+    → new ≡ there ++ behind (flat_map arg_words (take (i + 1) args))
+wrote_arg args listed i d there out new is inside before after =
+    wrote arg_words args i d there out new (subst (λ (xs : List ℕ). i < length xs) is inside) before (after ∙ ap (λ (xs : List ℕ). out ++ behind (arg_words (get_or xs i d))) is)
+
+-- parts of parts
+pub flat_twice : {X Y Z : Type 0} (f : Y → List Z) (g : X → List Y) (xs : List X) → flat_map (λ x. flat_map f (g x)) xs ≡ flat_map f (flat_map g xs)
+flat_twice f g [] = refl
+flat_twice f g (x ∷ xs) = ap (λ zs. flat_map f (g x) ++ zs) (flat_twice f g xs) ∙ sym (flat_map-append f (g x) (flat_map g xs))
+
+pub flat_mapped : {X Y Z : Type 0} (f : Y → List Z) (g : X → Y) (xs : List X) → flat_map (λ x. f (g x)) xs ≡ flat_map f (map g xs)
+flat_mapped f g [] = refl
+flat_mapped f g (x ∷ xs) = ap (λ zs. f (g x) ++ zs) (flat_mapped f g xs)
+
+-- the words of an action
+pub action_line : (action : Action) → call_words action ++ flat_map (λ arg. decimal arg ∷ []) action.args ≡ flat_map (part_words (goal_word None)) (action_parts action)
+action_line action =
+    ap (λ (ws : List (List ℕ)). call_words action ++ ws) (flat_mapped (part_words (goal_word None)) Natural action.args)
+    ∙ sym (flat_map-append (part_words (goal_word None)) (Natural action.procedure ∷ Number action.priority ∷ Target action.target ∷ []) (map Natural action.args))
+
+-- no goal stands in them
+pub action_goals : (f g : ℕ → List ℕ) (action : Action) → flat_map (part_words f) (action_parts action) ≡ flat_map (part_words g) (action_parts action)
+action_goals f g action = by action.target
+  where
+    args : (all : List ℕ) → flat_map (part_words f) (map Natural all) ≡ flat_map (part_words g) (map Natural all)
+    args [] = refl
+    args (arg ∷ all) = ap (λ (ws : List (List ℕ)). decimal arg ∷ ws) (args all)
+
+    by : (target : Option ℕ) → flat_map (part_words f) (Natural action.procedure ∷ Number action.priority ∷ Target target ∷ map Natural action.args)
+        ≡ flat_map (part_words g) (Natural action.procedure ∷ Number action.priority ∷ Target target ∷ map Natural action.args)
+    by None = ap (λ (ws : List (List ℕ)). decimal action.procedure ∷ signed_decimal action.priority ∷ codes "any" ∷ ws) (args action.args)
+    by (Some number) = ap (λ (ws : List (List ℕ)). decimal action.procedure ∷ signed_decimal action.priority ∷ decimal number ∷ ws) (args action.args)

@@ -1,0 +1,108 @@
+-- The readings of numbers.
+use Rattle.std.proofs.Common.{◌≡◌, ◌==◌, ℕ, zero, suc, ◌≤◌, ◌^◌, ℤ, pos, neg_ℤ, Bool, true, false, cond, List, [], ◌∷◌, Result, Ok, Err, Decides, inl, inr, refl, sym, ap, subst, ◌∙◌, arith}
+use Rattle.std.specs.Prelude.{nat_lt}
+use Rattle.std.specs.Char.{digit_value}
+use Rattle.std.specs.Int.{IsInRange}
+use Rattle.std.specs.Str.Parse.{AllDigits, IsNumeral, digits_value}
+use Rattle.std.proofs.lemmas.Bool.{eqb-true}
+use Rattle.std.proofs.lemmas.Bool.Decides.{Decides-and, Decides-ltb, nat_tests}
+use Rattle.tw_asm.proofs.Readings.{Reads, carried, same}
+use Rattle.tw_asm.specs.declared.refusal.Flaw.TheVariants.{Form, Limit}
+use Rattle.tw_asm.specs.reading.Operands.{all_digits, are_digits, as_is, digits_in, is_within, negative, own, signed_in}
+use Rattle.tw_words.specs.Number.{IsIn64, IsRead, SpellsDigits, SpellsNumber}
+use Rattle.tw_words.specs.declared.numbers.Flaw as words
+use Rattle.tw_words.proofs.Numerals.{no_sign, one_number, one_size}
+
+all_decide : (text : List ℕ) → Decides (all_digits text) (AllDigits 10 text)
+all_decide [] = (λ _. tt, λ _. refl)
+all_decide (c ∷ cs) = Decides-and (nat_lt (digit_value c) 10) (all_digits cs) (Decides-ltb (digit_value c) 10) (all_decide cs)
+
+digits_decide : (text : List ℕ) → Decides (are_digits text) (IsNumeral 10 text)
+digits_decide [] = (λ e. absurd (no e), λ h. absurd (omega (arith, h.0)))
+  where
+    no : false ≡ true → ⊥
+    no e = cc
+digits_decide (c ∷ cs) = (λ e. (omega arith, (all_decide (c ∷ cs)).0 e), λ h. (all_decide (c ∷ cs)).1 h.1)
+
+pub within_decide : (low high n : ℕ) → Decides (is_within low high n) (IsInRange low high n)
+within_decide low high n = (λ e. (grind (arith, nat_tests), grind (arith, nat_tests)), λ h. inside h.0 h.1)
+  where
+    inside : low ≤ n → n ≤ high → is_within low high n ≡ true
+    inside h k = grind (arith, nat_tests)
+
+pub digits_read : (low high : ℕ) (text : List ℕ) → Reads (λ n. SpellsDigits n text) (IsInRange low high) (digits_in low high text)
+unfolding digits_in
+digits_read low high text = by (are_digits text) (is_within low high (digits_value 10 text)) refl refl
+  where
+    by : (d w : Bool) → are_digits text ≡ d → is_within low high (digits_value 10 text) ≡ w
+        → Reads (λ n. SpellsDigits n text) (IsInRange low high) (cond d (cond w (Ok (digits_value 10 text)) (Err Limit)) (Err Form))
+    by true true is has = (record { digits = (digits_decide text).0 is; value = refl }, (within_decide low high (digits_value 10 text)).0 has)
+    by true false is has = ((digits_value 10 text, record { digits = (digits_decide text).0 is; value = refl }), λ n spells may. absurd (no (sym has ∙ (within_decide low high (digits_value 10 text)).1 (subst (IsInRange low high) (sym spells.value) may))))
+      where
+        no : false ≡ true → ⊥
+        no e = cc
+    by false w is has = λ n spells. no (sym is ∙ (digits_decide text).1 spells.digits)
+      where
+        no : false ≡ true → ⊥
+        no e = cc
+
+pub digits_same : (low high : ℕ) (text : List ℕ) (r : Result ℕ words.Flaw) → IsRead (λ n. SpellsDigits n text) (IsInRange low high) r → own r ≡ digits_in low high text
+digits_same low high text r h = same (λ n. SpellsDigits n text) (IsInRange low high) (λ a b. one_size a b text) r (digits_in low high text) h (digits_read low high text)
+
+-- ---- with a sign
+
+negative_fits : (size : ℕ) → size ≤ 2 ^ 63 → IsIn64 (neg_ℤ (pos size))
+negative_fits zero h = record { sfits = omega arith }
+negative_fits (suc n) h = record { sfits = omega (arith, h) }
+
+size_fits : (size : ℕ) → IsIn64 (neg_ℤ (pos size)) → IsInRange 0 (2 ^ 63) size
+size_fits zero h = (omega arith, omega arith)
+size_fits (suc n) h = (omega arith, omega (arith, h.sfits))
+
+tail_is : (b c : ℕ) (xs ys : List ℕ) → b ∷ xs ≡ c ∷ ys → xs ≡ ys
+tail_is b c xs ys e = cc
+
+head_is : (b c : ℕ) (xs ys : List ℕ) → b ∷ xs ≡ c ∷ ys → b ≡ c
+head_is b c xs ys e = cc
+
+pub signed_read : (text : List ℕ) → Reads (λ n. SpellsNumber n text) IsIn64 (signed_in text)
+unfolding signed_in
+signed_read [] = λ n spells. none n spells
+  where
+    none : (n : ℤ) → SpellsNumber n [] → ⊥
+    none n (inl (k, h, e)) = omega (arith, h.digits.0)
+    none n (inr (k, ds, is, h, e)) = no is
+      where
+        no : [] ≡ 45 ∷ ds → ⊥
+        no e = cc
+signed_read (b ∷ rest) = by (b == 45) refl
+  where
+    after_sign : (is : b ≡ 45) (n : ℤ) → SpellsNumber n (b ∷ rest) → (size : ℕ) × SpellsDigits size rest × (n ≡ negative size)
+    after_sign is n (inl (k, h, e)) = absurd (no_sign k rest (subst (λ (c : ℕ). SpellsDigits k (c ∷ rest)) is h))
+    after_sign is n (inr (k, ds, has, h, e)) = (k, subst (SpellsDigits k) (sym (tail_is b 45 rest ds has)) h, e)
+
+    no_minus : (b ≡ 45 → ⊥) → (n : ℤ) → SpellsNumber n (b ∷ rest) → (size : ℕ) × SpellsDigits size (b ∷ rest) × (n ≡ pos size)
+    no_minus isnt n (inl (k, h, e)) = (k, h, e)
+    no_minus isnt n (inr (k, ds, has, h, e)) = absurd (isnt (head_is b 45 rest ds has))
+
+    plain_fits : (size : ℕ) → IsInRange 0 0x7FFFFFFFFFFFFFFF size → IsIn64 (pos size)
+    plain_fits size h = record { sfits = omega (arith, h.1) }
+
+    plain_back : (size : ℕ) → IsIn64 (pos size) → IsInRange 0 0x7FFFFFFFFFFFFFFF size
+    plain_back size h = (omega arith, omega (arith, h.sfits))
+
+    apart : (b == 45) ≡ false → b ≡ 45 → ⊥
+    apart e is = grind (arith, nat_tests)
+
+    by : (t : Bool) → (b == 45) ≡ t → Reads (λ n. SpellsNumber n (b ∷ rest)) IsIn64 (cond t (as_is negative (digits_in 0 0x8000000000000000 rest)) (as_is pos (digits_in 0 0x7FFFFFFFFFFFFFFF (b ∷ rest))))
+    by true is =
+        carried negative (λ n. SpellsDigits n rest) (IsInRange 0 0x8000000000000000) (λ n. SpellsNumber n (b ∷ rest)) IsIn64
+        (λ k h. inr (k, rest, ap (λ (c : ℕ). c ∷ rest) (eqb-true b 45 is), h, refl)) (after_sign (eqb-true b 45 is))
+        (λ k h m. negative_fits k m.1) (λ k h m. size_fits k m) (digits_in 0 0x8000000000000000 rest) (digits_read 0 0x8000000000000000 rest)
+    by false is =
+        carried pos (λ n. SpellsDigits n (b ∷ rest)) (IsInRange 0 0x7FFFFFFFFFFFFFFF) (λ n. SpellsNumber n (b ∷ rest)) IsIn64
+        (λ k h. inl (k, h, refl)) (no_minus (apart is))
+        (λ k h m. plain_fits k m) (λ k h m. plain_back k m) (digits_in 0 0x7FFFFFFFFFFFFFFF (b ∷ rest)) (digits_read 0 0x7FFFFFFFFFFFFFFF (b ∷ rest))
+
+pub signed_same : (text : List ℕ) (r : Result ℤ words.Flaw) → IsRead (λ n. SpellsNumber n text) IsIn64 r → own r ≡ signed_in text
+signed_same text r h = same (λ n. SpellsNumber n text) IsIn64 (λ a b. one_number a b text) r (signed_in text) h (signed_read text)

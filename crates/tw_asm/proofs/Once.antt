@@ -1,0 +1,231 @@
+-- Words spell one statement alone, and its first word says which sort of statement it is.
+use Rattle.std.proofs.Common.{◌≡◌, inl, inr, ℕ, Bool, true, List, [], ◌∷◌, ◌++◌, map, codes, Some, None, refl, sym, ap, subst, ◌∙◌}
+use Rattle.std.specs.Prelude.{if◌then◌else◌, ◌==◌}
+use Rattle.std.specs.List.{flat_map}
+use Rattle.std.proofs.lemmas.List.{append_cancel_right}
+use Rattle.tw_code.specs.declared.instr.Instr.{Instr}
+use Rattle.tw_words.specs.Words.{Word, Bare}
+use Rattle.tw_types.specs.declared.actor.Kind.{Kind}
+use Rattle.tw_types.specs.declared.actor.Kind.TheVariants.{Control, Leaf}
+use Rattle.tw_types.specs.declared.data_type.Scalar.{Scalar}
+use Rattle.tw_types.specs.declared.data_type.Scalar.TheVariants.{Int, Text}
+use Rattle.tw_types.specs.declared.param.Mode.{Mode}
+use Rattle.tw_types.specs.declared.param.Mode.TheVariants.{Val, Closed, Ref, Write}
+use Rattle.tw_types.specs.declared.param.Param.{Param}
+use Rattle.tw_asm.specs.Parts.{Part, Name, TypeOf, head_parts, instr_parts, kind_word, mode_word, param_parts, register_part, registers_parts, scalar_word}
+use Rattle.tw_asm.specs.Seen.{IsRead, NoName, OnlyName, with_skip}
+use Rattle.tw_asm.specs.Statement.{Code, Goals, HasForm, Head, IsPromised, Label, Registers, SpellParts, Spells, Statement, statement_parts}
+use Rattle.tw_asm.specs.declared.statement.First.{First}
+use Rattle.tw_asm.specs.declared.statement.First.TheVariants as first
+use Rattle.tw_asm.proofs.Rows.{AreAlike, alike_by_sorts, behind_first, class_of_word, different, ends_in_colon, first_name, have_sorts, name_of, operands_of, row, row_among, rows, same}
+use Rattle.tw_asm.proofs.Spelled.{AreNames, ByName, Resolved, all_tied, as_is, bare_is, by_name, cons_is, named, parts_more, resolved, tied_are, unnamed, with_goal}
+
+-- ---- what a statement's parts are of
+
+abbrev kind_from : List ℕ → Kind
+kind_from word = if same word (codes "leaf") then Leaf else Control
+
+abbrev mode_from : List ℕ → Mode
+mode_from word = if same word (codes "val") then Val else if same word (codes "closed") then Closed else if same word (codes "ref") then Ref else Write
+
+abbrev scalar_from : List ℕ → Scalar
+scalar_from word = if same word (codes "int") then Int else Text
+
+abbrev params_from : List Part → List Param
+params_from (Name word ∷ TypeOf ty ∷ parts) = record { mode = mode_from word; ty = ty } ∷ params_from parts
+params_from parts = []
+
+abbrev registers_from : List Part → List Scalar
+registers_from (Name word ∷ parts) = scalar_from word ∷ registers_from parts
+registers_from parts = []
+
+kind_made : (k : Kind) → kind_from (kind_word k) ≡ k
+kind_made Control = refl
+kind_made Leaf = refl
+
+mode_made : (m : Mode) → mode_from (mode_word m) ≡ m
+mode_made Val = refl
+mode_made Closed = refl
+mode_made Ref = refl
+mode_made Write = refl
+
+scalar_made : (s : Scalar) → scalar_from (scalar_word s) ≡ s
+scalar_made Int = refl
+scalar_made Text = refl
+
+abbrev with_mode : Param → Mode → Param
+with_mode param mode = record { mode = mode; ty = param.ty }
+
+params_made : (params : List Param) → params_from (flat_map param_parts params) ≡ params
+params_made [] = refl
+params_made (param ∷ params) =
+    ap (λ (m : Mode). with_mode param m ∷ params_from (flat_map param_parts params)) (mode_made param.mode) ∙ ap (λ (ps : List Param). param ∷ ps) (params_made params)
+
+registers_made : (registers : List Scalar) → registers_from (map register_part registers) ≡ registers
+registers_made [] = refl
+registers_made (scalar ∷ registers) =
+    ap (λ (s : Scalar). s ∷ registers_from (map register_part registers)) (scalar_made scalar) ∙ ap (λ (ss : List Scalar). scalar ∷ ss) (registers_made registers)
+
+abbrev head_from : List Part → Statement
+head_from parts = Head (kind_from (first_name (behind_first parts))) (params_from (behind_first (behind_first parts)))
+
+head_made : (kind : Kind) (params : List Param) → head_from (head_parts kind params) ≡ Head kind params
+head_made kind params = ap (λ (k : Kind). Head k (params_from (flat_map param_parts params))) (kind_made kind) ∙ ap (Head kind) (params_made params)
+
+one_head : (k l : Kind) (ps qs : List Param) → head_parts k ps ≡ head_parts l qs → Head k ps ≡ Head l qs
+one_head k l ps qs e = sym (head_made k ps) ∙ ap head_from e ∙ head_made l qs
+
+one_registers : (rs ss : List Scalar) → registers_parts rs ≡ registers_parts ss → Registers rs ≡ Registers ss
+one_registers rs ss e = ap Registers (sym (registers_made rs) ∙ ap (λ (parts : List Part). registers_from (behind_first parts)) e ∙ registers_made ss)
+
+-- the parts of an instruction are of no other
+pub one_instr : (i j : Instr) → instr_parts i ≡ instr_parts j → i ≡ j
+one_instr i j e = sym (row i).made ∙ ap (λ (parts : List Part). (row_among (first_name parts) rows).make (behind_first parts)) e ∙ (row j).made
+
+-- ---- first words
+
+abbrev pub class_of : Statement → ℕ
+class_of (Head kind params) = 0
+class_of (Registers registers) = 1
+class_of (Label name) = 2
+class_of (Code i) = 3
+
+colon : (name : List ℕ) → ends_in_colon (name ++ codes ":") ≡ true
+colon [] = refl
+colon (b ∷ []) = refl
+colon (b ∷ c ∷ others) = colon (c ∷ others)
+
+pub label_class : (name : List ℕ) → class_of_word (name ++ codes ":") ≡ 2
+label_class name =
+    ap (λ (test : Bool). if test then 2 else if same (name ++ codes ":") (codes "proc") then 0 else if same (name ++ codes ":") (codes "regs") then 1 else 3) (colon name)
+
+-- a statement's parts begin with a name of its class
+pub record Begins (s : Statement) : Type 0 where
+  pub word : List ℕ
+  pub others : List Part
+  pub parts : statement_parts s ≡ Name word ∷ others
+  pub class : class_of_word word ≡ class_of s
+
+abbrev pub begins : (s : Statement) → Begins s
+begins (Head kind params) = record { word = codes "proc"; others = behind_first (head_parts kind params); parts = refl; class = refl }
+begins (Registers registers) = record { word = codes "regs"; others = map register_part registers; parts = refl; class = refl }
+begins (Label name) = record { word = name ++ codes ":"; others = []; parts = refl; class = label_class name }
+begins (Code i) = record { word = name_of i; others = operands_of i; parts = (row i).parts; class = (row i).class }
+
+-- words of a statement begin with its first word
+pub first_word : (goals : Goals) (s : Statement) (words : List Word) → Spells goals s words → (rest : List Word) × (words ≡ Bare (begins s).word ∷ rest)
+first_word goals s words h =
+    let parts : SpellParts goals (Name (begins s).word ∷ (begins s).others) words = subst (λ (ps : List Part). SpellParts goals ps words) (begins s).parts h.parts in
+    (parts.1, parts.2 ∙ ap (λ (ws : List Word). ws ++ parts.1) parts.3)
+
+pub same_word : (a b : Goals) (s t : Statement) (words : List Word) → Spells a s words → Spells b t words → (begins s).word ≡ (begins t).word
+same_word a b s t words h k =
+    let u = first_word a s words h in
+    let v = first_word b t words k in
+    bare_is (begins s).word (begins t).word (cons_is (Bare (begins s).word) (Bare (begins t).word) u.0 v.0 (sym u.1 ∙ v.1)).0
+
+pub same_class : (a b : Goals) (s t : Statement) (words : List Word) → Spells a s words → Spells b t words → class_of s ≡ class_of t
+same_class a b s t words h k = sym (begins s).class ∙ ap class_of_word (same_word a b s t words h k) ∙ (begins t).class
+
+abbrev pub first_of_class : ℕ → First
+first_of_class class = if class == 0 then first.Head else if class == 1 then first.Registers else first.Body
+
+-- what the first word of its words promises
+abbrev pub promise_of : Statement → First
+promise_of s = first_of_class (class_of s)
+
+pub promised : (goals : Goals) (s : Statement) (word : List ℕ) (rest : List Word) → Spells goals s (Bare word ∷ rest) → IsPromised (promise_of s) word
+promised goals s word rest h =
+    let u = first_word goals s (Bare word ∷ rest) h in
+    let is : word ≡ (begins s).word = bare_is word (begins s).word (cons_is (Bare word) (Bare (begins s).word) rest u.0 u.1).0 in
+    subst (IsPromised (promise_of s)) (sym is) (by s h.form)
+  where
+    by : (t : Statement) → HasForm t → IsPromised (promise_of t) (begins t).word
+    by (Head kind params) form = refl
+    by (Registers registers) form = refl
+    by (Label name) form = inl (name, form, refl)
+    by (Code i) form = inr (i, operands_of i, (row i).parts)
+
+promise_class : (p : First) (word : List ℕ) → IsPromised p word → first_of_class (class_of_word word) ≡ p
+promise_class first.Head word e = ap (λ (w : List ℕ). first_of_class (class_of_word w)) e
+promise_class first.Registers word e = ap (λ (w : List ℕ). first_of_class (class_of_word w)) e
+promise_class first.Body word (inl (name, is_name, e)) = ap (λ (w : List ℕ). first_of_class (class_of_word w)) e ∙ ap first_of_class (label_class name)
+promise_class first.Body word (inr (i, operands, e)) = ap (λ (w : List ℕ). first_of_class (class_of_word w)) (sym (ap first_name e)) ∙ ap first_of_class (row i).class
+
+-- a word promises one thing alone
+pub one_promise : (p q : First) (word : List ℕ) → IsPromised p word → IsPromised q word → p ≡ q
+one_promise p q word h k = sym (promise_class p word h) ∙ promise_class q word k
+
+-- ---- parts of the same sorts
+
+params_alike : (ps qs : List Param) → AreAlike (flat_map param_parts ps) (flat_map param_parts qs)
+params_alike [] qs = tt
+params_alike (p ∷ ps) [] = tt
+params_alike (p ∷ ps) (q ∷ qs) = (refl, (refl, params_alike ps qs))
+
+registers_alike : (rs ss : List Scalar) → AreAlike (map register_part rs) (map register_part ss)
+registers_alike [] ss = tt
+registers_alike (r ∷ rs) [] = tt
+registers_alike (r ∷ rs) (s ∷ ss) = (refl, registers_alike rs ss)
+
+pub instrs_alike : (i j : Instr) → name_of i ≡ name_of j → AreAlike (instr_parts i) (instr_parts j)
+instrs_alike i j e =
+    subst (λ (ps : List Part). AreAlike ps (instr_parts j)) (sym (row i).parts)
+    (subst (λ (qs : List Part). AreAlike (Name (name_of i) ∷ operands_of i) qs) (sym (row j).parts)
+    (refl, alike_by_sorts (row_among (name_of j) rows).sorts (operands_of i) (operands_of j) (subst (λ (name : List ℕ). have_sorts (row_among name rows).sorts (operands_of i) ≡ true) e (row i).sorts) (row j).sorts))
+
+module _ (a b : Goals) (names : AreNames a) (others : AreNames b) (alone : (n m : ℕ) (name : List ℕ) → a n name → b m name → n ≡ m) where
+  parts_are : (ps qs : List Part) (words : List Word) → AreAlike ps qs → SpellParts a ps words → SpellParts b qs words → ps ≡ qs
+  parts_are ps qs words alike h k = tied_are a b names others alone ps qs (all_tied a b names others ps qs words words alike refl h k)
+
+  label_is : (v w : List ℕ) → Name (v ++ codes ":") ∷ [] ≡ Name (w ++ codes ":") ∷ [] → v ≡ w
+  label_is v w e = append_cancel_right v w (codes ":") (ap first_name e)
+
+  -- words spell one statement alone, where a name stands for one skip alone
+  pub spelled_once : (s t : Statement) (words : List Word) → Spells a s words → Spells b t words → s ≡ t
+  spelled_once s t words h k = by s t h.parts k.parts (same_class a b s t words h k) (same_word a b s t words h k)
+    where
+      by : (u v : Statement) → SpellParts a (statement_parts u) words → SpellParts b (statement_parts v) words → class_of u ≡ class_of v → (begins u).word ≡ (begins v).word → u ≡ v
+      by (Head m ps) (Head n qs) f g c w = one_head m n ps qs (parts_are (head_parts m ps) (head_parts n qs) words (refl, (refl, params_alike ps qs)) f g)
+      by (Registers rs) (Registers ss) f g c w = one_registers rs ss (parts_are (registers_parts rs) (registers_parts ss) words (refl, registers_alike rs ss) f g)
+      by (Label x) (Label y) f g c w = ap Label (label_is x y (parts_are (Name (x ++ codes ":") ∷ []) (Name (y ++ codes ":") ∷ []) words (refl, tt) f g))
+      by (Code i) (Code j) f g c w = ap Code (one_instr i j (parts_are (instr_parts i) (instr_parts j) words (instrs_alike i j w) f g))
+      by u v f g c w = different (class_of u) (class_of v) c refl
+
+-- ---- what is read, where goals are known
+
+no_names : AreNames NoName
+no_names skip name h = absurd h
+
+-- what spells a statement spells it under more goals
+pub spells_more : (a b : Goals) → ((skip : ℕ) (name : List ℕ) → a skip name → b skip name) → (s : Statement) (words : List Word) → Spells a s words → Spells b s words
+spells_more a b more s words h = record { form = h.form; parts = parts_more a b more (statement_parts s) words h.parts }
+
+-- an instruction that names a label, with the skip for which that stands
+pub resolved_spells : (goals : Goals) (name : List ℕ) (skip : ℕ) (i : Instr) (words : List Word) → IsRead (record { statement = Code i; goal = Some name }) words → goals skip name
+    → Spells goals (Code (with_skip skip i)) words
+resolved_spells goals name skip i words read goal = record { form = tt; parts = by (resolved goals name skip goal (instr_parts i) words (row i).last read.1.1.parts) }
+  where
+    by : Resolved goals skip (instr_parts i) words → SpellParts goals (instr_parts (with_skip skip i)) words
+    by (as_is h) = absurd (read.1.2.names i (record { form = tt; parts = h }))
+    by (with_goal h) = subst (λ (ps : List Part). SpellParts goals ps words) (sym ((row i).reskipped skip)) h
+
+-- one that names none
+pub read_spells : (goals : Goals) (s : Statement) (words : List Word) → IsRead (record { statement = s; goal = None }) words → Spells goals s words
+read_spells goals s words read = spells_more NoName goals (λ skip name h. absurd h) s words read.1
+
+-- and no other is spelled
+pub read_once : (goals : Goals) → AreNames goals → (s t : Statement) (words : List Word) → IsRead (record { statement = s; goal = None }) words → Spells goals t words → t ≡ s
+read_once goals names s t words read h = sym (spelled_once NoName goals no_names names (λ n m name none other. absurd none) s t words read.1 h)
+
+pub resolved_once : (goals : Goals) → AreNames goals → (name : List ℕ) (i j : Instr) (words : List Word) → IsRead (record { statement = Code i; goal = Some name }) words → Spells goals (Code j) words
+    → (skip : ℕ) × goals skip name × (j ≡ with_skip skip i)
+resolved_once goals names name i j words read h =
+    by (by_name goals name names read.1.0.0 (instr_parts i) (instr_parts j) words words (row i).last alike refl read.1.1.parts h.parts)
+  where
+    alike : AreAlike (instr_parts i) (instr_parts j)
+    alike = instrs_alike i j (same_word (OnlyName name) goals (Code i) (Code j) words read.1.1 h)
+
+    by : ByName goals name (instr_parts i) (instr_parts j) words → (skip : ℕ) × goals skip name × (j ≡ with_skip skip i)
+    by (unnamed none) = absurd (read.1.2.names i (record { form = tt; parts = none }))
+    by (named skip goal is) = (skip, goal, one_instr j (with_skip skip i) (is ∙ sym ((row i).reskipped skip)))

@@ -1,0 +1,221 @@
+-- The readings of single words.
+use Rattle.std.proofs.Common.{◌≡◌, ◌==◌, ℕ, ◌≤◌, Bool, true, false, cond, List, [], ◌∷◌, length, codes, Option, Some, None, Ok, Err, refl, sym, ap, subst, ◌∙◌, arith}
+use Rattle.std.specs.Prelude.{nat_lt, IsUtf8, FitsSigned}
+use Rattle.std.specs.Int.{IsInRange, w64}
+use Rattle.std.specs.Str.{bytes_eq}
+use Rattle.std.proofs.lemmas.Bool.{eqb-true, ltb-true}
+use Rattle.std.proofs.lemmas.Bool.Decides.{nat_tests}
+use Rattle.std.proofs.lemmas.Slice.Eq.{bytes_eq-Decides}
+use Rattle.tw_code.specs.format.Program.{IsRegister, IsTarget, IsWithin}
+use Rattle.tw_words.specs.Words.{Word, Bare, Quoted}
+use Rattle.tw_asm.proofs.Numbers.{digits_read, signed_read}
+use Rattle.tw_asm.proofs.Readings.{Reads, carried, likewise}
+use Rattle.tw_asm.specs.Parts.{Part, Value, Right, Number, Natural, Literal, Target, kind_word, mode_word, scalar_word}
+use Rattle.tw_asm.specs.Statement.{SpellsPart, SpellsWith}
+use Rattle.tw_asm.specs.Seen.{NoName}
+use Rattle.tw_asm.specs.declared.refusal.Flaw.TheVariants.{Form, Limit}
+use Rattle.tw_asm.specs.reading.Lines.{Content, Operand, kind_in, literal, natural, number, operand_in, right, target, value}
+use Rattle.tw_asm.specs.reading.Operands.{as_is, digits_in, literal_in, mode_in, natural_in, number_in, piece_in, register_in, scalar_in, signed_in, target_in}
+use Rattle.tw_types.specs.Text.{IsText}
+use Rattle.tw_types.specs.declared.actor.Kind.TheVariants.{Control, Leaf}
+use Rattle.tw_types.specs.declared.data_type.Scalar.{Scalar}
+use Rattle.tw_types.specs.declared.data_type.Scalar.TheVariants as scalar
+use Rattle.tw_types.specs.declared.param.Mode.TheVariants.{Val, Closed, Ref, Write}
+use Rattle.tw_words.specs.Number.{IsIn64, SpellsDigits, SpellsNumber}
+
+-- texts between quotes are UTF-8
+abbrev pub IsFine : Word → Type 0
+IsFine (Bare text) = Unit {0}
+IsFine (Quoted text) = IsUtf8 text
+
+abbrev pub part_of : (o : Operand) → Content o → Part
+part_of value c = Value c
+part_of right c = Right c
+part_of number c = Number c
+part_of (natural low high) c = Natural c
+part_of literal c = Literal c
+part_of target c = Target c
+
+abbrev pub May : (o : Operand) → Content o → Type 0
+May value c = IsRegister c
+May right c = IsRegister c
+May number c = FitsSigned w64 c
+May (natural low high) c = IsWithin low high c
+May literal c = IsText c
+May target c = IsTarget c
+
+abbrev pub Has : (o : Operand) → Word → Content o → Type 0
+Has o w c = SpellsPart NoName (part_of o c) (w ∷ [])
+
+no : false ≡ true → ⊥
+no e = cc
+
+pub apart : (b c : ℕ) → (b == c) ≡ false → b ≡ c → ⊥
+apart b c e is = grind (arith, nat_tests)
+
+pub register_read : (letter : ℕ) (w : Word) → Reads (λ n. SpellsWith (letter ∷ []) n (w ∷ [])) IsRegister (register_in letter w)
+register_read letter (Quoted text) = λ n h. none h.0 h.2
+  where
+    none : (digits : List ℕ) → Quoted text ∷ [] ≡ Bare (letter ∷ digits) ∷ [] → ⊥
+    none digits e = cc
+register_read letter (Bare []) = λ n h. none h.0 h.2
+  where
+    none : (digits : List ℕ) → Bare [] ∷ [] ≡ Bare (letter ∷ digits) ∷ [] → ⊥
+    none digits e = cc
+register_read letter (Bare (b ∷ rest)) = by (b == letter) refl
+  where
+    tail_is : (digits : List ℕ) → Bare (b ∷ rest) ∷ [] ≡ Bare (letter ∷ digits) ∷ [] → digits ≡ rest
+    tail_is digits e = cc
+
+    head_is : (digits : List ℕ) → Bare (b ∷ rest) ∷ [] ≡ Bare (letter ∷ digits) ∷ [] → b ≡ letter
+    head_is digits e = cc
+
+    by : (t : Bool) → (b == letter) ≡ t → Reads (λ n. SpellsWith (letter ∷ []) n (Bare (b ∷ rest) ∷ [])) IsRegister (cond t (digits_in 0 15 rest) (Err Form))
+    by true is =
+        likewise (λ n. SpellsDigits n rest) (IsInRange 0 15) (λ n. SpellsWith (letter ∷ []) n (Bare (b ∷ rest) ∷ [])) IsRegister
+        (λ n h. (rest, h, ap (λ (c : ℕ). Bare (c ∷ rest) ∷ []) (eqb-true b letter is))) (λ n h. subst (SpellsDigits n) (tail_is h.0 h.2) h.1)
+        (λ n h m. m) (λ n h m. m) (digits_in 0 15 rest) (digits_read 0 15 rest)
+    by false is = λ n h. apart b letter is (head_is h.0 h.2)
+
+bare_is : (text digits : List ℕ) → Bare text ∷ [] ≡ Bare digits ∷ [] → digits ≡ text
+bare_is text digits e = cc
+
+not_bare : (text digits : List ℕ) → Quoted text ∷ [] ≡ Bare digits ∷ [] → ⊥
+not_bare text digits e = cc
+
+pub natural_read : (low high : ℕ) (w : Word) → Reads (λ n. SpellsWith [] n (w ∷ [])) (IsWithin low high) (natural_in low high w)
+natural_read low high (Quoted text) = λ n h. not_bare text h.0 h.2
+natural_read low high (Bare text) =
+    likewise (λ n. SpellsDigits n text) (IsInRange low high) (λ n. SpellsWith [] n (Bare text ∷ [])) (IsWithin low high)
+    (λ n h. (text, h, refl)) (λ n h. subst (SpellsDigits n) (bare_is text h.0 h.2) h.1) (λ n h m. m) (λ n h m. m) (digits_in low high text) (digits_read low high text)
+
+number_read : (w : Word) → Reads (Has number w) (May number) (number_in w)
+number_read (Quoted text) = λ n h. not_bare text h.0 h.2
+number_read (Bare text) =
+    likewise (λ n. SpellsNumber n text) IsIn64 (Has number (Bare text)) (May number)
+    (λ n h. (text, h, refl)) (λ n h. subst (SpellsNumber n) (bare_is text h.0 h.2) h.1) (λ n h m. m) (λ n h m. m) (signed_in text) (signed_read text)
+
+literal_read : (w : Word) → IsFine w → Reads (Has literal w) (May literal) (literal_in w)
+literal_read (Bare text) fine = λ c e. none c e
+  where
+    none : (c : List ℕ) → Bare text ∷ [] ≡ Quoted c ∷ [] → ⊥
+    none c e = cc
+literal_read (Quoted text) fine = by (nat_lt 4096 (length text)) refl
+  where
+    text_is : (c : List ℕ) → Quoted text ∷ [] ≡ Quoted c ∷ [] → c ≡ text
+    text_is c e = cc
+
+    short : nat_lt 4096 (length text) ≡ false → length text ≤ 4096
+    short e = grind (arith, nat_tests)
+
+    by : (t : Bool) → nat_lt 4096 (length text) ≡ t → Reads (Has literal (Quoted text)) (May literal) (cond t (Err Limit) (Ok text))
+    by true long = ((text, refl), λ c e m. absurd (omega (arith, ltb-true 4096 (length text) long, subst (λ (t : List ℕ). length t ≤ 4096) (text_is c e) m.short)))
+    by false is = (refl, record { short = short is; utf8 = fine })
+
+target_read : (w : Word) → Reads (Has target w) (May target) (target_in w)
+target_read (Quoted text) = λ c h. none c h
+  where
+    none : (c : Option ℕ) → SpellsPart NoName (Target c) (Quoted text ∷ []) → ⊥
+    none None e = not_bare text (codes "any") e
+    none (Some n) h = not_bare text h.0 h.2
+target_read (Bare text) = by (bytes_eq text (codes "any")) refl
+  where
+    some : bytes_eq text (codes "any") ≡ false → (c : Option ℕ) → SpellsPart NoName (Target c) (Bare text ∷ []) → (n : ℕ) × SpellsWith [] n (Bare text ∷ []) × (c ≡ Some n)
+    some isnt None e = absurd (no (sym isnt ∙ (bytes_eq-Decides text (codes "any")).1 (sym (bare_is text (codes "any") e))))
+    some isnt (Some n) h = (n, h, refl)
+
+    by : (t : Bool) → bytes_eq text (codes "any") ≡ t → Reads (Has target (Bare text)) (May target) (cond t (Ok None) (as_is (λ n. Some n) (digits_in 0 15 text)))
+    by true is = (ap (λ (t : List ℕ). Bare t ∷ []) ((bytes_eq-Decides text (codes "any")).0 is), tt)
+    by false isnt =
+        carried (λ n. Some n) (λ n. SpellsWith [] n (Bare text ∷ [])) (IsWithin 0 15) (Has target (Bare text)) (May target)
+        (λ n h. h) (some isnt) (λ n h m. m) (λ n h m. m) (digits_in 0 15 text) (natural_read 0 15 (Bare text))
+
+pub operand_read : (o : Operand) (w : Word) → IsFine w → Reads (Has o w) (May o) (operand_in o w)
+operand_read value w fine = register_read 118 w
+operand_read right w fine = register_read 100 w
+operand_read number w fine = number_read w
+operand_read (natural low high) w fine = natural_read low high w
+operand_read literal w fine = literal_read w fine
+operand_read target w fine = target_read w
+
+-- ---- words that stand as they are
+
+abbrev pub Free : {A : Type 0} → A → Type 0
+Free a = Unit {0}
+
+same_bytes : (text word : List ℕ) → bytes_eq text word ≡ true → Bare text ≡ Bare word
+same_bytes text word is = ap (λ (t : List ℕ). Bare t) ((bytes_eq-Decides text word).0 is)
+
+pub other_bytes : (text word : List ℕ) → bytes_eq text word ≡ false → Bare text ≡ Bare word → ⊥
+other_bytes text word isnt e = no (sym isnt ∙ (bytes_eq-Decides text word).1 (inner e))
+  where
+    inner : Bare text ≡ Bare word → text ≡ word
+    inner e = cc
+
+-- the word of a scalar is no `cont`
+pub scalar_apart : (s : Scalar) → Bare (scalar_word s) ≡ Bare (codes "cont") → ⊥
+scalar_apart scalar.Int e = other_bytes (codes "int") (codes "cont") refl e
+scalar_apart scalar.Text e = other_bytes (codes "text") (codes "cont") refl e
+
+quoted_apart : (text word : List ℕ) → Quoted text ≡ Bare word → ⊥
+quoted_apart text word e = cc
+
+pub scalar_read : (w : Word) → Reads (λ s. w ≡ Bare (scalar_word s)) Free (scalar_in w)
+scalar_read (Quoted text) = λ s e. quoted_apart text (scalar_word s) e
+scalar_read (Bare text) = by (bytes_eq text (codes "int")) (bytes_eq text (codes "text")) refl refl
+  where
+    by : (i t : Bool) → bytes_eq text (codes "int") ≡ i → bytes_eq text (codes "text") ≡ t
+        → Reads (λ s. Bare text ≡ Bare (scalar_word s)) Free (cond i (Ok scalar.Int) (cond t (Ok scalar.Text) (Err Form)))
+    by true t is _ = (same_bytes text (codes "int") is, tt)
+    by false true _ is = (same_bytes text (codes "text") is, tt)
+    by false false no_int no_text = elim [ scalar.Int ↦ other_bytes text (codes "int") no_int | scalar.Text ↦ other_bytes text (codes "text") no_text ]
+
+pub kind_read : (w : Word) → Reads (λ k. w ≡ Bare (kind_word k)) Free (kind_in w)
+kind_read (Quoted text) = λ k e. quoted_apart text (kind_word k) e
+kind_read (Bare text) = by (bytes_eq text (codes "control")) (bytes_eq text (codes "leaf")) refl refl
+  where
+    by : (i t : Bool) → bytes_eq text (codes "control") ≡ i → bytes_eq text (codes "leaf") ≡ t
+        → Reads (λ k. Bare text ≡ Bare (kind_word k)) Free (cond i (Ok Control) (cond t (Ok Leaf) (Err Form)))
+    by true t is _ = (same_bytes text (codes "control") is, tt)
+    by false true _ is = (same_bytes text (codes "leaf") is, tt)
+    by false false no_control no_leaf = elim [ Control ↦ other_bytes text (codes "control") no_control | Leaf ↦ other_bytes text (codes "leaf") no_leaf ]
+
+pub mode_read : (w : Word) → Reads (λ m. w ≡ Bare (mode_word m)) Free (mode_in w)
+mode_read (Quoted text) = λ m e. quoted_apart text (mode_word m) e
+mode_read (Bare text) = by (bytes_eq text (codes "val")) (bytes_eq text (codes "closed")) (bytes_eq text (codes "ref")) (bytes_eq text (codes "write")) refl refl refl refl
+  where
+    by : (a b c d : Bool) → bytes_eq text (codes "val") ≡ a → bytes_eq text (codes "closed") ≡ b → bytes_eq text (codes "ref") ≡ c → bytes_eq text (codes "write") ≡ d
+        → Reads (λ m. Bare text ≡ Bare (mode_word m)) Free (cond a (Ok Val) (cond b (Ok Closed) (cond c (Ok Ref) (cond d (Ok Write) (Err Form)))))
+    by true b c d is _ _ _ = (same_bytes text (codes "val") is, tt)
+    by false true c d _ is _ _ = (same_bytes text (codes "closed") is, tt)
+    by false false true d _ _ is _ = (same_bytes text (codes "ref") is, tt)
+    by false false false true _ _ _ is = (same_bytes text (codes "write") is, tt)
+    by false false false false no_val no_closed no_ref no_write = elim [
+      | Val ↦ other_bytes text (codes "val") no_val
+      | Closed ↦ other_bytes text (codes "closed") no_closed
+      | Ref ↦ other_bytes text (codes "ref") no_ref
+      | Write ↦ other_bytes text (codes "write") no_write
+    ]
+
+-- a word of a type
+abbrev pub IsPieceOf : Word → Option Scalar → Type 0
+IsPieceOf w None = w ≡ Bare (codes "cont")
+IsPieceOf w (Some s) = w ≡ Bare (scalar_word s)
+
+pub piece_read : (w : Word) → Reads (IsPieceOf w) Free (piece_in w)
+piece_read (Quoted text) = λ p h. none p h
+  where
+    none : (p : Option Scalar) → IsPieceOf (Quoted text) p → ⊥
+    none None e = quoted_apart text (codes "cont") e
+    none (Some s) e = quoted_apart text (scalar_word s) e
+piece_read (Bare text) = by (bytes_eq text (codes "cont")) refl
+  where
+    some : bytes_eq text (codes "cont") ≡ false → (p : Option Scalar) → IsPieceOf (Bare text) p → (s : Scalar) × (Bare text ≡ Bare (scalar_word s)) × (p ≡ Some s)
+    some isnt None e = absurd (other_bytes text (codes "cont") isnt e)
+    some isnt (Some s) e = (s, e, refl)
+
+    by : (t : Bool) → bytes_eq text (codes "cont") ≡ t → Reads (IsPieceOf (Bare text)) Free (cond t (Ok None) (as_is (λ s. Some s) (scalar_in (Bare text))))
+    by true is = (same_bytes text (codes "cont") is, tt)
+    by false isnt =
+        carried (λ s. Some s) (λ s. Bare text ≡ Bare (scalar_word s)) Free (IsPieceOf (Bare text)) Free
+        (λ s h. h) (some isnt) (λ s h m. tt) (λ s h m. tt) (scalar_in (Bare text)) (scalar_read (Bare text))

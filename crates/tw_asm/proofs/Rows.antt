@@ -1,0 +1,292 @@
+-- The table of instructions once more, row by row: which sorts of parts follow a name, and which instruction they make. So
+-- what holds of each instruction's parts is gone through once, in `row`.
+use Rattle.std.proofs.Common.{◌≡◌, ◌==◌, ◌⊎◌, inl, inr, ℕ, zero, suc, ℤ, pos, Bool, true, false, List, [], ◌∷◌, map, codes, Option, None, refl, sym, ap, ◌∙◌, eq-eqb}
+use Rattle.std.specs.Prelude.{◌&&◌, if◌then◌else◌}
+use Rattle.std.proofs.lemmas.Bool.{eqb-true}
+use Rattle.tw_code.specs.declared.instr.Action.{Action}
+use Rattle.tw_code.specs.declared.instr.Arithmetic.TheVariants.{Add, Subtract, Multiply, Divide, Remainder}
+use Rattle.tw_code.specs.declared.instr.DataInstr.{DataInstr}
+use Rattle.tw_code.specs.declared.instr.DataInstr.TheVariants as on_data
+use Rattle.tw_code.specs.declared.instr.Instr.{Instr}
+use Rattle.tw_code.specs.declared.instr.Instr.TheVariants as instr
+use Rattle.tw_code.specs.declared.instr.LocalInstr.{LocalInstr}
+use Rattle.tw_code.specs.declared.instr.LocalInstr.TheVariants as local
+use Rattle.tw_types.specs.Nesting.{NestedScalar}
+use Rattle.tw_types.specs.declared.data_type.Scalar.TheVariants.{Int}
+use Rattle.tw_asm.specs.Parts.{Part, Name, Value, Right, Number, Natural, Literal, TypeOf, Skip, Target, instr_parts}
+use Rattle.tw_asm.specs.Seen.{with_skip}
+
+-- ---- a word among names
+
+abbrev pub IsAmong : List ℕ → List (List ℕ) → Type 0
+IsAmong word [] = ⊥
+IsAmong word (name ∷ names) = (word ≡ name) ⊎ IsAmong word names
+
+pub different : {Z : Type 0} (n m : ℕ) → n ≡ m → (n == m) ≡ false → Z
+different n m e f = absurd (apart (sym (eq-eqb n m e) ∙ f))
+  where
+    apart : true ≡ false → ⊥
+    apart h = cc
+
+-- ---- sorts of parts
+
+abbrev pub sort_of : Part → ℕ
+sort_of (Name word) = 0
+sort_of (Value register) = 1
+sort_of (Right register) = 2
+sort_of (Number number) = 3
+sort_of (Natural number) = 4
+sort_of (Literal text) = 5
+sort_of (TypeOf ty) = 6
+sort_of (Skip skip) = 7
+sort_of (Target target) = 8
+
+-- these sorts, and then numbers without sign
+abbrev pub have_sorts : List ℕ → List Part → Bool
+have_sorts [] [] = true
+have_sorts [] (part ∷ parts) = (sort_of part == 4) && have_sorts [] parts
+have_sorts (sort ∷ sorts) [] = true
+have_sorts (sort ∷ sorts) (part ∷ parts) = (sort_of part == sort) && have_sorts sorts parts
+
+-- part by part of the same sort, as far as both go
+abbrev pub AreAlike : List Part → List Part → Type 0
+AreAlike [] qs = Unit {0}
+AreAlike (p ∷ ps) [] = Unit {0}
+AreAlike (p ∷ ps) (q ∷ qs) = (sort_of p ≡ sort_of q) × AreAlike ps qs
+
+pub both_true : (a b : Bool) → (a && b) ≡ true → (a ≡ true) × (b ≡ true)
+both_true true b e = (refl, e)
+both_true false b e = absurd cc
+
+pub alike_by_sorts : (sorts : List ℕ) (ps qs : List Part) → have_sorts sorts ps ≡ true → have_sorts sorts qs ≡ true → AreAlike ps qs
+alike_by_sorts sorts [] qs h k = tt
+alike_by_sorts sorts (p ∷ ps) [] h k = tt
+alike_by_sorts [] (p ∷ ps) (q ∷ qs) h k =
+    let a = both_true (sort_of p == 4) (have_sorts [] ps) h in
+    let b = both_true (sort_of q == 4) (have_sorts [] qs) k in
+    (eqb-true (sort_of p) 4 a.0 ∙ sym (eqb-true (sort_of q) 4 b.0), alike_by_sorts [] ps qs a.1 b.1)
+alike_by_sorts (sort ∷ sorts) (p ∷ ps) (q ∷ qs) h k =
+    let a = both_true (sort_of p == sort) (have_sorts sorts ps) h in
+    let b = both_true (sort_of q == sort) (have_sorts sorts qs) k in
+    (eqb-true (sort_of p) sort a.0 ∙ sym (eqb-true (sort_of q) sort b.0), alike_by_sorts sorts ps qs a.1 b.1)
+
+-- ---- what parts hold
+
+abbrev size : Part → ℕ
+size (Value register) = register
+size (Right register) = register
+size (Natural number) = number
+size (Skip skip) = skip
+size part = 0
+
+abbrev signed : Part → ℤ
+signed (Number number) = number
+signed part = pos 0
+
+abbrev text : Part → List ℕ
+text (Literal t) = t
+text part = []
+
+abbrev type_in : Part → NestedScalar
+type_in (TypeOf ty) = ty
+type_in part = record { depth = 0; scalar = Int }
+
+abbrev target_in : Part → Option ℕ
+target_in (Target target) = target
+target_in part = None
+
+abbrev at : List Part → ℕ → Part
+at [] k = Natural 0
+at (part ∷ parts) zero = part
+at (part ∷ parts) (suc k) = at parts k
+
+abbrev behind_three : List Part → List Part
+behind_three (a ∷ b ∷ c ∷ parts) = parts
+behind_three parts = []
+
+abbrev action_from : List Part → Action
+action_from parts = record { procedure = size (at parts 0); priority = signed (at parts 1); target = target_in (at parts 2); args = map size (behind_three parts) }
+
+-- ---- the rows
+
+pub record Row : Type 0 where
+  pub name : List ℕ
+  pub sorts : List ℕ
+  pub make : List Part → Instr
+
+abbrev pub rows : List Row
+rows =
+    record { name = codes "INT"; sorts = 1 ∷ 3 ∷ []; make = λ parts. instr.Local (local.Int (size (at parts 0)) (signed (at parts 1))) } ∷
+    record { name = codes "TEXT"; sorts = 1 ∷ 5 ∷ []; make = λ parts. instr.Local (local.Text (size (at parts 0)) (text (at parts 1))) } ∷
+    record { name = codes "COPY"; sorts = 1 ∷ 1 ∷ []; make = λ parts. instr.Local (local.Copy (size (at parts 0)) (size (at parts 1))) } ∷
+    record { name = codes "ADD"; sorts = 1 ∷ 1 ∷ 1 ∷ 7 ∷ []; make = λ parts. instr.Local (local.Compute Add (size (at parts 0)) (size (at parts 1)) (size (at parts 2)) (size (at parts 3))) } ∷
+    record { name = codes "SUB"; sorts = 1 ∷ 1 ∷ 1 ∷ 7 ∷ []; make = λ parts. instr.Local (local.Compute Subtract (size (at parts 0)) (size (at parts 1)) (size (at parts 2)) (size (at parts 3))) } ∷
+    record { name = codes "MUL"; sorts = 1 ∷ 1 ∷ 1 ∷ 7 ∷ []; make = λ parts. instr.Local (local.Compute Multiply (size (at parts 0)) (size (at parts 1)) (size (at parts 2)) (size (at parts 3))) } ∷
+    record { name = codes "DIV"; sorts = 1 ∷ 1 ∷ 1 ∷ 7 ∷ []; make = λ parts. instr.Local (local.Compute Divide (size (at parts 0)) (size (at parts 1)) (size (at parts 2)) (size (at parts 3))) } ∷
+    record { name = codes "REM"; sorts = 1 ∷ 1 ∷ 1 ∷ 7 ∷ []; make = λ parts. instr.Local (local.Compute Remainder (size (at parts 0)) (size (at parts 1)) (size (at parts 2)) (size (at parts 3))) } ∷
+    record { name = codes "CAT"; sorts = 1 ∷ 1 ∷ 1 ∷ 7 ∷ []; make = λ parts. instr.Local (local.Concatenate (size (at parts 0)) (size (at parts 1)) (size (at parts 2)) (size (at parts 3))) } ∷
+    record { name = codes "LEN"; sorts = 1 ∷ 1 ∷ []; make = λ parts. instr.Local (local.Length (size (at parts 0)) (size (at parts 1))) } ∷
+    record { name = codes "SHOW"; sorts = 1 ∷ 1 ∷ []; make = λ parts. instr.Local (local.Show (size (at parts 0)) (size (at parts 1))) } ∷
+    record { name = codes "READI"; sorts = 1 ∷ 1 ∷ 7 ∷ []; make = λ parts. instr.Local (local.ReadInt (size (at parts 0)) (size (at parts 1)) (size (at parts 2))) } ∷
+    record { name = codes "JMP"; sorts = 7 ∷ []; make = λ parts. instr.Local (local.Jump (size (at parts 0))) } ∷
+    record { name = codes "JEQ"; sorts = 1 ∷ 1 ∷ 7 ∷ []; make = λ parts. instr.Local (local.JumpEqual (size (at parts 0)) (size (at parts 1)) (size (at parts 2))) } ∷
+    record { name = codes "JLT"; sorts = 1 ∷ 1 ∷ 7 ∷ []; make = λ parts. instr.Local (local.JumpLess (size (at parts 0)) (size (at parts 1)) (size (at parts 2))) } ∷
+    record { name = codes "REPEAT"; sorts = 4 ∷ []; make = λ parts. instr.Local (local.Repeat (size (at parts 0))) } ∷
+    record { name = codes "END"; sorts = []; make = λ parts. instr.Local local.End } ∷
+    record { name = codes "NEW"; sorts = 2 ∷ 2 ∷ 6 ∷ []; make = λ parts. instr.Data (on_data.New (size (at parts 0)) (size (at parts 1)) (type_in (at parts 2))) } ∷
+    record { name = codes "STORE"; sorts = 2 ∷ 1 ∷ []; make = λ parts. instr.Data (on_data.Store (size (at parts 0)) (size (at parts 1))) } ∷
+    record { name = codes "GET"; sorts = 1 ∷ 2 ∷ []; make = λ parts. instr.Data (on_data.Get (size (at parts 0)) (size (at parts 1))) } ∷
+    record { name = codes "INS"; sorts = 2 ∷ 1 ∷ 2 ∷ 7 ∷ []; make = λ parts. instr.Data (on_data.Insert (size (at parts 0)) (size (at parts 1)) (size (at parts 2)) (size (at parts 3))) } ∷
+    record { name = codes "LOOK"; sorts = 2 ∷ 2 ∷ 1 ∷ 7 ∷ []; make = λ parts. instr.Data (on_data.Look (size (at parts 0)) (size (at parts 1)) (size (at parts 2)) (size (at parts 3))) } ∷
+    record { name = codes "SIZE"; sorts = 1 ∷ 2 ∷ []; make = λ parts. instr.Data (on_data.Size (size (at parts 0)) (size (at parts 1))) } ∷
+    record { name = codes "SUBAT"; sorts = 1 ∷ 2 ∷ 1 ∷ 7 ∷ []; make = λ parts. instr.Data (on_data.SubscriptAt (size (at parts 0)) (size (at parts 1)) (size (at parts 2)) (size (at parts 3))) } ∷
+    record { name = codes "DUPR"; sorts = 2 ∷ 2 ∷ []; make = λ parts. instr.Data (on_data.CopyRead (size (at parts 0)) (size (at parts 1))) } ∷
+    record { name = codes "DUPW"; sorts = 2 ∷ 2 ∷ []; make = λ parts. instr.Data (on_data.CopyWrite (size (at parts 0)) (size (at parts 1))) } ∷
+    record { name = codes "DROPR"; sorts = 2 ∷ []; make = λ parts. instr.Data (on_data.DropRead (size (at parts 0))) } ∷
+    record { name = codes "DROPW"; sorts = 2 ∷ []; make = λ parts. instr.Data (on_data.DropWrite (size (at parts 0))) } ∷
+    record { name = codes "RULE"; sorts = 4 ∷ 3 ∷ 8 ∷ []; make = λ parts. instr.Rule (action_from parts) } ∷
+    record { name = codes "PUT"; sorts = 4 ∷ 3 ∷ 8 ∷ []; make = λ parts. instr.Put (action_from parts) } ∷
+    record { name = codes "RET"; sorts = []; make = λ parts. instr.Ret } ∷
+    []
+
+abbrev pub names : List (List ℕ)
+names = map (λ r. r.name) rows
+
+abbrev pub same : List ℕ → List ℕ → Bool
+same [] [] = true
+same [] (y ∷ ys) = false
+same (x ∷ xs) [] = false
+same (x ∷ xs) (y ∷ ys) = (x == y) && same xs ys
+
+abbrev pub is_in : List ℕ → List (List ℕ) → Bool
+is_in word [] = false
+is_in word (name ∷ others) = if same word name then true else is_in word others
+
+abbrev pub row_among : List ℕ → List Row → Row
+row_among word [] = record { name = []; sorts = []; make = λ parts. instr.Ret }
+row_among word (row ∷ others) = if same word row.name then row else row_among word others
+
+-- ---- an instruction's parts
+
+abbrev pub first_name : List Part → List ℕ
+first_name (Name word ∷ parts) = word
+first_name parts = []
+
+abbrev pub behind_first : List Part → List Part
+behind_first [] = []
+behind_first (part ∷ parts) = parts
+
+abbrev pub name_of : Instr → List ℕ
+name_of i = first_name (instr_parts i)
+
+abbrev pub operands_of : Instr → List Part
+operands_of i = behind_first (instr_parts i)
+
+abbrev pub reskip : ℕ → Part → Part
+reskip skip (Skip old) = Skip skip
+reskip skip part = part
+
+abbrev pub is_last : List Part → Bool
+is_last [] = true
+is_last (part ∷ parts) = false
+
+-- nothing stands behind a skip
+abbrev pub skips_last : List Part → Bool
+skips_last [] = true
+skips_last (Skip skip ∷ parts) = is_last parts
+skips_last (part ∷ parts) = skips_last parts
+
+abbrev pub ends_in_colon : List ℕ → Bool
+ends_in_colon [] = false
+ends_in_colon (b ∷ []) = b == 58
+ends_in_colon (b ∷ c ∷ others) = ends_in_colon (c ∷ others)
+
+-- what a first word promises, as a number: the head, the registers, a label, an instruction
+abbrev pub class_of_word : List ℕ → ℕ
+class_of_word word = if ends_in_colon word then 2 else if same word (codes "proc") then 0 else if same word (codes "regs") then 1 else 3
+
+-- what holds of the parts of each instruction
+pub record IsRow (i : Instr) : Type 0 where
+  pub parts : instr_parts i ≡ Name (name_of i) ∷ operands_of i
+  pub known : is_in (name_of i) names ≡ true
+  pub class : class_of_word (name_of i) ≡ 3
+  pub sorts : have_sorts (row_among (name_of i) rows).sorts (operands_of i) ≡ true
+  pub made : (row_among (name_of i) rows).make (operands_of i) ≡ i
+  pub reskipped : (skip : ℕ) → instr_parts (with_skip skip i) ≡ map (reskip skip) (instr_parts i)
+  pub last : skips_last (instr_parts i) ≡ true
+
+-- ---- arguments
+
+args_sorts : (args : List ℕ) → have_sorts [] (map Natural args) ≡ true
+args_sorts [] = refl
+args_sorts (arg ∷ args) = args_sorts args
+
+args_made : (args : List ℕ) → map size (map Natural args) ≡ args
+args_made [] = refl
+args_made (arg ∷ args) = ap (λ (xs : List ℕ). arg ∷ xs) (args_made args)
+
+args_reskipped : (skip : ℕ) (args : List ℕ) → map Natural args ≡ map (reskip skip) (map Natural args)
+args_reskipped skip [] = refl
+args_reskipped skip (arg ∷ args) = ap (λ (ps : List Part). Natural arg ∷ ps) (args_reskipped skip args)
+
+args_last : (args : List ℕ) → skips_last (map Natural args) ≡ true
+args_last [] = refl
+args_last (arg ∷ args) = args_last args
+
+-- ---- row by row
+
+abbrev with_args : Action → List ℕ → Action
+with_args action args = record { procedure = action.procedure; priority = action.priority; target = action.target; args = args }
+
+local_row : (i : LocalInstr) → IsRow (instr.Local i)
+local_row (local.Compute Add to left right skip) = record { parts = refl; known = refl; class = refl; sorts = refl; made = refl; reskipped = λ skip. refl; last = refl }
+local_row (local.Compute Subtract to left right skip) = record { parts = refl; known = refl; class = refl; sorts = refl; made = refl; reskipped = λ skip. refl; last = refl }
+local_row (local.Compute Multiply to left right skip) = record { parts = refl; known = refl; class = refl; sorts = refl; made = refl; reskipped = λ skip. refl; last = refl }
+local_row (local.Compute Divide to left right skip) = record { parts = refl; known = refl; class = refl; sorts = refl; made = refl; reskipped = λ skip. refl; last = refl }
+local_row (local.Compute Remainder to left right skip) = record { parts = refl; known = refl; class = refl; sorts = refl; made = refl; reskipped = λ skip. refl; last = refl }
+local_row i = record { parts = refl; known = refl; class = refl; sorts = refl; made = refl; reskipped = λ skip. refl; last = refl }
+
+data_row : (i : DataInstr) → IsRow (instr.Data i)
+data_row (on_data.New write read ty) = record { parts = refl; known = refl; class = refl; sorts = refl; made = refl; reskipped = λ skip. refl; last = refl }
+data_row i = record { parts = refl; known = refl; class = refl; sorts = refl; made = refl; reskipped = λ skip. refl; last = refl }
+
+pub row : (i : Instr) → IsRow i
+row (instr.Local i) = local_row i
+row (instr.Data i) = data_row i
+row (instr.Rule action) = record {
+  parts = refl;
+  known = refl;
+  class = refl;
+  sorts = args_sorts action.args;
+  made = ap (λ (args : List ℕ). instr.Rule (with_args action args)) (args_made action.args);
+  reskipped = λ skip. ap (λ (ps : List Part). Name (codes "RULE") ∷ Natural action.procedure ∷ Number action.priority ∷ Target action.target ∷ ps) (args_reskipped skip action.args);
+  last = args_last action.args;
+}
+row (instr.Put action) = record {
+  parts = refl;
+  known = refl;
+  class = refl;
+  sorts = args_sorts action.args;
+  made = ap (λ (args : List ℕ). instr.Put (with_args action args)) (args_made action.args);
+  reskipped = λ skip. ap (λ (ps : List Part). Name (codes "PUT") ∷ Natural action.procedure ∷ Number action.priority ∷ Target action.target ∷ ps) (args_reskipped skip action.args);
+  last = args_last action.args;
+}
+row instr.Ret = record { parts = refl; known = refl; class = refl; sorts = refl; made = refl; reskipped = λ skip. refl; last = refl }
+
+-- ---- names
+
+pub same_is : (xs ys : List ℕ) → same xs ys ≡ true → xs ≡ ys
+same_is [] [] e = refl
+same_is [] (y ∷ ys) e = absurd cc
+same_is (x ∷ xs) [] e = absurd cc
+same_is (x ∷ xs) (y ∷ ys) e =
+    let both = both_true (x == y) (same xs ys) e in
+    ap (λ (b : ℕ). b ∷ xs) (eqb-true x y both.0) ∙ ap (λ (bs : List ℕ). y ∷ bs) (same_is xs ys both.1)
+
+among_by : (word name : List ℕ) (others : List (List ℕ)) (test : Bool) → same word name ≡ test → (is_in word others ≡ true → IsAmong word others) → (if test then true else is_in word others) ≡ true → IsAmong word (name ∷ others)
+among_by word name others true is more e = inl (same_is word name is)
+among_by word name others false is more e = inr (more e)
+
+pub among : (word : List ℕ) (all : List (List ℕ)) → is_in word all ≡ true → IsAmong word all
+among word [] e = absurd cc
+among word (name ∷ others) e = among_by word name others (same word name) refl (among word others) e

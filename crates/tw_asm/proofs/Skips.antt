@@ -1,0 +1,35 @@
+-- The skips of instructions.
+use Rattle.std.proofs.Common.{◌≡◌, ℕ, List, [], ◌∷◌, map, None, refl, sym, ap, ◌∙◌}
+use Rattle.tw_code.specs.accepting.Flow.{data_flow, flow_of, local_flow}
+use Rattle.tw_code.specs.declared.flow.Flow.{Flow}
+use Rattle.tw_code.specs.declared.instr.DataInstr.{DataInstr}
+use Rattle.tw_code.specs.declared.instr.DataInstr.TheVariants as on_data
+use Rattle.tw_code.specs.declared.instr.Instr.{Instr}
+use Rattle.tw_code.specs.declared.instr.Instr.TheVariants as instr
+use Rattle.tw_code.specs.declared.instr.LocalInstr.{LocalInstr}
+use Rattle.tw_code.specs.declared.instr.LocalInstr.TheVariants as local
+use Rattle.tw_asm.specs.words.Skips.{skip_in}
+use Rattle.tw_asm.specs.Parts.{Natural, data_parts, local_parts, skip_among, skip_of}
+
+args_without : (args : List ℕ) → skip_among (map Natural args) ≡ None
+args_without [] = refl
+args_without (arg ∷ args) = args_without args
+
+local_skip : (i : LocalInstr) → skip_among (local_parts i) ≡ skip_in (local_flow i)
+local_skip (local.Int to value) = refl
+local_skip i = refl
+
+data_skip : (i : DataInstr) → skip_among (data_parts i) ≡ skip_in (data_flow i)
+data_skip (on_data.New write read ty) = refl
+data_skip i = refl
+
+pub skip_is : (i : Instr) → skip_of i ≡ skip_in (flow_of i)
+skip_is (instr.Local i) = local_skip i
+skip_is (instr.Data i) = data_skip i
+skip_is (instr.Rule action) = args_without action.args
+skip_is (instr.Put action) = args_without action.args
+skip_is instr.Ret = refl
+
+-- as the code finds it
+pub skip_by_flow : (i : Instr) (flow : Flow) → flow ≡ flow_of i → skip_in flow ≡ skip_of i
+skip_by_flow i flow is = ap skip_in is ∙ sym (skip_is i)

@@ -1,0 +1,423 @@
+-- The procedures that have been read, and the words that spell them.
+use Rattle.std.proofs.Common.{◌≡◌, ◌≢◌, ℕ, suc, ◌+◌, ◌<◌, ◌≤◌, List, [], ◌∷◌, ◌++◌, length, map, Option, Some, None, inl, inr, refl, sym, subst, ap, ◌∙◌, append_assoc, arith}
+use Rattle.std.proofs.lemmas.List.{append-nil, get_or_default, length-append, map-append}
+use Rattle.std.proofs.lemmas.List.Quantifiers.{all_pairs_push}
+use Rattle.std.specs.Str.Lines.{lines}
+use Rattle.std.specs.List.{AllByRecursion, AllPairs, Contains}
+use Rattle.tw_types.specs.declared.actor.Kind.{Kind}
+use Rattle.tw_types.specs.declared.data_type.Scalar.{Scalar}
+use Rattle.tw_types.specs.declared.param.Param.{Param}
+use Rattle.tw_code.specs.declared.instr.DataInstr.{DataInstr}
+use Rattle.tw_code.specs.declared.instr.DataInstr.TheVariants as on_data
+use Rattle.tw_code.specs.declared.instr.Instr.{Instr}
+use Rattle.tw_code.specs.declared.instr.Instr.TheVariants as instr
+use Rattle.tw_code.specs.declared.instr.LocalInstr.{LocalInstr}
+use Rattle.tw_code.specs.declared.instr.LocalInstr.TheVariants as local
+use Rattle.tw_code.specs.declared.procedure.Procedure.{Procedure}
+use Rattle.tw_code.specs.format.Program.{IsDataInstr, IsInstr, IsLocalInstr, IsProcedure, IsProgram}
+use Rattle.tw_words.specs.Words.{Bare, IsLine, Word}
+use Rattle.tw_asm.specs.Seen.{IsRead, NoName, Read, data_with_skip, local_with_skip, with_skip}
+use Rattle.tw_asm.specs.Statement.{Statement, Head, Registers, Label, Code, AnyShortName, Goals, IsInLimits, Spells}
+use Rattle.tw_asm.specs.Fault.{IsWhole, MayStand}
+use Rattle.tw_asm.specs.Spelling.{AreCode, GoesTo, HaveWords, Placed, SpellProcedures, SpellsProcedure, SpellsProgram}
+use Rattle.tw_asm.specs.reading.Goals.{AreLinkedCode, AreLinkedProcedures, HasLabelsWithin, IsLinkedProcedure, IsLinkedTo, goals_in}
+use Rattle.tw_asm.specs.reading.Progress.{AtStart, BehindHead, Within, Drafted, HasSections, IsGoalOf, LinesRead, Place, Progress, Section, begun, ended, line_step, outset, progress_from, situation_of, step}
+use Rattle.tw_asm.proofs.Once.{resolved_spells, spells_more}
+use Rattle.tw_asm.proofs.Begins.{first_of_words}
+use Rattle.tw_asm.proofs.Stages.{body_head, body_start, head_body, head_start, progress, start_body, start_head}
+use Rattle.tw_asm.proofs.Steps.{read_says}
+use Rattle.tw_asm.proofs.Walk.{higher}
+
+-- ---- bodies whose goals aren't looked for yet
+
+pub data AreDrafts : ℕ → List Placed → List Drafted → List (List Word) → Type 0 where
+  no_drafts : (place : ℕ) → AreDrafts place [] [] []
+  a_label : (place : ℕ) (name : List ℕ) (words : List Word) (labels : List Placed) (drafts : List Drafted) (others : List (List Word))
+      → Spells NoName (Label name) words → IsInLimits (Label name) → AreDrafts place labels drafts others
+      → AreDrafts place (record { name = name; place = place } ∷ labels) drafts (words ∷ others)
+  a_draft : (place : ℕ) (draft : Drafted) (words : List Word) (labels : List Placed) (drafts : List Drafted) (others : List (List Word))
+      → IsRead (record { statement = Code draft.instr; goal = draft.goal }) words → AreDrafts (place + 1) labels drafts others
+      → AreDrafts place labels (draft ∷ drafts) (words ∷ others)
+
+label_more : (place : ℕ) (labels : List Placed) (drafts : List Drafted) (body : List (List Word)) (name : List ℕ) (words : List Word)
+    → AreDrafts place labels drafts body → Spells NoName (Label name) words → IsInLimits (Label name)
+    → AreDrafts place (labels ++ (record { name = name; place = place + length drafts } ∷ [])) drafts (body ++ (words ∷ []))
+label_more place _ _ _ name words (no_drafts _) s l =
+    let e : place ≡ place + 0 = omega arith in
+    subst (λ (k : ℕ). AreDrafts place (record { name = name; place = k } ∷ []) [] (words ∷ [])) e (a_label place name words [] [] [] s l (no_drafts place))
+label_more place _ _ _ name words (a_label _ n ws labels drafts others a b more) s l =
+    a_label place n ws (labels ++ (record { name = name; place = place + length drafts } ∷ [])) drafts (others ++ (words ∷ [])) a b (label_more place labels drafts others name words more s l)
+label_more place _ _ _ name words (a_draft _ draft ws labels drafts others r more) s l =
+    let e : (place + 1) + length drafts ≡ place + suc (length drafts) = omega arith in
+    a_draft place draft ws (labels ++ (record { name = name; place = place + suc (length drafts) } ∷ [])) drafts (others ++ (words ∷ [])) r
+    (subst (λ (k : ℕ). AreDrafts (place + 1) (labels ++ (record { name = name; place = k } ∷ [])) drafts (others ++ (words ∷ []))) e (label_more (place + 1) labels drafts others name words more s l))
+
+draft_more : (place : ℕ) (labels : List Placed) (drafts : List Drafted) (body : List (List Word)) (draft : Drafted) (words : List Word)
+    → AreDrafts place labels drafts body → IsRead (record { statement = Code draft.instr; goal = draft.goal }) words
+    → AreDrafts place labels (drafts ++ (draft ∷ [])) (body ++ (words ∷ []))
+draft_more place _ _ _ draft words (no_drafts _) r = a_draft place draft words [] [] [] r (no_drafts (place + 1))
+draft_more place _ _ _ draft words (a_label _ n ws labels drafts others a b more) r =
+    a_label place n ws labels (drafts ++ (draft ∷ [])) (others ++ (words ∷ [])) a b (draft_more place labels drafts others draft words more r)
+draft_more place _ _ _ draft words (a_draft _ d ws labels drafts others q more) r =
+    a_draft place d ws labels (drafts ++ (draft ∷ [])) (others ++ (words ∷ [])) q (draft_more (place + 1) labels drafts others draft words more r)
+
+-- labels stand within the code, or behind its last instruction
+pub labels_within : (place : ℕ) (labels : List Placed) (drafts : List Drafted) (body : List (List Word)) → AreDrafts place labels drafts body → AllByRecursion (λ label. label.place ≤ place + length drafts) labels
+labels_within place _ _ _ (no_drafts _) = tt
+labels_within place _ _ _ (a_label _ n ws labels drafts others a b more) = (omega arith, labels_within place labels drafts others more)
+labels_within place _ _ _ (a_draft _ d ws labels drafts others q more) =
+    let e : (place + 1) + length drafts ≡ place + suc (length drafts) = omega arith in
+    subst (λ (k : ℕ). AllByRecursion (λ (label : Placed). label.place ≤ k) labels) e (labels_within (place + 1) labels drafts others more)
+
+-- ---- skips for goals
+
+no_name : (goals : Goals) (statement : Statement) (words : List Word) → Spells NoName statement words → Spells goals statement words
+no_name goals statement words s = spells_more NoName goals (λ skip name n. absurd n) statement words s
+
+linked_spells : (all : List Placed) (place : ℕ) (draft : Instr) (goal : Option (List ℕ)) (i : Instr) (words : List Word)
+    → IsRead (record { statement = Code draft; goal = goal }) words → IsLinkedTo all place goal draft i → Spells (GoesTo all place) (Code i) words
+linked_spells all place draft None i words r l =
+    subst (λ (x : Instr). Spells (GoesTo all place) (Code x) words) (sym l) (no_name (GoesTo all place) (Code draft) words r.1)
+linked_spells all place draft (Some name) i words r l =
+    subst (λ (x : Instr). Spells (GoesTo all place) (Code x) words) (sym l.3) (resolved_spells (GoesTo all place) name l.0 draft words r l.1)
+
+pub linked_code : (all : List Placed) (place : ℕ) (labels : List Placed) (drafts : List Drafted) (body : List (List Word)) (code : List Instr)
+    → AreDrafts place labels drafts body → AreLinkedCode (goals_in all place drafts) code → AreCode all place labels code body
+linked_code all place _ _ _ [] (no_drafts _) l = AreCode.end place
+linked_code all place _ _ _ (i ∷ code) (no_drafts _) l = absurd l
+linked_code all place _ _ _ is (a_label _ n ws labels drafts others a b more) l =
+    AreCode.label place n ws labels is others (no_name (GoesTo all place) (Label n) ws a) b (linked_code all place labels drafts others is more l)
+linked_code all place _ _ _ [] (a_draft _ d ws labels drafts others q more) l = absurd l
+linked_code all place _ _ _ (i ∷ is) (a_draft _ d ws labels drafts others q more) l =
+    AreCode.instruction place i ws labels is others (linked_spells all place d.instr d.goal i ws q l.0) (linked_code all (place + 1) labels drafts others is more l.1)
+
+local_fits : (skip : ℕ) (i : LocalInstr) → skip ≤ 65535 → IsLocalInstr i → IsLocalInstr (local_with_skip skip i)
+local_fits skip (local.Compute operation to left right old) f l = (l.0, l.1, l.2, (omega arith, f))
+local_fits skip (local.Concatenate to left right old) f l = (l.0, l.1, l.2, (omega arith, f))
+local_fits skip (local.ReadInt to from old) f l = (l.0, l.1, (omega arith, f))
+local_fits skip (local.Jump old) f l = (omega arith, f)
+local_fits skip (local.JumpEqual left right old) f l = (l.0, l.1, (omega arith, f))
+local_fits skip (local.JumpLess left right old) f l = (l.0, l.1, (omega arith, f))
+local_fits skip i f l = l
+
+data_fits : (skip : ℕ) (i : DataInstr) → skip ≤ 65535 → IsDataInstr i → IsDataInstr (data_with_skip skip i)
+data_fits skip (on_data.Insert container subscript member old) f l = (l.0, l.1, l.2, (omega arith, f))
+data_fits skip (on_data.Look member container subscript old) f l = (l.0, l.1, l.2, (omega arith, f))
+data_fits skip (on_data.SubscriptAt to container index old) f l = (l.0, l.1, l.2, (omega arith, f))
+data_fits skip i f l = l
+
+skip_fits : (skip : ℕ) (i : Instr) → skip ≤ 65535 → IsInstr i → IsInstr (with_skip skip i)
+skip_fits skip (instr.Local i) f l = local_fits skip i f l
+skip_fits skip (instr.Data i) f l = data_fits skip i f l
+skip_fits skip i f l = l
+
+linked_fits : (all : List Placed) (place : ℕ) (draft : Instr) (goal : Option (List ℕ)) (i : Instr) → IsInstr draft → IsLinkedTo all place goal draft i → IsInstr i
+linked_fits all place draft None i f l = subst IsInstr (sym l) f
+linked_fits all place draft (Some name) i f l = subst IsInstr (sym l.3) (skip_fits l.0 draft (omega (arith, l.2)) f)
+
+read_limits : (statement : Statement) (goal : Option (List ℕ)) (words : List Word) → IsRead (record { statement = statement; goal = goal }) words → IsInLimits statement
+read_limits statement None words r = r.0
+read_limits statement (Some name) words r = r.0
+
+pub linked_limits : (all : List Placed) (place : ℕ) (labels : List Placed) (drafts : List Drafted) (body : List (List Word)) (is : List Instr)
+    → AreDrafts place labels drafts body → AreLinkedCode (goals_in all place drafts) is → AllByRecursion IsInstr is × (length is ≡ length drafts)
+linked_limits all place _ _ _ [] (no_drafts _) l = (tt, refl)
+linked_limits all place _ _ _ (i ∷ is) (no_drafts _) l = absurd l
+linked_limits all place _ _ _ is (a_label _ n ws labels drafts others a b more) l = linked_limits all place labels drafts others is more l
+linked_limits all place _ _ _ [] (a_draft _ d ws labels drafts others q more) l = absurd l
+linked_limits all place _ _ _ (i ∷ is) (a_draft _ d ws labels drafts others q more) l =
+    let m = linked_limits all (place + 1) labels drafts others is more l.1 in
+    ((linked_fits all place d.instr d.goal i (read_limits (Code d.instr) d.goal ws q) l.0, m.0), ap suc m.1)
+
+-- ---- sections
+
+-- the words of a section, within the limits but for having an instruction
+pub record IsSection (section : Section) (words : List (List Word)) : Type 0 where
+  pub head : List Word
+  pub registers : List Word
+  pub body : List (List Word)
+  pub parts : words ≡ head ∷ registers ∷ body
+  pub head_is : Spells NoName (Head section.kind section.params) head
+  pub params_fit : IsInLimits (Head section.kind section.params)
+  pub registers_are : Spells NoName (Registers section.registers) registers
+  pub registers_fit : IsInLimits (Registers section.registers)
+  pub drafts_are : AreDrafts 0 section.labels section.drafts body
+  pub once : AllPairs (λ a b. a ≢ b) (map (λ label. label.name) section.labels)
+  pub few : length section.drafts ≤ 4096
+
+linked_procedure : (section : Section) (words : List (List Word)) (procedure : Procedure) → IsSection section words → IsLinkedProcedure section procedure → SpellsProcedure procedure words
+linked_procedure section words procedure s l = record {
+  head = s.head;
+  registers = s.registers;
+  body = s.body;
+  labels = section.labels;
+  parts = s.parts;
+  head_is = rw (l.kind, l.params) (no_name (GoesTo [] 0) (Head section.kind section.params) s.head s.head_is);
+  registers_are = rw l.registers (no_name (GoesTo [] 0) (Registers section.registers) s.registers s.registers_are);
+  body_is = linked_code section.labels 0 section.labels section.drafts s.body procedure.code s.drafts_are l.code;
+  once = s.once;
+}
+
+linked_within : (section : Section) (words : List (List Word)) (procedure : Procedure) → IsSection section words → 0 < length section.drafts → IsLinkedProcedure section procedure → IsProcedure procedure
+linked_within section words procedure s some l =
+    let m = linked_limits section.labels 0 section.labels section.drafts s.body procedure.code s.drafts_are l.code in
+    record {
+      params = rw l.params s.params_fit;
+      registers = rw l.registers s.registers_fit;
+      code = ((omega (arith, m.1), omega (arith, m.1, s.few)), m.0);
+    }
+
+-- sections one after the other, each with an instruction
+pub data AreSections : List Section → List (List Word) → Type 0 where
+  no_sections : AreSections [] []
+  a_section : (section : Section) (others : List Section) (first after : List (List Word)) → IsSection section first → 0 < length section.drafts
+      → AreSections others after → AreSections (section ∷ others) (first ++ after)
+
+section_more : (sections : List Section) (words : List (List Word)) (section : Section) (last : List (List Word)) → AreSections sections words → IsSection section last → 0 < length section.drafts
+    → AreSections (sections ++ (section ∷ [])) (words ++ last)
+section_more _ _ section last no_sections s some = subst (AreSections (section ∷ [])) (append-nil last) (a_section section [] last [] s some no_sections)
+section_more _ _ section last (a_section x others first after a n more) s some =
+    subst (AreSections (x ∷ (others ++ (section ∷ [])))) (sym (append_assoc first after last)) (a_section x (others ++ (section ∷ [])) first (after ++ last) a n (section_more others after section last more s some))
+
+pub linked_sections : (sections : List Section) (words : List (List Word)) (procedures : List Procedure) → AreSections sections words → AreLinkedProcedures sections procedures → SpellProcedures procedures words
+linked_sections _ _ [] no_sections l = SpellProcedures.end
+linked_sections _ _ (p ∷ ps) no_sections l = absurd l
+linked_sections _ _ [] (a_section x others first after a n more) l = absurd l
+linked_sections _ _ (p ∷ ps) (a_section x others first after a n more) l =
+    SpellProcedures.one_more p ps first after (linked_procedure x first p a l.0) (linked_sections others after ps more l.1)
+
+pub linked_procedures : (sections : List Section) (words : List (List Word)) (procedures : List Procedure) → AreSections sections words → AreLinkedProcedures sections procedures
+    → AllByRecursion IsProcedure procedures × (length procedures ≡ length sections)
+linked_procedures _ _ [] no_sections l = (tt, refl)
+linked_procedures _ _ (p ∷ ps) no_sections l = absurd l
+linked_procedures _ _ [] (a_section x others first after a n more) l = absurd l
+linked_procedures _ _ (p ∷ ps) (a_section x others first after a n more) l =
+    let m = linked_procedures others after ps more l.1 in
+    ((linked_within x first p a n l.0, m.0), ap suc m.1)
+
+-- ---- what has been read is spelled
+
+abbrev pub IsPlace : Place → List (List Word) → Type 0
+IsPlace AtStart words = words ≡ []
+IsPlace (BehindHead kind params) words = (head : List Word) × (words ≡ head ∷ []) × Spells NoName (Head kind params) head × IsInLimits (Head kind params)
+IsPlace (Within section) words = IsSection section words
+
+pub record IsSpelled (p : Progress) (words : List (List Word)) : Type 0 where
+  pub done : List (List Word)
+  pub current : List (List Word)
+  pub parts : words ≡ done ++ current
+  pub sections_are : AreSections p.sections done
+  pub place_is : IsPlace p.place current
+  pub few : length p.sections + begun p.place ≤ 64
+
+plain : (statement : Statement) (goal : Option (List ℕ)) (words : List Word) → goal ≡ None → IsRead (record { statement = statement; goal = goal }) words → Spells NoName statement words
+plain statement None words e r = r.1
+plain statement (Some name) words e r = absurd cc
+
+word_more : (all done current : List (List Word)) (words : List Word) → all ≡ done ++ current → all ++ (words ∷ []) ≡ done ++ (current ++ (words ∷ []))
+word_more all done current words e = ap (λ (x : List (List Word)). x ++ (words ∷ [])) e ∙ append_assoc done current (words ∷ [])
+
+head_step : (number : ℕ) (kind : Kind) (params : List Param) (goal : Option (List ℕ)) (sections : List Section) (head_line : ℕ) (place : Place) (all : List (List Word)) (words : List Word)
+    → IsSpelled (progress sections head_line place) all → IsRead (record { statement = Head kind params; goal = goal }) words → MayStand (Head kind params) (situation_of (progress sections head_line place)) → goal ≡ None
+    → IsSpelled (step number (Head kind params) goal (progress sections head_line place)) (all ++ (words ∷ []))
+head_step number kind params goal sections head_line AtStart all words s r m g = record {
+  done = s.done;
+  current = words ∷ [];
+  parts = ap (λ (x : List (List Word)). x ++ (words ∷ [])) (s.parts ∙ ap (λ (x : List (List Word)). s.done ++ x) s.place_is ∙ append-nil s.done);
+  sections_are = s.sections_are;
+  place_is = (words, refl, plain (Head kind params) goal words g r, read_limits (Head kind params) goal words r);
+  few = omega (arith, m.1);
+}
+head_step number kind params goal sections head_line (BehindHead k ps) all words s r m g = elim (m.0) [ inl e ↦ head_start e | inr e ↦ head_body e.0 ]
+head_step number kind params goal sections head_line (Within section) all words s r m g =
+    let some : 0 < length section.drafts = elim (m.0) [ inl e ↦ body_start e | inr e ↦ e.1 ] in
+    record {
+      done = s.done ++ s.current;
+      current = words ∷ [];
+      parts = ap (λ (x : List (List Word)). x ++ (words ∷ [])) s.parts;
+      sections_are = section_more sections s.done section s.current s.sections_are s.place_is some;
+      place_is = (words, refl, plain (Head kind params) goal words g r, read_limits (Head kind params) goal words r);
+      few = omega (arith, m.1, length-append sections (section ∷ []));
+    }
+
+none_pairs : AllPairs (λ (a b : List ℕ). a ≢ b) []
+none_pairs = λ i j d a b. absurd (omega (arith, b))
+
+registers_step : (number : ℕ) (registers : List Scalar) (goal : Option (List ℕ)) (sections : List Section) (head_line : ℕ) (place : Place) (all : List (List Word)) (words : List Word)
+    → IsSpelled (progress sections head_line place) all → IsRead (record { statement = Registers registers; goal = goal }) words → MayStand (Registers registers) (situation_of (progress sections head_line place)) → goal ≡ None
+    → IsSpelled (step number (Registers registers) goal (progress sections head_line place)) (all ++ (words ∷ []))
+registers_step number registers goal sections head_line AtStart all words s r m g = start_head m
+registers_step number registers goal sections head_line (BehindHead kind params) all words s r m g =
+    let h = s.place_is in
+    record {
+      done = s.done;
+      current = h.0 ∷ words ∷ [];
+      parts = word_more all s.done s.current words s.parts ∙ ap (λ (x : List (List Word)). s.done ++ (x ++ (words ∷ []))) h.1;
+      sections_are = s.sections_are;
+      place_is = record {
+        head = h.0;
+        registers = words;
+        body = [];
+        parts = refl;
+        head_is = h.2;
+        params_fit = h.3;
+        registers_are = plain (Registers registers) goal words g r;
+        registers_fit = read_limits (Registers registers) goal words r;
+        drafts_are = no_drafts 0;
+        once = none_pairs;
+        few = omega arith;
+      };
+      few = s.few;
+    }
+registers_step number registers goal sections head_line (Within section) all words s r m g = body_head m
+
+body_more : (words : List (List Word)) (head registers : List Word) (body : List (List Word)) (more : List Word) → words ≡ head ∷ registers ∷ body → words ++ (more ∷ []) ≡ head ∷ registers ∷ (body ++ (more ∷ []))
+body_more words head registers body more e = ap (λ (x : List (List Word)). x ++ (more ∷ [])) e
+
+new_name : (labels : List Placed) (name : List ℕ) (place : ℕ) → AllPairs (λ a b. a ≢ b) (map (λ (label : Placed). label.name) labels) → (Contains (map (λ (label : Placed). label.name) labels) name → ⊥)
+    → AllPairs (λ a b. a ≢ b) (map (λ (label : Placed). label.name) (labels ++ (record { name = name; place = place } ∷ [])))
+new_name labels name place once new =
+    let names = map (λ (label : Placed). label.name) labels in
+    subst (AllPairs (λ (a b : List ℕ). a ≢ b)) (sym (map-append (λ (label : Placed). label.name) labels (record { name = name; place = place } ∷ [])))
+    (all_pairs_push (λ (a b : List ℕ). a ≢ b) names name once (λ k d low e. new (k, low, get_or_default names k name d low ∙ e)))
+
+-- one line more within a section, which then has these labels and drafts
+body_step : (sections : List Section) (head_line : ℕ) (section : Section) (labels : List Placed) (drafts : List Drafted) (all : List (List Word)) (words : List Word)
+    → IsSpelled (progress sections head_line (Within section)) all → ((body : List (List Word)) → AreDrafts 0 section.labels section.drafts body → AreDrafts 0 labels drafts (body ++ (words ∷ [])))
+    → AllPairs (λ a b. a ≢ b) (map (λ (label : Placed). label.name) labels) → length drafts ≤ 4096
+    → IsSpelled (progress sections head_line (Within (record section { labels = labels; drafts = drafts }))) (all ++ (words ∷ []))
+body_step sections head_line section labels drafts all words s more once few =
+    let x = s.place_is in
+    record {
+      done = s.done;
+      current = s.current ++ (words ∷ []);
+      parts = word_more all s.done s.current words s.parts;
+      sections_are = s.sections_are;
+      place_is = record {
+        head = x.head;
+        registers = x.registers;
+        body = x.body ++ (words ∷ []);
+        parts = body_more s.current x.head x.registers x.body words x.parts;
+        head_is = x.head_is;
+        params_fit = x.params_fit;
+        registers_are = x.registers_are;
+        registers_fit = x.registers_fit;
+        drafts_are = more x.body x.drafts_are;
+        once = once;
+        few = few;
+      };
+      few = s.few;
+    }
+
+label_step : (number : ℕ) (name : List ℕ) (goal : Option (List ℕ)) (sections : List Section) (head_line : ℕ) (place : Place) (all : List (List Word)) (words : List Word)
+    → IsSpelled (progress sections head_line place) all → IsRead (record { statement = Label name; goal = goal }) words → MayStand (Label name) (situation_of (progress sections head_line place)) → goal ≡ None
+    → IsSpelled (step number (Label name) goal (progress sections head_line place)) (all ++ (words ∷ []))
+label_step number name goal sections head_line AtStart all words s r m g = start_body m.0
+label_step number name goal sections head_line (BehindHead kind params) all words s r m g = head_body m.0
+label_step number name goal sections head_line (Within section) all words s r m g =
+    let here : 0 + length section.drafts ≡ length section.drafts = omega arith in
+    body_step sections head_line section (section.labels ++ (record { name = name; place = length section.drafts } ∷ [])) section.drafts all words s
+    (λ body d.
+    subst (λ (k : ℕ). AreDrafts 0 (section.labels ++ (record { name = name; place = k } ∷ [])) section.drafts (body ++ (words ∷ []))) here
+    (label_more 0 section.labels section.drafts body name words d (plain (Label name) goal words g r) (read_limits (Label name) goal words r)))
+    (new_name section.labels name (length section.drafts) s.place_is.once m.1) s.place_is.few
+
+code_step : (number : ℕ) (i : Instr) (goal : Option (List ℕ)) (sections : List Section) (head_line : ℕ) (place : Place) (all : List (List Word)) (words : List Word)
+    → IsSpelled (progress sections head_line place) all → IsRead (record { statement = Code i; goal = goal }) words → MayStand (Code i) (situation_of (progress sections head_line place))
+    → IsSpelled (step number (Code i) goal (progress sections head_line place)) (all ++ (words ∷ []))
+code_step number i goal sections head_line AtStart all words s r m = start_body m.0
+code_step number i goal sections head_line (BehindHead kind params) all words s r m = head_body m.0
+code_step number i goal sections head_line (Within section) all words s r m =
+    let draft : Drafted = record { instr = i; goal = goal; number = number } in
+    body_step sections head_line section section.labels (section.drafts ++ (draft ∷ [])) all words s
+    (λ body d. draft_more 0 section.labels section.drafts body draft words d r) s.place_is.once (omega (arith, m.1, length-append section.drafts (draft ∷ [])))
+
+spelled_step : (number : ℕ) (statement : Statement) (goal : Option (List ℕ)) (p : Progress) (all : List (List Word)) (words : List Word)
+    → IsSpelled p all → IsRead (record { statement = statement; goal = goal }) words → MayStand statement (situation_of p) → IsGoalOf statement goal → IsSpelled (step number statement goal p) (all ++ (words ∷ []))
+spelled_step number (Head kind params) goal p all words s r m g = head_step number kind params goal p.sections p.head_line p.place all words s r m g
+spelled_step number (Registers registers) goal p all words s r m g = registers_step number registers goal p.sections p.head_line p.place all words s r m g
+spelled_step number (Label name) goal p all words s r m g = label_step number name goal p.sections p.head_line p.place all words s r m g
+spelled_step number (Code i) goal p all words s r m g = code_step number i goal p.sections p.head_line p.place all words s r m
+
+pub record AreTold (number : ℕ) (p : Progress) (ls : List (List ℕ)) (reads : List (Option Read)) (all : List (List Word)) : Type 0 where
+  pub words : List (List Word)
+  pub lines_are : HaveWords ls words
+  pub spelled : IsSpelled (progress_from number p reads) (all ++ words)
+
+one_line : (ls : List (List ℕ)) (line : List ℕ) (ws : List Word) (words : List (List Word)) (first : Word) (after : List Word) → ws ≡ first ∷ after → IsLine ws line → HaveWords ls words → HaveWords (line ∷ ls) (ws ∷ words)
+one_line ls line ws words first after e l h =
+    subst (λ (x : List Word). HaveWords (line ∷ ls) (x ∷ words)) (sym e) (HaveWords.one_more line ls first after words (subst (λ (x : List Word). IsLine x line) e l) h)
+
+pub told : (number : ℕ) (p : Progress) (ls : List (List ℕ)) (reads : List (Option Read)) (all : List (List Word)) → LinesRead number p ls reads → IsSpelled p all → AreTold number p ls reads all
+told number p [] [] all r s = record { words = []; lines_are = HaveWords.end; spelled = subst (IsSpelled p) (sym (append-nil all)) s }
+told number p [] (read ∷ others) all r s = absurd r
+told number p (line ∷ after) [] all r s = absurd r
+told number p (line ∷ after) (None ∷ others) all r s =
+    let t = told (number + 1) p after others all r.1 s in
+    record { words = t.words; lines_are = HaveWords.blank line after t.words r.0 t.lines_are; spelled = t.spelled }
+told number p (line ∷ after) (Some read ∷ others) all r s =
+    let f = first_of_words AnyShortName read.statement r.0.0.0 (read_says read r.0.0.0 r.0.0.2).0 in
+    let t = told (number + 1) (line_step number (Some read) p) after others (all ++ (r.0.0.0 ∷ [])) r.1 (spelled_step number read.statement read.goal p all r.0.0.0 s r.0.0.2 r.0.1 r.0.2) in
+    record {
+      words = r.0.0.0 ∷ t.words;
+      lines_are = one_line after line r.0.0.0 t.words (Bare f.word) f.others f.parts r.0.0.1 t.lines_are;
+      spelled = subst (IsSpelled (progress_from (number + 1) (line_step number (Some read) p) others)) (append_assoc all (r.0.0.0 ∷ []) t.words) t.spelled;
+    }
+
+-- ---- the whole program
+
+pub record AreEnded (sections : List Section) (words : List (List Word)) : Type 0 where
+  pub sections_are : AreSections sections words
+  pub some : 1 ≤ length sections
+  pub few : length sections ≤ 64
+
+ended_at : (sections : List Section) (head_line : ℕ) (place : Place) (words : List (List Word)) → IsSpelled (progress sections head_line place) words → IsWhole (situation_of (progress sections head_line place)) → AreEnded (ended sections place) words
+ended_at sections head_line AtStart words s w = start_body w.0
+ended_at sections head_line (BehindHead kind params) words s w = head_body w.0
+ended_at sections head_line (Within section) words s w = record {
+  sections_are = subst (AreSections (sections ++ (section ∷ []))) (sym s.parts) (section_more sections s.done section s.current s.sections_are s.place_is w.1);
+  some = omega (arith, length-append sections (section ∷ []));
+  few = omega (arith, s.few, length-append sections (section ∷ []));
+}
+
+outset_spelled : IsSpelled outset []
+outset_spelled = record { done = []; current = []; parts = refl; sections_are = no_sections; place_is = refl; few = omega arith }
+
+pub record AreSpelled (text : List ℕ) (sections : List Section) : Type 0 where
+  pub words : List (List Word)
+  pub lines_are : HaveWords (lines text) words
+  pub ended : AreEnded sections words
+
+pub sections_spelled : (text : List ℕ) (all : List Section) → HasSections text all → AreSpelled text all
+sections_spelled text all h =
+    let t = told 1 outset (lines text) h.read.reads [] h.read.are_read outset_spelled in
+    let s = subst (λ (p : Progress). IsSpelled p t.words) (sym h.read.progress) t.spelled in
+    record {
+      words = t.words;
+      lines_are = t.lines_are;
+      ended = subst (λ (x : List Section). AreEnded x t.words) (sym h.sections_are) (ended_at h.p.sections h.p.head_line h.p.place t.words s h.whole);
+    }
+
+pub is_program : (text : List ℕ) (all : List Section) (procedures : List Procedure) → HasSections text all → AreLinkedProcedures all procedures → IsProgram procedures
+is_program text all procedures h l =
+    let s = sections_spelled text all h in
+    let m = linked_procedures all s.words procedures s.ended.sections_are l in
+    ((omega (arith, m.1, s.ended.some), omega (arith, m.1, s.ended.few)), m.0)
+
+pub spells_program : (text : List ℕ) (all : List Section) (procedures : List Procedure) → HasSections text all → AreLinkedProcedures all procedures → SpellsProgram procedures text
+spells_program text all procedures h l =
+    let s = sections_spelled text all h in
+    record {
+      words = s.words;
+      lines_are = s.lines_are;
+      procedures_are = linked_sections all s.words procedures s.ended.sections_are l;
+      is_program = is_program text all procedures h l;
+    }
+
+sections_within : (sections : List Section) (words : List (List Word)) → AreSections sections words → AllByRecursion HasLabelsWithin sections
+sections_within _ _ no_sections = tt
+sections_within _ _ (a_section x others first after a n more) =
+    (higher (0 + length x.drafts) 4096 x.labels (omega (arith, a.few)) (labels_within 0 x.labels x.drafts a.body a.drafts_are), sections_within others after more)
+
+pub labels_fit : (text : List ℕ) (all : List Section) → HasSections text all → AllByRecursion HasLabelsWithin all
+labels_fit text all h = let s = sections_spelled text all h in sections_within all s.words s.ended.sections_are

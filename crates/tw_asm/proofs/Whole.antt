@@ -1,0 +1,79 @@
+-- Whole lines: what is read answers which words spell which statements.
+use Rattle.std.proofs.Common.{◌≡◌, ◌≢◌, Bool, true, false, cond, ℕ, List, [], ◌∷◌, ◌++◌, map, codes, Option, Some, None, Result, Ok, Err, refl, sym, ap, subst, ◌∙◌}
+use Rattle.std.specs.List.{AllByRecursion, flat_map}
+use Rattle.std.specs.Str.{bytes_eq}
+use Rattle.std.proofs.lemmas.Slice.Eq.{bytes_eq-Decides}
+use Rattle.std.proofs.lemmas.Str.{IsUtf8-string_bytes}
+use Rattle.tw_words.specs.Seen as lines
+use Rattle.tw_words.specs.Words.{Word, Bare, Quoted}
+use Rattle.tw_words.specs.declared.word.Word as words
+use Rattle.tw_words.specs.declared.word.Word.TheVariants as word
+use Rattle.tw_asm.proofs.Answered.{Judged, code_answered, first_is}
+use Rattle.tw_asm.proofs.HeadWords.{head_answered}
+use Rattle.tw_asm.proofs.Lined.{parts_of}
+use Rattle.tw_asm.proofs.OperandWords.{IsFine}
+use Rattle.tw_asm.proofs.Sayings.{label_answered, nonempty, registers_answered}
+use Rattle.tw_asm.proofs.Table.{made, parts_are}
+use Rattle.tw_asm.specs.Parts.{Part, Name, instr_parts, kind_word, param_parts, register_part}
+use Rattle.tw_asm.specs.Seen.{Read, seen}
+use Rattle.tw_asm.specs.LineAnswers.{Answers}
+use Rattle.tw_asm.specs.Statement.{AnyName, Code, Goals, Head, Label, Registers, SpellParts, Statement, statement_parts}
+use Rattle.tw_asm.specs.declared.opcode.Opcode.{Opcode}
+use Rattle.tw_asm.specs.declared.refusal.Flaw.{Flaw}
+use Rattle.tw_asm.specs.declared.refusal.Refusal.{Refusal}
+use Rattle.tw_asm.specs.declared.refusal.Refusal.TheVariants as refusal
+use Rattle.tw_asm.specs.declared.statement.Statement as statements
+use Rattle.tw_asm.specs.Names.{opcode_of, word_of}
+use Rattle.tw_asm.specs.reading.Lines.{Gives, LineContent, body_in, head_in, instr_of, line_of, registers_in, statement_in}
+
+-- each statement begins with a word that stands as it is
+begins : (statement : Statement) → (name : List ℕ) × (rest : List Part) × (statement_parts statement ≡ Name name ∷ rest)
+begins (Head kind params) = (codes "proc", Name (kind_word kind) ∷ flat_map param_parts params, refl)
+begins (Registers rs) = (codes "regs", map register_part rs, refl)
+begins (Label name) = (name ++ codes ":", [], refl)
+begins (Code i) = by (made i)
+  where
+    by : (p : Opcode) × (x : LineContent (line_of p)) × (i ≡ instr_of p x) → (name : List ℕ) × (rest : List Part) × (instr_parts i ≡ Name name ∷ rest)
+    by (p, x, e) = (word_of p, parts_of (line_of p) x, ap instr_parts e ∙ parts_are p x)
+
+bare_first : (G : Goals) (text : List ℕ) (ws : List Word) (statement : Statement) → SpellParts G (statement_parts statement) (Quoted text ∷ ws) → ⊥
+bare_first G text ws statement h =
+    let b = begins statement in
+    apart b.0 (first_is G b.0 b.1 (Quoted text) ws (subst (λ (ps : List Part). SpellParts G ps (Quoted text ∷ ws)) b.2 h)).0
+  where
+    apart : (name : List ℕ) → Quoted text ≡ Bare name → ⊥
+    apart name e = cc
+
+some_word : (G : Goals) (statement : Statement) → SpellParts G (statement_parts statement) [] → ⊥
+some_word G statement h = let b = begins statement in nonempty G b.0 b.1 (subst (λ (ps : List Part). SpellParts G ps []) b.2 h)
+
+other_word : (a b : List ℕ) → bytes_eq a b ≡ false → a ≢ b
+other_word a b isnt e = no (sym isnt ∙ (bytes_eq-Decides a b).1 e)
+  where
+    no : false ≡ true → ⊥
+    no e = cc
+
+judged : (ws : List Word) → AllByRecursion IsFine ws → Judged (statement_in ws) ws
+unfolding statement_in
+judged [] fine = λ form. some_word AnyName form.0 form.1.parts
+judged (Quoted text ∷ ws) fine = λ form. bare_first AnyName text ws form.0 form.1.parts
+judged (Bare name ∷ ws) fine = by (bytes_eq name (codes "proc")) (bytes_eq name (codes "regs")) refl refl
+  where
+    body : name ≢ codes "proc" → name ≢ codes "regs" → (found : Option Opcode) → opcode_of name ≡ found → Judged (body_in found name ws) (Bare name ∷ ws)
+    body no_proc no_regs None e = label_answered name no_proc no_regs e ws
+    body no_proc no_regs (Some o) e = code_answered o name ws e fine.1
+
+    by : (p r : Bool) → bytes_eq name (codes "proc") ≡ p → bytes_eq name (codes "regs") ≡ r → Judged (cond p (head_in ws) (cond r (registers_in ws) (body_in (opcode_of name) name ws))) (Bare name ∷ ws)
+    by true r is _ = subst (λ (text : List ℕ). Judged (head_in ws) (Bare text ∷ ws)) (sym ((bytes_eq-Decides name (codes "proc")).0 is)) (head_answered ws)
+    by false true _ is = subst (λ (text : List ℕ). Judged (registers_in ws) (Bare text ∷ ws)) (sym ((bytes_eq-Decides name (codes "regs")).0 is)) (registers_answered ws)
+    by false false no_proc no_regs = body (other_word name (codes "proc") no_proc) (other_word name (codes "regs") no_regs) (opcode_of name) refl
+
+pub all_fine : (ws : List words.Word) → AllByRecursion IsFine (map lines.seen ws)
+all_fine [] = tt
+all_fine (word.Bare bytes ∷ ws) = (tt, all_fine ws)
+all_fine (word.Quoted text ∷ ws) = (IsUtf8-string_bytes text, all_fine ws)
+
+pub answered : (r : Result statements.Statement Refusal) (ws : List Word) → AllByRecursion IsFine ws → Gives seen r (statement_in ws) → Answers r ws
+answered (Ok statement) ws fine gives = subst (λ (read : Result Read Flaw). Judged read ws) gives (judged ws fine)
+answered (Err refusal.OutOfMemory) ws fine gives = tt
+answered (Err (refusal.Flawed flaw)) ws fine gives = subst (λ (read : Result Read Flaw). Judged read ws) gives (judged ws fine)

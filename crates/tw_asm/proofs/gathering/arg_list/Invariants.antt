@@ -1,0 +1,8 @@
+use Rattle.std.proofs.Common.{◌≡◌, drop, map}
+use Rattle.tw_words.specs.Seen.{seen}
+use Rattle.tw_asm.specs.reading.Lines.{each, each_from}
+use Rattle.tw_asm.specs.reading.Operands.{as_is, natural_in}
+use Rattle.tw_asm.proofs.gathering.arg_list.Given as goal
+
+abbrev pub invariant-loop-word : goal.invariant-loop-word
+invariant-loop-word l = each_from (natural_in 0 15) (as_is (λ v. v.items) l.args) (map seen (drop l.word-index l.words)) ≡ each (natural_in 0 15) (map seen l.words)

@@ -1,0 +1,8 @@
+use Rattle.std.proofs.Common.{◌≡◌, drop, map}
+use Rattle.tw_words.specs.Seen.{seen}
+use Rattle.tw_asm.specs.reading.Lines.{each, each_from}
+use Rattle.tw_asm.specs.reading.Operands.{as_is, scalar_in}
+use Rattle.tw_asm.proofs.gathering.scalar_list.Given as goal
+
+abbrev pub invariant-loop-word : goal.invariant-loop-word
+invariant-loop-word l = each_from scalar_in (as_is (λ v. v.items) l.scalars) (map seen (drop l.word-index l.words)) ≡ each scalar_in (map seen l.words)

@@ -1,0 +1,7 @@
+use Rattle.std.proofs.Common.{map}
+use Rattle.tw_words.specs.Seen.{seen}
+use Rattle.tw_asm.proofs.Whole.{all_fine, answered}
+use Rattle.tw_asm.proofs.read.statement_of.Goals as goal
+
+pub returns : goal.returns
+returns c = answered c.read_of.result (map seen c.args.words.now) (all_fine c.args.words.now) c.read_of.ensures

@@ -1,0 +1,47 @@
+-- The names of instructions, by the code's opcodes. That they are those of Parts is shown by whoever reads them (tw_parser).
+use Rattle.std.specs.Prelude.{ℕ, List, [], ◌∷◌, codes, Option}
+use Rattle.std.specs.List.{find}
+use Rattle.std.specs.Str.{bytes_eq}
+use Rattle.tw_code.specs.declared.instr.Arithmetic.TheVariants.{Add, Subtract, Multiply, Divide, Remainder}
+use Rattle.tw_asm.specs.declared.opcode.Opcode.{Opcode}
+use Rattle.tw_asm.specs.declared.opcode.Opcode.TheVariants as op
+use Rattle.tw_asm.specs.Parts.{operation_word}
+
+abbrev pub word_of : Opcode → List ℕ
+word_of op.Int = codes "INT"
+word_of op.Text = codes "TEXT"
+word_of op.Copy = codes "COPY"
+word_of (op.Compute operation) = operation_word operation
+word_of op.Concatenate = codes "CAT"
+word_of op.Length = codes "LEN"
+word_of op.Show = codes "SHOW"
+word_of op.ReadInt = codes "READI"
+word_of op.Jump = codes "JMP"
+word_of op.JumpEqual = codes "JEQ"
+word_of op.JumpLess = codes "JLT"
+word_of op.Repeat = codes "REPEAT"
+word_of op.End = codes "END"
+word_of op.New = codes "NEW"
+word_of op.Store = codes "STORE"
+word_of op.Get = codes "GET"
+word_of op.Insert = codes "INS"
+word_of op.Look = codes "LOOK"
+word_of op.Size = codes "SIZE"
+word_of op.SubscriptAt = codes "SUBAT"
+word_of op.CopyRead = codes "DUPR"
+word_of op.CopyWrite = codes "DUPW"
+word_of op.DropRead = codes "DROPR"
+word_of op.DropWrite = codes "DROPW"
+word_of op.Rule = codes "RULE"
+word_of op.Put = codes "PUT"
+word_of op.Ret = codes "RET"
+
+-- each of them
+abbrev pub opcodes : List Opcode
+opcodes =
+    op.Int ∷ op.Text ∷ op.Copy ∷ op.Compute Add ∷ op.Compute Subtract ∷ op.Compute Multiply ∷ op.Compute Divide ∷ op.Compute Remainder ∷ op.Concatenate ∷ op.Length ∷ op.Show ∷ op.ReadInt ∷
+    op.Jump ∷ op.JumpEqual ∷ op.JumpLess ∷ op.Repeat ∷ op.End ∷ op.New ∷ op.Store ∷ op.Get ∷ op.Insert ∷ op.Look ∷ op.Size ∷ op.SubscriptAt ∷
+    op.CopyRead ∷ op.CopyWrite ∷ op.DropRead ∷ op.DropWrite ∷ op.Rule ∷ op.Put ∷ op.Ret ∷ []
+
+unfoldable pub opcode_of : List ℕ → Option Opcode
+opcode_of name = find (λ opcode. bytes_eq (word_of opcode) name) opcodes

@@ -1,0 +1,80 @@
+-- How contracts see what the code keeps of a statement, and of one whose label isn't known yet.
+use Rattle.std.specs.Borrow.{Bor}
+use Rattle.std.specs.Prelude.{◌≡◌, ℕ, List, Option, Some, None}
+use Rattle.tw_code.specs.declared.instr.DataInstr.{DataInstr}
+use Rattle.tw_code.specs.declared.instr.DataInstr.TheVariants as on_data
+use Rattle.tw_code.specs.declared.instr.Instr.{Instr}
+use Rattle.tw_code.specs.declared.instr.Instr.TheVariants as instr
+use Rattle.tw_code.specs.declared.instr.LocalInstr.{LocalInstr}
+use Rattle.tw_code.specs.declared.instr.LocalInstr.TheVariants as local
+use Rattle.tw_words.specs.Words.{Word}
+use Rattle.tw_asm.specs.declared.statement.Statement as statements
+use Rattle.tw_asm.specs.declared.statement.Statement.TheVariants as statement
+use Rattle.tw_asm.specs.Statement.{Statement, Head, Registers, Label, Code, Goals, Spells, IsInLimits, IsShortName, NamesLabel}
+
+-- a statement, and the label that it names where it is an instruction
+pub record Read : Type 0 where
+  pub statement : Statement
+  pub goal : Option (List ℕ)
+
+abbrev pub bytes_of : Option (Bor (List ℕ)) → Option (List ℕ)
+bytes_of None = None
+bytes_of (Some name) = Some name.now
+
+abbrev pub seen : statements.Statement → Read
+seen (statement.Head kind params) = record { statement = Head kind params; goal = None }
+seen (statement.Registers registers) = record { statement = Registers registers; goal = None }
+seen (statement.Label name) = record { statement = Label name.now; goal = None }
+seen (statement.Code draft) = record { statement = Code draft.instr; goal = bytes_of draft.goal }
+
+-- this name alone, whose skip is 0 as long as it isn't known
+abbrev pub OnlyName : List ℕ → Goals
+OnlyName name skip word = (skip ≡ 0) × (word ≡ name)
+
+abbrev pub NoName : Goals
+NoName skip word = ⊥
+
+-- These words are this statement, within the limits; where a label is named, they are no statement without a label.
+abbrev pub IsRead : Read → List Word → Type 0
+IsRead read words = IsInLimits read.statement × spelled read.goal
+  where
+    spelled : Option (List ℕ) → Type 0
+    spelled None = Spells NoName read.statement words
+    spelled (Some name) = IsShortName name × Spells (OnlyName name) read.statement words × NamesLabel name words
+
+-- ---- an instruction with another skip, where it has one
+
+abbrev pub local_with_skip : ℕ → LocalInstr → LocalInstr
+local_with_skip skip (local.Int to value) = local.Int to value
+local_with_skip skip (local.Text to text) = local.Text to text
+local_with_skip skip (local.Copy to from) = local.Copy to from
+local_with_skip skip (local.Compute operation to left right old) = local.Compute operation to left right skip
+local_with_skip skip (local.Concatenate to left right old) = local.Concatenate to left right skip
+local_with_skip skip (local.Length to from) = local.Length to from
+local_with_skip skip (local.Show to from) = local.Show to from
+local_with_skip skip (local.ReadInt to from old) = local.ReadInt to from skip
+local_with_skip skip (local.Jump old) = local.Jump skip
+local_with_skip skip (local.JumpEqual left right old) = local.JumpEqual left right skip
+local_with_skip skip (local.JumpLess left right old) = local.JumpLess left right skip
+local_with_skip skip (local.Repeat turns) = local.Repeat turns
+local_with_skip skip local.End = local.End
+
+abbrev pub data_with_skip : ℕ → DataInstr → DataInstr
+data_with_skip skip (on_data.New write read ty) = on_data.New write read ty
+data_with_skip skip (on_data.Store datum from) = on_data.Store datum from
+data_with_skip skip (on_data.Get to datum) = on_data.Get to datum
+data_with_skip skip (on_data.Insert container subscript member old) = on_data.Insert container subscript member skip
+data_with_skip skip (on_data.Look member container subscript old) = on_data.Look member container subscript skip
+data_with_skip skip (on_data.Size to container) = on_data.Size to container
+data_with_skip skip (on_data.SubscriptAt to container index old) = on_data.SubscriptAt to container index skip
+data_with_skip skip (on_data.CopyRead to from) = on_data.CopyRead to from
+data_with_skip skip (on_data.CopyWrite to from) = on_data.CopyWrite to from
+data_with_skip skip (on_data.DropRead right) = on_data.DropRead right
+data_with_skip skip (on_data.DropWrite right) = on_data.DropWrite right
+
+abbrev pub with_skip : ℕ → Instr → Instr
+with_skip skip (instr.Local i) = instr.Local (local_with_skip skip i)
+with_skip skip (instr.Data i) = instr.Data (data_with_skip skip i)
+with_skip skip (instr.Rule action) = instr.Rule action
+with_skip skip (instr.Put action) = instr.Put action
+with_skip skip instr.Ret = instr.Ret

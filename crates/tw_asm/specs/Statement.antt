@@ -1,0 +1,143 @@
+-- Statements of assembly text, and the words that spell them.
+use Rattle.std.specs.Prelude.{◌≡◌, ◌⊎◌, ◌≤◌, ℕ, Bool, true, List, [], ◌∷◌, ◌++◌, length, codes, replicate, Some, None}
+use Rattle.std.specs.Int.{IsInRange}
+use Rattle.std.specs.List.{AllByRecursion}
+use Rattle.tw_types.specs.DataType.{is_scalar}
+use Rattle.tw_types.specs.declared.actor.Kind.{Kind}
+use Rattle.tw_types.specs.declared.data_type.Scalar.{Scalar}
+use Rattle.tw_types.specs.declared.param.Mode.{Mode}
+use Rattle.tw_types.specs.declared.param.Mode.TheVariants.{Val, Closed, Ref, Write}
+use Rattle.tw_types.specs.declared.param.Param.{Param}
+use Rattle.tw_code.specs.declared.instr.Instr.{Instr}
+use Rattle.tw_code.specs.format.Program.{IsInstr, IsList, IsParam, IsWithin}
+use Rattle.tw_words.specs.Number.{SpellsDigits, SpellsNumber}
+use Rattle.tw_words.specs.Words.{Word, Bare, Quoted}
+use Rattle.tw_asm.specs.declared.statement.First.{First}
+use Rattle.tw_asm.specs.declared.statement.First.TheVariants as first
+use Rattle.tw_asm.specs.Parts.{Part, Name, Value, Right, Number, Natural, Literal, TypeOf, Skip, Target, head_parts, instr_parts, label_parts, registers_parts, scalar_word}
+
+-- what a line says
+pub data Statement : Type 0 where
+  -- a procedure begins, of this kind and with these parameters
+  Head : Kind → List Param → Statement
+  -- the types of its value registers
+  Registers : List Scalar → Statement
+  -- a label with this name
+  Label : List ℕ → Statement
+  Code : Instr → Statement
+
+abbrev pub statement_parts : Statement → List Part
+statement_parts (Head kind params) = head_parts kind params
+statement_parts (Registers registers) = registers_parts registers
+statement_parts (Label name) = label_parts name
+statement_parts (Code i) = instr_parts i
+
+-- ---- names of labels
+
+abbrev pub IsLetter : ℕ → Type 0
+IsLetter b = IsInRange 65 90 b ⊎ IsInRange 97 122 b
+
+-- a letter, a digit or `_`
+abbrev pub IsInName : ℕ → Type 0
+IsInName b = IsLetter b ⊎ (IsInRange 48 57 b ⊎ (b ≡ 95))
+
+-- an ASCII letter, and then ASCII letters, digits or `_`
+abbrev pub IsName : List ℕ → Type 0
+IsName [] = ⊥
+IsName (b ∷ others) = IsLetter b × AllByRecursion IsInName others
+
+-- at most 64 bytes
+abbrev pub IsShortName : List ℕ → Type 0
+IsShortName name = IsName name × (length name ≤ 64)
+
+-- ---- the words of a part
+
+-- the word of a skip may name a label: which names stand for which skips
+abbrev pub Goals : Type 1
+Goals = ℕ → List ℕ → Type 0
+
+-- a letter and the digits of a number
+abbrev pub SpellsWith : List ℕ → ℕ → List Word → Type 0
+SpellsWith front number words = (digits : List ℕ) × SpellsDigits number digits × (words ≡ Bare (front ++ digits) ∷ [])
+
+abbrev pub SpellsPart : Goals → Part → List Word → Type 0
+SpellsPart goals (Name word) words = words ≡ Bare word ∷ []
+SpellsPart goals (Value register) words = SpellsWith (codes "v") register words
+SpellsPart goals (Right register) words = SpellsWith (codes "d") register words
+SpellsPart goals (Number number) words = (word : List ℕ) × SpellsNumber number word × (words ≡ Bare word ∷ [])
+SpellsPart goals (Natural number) words = SpellsWith [] number words
+SpellsPart goals (Literal text) words = words ≡ Quoted text ∷ []
+SpellsPart goals (TypeOf ty) words = words ≡ replicate ty.depth (Bare (codes "cont")) ++ (Bare (scalar_word ty.scalar) ∷ [])
+SpellsPart goals (Skip skip) words = SpellsWith (codes "+") skip words ⊎ ((name : List ℕ) × goals skip name × (words ≡ Bare name ∷ []))
+SpellsPart goals (Target None) words = words ≡ Bare (codes "any") ∷ []
+SpellsPart goals (Target (Some number)) words = SpellsWith [] number words
+
+-- one part after the other
+abbrev pub SpellParts : Goals → List Part → List Word → Type 0
+SpellParts goals [] words = words ≡ []
+SpellParts goals (part ∷ parts) words =
+    (first : List Word) × (others : List Word) × (words ≡ first ++ others) × SpellsPart goals part first × SpellParts goals parts others
+
+-- no container stands under `val`
+abbrev pub IsTypeOfMode : Mode → Bool → Type 0
+IsTypeOfMode Val scalar = scalar ≡ true
+IsTypeOfMode Closed scalar = Unit {0}
+IsTypeOfMode Ref scalar = Unit {0}
+IsTypeOfMode Write scalar = Unit {0}
+
+-- what stands in a statement but for limits
+abbrev pub HasForm : Statement → Type 0
+HasForm (Head kind params) = AllByRecursion (λ param. IsTypeOfMode param.mode (is_scalar param.ty)) params
+HasForm (Registers registers) = Unit {0}
+HasForm (Label name) = IsName name
+HasForm (Code i) = Unit {0}
+
+-- these words spell the statement, whatever its limits
+pub record Spells (goals : Goals) (statement : Statement) (words : List Word) : Type 0 where
+  pub form : HasForm statement
+  pub parts : SpellParts goals (statement_parts statement) words
+
+-- numbers, counts and texts are within the limits of programs
+abbrev pub IsInLimits : Statement → Type 0
+IsInLimits (Head kind params) = IsList 0 8 IsParam params
+IsInLimits (Registers registers) = IsWithin 0 16 (length registers)
+IsInLimits (Label name) = length name ≤ 64
+IsInLimits (Code i) = IsInstr i
+
+-- ---- where labels aren't known yet
+
+-- any name
+abbrev pub AnyName : Goals
+AnyName skip name = IsName name
+
+-- any name that isn't too long
+abbrev pub AnyShortName : Goals
+AnyShortName skip name = IsShortName name
+
+-- the words of some statement, whatever its limits
+abbrev pub HaveForm : List Word → Type 0
+HaveForm words = (statement : Statement) × Spells AnyName statement words
+
+-- the words of this statement, which is within the limits
+abbrev pub Say : Statement → List Word → Type 0
+Say statement words = Spells AnyShortName statement words × IsInLimits statement
+
+-- the instruction names this label as its goal, and no number of instructions
+pub record NamesLabel (name : List ℕ) (words : List Word) : Type 0 where
+  pub i : Instr
+  pub spells : Spells (λ skip word. word ≡ name) (Code i) words
+  pub names : (other : Instr) → Spells (λ skip word. ⊥) (Code other) words → ⊥
+
+-- ---- what a first word promises
+
+abbrev pub IsLabelWord : List ℕ → Type 0
+IsLabelWord word = (name : List ℕ) × IsName name × (word ≡ name ++ codes ":")
+
+-- the name of an instruction
+abbrev pub IsInstrWord : List ℕ → Type 0
+IsInstrWord word = (i : Instr) × (operands : List Part) × (instr_parts i ≡ Name word ∷ operands)
+
+abbrev pub IsPromised : First → List ℕ → Type 0
+IsPromised first.Head word = word ≡ codes "proc"
+IsPromised first.Registers word = word ≡ codes "regs"
+IsPromised first.Body word = IsLabelWord word ⊎ IsInstrWord word

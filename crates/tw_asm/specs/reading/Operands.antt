@@ -1,0 +1,141 @@
+-- What one word says, or what is wrong with it.
+use Rattle.std.specs.Prelude.{ℕ, ℤ, pos, neg_ℤ, Bool, true, false, ◌&&◌, ◌||◌, List, [], ◌∷◌, length, codes, Option, Some, None, Result, Ok, Err, nat_lt, ◌==◌, if◌then◌else◌}
+use Rattle.std.specs.Char.{digit_value}
+use Rattle.std.specs.Str.{bytes_eq}
+use Rattle.std.specs.Str.Parse.{digits_value}
+use Rattle.tw_words.specs.Words.{Word, Bare, Quoted}
+use Rattle.tw_asm.specs.Parts.{mode_word, scalar_word}
+use Rattle.tw_asm.specs.declared.refusal.Flaw.{Flaw}
+use Rattle.tw_asm.specs.declared.refusal.Flaw.TheVariants.{Form, Limit}
+use Rattle.tw_words.specs.declared.numbers.Flaw as words
+use Rattle.tw_words.specs.declared.numbers.Flaw.TheVariants as word
+use Rattle.tw_types.specs.declared.data_type.Scalar.{Scalar}
+use Rattle.tw_types.specs.declared.data_type.Scalar.TheVariants as scalar
+use Rattle.tw_types.specs.declared.param.Mode.{Mode}
+use Rattle.tw_types.specs.declared.param.Mode.TheVariants.{Val, Closed, Ref, Write}
+
+-- two after one another: a wrong form goes before a limit
+abbrev pub both : {A B : Type 0} → Result A Flaw → Result B Flaw → Result (A × B) Flaw
+both r (Err Form) = Err Form
+both (Ok a) (Ok b) = Ok (a, b)
+both (Err e) (Ok b) = Err e
+both (Ok a) (Err Limit) = Err Limit
+both (Err e) (Err Limit) = Err e
+
+abbrev pub as_is : {A B : Type 0} → (A → B) → Result A Flaw → Result B Flaw
+as_is make (Ok a) = Ok (make a)
+as_is make (Err e) = Err e
+
+abbrev pub or_form : {A : Type 0} → Option A → Result A Flaw
+or_form (Some a) = Ok a
+or_form None = Err Form
+
+-- what a number's reader of texts in general answers
+abbrev pub own : {A : Type 0} → Result A words.Flaw → Result A Flaw
+own (Ok a) = Ok a
+own (Err word.Form) = Err Form
+own (Err word.Limit) = Err Limit
+
+-- ---- numbers
+
+abbrev pub all_digits : List ℕ → Bool
+all_digits [] = true
+all_digits (d ∷ ds) = nat_lt (digit_value d) 10 && all_digits ds
+
+abbrev pub are_digits : List ℕ → Bool
+are_digits [] = false
+are_digits (d ∷ ds) = all_digits (d ∷ ds)
+
+abbrev pub is_within : ℕ → ℕ → ℕ → Bool
+is_within low high n = if nat_lt n low then false else if nat_lt high n then false else true
+
+-- the number between these limits
+unfoldable pub digits_in : ℕ → ℕ → List ℕ → Result ℕ Flaw
+digits_in low high text = if are_digits text then (if is_within low high (digits_value 10 text) then Ok (digits_value 10 text) else Err Limit) else Err Form
+
+abbrev pub negative : ℕ → ℤ
+negative n = neg_ℤ (pos n)
+
+-- the number of 64 bits
+unfoldable pub signed_in : List ℕ → Result ℤ Flaw
+signed_in [] = Err Form
+signed_in (b ∷ rest) = if b == 45 then as_is negative (digits_in 0 0x8000000000000000 rest) else as_is pos (digits_in 0 0x7FFFFFFFFFFFFFFF (b ∷ rest))
+
+-- ---- one word
+
+abbrev pub natural_in : ℕ → ℕ → Word → Result ℕ Flaw
+natural_in low high (Bare text) = digits_in low high text
+natural_in low high (Quoted text) = Err Form
+
+-- a register, behind its letter
+abbrev pub register_in : ℕ → Word → Result ℕ Flaw
+register_in letter (Bare []) = Err Form
+register_in letter (Bare (b ∷ rest)) = if b == letter then digits_in 0 15 rest else Err Form
+register_in letter (Quoted text) = Err Form
+
+abbrev pub number_in : Word → Result ℤ Flaw
+number_in (Bare text) = signed_in text
+number_in (Quoted text) = Err Form
+
+abbrev pub literal_in : Word → Result (List ℕ) Flaw
+literal_in (Bare text) = Err Form
+literal_in (Quoted text) = if nat_lt 4096 (length text) then Err Limit else Ok text
+
+abbrev pub target_in : Word → Result (Option ℕ) Flaw
+target_in (Bare text) = if bytes_eq text (codes "any") then Ok None else as_is (λ n. Some n) (digits_in 0 15 text)
+target_in (Quoted text) = Err Form
+
+-- ---- names of labels
+
+abbrev pub is_letter : ℕ → Bool
+is_letter b = is_within 65 90 b || is_within 97 122 b
+
+abbrev pub is_in_name : ℕ → Bool
+is_in_name b = is_letter b || (is_within 48 57 b || (b == 95))
+
+abbrev pub all_in_name : List ℕ → Bool
+all_in_name [] = true
+all_in_name (b ∷ others) = is_in_name b && all_in_name others
+
+abbrev pub is_name : List ℕ → Bool
+is_name [] = false
+is_name (b ∷ others) = is_letter b && all_in_name others
+
+unfoldable pub name_in : List ℕ → Result (List ℕ) Flaw
+name_in text = if is_name text then (if nat_lt 64 (length text) then Err Limit else Ok text) else Err Form
+
+-- where an instruction goes on: so many further, or at a label, and the number is 0 then
+pub record Goal : Type 0 where
+  pub skip : ℕ
+  pub label : Option (List ℕ)
+
+abbrev pub further : ℕ → Goal
+further skip = record { skip = skip; label = None }
+
+abbrev pub at_label : List ℕ → Goal
+at_label name = record { skip = 0; label = Some name }
+
+abbrev pub goal_in : Word → Result Goal Flaw
+goal_in (Bare []) = Err Form
+goal_in (Bare (b ∷ rest)) = if b == 43 then as_is further (digits_in 0 65535 rest) else as_is at_label (name_in (b ∷ rest))
+goal_in (Quoted text) = Err Form
+
+-- ---- words of types
+
+abbrev pub scalar_in : Word → Result Scalar Flaw
+scalar_in (Bare text) = if bytes_eq text (scalar_word scalar.Int) then Ok scalar.Int else if bytes_eq text (scalar_word scalar.Text) then Ok scalar.Text else Err Form
+scalar_in (Quoted text) = Err Form
+
+-- a word of a type: `cont`, or what stands inside all containers
+abbrev pub piece_in : Word → Result (Option Scalar) Flaw
+piece_in (Bare text) = if bytes_eq text (codes "cont") then Ok None else as_is (λ s. Some s) (scalar_in (Bare text))
+piece_in (Quoted text) = Err Form
+
+abbrev pub mode_in : Word → Result Mode Flaw
+mode_in (Bare text) =
+    if bytes_eq text (mode_word Val) then Ok Val else
+    if bytes_eq text (mode_word Closed) then Ok Closed else
+    if bytes_eq text (mode_word Ref) then Ok Ref else
+    if bytes_eq text (mode_word Write) then Ok Write else
+    Err Form
+mode_in (Quoted text) = Err Form

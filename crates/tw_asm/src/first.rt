@@ -1,0 +1,41 @@
+//! What the first word of a line promises.
+
+ghost use Rattle.std.specs.Prelude.{◌⊎◌, ◌↔◌, MatchOption, IsTrue};
+ghost use Rattle.tw_asm.specs.declared.statement.First.{First};
+ghost use Rattle.tw_asm.specs.Statement.{IsInstrWord, IsLabelWord, IsPromised};
+
+use crate::label_names::{before, is_name};
+use crate::opcode::opcode_named;
+use crate::statement::First;
+
+#[tactic(auto, using(crate::proofs::Firsts::no_label))]
+fn is_label(word: &[u8]) -> bool
+    ensures { IsTrue result ↔ IsLabelWord word.now }
+{
+    match before(word, b":") {
+        Some(name) => is_name(name),
+        None => false,
+    }
+}
+
+#[tactic(auto, using(crate::proofs::Firsts::named_word))]
+fn is_instr_name(word: &[u8]) -> bool
+    ensures { IsTrue result ↔ IsInstrWord word.now }
+{
+    opcode_named(word).is_some()
+}
+
+/// What a first word promises, if anything.
+pub fn first_of(word: &[u8]) -> Option<First>
+    ensures { MatchOption result ((first : First) → IsPromised first word.now → ⊥) (λ first. IsPromised first word.now) }
+{
+    if word == b"proc".as_slice() {
+        Some(First::Head)
+    } else if word == b"regs".as_slice() {
+        Some(First::Registers)
+    } else if is_label(word) || is_instr_name(word) {
+        Some(First::Body)
+    } else {
+        None
+    }
+}

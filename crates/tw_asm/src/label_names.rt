@@ -1,0 +1,77 @@
+//! Names of labels.
+
+ghost use Rattle.std.specs.Prelude.{◌≡◌, ◌≢◌, ◌++◌, ℕ, List, MatchOption};
+ghost use Rattle.std.specs.Option.{option_map};
+ghost use Rattle.tw_asm.specs.reading.Lines.{before_colon};
+ghost use Rattle.tw_asm.specs.reading.Operands.{as_is, is_within, is_letter, is_in_name, all_in_name, is_name, name_in};
+
+use crate::refusal::Flaw;
+
+fn is_within(low: u8, high: u8, byte: u8) -> bool
+    ensures { result ≡ is_within low high byte }
+{
+    low <= byte && byte <= high
+}
+
+fn is_letter(byte: u8) -> bool
+    ensures { result ≡ is_letter byte }
+{
+    is_within(b'A', b'Z', byte) || is_within(b'a', b'z', byte)
+}
+
+fn is_in_name(byte: u8) -> bool
+    ensures { result ≡ is_in_name byte }
+{
+    is_letter(byte) || is_within(b'0', b'9', byte) || byte == b'_'
+}
+
+fn all_in_name(text: &[u8]) -> bool
+    ensures { result ≡ all_in_name text.now }
+{
+    for byte in text {
+        if !is_in_name(*byte) {
+            return false;
+        }
+    }
+    true
+}
+
+/// Whether it is a letter and then letters, digits or `_`.
+pub fn is_name(text: &[u8]) -> bool
+    ensures { result ≡ is_name text.now }
+{
+    match text {
+        [] => false,
+        [first, others @ ..] => is_letter(*first) && all_in_name(others),
+    }
+}
+
+/// A label's name, of at most 64 bytes.
+#[tactic(auto, unfolding(crate::specs::reading::Operands::name_in))]
+pub fn name_of(text: &[u8]) -> Result<&[u8], Flaw>
+    ensures { as_is (λ name. name.now) result ≡ name_in text.now }
+{
+    if !is_name(text) {
+        Err(Flaw::Form)
+    } else if text.len() > 64 {
+        Err(Flaw::Limit)
+    } else {
+        Ok(text)
+    }
+}
+
+/// What stands before these bytes, where they stand last.
+pub fn before<'a>(bytes: &'a [u8], back: &[u8]) -> Option<&'a [u8]>
+    ensures { MatchOption result
+        ((front : List ℕ) → bytes.entry.now ≢ front ++ back.now)
+        (λ front. bytes.entry.now ≡ front.now ++ back.now) }
+{
+    bytes.strip_suffix(back)
+}
+
+/// What stands before a `:` at the end.
+pub fn before_colon(word: &[u8]) -> Option<&[u8]>
+    ensures { option_map (λ name. name.now) result ≡ before_colon word.now }
+{
+    before(word, b":")
+}

@@ -1,0 +1,285 @@
+//! Operands: what one word says.
+
+ghost use Rattle.std.specs.Prelude.{◌≡◌, ◌≤◌, IfOk};
+ghost use Rattle.tw_words.specs.Words.{Bare};
+ghost use Rattle.tw_words.specs.Seen.{seen as seen_word};
+ghost use Rattle.tw_asm.specs.reading.Operands.{as_is, both, digits_in, signed_in, natural_in, register_in, number_in, literal_in, own, target_in, goal_in, scalar_in, piece_in, mode_in};
+
+use crate::label_names::name_of;
+use crate::refusal::Flaw;
+use std::alloc::{AllocError, Global};
+use std::marker::Model;
+use tw_words::Word;
+use tw_types::{Mode, Scalar, Text};
+
+/// Where an instruction goes on: so many instructions further, or at a label, and `skip` is 0 then.
+#[derive(Drop)]
+pub struct Goal<'a> {
+    pub skip: u16,
+    pub label: Option<&'a [u8]>,
+}
+
+impl<'a> Model for Goal<'a> {
+    ghost use Rattle.tw_asm.specs.Seen.{bytes_of};
+    ghost use Rattle.tw_asm.specs.reading.Operands as reading;
+
+    ghost Value = { reading.Goal };
+
+    ghost view = { λ goal. record { skip = goal.skip; label = bytes_of goal.label } };
+}
+
+/// Two operands; a wrong form goes before a limit.
+pub fn both_of<A: Drop, B: Drop>(
+    first: Result<A, Flaw>,
+    second: Result<B, Flaw>,
+) -> Result<(A, B), Flaw>
+    ensures { result ≡ both first second }
+{
+    match second {
+        Err(Flaw::Form) => Err(Flaw::Form),
+        Ok(second) => match first {
+            Ok(first) => Ok((first, second)),
+            Err(flaw) => Err(flaw),
+        },
+        Err(Flaw::Limit) => match first {
+            Ok(_) => Err(Flaw::Limit),
+            Err(flaw) => Err(flaw),
+        },
+    }
+}
+
+/// What a reader of numbers answers, with this crate's word for what is wrong.
+fn own_of<A: Drop>(read: Result<A, tw_words::Flaw>) -> Result<A, Flaw>
+    ensures { result ≡ own read }
+{
+    match read {
+        Ok(number) => Ok(number),
+        Err(tw_words::Flaw::Form) => Err(Flaw::Form),
+        Err(tw_words::Flaw::Limit) => Err(Flaw::Limit),
+    }
+}
+
+/// The number between these limits that digits spell.
+pub fn digits_of(text: &[u8], low: u64, high: u64) -> Result<u64, Flaw>
+    ensures is { result ≡ digits_in low high text.now }
+    ensures within { IfOk result (λ n. n ≤ high) }
+{
+    own_of(tw_words::digits(text, low, high))
+}
+
+/// The number of 64 bits that a text spells.
+fn signed_of(text: &[u8]) -> Result<i64, Flaw>
+    ensures { result ≡ signed_in text.now }
+{
+    own_of(tw_words::number(text))
+}
+
+fn byte_in(low: u8, high: u8, text: &[u8]) -> Result<u8, Flaw>
+    ensures { result ≡ digits_in low high text.now }
+{
+    match digits_of(text, u64::from(low), u64::from(high)) {
+        Ok(number) => Ok(number as u8),
+        Err(flaw) => Err(flaw),
+    }
+}
+
+/// A number without a sign, of one byte.
+pub fn byte_of(low: u8, high: u8, word: &Word<'_>) -> Result<u8, Flaw>
+    ensures { result ≡ natural_in low high (seen_word word.now) }
+{
+    match word {
+        Word::Bare(text) => byte_in(low, high, text),
+        Word::Quoted(_) => Err(Flaw::Form),
+    }
+}
+
+/// The number of turns of a loop, 1 to 1,000.
+pub fn turns_of(word: &Word<'_>) -> Result<u16, Flaw>
+    ensures { result ≡ natural_in 1 1000 (seen_word word.now) }
+{
+    match word {
+        Word::Bare(text) => match digits_of(text, 1, 1000) {
+            Ok(number) => Ok(number as u16),
+            Err(flaw) => Err(flaw),
+        },
+        Word::Quoted(_) => Err(Flaw::Form),
+    }
+}
+
+/// The number of a register, behind its letter.
+fn number_behind(letter: u8, text: &[u8]) -> Result<u8, Flaw>
+    ensures { result ≡ register_in letter (Bare text.now) }
+{
+    match text {
+        [first, rest @ ..] if *first == letter => byte_in(0, 15, rest),
+        _ => Err(Flaw::Form),
+    }
+}
+
+/// A register, by its letter and its number.
+fn register_of(letter: u8, word: &Word<'_>) -> Result<u8, Flaw>
+    ensures { result ≡ register_in letter (seen_word word.now) }
+{
+    match word {
+        Word::Bare(text) => number_behind(letter, text),
+        Word::Quoted(_) => Err(Flaw::Form),
+    }
+}
+
+/// A value register.
+pub fn value_of(word: &Word<'_>) -> Result<u8, Flaw>
+    ensures { result ≡ register_in 118 (seen_word word.now) }
+{
+    register_of(b'v', word)
+}
+
+/// A right register.
+pub fn right_of(word: &Word<'_>) -> Result<u8, Flaw>
+    ensures { result ≡ register_in 100 (seen_word word.now) }
+{
+    register_of(b'd', word)
+}
+
+/// A number of 64 bits.
+pub fn number_of(word: &Word<'_>) -> Result<i64, Flaw>
+    ensures { result ≡ number_in (seen_word word.now) }
+{
+    match word {
+        Word::Bare(text) => signed_of(text),
+        Word::Quoted(_) => Err(Flaw::Form),
+    }
+}
+
+/// A text of at most 4,096 bytes.
+pub fn literal_of(alloc: Global, word: &Word<'_>) -> Result<Result<Text, Flaw>, AllocError>
+    ensures { IfOk result (λ read. read ≡ literal_in (seen_word word.now)) }
+{
+    match word {
+        Word::Bare(_) => Ok(Err(Flaw::Form)),
+        Word::Quoted(text) => {
+            let text = text.as_str();
+            if text.len() > Text::MAX_LEN {
+                return Ok(Err(Flaw::Limit));
+            }
+            let string = String::from_str(alloc, text)?;
+            Ok(Ok(Text::new(string).ok().unwrap()))
+        }
+    }
+}
+
+/// The number of an actor, or `None` for any.
+pub fn target_of(word: &Word<'_>) -> Result<Option<u8>, Flaw>
+    ensures { result ≡ target_in (seen_word word.now) }
+{
+    match word {
+        Word::Bare(text) => {
+            if *text == b"any".as_slice() {
+                return Ok(None);
+            }
+            match byte_in(0, 15, text) {
+                Ok(number) => Ok(Some(number)),
+                Err(flaw) => Err(flaw),
+            }
+        }
+        Word::Quoted(_) => Err(Flaw::Form),
+    }
+}
+
+fn goal_in(text: &[u8]) -> Result<Goal<'_>, Flaw>
+    ensures { result ≡ goal_in (Bare text.now) }
+{
+    match text {
+        [] => Err(Flaw::Form),
+        [b'+', rest @ ..] => match digits_of(rest, 0, 65535) {
+            Ok(number) => Ok(Goal {
+                skip: number as u16,
+                label: None,
+            }),
+            Err(flaw) => Err(flaw),
+        },
+        _ => match name_of(text) {
+            Ok(name) => Ok(Goal {
+                skip: 0,
+                label: Some(name),
+            }),
+            Err(flaw) => Err(flaw),
+        },
+    }
+}
+
+/// Where an instruction goes on.
+pub fn goal_of<'a>(word: &Word<'a>) -> Result<Goal<'a>, Flaw>
+    ensures { result ≡ goal_in (seen_word word.now) }
+{
+    match word {
+        Word::Bare(text) => goal_in(text),
+        Word::Quoted(_) => Err(Flaw::Form),
+    }
+}
+
+fn scalar_in(text: &[u8]) -> Result<Scalar, Flaw>
+    ensures { result ≡ scalar_in (Bare text.now) }
+{
+    if text == b"int".as_slice() {
+        Ok(Scalar::Int)
+    } else if text == b"text".as_slice() {
+        Ok(Scalar::Text)
+    } else {
+        Err(Flaw::Form)
+    }
+}
+
+/// The type of a value register.
+pub fn scalar_of(word: &Word<'_>) -> Result<Scalar, Flaw>
+    ensures { result ≡ scalar_in (seen_word word.now) }
+{
+    match word {
+        Word::Bare(text) => scalar_in(text),
+        Word::Quoted(_) => Err(Flaw::Form),
+    }
+}
+
+/// A word of a type: what stands inside all containers, or `None` for a container.
+pub fn piece_of(word: &Word<'_>) -> Result<Option<Scalar>, Flaw>
+    ensures { result ≡ piece_in (seen_word word.now) }
+{
+    match word {
+        Word::Bare(text) => {
+            if *text == b"cont".as_slice() {
+                Ok(None)
+            } else {
+                match scalar_in(text) {
+                    Ok(scalar) => Ok(Some(scalar)),
+                    Err(flaw) => Err(flaw),
+                }
+            }
+        }
+        Word::Quoted(_) => Err(Flaw::Form),
+    }
+}
+
+fn mode_in(text: &[u8]) -> Result<Mode, Flaw>
+    ensures { result ≡ mode_in (Bare text.now) }
+{
+    if text == b"val".as_slice() {
+        Ok(Mode::Val)
+    } else if text == b"closed".as_slice() {
+        Ok(Mode::Closed)
+    } else if text == b"ref".as_slice() {
+        Ok(Mode::Ref)
+    } else if text == b"write".as_slice() {
+        Ok(Mode::Write)
+    } else {
+        Err(Flaw::Form)
+    }
+}
+
+/// How a parameter is held.
+pub fn mode_of(word: &Word<'_>) -> Result<Mode, Flaw>
+    ensures { result ≡ mode_in (seen_word word.now) }
+{
+    match word {
+        Word::Bare(text) => mode_in(text),
+        Word::Quoted(_) => Err(Flaw::Form),
+    }
+}

@@ -1,0 +1,103 @@
+//! Statements from words.
+
+ghost use Rattle.std.specs.Prelude.{◌≡◌, ◌∷◌, map};
+ghost use Rattle.tw_words.specs.Seen.{seen as seen_word};
+ghost use Rattle.tw_words.specs.Words.{Bare};
+ghost use Rattle.tw_asm.specs.Seen.{seen};
+ghost use Rattle.tw_asm.specs.LineAnswers.{Answers};
+ghost use Rattle.tw_asm.specs.Names.{opcode_of};
+ghost use Rattle.tw_asm.specs.reading.Lines.{Gives, body_in, head_in, label_line, registers_in, statement_in};
+
+use crate::gathering::scalars_of;
+use crate::heads::{kind_of, params_of};
+use crate::instructions::draft_of;
+use crate::label_names::{before_colon, name_of};
+use crate::operands::both_of;
+use crate::refusal::{Flaw, Refusal};
+use std::alloc::Global;
+use tw_words::Word;
+use crate::opcode::opcode_named;
+use crate::statement::Statement;
+
+/// What stands behind `proc`.
+fn head_of<'a>(alloc: Global, words: &[Word<'_>]) -> Result<Statement<'a>, Refusal>
+    ensures { Gives seen result (head_in (map seen_word words.now)) }
+{
+    match words {
+        [] => Err(Refusal::Flawed(Flaw::Form)),
+        [kind, params @ ..] => {
+            let params = params_of(alloc, params)?;
+            let (kind, params) = both_of(kind_of(kind), params)?;
+            Ok(Statement::Head { kind, params })
+        }
+    }
+}
+
+/// What stands behind `regs`.
+fn registers_of<'a>(alloc: Global, words: &[Word<'_>]) -> Result<Statement<'a>, Refusal>
+    ensures { Gives seen result (registers_in (map seen_word words.now)) }
+{
+    let registers = scalars_of(alloc, words)?;
+    Ok(Statement::Registers(registers?))
+}
+
+/// A label, as one word.
+fn label_of<'a>(word: &'a [u8], others: &[Word<'_>]) -> Result<Statement<'a>, Refusal>
+    ensures { Gives seen result (label_line word.entry.now (map seen_word others.now)) }
+{
+    if !others.is_empty() {
+        return Err(Refusal::Flawed(Flaw::Form));
+    }
+    match before_colon(word) {
+        Some(name) => Ok(Statement::Label(name_of(name)?)),
+        None => Err(Refusal::Flawed(Flaw::Form)),
+    }
+}
+
+/// An instruction, or a label.
+fn body_of<'a>(alloc: Global, word: &'a [u8], others: &[Word<'a>]) -> Result<Statement<'a>, Refusal>
+    ensures { Gives seen result (body_in (opcode_of word.entry.now) word.entry.now (map seen_word others.now)) }
+{
+    match opcode_named(word) {
+        Some(opcode) => Ok(Statement::Code(draft_of(alloc, opcode, others)?)),
+        None => label_of(word, others),
+    }
+}
+
+/// What a first word and the others say.
+#[tactic(auto, unfolding(crate::specs::reading::Lines::statement_in))]
+fn words_read<'a>(
+    alloc: Global,
+    first: &'a [u8],
+    others: &[Word<'a>],
+) -> Result<Statement<'a>, Refusal>
+    ensures { Gives seen result (statement_in (Bare first.entry.now ∷ map seen_word others.now)) }
+{
+    if first == b"proc".as_slice() {
+        head_of(alloc, others)
+    } else if first == b"regs".as_slice() {
+        registers_of(alloc, others)
+    } else {
+        body_of(alloc, first, others)
+    }
+}
+
+#[tactic(auto, unfolding(crate::specs::reading::Lines::statement_in))]
+fn read_of<'a>(alloc: Global, words: &[Word<'a>]) -> Result<Statement<'a>, Refusal>
+    ensures { Gives seen result (statement_in (map seen_word words.now)) }
+{
+    match words {
+        [] => Err(Refusal::Flawed(Flaw::Form)),
+        [first, others @ ..] => match first {
+            Word::Bare(word) => words_read(alloc, word, others),
+            Word::Quoted(_) => Err(Refusal::Flawed(Flaw::Form)),
+        },
+    }
+}
+
+/// The statement that words are, or what is wrong with them: their form before a limit.
+pub fn statement_of<'a>(alloc: Global, words: &[Word<'a>]) -> Result<Statement<'a>, Refusal>
+    ensures { Answers result (map seen_word words.now) }
+{
+    read_of(alloc, words)
+}

@@ -1,0 +1,46 @@
+//! Why words are no statement, and why none is read.
+
+ghost use Rattle.std.specs.Prelude.{◌≡◌};
+ghost use Rattle.tw_asm.specs.declared.refusal.Refusal.TheVariants.{OutOfMemory, Flawed};
+
+use std::alloc::{AllocError, AllocFailed};
+
+/// Why words are no statement.
+#[derive(Clone, Copy, Debug, PartialEq, Eq)]
+pub enum Flaw {
+    /// An operand has another form, or there are too few or too many.
+    Form,
+    /// A number, a count, a nesting of containers, a name or a text is past its limit.
+    Limit,
+}
+
+/// Why no statement is read from words.
+#[derive(Clone, Copy, Debug, PartialEq, Eq)]
+pub enum Refusal {
+    Flawed(Flaw),
+    OutOfMemory,
+}
+
+impl From<AllocError> for Refusal {
+    ghost from_gives = { λ _ refusal. refusal ≡ OutOfMemory };
+
+    fn from(_refused: AllocError) -> Refusal {
+        Refusal::OutOfMemory
+    }
+}
+
+impl<T: Drop> From<AllocFailed<T>> for Refusal {
+    ghost from_gives = { λ _ refusal. refusal ≡ OutOfMemory };
+
+    fn from(_refused: AllocFailed<T>) -> Refusal {
+        Refusal::OutOfMemory
+    }
+}
+
+impl From<Flaw> for Refusal {
+    ghost from_gives = { λ flaw refusal. refusal ≡ Flawed flaw };
+
+    fn from(flaw: Flaw) -> Refusal {
+        Refusal::Flawed(flaw)
+    }
+}

@@ -1,0 +1,236 @@
+//! Operands of several words, and of several operands.
+
+ghost use Rattle.std.specs.Prelude.{◌≡◌, map};
+ghost use Rattle.tw_words.specs.Seen.{seen as seen_word};
+ghost use Rattle.tw_asm.specs.reading.Lines.{line_in, value, right, number, one, goal, type, more, nothing};
+ghost use Rattle.tw_asm.specs.reading.Operands.{as_is};
+
+use crate::gathering::type_of;
+use crate::operands::*;
+use crate::refusal::Flaw;
+use tw_words::Word;
+use tw_types::DataType;
+
+/// No operands.
+pub fn nothing_of(words: &[Word<'_>]) -> Result<(), Flaw>
+    ensures { as_is (λ _. tt) result ≡ line_in nothing (map seen_word words.now) }
+{
+    match words {
+        [] => Ok(()),
+        _ => Err(Flaw::Form),
+    }
+}
+
+// ---- one operand
+
+/// A value register.
+fn only_value(words: &[Word<'_>]) -> Result<u8, Flaw>
+    ensures { result ≡ line_in (one value) (map seen_word words.now) }
+{
+    match words {
+        [word] => value_of(word),
+        _ => Err(Flaw::Form),
+    }
+}
+
+/// A right register.
+pub fn only_right(words: &[Word<'_>]) -> Result<u8, Flaw>
+    ensures { result ≡ line_in (one right) (map seen_word words.now) }
+{
+    match words {
+        [word] => right_of(word),
+        _ => Err(Flaw::Form),
+    }
+}
+
+/// A number.
+fn only_number(words: &[Word<'_>]) -> Result<i64, Flaw>
+    ensures { result ≡ line_in (one number) (map seen_word words.now) }
+{
+    match words {
+        [word] => number_of(word),
+        _ => Err(Flaw::Form),
+    }
+}
+
+/// A goal.
+pub fn only_goal<'a>(words: &[Word<'a>]) -> Result<Goal<'a>, Flaw>
+    ensures { result ≡ line_in goal (map seen_word words.now) }
+{
+    match words {
+        [word] => goal_of(word),
+        _ => Err(Flaw::Form),
+    }
+}
+
+// ---- an operand and the others
+
+/// A value register and a number.
+pub fn value_and_number(words: &[Word<'_>]) -> Result<(u8, i64), Flaw>
+    ensures { result ≡ line_in (more value (one number)) (map seen_word words.now) }
+{
+    match words {
+        [first, others @ ..] => both_of(value_of(first), only_number(others)),
+        [] => Err(Flaw::Form),
+    }
+}
+
+/// Two value registers.
+pub fn two_values(words: &[Word<'_>]) -> Result<(u8, u8), Flaw>
+    ensures { result ≡ line_in (more value (one value)) (map seen_word words.now) }
+{
+    match words {
+        [first, others @ ..] => both_of(value_of(first), only_value(others)),
+        [] => Err(Flaw::Form),
+    }
+}
+
+/// A right register and a value register.
+pub fn right_and_value(words: &[Word<'_>]) -> Result<(u8, u8), Flaw>
+    ensures { result ≡ line_in (more right (one value)) (map seen_word words.now) }
+{
+    match words {
+        [first, others @ ..] => both_of(right_of(first), only_value(others)),
+        [] => Err(Flaw::Form),
+    }
+}
+
+/// A value register and a right register.
+pub fn value_and_right(words: &[Word<'_>]) -> Result<(u8, u8), Flaw>
+    ensures { result ≡ line_in (more value (one right)) (map seen_word words.now) }
+{
+    match words {
+        [first, others @ ..] => both_of(value_of(first), only_right(others)),
+        [] => Err(Flaw::Form),
+    }
+}
+
+/// Two right registers.
+pub fn two_rights(words: &[Word<'_>]) -> Result<(u8, u8), Flaw>
+    ensures { result ≡ line_in (more right (one right)) (map seen_word words.now) }
+{
+    match words {
+        [first, others @ ..] => both_of(right_of(first), only_right(others)),
+        [] => Err(Flaw::Form),
+    }
+}
+
+// ---- with a type
+
+/// A right register and a type.
+fn right_and_type(words: &[Word<'_>]) -> Result<(u8, DataType), Flaw>
+    ensures { result ≡ line_in (more right type) (map seen_word words.now) }
+{
+    match words {
+        [first, others @ ..] => both_of(right_of(first), type_of(others)),
+        [] => Err(Flaw::Form),
+    }
+}
+
+/// Two right registers and a type.
+pub fn two_rights_and_type(words: &[Word<'_>]) -> Result<(u8, (u8, DataType)), Flaw>
+    ensures { result ≡ line_in (more right (more right type)) (map seen_word words.now) }
+{
+    match words {
+        [first, others @ ..] => both_of(right_of(first), right_and_type(others)),
+        [] => Err(Flaw::Form),
+    }
+}
+
+// ---- with a goal
+
+/// A value register and a goal.
+fn value_and_goal<'a>(words: &[Word<'a>]) -> Result<(u8, Goal<'a>), Flaw>
+    ensures { result ≡ line_in (more value goal) (map seen_word words.now) }
+{
+    match words {
+        [first, others @ ..] => both_of(value_of(first), only_goal(others)),
+        [] => Err(Flaw::Form),
+    }
+}
+
+/// A right register and a goal.
+fn right_and_goal<'a>(words: &[Word<'a>]) -> Result<(u8, Goal<'a>), Flaw>
+    ensures { result ≡ line_in (more right goal) (map seen_word words.now) }
+{
+    match words {
+        [first, others @ ..] => both_of(right_of(first), only_goal(others)),
+        [] => Err(Flaw::Form),
+    }
+}
+
+/// Two value registers and a goal.
+pub fn two_values_and_goal<'a>(words: &[Word<'a>]) -> Result<(u8, (u8, Goal<'a>)), Flaw>
+    ensures { result ≡ line_in (more value (more value goal)) (map seen_word words.now) }
+{
+    match words {
+        [first, others @ ..] => both_of(value_of(first), value_and_goal(others)),
+        [] => Err(Flaw::Form),
+    }
+}
+
+/// A right register, a value register and a goal.
+fn right_value_and_goal<'a>(words: &[Word<'a>]) -> Result<(u8, (u8, Goal<'a>)), Flaw>
+    ensures { result ≡ line_in (more right (more value goal)) (map seen_word words.now) }
+{
+    match words {
+        [first, others @ ..] => both_of(right_of(first), value_and_goal(others)),
+        [] => Err(Flaw::Form),
+    }
+}
+
+/// A value register, a right register and a goal.
+fn value_right_and_goal<'a>(words: &[Word<'a>]) -> Result<(u8, (u8, Goal<'a>)), Flaw>
+    ensures { result ≡ line_in (more value (more right goal)) (map seen_word words.now) }
+{
+    match words {
+        [first, others @ ..] => both_of(value_of(first), right_and_goal(others)),
+        [] => Err(Flaw::Form),
+    }
+}
+
+/// Three value registers and a goal.
+pub fn three_values_and_goal<'a>(words: &[Word<'a>]) -> Result<(u8, (u8, (u8, Goal<'a>))), Flaw>
+    ensures { result ≡ line_in (more value (more value (more value goal))) (map seen_word words.now) }
+{
+    match words {
+        [first, others @ ..] => both_of(value_of(first), two_values_and_goal(others)),
+        [] => Err(Flaw::Form),
+    }
+}
+
+/// A right register, a value register, a right register and a goal.
+pub fn right_value_right_and_goal<'a>(
+    words: &[Word<'a>],
+) -> Result<(u8, (u8, (u8, Goal<'a>))), Flaw>
+    ensures { result ≡ line_in (more right (more value (more right goal))) (map seen_word words.now) }
+{
+    match words {
+        [first, others @ ..] => both_of(right_of(first), value_right_and_goal(others)),
+        [] => Err(Flaw::Form),
+    }
+}
+
+/// Two right registers, a value register and a goal.
+pub fn right_right_value_and_goal<'a>(
+    words: &[Word<'a>],
+) -> Result<(u8, (u8, (u8, Goal<'a>))), Flaw>
+    ensures { result ≡ line_in (more right (more right (more value goal))) (map seen_word words.now) }
+{
+    match words {
+        [first, others @ ..] => both_of(right_of(first), right_value_and_goal(others)),
+        [] => Err(Flaw::Form),
+    }
+}
+
+/// A value register, a right register, a value register and a goal.
+pub fn value_right_value_and_goal<'a>(
+    words: &[Word<'a>],
+) -> Result<(u8, (u8, (u8, Goal<'a>))), Flaw>
+    ensures { result ≡ line_in (more value (more right (more value goal))) (map seen_word words.now) }
+{
+    match words {
+        [first, others @ ..] => both_of(value_of(first), right_value_and_goal(others)),
+        [] => Err(Flaw::Form),
+    }
+}

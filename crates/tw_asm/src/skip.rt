@@ -1,0 +1,112 @@
+//! The skips of instructions.
+
+ghost use Rattle.std.specs.Prelude.{◌≡◌};
+ghost use Rattle.tw_asm.specs.Parts.{skip_of};
+ghost use Rattle.tw_asm.specs.words.Skips.{skip_in};
+ghost use Rattle.tw_asm.specs.Seen.{data_with_skip, local_with_skip, with_skip};
+
+use tw_code::{DataInstr, Flow, Instr, LocalInstr};
+
+fn local_with_skip(instr: LocalInstr, skip: u16) -> LocalInstr
+    ensures { result ≡ local_with_skip skip instr }
+{
+    match instr {
+        LocalInstr::Compute {
+            operation,
+            to,
+            left,
+            right,
+            ..
+        } => LocalInstr::Compute {
+            operation,
+            to,
+            left,
+            right,
+            skip,
+        },
+        LocalInstr::Concatenate {
+            to,
+            left,
+            right,
+            ..
+        } => LocalInstr::Concatenate {
+            to,
+            left,
+            right,
+            skip,
+        },
+        LocalInstr::ReadInt { to, from, .. } => LocalInstr::ReadInt { to, from, skip },
+        LocalInstr::Jump { .. } => LocalInstr::Jump { skip },
+        LocalInstr::JumpEqual { left, right, .. } => LocalInstr::JumpEqual { left, right, skip },
+        LocalInstr::JumpLess { left, right, .. } => LocalInstr::JumpLess { left, right, skip },
+        without => without,
+    }
+}
+
+fn data_with_skip(instr: DataInstr, skip: u16) -> DataInstr
+    ensures { result ≡ data_with_skip skip instr }
+{
+    match instr {
+        DataInstr::Insert {
+            container,
+            subscript,
+            member,
+            ..
+        } => DataInstr::Insert {
+            container,
+            subscript,
+            member,
+            skip,
+        },
+        DataInstr::Look {
+            member,
+            container,
+            subscript,
+            ..
+        } => DataInstr::Look {
+            member,
+            container,
+            subscript,
+            skip,
+        },
+        DataInstr::SubscriptAt {
+            to,
+            container,
+            index,
+            ..
+        } => DataInstr::SubscriptAt {
+            to,
+            container,
+            index,
+            skip,
+        },
+        without => without,
+    }
+}
+
+/// The instruction with another skip, where it has one.
+pub fn with_skip(instr: Instr, skip: u16) -> Instr
+    ensures { result ≡ with_skip skip instr }
+{
+    match instr {
+        Instr::Local(instr) => Instr::Local(local_with_skip(instr, skip)),
+        Instr::Data(instr) => Instr::Data(data_with_skip(instr, skip)),
+        without => without,
+    }
+}
+
+fn skip_in(flow: Flow) -> Option<u16>
+    ensures { result ≡ skip_in flow }
+{
+    match flow {
+        Flow::Branch(skip) | Flow::Jump(skip) => Some(skip),
+        Flow::Straight | Flow::Begin(_) | Flow::Close | Flow::Stop => None,
+    }
+}
+
+/// How many instructions it skips, if it may skip any.
+pub fn skip_of(instr: &Instr) -> Option<u16>
+    ensures { result ≡ skip_of instr.now }
+{
+    skip_in(instr.flow())
+}

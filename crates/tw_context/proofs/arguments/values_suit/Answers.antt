@@ -1,7 +1,0 @@
-use Rattle.std.proofs.Common.{◌∙◌, sym, refl}
-use Rattle.std.proofs.lemmas.Slice.Zip.{either_empty_from_Zip}
-use Rattle.tw_context.proofs.Named.{suit_at_end}
-use Rattle.tw_context.proofs.arguments.values_suit.Goals as goal
-
-pub returns : goal.returns
-returns c = sym (c.loop-param.invariant ∙ suit_at_end _ _ _ (either_empty_from_Zip c.loop-param.param-iterator c.next.new.self _ refl c.in-None.ensures.steps))

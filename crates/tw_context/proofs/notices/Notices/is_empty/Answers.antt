@@ -1,8 +1,0 @@
-use Rattle.std.proofs.Common.{ap, ◌∙◌, ◌==◌}
-use Rattle.std.specs.FinSet.{len}
-use Rattle.tw_types.specs.Notices.{Notices}
-use Rattle.tw_context.proofs.Empty.{is_empty_set}
-use Rattle.tw_context.proofs.notices.Notices.is_empty.Goals as goal
-
-pub returns : goal.returns
-returns c = is_empty_set c.is_empty.result _ c.self.inside.list.items c.self.inside.list.ok.0 c.is_empty.ensures ∙ ap (λ (s : Notices). len s == 0) c.self.view_is

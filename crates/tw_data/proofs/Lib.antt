@@ -1,4 +1,0 @@
-pub mod Live
-pub mod Members
-pub mod Views
-pub mod Closes

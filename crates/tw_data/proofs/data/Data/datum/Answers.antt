@@ -1,8 +1,0 @@
-use Rattle.std.proofs.Common.{ap, ◌∙◌, sym}
-use Rattle.std.specs.FinMap.{get}
-use Rattle.tw_data.specs.Parts.{data_of}
-use Rattle.tw_data.proofs.Live.{found}
-use Rattle.tw_data.proofs.data.Data.datum.Goals as goal
-
-pub returns : goal.returns
-returns c = rw (← c.self.view_is) (sym (ap (get (data_of c.self.inside.live.entries)) (sym c.number.ensures) ∙ found c.self.inside.live _ _ c.get.ensures.value))

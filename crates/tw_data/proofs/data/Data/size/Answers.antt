@@ -1,6 +1,0 @@
-use Rattle.std.proofs.Common.{sym}
-use Rattle.tw_data.proofs.Views.{no_size}
-use Rattle.tw_data.proofs.data.Data.size.Goals as goal
-
-pub returns-in-None : goal.returns-in-None
-returns-in-None c = no_size c.args.self.now c.args.id (sym c.in-None.ensures)

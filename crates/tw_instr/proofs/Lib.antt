@@ -1,0 +1,12 @@
+pub mod Empty
+pub mod Named
+pub mod Removed
+pub mod Stretches
+pub mod Told
+pub mod Live
+pub mod Members
+pub mod Views
+pub mod Closes
+pub mod Steps
+pub mod Stops
+pub mod Turns

@@ -1,0 +1,45 @@
+-- The parameters, registers and arguments of an action, up to the end of the shorter list.
+use Rattle.std.proofs.Common.{◌≡◌, ◌⊎◌, inl, inr, ℕ, true, List, [], ◌∷◌, ◌++◌, map, refl, ap}
+use Rattle.std.proofs.lemmas.List.{append-nil}
+use Rattle.std.specs.Prelude.{Bool, Option, Result, Ok}
+use Rattle.tw_types.specs.declared.cause.Cause.{Cause}
+use Rattle.tw_types.specs.declared.param.Param.{Param}
+use Rattle.tw_types.specs.declared.value.Value.{Value}
+use Rattle.tw_types.specs.Result.{◌>>=◌}
+use Rattle.tw_types.specs.Store.{Data, Datum}
+use Rattle.tw_types.specs.Task.{Arg}
+use Rattle.tw_code.specs.machine.Arguments.{HandedOver, all_pass, handed_over, values_suit}
+use Rattle.tw_code.specs.machine.Rights.{Rights}
+use Rattle.tw_instr.specs.declared.failure.Failure.{Failure}
+use Rattle.tw_instr.specs.declared.failure.Failure.TheVariants as failure
+use Rattle.tw_instr.specs.Attempts.{Fails}
+
+-- what fails first
+pub fails_before : {A B : Type 0} (r : Result A Cause) (next : A → Result B Cause) (why : Failure) → Fails r why → Fails (r >>= next) why
+fails_before r next (failure.Trap cause) h = ap (λ q. q >>= next) h
+fails_before r next failure.NoMemory h = tt
+
+pub suit_at_end : (values : List Value) (params : List Param) (registers : List ℕ) → (params ≡ []) ⊎ (registers ≡ []) → values_suit values params registers ≡ true
+suit_at_end values [] registers h = refl
+suit_at_end values (p ∷ params) [] h = refl
+suit_at_end values (p ∷ params) (r ∷ registers) (inl e) = cc
+suit_at_end values (p ∷ params) (r ∷ registers) (inr e) = cc
+
+pub pass_at_end : {A : Type 0} (view : A → Arg) (test : Param → Option Datum → Bool) (live : Data) (params : List Param) (args : List A) → (params ≡ []) ⊎ (args ≡ []) → all_pass test live params (map view args) ≡ true
+pass_at_end view test live [] args h = refl
+pass_at_end view test live (p ∷ params) [] h = refl
+pass_at_end view test live (p ∷ params) (x ∷ args) (inl e) = cc
+pass_at_end view test live (p ∷ params) (x ∷ args) (inr e) = cc
+
+-- these arguments, and then what comes of the others
+abbrev pub after : List Arg → Result HandedOver Cause → Result HandedOver Cause
+after firsts r = r >>= λ others. Ok (record others { args = firsts ++ others.args })
+
+pub after_nothing : (firsts : List Arg) (rights : Rights) → after firsts (Ok (record { args = []; rights = rights })) ≡ Ok (record { args = firsts; rights = rights })
+after_nothing firsts rights = ap (λ (xs : List Arg). Ok (record { args = xs; rights = rights })) (append-nil firsts)
+
+pub given_at_end : (values : List Value) (rights : Rights) (params : List Param) (registers : List ℕ) → (params ≡ []) ⊎ (registers ≡ []) → handed_over values rights params registers ≡ Ok (record { args = []; rights = rights })
+given_at_end values rights [] registers h = refl
+given_at_end values rights (p ∷ params) [] h = refl
+given_at_end values rights (p ∷ params) (r ∷ registers) (inl e) = cc
+given_at_end values rights (p ∷ params) (r ∷ registers) (inr e) = cc

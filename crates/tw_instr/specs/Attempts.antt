@@ -1,0 +1,43 @@
+-- Attempts at what instructions and events come to.
+use Rattle.std.specs.Prelude.{◌≡◌, Result, Ok, Err}
+use Rattle.tw_types.specs.declared.cause.Cause.{Cause}
+use Rattle.tw_types.specs.Outcome.{Outcome, Went, NotEnabled, Trap}
+use Rattle.tw_instr.specs.declared.failure.Failure.{Failure}
+use Rattle.tw_instr.specs.declared.failure.Failure.TheVariants as failure
+use Rattle.tw_instr.specs.declared.stopped.Stopped.{Stopped}
+use Rattle.tw_instr.specs.declared.stopped.Stopped.TheVariants as stopped
+
+-- ---- instructions
+
+-- the cause is the machine's; want of memory says nothing of it
+abbrev pub Fails : {A : Type 0} → Result A Cause → Failure → Type 0
+Fails r (failure.Trap cause) = r ≡ Err cause
+Fails r failure.NoMemory = Unit {0}
+
+-- an attempt at a value gives what the machine's comes to
+abbrev pub Gives : {A : Type 0} → Result A Cause → Result A Failure → Type 0
+Gives r (Ok x) = r ≡ Ok x
+Gives r (Err why) = Fails r why
+
+-- an attempt at a change leaves what the machine's comes to, and one that fails leaves all as it was
+abbrev pub Leaves : {A : Type 0} → Result A Cause → A → Result (Unit {0}) Failure → A → Type 0
+Leaves r old (Ok _) new = r ≡ Ok new
+Leaves r old (Err why) new = Fails r why × (new ≡ old)
+
+-- ---- events
+
+-- what stops an instruction stops the event
+abbrev pub stopped_by : Failure → Stopped
+stopped_by (failure.Trap cause) = stopped.Trap cause
+stopped_by failure.NoMemory = stopped.NoMemory
+
+-- that it isn't enabled, or the cause, is the machine's; want of memory says nothing of it
+abbrev pub IsStopped : {A : Type 0} → Outcome A → Stopped → Type 0
+IsStopped o stopped.NotEnabled = o ≡ NotEnabled
+IsStopped o (stopped.Trap cause) = o ≡ Trap cause
+IsStopped o stopped.NoMemory = Unit {0}
+
+-- an attempt at an event leaves what the machine's comes to, and one that is stopped leaves all as it was
+abbrev pub Changes : {A : Type 0} → Outcome A → A → Result (Unit {0}) Stopped → A → Type 0
+Changes o old (Ok _) new = o ≡ Went new
+Changes o old (Err why) new = IsStopped o why × (new ≡ old)

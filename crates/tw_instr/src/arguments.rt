@@ -1,0 +1,221 @@
+//! RULE and PUT: what they name, and the rights that leave the registers for it.
+
+ghost use Rattle.std.specs.Prelude.{◌≡◌, ◌≤◌, length, map, slice_get, slice_set, IfOk, MatchResult, None, Ok, OnOk};
+ghost use Rattle.std.specs.Option.{option_copied};
+ghost use Rattle.tw_types.specs.Notices.{Notices};
+ghost use Rattle.tw_code.specs.format.Program.{IsProgram};
+ghost use Rattle.tw_code.specs.machine.Arguments.{all_pass, called, handed_over, has_type, put_called, values_suit};
+ghost use Rattle.tw_code.specs.machine.Rights.{held};
+ghost use Rattle.tw_instr.specs.Arguments.{arg_of, test_of};
+ghost use Rattle.tw_instr.specs.Attempts.{Fails, Gives};
+ghost use Rattle.tw_instr.specs.Contexts.{context};
+
+use crate::frame::Frame;
+use std::alloc::{AllocError, Global};
+use std::marker::Model;
+use tw_code::{Action, Procedure};
+use crate::data::Data;
+use crate::datum::Datum;
+use crate::code::procedure_of;
+use crate::failure::{Failure, must};
+use crate::lists::keep;
+use crate::position::Position;
+use crate::value_registers::copy_at;
+use tw_types::{Cause, DatumId, Kind, Mode, Param, Value};
+
+/// An argument: a value, or a right on a datum.
+#[derive(Drop)]
+pub enum Arg {
+    Value(Value),
+    Right(DatumId),
+}
+
+impl Arg {
+    /// A second argument, equal to this one.
+    pub fn try_clone(&self, alloc: Global) -> Result<Arg, AllocError>
+        ensures { IfOk result (λ copy. copy ≡ self.now) }
+    {
+        match self {
+            Arg::Value(value) => Ok(Arg::Value(value.try_clone(alloc)?)),
+            Arg::Right(id) => Ok(Arg::Right(*id)),
+        }
+    }
+}
+
+/// What an action names: the task's parts, at most eight arguments among them, the parameters that these stand for,
+/// and the right registers that are left.
+#[derive(Drop)]
+pub struct Call<'a> {
+    pub kind: Kind,
+    pub procedure: u8,
+    pub priority: i64,
+    pub target: Option<u8>,
+    pub args: Vec<Arg>,
+    pub params: &'a [Param],
+    pub rights: [Option<DatumId>; 16],
+}
+
+impl<'a> Model for Call<'a> {
+    ghost use Rattle.std.specs.Prelude.{◌≤◌, length, map};
+    ghost use Rattle.tw_code.specs.machine.Arguments.{Called};
+    ghost use Rattle.tw_instr.specs.Arguments.{arg_of};
+
+    ghost Value = { Called };
+
+    ghost view = { λ c. record { task = record { kind = c.kind; procedure = c.procedure; priority = c.priority; target = c.target; args = map arg_of c.args.items }; params = c.params.now; rights = c.rights } };
+
+    ghost invariant = { λ c. (length c.args.items ≤ 8) × (length c.params.now ≤ 8) };
+}
+
+/// What RULE names, of the task that does it; the frame is as it was.
+pub fn called<'a>(
+    alloc: Global,
+    program: &'a [Procedure],
+    kind: Kind,
+    store: &Data,
+    frame: &Frame,
+    action: &Action,
+) -> Result<Call<'a>, Failure>
+    requires { IsProgram program.now }
+    ensures { (n : Notices) → Gives (called program.now kind (context store.now n frame.now) action.now) result }
+{
+    let procedure = procedure_of(program, action.procedure)?;
+    let params = procedure.params.as_slice();
+    let registers = action.args.as_slice();
+    must(registers.len() == params.len(), Cause::WrongCall)?;
+    must(kind == Kind::Control, Cause::WrongCall)?;
+    must(
+        values_suit(frame.position(), params, registers),
+        Cause::WrongRegister,
+    )?;
+    let mut rights = frame.rights();
+    let args = hand_over(alloc, frame.position(), &mut rights, params, registers)?;
+    must(
+        all_pass(Need::Live, store, params, &args),
+        Cause::FreedDatum,
+    )?;
+    must(
+        all_pass(Need::OfType, store, params, &args),
+        Cause::WrongType,
+    )?;
+    Ok(Call {
+        kind: procedure.kind,
+        procedure: action.procedure,
+        priority: action.priority,
+        target: action.target,
+        args,
+        params,
+        rights,
+    })
+}
+
+/// What PUT names: what stands for `closed` parameters must be closed.
+pub fn put_called<'a>(
+    alloc: Global,
+    program: &'a [Procedure],
+    kind: Kind,
+    store: &Data,
+    frame: &Frame,
+    action: &Action,
+) -> Result<Call<'a>, Failure>
+    requires { IsProgram program.now }
+    ensures { (n : Notices) → Gives (put_called program.now kind (context store.now n frame.now) action.now) result }
+{
+    let call = called(alloc, program, kind, store, frame, action)?;
+    must(
+        all_pass(Need::ClosedIfAsked, store, call.params, &call.args),
+        Cause::ArgumentNotClosed,
+    )?;
+    Ok(call)
+}
+
+/// Whether a register is declared and its value is of the type of a parameter.
+fn has_type(position: &Position, register: u8, param: Param) -> bool
+    ensures { result ≡ has_type (slice_get position.now.values register) param }
+{
+    match position.value(register) {
+        Some(value) => value.scalar() == param.ty.scalar(),
+        None => false,
+    }
+}
+
+/// Whether the registers that stand for `val` parameters have values of their types.
+fn values_suit(position: &Position, params: &[Param], registers: &[u8]) -> bool
+    ensures { result ≡ values_suit position.now.values params.now registers.now }
+{
+    for (param, register) in params.iter().zip(registers) {
+        if param.mode.is_val() && !has_type(position, *register, *param) {
+            return false;
+        }
+    }
+    true
+}
+
+/// The id in a right register that is used; it leaves the register.
+fn take_right(rights: &mut [Option<DatumId>; 16], register: u8) -> Result<DatumId, Failure>
+    ensures gives { Gives (held rights.old register) result }
+    ensures left { OnOk result (rights.new ≡ slice_set rights.old register None) }
+{
+    let register = usize::from(register);
+    let Some(Some(id)) = rights.get(register).copied() else {
+        return Err(Failure::Trap(Cause::EmptyRegister));
+    };
+    rights[register] = None;
+    Ok(id)
+}
+
+/// The arguments of the registers: values are copied, rights leave. Where one isn't there, earlier ones have left.
+fn hand_over(
+    alloc: Global,
+    position: &Position,
+    rights: &mut [Option<DatumId>; 16],
+    params: &[Param],
+    registers: &[u8],
+) -> Result<Vec<Arg>, Failure>
+    ensures given { MatchResult result (λ args. handed_over position.now.values rights.old params.now registers.now ≡ Ok (record { args = map arg_of args.items; rights = rights.new })) (Fails (handed_over position.now.values rights.old params.now registers.now)) }
+    ensures few { IfOk result (λ args. length args.items ≤ length params.now) }
+{
+    let mut args = Vec::new(alloc);
+    for (param, register) in params.iter().zip(registers) {
+        let arg = if param.mode.is_val() {
+            Arg::Value(copy_at(alloc, position, *register)?)
+        } else {
+            Arg::Right(take_right(rights, *register)?)
+        };
+        keep(&mut args, arg)?;
+    }
+    Ok(args)
+}
+
+/// What is asked of the datum of a right that is an argument.
+#[derive(Clone, Copy)]
+enum Need {
+    Live,
+    OfType,
+    ClosedIfAsked,
+}
+
+fn passes(need: Need, param: Param, datum: Option<&Datum>) -> bool
+    ensures { result ≡ test_of need param (option_copied datum.entry) }
+{
+    match (need, datum) {
+        (Need::Live, datum) => datum.is_some(),
+        (_, None) => true,
+        (Need::OfType, Some(datum)) => datum.ty() == param.ty,
+        (Need::ClosedIfAsked, Some(datum)) => param.mode != Mode::Closed || datum.closed(),
+    }
+}
+
+/// Whether the datum of each right among the arguments is as it is needed.
+fn all_pass(need: Need, store: &Data, params: &[Param], args: &[Arg]) -> bool
+    ensures { result ≡ all_pass (test_of need) store.now.live params.now (map arg_of args.now) }
+{
+    for (param, arg) in params.iter().zip(args) {
+        if let Arg::Right(id) = arg {
+            if !passes(need, *param, store.datum(*id)) {
+                return false;
+            }
+        }
+    }
+    true
+}

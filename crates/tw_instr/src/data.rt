@@ -1,0 +1,277 @@
+//! The live data.
+
+ghost use Rattle.std.specs.Prelude.{◌≡◌, ◌<◌, ◌^◌, IfOk, OnOk, OnErr, map as each};
+ghost use Rattle.std.specs.FinMap as map;
+ghost use Rattle.std.specs.FinMap.{get};
+ghost use Rattle.std.specs.Option.{option_copied};
+ghost use Rattle.std.specs.declared.result.Result.TheVariants.{Ok};
+ghost use Rattle.tw_types.specs.Store.{empty_store, added, notice_to};
+ghost use Rattle.tw_types.specs.StoreCalls.{created, stored, inserted, read_copied, write_copied, read_dropped, write_dropped, subscribed, value_at, member_at, members_at, subscript_after, notices_of_stored, notices_of_write_dropped};
+ghost use Rattle.tw_types.specs.StoreChecks.{may_store, may_retrieve, may_insert, may_look, may_read_members, may_be_read, may_copy_write, may_drop_read, may_drop_write};
+ghost use Rattle.tw_types.specs.declared.value.Value.{Value as ValueMeaning};
+ghost use Rattle.tw_instr.specs.Content.{content_of, closed_datum, FitsType};
+ghost use Rattle.tw_types.specs.Room.{HasReadRoom, HasWriteRoom};
+
+use crate::changes::{add_read_in, add_write_in, drop_write_in, insert_in, set_in, subscribe_in};
+use crate::checks;
+use crate::datum::{Content, Datum};
+use crate::freeing::drop_read_within;
+use std::alloc::{AllocError, Global};
+use std::collections::BTreeMap;
+use std::marker::Model;
+use tw_types::{Cause, DataType, DatumId, Subscriber, Value};
+
+/// The live data by their ids. No id is used again.
+#[derive(Drop)]
+pub struct Data {
+    live: BTreeMap<u64, Datum>,
+    next: u64,
+}
+
+impl Model for Data {
+    ghost use Rattle.tw_types.specs.Store.{Datum as DatumMeaning, Store};
+    ghost use Rattle.tw_instr.specs.Parts.{store_of};
+    ghost use Rattle.std.specs.FinMap.{code};
+    ghost use Rattle.std.specs.Ordering.{nat_cmp, int_cmp};
+    ghost use Rattle.std.specs.Coded.{codes, coded_ℕ, coded_ℤ};
+
+    ghost Value = { Store };
+
+    ghost coded = { Prim.hlevel (codes, code {X = DatumMeaning} {R = nat_cmp} coded_ℕ (Prim.hlevel (codes, code {R = int_cmp} coded_ℤ coded_ℕ))) };
+
+    ghost view = { λ s. store_of s.live.entries s.next };
+}
+
+impl Data {
+    pub fn new(alloc: Global) -> Data
+        ensures { result ≡ empty_store }
+    {
+        Data {
+            live: BTreeMap::new(alloc),
+            next: 1,
+        }
+    }
+
+    /// The id of the datum that is made next.
+    pub fn next(&self) -> DatumId
+        ensures { result ≡ self.now.next }
+    {
+        DatumId::new(self.next)
+    }
+
+    /// The datum of an id, if it is live.
+    pub fn datum(&self, id: DatumId) -> Option<&Datum>
+        ensures { option_copied result ≡ get self.now.live id }
+    {
+        self.live.get(&id.number())
+    }
+
+    /// Makes a datum of the next id, with one write and one read.
+    pub fn create(&mut self, alloc: Global, ty: DataType) -> Result<DatumId, AllocError>
+        requires { self.old.next < 2 ^ 63 }
+        ensures made { OnOk result (self.new ≡ created self.old ty) }
+        ensures id { IfOk result (λ id. id ≡ self.old.next) }
+        ensures refused { OnErr result (self.new ≡ self.old) }
+    {
+        self.add(Datum::new(alloc, ty))
+    }
+
+    /// Makes a closed datum of the next id, with one read: a scalar that is set, or a container with its members.
+    pub fn add_closed(
+        &mut self,
+        alloc: Global,
+        ty: DataType,
+        content: Content,
+    ) -> Result<DatumId, AllocError>
+        requires fits { FitsType ty (content_of content) }
+        requires room { self.old.next < 2 ^ 63 }
+        ensures made { OnOk result (self.new ≡ added self.old (closed_datum ty (content_of content))) }
+        ensures id { IfOk result (λ id. id ≡ self.old.next) }
+        ensures refused { OnErr result (self.new ≡ self.old) }
+    {
+        self.add(Datum::new_closed(alloc, ty, content))
+    }
+
+    fn add(&mut self, datum: Datum) -> Result<DatumId, AllocError>
+        requires { self.old.next < 2 ^ 63 }
+        ensures made { OnOk result (self.new ≡ added self.old datum) }
+        ensures id { IfOk result (λ id. id ≡ self.old.next) }
+        ensures refused { OnErr result (self.new ≡ self.old) }
+    {
+        let id = self.next;
+        self.live.insert(id, datum)?;
+        self.next = id + 1;
+        Ok(DatumId::new(id))
+    }
+
+    /// Sets and closes a scalar, which spends a write. Read before who hears of it: `heard_by_set`.
+    pub fn set(&mut self, id: DatumId, value: Value)
+        requires { may_store value (get self.old.live id) ≡ Ok tt }
+        ensures { self.new ≡ stored self.old id value }
+    {
+        set_in(&mut self.live, id.number(), value);
+    }
+
+    /// Who hears of it when a scalar is set, in the order of asking.
+    pub fn heard_by_set(&self, id: DatumId) -> &[Subscriber]
+        ensures { (value : ValueMeaning) → each (notice_to id) result.now ≡ notices_of_stored self.now id value }
+    {
+        match self.datum(id) {
+            Some(datum) => datum.subscribers(),
+            None => &[],
+        }
+    }
+
+    /// Takes a write of a container, which closes with the last. Read before who hears of it: `heard_by_drop_write`.
+    pub fn drop_write(&mut self, id: DatumId)
+        requires { may_drop_write (get self.old.live id) ≡ Ok tt }
+        ensures { self.new ≡ write_dropped self.old id }
+    {
+        drop_write_in(&mut self.live, id.number());
+    }
+
+    /// Who hears of it when a write is dropped, in the order of asking: nobody where the datum stays open.
+    pub fn heard_by_drop_write(&self, id: DatumId) -> &[Subscriber]
+        ensures { each (notice_to id) result.now ≡ notices_of_write_dropped self.now id }
+    {
+        match self.datum(id) {
+            Some(datum) => datum.heard_by_drop_write(),
+            None => &[],
+        }
+    }
+
+    /// Takes a read. Where it was the last right, the datum is freed, and each of its members loses a read.
+    pub fn drop_read(&mut self, id: DatumId)
+        ensures { self.new ≡ read_dropped self.old id }
+    {
+        drop_read_within(&mut self.live, id.number(), DataType::MAX_DEPTH);
+    }
+
+    /// Puts a member, with its read, at a subscript of a container, in place of one that is there.
+    pub fn insert(&mut self, id: DatumId, subscript: i64, member: DatumId) -> Result<(), AllocError>
+        requires { may_insert (get self.old.live id) (get self.old.live member) ≡ Ok tt }
+        ensures inserted { OnOk result (self.new ≡ inserted self.old id subscript member) }
+        ensures refused { OnErr result (self.new ≡ self.old) }
+    {
+        insert_in(&mut self.live, id.number(), subscript, member)
+    }
+
+    /// Adds a read.
+    pub fn add_read(&mut self, id: DatumId)
+        requires { HasReadRoom (get self.old.live id) }
+        ensures { self.new ≡ read_copied self.old id }
+    {
+        add_read_in(&mut self.live, id.number());
+    }
+
+    /// Adds a write.
+    pub fn add_write(&mut self, id: DatumId)
+        requires { HasWriteRoom (get self.old.live id) }
+        ensures { self.new ≡ write_copied self.old id }
+    {
+        add_write_in(&mut self.live, id.number());
+    }
+
+    /// Adds one who waits for the datum to close, after the others.
+    pub fn subscribe(&mut self, id: DatumId, subscriber: Subscriber) -> Result<(), AllocError>
+        ensures noted { OnOk result (self.new ≡ subscribed self.old id subscriber) }
+        ensures refused { OnErr result (self.new ≡ self.old) }
+    {
+        subscribe_in(&mut self.live, id.number(), subscriber)
+    }
+
+    /// The value of a scalar that is set.
+    pub fn value(&self, id: DatumId) -> Option<&Value>
+        ensures { option_copied result ≡ value_at self.now id }
+    {
+        self.datum(id)?.value()
+    }
+
+    /// The member at a subscript.
+    pub fn member(&self, id: DatumId, subscript: i64) -> Option<DatumId>
+        ensures { result ≡ member_at self.now id subscript }
+    {
+        self.datum(id)?.member_at(subscript)
+    }
+
+    /// The number of members.
+    pub fn size(&self, id: DatumId) -> usize
+        ensures { result ≡ map.len (members_at self.now id) }
+    {
+        match self.datum(id) {
+            Some(datum) => datum.len(),
+            None => 0,
+        }
+    }
+
+    /// The subscript with exactly so many smaller ones, if there is one.
+    pub fn subscript_at(&self, id: DatumId, index: i64) -> Option<i64>
+        ensures { result ≡ subscript_after index (map.keys (members_at self.now id)) }
+    {
+        match self.datum(id) {
+            Some(datum) => datum.subscript(index),
+            None => None,
+        }
+    }
+}
+
+/// What the calls ask, with the first cause that refuses it.
+impl Data {
+    pub fn may_store(&self, id: DatumId, value: &Value) -> Result<(), Cause>
+        ensures { result ≡ may_store value.now (get self.now.live id) }
+    {
+        checks::may_store(self.datum(id), value)
+    }
+
+    pub fn may_retrieve(&self, id: DatumId) -> Result<(), Cause>
+        ensures { result ≡ may_retrieve (get self.now.live id) }
+    {
+        checks::may_retrieve(self.datum(id))
+    }
+
+    pub fn may_insert(&self, container: DatumId, member: DatumId) -> Result<(), Cause>
+        ensures { result ≡ may_insert (get self.now.live container) (get self.now.live member) }
+    {
+        checks::may_insert(self.datum(container), self.datum(member))
+    }
+
+    pub fn may_look(&self, id: DatumId, subscript: i64) -> Result<(), Cause>
+        ensures { result ≡ may_look self.now id subscript }
+    {
+        checks::may_read_members(self.datum(id))?;
+        match self.member(id, subscript) {
+            Some(member) => checks::may_be_read(self.datum(member)),
+            None => Ok(()),
+        }
+    }
+
+    pub fn may_read_members(&self, id: DatumId) -> Result<(), Cause>
+        ensures { result ≡ may_read_members (get self.now.live id) }
+    {
+        checks::may_read_members(self.datum(id))
+    }
+
+    pub fn may_be_read(&self, id: DatumId) -> Result<(), Cause>
+        ensures { result ≡ may_be_read (get self.now.live id) }
+    {
+        checks::may_be_read(self.datum(id))
+    }
+
+    pub fn may_copy_write(&self, id: DatumId) -> Result<(), Cause>
+        ensures { result ≡ may_copy_write (get self.now.live id) }
+    {
+        checks::may_copy_write(self.datum(id))
+    }
+
+    pub fn may_drop_read(&self, id: DatumId) -> Result<(), Cause>
+        ensures { result ≡ may_drop_read (get self.now.live id) }
+    {
+        checks::may_drop_read(self.datum(id))
+    }
+
+    pub fn may_drop_write(&self, id: DatumId) -> Result<(), Cause>
+        ensures { result ≡ may_drop_write (get self.now.live id) }
+    {
+        checks::may_drop_write(self.datum(id))
+    }
+}

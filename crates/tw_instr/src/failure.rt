@@ -1,0 +1,47 @@
+//! Why an instruction isn't made.
+
+ghost use Rattle.tw_types.specs.Result.{must};
+ghost use Rattle.tw_instr.specs.Attempts.{Gives};
+
+use std::alloc::AllocError;
+use tw_types::Cause;
+
+/// Why an instruction, or a part of one, isn't made.
+#[derive(Clone, Copy)]
+pub enum Failure {
+    Trap(Cause),
+    NoMemory,
+}
+
+impl From<Cause> for Failure {
+    ghost use Rattle.std.specs.Prelude.{◌≡◌};
+    ghost use Rattle.tw_instr.specs.declared.failure.Failure.TheVariants.{Trap};
+
+    ghost from_gives = { λ cause failure. failure ≡ Trap cause };
+
+    fn from(cause: Cause) -> Failure {
+        Failure::Trap(cause)
+    }
+}
+
+impl From<AllocError> for Failure {
+    ghost use Rattle.std.specs.Prelude.{◌≡◌};
+    ghost use Rattle.tw_instr.specs.declared.failure.Failure.TheVariants.{NoMemory};
+
+    ghost from_gives = { λ _ failure. failure ≡ NoMemory };
+
+    fn from(_: AllocError) -> Failure {
+        Failure::NoMemory
+    }
+}
+
+/// Fails with the cause unless this holds.
+pub fn must(holds: bool, cause: Cause) -> Result<(), Failure>
+    ensures { Gives (must holds cause) result }
+{
+    if holds {
+        Ok(())
+    } else {
+        Err(Failure::Trap(cause))
+    }
+}

@@ -1,0 +1,204 @@
+//! Tasks that run.
+
+ghost use Rattle.std.specs.Prelude.{◌≡◌, ◌<◌, ◌^◌, ◌+◌, IfOk, None, Some, is_none, length, slice_set, []};
+ghost use Rattle.std.specs.List.{list_all};
+ghost use Rattle.tw_code.specs.machine.Rights.{right_at};
+ghost use Rattle.tw_code.specs.machine.Position.{at_goal, at_next_place, with_value};
+ghost use Rattle.tw_code.specs.machine.State.{gone_behind};
+ghost use Rattle.tw_instr.specs.Stretch.{IsStretch};
+
+use std::alloc::{AllocError, Global};
+use std::marker::Model;
+use tw_code::Procedure;
+use crate::local::count_local;
+use crate::position::Position;
+use tw_types::{DatumId, TaskNo, Value};
+
+/// A task that runs: where it stands, its right registers, and how many instructions it has done.
+#[derive(Drop)]
+pub struct Frame {
+    task: TaskNo,
+    procedure: u8,
+    position: Position,
+    rights: [Option<DatumId>; 16],
+    spent: u64,
+}
+
+impl Model for Frame {
+    ghost use Rattle.tw_code.specs.machine.State.{Frame as Meaning};
+
+    ghost Value = { Meaning };
+
+    ghost view = { λ f. record { task = f.task; procedure = f.procedure; position = f.position; rights = f.rights; spent = f.spent } };
+}
+
+impl Frame {
+    /// The task of the number, at the beginning of its procedure's code, with these registers.
+    pub fn first(
+        alloc: Global,
+        task: TaskNo,
+        procedure: u8,
+        values: Vec<Value>,
+        rights: [Option<DatumId>; 16],
+    ) -> Frame
+        ensures { result ≡ record { task = task; procedure = procedure; position = record { place = 0; values = values.items; loops = [] }; rights = rights; spent = 0 } }
+    {
+        Frame {
+            task,
+            procedure,
+            position: Position::first(alloc, values),
+            rights,
+            spent: 0,
+        }
+    }
+
+    pub fn task(&self) -> TaskNo
+        ensures { result ≡ self.now.task }
+    {
+        self.task
+    }
+
+    /// The number of its procedure in the program.
+    pub fn procedure(&self) -> u8
+        ensures { result ≡ self.now.procedure }
+    {
+        self.procedure
+    }
+
+    /// The place of the instruction that comes next.
+    pub fn place(&self) -> usize
+        ensures { result ≡ self.now.position.place }
+    {
+        self.position.place()
+    }
+
+    /// How many instructions it has done.
+    pub fn spent(&self) -> u64
+        ensures { result ≡ self.now.spent }
+    {
+        self.spent
+    }
+
+    /// How many local instructions its task does from here, before one that isn't local or can't be done; at most so
+    /// many.
+    pub fn local_steps(
+        &self,
+        alloc: Global,
+        program: &[Procedure],
+        most: u64,
+    ) -> Result<u64, AllocError>
+        ensures { IfOk result (IsStretch program.now self.now most) }
+    {
+        let Some(procedure) = program.get(usize::from(self.procedure)) else {
+            return Ok(0);
+        };
+        let mut position = self.position.try_clone(alloc)?;
+        count_local(alloc, procedure.code.as_slice(), &mut position, most)
+    }
+
+    pub fn position(&self) -> &Position
+        ensures { result.now ≡ self.now.position }
+    {
+        &self.position
+    }
+
+    /// A copy of the right registers.
+    pub(crate) fn rights(&self) -> [Option<DatumId>; 16]
+        ensures { result ≡ self.now.rights }
+    {
+        let mut copy = [None; 16];
+        copy.copy_from_slice(&self.rights);
+        copy
+    }
+
+    /// The id in a right register, if it has one.
+    pub(crate) fn right(&self, register: u8) -> Option<DatumId>
+        ensures { result ≡ right_at self.now.rights register }
+    {
+        self.rights.get(usize::from(register)).copied().flatten()
+    }
+
+    /// Whether every right register is empty.
+    pub fn is_clear(&self) -> bool
+        ensures { result ≡ list_all is_none self.now.rights }
+    {
+        self.rights.iter().all(|right| right.is_none())
+    }
+
+    /// Empties a right register.
+    pub(crate) fn empty(&mut self, register: u8)
+        ensures { self.new ≡ record self.old { rights = slice_set self.old.rights register None } }
+    {
+        set_in(&mut self.rights, register, None);
+    }
+
+    /// Puts an id into a right register.
+    pub(crate) fn fill(&mut self, register: u8, id: DatumId)
+        ensures { self.new ≡ record self.old { rights = slice_set self.old.rights register (Some id) } }
+    {
+        set_in(&mut self.rights, register, Some(id));
+    }
+
+    /// A value register gets the value, and the task goes on.
+    pub(crate) fn put(&mut self, register: u8, value: Value)
+        requires declared { register < length self.old.position.values }
+        requires inside { self.old.position.place < 2 ^ 63 }
+        ensures { self.new ≡ record self.old { position = at_next_place (with_value self.old.position register value) } }
+    {
+        self.position.put(register, value);
+    }
+
+    /// Goes on behind so many instructions after the next place.
+    pub(crate) fn skip(&mut self, skip: u16)
+        requires { self.old.position.place < 2 ^ 63 }
+        ensures { self.new ≡ record self.old { position = at_goal self.old.position skip } }
+    {
+        self.position.skip(skip);
+    }
+
+    /// Goes on to the next place.
+    pub(crate) fn go_on(&mut self)
+        requires { self.old.position.place < 2 ^ 63 }
+        ensures { self.new ≡ record self.old { position = at_next_place self.old.position } }
+    {
+        self.position.go_on();
+    }
+
+    /// Goes on behind a RULE or PUT, which counts, with these right registers.
+    pub fn go_behind(&mut self, rights: [Option<DatumId>; 16])
+        requires place { self.old.position.place < 2 ^ 63 }
+        requires spent { self.old.spent < 2 ^ 63 }
+        ensures { self.new ≡ gone_behind self.old rights }
+    {
+        self.position.go_on();
+        self.rights = rights;
+        self.spent += 1;
+    }
+
+    /// Counts one instruction more.
+    pub fn count(&mut self)
+        requires { self.old.spent < 2 ^ 63 }
+        ensures { self.new ≡ record self.old { spent = self.old.spent + 1 } }
+    {
+        self.spent += 1;
+    }
+
+    /// Moves it there by so many instructions.
+    pub fn move_to(&mut self, position: Position, steps: u64)
+        requires steps { steps < 2 ^ 63 }
+        requires spent { self.old.spent < 2 ^ 63 }
+        ensures { self.new ≡ record self.old { position = position; spent = self.old.spent + steps } }
+    {
+        self.position = position;
+        self.spent += steps;
+    }
+}
+
+fn set_in(rights: &mut [Option<DatumId>], register: u8, right: Option<DatumId>)
+    ensures { rights.new ≡ slice_set rights.old register right }
+{
+    let register = usize::from(register);
+    if register < rights.len() {
+        rights[register] = right;
+    }
+}

@@ -1,0 +1,68 @@
+//! One read less, and what is freed with it.
+
+ghost use Rattle.std.specs.Prelude.{◌≡◌, IfSome, fold};
+ghost use Rattle.std.specs.FinMap.{get};
+ghost use Rattle.std.specs.FinMap as map;
+ghost use Rattle.tw_types.specs.Store.{drop_read_within, settled};
+ghost use Rattle.tw_instr.specs.Parts.{data_of};
+
+use crate::datum::Datum;
+use std::collections::BTreeMap;
+use tw_ranked::RankedMap;
+use tw_types::DatumId;
+
+/// Takes one read of a datum whose type is nested so deep at most. Where it was the last right, the datum is freed.
+#[cycle(freeing)]
+pub fn drop_read_within(live: &mut BTreeMap<u64, Datum>, id: u64, depth: u8)
+    ensures { data_of live.new.entries ≡ drop_read_within depth (data_of live.old.entries) id }
+{
+    let Some(datum) = live.get_mut(&id) else {
+        return;
+    };
+    if datum.reads() == 0 {
+        return;
+    }
+    datum.take_read();
+    if !datum.is_unheld() {
+        return;
+    }
+    let Some(gone) = live.remove(&id) else {
+        return;
+    };
+    if depth == 0 {
+        return;
+    }
+    if let Some(members) = gone.into_members() {
+        drop_each(live, members, depth - 1);
+    }
+}
+
+/// Takes one read of each member of a container that is freed.
+#[cycle(freeing)]
+fn drop_each(live: &mut BTreeMap<u64, Datum>, members: RankedMap<DatumId>, depth: u8)
+    ensures { data_of live.new.entries ≡ fold (drop_read_within depth) (data_of live.old.entries) (map.values members) }
+{
+    for index in 0..members.len() {
+        if let Some((_, member)) = members.nth(index) {
+            drop_read_within(live, member.number(), depth);
+        }
+    }
+}
+
+/// Frees a datum that nobody holds.
+pub fn settle(live: &mut BTreeMap<u64, Datum>, id: u64)
+    ensures { IfSome (get (data_of live.old.entries) id) (λ x. data_of live.new.entries ≡ settled (data_of live.old.entries) id x) }
+{
+    let Some(datum) = live.get(&id) else {
+        return;
+    };
+    if !datum.is_unheld() {
+        return;
+    }
+    let Some(gone) = live.remove(&id) else {
+        return;
+    };
+    if let Some(members) = gone.into_members() {
+        drop_each(live, members, 2);
+    }
+}

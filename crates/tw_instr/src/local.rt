@@ -1,0 +1,265 @@
+//! The instructions of a task by itself.
+
+ghost use Rattle.std.specs.Prelude.{◌≡◌, ◌<◌, ◌≤◌, ◌^◌, IfOk, MatchResult, if◌then◌else◌};
+ghost use Rattle.tw_types.specs.Outcome.{Went};
+ghost use Rattle.tw_code.specs.declared.instr.LocalInstr.TheVariants.{Int as INT, Text as TEXT, Copy as COPY, Compute as COMPUTE, Concatenate as CAT, Length as LEN, Show as SHOW, ReadInt as READI, JumpEqual as JEQ, JumpLess as JLT, End as END};
+ghost use Rattle.tw_code.specs.machine.Local.{local_instr, same_value};
+ghost use Rattle.tw_code.specs.machine.Machine.{local_step, local_steps};
+ghost use Rattle.tw_code.specs.machine.Position.{at_goal, at_next_place};
+ghost use Rattle.tw_code.specs.machine.Position.{Position as Where};
+ghost use Rattle.tw_instr.specs.Attempts.{Changes, Gives, IsStopped, Leaves};
+
+use crate::code::instr_at;
+use crate::failure::Failure;
+use crate::position::Position;
+use crate::value_registers::{int_at, must_have_type, text_at, value_at};
+use crate::stopped::Stopped;
+use std::alloc::{AllocError, Global};
+use tw_code::compute::{int_shown_as, joined, result_of, shown};
+use tw_code::{Arithmetic, Instr, LocalInstr};
+use tw_types::{Cause, Scalar, Text, Value};
+
+/// Whether two values are the same; they must be of one type.
+fn same_value(left: &Value, right: &Value) -> Result<bool, Failure>
+    ensures { Gives (same_value left.now right.now) result }
+{
+    match (left, right) {
+        (Value::Int(left), Value::Int(right)) => Ok(left == right),
+        (Value::Text(left), Value::Text(right)) => Ok(left.as_str() == right.as_str()),
+        (Value::Int(_), Value::Text(_)) | (Value::Text(_), Value::Int(_)) => {
+            Err(Failure::Trap(Cause::WrongRegister))
+        }
+    }
+}
+
+fn int(position: &mut Position, to: u8, value: i64) -> Result<(), Failure>
+    requires { position.old.place < 2 ^ 63 }
+    ensures { Leaves (local_instr (INT to value) position.old) position.old result position.new }
+{
+    must_have_type(position, to, Scalar::Int)?;
+    position.put(to, Value::Int(value));
+    Ok(())
+}
+
+fn text(alloc: Global, position: &mut Position, to: u8, text: &Text) -> Result<(), Failure>
+    requires { position.old.place < 2 ^ 63 }
+    ensures { Leaves (local_instr (TEXT to text.now) position.old) position.old result position.new }
+{
+    must_have_type(position, to, Scalar::Text)?;
+    let copy = text.try_clone(alloc)?;
+    position.put(to, Value::Text(copy));
+    Ok(())
+}
+
+fn copy(alloc: Global, position: &mut Position, to: u8, from: u8) -> Result<(), Failure>
+    requires { position.old.place < 2 ^ 63 }
+    ensures { Leaves (local_instr (COPY to from) position.old) position.old result position.new }
+{
+    let value = value_at(position, from)?;
+    must_have_type(position, to, value.scalar())?;
+    let copy = value.try_clone(alloc)?;
+    position.put(to, copy);
+    Ok(())
+}
+
+fn compute(
+    position: &mut Position,
+    operation: Arithmetic,
+    to: u8,
+    left: u8,
+    right: u8,
+    skip: u16,
+) -> Result<(), Failure>
+    requires { position.old.place < 2 ^ 63 }
+    ensures { Leaves (local_instr (COMPUTE operation to left right skip) position.old) position.old result position.new }
+{
+    must_have_type(position, to, Scalar::Int)?;
+    let left = int_at(position, left)?;
+    let right = int_at(position, right)?;
+    match result_of(operation, left, right) {
+        Some(number) => position.put(to, Value::Int(number)),
+        None => position.skip(skip),
+    }
+    Ok(())
+}
+
+fn concatenate(
+    alloc: Global,
+    position: &mut Position,
+    to: u8,
+    left: u8,
+    right: u8,
+    skip: u16,
+) -> Result<(), Failure>
+    requires { position.old.place < 2 ^ 63 }
+    ensures { Leaves (local_instr (CAT to left right skip) position.old) position.old result position.new }
+{
+    must_have_type(position, to, Scalar::Text)?;
+    let joined = joined(alloc, text_at(position, left)?, text_at(position, right)?)?;
+    match joined {
+        Some(text) => position.put(to, Value::Text(text)),
+        None => position.skip(skip),
+    }
+    Ok(())
+}
+
+fn length(position: &mut Position, to: u8, from: u8) -> Result<(), Failure>
+    requires { position.old.place < 2 ^ 63 }
+    ensures { Leaves (local_instr (LEN to from) position.old) position.old result position.new }
+{
+    must_have_type(position, to, Scalar::Int)?;
+    let length = text_at(position, from)?.as_str().len() as i64;
+    position.put(to, Value::Int(length));
+    Ok(())
+}
+
+fn show(alloc: Global, position: &mut Position, to: u8, from: u8) -> Result<(), Failure>
+    requires { position.old.place < 2 ^ 63 }
+    ensures { Leaves (local_instr (SHOW to from) position.old) position.old result position.new }
+{
+    must_have_type(position, to, Scalar::Text)?;
+    let number = int_at(position, from)?;
+    let text = shown(alloc, number)?;
+    position.put(to, Value::Text(text));
+    Ok(())
+}
+
+fn read_int(
+    alloc: Global,
+    position: &mut Position,
+    to: u8,
+    from: u8,
+    skip: u16,
+) -> Result<(), Failure>
+    requires { position.old.place < 2 ^ 63 }
+    ensures { Leaves (local_instr (READI to from skip) position.old) position.old result position.new }
+{
+    must_have_type(position, to, Scalar::Int)?;
+    let number = int_shown_as(alloc, text_at(position, from)?)?;
+    match number {
+        Some(number) => position.put(to, Value::Int(number)),
+        None => position.skip(skip),
+    }
+    Ok(())
+}
+
+fn skip_if(position: &mut Position, condition: bool, skip: u16)
+    requires { position.old.place < 2 ^ 63 }
+    ensures { position.new ≡ (if condition then at_goal position.old skip else at_next_place position.old) }
+{
+    if condition {
+        position.skip(skip);
+    } else {
+        position.go_on();
+    }
+}
+
+fn jump_equal(position: &mut Position, left: u8, right: u8, skip: u16) -> Result<(), Failure>
+    requires { position.old.place < 2 ^ 63 }
+    ensures { Leaves (local_instr (JEQ left right skip) position.old) position.old result position.new }
+{
+    let same = same_value(value_at(position, left)?, value_at(position, right)?)?;
+    skip_if(position, same, skip);
+    Ok(())
+}
+
+fn jump_less(position: &mut Position, left: u8, right: u8, skip: u16) -> Result<(), Failure>
+    requires { position.old.place < 2 ^ 63 }
+    ensures { Leaves (local_instr (JLT left right skip) position.old) position.old result position.new }
+{
+    let less = int_at(position, left)? < int_at(position, right)?;
+    skip_if(position, less, skip);
+    Ok(())
+}
+
+fn end(position: &mut Position) -> Result<(), Failure>
+    requires { position.old.place < 2 ^ 63 }
+    ensures { Leaves (local_instr END position.old) position.old result position.new }
+{
+    if position.end_turn() {
+        Ok(())
+    } else {
+        Err(Failure::Trap(Cause::NoLoop))
+    }
+}
+
+fn local_instr(alloc: Global, instr: &LocalInstr, position: &mut Position) -> Result<(), Failure>
+    requires { position.old.place < 2 ^ 63 }
+    ensures { Leaves (local_instr instr.now position.old) position.old result position.new }
+{
+    match instr {
+        LocalInstr::Int { to, value } => int(position, *to, *value),
+        LocalInstr::Text { to, text } => self::text(alloc, position, *to, text),
+        LocalInstr::Copy { to, from } => copy(alloc, position, *to, *from),
+        LocalInstr::Compute {
+            operation,
+            to,
+            left,
+            right,
+            skip,
+        } => compute(position, *operation, *to, *left, *right, *skip),
+        LocalInstr::Concatenate {
+            to,
+            left,
+            right,
+            skip,
+        } => concatenate(alloc, position, *to, *left, *right, *skip),
+        LocalInstr::Length { to, from } => length(position, *to, *from),
+        LocalInstr::Show { to, from } => show(alloc, position, *to, *from),
+        LocalInstr::ReadInt { to, from, skip } => read_int(alloc, position, *to, *from, *skip),
+        LocalInstr::Jump { skip } => {
+            position.skip(*skip);
+            Ok(())
+        }
+        LocalInstr::JumpEqual { left, right, skip } => jump_equal(position, *left, *right, *skip),
+        LocalInstr::JumpLess { left, right, skip } => jump_less(position, *left, *right, *skip),
+        LocalInstr::Repeat { turns } => Ok(position.begin_loop(*turns)?),
+        LocalInstr::End => end(position),
+    }
+}
+
+fn local_step(alloc: Global, code: &[Instr], position: &mut Position) -> Result<(), Stopped>
+    ensures { Changes (local_step code.now position.old) position.old result position.new }
+{
+    let Instr::Local(instr) = instr_at(code, position.place())? else {
+        return Err(Stopped::NotEnabled);
+    };
+    local_instr(alloc, instr, position)?;
+    Ok(())
+}
+
+/// So many steps, one after the other. Where one is stopped the position is that of the steps before it.
+pub fn local_steps(
+    alloc: Global,
+    code: &[Instr],
+    position: &mut Position,
+    steps: u64,
+) -> Result<(), Stopped>
+    ensures { MatchResult result (λ _. local_steps steps code.now position.old ≡ Went position.new) (IsStopped (local_steps steps code.now position.old)) }
+{
+    for _ in 0..steps {
+        local_step(alloc, code, position)?;
+    }
+    Ok(())
+}
+
+/// How many local instructions go from a position on, at most so many. The position is that behind them.
+pub fn count_local(
+    alloc: Global,
+    code: &[Instr],
+    position: &mut Position,
+    most: u64,
+) -> Result<u64, AllocError>
+    ensures few { IfOk result (λ n. n ≤ most) }
+    ensures go { IfOk result (λ n. local_steps n code.now position.old ≡ Went position.new) }
+    ensures whole { IfOk result (λ n. n < most → (at : Where) → local_step code.now position.new ≡ Went at → ⊥) }
+{
+    for steps in 0..most {
+        match local_step(alloc, code, position) {
+            Ok(()) => {}
+            Err(Stopped::NoMemory) => return Err(AllocError),
+            Err(Stopped::NotEnabled | Stopped::Trap(_)) => return Ok(steps),
+        }
+    }
+    Ok(most)
+}

@@ -1,0 +1,59 @@
+//! The instructions on data.
+
+ghost use Rattle.std.specs.Prelude.{◌<◌, ◌^◌};
+ghost use Rattle.tw_instr.specs.Contexts.{Does};
+ghost use Rattle.tw_instr.specs.Room.{HasRoom};
+
+use crate::frame::Frame;
+use crate::notices::Notices;
+use crate::{containers, rights, scalars};
+use std::alloc::Global;
+use tw_code::DataInstr;
+use crate::data::Data;
+use crate::failure::Failure;
+
+/// One instruction on data.
+pub fn data_instr(
+    alloc: Global,
+    instr: DataInstr,
+    store: &mut Data,
+    notices: &mut Notices,
+    frame: &mut Frame,
+) -> Result<(), Failure>
+    requires place { frame.old.position.place < 2 ^ 63 }
+    requires room { HasRoom store.old }
+    ensures { Does instr store.old notices.old frame.old result store.new notices.new frame.new }
+{
+    match instr {
+        DataInstr::New { write, read, ty } => {
+            rights::create(alloc, store, frame, write, read, ty)
+        }
+        DataInstr::Store { datum, from } => {
+            scalars::store(alloc, store, notices, frame, datum, from)
+        }
+        DataInstr::Get { to, datum } => scalars::get(alloc, store, frame, to, datum),
+        DataInstr::Insert {
+            container,
+            subscript,
+            member,
+            skip,
+        } => containers::insert(store, frame, container, subscript, member, skip),
+        DataInstr::Look {
+            member,
+            container,
+            subscript,
+            skip,
+        } => containers::look(store, frame, member, container, subscript, skip),
+        DataInstr::Size { to, container } => { containers::size(store, frame, to, container) }
+        DataInstr::SubscriptAt {
+            to,
+            container,
+            index,
+            skip,
+        } => containers::subscript_at(store, frame, to, container, index, skip),
+        DataInstr::CopyRead { to, from } => rights::copy_read(store, frame, to, from),
+        DataInstr::CopyWrite { to, from } => rights::copy_write(store, frame, to, from),
+        DataInstr::DropRead { right } => rights::drop_read(store, frame, right),
+        DataInstr::DropWrite { right } => rights::drop_write(store, notices, frame, right),
+    }
+}

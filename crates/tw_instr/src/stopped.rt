@@ -1,0 +1,49 @@
+//! Why an event isn't made.
+
+use crate::failure::Failure;
+use std::alloc::{AllocError, AllocFailed};
+use tw_types::Cause;
+
+/// Why an event, or a part of one, isn't made.
+#[derive(Clone, Copy)]
+pub enum Stopped {
+    NotEnabled,
+    Trap(Cause),
+    NoMemory,
+}
+
+impl From<Failure> for Stopped {
+    ghost use Rattle.std.specs.Prelude.{◌≡◌};
+    ghost use Rattle.tw_instr.specs.Attempts.{stopped_by};
+
+    ghost from_gives = { λ failure stopped. stopped ≡ stopped_by failure };
+
+    fn from(failure: Failure) -> Stopped {
+        match failure {
+            Failure::Trap(cause) => Stopped::Trap(cause),
+            Failure::NoMemory => Stopped::NoMemory,
+        }
+    }
+}
+
+impl From<AllocError> for Stopped {
+    ghost use Rattle.std.specs.Prelude.{◌≡◌};
+    ghost use Rattle.tw_instr.specs.declared.stopped.Stopped.TheVariants.{NoMemory};
+
+    ghost from_gives = { λ _ stopped. stopped ≡ NoMemory };
+
+    fn from(_: AllocError) -> Stopped {
+        Stopped::NoMemory
+    }
+}
+
+impl<T: Drop> From<AllocFailed<T>> for Stopped {
+    ghost use Rattle.std.specs.Prelude.{◌≡◌};
+    ghost use Rattle.tw_instr.specs.declared.stopped.Stopped.TheVariants.{NoMemory};
+
+    ghost from_gives = { λ _ stopped. stopped ≡ NoMemory };
+
+    fn from(_: AllocFailed<T>) -> Stopped {
+        Stopped::NoMemory
+    }
+}

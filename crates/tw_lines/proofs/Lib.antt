@@ -1,5 +1,0 @@
-pub mod Once
-pub mod Texts
-pub mod First
-pub mod Breaks
-pub mod Writing

@@ -1,7 +1,0 @@
-use Rattle.std.proofs.Common.{◌≡◌}
-use Rattle.tw_types.specs.Outcome.{Went}
-use Rattle.tw_code.specs.machine.Machine.{local_steps}
-use Rattle.tw_local.proofs.local.count_local.Given as goal
-
-abbrev pub invariant-loop-steps : goal.invariant-loop-steps
-invariant-loop-steps l = local_steps l.steps l.code l.initial.position ≡ Went l.position

@@ -1,0 +1,7 @@
+use Rattle.std.proofs.Common.{◌≡◌, map}
+use Rattle.std.specs.List.{list_any}
+use Rattle.tw_types.specs.Rule.{is_releasable}
+use Rattle.tw_machine.proofs.rules.has_releasable.Given as goal
+
+abbrev pub invariant-loop-rule : goal.invariant-loop-rule
+invariant-loop-rule l = list_any is_releasable (map (λ e. e.1) l.rules.entries) ≡ list_any is_releasable (map (λ e. e.1) l.rule-iterator)

@@ -1,0 +1,11 @@
+use Rattle.std.proofs.Common.{◌≡◌, ◌≤◌, drop, length, map}
+use Rattle.tw_code.specs.machine.State.{filled, values_in}
+use Rattle.tw_instr.specs.Arguments.{arg_of}
+use Rattle.tw_machine.proofs.Filling.{after}
+use Rattle.tw_machine.proofs.task.first_values.Given as goal
+
+abbrev pub invariant-loop-arg : goal.invariant-loop-arg
+invariant-loop-arg l = record {
+  rest : filled (values_in (map arg_of l.args)) l.registers ≡ after l.values.items (filled (values_in (map arg_of (drop l.arg-index l.args))) (drop (length l.values.items) l.registers));
+  short : length l.values.items ≤ length l.registers;
+}

@@ -1,0 +1,179 @@
+//! The rules that are pending.
+
+ghost use Rattle.std.specs.Prelude.{◌≡◌, ◌<◌, ◌^◌, not, ◌&&◌, map, OnErr, OnOk};
+ghost use Rattle.std.specs.FinMap.{empty, get, len, values};
+ghost use Rattle.std.specs.List.{list_any};
+ghost use Rattle.std.specs.List.Sorted.{IsStrictlySortedBy};
+ghost use Rattle.std.specs.Map.{keys_of};
+ghost use Rattle.std.specs.Ordering.{nat_cmp};
+ghost use Rattle.std.specs.Option.{option_copied};
+ghost use Rattle.tw_types.specs.Rule.{has_unasked, is_releasable, next_ask, next_ask_of, next_release, next_release_of};
+ghost use Rattle.tw_machine.specs.Parts.{rules_of};
+ghost use Rattle.tw_machine.specs.Waiting.{rule_made, rule_released, staged};
+
+use crate::rule::Rule;
+use std::alloc::{AllocError, Global};
+use std::collections::BTreeMap;
+use std::marker::Model;
+use tw_types::{RuleNo, Stage};
+
+/// The rules that are pending, by their numbers, and the number of the next one. No number is used again.
+#[derive(Drop)]
+pub struct Rules {
+    pending: BTreeMap<u64, Rule>,
+    next: u64,
+}
+
+impl Model for Rules {
+    ghost use Rattle.tw_types.specs.Rule.{Rule as RuleMeaning};
+    ghost use Rattle.std.specs.FinMap.{code};
+    ghost use Rattle.std.specs.Ordering.{nat_cmp};
+    ghost use Rattle.std.specs.Coded.{codes, coded_ℕ};
+    ghost use Rattle.tw_machine.specs.Parts.{rules_of};
+    ghost use Rattle.tw_machine.specs.Waiting.{RuleTable};
+
+    ghost Value = { RuleTable };
+
+    ghost coded = { Prim.hlevel (codes, code {X = RuleMeaning} {R = nat_cmp} coded_ℕ (Prim.hlevel codes)) };
+
+    ghost view = { λ r. record { pending = rules_of r.pending.entries; next = r.next } };
+}
+
+impl Rules {
+    /// None is pending; the first is rule 1.
+    pub fn new(alloc: Global) -> Rules
+        ensures { result ≡ record { pending = empty; next = 1 } }
+    {
+        Rules {
+            pending: BTreeMap::new(alloc),
+            next: 1,
+        }
+    }
+
+    pub fn pending(&self) -> &BTreeMap<u64, Rule>
+        ensures { rules_of result.now.entries ≡ self.now.pending }
+    {
+        &self.pending
+    }
+
+    pub fn len(&self) -> u64
+        ensures { result ≡ len self.now.pending }
+    {
+        self.pending.len() as u64
+    }
+
+    pub fn get(&self, number: RuleNo) -> Option<&Rule>
+        ensures { option_copied result ≡ get self.now.pending number }
+    {
+        self.pending.get(&number.number())
+    }
+
+    /// A rule of the next number is pending.
+    pub fn add(&mut self, rule: Rule) -> Result<(), AllocError>
+        requires { self.old.next < 2 ^ 63 }
+        ensures added { OnOk result (self.new ≡ rule_made self.old rule) }
+        ensures refused { OnErr result (self.new ≡ self.old) }
+    {
+        self.pending.insert(self.next, rule)?;
+        self.next += 1;
+        Ok(())
+    }
+
+    /// Takes a rule out.
+    pub fn remove(&mut self, number: RuleNo)
+        ensures { self.new ≡ rule_released self.old number }
+    {
+        let _released = self.pending.remove(&number.number());
+    }
+
+    /// Puts a parameter of a rule at a stage, if the rule is pending.
+    pub fn set_stage(&mut self, number: RuleNo, parameter: u8, stage: Stage)
+        ensures { self.new ≡ staged self.old number parameter stage }
+    {
+        let Some(rule) = self.pending.get_mut(&number.number()) else {
+            return;
+        };
+        rule.set_stage(parameter, stage);
+    }
+
+    /// Whether no rule has anything unasked, and none can be released.
+    pub fn are_idle(&self) -> bool
+        ensures { result ≡ (not (list_any has_unasked (values self.now.pending)) && not (list_any is_releasable (values self.now.pending))) }
+    {
+        let has_unasked = has_unasked(&self.pending);
+        let has_releasable = has_releasable(&self.pending);
+        neither(has_unasked, has_releasable)
+    }
+
+    /// The rule and the parameter that the engine asks for next: of its rules the least, and of that the least
+    /// parameter that is unasked.
+    pub fn next_ask(&self, engine: u8) -> Option<(RuleNo, u8)>
+        ensures { result ≡ next_ask engine self.now.pending }
+    {
+        next_ask_of(&self.pending, engine)
+    }
+
+    /// The rule that the engine releases next: of its rules the least that can be.
+    pub fn next_release(&self, engine: u8) -> Option<RuleNo>
+        ensures { result ≡ next_release engine self.now.pending }
+    {
+        next_release_of(&self.pending, engine)
+    }
+}
+
+fn neither(first: bool, second: bool) -> bool
+    ensures { result ≡ (not first && not second) }
+{
+    !first && !second
+}
+
+/// Whether any of the rules has a parameter that is unasked.
+fn has_unasked(rules: &BTreeMap<u64, Rule>) -> bool
+    ensures is { result ≡ list_any has_unasked (map (λ e. e.1) rules.now.entries) }
+    ensures sorted { IsStrictlySortedBy nat_cmp (keys_of rules.now.entries) }
+{
+    for (_, rule) in rules {
+        if rule.has_unasked() {
+            return true;
+        }
+    }
+    false
+}
+
+/// Whether any of the rules can be released.
+fn has_releasable(rules: &BTreeMap<u64, Rule>) -> bool
+    ensures { result ≡ list_any is_releasable (map (λ e. e.1) rules.now.entries) }
+{
+    for (_, rule) in rules {
+        if rule.is_releasable() {
+            return true;
+        }
+    }
+    false
+}
+
+fn next_ask_of(rules: &BTreeMap<u64, Rule>, engine: u8) -> Option<(RuleNo, u8)>
+    ensures is { result ≡ next_ask_of engine rules.now.entries }
+    ensures sorted { IsStrictlySortedBy nat_cmp (keys_of rules.now.entries) }
+{
+    for (number, rule) in rules {
+        if rule.engine() == engine {
+            if let Some(parameter) = rule.first_unasked() {
+                return Some((RuleNo::new(*number), parameter));
+            }
+        }
+    }
+    None
+}
+
+fn next_release_of(rules: &BTreeMap<u64, Rule>, engine: u8) -> Option<RuleNo>
+    ensures is { result ≡ next_release_of engine rules.now.entries }
+    ensures sorted { IsStrictlySortedBy nat_cmp (keys_of rules.now.entries) }
+{
+    for (number, rule) in rules {
+        if rule.engine() == engine && rule.is_releasable() {
+            return Some(RuleNo::new(*number));
+        }
+    }
+    None
+}

@@ -1,0 +1,182 @@
+//! Tasks that wait.
+
+ghost use Rattle.std.specs.Prelude.{◌≡◌, ◌<◌, ◌≤◌, ◌++◌, length, drop, map, MatchResult, Ok, IfOk, OnOk};
+ghost use Rattle.tw_types.specs.Task.{is_eligible, is_for};
+ghost use Rattle.tw_code.specs.machine.State.{filled, frame_of, ids_in, values_in};
+ghost use Rattle.tw_code.specs.machine.Rights.{first_rights};
+ghost use Rattle.tw_code.specs.machine.Opening.{main_task};
+ghost use Rattle.tw_types.specs.Value.{blank_of};
+ghost use Rattle.tw_instr.specs.Attempts.{Fails, Gives};
+ghost use Rattle.tw_instr.specs.Arguments.{arg_of};
+
+use std::alloc::{AllocError, Global};
+use std::marker::Model;
+use tw_code::Procedure;
+use tw_instr::{Arg, Failure, Frame, keep, procedure_of};
+use tw_types::{Actor, Cause, DatumId, Kind, Scalar, TaskNo, Value};
+
+/// A task: its procedure with the kind of that, the target if it has one, and at most eight arguments.
+#[derive(Drop)]
+pub struct Task {
+    pub(crate) kind: Kind,
+    pub(crate) procedure: u8,
+    pub(crate) priority: i64,
+    pub(crate) target: Option<u8>,
+    pub(crate) args: Vec<Arg>,
+}
+
+impl Model for Task {
+    ghost use Rattle.std.specs.Prelude.{◌≤◌, map, length};
+    ghost use Rattle.tw_types.specs.Task.{Task as Meaning};
+
+    ghost Value = { Meaning };
+
+    ghost use Rattle.tw_instr.specs.Arguments.{arg_of};
+
+    ghost view = { λ t. record { kind = t.kind; procedure = t.procedure; priority = t.priority; target = t.target; args = map arg_of t.args.items } };
+
+    ghost invariant = { λ t. length t.args.items ≤ 8 };
+}
+
+impl Task {
+    /// Main, for any engine, with the ids of its rights.
+    pub fn main(alloc: Global, rights: &[DatumId]) -> Result<Task, AllocError>
+        requires { length rights.now ≤ 8 }
+        ensures { IfOk result (λ task. task ≡ main_task rights.now) }
+    {
+        let mut args = Vec::new(alloc);
+        for id in rights {
+            keep(&mut args, Arg::Right(*id))?;
+        }
+        Ok(Task {
+            kind: Kind::Control,
+            procedure: 0,
+            priority: 0,
+            target: None,
+            args,
+        })
+    }
+
+    /// A task of these parts.
+    pub fn new(kind: Kind, procedure: u8, priority: i64, target: Option<u8>, args: Vec<Arg>) -> Task
+        requires { length args.items ≤ 8 }
+        ensures { result ≡ record { kind = kind; procedure = procedure; priority = priority; target = target; args = map arg_of args.items } }
+    {
+        Task {
+            kind,
+            procedure,
+            priority,
+            target,
+            args,
+        }
+    }
+
+    /// The number of its procedure in the program.
+    pub fn procedure(&self) -> u8
+        ensures { result ≡ self.now.procedure }
+    {
+        self.procedure
+    }
+
+    pub fn priority(&self) -> i64
+        ensures { result ≡ self.now.priority }
+    {
+        self.priority
+    }
+
+    /// The number of the one actor that may take it, if not any.
+    pub fn target(&self) -> Option<u8>
+        ensures { result ≡ self.now.target }
+    {
+        self.target
+    }
+
+    pub fn args(&self) -> &[Arg]
+        ensures { map arg_of result.now ≡ self.now.args }
+    {
+        &self.args
+    }
+
+    /// Whether the actor may take it.
+    pub fn is_eligible(&self, actor: Actor) -> bool
+        ensures { result ≡ is_eligible actor self.now }
+    {
+        actor.may_take(self.kind) && is_for(self.target, actor.number())
+    }
+
+    /// The task of the number, at its start: its values in their order fill the first value registers, which must
+    /// be of their types, and the others are blank; the ids of its rights fill the first right registers.
+    pub fn begin(&self, alloc: Global, program: &[Procedure], number: u64) -> Result<Frame, Failure>
+        ensures { Gives (frame_of program.now number self.now) result }
+    {
+        let procedure = procedure_of(program, self.procedure)?;
+        let values = filled(alloc, &self.args, procedure.registers.as_slice())?;
+        let rights = first_rights(&self.args);
+        let number = TaskNo::new(number);
+        Ok(Frame::first(alloc, number, self.procedure, values, rights))
+    }
+}
+
+fn filled(alloc: Global, args: &[Arg], registers: &[Scalar]) -> Result<Vec<Value>, Failure>
+    ensures { MatchResult result (λ values. filled (values_in (map arg_of args.now)) registers.now ≡ Ok values.items) (Fails (filled (values_in (map arg_of args.now)) registers.now)) }
+{
+    let mut values = first_values(alloc, args, registers)?;
+    let others = &registers[values.len()..];
+    add_blanks(alloc, &mut values, others)?;
+    Ok(values)
+}
+
+fn first_values(alloc: Global, args: &[Arg], registers: &[Scalar]) -> Result<Vec<Value>, Failure>
+    ensures filled { MatchResult result (λ values. filled (values_in (map arg_of args.now)) registers.now ≡ Ok (values.items ++ map blank_of (drop (length values.items) registers.now))) (Fails (filled (values_in (map arg_of args.now)) registers.now)) }
+    ensures short { IfOk result (λ values. length values.items ≤ length registers.now) }
+{
+    let mut values = Vec::new(alloc);
+    for arg in args {
+        if let Arg::Value(value) = arg {
+            let declared = registers.get(values.len()).copied();
+            if declared != Some(value.scalar()) {
+                return Err(Failure::Trap(Cause::WrongRegister));
+            }
+            keep(&mut values, value.try_clone(alloc)?)?;
+        }
+    }
+    Ok(values)
+}
+
+fn add_blanks(
+    alloc: Global,
+    values: &mut Vec<Value>,
+    registers: &[Scalar],
+) -> Result<(), AllocError>
+    ensures { OnOk result (values.new.items ≡ values.old.items ++ map blank_of registers.now) }
+{
+    for ty in registers {
+        keep(values, Value::blank(alloc, *ty))?;
+    }
+    Ok(())
+}
+
+fn first_rights(args: &[Arg]) -> [Option<DatumId>; 16]
+    requires { length args.now ≤ 8 }
+    ensures { result ≡ first_rights (ids_in (map arg_of args.now)) }
+{
+    let mut rights = [None; 16];
+    let mut count = 0;
+    for arg in args {
+        if let Arg::Right(id) = arg {
+            rights[count] = Some(*id);
+            count += 1;
+        }
+    }
+    rights
+}
+
+/// Whether a task with this target is for the actor of the number.
+fn is_for(target: Option<u8>, number: u8) -> bool
+    ensures { result ≡ is_for target number }
+{
+    match target {
+        Some(target) => target == number,
+        None => true,
+    }
+}

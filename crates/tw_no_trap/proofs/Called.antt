@@ -1,0 +1,74 @@
+-- RULE and PUT don't trap where they are asked for.
+use Rattle.std.proofs.Common.{◌≡◌, ℕ, ◌+◌, ◌<◌, ◌==◌, Bool, true, false, if◌then◌else◌, List, [], ◌∷◌, length, slice_get, Option, Some, None, refl, ap, ◌∙◌, arith}
+use Rattle.std.proofs.lemmas.Bool.{eqb-true, eq-eqb}
+use Rattle.std.specs.FinMap.{get}
+use Rattle.tw_types.specs.declared.cause.Cause.TheVariants.{FreedDatum, WrongType, WrongRegister, ArgumentNotClosed, WrongCall}
+use Rattle.tw_types.specs.declared.data_type.Scalar.{Scalar}
+use Rattle.tw_types.specs.declared.param.Param.{Param}
+use Rattle.tw_types.specs.Actor.{is_control}
+use Rattle.std.specs.Option.{ok_or}
+use Rattle.tw_types.specs.Store.{Datum}
+use Rattle.tw_code.specs.declared.instr.Action.{Action}
+use Rattle.tw_code.specs.declared.procedure.Procedure.{Procedure}
+use Rattle.tw_code.specs.machine.Arguments.{procedure_of, HandedOver, handed_over, Called, called, put_called, values_suit, all_pass, is_live, is_of_type, is_closed_if_asked}
+use Rattle.tw_code.specs.machine.Data.{Context}
+use Rattle.tw_code.specs.machine.Rights.{Typing}
+use Rattle.tw_code.specs.accepting.Typing.{asks_args, asks_callee, asks_action, without_args}
+use Rattle.tw_code.specs.machine.Holders.{read_by, write_by, over}
+use Rattle.tw_no_trap.proofs.Over.{over_params}
+use Rattle.tw_no_trap.specs.Invariant.{ValuesFit}
+use Rattle.tw_types.proofs.Freeing.{held_is_there}
+use Rattle.tw_no_trap.proofs.Given.{GivenSo, moved_goes, values_met, all_live, all_typed, all_closed}
+use Rattle.tw_no_trap.proofs.Values.{AllYes}
+use Rattle.tw_no_trap.proofs.Registers.{Fits}
+use Rattle.tw_no_trap.proofs.Steps.{Goes, goes, goes_must, goes_more}
+
+-- the procedure that is called, with as many parameters as arguments
+pub record Callee (waits : Bool) (registers : List Scalar) (o : Option Procedure) (args : List ℕ) (typing : Typing) : Type 0 where
+  pub procedure : Procedure
+  pub is : o ≡ Some procedure
+  pub long : length args ≡ length procedure.params
+  pub met : AllYes (asks_args waits registers procedure.params args typing)
+
+pub callee_met : (waits : Bool) (registers : List Scalar) (o : Option Procedure) (args : List ℕ) (typing : Typing) → AllYes (asks_callee waits registers o args typing) → Callee waits registers o args typing
+callee_met waits registers None args typing met = let z : false ≡ true = met.0 in cc
+callee_met waits registers (Some p) args typing met = by (length args == length p.params) refl met
+  where
+    by : (b : Bool) → (length args == length p.params) ≡ b → AllYes (if b then asks_args waits registers p.params args typing else (13, false) ∷ []) → Callee waits registers (Some p) args typing
+    by true e met = record { procedure = p; is = refl; long = eqb-true (length args) (length p.params) e; met = met }
+    by false e met = let z : false ≡ true = met.0 in cc
+
+module _ (program : List Procedure) (p : Procedure) (c : Context) (typing : Typing) (r w : ℕ → ℕ) (action : Action) (fits : Fits typing c r w) (values : ValuesFit p.registers c.position.values) where
+  -- what was called, and what was given away for it
+  pub record CalledSo (waits : Bool) (call : Called) : Type 0 where
+    pub callee : Procedure
+    pub is : slice_get program action.procedure ≡ Some callee
+    pub procedure : call.task.procedure ≡ action.procedure
+    pub params : call.params ≡ callee.params
+    pub so : GivenSo waits c.store callee.params typing c.rights (without_args callee.params action.args typing) (record { args = call.task.args; rights = call.rights })
+
+  -- what was given away was held, so it is live
+  live_so : (waits : Bool) (params : List Param) (left : Typing) (given : HandedOver) → GivenSo waits c.store params typing c.rights left given → (d : ℕ) → 0 < over_params (read_by d) params given.args + over_params (write_by d) params given.args → (x : Datum) × (get c.store.live d ≡ Some x)
+  live_so waits params left given so d some =
+      let a = so.reads d in
+      let b = so.writes d in
+      held_is_there c.store.live (λ e. over (read_by e) typing c.rights + r e) (λ e. over (write_by e) typing c.rights + w e) d fits.balanced (omega arith)
+
+  pub called_goes : (waits : Bool) → AllYes (asks_action waits program p action typing) → Goes (called program p.kind c action) (CalledSo waits)
+  called_goes waits met =
+      let callee = callee_met waits p.registers (slice_get program action.procedure) action.args typing met.1 in
+      let q = callee.procedure in
+      goes (procedure_of program action.procedure) _ _ q (ap (λ o. ok_or o WrongCall) callee.is)
+      (goes_must (length action.args == length q.params) WrongCall _ _ (eq-eqb (length action.args) (length q.params) callee.long)
+      (goes_must (is_control p.kind) WrongCall _ _ met.0
+      (goes_must (values_suit c.position.values q.params action.args) WrongRegister _ _ (values_met waits c.store p.registers c.position.values values q.params action.args typing callee.met)
+      (goes_more (handed_over c.position.values c.rights q.params action.args) _ _ _ (moved_goes waits c.store p.registers c.position.values values q.params action.args typing c.rights fits.rights callee.met callee.long)
+      (λ given so.
+      goes_must (all_pass is_live c.store.live q.params given.args) FreedDatum _ _ (all_live waits c.store q.params given.args so.args (live_so waits q.params _ given so))
+      (goes_must (all_pass is_of_type c.store.live q.params given.args) WrongType _ _ (all_typed waits c.store q.params given.args so.args)
+      (record { callee = q; is = callee.is; procedure = refl; params = refl; so = so })))))))
+
+  pub put_goes : AllYes (asks_action false program p action typing) → Goes (put_called program p.kind c action) (CalledSo false)
+  put_goes met = goes_more (called program p.kind c action) _ _ _ (called_goes false met)
+      (λ call so. goes_must (all_pass is_closed_if_asked c.store.live call.params call.task.args) ArgumentNotClosed _ _
+      (ap (λ ps. all_pass is_closed_if_asked c.store.live ps call.task.args) so.params ∙ all_closed c.store so.callee.params call.task.args so.so.args) so)

@@ -1,0 +1,259 @@
+-- Each input that main is given makes a store that is right: closed, with one read, which main holds.
+use Rattle.std.proofs.Common.{◌≡◌, ℕ, ◌+◌, ◌<◌, ◌≤◌, ◌⊎◌, inl, inr, ℤ, Bool, true, false, ◌&&◌, List, [], ◌∷◌, map, fold, length, Some, None, refl, sym, ap, subst, ◌∙◌, arith}
+use Rattle.std.proofs.lemmas.Bool.{and_parts, cases_eq, ne_eqb}
+use Rattle.std.proofs.lemmas.Int.{ints}
+use Rattle.std.proofs.lemmas.Option.{same_Some}
+use Rattle.std.specs.Cmp.{int_cmp_total}
+use Rattle.std.specs.FinMap as fin
+use Rattle.std.specs.FinMap.{get, get-empty, insert, int_cmp-IsAntisymmetric}
+use Rattle.std.specs.Ordering.{int_cmp}
+use Rattle.std.specs.Prelude.{int_lt}
+use Rattle.tw_types.specs.declared.data_type.Scalar.{Scalar}
+use Rattle.tw_types.specs.declared.data_type.Scalar.TheVariants as scalar
+use Rattle.tw_types.specs.declared.input.Input.{Input}
+use Rattle.tw_types.specs.declared.input.Input.TheVariants as input
+use Rattle.tw_types.specs.declared.param.Mode.{Mode}
+use Rattle.tw_types.specs.declared.value.Value.{Value}
+use Rattle.tw_types.specs.declared.value.Value.TheVariants as value
+use Rattle.tw_types.specs.Counts.{Balanced, HaveWriters, count_of, hits, subscripts_in}
+use Rattle.tw_types.specs.DataType.{container_of, same_type, scalar_type}
+use Rattle.tw_types.specs.Nesting.{NestedScalar}
+use Rattle.tw_types.specs.Store.{Contains, Datum, Store, added, is_closed}
+use Rattle.tw_types.specs.TypedStore.{IsTypedStore}
+use Rattle.tw_types.specs.Value.{scalar_of}
+use Rattle.tw_types.proofs.Freeing.{data_insert_same, hits_other, hits_same}
+use Rattle.tw_types.proofs.Totals.{insert_other, total-empty}
+use Rattle.tw_code.specs.machine.Inputs.{are_few, is_input_of, is_short, rises, rises_from}
+use Rattle.std.specs.List.{list_all}
+use Rattle.tw_code.specs.machine.Opening.{closed_scalar, numbered, with_container, with_input}
+use Rattle.tw_no_trap.specs.Invariant.{Holds}
+use Rattle.tw_no_trap.proofs.DataInsert.{count_total, values_insert}
+use Rattle.tw_no_trap.proofs.Filling.{IsFilling, IsNext, added_filling, filled, filled_balanced, filled_typed, inside-le, not_yet, plain_next, undisturbed_added}
+use Rattle.tw_no_trap.proofs.Registers.{Undisturbed, holds_undisturbed}
+use Rattle.tw_no_trap.proofs.Scalars.{same_types}
+
+-- ---- subscripts that rise
+
+rises_on : {A : Type 0} (e : ℤ × A) (es : List (ℤ × A)) → rises (e ∷ es) ≡ true → rises es ≡ true
+rises_on e [] h = refl
+rises_on e (f ∷ es) h = (and_parts (int_lt e.0 f.0) (rises_from f.0 es) h).1
+
+-- no later subscript is one that isn't above
+not_numbered : (es : List (ℤ × Value)) (id : ℕ) (before k : ℤ) → rises_from before es ≡ true → int_lt before k ≡ false → get (numbered id es) k ≡ None
+not_numbered [] id before k h low = get-empty int_cmp k
+not_numbered (e ∷ es) id before k h low =
+    let both = and_parts (int_lt before e.0) (rises_from e.0 es) h in
+    insert_other int_cmp int_cmp_total int_cmp-IsAntisymmetric (numbered (id + 1) es) e.0 id k (λ z. different z both.0) ∙ not_numbered es (id + 1) e.0 k both.1 (lower both.0 (int_lt e.0 k) refl)
+  where
+    different : k ≡ e.0 → int_lt before e.0 ≡ true → ⊥
+    different z above = let t : true ≡ false = sym above ∙ ap (int_lt before) (sym z) ∙ low in cc
+
+    lower : int_lt before e.0 ≡ true → (b : Bool) → int_lt e.0 k ≡ b → int_lt e.0 k ≡ false
+    lower above false is = is
+    lower above true is = absurd (omega (arith, ints))
+
+new_subscript : (e : ℤ × Value) (es : List (ℤ × Value)) (id : ℕ) → rises (e ∷ es) ≡ true → get (numbered id es) e.0 ≡ None
+new_subscript e es id h = not_numbered es id e.0 e.0 h (itself (int_lt e.0 e.0) refl)
+  where
+    itself : (b : Bool) → int_lt e.0 e.0 ≡ b → int_lt e.0 e.0 ≡ false
+    itself false is = is
+    itself true is = absurd (omega (arith, ints))
+
+-- ---- the ids of the members
+
+out_of_range : (es : List (ℤ × Value)) (id d : ℕ) → rises es ≡ true → (d < id) ⊎ (id + length es ≤ d) → count_of d (fin.values (numbered id es)) ≡ 0
+out_of_range [] id d h out = count_total d fin.empty ∙ total-empty int_cmp (hits d)
+out_of_range (e ∷ es) id d h out =
+    let one = values_insert (numbered (id + 1) es) e.0 id d (new_subscript e es (id + 1) h) in
+    let hit = hits_other d id (λ z. not_here z out) in
+    let rest = out_of_range es (id + 1) d (rises_on e es h) (further out) in
+    omega arith
+  where
+    not_here : id ≡ d → (d < id) ⊎ (id + length (e ∷ es) ≤ d) → ⊥
+    not_here z (inl low) = omega arith
+    not_here z (inr high) = omega arith
+
+    further : (d < id) ⊎ (id + length (e ∷ es) ≤ d) → (d < id + 1) ⊎ (id + 1 + length es ≤ d)
+    further (inl low) = inl (omega arith)
+    further (inr high) = inr (omega arith)
+
+in_range : (es : List (ℤ × Value)) (id d : ℕ) → rises es ≡ true → id ≤ d → d < id + length es → count_of d (fin.values (numbered id es)) ≡ 1
+in_range [] id d h low high = absurd (omega arith)
+in_range (e ∷ es) id d h low high =
+    let one = values_insert (numbered (id + 1) es) e.0 id d (new_subscript e es (id + 1) h) in
+    elim (cases_eq id d) [
+      | inl same ↦
+          let hit : hits d id ≡ 1 = ap (λ k. hits k id) (sym same) ∙ hits_same id in
+          let rest = out_of_range es (id + 1) d (rises_on e es h) (inl (omega arith)) in
+          omega arith
+      | inr other ↦
+          let hit = hits_other d id other in
+          let rest = in_range es (id + 1) d (rises_on e es h) (omega arith) (omega arith) in
+          omega arith
+    ]
+
+-- ---- stores that are right
+
+-- typed, with so many reads and writes held outside
+pub record IsRight (s : Store) (r w : ℕ → ℕ) : Type 0 where
+  pub typed : IsTypedStore s
+  pub balanced : Balanced s.live r w
+  pub writers : HaveWriters s.live
+
+pub right_filled : (s : Store) (ty : Scalar) (r w : ℕ → ℕ) → IsRight s r w → IsFilling s ty 0 r w
+right_filled s ty r w h = filled s ty r w h.typed h.balanced h.writers
+
+pub filled_right : (s : Store) (ty : Scalar) (r w : ℕ → ℕ) → IsFilling s ty 0 r w → IsRight s r w
+filled_right s ty r w f = record { typed = filled_typed s ty r w f; balanced = filled_balanced s ty r w f; writers = f.writers }
+
+undisturbed_itself : (s : Store) → Undisturbed s s
+undisturbed_itself s = record { next = omega arith; kept = λ d y given at. (y, at, refl, λ c. c) }
+
+undisturbed_after : (s t u : Store) → Undisturbed s t → Undisturbed t u → Undisturbed s u
+undisturbed_after s t u a b = record {
+  next = (let x = a.next in let y = b.next in omega arith);
+  kept = λ d y given at.
+      let older = b.kept d y (let x = a.next in omega arith) at in
+      let oldest = a.kept d older.0 given older.1 in
+      (oldest.0, oldest.1, older.2 ∙ oldest.2, λ c. older.3 (oldest.3 c));
+}
+
+-- what an input leaves: one datum more that main holds a read of, and that it may wait for
+pub record IsGiven (s t : Store) (ty : NestedScalar) (r w : ℕ → ℕ) : Type 0 where
+  pub right : IsRight t (λ d. r d + hits d s.next) w
+  pub others : Undisturbed s t
+  pub holds : (mode : Mode) → Holds t (record { mode = mode; ty = ty }) s.next
+
+-- ---- members
+
+abbrev add_member : Store → ℤ × Value → Store
+add_member t e = added t (closed_scalar e.1)
+
+abbrev AreOf : Scalar → List (ℤ × Value) → Type 0
+AreOf ty [] = Unit {0}
+AreOf ty (e ∷ es) = (scalar_of e.1 ≡ ty) × AreOf ty es
+
+member_next : (t : Store) (ty : Scalar) (left : ℕ) (r w : ℕ → ℕ) (v : Value) → IsFilling t ty (left + 1) r w → scalar_of v ≡ ty → IsNext t (closed_scalar v) ty left r w r w
+member_next t ty left r w v f of =
+    let none = f.unheld t.next (not_yet t ty (left + 1) r w f) in
+    let here = f.soon t.next (omega arith) (omega arith) in
+    record {
+      content = (refl, refl);
+      shallow = omega arith;
+      writers = refl;
+      mine = λ c x at some. f.awaited c t.next x at (omega arith) some ∙ ap (λ u. container_of (scalar_type u)) (sym of);
+      awaited = λ c d x at l some. f.awaited c d x at (omega arith) some;
+      own = λ d l some. absurd (omega arith);
+      none = λ d l. refl;
+      soon = λ d l m. let h = f.soon d (omega arith) (omega arith) in omega arith;
+      never = λ d l. let h = f.never d (omega arith) in omega arith;
+      others = λ d other. (refl, refl);
+      reads = omega (arith, none.0);
+      writes = sym none.1;
+      some = omega arith;
+    }
+
+fill_members : (es : List (ℤ × Value)) (t : Store) (ty : Scalar) (r w : ℕ → ℕ) → IsFilling t ty (length es) r w → AreOf ty es → IsFilling (fold add_member t es) ty 0 r w × Undisturbed t (fold add_member t es)
+fill_members [] t ty r w f of = (f, undisturbed_itself t)
+fill_members (e ∷ es) t ty r w f of =
+    let g : IsFilling t ty (length es + 1) r w = subst (λ n. IsFilling t ty n r w) (omega arith) f in
+    let rest = fill_members es (added t (closed_scalar e.1)) ty r w (added_filling t ty (length es + 1) r w g (closed_scalar e.1) ty (length es) r w (member_next t ty (length es) r w e.1 g of.0)) of.1 in
+    (rest.0, undisturbed_after t (added t (closed_scalar e.1)) (fold add_member (added t (closed_scalar e.1)) es) (undisturbed_added t ty (length es + 1) r w g (closed_scalar e.1)) rest.1)
+
+-- ---- a datum that stands at the next id, closed
+
+closed_holds : (s : Store) (y : Datum) (mode : Mode) → is_closed y ≡ true → Holds (added s y) (record { mode = mode; ty = y.ty }) s.next
+closed_holds s y mode closed = record {
+  given = omega arith;
+  ty = λ x at. ap (λ (z : Datum). z.ty) (sym (same x at));
+  closed = λ x at c. ap is_closed (sym (same x at)) ∙ closed;
+}
+  where
+    same : (x : Datum) → get (insert s.live s.next y) s.next ≡ Some x → y ≡ x
+    same x at = same_Some y x (sym (data_insert_same s.live s.next y) ∙ at)
+
+-- ---- containers
+
+module _ (s : Store) (r w : ℕ → ℕ) (h : IsRight s r w) where
+  abbrev container : Scalar → List (ℤ × Value) → Datum
+  container ty es = record { ty = container_of (scalar_type ty); content = Contains (numbered (s.next + 1) es); reads = 1; writes = 0; subscribers = [] }
+
+  container_next : (ty : Scalar) (es : List (ℤ × Value)) → rises es ≡ true → IsNext s (container ty es) ty (length es) r w (λ d. r d + hits d s.next) w
+  container_next ty es up =
+      let f = right_filled s ty r w h in
+      let none = f.unheld s.next (not_yet s ty 0 r w f) in
+      let one = hits_same s.next in
+      let zero = f.never s.next (omega arith) in
+      record {
+        content = ne_eqb 1 0 (λ e. omega arith);
+        shallow = omega arith;
+        writers = tt;
+        mine = λ c x at some. absurd (nothing_yet f c s.next x at (omega arith) some);
+        awaited = λ c d x at l some. f.awaited c d x at (omega arith) some;
+        own = λ d l some. refl;
+        none = λ d l. out_of_range es (s.next + 1) d up (inl (omega arith));
+        soon = λ d l m. let a = in_range es (s.next + 1) d up (omega arith) (omega arith) in let b = f.never d (omega arith) in omega arith;
+        never = λ d l. let a = out_of_range es (s.next + 1) d up (inr (omega arith)) in let b = f.never d (omega arith) in omega arith;
+        others = λ d other. (let no_hit = hits_other d s.next (λ z. other (sym z)) in omega arith, refl);
+        reads = omega (arith, none.0);
+        writes = sym none.1;
+        some = omega arith;
+      }
+    where
+      nothing_yet : IsFilling s ty 0 r w → (c d : ℕ) (x : Datum) → get s.live c ≡ Some x → s.next ≤ d → 0 < subscripts_in d x → ⊥
+      nothing_yet f c d x at l some = let le = inside-le s c d x at in let zero = f.never d (omega arith) in omega arith
+
+  container_given : (ty : Scalar) (es : List (ℤ × Value)) → rises es ≡ true → AreOf ty es → IsGiven s (with_container s ty es) (container_of (scalar_type ty)) r w
+  container_given ty es up of =
+      let f = right_filled s ty r w h in
+      let first = added_filling s ty 0 r w f (container ty es) ty (length es) (λ d. r d + hits d s.next) w (container_next ty es up) in
+      let all = fill_members es (added s (container ty es)) ty (λ d. r d + hits d s.next) w first of in
+      record {
+        right = filled_right (with_container s ty es) ty (λ d. r d + hits d s.next) w all.0;
+        others = undisturbed_after s (added s (container ty es)) (with_container s ty es) (undisturbed_added s ty 0 r w f (container ty es)) all.1;
+        holds = λ mode. holds_undisturbed (added s (container ty es)) (with_container s ty es) all.1 (record { mode = mode; ty = container_of (scalar_type ty) }) s.next (closed_holds s (container ty es) mode refl);
+      }
+
+  scalar_given : (v : Value) → IsGiven s (added s (closed_scalar v)) (scalar_type (scalar_of v)) r w
+  scalar_given v =
+      let f = right_filled s (scalar_of v) r w h in
+      let none = f.unheld s.next (not_yet s (scalar_of v) 0 r w f) in
+      let one = hits_same s.next in
+      let next = plain_next s (scalar_of v) (scalar_of v) r w (λ d. r d + hits d s.next) w (closed_scalar v) f (refl, refl) (omega arith) refl refl
+      (λ d other. (let no_hit = hits_other d s.next (λ z. other (sym z)) in omega arith, refl)) (omega (arith, none.0)) (sym none.1) (omega arith) in
+      record {
+        right = filled_right (added s (closed_scalar v)) (scalar_of v) (λ d. r d + hits d s.next) w (added_filling s (scalar_of v) 0 r w f (closed_scalar v) (scalar_of v) 0 (λ d. r d + hits d s.next) w next);
+        others = undisturbed_added s (scalar_of v) 0 r w f (closed_scalar v);
+        holds = λ mode. closed_holds s (closed_scalar v) mode refl;
+      }
+
+  -- ---- each form of input
+
+  rises_made : {A : Type 0} (make : A → Value) (before : ℤ) (es : List (ℤ × A)) → rises_from before (map (λ e. (e.0, make e.1)) es) ≡ rises_from before es
+  rises_made make before [] = refl
+  rises_made make before (e ∷ es) = ap (λ b. int_lt before e.0 && b) (rises_made make e.0 es)
+
+  all_rise : {A : Type 0} (make : A → Value) (es : List (ℤ × A)) → rises es ≡ true → rises (map (λ e. (e.0, make e.1)) es) ≡ true
+  all_rise make [] up = refl
+  all_rise make (e ∷ es) up = rises_made make e.0 es ∙ up
+
+  all_of : {A : Type 0} (make : A → Value) (ty : Scalar) → ((a : A) → scalar_of (make a) ≡ ty) → (es : List (ℤ × A)) → AreOf ty (map (λ e. (e.0, make e.1)) es)
+  all_of make ty is [] = tt
+  all_of make ty is (e ∷ es) = (is e.1, all_of make ty is es)
+
+  pub input_given : (i : Input) (ty : NestedScalar) → is_input_of ty i ≡ true → IsGiven s (with_input s i) ty r w
+  input_given (input.Int n) ty fit = subst (λ t. IsGiven s (with_input s (input.Int n)) t r w) (sym (same_types ty (scalar_type scalar.Int) fit)) (scalar_given (value.Int n))
+  input_given (input.Text text) ty fit =
+      let both = and_parts (same_type ty (scalar_type scalar.Text)) (is_short text) fit in
+      subst (λ t. IsGiven s (with_input s (input.Text text)) t r w) (sym (same_types ty (scalar_type scalar.Text) both.0)) (scalar_given (value.Text text))
+  input_given (input.Ints es) ty fit =
+      let both = and_parts (same_type ty (container_of (scalar_type scalar.Int))) (are_few es && rises es) fit in
+      let up = (and_parts (are_few es) (rises es) both.1).1 in
+      subst (λ t. IsGiven s (with_input s (input.Ints es)) t r w) (sym (same_types ty (container_of (scalar_type scalar.Int)) both.0))
+      (container_given scalar.Int (map (λ e. (e.0, value.Int e.1)) es) (all_rise value.Int es up) (all_of value.Int scalar.Int (λ n. refl) es))
+  input_given (input.Texts es) ty fit =
+      let both = and_parts (same_type ty (container_of (scalar_type scalar.Text))) (are_few es && (rises es && list_all (λ (e : ℤ × List ℕ). is_short e.1) es)) fit in
+      let rest = (and_parts (are_few es) (rises es && list_all (λ (e : ℤ × List ℕ). is_short e.1) es) both.1).1 in
+      let up = (and_parts (rises es) (list_all (λ (e : ℤ × List ℕ). is_short e.1) es) rest).0 in
+      subst (λ t. IsGiven s (with_input s (input.Texts es)) t r w) (sym (same_types ty (container_of (scalar_type scalar.Text)) both.0))
+      (container_given scalar.Text (map (λ e. (e.0, value.Text e.1)) es) (all_rise value.Text es up) (all_of value.Text scalar.Text (λ text. refl) es))

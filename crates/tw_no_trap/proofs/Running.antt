@@ -1,0 +1,151 @@
+-- What right typings say of the code, and of a task that runs: what is asked, what is left, and what its registers hold.
+use Rattle.std.proofs.Common.{◌≡◌, ℕ, ◌+◌, ◌<◌, true, List, [], length, slice_get, Option, Some, None, refl, sym, ap, subst, ◌∙◌, arith}
+use Rattle.std.proofs.lemmas.List.{length-map}
+use Rattle.std.proofs.lemmas.Option.{slice_get-get_or, slice_get-map, slice_get_within, same_Some}
+use Rattle.std.specs.FinMap.{get}
+use Rattle.std.specs.Option.{option_flatten, option_map}
+use Rattle.tw_types.specs.declared.actor.Actor.{Actor}
+use Rattle.tw_types.specs.Mode.{is_closed_mode}
+use Rattle.tw_types.specs.Outcome.{Went}
+use Rattle.tw_types.specs.Store.{Datum, is_closed}
+use Rattle.tw_code.specs.declared.flow.Flow.{Flow}
+use Rattle.tw_code.specs.declared.flow.Flow.TheVariants.{Straight, Branch, Jump, Begin, Close, Stop}
+use Rattle.tw_code.specs.declared.flow.Way.{Way}
+use Rattle.tw_code.specs.declared.flow.Way.TheVariants.{Done, Refused}
+use Rattle.tw_code.specs.declared.instr.Instr.{Instr}
+use Rattle.tw_code.specs.declared.procedure.Procedure.{Procedure}
+use Rattle.tw_code.specs.accepting.Flow.{flow_of, flows, onward}
+use Rattle.tw_code.specs.accepting.Typing.{after, asks, start_typing}
+use Rattle.tw_code.specs.accepting.WellTyped.{IsEndOf}
+use Rattle.tw_code.specs.format.Program.{IsProgram}
+use Rattle.tw_code.specs.machine.Holders.{Typings, typing_at, typing_of}
+use Rattle.tw_code.specs.machine.Machine.{local_steps}
+use Rattle.tw_code.specs.machine.Position.{Position, goal_of}
+use Rattle.tw_code.specs.machine.Rights.{Right, Rights, Typing, right_at}
+use Rattle.tw_code.specs.machine.State.{Frame, State, context_of}
+use Rattle.tw_budget.proofs.Places.{end_within, no_refusals, not_last, stays}
+use Rattle.tw_budget.specs.Sound.{IsSound}
+use Rattle.tw_no_trap.specs.Invariant.{IsHeld, RightsFit}
+use Rattle.tw_no_trap.specs.NoTrap.{AreRight}
+use Rattle.tw_no_trap.proofs.Accepted as acceptance
+use Rattle.tw_no_trap.proofs.Framed.{Stands}
+use Rattle.tw_no_trap.proofs.Live.{typed_where_held}
+use Rattle.tw_no_trap.proofs.Moving.{Accepts, IsLeftBy, asked, inside, instr_there, steps_keep}
+use Rattle.tw_no_trap.proofs.Registers.{at_right}
+use Rattle.tw_no_trap.proofs.Safe.{accepts}
+use Rattle.tw_no_trap.proofs.Steps.{keeps_went}
+use Rattle.tw_no_trap.proofs.TaskEvents.{fits_of, other_reads, other_writes}
+use Rattle.tw_no_trap.proofs.Values.{AllYes}
+
+-- each later successor of a place is in the code
+onward_inside : (code : List Flow) → IsSound code → (place next : ℕ) (flow : Flow) (way : Way) → slice_get code place ≡ Some flow → onward way place flow ≡ Some next → next < length code
+onward_inside code s place next Straight Done at e = omega (arith, same_Some (place + 1) next e, not_last code s place Straight at refl)
+onward_inside code s place next Straight Refused at e = cc
+onward_inside code s place next (Branch skip) Done at e = omega (arith, same_Some (place + 1) next e, not_last code s place (Branch skip) at refl)
+onward_inside code s place next (Branch skip) Refused at e = subst (λ (n : ℕ). n < length code) (same_Some (goal_of place skip) next e) (stays code s place (goal_of place skip) (no_refusals code s place (Branch skip) at).0).0
+onward_inside code s place next (Jump skip) Done at e = subst (λ (n : ℕ). n < length code) (same_Some (goal_of place skip) next e) (stays code s place (goal_of place skip) (no_refusals code s place (Jump skip) at).0).0
+onward_inside code s place next (Jump skip) Refused at e = cc
+onward_inside code s place next (Begin turns) Done at e = omega (arith, same_Some (place + 1) next e, not_last code s place (Begin turns) at refl)
+onward_inside code s place next (Begin turns) Refused at e = cc
+onward_inside code s place next Close Done at e = omega (arith, same_Some (place + 1) next e, not_last code s place Close at refl)
+onward_inside code s place next Close Refused at e = cc
+onward_inside code s place next Stop Done at e = cc
+onward_inside code s place next Stop Refused at e = cc
+
+-- where the typing has nothing, a register is empty
+empty_where_free : (s : State) (typing : Typing) (rights : Rights) (k : ℕ) (o : Option ℕ) → RightsFit s.store typing rights → right_at typing k ≡ None → right_at rights k ≡ o → o ≡ None
+empty_where_free s typing rights k None fit free at = refl
+empty_where_free s typing rights k (Some d) fit free at =
+    let right = typed_where_held s.store typing rights k d fit at in
+    let both : None ≡ Some right.0 = sym free ∙ right.1 in
+    cc
+
+-- a register holds a live datum of the right's type, closed where the right says so
+pub record HoldsLive (s : State) (f : Frame) (k : ℕ) (right : Right) : Type 0 where
+  pub id : ℕ
+  pub register : right_at f.rights k ≡ Some id
+  pub x : Datum
+  pub live : get s.store.live id ≡ Some x
+  pub ty : x.ty ≡ right.ty
+  pub closed : is_closed_mode right.mode ≡ true → is_closed x ≡ true
+
+module _ (program : List Procedure) (typings : Typings) (is : IsProgram program) (are : AreRight program typings) where
+  -- ---- the code of a procedure
+
+  module _ (number : ℕ) (p : Procedure) (here : slice_get program number ≡ Some p) where
+    acc : Accepts program (typings number) p
+    acc = accepts program typings is are number p here
+
+    there : (place : ℕ) → place < length (flows p.code) → slice_get (typings number) place ≡ Some (typing_at typings number place)
+    there place h = slice_get-get_or (typings number) place [] (omega (arith, h, length-map p.code flow_of, acc.typed.long))
+
+    -- the parameters' typing stands at the first place
+    pub typed_at_start : typing_at typings number 0 ≡ start_typing p.params
+    typed_at_start = acc.typed.begins (typing_at typings number 0) (there 0 acc.sound.long)
+
+    -- each question of an instruction is met by the typing of its place
+    pub asked_at : (place : ℕ) (i : Instr) → slice_get p.code place ≡ Some i → AllYes (asks program p i (typing_at typings number place))
+    asked_at place i at = asked program (typings number) p acc place i at
+
+    -- a later successor, of either outcome, is in the code and has the typing that the instruction leaves
+    pub typed_after : (place next : ℕ) (i : Instr) (way : Way) → slice_get p.code place ≡ Some i → onward way place (flow_of i) ≡ Some next
+        → (next < length p.code) × (typing_at typings number next ≡ after program way i (typing_at typings number place))
+    typed_after place next i way at goes =
+        let flow : slice_get (flows p.code) place ≡ Some (flow_of i) = slice_get-map flow_of p.code place ∙ ap (option_map flow_of) at in
+        let within = onward_inside (flows p.code) acc.sound place next (flow_of i) way flow goes in (
+          omega (arith, within, length-map p.code flow_of),
+          acc.typed.later place next i way (typing_at typings number place) (typing_at typings number next) at (there place (slice_get_within (flows p.code) place (flow_of i) flow)) goes (there next within),
+        )
+
+    -- an END has the typing of its loop's first place
+    pub typed_at_end : (first place : ℕ) → IsEndOf p.code first place → typing_at typings number place ≡ typing_at typings number first
+    typed_at_end first place end =
+        let closes = end_within (flows p.code) first place end.4 in
+        acc.typed.loops place first (typing_at typings number place) (typing_at typings number first) end (there place closes.2) (there first (omega (arith, closes.1, closes.2)))
+
+  -- ---- a task that runs
+
+  module _ (s : State) (held : IsHeld program typings s) (a : Actor) (f : Frame) (runs : get s.frames a ≡ Some f) where
+    module _ (p : Procedure) (here : slice_get program f.procedure ≡ Some p) where
+      own : Accepts program (typings f.procedure) p
+      own = accepts program typings is are f.procedure p here
+
+      -- it stands in loops that were begun, within its budget, with values of the declared types
+      pub stands_there : Stands p f.spent f.position
+      stands_there = acceptance.stands program typings (accepts program typings is are) s held a f runs p here
+
+      -- at an instruction
+      pub instr_here : (i : Instr) × (slice_get p.code f.position.place ≡ Some i)
+      instr_here = instr_there program (typings f.procedure) p own p.code f.position.place (inside program (typings f.procedure) p own f.spent f.position stands_there)
+
+      module _ (n : ℕ) (to : Position) (went : local_steps n p.code f.position ≡ Went to) where
+        left_by : IsLeftBy program (typings f.procedure) p own (typing_of typings f) (f.spent + n) to
+        left_by = keeps_went (local_steps n p.code f.position) _ to (steps_keep program (typings f.procedure) p own n (typing_of typings f) f.spent f.position (record { stands = stands_there; typing_there = refl })) went
+
+        -- where local steps lead it stands again
+        pub steps_stand : Stands p (f.spent + n) to
+        steps_stand = left_by.stands
+
+        -- and they leave what the registers hold, through jumps and loops
+        pub steps_leave : typing_at typings f.procedure to.place ≡ typing_of typings f
+        steps_leave = left_by.typing_there
+
+        -- so the instruction there is asked of the same typing
+        pub asked_behind : (i : Instr) → slice_get p.code to.place ≡ Some i → AllYes (asks program p i (typing_of typings f))
+        asked_behind i at = subst (λ (typing : Typing). AllYes (asks program p i typing)) steps_leave (asked_at f.procedure p here to.place i at)
+
+    -- ---- its registers
+
+    -- where the typing has a right, such a datum stands in the register
+    pub register_holds : (k : ℕ) (right : Right) → right_at (typing_of typings f) k ≡ Some right → HoldsLive s f k right
+    register_holds k right typed =
+        let h = at_right k (typing_of typings f) (context_of s f) (other_reads program typings s a) (other_writes program typings s a) right (fits_of program typings s held a f runs) typed in
+        record { id = h.id; register = ap option_flatten h.register; x = h.x; live = h.live; ty = h.ty; closed = h.closed }
+
+    -- where a register holds an id, the typing has a right
+    pub register_is_typed : (k d : ℕ) → right_at f.rights k ≡ Some d → (right : Right) × (right_at (typing_of typings f) k ≡ Some right)
+    register_is_typed k d at = typed_where_held s.store (typing_of typings f) f.rights k d (held.types.rights a f runs) at
+
+    -- where the typing has none, it is empty
+    pub register_is_empty : (k : ℕ) → right_at (typing_of typings f) k ≡ None → right_at f.rights k ≡ None
+    register_is_empty k free = empty_where_free s (typing_of typings f) f.rights k (right_at f.rights k) (held.types.rights a f runs) free refl

@@ -1,0 +1,64 @@
+-- Accepted programs reach no trap.
+use Rattle.std.proofs.Common.{◌≡◌, ℕ, List, [], ◌∷◌, slice_get, Some}
+use Rattle.tw_types.specs.declared.event.Event.{Event}
+use Rattle.tw_types.specs.declared.input.Input.{Input}
+use Rattle.tw_types.specs.Layout.{ActorCounts}
+use Rattle.tw_types.specs.Outcome.{Went}
+use Rattle.tw_code.specs.declared.procedure.Procedure.{Procedure}
+use Rattle.tw_code.specs.format.Program.{IsProcedure, IsProgram}
+use Rattle.tw_code.specs.machine.Holders.{Typings}
+use Rattle.tw_code.specs.machine.Inputs.{AreInputsOf}
+use Rattle.tw_code.specs.machine.Machine.{step}
+use Rattle.tw_code.specs.machine.Opening.{opening, reached}
+use Rattle.tw_code.specs.machine.State.{State}
+use Rattle.tw_code.proofs.Taken.{takes_once}
+use Rattle.tw_budget.proofs.Sound.{sound_flows}
+use Rattle.tw_no_trap.specs.Invariant.{IsHeld}
+use Rattle.tw_no_trap.specs.NoTrap.{AreRight, IsSafe, NoTrap}
+use Rattle.tw_no_trap.proofs.Accepted.{accepted, all_found}
+use Rattle.tw_no_trap.proofs.AllEvents.{run_keeps, step_keeps}
+use Rattle.tw_no_trap.proofs.Moving.{Accepts}
+use Rattle.tw_no_trap.proofs.OneStep.{below, one_step}
+use Rattle.tw_no_trap.proofs.Opening.{opening_held}
+use Rattle.tw_no_trap.proofs.Steps.{Keeps, keeps_no_trap, keeps_went}
+
+module _ (program : List Procedure) (typings : Typings) (is : IsProgram program) (right : AreRight program typings) where
+  pub accepts : (k : ℕ) (p : Procedure) → slice_get program k ≡ Some p → Accepts program (typings k) p
+  accepts k p here =
+      let each = right.accepted.each k p here in
+      let limits = all_found IsProcedure program k p is.1 here in
+      record {
+        typed = right.typed k p here;
+        sound = sound_flows p limits each.structured;
+        budget = (each.budget.0, each.budget.1);
+        limits = limits;
+      }
+
+  pub event_keeps : (layout : ActorCounts) (event : Event) (s : State) → IsHeld program typings s → Keeps (step program layout event s) (IsHeld program typings)
+  event_keeps layout event s held = step_keeps program typings layout (accepted program typings accepts) event s held
+
+  pub safe : (layout : ActorCounts) (s : State) → IsHeld program typings s → IsSafe program layout s
+  safe layout s held = record {
+    no_trap = λ event cause e. keeps_no_trap (step program layout event s) (IsHeld program typings) cause (event_keeps layout event s held) e;
+    one_step = λ a f at. one_step program typings accepts layout s a f held at;
+    below = λ a f at. below program typings accepts s a f held at;
+  }
+
+  all_held : ((inputs : List Input) → AreInputsOf program inputs → IsHeld program typings (opening program inputs)) → NoTrap program typings
+  all_held open_held = record {
+    run_goes = λ inputs layout events cause given e. keeps_no_trap (reached program inputs layout events) (IsHeld program typings) cause (run_held inputs layout events given) e;
+    reached_is_safe = λ inputs layout events s given e. safe layout s (keeps_went (reached program inputs layout events) (IsHeld program typings) s (run_held inputs layout events given) e);
+    reached_is_held = λ inputs layout events s given e. keeps_went (reached program inputs layout events) (IsHeld program typings) s (run_held inputs layout events given) e;
+    once = λ inputs layout events. takes_once program inputs layout events;
+  }
+    where
+      run_held : (inputs : List Input) (layout : ActorCounts) (events : List Event) → AreInputsOf program inputs → Keeps (reached program inputs layout events) (IsHeld program typings)
+      run_held inputs layout events given = run_keeps program typings layout (accepted program typings accepts) events (opening program inputs) (open_held inputs given)
+
+pub no_trap : (program : List Procedure) (typings : Typings) → IsProgram program → AreRight program typings → NoTrap program typings
+no_trap [] typings is right = let main = right.accepted.main in cc
+no_trap (main ∷ others) typings is right = all_held (main ∷ others) typings is right (λ inputs given. opening_held main others typings inputs is.1.0.params.1 right.accepted.main given)
+
+-- what one event leaves, where it goes
+pub kept_by : (program : List Procedure) (typings : Typings) (layout : ActorCounts) (event : Event) (s next : State) → IsProgram program → AreRight program typings → IsHeld program typings s → step program layout event s ≡ Went next → IsHeld program typings next
+kept_by program typings layout event s next is right held e = keeps_went (step program layout event s) (IsHeld program typings) next (event_keeps program typings is right layout event s held) e

@@ -1,0 +1,169 @@
+-- The task that is taken waits, and its frame starts as its arguments say.
+use Rattle.std.proofs.Common.{◌≡◌, ℕ, zero, suc, ◌+◌, ◌-◌, ◌≤◌, ◌⊎◌, inl, inr, Bool, true, false, List, [], ◌∷◌, ◌++◌, length, map, replicate, Option, Some, None, int_lt, refl, sym, ap, subst, ◌∙◌, arith, if◌then◌else◌, nat_cmp}
+use Rattle.std.proofs.lemmas.Bool.{and_parts}
+use Rattle.std.proofs.lemmas.Option.{same_Some}
+use Rattle.std.specs.Cmp.{nat_cmp_total}
+use Rattle.std.specs.FinMap.{get, entries}
+use Rattle.std.specs.Option.{option_to_list}
+use Rattle.tw_types.specs.declared.actor.Actor.{Actor}
+use Rattle.tw_types.specs.declared.cause.Cause.TheVariants.{WrongRegister}
+use Rattle.tw_types.specs.declared.data_type.Scalar.{Scalar}
+use Rattle.tw_types.specs.declared.data_type.Scalar.TheVariants as scalar
+use Rattle.tw_types.specs.declared.param.Param.{Param}
+use Rattle.tw_types.specs.declared.value.Value.{Value}
+use Rattle.std.specs.Prelude.{Ok}
+use Rattle.tw_types.specs.Result.{◌>>=◌, ◌>>◌, must}
+use Rattle.tw_types.specs.Store.{Store}
+use Rattle.tw_types.specs.Task.{Arg, ValueArg, RightArg, Task, Tasks, is_eligible, better, best_of, best}
+use Rattle.tw_types.specs.DataType.{same_scalar}
+use Rattle.tw_types.specs.Value.{scalar_of, blank_of}
+use Rattle.tw_code.specs.machine.Rights.{Rights, first_rights, Right, Typing}
+use Rattle.tw_code.specs.machine.State.{values_in, ids_in, filled}
+use Rattle.tw_types.specs.Mode.{is_val}
+use Rattle.tw_code.specs.accepting.Typing.{value_types, rights_given, start_typing, values_fit}
+use Rattle.tw_code.specs.machine.Holders.{over, id_of}
+use Rattle.tw_no_trap.proofs.Over.{over_params}
+use Rattle.tw_no_trap.specs.Invariant.{RightsFit, ValuesFit, ArgFits, ArgsFit}
+use Rattle.tw_types.proofs.Totals.{IsEntry, get_entry}
+use Rattle.tw_no_trap.proofs.Scalars.{same_scalars, scalar_itself}
+
+-- ---- the best task is one of those that wait
+
+better_is : (first e : ℕ × Task) (o : Option (ℕ × Task)) → better first o ≡ e → (e ≡ first) ⊎ (o ≡ Some e)
+better_is first e None h = inl (sym h)
+better_is first e (Some second) h = by (int_lt first.1.priority second.1.priority) h
+  where
+    by : (b : Bool) → (if b then second else first) ≡ e → (e ≡ first) ⊎ (Some second ≡ Some e)
+    by true h = inr (ap Some h)
+    by false h = inl (sym h)
+
+best_is : (actor : Actor) (es : List (ℕ × Task)) (e : ℕ × Task) → best_of actor es ≡ Some e → IsEntry e es
+best_is actor [] e h = cc
+best_is actor (first ∷ others) e h = by (is_eligible actor first.1) (λ later. best_is actor others e later) h
+  where
+    by : (b : Bool) → (best_of actor others ≡ Some e → IsEntry e others) → (if b then Some (better first (best_of actor others)) else best_of actor others) ≡ Some e → IsEntry e (first ∷ others)
+    by true known h = elim (better_is first e (best_of actor others) (same_Some (better first (best_of actor others)) e h)) [
+      | inl is ↦ inl is
+      | inr later ↦ inr (known later)
+    ]
+    by false known h = inr (known h)
+
+pub best_waits : (actor : Actor) (tasks : Tasks) (e : ℕ × Task) → best actor tasks ≡ Some e → get tasks e.0 ≡ Some e.1
+unfolding best
+best_waits actor tasks e h = get_entry nat_cmp nat_cmp_total tasks e (best_is actor (entries tasks) e h)
+
+-- ---- its values
+
+blanks_fit : (registers : List Scalar) → ValuesFit registers (map blank_of registers)
+blanks_fit [] = tt
+blanks_fit (scalar.Int ∷ registers) = (refl, blanks_fit registers)
+blanks_fit (scalar.Text ∷ registers) = (refl, blanks_fit registers)
+
+-- values of the types of the first registers fill these
+pub filled_fits : (types registers : List Scalar) (values : List Value) → ValuesFit types values → length types ≤ length registers → values_fit types registers ≡ true → (all : List Value) × (filled values registers ≡ Ok all) × ValuesFit registers all
+filled_fits [] registers [] f few e = (map blank_of registers, refl, blanks_fit registers)
+filled_fits [] registers (x ∷ values) f few e = absurd f
+filled_fits (ty ∷ types) registers [] f few e = absurd f
+filled_fits (ty ∷ types) [] (x ∷ values) f few e = absurd (omega arith)
+filled_fits (ty ∷ types) (declared ∷ registers) (x ∷ values) f few e =
+    let both = and_parts (same_scalar declared ty) (values_fit types registers) e in
+    let rest = filled_fits types registers values f.1 (omega arith) both.1 in
+    let is : declared ≡ ty = same_scalars declared ty both.0 in
+    let of : scalar_of x ≡ declared = f.0 ∙ sym is in
+    let fine : same_scalar (scalar_of x) declared ≡ true = ap (λ (u : Scalar). same_scalar u declared) of ∙ scalar_itself declared in
+    (x ∷ rest.0, ap (λ b. must b WrongRegister >> (filled values registers >>= λ others. Ok (x ∷ others))) fine ∙ ap (λ o. o >>= λ others. Ok (x ∷ others)) rest.1, (of, rest.2))
+
+pub args_values : (s : Store) (params : List Param) (args : List Arg) → ArgsFit s params args → ValuesFit (value_types params) (values_in args)
+args_values s [] [] h = tt
+args_values s [] (arg ∷ args) h = absurd h
+args_values s (p ∷ params) [] h = absurd h
+args_values s (p ∷ params) (arg ∷ args) h = one (is_val p.mode) arg h.0 (args_values s params args h.1)
+  where
+    one : (b : Bool) (arg : Arg) → ArgFits s p (if b then None else Some (record { mode = p.mode; ty = p.ty })) arg → ValuesFit (value_types params) (values_in args) → ValuesFit (if b then p.ty.scalar ∷ value_types params else value_types params) (values_in (arg ∷ args))
+    one true (ValueArg x) f rest = (f, rest)
+    one true (RightArg id) f rest = absurd f
+    one false (ValueArg x) f rest = absurd f
+    one false (RightArg id) f rest = rest
+
+-- ---- its rights
+
+pub same_length : (s : Store) (params : List Param) (args : List Arg) → ArgsFit s params args → length (rights_given params) ≡ length (ids_in args)
+same_length s [] [] h = refl
+same_length s [] (arg ∷ args) h = absurd h
+same_length s (p ∷ params) [] h = absurd h
+same_length s (p ∷ params) (arg ∷ args) h = one (is_val p.mode) arg h.0 (same_length s params args h.1)
+  where
+    one : (b : Bool) (arg : Arg) → ArgFits s p (if b then None else Some (record { mode = p.mode; ty = p.ty })) arg → length (rights_given params) ≡ length (ids_in args)
+        → length (option_to_list (if b then None else Some (record { mode = p.mode; ty = p.ty })) ++ rights_given params) ≡ length (ids_in (arg ∷ args))
+    one true (ValueArg x) f rest = rest
+    one true (RightArg id) f rest = absurd f
+    one false (ValueArg x) f rest = absurd f
+    one false (RightArg id) f rest = omega arith
+
+args_rights : (s : Store) (params : List Param) (args : List Arg) → ArgsFit s params args → RightsFit s (map Some (rights_given params)) (map Some (ids_in args))
+args_rights s [] [] h = tt
+args_rights s [] (arg ∷ args) h = absurd h
+args_rights s (p ∷ params) [] h = absurd h
+args_rights s (p ∷ params) (arg ∷ args) h = one (is_val p.mode) arg h.0 (args_rights s params args h.1)
+  where
+    one : (b : Bool) (arg : Arg) → ArgFits s p (if b then None else Some (record { mode = p.mode; ty = p.ty })) arg → RightsFit s (map Some (rights_given params)) (map Some (ids_in args))
+        → RightsFit s (map Some (option_to_list (if b then None else Some (record { mode = p.mode; ty = p.ty })) ++ rights_given params)) (map Some (ids_in (arg ∷ args)))
+    one true (ValueArg x) f rest = rest
+    one true (RightArg id) f rest = absurd f
+    one false (ValueArg x) f rest = absurd f
+    one false (RightArg id) f rest = (f, rest)
+
+rights_joined : (s : Store) (xs us : Typing) (ys vs : Rights) → RightsFit s xs ys → RightsFit s us vs → RightsFit s (xs ++ us) (ys ++ vs)
+rights_joined s [] us [] vs f g = g
+rights_joined s [] us (y ∷ ys) vs f g = absurd f
+rights_joined s (x ∷ xs) us [] vs f g = absurd f
+rights_joined s (x ∷ xs) us (y ∷ ys) vs f g = (f.0, rights_joined s xs us ys vs f.1 g)
+
+empty_fit : (s : Store) (n : ℕ) → RightsFit s (replicate n None) (replicate n None)
+empty_fit s zero = tt
+empty_fit s (suc n) = (tt, empty_fit s n)
+
+pub start_fits : (s : Store) (params : List Param) (args : List Arg) → ArgsFit s params args → RightsFit s (start_typing params) (first_rights (ids_in args))
+start_fits s params args h =
+    rights_joined s (map Some (rights_given params)) (replicate (16 - length (rights_given params)) None) (map Some (ids_in args)) (replicate (16 - length (ids_in args)) None) (args_rights s params args h)
+    (subst (λ (n : ℕ). RightsFit s (replicate (16 - length (rights_given params)) None) (replicate (16 - n) None)) (same_length s params args h) (empty_fit s (16 - length (rights_given params))))
+
+-- ---- what it holds
+
+over_joined : (by : Option Right → Option ℕ → ℕ) (xs us : Typing) (ys vs : Rights) → length xs ≡ length ys → over by (xs ++ us) (ys ++ vs) ≡ over by xs ys + over by us vs
+over_joined by [] us [] vs e = omega arith
+over_joined by [] us (y ∷ ys) vs e = absurd (omega arith)
+over_joined by (x ∷ xs) us [] vs e = absurd (omega arith)
+over_joined by (x ∷ xs) us (y ∷ ys) vs e = let h = over_joined by xs us ys vs (omega arith) in omega arith
+
+over_none : (by : Option Right → Option ℕ → ℕ) → ((o : Option ℕ) → by None o ≡ 0) → (n : ℕ) (ys : Rights) → over by (replicate n None) ys ≡ 0
+over_none by none zero ys = refl
+over_none by none (suc n) [] = refl
+over_none by none (suc n) (y ∷ ys) = let h = over_none by none n ys in let z = none y in omega arith
+
+over_given : (by : Option Right → Option ℕ → ℕ) → ((o : Option ℕ) → by None o ≡ 0) → (s : Store) (params : List Param) (args : List Arg) → ArgsFit s params args → over by (map Some (rights_given params)) (map Some (ids_in args)) ≡ over_params by params args
+over_given by none s [] [] h = refl
+over_given by none s [] (arg ∷ args) h = absurd h
+over_given by none s (p ∷ params) [] h = absurd h
+over_given by none s (p ∷ params) (arg ∷ args) h = one (is_val p.mode) arg h.0 (over_given by none s params args h.1)
+  where
+    one : (b : Bool) (arg : Arg) → ArgFits s p (if b then None else Some (record { mode = p.mode; ty = p.ty })) arg → over by (map Some (rights_given params)) (map Some (ids_in args)) ≡ over_params by params args
+        → over by (map Some (option_to_list (if b then None else Some (record { mode = p.mode; ty = p.ty })) ++ rights_given params)) (map Some (ids_in (arg ∷ args)))
+        ≡ by (if b then None else Some (record { mode = p.mode; ty = p.ty })) (id_of arg) + over_params by params args
+    one true (ValueArg x) f rest = let z = none None in omega arith
+    one true (RightArg id) f rest = absurd f
+    one false (ValueArg x) f rest = absurd f
+    one false (RightArg id) f rest = omega arith
+
+length_some : {A : Type 0} (xs : List A) → length (map Some xs) ≡ length xs
+length_some [] = refl
+length_some (x ∷ xs) = let h = length_some xs in omega arith
+
+-- the registers hold what the arguments hold
+pub over_start : (by : Option Right → Option ℕ → ℕ) → ((o : Option ℕ) → by None o ≡ 0) → (s : Store) (params : List Param) (args : List Arg) → ArgsFit s params args → over by (start_typing params) (first_rights (ids_in args)) ≡ over_params by params args
+over_start by none s params args h =
+    let lengths : length (map Some (rights_given params)) ≡ length (map Some (ids_in args)) = length_some (rights_given params) ∙ same_length s params args h ∙ sym (length_some (ids_in args)) in
+    let joined = over_joined by (map Some (rights_given params)) (replicate (16 - length (rights_given params)) None) (map Some (ids_in args)) (replicate (16 - length (ids_in args)) None) lengths in
+    let given = over_given by none s params args h in
+    let empty = over_none by none (16 - length (rights_given params)) (replicate (16 - length (ids_in args)) None) in
+    omega arith

@@ -1,8 +1,0 @@
-use Rattle.std.proofs.Common.{◌≡◌, drop, map}
-use Rattle.tw_lines.specs.Seen.{seen}
-use Rattle.tw_parser.specs.reading.Lines.{each, each_from}
-use Rattle.tw_parser.specs.reading.Operands.{as_is, natural_in}
-use Rattle.tw_parser.proofs.gathering.arg_list.Given as goal
-
-abbrev pub invariant-loop-word : goal.invariant-loop-word
-invariant-loop-word l = each_from (natural_in 0 15) (as_is (λ v. v.items) l.args) (map seen (drop l.word-index l.words)) ≡ each (natural_in 0 15) (map seen l.words)

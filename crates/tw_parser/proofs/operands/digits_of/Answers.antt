@@ -1,6 +1,0 @@
-use Rattle.std.proofs.Common.{◌∙◌}
-use Rattle.tw_parser.proofs.Numbers.{digits_same}
-use Rattle.tw_parser.proofs.operands.digits_of.Goals as goal
-
-pub returns-clause-is : goal.returns-clause-is
-returns-clause-is c = c.own_of.ensures ∙ digits_same c.args.low c.args.high c.args.text.now c.digits.result c.digits.ensures

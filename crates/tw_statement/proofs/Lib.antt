@@ -1,9 +1,0 @@
-pub mod Labels
-pub mod Lines
-pub mod Once
-pub mod OwnSkip
-pub mod Quotes
-pub mod Rows
-pub mod Skips
-pub mod Spelled
-pub mod Written

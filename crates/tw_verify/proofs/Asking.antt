@@ -1,0 +1,39 @@
+-- What RULE and PUT ask of their arguments, one by one.
+use Rattle.std.proofs.Common.{◌≡◌, ◌⊎◌, inl, inr, ℕ, Bool, true, false, List, [], ◌∷◌, ◌++◌, refl, sym, ap, ◌∙◌}
+use Rattle.std.specs.Prelude.{if◌then◌else◌, slice_set, None}
+use Rattle.std.proofs.lemmas.List.{append-nil}
+use Rattle.tw_types.specs.declared.data_type.Scalar.{Scalar}
+use Rattle.tw_types.specs.declared.param.Param.{Param}
+use Rattle.tw_types.specs.Mode.{is_val}
+use Rattle.tw_code.specs.accepting.Question.{Question, passes, refusal_in}
+use Rattle.tw_code.specs.accepting.Typing.{asks_value, asks_args, may_stand_for, without_args}
+use Rattle.tw_code.specs.machine.Rights.{Typing, right_at}
+use Rattle.tw_verify.specs.Violations.{lowest_of}
+use Rattle.tw_verify.proofs.Numbers.{refusal_in-append}
+
+-- one argument, and the others when it has left its register
+pub ask_more : (waits : Bool) (registers : List Scalar) (p : Param) (params : List Param) (arg : ℕ) (args : List ℕ) (typing : Typing)
+    → refusal_in (asks_args waits registers (p ∷ params) (arg ∷ args) typing)
+    ≡ lowest_of (refusal_in (asks_args waits registers (p ∷ []) (arg ∷ []) typing)) (refusal_in (asks_args waits registers params args (without_args (p ∷ []) (arg ∷ []) typing)))
+ask_more waits registers p params arg args typing = by (is_val p.mode) (asks_value registers arg p.ty.scalar) (4, passes (may_stand_for waits p) (right_at typing arg))
+  where
+    by : (b : Bool) (value : List Question) (right : Question) → refusal_in (if b then value ++ asks_args waits registers params args typing else right ∷ asks_args waits registers params args (slice_set typing arg None))
+        ≡ lowest_of (refusal_in (if b then value ++ [] else right ∷ [])) (refusal_in (asks_args waits registers params args (if b then typing else slice_set typing arg None)))
+    by true value right =
+        refusal_in-append value (asks_args waits registers params args typing)
+        ∙ ap (λ (own : List Question). lowest_of (refusal_in own) (refusal_in (asks_args waits registers params args typing))) (sym (append-nil value))
+    by false value right = refusal_in-append (right ∷ []) (asks_args waits registers params args (slice_set typing arg None))
+
+-- nothing is asked where no parameter or no argument is left
+pub nothing_asked : (waits : Bool) (registers : List Scalar) (params : List Param) (args : List ℕ) (typing : Typing) → (params ≡ []) ⊎ (args ≡ []) → asks_args waits registers params args typing ≡ []
+nothing_asked waits registers [] args typing h = refl
+nothing_asked waits registers (p ∷ params) [] typing h = refl
+nothing_asked waits registers (p ∷ params) (arg ∷ args) typing (inl e) = cc
+nothing_asked waits registers (p ∷ params) (arg ∷ args) typing (inr e) = cc
+
+-- nothing leaves the registers there
+pub nothing_leaves : (params : List Param) (args : List ℕ) (typing : Typing) → (params ≡ []) ⊎ (args ≡ []) → without_args params args typing ≡ typing
+nothing_leaves [] args typing h = refl
+nothing_leaves (p ∷ params) [] typing h = refl
+nothing_leaves (p ∷ params) (arg ∷ args) typing (inl e) = cc
+nothing_leaves (p ∷ params) (arg ∷ args) typing (inr e) = cc

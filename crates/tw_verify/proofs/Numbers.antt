@@ -1,0 +1,31 @@
+-- The lowest number of questions.
+use Rattle.std.proofs.Common.{◌≡◌, ℕ, Bool, true, false, List, [], ◌∷◌, ◌++◌, Option, Some, None, refl, sym, ap, ◌∙◌, arith}
+use Rattle.std.specs.Prelude.{nat_lt, if◌then◌else◌}
+use Rattle.std.proofs.lemmas.Bool.Decides.{nat_tests}
+use Rattle.tw_code.specs.accepting.Question.{Question, lower, refusal_in}
+use Rattle.tw_verify.specs.Violations.{lowest_of}
+
+lower_twice : (n m k : ℕ) → (if nat_lt (if nat_lt k m then k else m) n then (if nat_lt k m then k else m) else n) ≡ (if nat_lt k (if nat_lt m n then m else n) then k else (if nat_lt m n then m else n))
+lower_twice n m k = grind (arith, nat_tests)
+
+lower-lowest : (n : ℕ) (first second : Option ℕ) → lower n (lowest_of first second) ≡ lower (lower n first) second
+lower-lowest n None second = refl
+lower-lowest n (Some m) None = refl
+lower-lowest n (Some m) (Some k) = lower_twice n m k
+
+pub lowest_nothing : (first : Option ℕ) → lowest_of first None ≡ first
+lowest_nothing None = refl
+lowest_nothing (Some n) = refl
+
+pub lowest_of_three : (first second third : Option ℕ) → lowest_of (lowest_of first second) third ≡ lowest_of first (lowest_of second third)
+lowest_of_three None second third = refl
+lowest_of_three (Some n) second third = ap Some (sym (lower-lowest n second third))
+
+pub refusal_in-append : (xs ys : List Question) → refusal_in (xs ++ ys) ≡ lowest_of (refusal_in xs) (refusal_in ys)
+refusal_in-append [] ys = refl
+refusal_in-append (q ∷ xs) ys =
+    ap (λ (r : Option ℕ). if q.1 then r else Some (lower q.0 r)) (refusal_in-append xs ys) ∙ out q.1
+  where
+    out : (b : Bool) → (if b then lowest_of (refusal_in xs) (refusal_in ys) else Some (lower q.0 (lowest_of (refusal_in xs) (refusal_in ys)))) ≡ lowest_of (if b then refusal_in xs else Some (lower q.0 (refusal_in xs))) (refusal_in ys)
+    out true = refl
+    out false = ap Some (lower-lowest q.0 (refusal_in xs) (refusal_in ys))

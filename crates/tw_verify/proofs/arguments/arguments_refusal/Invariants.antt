@@ -1,0 +1,17 @@
+use Rattle.std.proofs.Common.{◌≡◌}
+use Rattle.std.specs.Iterator.Adapters.{zip_first, zip_second}
+use Rattle.std.specs.List.{AllByRecursion}
+use Rattle.std.specs.Option.{option_map}
+use Rattle.std.specs.Slice.Iter.{iter_rest}
+use Rattle.tw_code.specs.format.Program.{IsRegister}
+use Rattle.tw_code.specs.accepting.Question.{refusal_in}
+use Rattle.tw_code.specs.accepting.Typing.{asks_args}
+use Rattle.tw_verify.specs.Violations.{lowest_of, violation_number}
+use Rattle.tw_verify.proofs.arguments.arguments_refusal.Given as goal
+
+-- what is found so far, and what is still asked
+abbrev pub invariant-loop-param : goal.invariant-loop-param
+invariant-loop-param l = record {
+  rest : refusal_in (asks_args l.waits l.registers l.params l.args l.typing) ≡ lowest_of (option_map violation_number l.refusal) (refusal_in (asks_args l.waits l.registers (iter_rest (zip_first l.param-iterator)) (iter_rest (zip_second l.param-iterator)) l.left));
+  operands : AllByRecursion IsRegister (iter_rest (zip_second l.param-iterator));
+}

@@ -1,0 +1,107 @@
+//! What RULE and PUT ask: of the procedure that they name, and of the arguments for it.
+
+ghost use Rattle.std.specs.Prelude.{◌≡◌, ◌∷◌, [], slice_get};
+ghost use Rattle.std.specs.List.{AllByRecursion};
+ghost use Rattle.std.specs.Option.{option_map};
+ghost use Rattle.tw_types.specs.Actor.{is_control};
+ghost use Rattle.tw_code.specs.format.Program.{IsAction, IsRegister};
+ghost use Rattle.tw_code.specs.accepting.Question.{refusal_in};
+ghost use Rattle.tw_code.specs.accepting.Typing.{asks_args, asks_callee, asks_action};
+ghost use Rattle.tw_verify.specs.Violations.{violation_number};
+
+use crate::questions::{beside, lowest, value_refusal};
+use crate::typing::Typing;
+use crate::violation::Violation;
+use tw_code::{Action, Procedure};
+use tw_types::{Kind, Param, Scalar};
+
+/// What is asked of one argument: a value of the parameter's type, or a right that may stand for it.
+fn argument_refusal(
+    waits: bool,
+    registers: &[Scalar],
+    param: Param,
+    arg: u8,
+    typing: &Typing,
+) -> Option<Violation>
+    requires { IsRegister arg }
+    ensures { option_map violation_number result
+        ≡ refusal_in (asks_args waits registers.now (param ∷ []) (arg ∷ []) typing.now) }
+{
+    if param.mode.is_val() {
+        return value_refusal(registers, arg, param.ty.scalar());
+    }
+    let fits = typing
+        .right_at(arg)
+        .is_some_and(|right| right.may_stand_for(waits, param));
+    (!fits).then_some(Violation::WrongRight)
+}
+
+/// What is asked of the arguments in order. A right leaves its register, so that one that is named twice is missing
+/// at the second time.
+fn arguments_refusal(
+    waits: bool,
+    registers: &[Scalar],
+    params: &[Param],
+    args: &[u8],
+    typing: &Typing,
+) -> Option<Violation>
+    requires { AllByRecursion IsRegister args.now }
+    ensures { option_map violation_number result
+        ≡ refusal_in (asks_args waits registers.now params.now args.now typing.now) }
+{
+    let mut refusal = None;
+    let mut left = *typing;
+    for (param, arg) in params.iter().zip(args) {
+        let own = argument_refusal(waits, registers, *param, *arg, &left);
+        refusal = lowest(refusal, own);
+        left = left.without(*param, *arg);
+    }
+    refusal
+}
+
+/// What is asked of the procedure that is named: that it is known, that it has as many parameters as there are
+/// arguments, and then what these are asked.
+fn callee_refusal(
+    waits: bool,
+    procedures: &[Procedure],
+    procedure: &Procedure,
+    action: &Action,
+    typing: &Typing,
+) -> Option<Violation>
+    requires { IsAction action.now }
+    ensures { option_map violation_number result
+        ≡ refusal_in (asks_callee waits procedure.now.registers
+        (slice_get procedures.now action.now.procedure) action.now.args typing.now) }
+{
+    let Some(callee) = procedures.get(action.procedure as usize) else {
+        return Some(Violation::UnknownProcedure);
+    };
+    let params = callee.params.as_slice();
+    let args = action.args.as_slice();
+    if args.len() != params.len() {
+        return Some(Violation::ArgumentCount);
+    }
+    arguments_refusal(waits, procedure.registers.as_slice(), params, args, typing)
+}
+
+fn is_control(procedure: &Procedure) -> bool
+    ensures { result ≡ is_control procedure.now.kind }
+{
+    matches!(procedure.kind, Kind::Control)
+}
+
+/// What RULE asks, whose task waits for its data, and PUT, whose doesn't.
+pub(crate) fn action_refusal(
+    waits: bool,
+    procedures: &[Procedure],
+    procedure: &Procedure,
+    action: &Action,
+    typing: &Typing,
+) -> Option<Violation>
+    requires { IsAction action.now }
+    ensures { option_map violation_number result
+        ≡ refusal_in (asks_action waits procedures.now procedure.now action.now typing.now) }
+{
+    let others = callee_refusal(waits, procedures, procedure, action, typing);
+    beside(is_control(procedure), Violation::ActionInLeaf, others)
+}

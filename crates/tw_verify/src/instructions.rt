@@ -1,0 +1,281 @@
+//! What each instruction asks of a typing and of the declared value registers.
+
+ghost use Rattle.std.specs.Prelude.{◌≡◌, ◌<◌, [], true, slice_get};
+ghost use Rattle.std.specs.Option.{option_map, option_map_or};
+ghost use Rattle.tw_types.specs.DataType.{same_scalar};
+ghost use Rattle.tw_code.specs.format.Program.{IsDataInstr, IsInstr};
+ghost use Rattle.tw_code.specs.accepting.Question.{refusal_in};
+ghost use Rattle.tw_code.specs.accepting.Typing.{asks_local, asks_data, asks, asks_params, asks_at};
+ghost use Rattle.tw_verify.specs.Violations.{violation_number};
+
+use crate::arguments::action_refusal;
+use crate::questions::{
+    alike_refusal, beside, both_refusal, container_write_refusal, empty_pair_refusal,
+    is_container_write, is_member_read, lowest, members_refusal, read_refusal, value_of_refusal,
+    value_refusal, values_refusal,
+};
+use crate::typing::{Right, Typing};
+use crate::violation::Violation;
+use tw_code::{DataInstr, Instr, LocalInstr, Procedure};
+use tw_types::Scalar;
+
+/// What a local instruction asks, a line an instruction.
+fn local_refusal(registers: &[Scalar], instr: &LocalInstr) -> Option<Violation>
+    ensures { option_map violation_number result ≡ refusal_in (asks_local registers.now instr.now) }
+{
+    match instr {
+        LocalInstr::Int { to, .. } => value_refusal(registers, *to, Scalar::Int),
+        LocalInstr::Text { to, .. } => value_refusal(registers, *to, Scalar::Text),
+        LocalInstr::Copy { to, from } => alike_refusal(registers, *to, *from),
+        LocalInstr::Compute {
+            to,
+            left,
+            right,
+            ..
+        } => values_refusal(registers, *to, *left, *right, Scalar::Int),
+        LocalInstr::Concatenate {
+            to,
+            left,
+            right,
+            ..
+        } => values_refusal(registers, *to, *left, *right, Scalar::Text),
+        LocalInstr::Length { to, from } | LocalInstr::ReadInt { to, from, .. } => both_refusal(
+            registers,
+            *to,
+            Scalar::Int,
+            *from,
+            Scalar::Text,
+        ),
+        LocalInstr::Show { to, from } => both_refusal(
+            registers,
+            *to,
+            Scalar::Text,
+            *from,
+            Scalar::Int,
+        ),
+        LocalInstr::JumpEqual { left, right, .. } => alike_refusal(registers, *left, *right),
+        LocalInstr::JumpLess { left, right, .. } => both_refusal(
+            registers,
+            *left,
+            Scalar::Int,
+            *right,
+            Scalar::Int,
+        ),
+        LocalInstr::Jump { .. } | LocalInstr::Repeat { .. } | LocalInstr::End => None,
+    }
+}
+
+/// STORE: a write of a scalar, and a value of its type.
+fn store_refusal(registers: &[Scalar], typing: &Typing, datum: u8, from: u8) -> Option<Violation>
+    requires { datum < 16 }
+    ensures { option_map violation_number result
+        ≡ refusal_in (asks_data registers.now (DataInstr.Store datum from) typing.now) }
+{
+    let right = typing.right_at(datum);
+    let fits = right.is_some_and(Right::writes_scalar);
+    value_of_refusal(registers, from, &right, fits)
+}
+
+/// GET: a read of a closed scalar, and a register of its type.
+fn get_refusal(registers: &[Scalar], typing: &Typing, to: u8, datum: u8) -> Option<Violation>
+    requires { datum < 16 }
+    ensures { option_map violation_number result
+        ≡ refusal_in (asks_data registers.now (DataInstr.Get to datum) typing.now) }
+{
+    let right = typing.right_at(datum);
+    let fits = right.is_some_and(Right::reads_closed_scalar);
+    value_of_refusal(registers, to, &right, fits)
+}
+
+/// INS: a write of a container, a read of what that has as members, and an integer.
+fn insert_refusal(
+    registers: &[Scalar],
+    typing: &Typing,
+    container: u8,
+    subscript: u8,
+    member: u8,
+) -> Option<Violation>
+    requires container { container < 16 }
+    requires member { member < 16 }
+    ensures { option_map violation_number result
+        ≡ refusal_in (asks_data registers.now (DataInstr.Insert container subscript member 0) typing.now) }
+{
+    let others = value_refusal(registers, subscript, Scalar::Int);
+    let fits = is_member_read(typing, container, member);
+    let others = beside(fits, Violation::WrongRight, others);
+    let writes = is_container_write(typing, container);
+    beside(writes, Violation::WrongRight, others)
+}
+
+/// LOOK: a register for the member, a read of a closed container, and an integer.
+fn look_refusal(
+    registers: &[Scalar],
+    typing: &Typing,
+    member: u8,
+    container: u8,
+    subscript: u8,
+) -> Option<Violation>
+    requires member { member < 16 }
+    requires container { container < 16 }
+    ensures { option_map violation_number result
+        ≡ refusal_in (asks_data registers.now (DataInstr.Look member container subscript 0) typing.now) }
+{
+    let others = value_refusal(registers, subscript, Scalar::Int);
+    let others = members_refusal(typing, container, others);
+    beside(typing.is_free(member), Violation::RightNotEmpty, others)
+}
+
+/// Two integers, and a read of a closed container.
+fn subscript_refusal(
+    registers: &[Scalar],
+    typing: &Typing,
+    to: u8,
+    container: u8,
+    index: u8,
+) -> Option<Violation>
+    requires { container < 16 }
+    ensures { option_map violation_number result
+        ≡ refusal_in (asks_data registers.now (DataInstr.SubscriptAt to container index 0) typing.now) }
+{
+    let others = both_refusal(registers, to, Scalar::Int, index, Scalar::Int);
+    members_refusal(typing, container, others)
+}
+
+/// SIZE: an integer, and a read of a closed container.
+fn size_refusal(registers: &[Scalar], typing: &Typing, to: u8, container: u8) -> Option<Violation>
+    requires { container < 16 }
+    ensures { option_map violation_number result
+        ≡ refusal_in (asks_data registers.now (DataInstr.Size to container) typing.now) }
+{
+    let others = value_refusal(registers, to, Scalar::Int);
+    members_refusal(typing, container, others)
+}
+
+/// DUPR: a register for the copy, and a read.
+fn copy_read_refusal(typing: &Typing, to: u8, from: u8) -> Option<Violation>
+    requires to { to < 16 }
+    requires from { from < 16 }
+    ensures { option_map violation_number result
+        ≡ refusal_in (asks_data [] (DataInstr.CopyRead to from) typing.now) }
+{
+    let others = read_refusal(typing, from);
+    beside(typing.is_free(to), Violation::RightNotEmpty, others)
+}
+
+/// DUPW: a register for the copy, and a write of a container.
+fn copy_write_refusal(typing: &Typing, to: u8, from: u8) -> Option<Violation>
+    requires to { to < 16 }
+    requires from { from < 16 }
+    ensures { option_map violation_number result
+        ≡ refusal_in (asks_data [] (DataInstr.CopyWrite to from) typing.now) }
+{
+    let others = container_write_refusal(typing, from);
+    beside(typing.is_free(to), Violation::RightNotEmpty, others)
+}
+
+/// What an instruction on data asks at a typing, a case an instruction.
+fn data_refusal(registers: &[Scalar], instr: DataInstr, typing: &Typing) -> Option<Violation>
+    requires { IsDataInstr instr }
+    ensures { option_map violation_number result ≡ refusal_in (asks_data registers.now instr typing.now) }
+{
+    match instr {
+        DataInstr::New { write, read, .. } => empty_pair_refusal(typing, write, read),
+        DataInstr::Store { datum, from } => store_refusal(registers, typing, datum, from),
+        DataInstr::Get { to, datum } => get_refusal(registers, typing, to, datum),
+        DataInstr::Insert {
+            container,
+            subscript,
+            member,
+            ..
+        } => insert_refusal(registers, typing, container, subscript, member),
+        DataInstr::Look {
+            member,
+            container,
+            subscript,
+            ..
+        } => look_refusal(registers, typing, member, container, subscript),
+        DataInstr::Size { to, container } => size_refusal(registers, typing, to, container),
+        DataInstr::SubscriptAt {
+            to,
+            container,
+            index,
+            ..
+        } => subscript_refusal(registers, typing, to, container, index),
+        DataInstr::CopyRead { to, from } => copy_read_refusal(typing, to, from),
+        DataInstr::CopyWrite { to, from } => copy_write_refusal(typing, to, from),
+        DataInstr::DropRead { right } => read_refusal(typing, right),
+        DataInstr::DropWrite { right } => container_write_refusal(typing, right),
+    }
+}
+
+/// What an instruction asks at a typing.
+fn instr_refusal(
+    procedures: &[Procedure],
+    procedure: &Procedure,
+    instr: &Instr,
+    typing: &Typing,
+) -> Option<Violation>
+    requires { IsInstr instr.now }
+    ensures { option_map violation_number result
+        ≡ refusal_in (asks procedures.now procedure.now instr.now typing.now) }
+{
+    let registers = procedure.registers.as_slice();
+    match instr {
+        Instr::Local(instr) => local_refusal(registers, instr),
+        Instr::Data(instr) => data_refusal(registers, *instr, typing),
+        Instr::Rule(action) => action_refusal(true, procedures, procedure, action, typing),
+        Instr::Put(action) => action_refusal(false, procedures, procedure, action, typing),
+        Instr::Ret => (!typing.is_empty()).then_some(Violation::RightLeft),
+    }
+}
+
+/// Whether a register is of this type, if it is declared.
+fn is_open_or_of(registers: &[Scalar], register: usize, ty: Scalar) -> bool
+    ensures { result ≡ option_map_or (λ declared. same_scalar declared ty)
+        (slice_get registers.now register) true }
+{
+    match registers.get(register) {
+        None => true,
+        Some(declared) => *declared == ty,
+    }
+}
+
+/// The value parameters must have registers, of their types.
+fn params_refusal(procedure: &Procedure) -> Option<Violation>
+    ensures { option_map violation_number result ≡ refusal_in (asks_params procedure.now) }
+{
+    let registers = procedure.registers.as_slice();
+    let mut given = 0;
+    let mut fits = true;
+    for param in procedure.params.as_slice() {
+        if param.mode.is_val() {
+            fits &= is_open_or_of(registers, given, param.ty.scalar());
+            given += 1;
+        }
+    }
+    if given > registers.len() {
+        Some(Violation::UndeclaredValue)
+    } else {
+        (!fits).then_some(Violation::WrongValueType)
+    }
+}
+
+/// What is asked at a place: at the first one also that the parameters have their registers.
+pub fn place_refusal(
+    procedures: &[Procedure],
+    procedure: &Procedure,
+    place: usize,
+    instr: &Instr,
+    typing: &Typing,
+) -> Option<Violation>
+    requires { IsInstr instr.now }
+    ensures { option_map violation_number result
+        ≡ refusal_in (asks_at procedures.now procedure.now place instr.now typing.now) }
+{
+    let own = instr_refusal(procedures, procedure, instr, typing);
+    if place == 0 {
+        lowest(params_refusal(procedure), own)
+    } else {
+        own
+    }
+}

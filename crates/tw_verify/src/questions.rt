@@ -1,0 +1,190 @@
+//! Questions about registers, of a typing and of the declared value registers: of all that isn't met, the lowest
+//! refusal.
+
+ghost use Rattle.std.specs.Prelude.{◌≡◌, ◌<◌, ◌∷◌, [], ◌++◌, Bool};
+ghost use Rattle.std.specs.Option.{option_map};
+ghost use Rattle.tw_code.specs.accepting.Question.{passes, refusal_in};
+ghost use Rattle.tw_code.specs.machine.Rights.{Right, right_at};
+ghost use Rattle.tw_code.specs.accepting.Typing.{asks_value, asks_alike, asks_values, asks_value_of, asks_empty_pair, asks_container_write, writes_container, reads, reads_closed_container, reads_member_of};
+ghost use Rattle.tw_verify.specs.Violations.{lowest_of, refusal_with, violation_number};
+
+use crate::typing::{Right, Typing};
+use crate::violation::Violation;
+use tw_types::Scalar;
+
+/// The lower of two refusals, of which each may be missing.
+pub fn lowest(first: Option<Violation>, second: Option<Violation>) -> Option<Violation>
+    ensures { option_map violation_number result
+        ≡ lowest_of (option_map violation_number first) (option_map violation_number second) }
+{
+    match (first, second) {
+        (Some(a), Some(b)) => Some(if b.number() < a.number() { b } else { a }),
+        (None, other) => other,
+        (Some(a), None) => Some(a),
+    }
+}
+
+/// One question beside others: where its answer is no, the lower of its refusal and theirs.
+pub(crate) fn beside(
+    met: bool,
+    violation: Violation,
+    others: Option<Violation>,
+) -> Option<Violation>
+    ensures { option_map violation_number result
+        ≡ refusal_with (violation_number violation, met) (option_map violation_number others) }
+{
+    if met {
+        others
+    } else {
+        lowest(Some(violation), others)
+    }
+}
+
+/// A value register must be declared, and be of this type.
+pub(crate) fn value_refusal(registers: &[Scalar], register: u8, ty: Scalar) -> Option<Violation>
+    ensures { option_map violation_number result ≡ refusal_in (asks_value registers.now register ty) }
+{
+    match registers.get(register as usize) {
+        None => Some(Violation::UndeclaredValue),
+        Some(declared) => (*declared != ty).then_some(Violation::WrongValueType),
+    }
+}
+
+/// Two value registers must be declared, and be of these types.
+pub(crate) fn both_refusal(
+    registers: &[Scalar],
+    first: u8,
+    first_ty: Scalar,
+    second: u8,
+    second_ty: Scalar,
+) -> Option<Violation>
+    ensures { option_map violation_number result
+        ≡ refusal_in (asks_value registers.now first first_ty ++ asks_value registers.now second second_ty) }
+{
+    lowest(
+        value_refusal(registers, first, first_ty),
+        value_refusal(registers, second, second_ty),
+    )
+}
+
+/// Three value registers must be declared, and be of one type.
+pub(crate) fn values_refusal(
+    registers: &[Scalar],
+    first: u8,
+    second: u8,
+    third: u8,
+    ty: Scalar,
+) -> Option<Violation>
+    ensures { option_map violation_number result
+        ≡ refusal_in (asks_values registers.now first second third ty) }
+{
+    lowest(
+        value_refusal(registers, first, ty),
+        both_refusal(registers, second, ty, third, ty),
+    )
+}
+
+/// Two value registers must be declared, and be of the same type.
+pub(crate) fn alike_refusal(registers: &[Scalar], first: u8, second: u8) -> Option<Violation>
+    ensures { option_map violation_number result ≡ refusal_in (asks_alike registers.now first second) }
+{
+    match registers.get(first as usize) {
+        None => Some(Violation::UndeclaredValue),
+        Some(ty) => value_refusal(registers, second, *ty),
+    }
+}
+
+/// A right register must have a right of the kind that is asked, and a value register be of the type of its datum.
+/// Whether the right is of that kind, the caller says.
+pub(crate) fn value_of_refusal(
+    registers: &[Scalar],
+    register: u8,
+    right: &Option<Right>,
+    fits: bool,
+) -> Option<Violation>
+    ensures { (test : Right → Bool) → fits ≡ passes test right.now
+        → option_map violation_number result
+        ≡ refusal_in (asks_value_of registers.now register test right.now) }
+{
+    let Some(declared) = registers.get(register as usize) else {
+        return Some(Violation::UndeclaredValue);
+    };
+    match right {
+        Some(right) if fits => (*declared != right.ty().scalar()).then_some(
+            Violation::WrongValueType,
+        ),
+        _ => Some(Violation::WrongRight),
+    }
+}
+
+/// Two right registers must be empty, and different.
+pub(crate) fn empty_pair_refusal(typing: &Typing, first: u8, second: u8) -> Option<Violation>
+    requires first { first < 16 }
+    requires second { second < 16 }
+    ensures { option_map violation_number result ≡ refusal_in (asks_empty_pair typing.now first second) }
+{
+    let fits = typing.is_free(first) && typing.is_free(second) && first != second;
+    (!fits).then_some(Violation::RightNotEmpty)
+}
+
+/// A right register must have a right to read.
+pub(crate) fn read_refusal(typing: &Typing, register: u8) -> Option<Violation>
+    requires { register < 16 }
+    ensures { option_map violation_number result
+        ≡ refusal_in ((4, passes reads (right_at typing.now register)) ∷ []) }
+{
+    let fits = typing.right_at(register).is_some_and(Right::reads);
+    (!fits).then_some(Violation::WrongRight)
+}
+
+/// A right register must have a right to write, and not a scalar's.
+pub(crate) fn container_write_refusal(typing: &Typing, register: u8) -> Option<Violation>
+    requires { register < 16 }
+    ensures { option_map violation_number result
+        ≡ refusal_in (asks_container_write (right_at typing.now register)) }
+{
+    match typing.right_at(register) {
+        Some(right) if right.writes() => right.writes_scalar().then_some(Violation::ScalarWrite),
+        _ => Some(Violation::WrongRight),
+    }
+}
+
+/// Beside other questions: a right register must have a right to read a closed container.
+pub(crate) fn members_refusal(
+    typing: &Typing,
+    register: u8,
+    others: Option<Violation>,
+) -> Option<Violation>
+    requires { register < 16 }
+    ensures { option_map violation_number result
+        ≡ refusal_with (4, passes reads_closed_container (right_at typing.now register))
+        (option_map violation_number others) }
+{
+    let fits = typing
+        .right_at(register)
+        .is_some_and(Right::reads_closed_container);
+    beside(fits, Violation::WrongRight, others)
+}
+
+/// Whether a right register has a right to write a container.
+pub(crate) fn is_container_write(typing: &Typing, register: u8) -> bool
+    requires { register < 16 }
+    ensures { result ≡ passes writes_container (right_at typing.now register) }
+{
+    typing
+        .right_at(register)
+        .is_some_and(Right::writes_container)
+}
+
+/// Whether a right register has a read of what the datum of another one has as members.
+pub(crate) fn is_member_read(typing: &Typing, container: u8, member: u8) -> bool
+    requires container { container < 16 }
+    requires member { member < 16 }
+    ensures { result ≡ passes (λ right. passes (reads_member_of right) (right_at typing.now member))
+        (right_at typing.now container) }
+{
+    match (typing.right_at(container), typing.right_at(member)) {
+        (Some(container), Some(member)) => member.reads_member_of(container),
+        _ => false,
+    }
+}

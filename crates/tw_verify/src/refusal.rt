@@ -1,0 +1,73 @@
+//! Why a program is refused.
+
+ghost use Rattle.std.specs.Prelude.{◌≡◌};
+ghost use Rattle.tw_verify.specs.Refusal.{verify_refusal_number};
+
+/// Why a program isn't accepted, by rising numbers.
+#[derive(Clone, Copy)]
+pub enum VerifyRefusal {
+    /// V01.
+    UndeclaredValue,
+    /// V02.
+    WrongValueType,
+    /// V03.
+    RightNotEmpty,
+    /// V04.
+    WrongRight,
+    /// V05.
+    SkipLeavesBlock,
+    /// V06.
+    Unmatched,
+    /// V07.
+    TypingsDiffer,
+    /// V08.
+    TypingChanged,
+    /// V09.
+    Unreached,
+    /// V10.
+    RightLeft,
+    /// V11.
+    MisplacedRet,
+    /// V12.
+    UnknownProcedure,
+    /// V13.
+    ArgumentCount,
+    /// V14.
+    ActionInLeaf,
+    /// V15.
+    ScalarWrite,
+    /// V16.
+    MainShape,
+    /// V17.
+    BudgetTooLarge,
+    /// V18.
+    Memory,
+}
+
+impl VerifyRefusal {
+    /// The number behind the letter V.
+    pub fn number(self) -> u8
+        ensures { result ≡ verify_refusal_number self }
+    {
+        match self {
+            VerifyRefusal::UndeclaredValue => 1,
+            VerifyRefusal::WrongValueType => 2,
+            VerifyRefusal::RightNotEmpty => 3,
+            VerifyRefusal::WrongRight => 4,
+            VerifyRefusal::SkipLeavesBlock => 5,
+            VerifyRefusal::Unmatched => 6,
+            VerifyRefusal::TypingsDiffer => 7,
+            VerifyRefusal::TypingChanged => 8,
+            VerifyRefusal::Unreached => 9,
+            VerifyRefusal::RightLeft => 10,
+            VerifyRefusal::MisplacedRet => 11,
+            VerifyRefusal::UnknownProcedure => 12,
+            VerifyRefusal::ArgumentCount => 13,
+            VerifyRefusal::ActionInLeaf => 14,
+            VerifyRefusal::ScalarWrite => 15,
+            VerifyRefusal::MainShape => 16,
+            VerifyRefusal::BudgetTooLarge => 17,
+            VerifyRefusal::Memory => 18,
+        }
+    }
+}

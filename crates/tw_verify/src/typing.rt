@@ -1,0 +1,290 @@
+//! What the right registers hold.
+
+ghost use Rattle.std.specs.Prelude.{◌≡◌, ◌≤◌, ◌<◌, ◌∷◌, [], length, Some, is_none, slice_set};
+ghost use Rattle.std.specs.List.{list_all, AllByRecursion};
+ghost use Rattle.std.specs.Option.{option_and_then};
+ghost use Rattle.tw_types.specs.DataType.{element_of};
+ghost use Rattle.tw_code.specs.format.Program.{IsAction, IsDataInstr, IsInstr, IsRegister};
+ghost use Rattle.tw_code.specs.machine.Arguments.{params_of};
+ghost use Rattle.tw_code.specs.machine.Rights.{right_at};
+ghost use Rattle.tw_code.specs.accepting.Typing.{start_typing, is_free, writes, writes_scalar, writes_container, reads, reads_closed_scalar, reads_closed_container, reads_member_of, a_write, a_read, may_stand_for, after_data, without_args, after};
+ghost use Rattle.tw_verify.specs.Same.{same_typing};
+
+use std::marker::Model;
+use tw_code::{Action, DataInstr, Instr, Procedure, Way};
+use tw_types::{DataType, Mode, Param};
+
+/// A right on a datum of a type.
+#[derive(Clone, Copy, PartialEq, Eq)]
+pub struct Right {
+    mode: Mode,
+    ty: DataType,
+}
+
+impl Model for Right {
+    ghost use Rattle.tw_code.specs.machine.Rights.{Right as RightOn};
+
+    ghost Value = { RightOn };
+
+    ghost view = { λ r. record { mode = r.mode; ty = r.ty } };
+
+    ghost inverse = { λ r. record { mode = r.mode; ty = r.ty } };
+}
+
+impl Right {
+    /// How it is held.
+    pub fn mode(self) -> Mode
+        ensures { result ≡ self.mode }
+    {
+        self.mode
+    }
+
+    /// The type of its datum.
+    pub fn ty(self) -> DataType
+        ensures { result ≡ self.ty }
+    {
+        self.ty
+    }
+
+    /// A right to write a datum of the type.
+    fn write(ty: DataType) -> Right
+        ensures { a_write ty ≡ Some result }
+    {
+        Right {
+            mode: Mode::Write,
+            ty,
+        }
+    }
+
+    /// A right to read a datum of the type.
+    fn read(ty: DataType) -> Right
+        ensures { a_read ty ≡ Some result }
+    {
+        Right {
+            mode: Mode::Ref,
+            ty,
+        }
+    }
+
+    /// A right to read a member of its datum, where that has members.
+    fn member_read(self) -> Option<Right>
+        ensures { result ≡ option_and_then a_read (element_of self.ty) }
+    {
+        self.ty.element().map(Right::read)
+    }
+
+    pub(crate) fn writes(self) -> bool
+        ensures { result ≡ writes self }
+    {
+        self.mode.is_write()
+    }
+
+    pub(crate) fn writes_scalar(self) -> bool
+        ensures { result ≡ writes_scalar self }
+    {
+        self.mode.is_write() && self.ty.is_scalar()
+    }
+
+    pub(crate) fn writes_container(self) -> bool
+        ensures { result ≡ writes_container self }
+    {
+        self.mode.is_write() && !self.ty.is_scalar()
+    }
+
+    pub(crate) fn reads(self) -> bool
+        ensures { result ≡ reads self }
+    {
+        matches!(self.mode, Mode::Closed | Mode::Ref)
+    }
+
+    pub(crate) fn reads_closed_scalar(self) -> bool
+        ensures { result ≡ reads_closed_scalar self }
+    {
+        self.mode == Mode::Closed && self.ty.is_scalar()
+    }
+
+    pub(crate) fn reads_closed_container(self) -> bool
+        ensures { result ≡ reads_closed_container self }
+    {
+        self.mode == Mode::Closed && !self.ty.is_scalar()
+    }
+
+    /// Whether it may be given for a parameter. For a `closed` one any read may be, if the task waits for its data.
+    pub(crate) fn may_stand_for(self, waits: bool, param: Param) -> bool
+        ensures { result ≡ may_stand_for waits param self }
+    {
+        let suits = match param.mode {
+            Mode::Val => false,
+            Mode::Closed if waits => self.reads(),
+            Mode::Closed => self.mode == Mode::Closed,
+            Mode::Ref => self.reads(),
+            Mode::Write => self.mode.is_write(),
+        };
+        suits && self.ty == param.ty
+    }
+
+    /// Whether it reads what that container has as members.
+    pub(crate) fn reads_member_of(self, container: Right) -> bool
+        ensures { result ≡ reads_member_of container self }
+    {
+        self.reads() && container.ty.element() == Some(self.ty)
+    }
+}
+
+/// What the 16 right registers hold at a place: each is empty or has a right.
+#[derive(Clone, Copy, PartialEq, Eq)]
+pub struct Typing {
+    rights: [Option<Right>; 16],
+}
+
+impl Model for Typing {
+    ghost use Rattle.std.specs.Prelude.{List, Option};
+    ghost use Rattle.tw_code.specs.machine.Rights.{Right as RightOn};
+
+    ghost Value = { List (Option RightOn) };
+
+    ghost view = { λ t. t.rights };
+
+    ghost inverse = { λ rights. record { rights = rights } };
+}
+
+impl Typing {
+    /// The typing with which a procedure of these parameters starts.
+    pub fn start(params: &[Param]) -> Typing
+        requires { length params.now ≤ 16 }
+        ensures { result ≡ start_typing params.now }
+    {
+        let mut rights = [None; 16];
+        let mut given = 0;
+        for param in params {
+            if !param.mode.is_val() {
+                rights[given] = Some(Right {
+                    mode: param.mode,
+                    ty: param.ty,
+                });
+                given += 1;
+            }
+        }
+        Typing { rights }
+    }
+
+    /// What a register holds.
+    pub fn right_at(&self, register: u8) -> Option<Right>
+        requires { register < 16 }
+        ensures { result ≡ right_at self.now register }
+    {
+        self.rights[register as usize]
+    }
+
+    /// Whether a register is empty.
+    pub(crate) fn is_free(&self, register: u8) -> bool
+        requires { register < 16 }
+        ensures { result ≡ is_free self.now register }
+    {
+        self.right_at(register).is_none()
+    }
+
+    /// Whether every register is empty.
+    pub fn is_empty(&self) -> bool
+        ensures { result ≡ list_all is_none self.now }
+    {
+        self.rights.iter().all(|right| right.is_none())
+    }
+
+    /// Whether every register holds the same.
+    pub fn is_same(&self, other: &Typing) -> bool
+        ensures { result ≡ same_typing self.now other.now }
+    {
+        self.rights == other.rights
+    }
+
+    fn with(mut self, register: u8, right: Option<Right>) -> Typing
+        requires { register < 16 }
+        ensures { result ≡ slice_set self register right }
+    {
+        self.rights[register as usize] = right;
+        self
+    }
+
+    /// The typing after an instruction on data that goes on by this outcome, a case an instruction.
+    fn after_data(self, way: Way, instr: DataInstr) -> Typing
+        requires { IsDataInstr instr }
+        ensures { result ≡ after_data way instr self }
+    {
+        match instr {
+            DataInstr::New { write, read, ty } => self
+                .with(write, Some(Right::write(ty)))
+                .with(read, Some(Right::read(ty))),
+            DataInstr::Store { datum, .. } => self.with(datum, None),
+            DataInstr::Insert { member, .. } => match way {
+                Way::Done => self.with(member, None),
+                Way::Refused => self,
+            },
+            DataInstr::Look {
+                member,
+                container,
+                ..
+            } => match way {
+                Way::Done => self.with(
+                    member,
+                    self.right_at(container).and_then(Right::member_read),
+                ),
+                Way::Refused => self,
+            },
+            DataInstr::CopyRead { to, from } | DataInstr::CopyWrite { to, from } => {
+                self.with(to, self.right_at(from))
+            }
+            DataInstr::DropRead { right } | DataInstr::DropWrite { right } => self.with(
+                right, None,
+            ),
+            DataInstr::Get { .. } | DataInstr::Size { .. } | DataInstr::SubscriptAt { .. } => self,
+        }
+    }
+
+    /// Without the argument that stands for a parameter, if that is a right.
+    pub(crate) fn without(self, param: Param, arg: u8) -> Typing
+        requires { IsRegister arg }
+        ensures { result ≡ without_args (param ∷ []) (arg ∷ []) self }
+    {
+        if param.mode.is_val() {
+            self
+        } else {
+            self.with(arg, None)
+        }
+    }
+
+    /// Without the arguments that are rights.
+    fn without_args(self, params: &[Param], args: &[u8]) -> Typing
+        requires { AllByRecursion IsRegister args.now }
+        ensures { result ≡ without_args params.now args.now self }
+    {
+        let mut left = self;
+        for (param, arg) in params.iter().zip(args) {
+            left = left.without(*param, *arg);
+        }
+        left
+    }
+
+    /// The typing after RULE and PUT: the rights among the arguments are given away.
+    fn after_action(self, procedures: &[Procedure], action: &Action) -> Typing
+        requires { IsAction action.now }
+        ensures { result ≡ without_args (params_of procedures.now action.now.procedure) action.now.args self }
+    {
+        match procedures.get(action.procedure as usize) {
+            Some(callee) => self.without_args(callee.params.as_slice(), action.args.as_slice()),
+            None => self,
+        }
+    }
+
+    /// The typing after an instruction that goes on by this outcome.
+    pub fn after(self, procedures: &[Procedure], way: Way, instr: &Instr) -> Typing
+        requires { IsInstr instr.now }
+        ensures { result ≡ after procedures.now way instr.now self }
+    {
+        match instr {
+            Instr::Local(_) | Instr::Ret => self,
+            Instr::Data(instr) => self.after_data(way, *instr),
+            Instr::Rule(action) | Instr::Put(action) => self.after_action(procedures, action),
+        }
+    }
+}

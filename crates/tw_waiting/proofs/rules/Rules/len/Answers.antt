@@ -1,6 +1,0 @@
-use Rattle.std.proofs.Common.{◌∙◌}
-use Rattle.tw_waiting.proofs.Numbered.{length_is}
-use Rattle.tw_waiting.proofs.rules.Rules.len.Goals as goal
-
-pub returns : goal.returns
-returns c = rw (← c.self.view_is) (c.len.ensures.len ∙ length_is c.self.inside.pending.entries c.len.ensures.ordered)

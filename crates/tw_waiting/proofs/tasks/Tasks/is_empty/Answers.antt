@@ -1,5 +1,0 @@
-use Rattle.tw_waiting.proofs.Numbered.{is_empty}
-use Rattle.tw_waiting.proofs.tasks.Tasks.is_empty.Goals as goal
-
-pub returns : goal.returns
-returns c = rw (← c.self.view_is) (is_empty c.is_empty.result c.self.inside.waiting.entries c.is_empty.ensures)

@@ -1,0 +1,32 @@
+-- What stands first in what is left of a line.
+use Rattle.std.specs.Prelude.{◌≡◌, ℕ, suc, Bool, true, false, List, [], ◌∷◌, ◌++◌, if◌then◌else◌}
+use Rattle.tw_words.specs.declared.word.Next as nexts
+use Rattle.tw_words.specs.declared.word.Next.TheVariants as next
+use Rattle.tw_words.specs.Seen.{seen}
+use Rattle.tw_words.specs.Words.{IsBlank, IsBroken, IsFirstWord, IsGap, is_edge, is_parting}
+
+abbrev pub IsNext : nexts.Next → List ℕ → Type 0
+IsNext next.End bytes = IsBlank bytes
+IsNext next.Broken bytes = IsBroken bytes
+IsNext (next.Found word rest) bytes = IsFirstWord (seen word) bytes rest.now
+
+-- no gap stands first
+abbrev pub IsAtWord : List ℕ → Type 0
+IsAtWord [] = Unit {0}
+IsAtWord (b ∷ rest) = is_parting b ≡ false
+
+-- all of the gap that stands first is before it
+pub record IsAfterGap (bytes rest : List ℕ) : Type 0 where
+  pub gap : List ℕ
+  pub parts : bytes ≡ gap ++ rest
+  pub is_gap : IsGap gap
+  pub at_word : IsAtWord rest
+
+-- how many bytes stand before the first edge
+abbrev pub bare_length : List ℕ → ℕ
+bare_length [] = 0
+bare_length (b ∷ rest) = if is_edge b then 0 else suc (bare_length rest)
+
+abbrev pub is_at_edge : List ℕ → Bool
+is_at_edge [] = true
+is_at_edge (b ∷ rest) = is_edge b
