@@ -1,14 +1,14 @@
--- What the first word of a line promises.
+-- What the first word of a line lets expect.
 use Rattle.std.proofs.Common.{◌≡◌, ℕ, List, ◌∷◌, refl, subst}
 use Rattle.tw_words.specs.Words.{Bare, IsFirstWord, IsLine, Word}
 use Rattle.tw_asm.specs.declared.statement.First.{First}
-use Rattle.tw_asm.specs.Statement.{Statement, Head, Registers, Label, Code, Goals, IsPromised, Spells}
-use Rattle.tw_asm.proofs.Once.{begins, first_word, promise_of, promised}
+use Rattle.tw_asm.specs.Statement.{Statement, Head, Registers, Label, Code, Goals, IsExpected, Spells}
+use Rattle.tw_asm.proofs.Once.{begins, first_word, expected_of, expected}
 use Rattle.tw_asm.specs.Fault.{Begins, MayBegin, Situation}
-use Rattle.tw_asm.specs.reading.Promise.{promise}
+use Rattle.tw_asm.specs.reading.Expected.{expectation}
 
--- what the first word of a statement promises
-promise_is : (statement : Statement) → promise_of statement ≡ promise statement
+-- what the first word of a statement lets expect
+promise_is : (statement : Statement) → expected_of statement ≡ expectation statement
 promise_is (Head kind params) = refl
 promise_is (Registers registers) = refl
 promise_is (Label name) = refl
@@ -18,7 +18,7 @@ pub record FirstOf (statement : Statement) (words : List Word) : Type 0 where
   pub word : List ℕ
   pub others : List Word
   pub parts : words ≡ Bare word ∷ others
-  pub promised : IsPromised (promise statement) word
+  pub expected : IsExpected (expectation statement) word
 
 pub first_of_words : (goals : Goals) (statement : Statement) (words : List Word) → Spells goals statement words → FirstOf statement words
 first_of_words goals statement words s =
@@ -28,14 +28,14 @@ first_of_words goals statement words s =
       word = word;
       others = f.0;
       parts = f.1;
-      promised = subst (λ (p : First). IsPromised p word) (promise_is statement) (promised goals statement word f.0 (subst (λ (ws : List Word). Spells goals statement ws) f.1 s));
+      expected = subst (λ (p : First). IsExpected p word) (promise_is statement) (expected goals statement word f.0 (subst (λ (ws : List Word). Spells goals statement ws) f.1 s));
     }
 
 pub record FirstIn (statement : Statement) (line : List ℕ) : Type 0 where
   pub word : List ℕ
   pub rest : List ℕ
   pub first : IsFirstWord (Bare word) line rest
-  pub promised : IsPromised (promise statement) word
+  pub expected : IsExpected (expectation statement) word
 
 pub front_of : (word : Word) (others : List Word) (line : List ℕ) → IsLine (word ∷ others) line → (rest : List ℕ) × IsFirstWord word line rest
 front_of word others line l = (l.1.0, l.1.1)
@@ -44,10 +44,10 @@ pub first_in_line : (goals : Goals) (statement : Statement) (words : List Word) 
 first_in_line goals statement words line l s =
     let f = first_of_words goals statement words s in
     let r = front_of (Bare f.word) f.others line (subst (λ (ws : List Word). IsLine ws line) f.parts l) in
-    record { word = f.word; rest = r.0; first = r.1; promised = f.promised }
+    record { word = f.word; rest = r.0; first = r.1; expected = f.expected }
 
 pub line_begins : (goals : Goals) (statement : Statement) (words : List Word) (s : Situation) (line : List ℕ) → IsLine words line → Spells goals statement words
-    → MayBegin s.stage (promise statement) → Begins s line (promise statement)
+    → MayBegin s.stage (expectation statement) → Begins s line (expectation statement)
 line_begins goals statement words s line l spells may =
     let f = first_in_line goals statement words line l spells in
-    (f.word, f.rest, f.first, f.promised, may)
+    (f.word, f.rest, f.first, f.expected, may)

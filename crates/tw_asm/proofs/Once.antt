@@ -14,7 +14,7 @@ use Rattle.tw_types.specs.declared.param.Mode.TheVariants.{Val, Closed, Ref, Wri
 use Rattle.tw_types.specs.declared.param.Param.{Param}
 use Rattle.tw_asm.specs.Parts.{Part, Name, TypeOf, head_parts, instr_parts, kind_word, mode_word, param_parts, register_part, registers_parts, scalar_word}
 use Rattle.tw_asm.specs.Seen.{IsRead, NoName, OnlyName, with_skip}
-use Rattle.tw_asm.specs.Statement.{Code, Goals, HasForm, Head, IsPromised, Label, Registers, SpellParts, Spells, Statement, statement_parts}
+use Rattle.tw_asm.specs.Statement.{Code, Goals, HasForm, Head, IsExpected, Label, Registers, SpellParts, Spells, Statement, statement_parts}
 use Rattle.tw_asm.specs.declared.statement.First.{First}
 use Rattle.tw_asm.specs.declared.statement.First.TheVariants as first
 use Rattle.tw_asm.proofs.Rows.{AreAlike, alike_by_sorts, behind_first, class_of_word, different, ends_in_colon, first_name, have_sorts, name_of, operands_of, row, row_among, rows, same}
@@ -130,31 +130,31 @@ same_class a b s t words h k = sym (begins s).class ∙ ap class_of_word (same_w
 abbrev pub first_of_class : ℕ → First
 first_of_class class = if class == 0 then first.Head else if class == 1 then first.Registers else first.Body
 
--- what the first word of its words promises
-abbrev pub promise_of : Statement → First
-promise_of s = first_of_class (class_of s)
+-- what the first word of its words lets expect
+abbrev pub expected_of : Statement → First
+expected_of s = first_of_class (class_of s)
 
-pub promised : (goals : Goals) (s : Statement) (word : List ℕ) (rest : List Word) → Spells goals s (Bare word ∷ rest) → IsPromised (promise_of s) word
-promised goals s word rest h =
+pub expected : (goals : Goals) (s : Statement) (word : List ℕ) (rest : List Word) → Spells goals s (Bare word ∷ rest) → IsExpected (expected_of s) word
+expected goals s word rest h =
     let u = first_word goals s (Bare word ∷ rest) h in
     let is : word ≡ (begins s).word = bare_is word (begins s).word (cons_is (Bare word) (Bare (begins s).word) rest u.0 u.1).0 in
-    subst (IsPromised (promise_of s)) (sym is) (by s h.form)
+    subst (IsExpected (expected_of s)) (sym is) (by s h.form)
   where
-    by : (t : Statement) → HasForm t → IsPromised (promise_of t) (begins t).word
+    by : (t : Statement) → HasForm t → IsExpected (expected_of t) (begins t).word
     by (Head kind params) form = refl
     by (Registers registers) form = refl
     by (Label name) form = inl (name, form, refl)
     by (Code i) form = inr (i, operands_of i, (row i).parts)
 
-promise_class : (p : First) (word : List ℕ) → IsPromised p word → first_of_class (class_of_word word) ≡ p
-promise_class first.Head word e = ap (λ (w : List ℕ). first_of_class (class_of_word w)) e
-promise_class first.Registers word e = ap (λ (w : List ℕ). first_of_class (class_of_word w)) e
-promise_class first.Body word (inl (name, is_name, e)) = ap (λ (w : List ℕ). first_of_class (class_of_word w)) e ∙ ap first_of_class (label_class name)
-promise_class first.Body word (inr (i, operands, e)) = ap (λ (w : List ℕ). first_of_class (class_of_word w)) (sym (ap first_name e)) ∙ ap first_of_class (row i).class
+expected_class : (p : First) (word : List ℕ) → IsExpected p word → first_of_class (class_of_word word) ≡ p
+expected_class first.Head word e = ap (λ (w : List ℕ). first_of_class (class_of_word w)) e
+expected_class first.Registers word e = ap (λ (w : List ℕ). first_of_class (class_of_word w)) e
+expected_class first.Body word (inl (name, is_name, e)) = ap (λ (w : List ℕ). first_of_class (class_of_word w)) e ∙ ap first_of_class (label_class name)
+expected_class first.Body word (inr (i, operands, e)) = ap (λ (w : List ℕ). first_of_class (class_of_word w)) (sym (ap first_name e)) ∙ ap first_of_class (row i).class
 
--- a word promises one thing alone
-pub one_promise : (p q : First) (word : List ℕ) → IsPromised p word → IsPromised q word → p ≡ q
-one_promise p q word h k = sym (promise_class p word h) ∙ promise_class q word k
+-- a word lets expect one thing alone
+pub one_expected : (p q : First) (word : List ℕ) → IsExpected p word → IsExpected q word → p ≡ q
+one_expected p q word h k = sym (expected_class p word h) ∙ expected_class q word k
 
 -- ---- parts of the same sorts
 

@@ -4,7 +4,7 @@ use Rattle.std.specs.List.{Contains, slice_get}
 use Rattle.std.specs.Str.Lines.{lines}
 use Rattle.tw_code.specs.declared.instr.Instr.{Instr}
 use Rattle.tw_words.specs.Words.{Bare, IsLine, Word}
-use Rattle.tw_asm.specs.Statement.{Statement, Label, Code, AnyShortName, IsPromised, NamesLabel, Say}
+use Rattle.tw_asm.specs.Statement.{Statement, Label, Code, AnyShortName, IsExpected, NamesLabel, Say}
 use Rattle.tw_asm.specs.declared.statement.First.{First}
 use Rattle.tw_asm.specs.declared.statement.First.TheVariants as first
 use Rattle.tw_asm.specs.declared.fault.FaultNo.{FaultNo}
@@ -14,7 +14,7 @@ use Rattle.tw_asm.proofs.NamedLabels.{named_once}
 use Rattle.tw_asm.proofs.Twice.{both_alike, line_is_same, others_say, says_alike}
 use Rattle.tw_asm.proofs.Unspelled.{finished, has_words, line_no_fault}
 use Rattle.tw_words.proofs.Once.{first_word_once, line_once}
-use Rattle.tw_asm.proofs.Once.{one_promise}
+use Rattle.tw_asm.proofs.Once.{one_expected}
 use Rattle.tw_asm.proofs.Spelled.{bare_is}
 
 -- ---- faults of one line
@@ -22,7 +22,7 @@ use Rattle.tw_asm.proofs.Spelled.{bare_is}
 begins_once : (s : Situation) (line : List ℕ) (p q : First) → Begins s line p → Begins s line q → p ≡ q
 begins_once s line p q b c =
     let same = bare_is b.0 c.0 (first_word_once (Bare b.0) (Bare c.0) line b.1 c.1 b.2 c.2).0 in
-    one_promise p q c.0 (subst (IsPromised p) same b.3) c.3
+    one_expected p q c.0 (subst (IsExpected p) same b.3) c.3
 
 body_head : {Z : Type 0} → ◌≡◌ {A = First} first.Body first.Head → Z
 body_head e = absurd cc

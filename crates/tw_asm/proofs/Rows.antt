@@ -201,7 +201,7 @@ ends_in_colon [] = false
 ends_in_colon (b ∷ []) = b == 58
 ends_in_colon (b ∷ c ∷ others) = ends_in_colon (c ∷ others)
 
--- what a first word promises, as a number: the head, the registers, a label, an instruction
+-- what a first word lets expect, as a number: the head, the registers, a label, an instruction
 abbrev pub class_of_word : List ℕ → ℕ
 class_of_word word = if ends_in_colon word then 2 else if same word (codes "proc") then 0 else if same word (codes "regs") then 1 else 3
 

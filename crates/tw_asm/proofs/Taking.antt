@@ -15,20 +15,20 @@ use Rattle.tw_words.specs.Words.{Bare, IsBrokenLine, IsFirstWord, IsLine, Quoted
 use Rattle.tw_asm.specs.declared.statement.First.{First}
 use Rattle.tw_asm.specs.declared.statement.First.TheVariants as first
 use Rattle.tw_asm.specs.Seen.{IsRead, Read, seen}
-use Rattle.tw_asm.specs.Statement.{Statement, Code, Head, Label, AnyName, AnyShortName, HaveForm, IsPromised, Say}
+use Rattle.tw_asm.specs.Statement.{Statement, Code, Head, Label, AnyName, AnyShortName, HaveForm, IsExpected, Say}
 use Rattle.tw_asm.specs.declared.fault.FaultNo.TheVariants as fault
 use Rattle.tw_asm.specs.Fault.{Stage, Start, InBody, Begins, HasWords, LineFault, MayBegin, MayStand, Situation, empty, instructions, label_twice, limit, operand, procedures, word}
 use Rattle.tw_asm.specs.reading.Progress.{AreClosed, AreFinished, AtStart, BehindHead, Within, IsEmptyAt, IsGoalOf, IsLimit, IsLimitLine, IsMemory, IsNotClosed, IsNotFinished, Place, Progress, Section, Stopped, TakenLine, TakenStatement, WordsRead, begun, drafts_at, ended, situation_of, stage_of, step}
-use Rattle.tw_asm.specs.reading.Promise.{IsPromisedBy, promise}
+use Rattle.tw_asm.specs.reading.Expected.{IsExpectedBy, expectation}
 use Rattle.tw_asm.proofs.Begins.{first_of_words, front_of, line_begins}
 use Rattle.tw_words.proofs.Once.{blank_no_word, broken_here, broken_no_line, first_word_once, line_blank, line_once}
 use Rattle.tw_asm.proofs.Stages.{body_start, head_body, progress, start_body}
 use Rattle.tw_asm.proofs.Steps.{read_says}
-use Rattle.tw_asm.proofs.Once.{one_promise, spells_more}
+use Rattle.tw_asm.proofs.Once.{one_expected, spells_more}
 
-begins : (s : Situation) (line : List ℕ) (w : Word) (rest : List ℕ) (promised : First) → IsFirstWord w line rest → IsPromisedBy w promised → MayBegin s.stage promised → Begins s line promised
-begins s line (Bare bytes) rest promised f p m = (bytes, rest, f, p, m)
-begins s line (Quoted text) rest promised f p m = absurd p
+begins : (s : Situation) (line : List ℕ) (w : Word) (rest : List ℕ) (expected : First) → IsFirstWord w line rest → IsExpectedBy w expected → MayBegin s.stage expected → Begins s line expected
+begins s line (Bare bytes) rest expected f p m = (bytes, rest, f, p, m)
+begins s line (Quoted text) rest expected f p m = absurd p
 
 broken_front : (w : Word) (others : List Word) (line : List ℕ) → IsBrokenLine (w ∷ others) line → (rest : List ℕ) × IsFirstWord w line rest
 broken_front w others line l = (l.1.0, l.1.1)
@@ -36,28 +36,28 @@ broken_front w others line l = (l.1.0, l.1.1)
 pub broken_fault : (number : ℕ) (s : Situation) (line : List ℕ) → IsBrokenLine [] line → LineFault number s line fault.Word number
 broken_fault number s line b =
     let n = broken_here line b in
-    word (λ l. n.0 (line_blank line l)) (λ promised x. n.1 (Bare x.0) x.1 x.2)
+    word (λ l. n.0 (line_blank line l)) (λ expected x. n.1 (Bare x.0) x.1 x.2)
 
-word_fault : (number : ℕ) (s : Situation) (line : List ℕ) (w : Word) (rest : List ℕ) → IsFirstWord w line rest → ((promised : First) → IsPromisedBy w promised → MayBegin s.stage promised → ⊥) → LineFault number s line fault.Word number
+word_fault : (number : ℕ) (s : Situation) (line : List ℕ) (w : Word) (rest : List ℕ) → IsFirstWord w line rest → ((expected : First) → IsExpectedBy w expected → MayBegin s.stage expected → ⊥) → LineFault number s line fault.Word number
 word_fault number s line w rest f none =
     word (λ l. blank_no_word w line rest (line_blank line l) f)
-    (λ promised x. none promised (subst (λ (v : Word). IsPromisedBy v promised) (sym (first_word_once w (Bare x.0) line rest x.1 f x.2).0) x.3) x.4)
+    (λ expected x. none expected (subst (λ (v : Word). IsExpectedBy v expected) (sym (first_word_once w (Bare x.0) line rest x.1 f x.2).0) x.3) x.4)
 
-pub line_word_fault : (number : ℕ) (s : Situation) (line : List ℕ) (w : Word) (others : List Word) → IsLine (w ∷ others) line → ((promised : First) → IsPromisedBy w promised → MayBegin s.stage promised → ⊥) → LineFault number s line fault.Word number
+pub line_word_fault : (number : ℕ) (s : Situation) (line : List ℕ) (w : Word) (others : List Word) → IsLine (w ∷ others) line → ((expected : First) → IsExpectedBy w expected → MayBegin s.stage expected → ⊥) → LineFault number s line fault.Word number
 line_word_fault number s line w others l none = let f = front_of w others line l in word_fault number s line w f.0 f.1 none
 
-pub broken_word_fault : (number : ℕ) (s : Situation) (line : List ℕ) (w : Word) (others : List Word) → IsBrokenLine (w ∷ others) line → ((promised : First) → IsPromisedBy w promised → MayBegin s.stage promised → ⊥) → LineFault number s line fault.Word number
+pub broken_word_fault : (number : ℕ) (s : Situation) (line : List ℕ) (w : Word) (others : List Word) → IsBrokenLine (w ∷ others) line → ((expected : First) → IsExpectedBy w expected → MayBegin s.stage expected → ⊥) → LineFault number s line fault.Word number
 broken_word_fault number s line w others l none = let f = broken_front w others line l in word_fault number s line w f.0 f.1 none
 
-pub broken_operand : (number : ℕ) (s : Situation) (line : List ℕ) (w : Word) (others : List Word) (promised : First) → IsBrokenLine (w ∷ others) line → IsPromisedBy w promised → MayBegin s.stage promised → LineFault number s line fault.Operand number
-broken_operand number s line w others promised l p m =
+pub broken_operand : (number : ℕ) (s : Situation) (line : List ℕ) (w : Word) (others : List Word) (expected : First) → IsBrokenLine (w ∷ others) line → IsExpectedBy w expected → MayBegin s.stage expected → LineFault number s line fault.Operand number
+broken_operand number s line w others expected l p m =
     let f = broken_front w others line l in
-    operand promised (begins s line w f.0 promised f.1 p m) (λ h. broken_no_line (w ∷ others) h.0 line l h.1)
+    operand expected (begins s line w f.0 expected f.1 p m) (λ h. broken_no_line (w ∷ others) h.0 line l h.1)
 
-pub form_fault : (number : ℕ) (s : Situation) (line : List ℕ) (w : Word) (others : List Word) (promised : First) → IsLine (w ∷ others) line → IsPromisedBy w promised → MayBegin s.stage promised → (HaveForm (w ∷ others) → ⊥) → LineFault number s line fault.Operand number
-form_fault number s line w others promised l p m none =
+pub form_fault : (number : ℕ) (s : Situation) (line : List ℕ) (w : Word) (others : List Word) (expected : First) → IsLine (w ∷ others) line → IsExpectedBy w expected → MayBegin s.stage expected → (HaveForm (w ∷ others) → ⊥) → LineFault number s line fault.Operand number
+form_fault number s line w others expected l p m none =
     let f = front_of w others line l in
-    operand promised (begins s line w f.0 promised f.1 p m) (λ h. none (subst HaveForm (line_once h.0 (w ∷ others) line h.1 l) h.2))
+    operand expected (begins s line w f.0 expected f.1 p m) (λ h. none (subst HaveForm (line_once h.0 (w ∷ others) line h.1 l) h.2))
 
 pub empty_is : (place : Place) → IsEmptyAt place → (stage_of place ≡ InBody) × (length (drafts_at place) ≡ 0)
 empty_is AtStart e = absurd e
@@ -69,30 +69,30 @@ is_empty AtStart s e = start_body s
 is_empty (BehindHead kind params) s e = head_body s
 is_empty (Within section) s e = e
 
-pub limit_fault : (number at : ℕ) (p : Progress) (line : List ℕ) (w : Word) (others : List Word) (promised : First) → IsLine (w ∷ others) line → IsPromisedBy w promised → MayBegin (stage_of p.place) promised
-    → HaveForm (w ∷ others) → ((statement : Statement) → Say statement (w ∷ others) → ⊥) → IsLimitLine p promised number at → LineFault number (situation_of p) line fault.Limit at
-limit_fault number at p line w others promised l b m form none (inl h) =
+pub limit_fault : (number at : ℕ) (p : Progress) (line : List ℕ) (w : Word) (others : List Word) (expected : First) → IsLine (w ∷ others) line → IsExpectedBy w expected → MayBegin (stage_of p.place) expected
+    → HaveForm (w ∷ others) → ((statement : Statement) → Say statement (w ∷ others) → ⊥) → IsLimitLine p expected number at → LineFault number (situation_of p) line fault.Limit at
+limit_fault number at p line w others expected l b m form none (inl h) =
     let f = front_of w others line l in
-    let x = begins (situation_of p) line w f.0 promised f.1 b m in
+    let x = begins (situation_of p) line w f.0 expected f.1 b m in
     subst (LineFault number (situation_of p) line fault.Limit) (sym h.2)
     (empty (subst (Begins (situation_of p) line) h.0 x) (w ∷ others, l, form) (empty_is p.place h.1))
-limit_fault number at p line w others promised l b m form none (inr h) =
+limit_fault number at p line w others expected l b m form none (inr h) =
     let f = front_of w others line l in
     subst (LineFault number (situation_of p) line fault.Limit) (sym h.1)
-    (limit promised (begins (situation_of p) line w f.0 promised f.1 b m) (w ∷ others, l, form) (λ e x. h.0 e (is_empty p.place x.0 x.1))
+    (limit expected (begins (situation_of p) line w f.0 expected f.1 b m) (w ∷ others, l, form) (λ e x. h.0 e (is_empty p.place x.0 x.1))
     (λ statement ws k say. none statement (subst (Say statement) (line_once ws (w ∷ others) line k l) say)))
 
--- the statement is what the first word promised
-promised_by : (w v : Word) (bytes : List ℕ) (a b : First) → w ≡ Bare bytes → IsPromisedBy w a → IsPromised b bytes → a ≡ b
-promised_by w v bytes a b e p q = one_promise a b bytes (subst (λ (x : Word). IsPromisedBy x a) e p) q
+-- the statement is what the first word expected
+expected_by : (w v : Word) (bytes : List ℕ) (a b : First) → w ≡ Bare bytes → IsExpectedBy w a → IsExpected b bytes → a ≡ b
+expected_by w v bytes a b e p q = one_expected a b bytes (subst (λ (x : Word). IsExpectedBy x a) e p) q
 
 cons_head : (w v : Word) (ws vs : List Word) → ◌≡◌ {A = List Word} (w ∷ ws) (v ∷ vs) → w ≡ v
 cons_head w v ws vs e = cc
 
-pub may_stand_there : (stage : Stage) (read : Read) (w : Word) (others : List Word) (promised : First) → IsRead read (w ∷ others) → IsPromisedBy w promised → MayBegin stage promised → MayBegin stage (promise read.statement)
-may_stand_there stage read w others promised r p m =
+pub may_stand_there : (stage : Stage) (read : Read) (w : Word) (others : List Word) (expected : First) → IsRead read (w ∷ others) → IsExpectedBy w expected → MayBegin stage expected → MayBegin stage (expectation read.statement)
+may_stand_there stage read w others expected r p m =
     let f = first_of_words AnyShortName read.statement (w ∷ others) (read_says read (w ∷ others) r).0 in
-    subst (MayBegin stage) (promised_by w w f.word promised (promise read.statement) (cons_head w (Bare f.word) others f.others f.parts) p f.promised) m
+    subst (MayBegin stage) (expected_by w w f.word expected (expectation read.statement) (cons_head w (Bare f.word) others f.others f.parts) p f.expected) m
 
 -- ---- heads
 
@@ -194,12 +194,12 @@ goal_is (statement.Label name) = refl
 goal_is (statement.Code draft) = tt
 
 pub line_taken : (p : Progress) (number : ℕ) (line : List ℕ) (said : statements.Statement) (r : Result readings.Reading AsmFault) → WordsRead p number line (Ok (Some said))
-    → (MayBegin (stage_of p.place) (promise (seen said).statement) → TakenStatement p number (seen said) r) → TakenLine p number line r
+    → (MayBegin (stage_of p.place) (expectation (seen said).statement) → TakenStatement p number (seen said) r) → TakenLine p number line r
 line_taken p number line said (Ok reading) w give =
     let t = give w.1 in
     (Some (seen said), (w.0, t.0, goal_is said), t.1)
 line_taken p number line said (Err f) w give = elim (give w.1) [ inl x ↦ inl x | inr x ↦ inr (x line w.0.0 w.0.1 w.0.2) ]
 
-pub any_word_fault : (number : ℕ) (s : Situation) (line : List ℕ) (w : Word) (others : List Word) (whole : Bool) → IsLineRead (w ∷ others) whole line → ((promised : First) → IsPromisedBy w promised → MayBegin s.stage promised → ⊥) → LineFault number s line fault.Word number
+pub any_word_fault : (number : ℕ) (s : Situation) (line : List ℕ) (w : Word) (others : List Word) (whole : Bool) → IsLineRead (w ∷ others) whole line → ((expected : First) → IsExpectedBy w expected → MayBegin s.stage expected → ⊥) → LineFault number s line fault.Word number
 any_word_fault number s line w others true r none = line_word_fault number s line w others r none
 any_word_fault number s line w others false r none = broken_word_fault number s line w others r none

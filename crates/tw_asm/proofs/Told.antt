@@ -11,7 +11,7 @@ use Rattle.std.specs.List.{flat_map}
 use Rattle.tw_asm.proofs.FirstGoals.{first_goal_fault}
 use Rattle.tw_asm.proofs.Unspelled.{fault_none}
 
-line_no : (number : ℕ) (s : Situation) (line : List ℕ) (which : FaultNo) (at : ℕ) → LineFault number s line which at → which ≡ fault.Memory → ⊥
+line_no : (number : ℕ) (s : Situation) (line : List ℕ) (which : FaultNo) (at : ℕ) → LineFault number s line which at → which ≡ fault.NoMemory → ⊥
 line_no number s line _ _ (word a b) e = absurd cc
 line_no number s line _ _ (operand p a b) e = absurd cc
 line_no number s line _ _ (label_twice n ws a b c d) e = absurd cc
@@ -20,33 +20,33 @@ line_no number s line _ _ (limit p a b c d) e = absurd cc
 line_no number s line _ _ (procedures a b c d) e = absurd cc
 line_no number s line _ _ (instructions i ws a b c d) e = absurd cc
 
-goal_no : (s : Situation) (said : List (List ℕ)) (line : List ℕ) (which : FaultNo) → GoalFault s said line which → which ≡ fault.Memory → ⊥
+goal_no : (s : Situation) (said : List (List ℕ)) (line : List ℕ) (which : FaultNo) → GoalFault s said line which → which ≡ fault.NoMemory → ⊥
 goal_no s said line _ (unknown n ws a b c d) e = absurd cc
 goal_no s said line _ (not_forward n ws a b c) e = absurd cc
 
-limit_no : fault.Memory ≡ fault.Limit → ⊥
+limit_no : fault.NoMemory ≡ fault.Limit → ⊥
 limit_no e = absurd cc
 
-no_memory : (text : List ℕ) (at : ℕ) → IsFirstFault text fault.Memory at → ⊥
-no_memory text at (inl l) = line_no _ _ _ fault.Memory at l.wrong refl
+no_memory : (text : List ℕ) (at : ℕ) → IsFirstFault text fault.NoMemory at → ⊥
+no_memory text at (inl l) = line_no _ _ _ fault.NoMemory at l.wrong refl
 no_memory text at (inr (inl e)) = limit_no e.number
-no_memory text at (inr (inr g)) = goal_no _ _ _ fault.Memory g.0.wrong refl
+no_memory text at (inr (inr g)) = goal_no _ _ _ fault.NoMemory g.0.wrong refl
 
-told_no : (text : List ℕ) (which : FaultNo) (at : ℕ) → ((which ≡ fault.Memory) × (at ≡ 0)) ⊎ IsFirstFault text which at → IsFault text which at
+told_no : (text : List ℕ) (which : FaultNo) (at : ℕ) → ((which ≡ fault.NoMemory) × (at ≡ 0)) ⊎ IsFirstFault text which at → IsFault text which at
 told_no text fault.Word at (inl m) = absurd cc
 told_no text fault.Operand at (inl m) = absurd cc
 told_no text fault.UnknownLabel at (inl m) = absurd cc
 told_no text fault.LabelTwice at (inl m) = absurd cc
 told_no text fault.LabelNotForward at (inl m) = absurd cc
 told_no text fault.Limit at (inl m) = absurd cc
-told_no text fault.Memory at (inl m) = m.1
+told_no text fault.NoMemory at (inl m) = m.1
 told_no text fault.Word at (inr f) = record { first = f; none = λ program s. fault_none text fault.Word at program f s }
 told_no text fault.Operand at (inr f) = record { first = f; none = λ program s. fault_none text fault.Operand at program f s }
 told_no text fault.UnknownLabel at (inr f) = record { first = f; none = λ program s. fault_none text fault.UnknownLabel at program f s }
 told_no text fault.LabelTwice at (inr f) = record { first = f; none = λ program s. fault_none text fault.LabelTwice at program f s }
 told_no text fault.LabelNotForward at (inr f) = record { first = f; none = λ program s. fault_none text fault.LabelNotForward at program f s }
 told_no text fault.Limit at (inr f) = record { first = f; none = λ program s. fault_none text fault.Limit at program f s }
-told_no text fault.Memory at (inr f) = absurd (no_memory text at f)
+told_no text fault.NoMemory at (inr f) = absurd (no_memory text at f)
 
 pub told_fault : (text : List ℕ) (f : AsmFault) → IsMemory f ⊎ IsFirstFault text f.no f.line → IsFault text f.no f.line
 told_fault text f x = told_no text f.no f.line x

@@ -5,11 +5,11 @@ use Rattle.std.specs.Str.Lines.{lines}
 use Rattle.tw_code.specs.declared.instr.Instr.{Instr}
 use Rattle.tw_code.specs.declared.procedure.Procedure.{Procedure}
 use Rattle.tw_words.specs.Words.{Bare, IsLine, Word}
-use Rattle.tw_asm.specs.Statement.{Statement, Head, Registers, Label, Code, AnyName, AnyShortName, IsPromised, NamesLabel, Say}
+use Rattle.tw_asm.specs.Statement.{Statement, Head, Registers, Label, Code, AnyName, AnyShortName, IsExpected, NamesLabel, Say}
 use Rattle.tw_asm.specs.declared.statement.First.{First}
 use Rattle.tw_asm.specs.declared.statement.First.TheVariants as first
 use Rattle.tw_asm.specs.declared.fault.FaultNo.{FaultNo}
-use Rattle.tw_asm.specs.reading.Promise.{promise}
+use Rattle.tw_asm.specs.reading.Expected.{expectation}
 use Rattle.tw_asm.specs.Fault.{Stage, Start, InBody, Begins, GoalFault, HasWords, IsEmpty, IsFirstFault, IsLineFault, IsUnfinished, IsWhole, LineFault, LineSays, LinesSay, MayBegin, MayStand, Situation, after_line, at_start, labels_ahead, situation, situation_from, not_forward, unknown}
 use Rattle.tw_asm.specs.Spelling.{SpellsProgram}
 use Rattle.tw_asm.proofs.Alike.{AreAlike}
@@ -17,7 +17,7 @@ use Rattle.tw_asm.proofs.Begins.{first_in_line, line_begins}
 use Rattle.tw_asm.proofs.Stages.{start_body}
 use Rattle.tw_asm.proofs.Twice.{both_alike, line_is_same, nothing_says, others_say, same_ahead, says_alike}
 use Rattle.tw_words.proofs.Once.{blank_no_word, first_word_once, line_blank}
-use Rattle.tw_asm.proofs.Once.{one_promise, spells_more}
+use Rattle.tw_asm.proofs.Once.{one_expected, spells_more}
 use Rattle.tw_asm.proofs.Spelled.{bare_is}
 use Rattle.tw_asm.proofs.Walk.{LinesHold, lines_hold, program_said, program_says}
 
@@ -30,7 +30,7 @@ not_start : (s : Situation) → s.stage ≡ InBody → s.stage ≡ Start → ⊥
 not_start s body start = start_body (sym start ∙ body)
 
 -- what may stand may begin
-may_begin : (statement : Statement) (s : Situation) → MayStand statement s → MayBegin s.stage (promise statement)
+may_begin : (statement : Statement) (s : Situation) → MayStand statement s → MayBegin s.stage (expectation statement)
 may_begin (Head kind params) s (inl start, few) = subst (λ (stage : Stage). MayBegin stage first.Head) (sym start) refl
 may_begin (Head kind params) s (inr whole, few) = subst (λ (stage : Stage). MayBegin stage first.Head) (sym whole.0) (inl refl)
 may_begin (Registers registers) s due = subst (λ (stage : Stage). MayBegin stage first.Registers) (sym due) refl
@@ -39,15 +39,15 @@ may_begin (Code i) s may = subst (λ (stage : Stage). MayBegin stage first.Body)
 
 -- ---- what a line says has no fault
 
-nothing_begins : {Z : Type 0} (s : Situation) (line : List ℕ) (promised : First) → IsLine [] line → Begins s line promised → Z
-nothing_begins s line promised blank b = absurd (blank_no_word (Bare b.0) line b.1 (line_blank line blank) b.2)
+nothing_begins : {Z : Type 0} (s : Situation) (line : List ℕ) (expected : First) → IsLine [] line → Begins s line expected → Z
+nothing_begins s line expected blank b = absurd (blank_no_word (Bare b.0) line b.1 (line_blank line blank) b.2)
 
--- the line's first word promises its statement
-promises : (s : Situation) (line : List ℕ) (statement : Statement) (words : List Word) (promised : First) → IsLine words line → Say statement words → Begins s line promised → promised ≡ promise statement
-promises s line statement words promised is say b =
+-- the line's first word lets expect its statement
+lets expect : (s : Situation) (line : List ℕ) (statement : Statement) (words : List Word) (expected : First) → IsLine words line → Say statement words → Begins s line expected → expected ≡ expectation statement
+lets expect s line statement words expected is say b =
     let f = first_in_line AnyShortName statement words line is say.0 in
     let same = bare_is b.0 f.word (first_word_once (Bare b.0) (Bare f.word) line b.1 f.rest b.2 f.first).0 in
-    one_promise promised (promise statement) f.word (subst (IsPromised promised) same b.3) f.promised
+    one_expected expected (expectation statement) f.word (subst (IsExpected expected) same b.3) f.expected
 
 registers_head : {Z : Type 0} → ◌≡◌ {A = First} first.Head first.Registers → Z
 registers_head e = absurd cc
@@ -55,7 +55,7 @@ registers_head e = absurd cc
 body_head : {Z : Type 0} → ◌≡◌ {A = First} first.Head first.Body → Z
 body_head e = absurd cc
 
-head_may : (statement : Statement) (s : Situation) → first.Head ≡ promise statement → MayStand statement s → ((s.stage ≡ Start) ⊎ IsWhole s) × (s.procedures < 64)
+head_may : (statement : Statement) (s : Situation) → first.Head ≡ expectation statement → MayStand statement s → ((s.stage ≡ Start) ⊎ IsWhole s) × (s.procedures < 64)
 head_may (Head kind params) s e may = may
 head_may (Registers registers) s e may = registers_head e
 head_may (Label name) s e may = body_head e
@@ -78,20 +78,20 @@ has_words statement words line is say = (words, is, (statement, spells_more AnyS
 
 blank_no_fault : (number : ℕ) (s : Situation) (line : List ℕ) (which : FaultNo) (at : ℕ) → IsLine [] line → LineFault number s line which at → ⊥
 blank_no_fault number s line _ _ blank (LineFault.word some none) = some blank
-blank_no_fault number s line _ _ blank (LineFault.operand promised b formless) = nothing_begins s line promised blank b
+blank_no_fault number s line _ _ blank (LineFault.operand expected b formless) = nothing_begins s line expected blank b
 blank_no_fault number s line _ _ blank (LineFault.label_twice name words body is say c) = nothing_says (Label name) words line blank is say
 blank_no_fault number s line _ _ blank (LineFault.empty b has e) = nothing_begins s line first.Head blank b
-blank_no_fault number s line _ _ blank (LineFault.limit promised b has e unsaid) = nothing_begins s line promised blank b
+blank_no_fault number s line _ _ blank (LineFault.limit expected b has e unsaid) = nothing_begins s line expected blank b
 blank_no_fault number s line _ _ blank (LineFault.procedures b has e many) = nothing_begins s line first.Head blank b
 blank_no_fault number s line _ _ blank (LineFault.instructions i words body is say many) = nothing_says (Code i) words line blank is say
 
 said_no_fault : (number : ℕ) (s : Situation) (line : List ℕ) (statement : Statement) (ws : List Word) (which : FaultNo) (at : ℕ) → IsLine ws line → Say statement ws → MayStand statement s → LineFault number s line which at → ⊥
-said_no_fault number s line statement ws _ _ l h may (LineFault.word some none) = none (promise statement) (line_begins AnyShortName statement ws s line l h.0 (may_begin statement s may))
-said_no_fault number s line statement ws _ _ l h may (LineFault.operand promised b formless) = formless (has_words statement ws line l h)
+said_no_fault number s line statement ws _ _ l h may (LineFault.word some none) = none (expectation statement) (line_begins AnyShortName statement ws s line l h.0 (may_begin statement s may))
+said_no_fault number s line statement ws _ _ l h may (LineFault.operand expected b formless) = formless (has_words statement ws line l h)
 said_no_fault number s line statement ws _ _ l h may (LineFault.label_twice name words body is say c) = label_may statement name s (says_alike statement (Label name) ws words line l h is say) may c
-said_no_fault number s line statement ws _ _ l h may (LineFault.empty b has e) = not_empty s (head_may statement s (promises s line statement ws first.Head l h b) may).0 e
-said_no_fault number s line statement ws _ _ l h may (LineFault.limit promised b has e unsaid) = unsaid statement ws l h
-said_no_fault number s line statement ws _ _ l h may (LineFault.procedures b has e many) = omega (arith, many, (head_may statement s (promises s line statement ws first.Head l h b) may).1)
+said_no_fault number s line statement ws _ _ l h may (LineFault.empty b has e) = not_empty s (head_may statement s (lets expect s line statement ws first.Head l h b) may).0 e
+said_no_fault number s line statement ws _ _ l h may (LineFault.limit expected b has e unsaid) = unsaid statement ws l h
+said_no_fault number s line statement ws _ _ l h may (LineFault.procedures b has e many) = omega (arith, many, (head_may statement s (lets expect s line statement ws first.Head l h b) may).1)
 said_no_fault number s line statement ws _ _ l h may (LineFault.instructions i words body is say many) = omega (arith, many, code_may statement i s (says_alike statement (Code i) ws words line l h is say) may)
 
 pub line_no_fault : (number : ℕ) (s : Situation) (line : List ℕ) (said : Option Statement) (which : FaultNo) (at : ℕ) → LineSays s line said → LineFault number s line which at → ⊥

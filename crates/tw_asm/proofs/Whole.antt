@@ -75,5 +75,5 @@ all_fine (word.Quoted text ∷ ws) = (IsUtf8-string_bytes text, all_fine ws)
 
 pub answered : (r : Result statements.Statement Refusal) (ws : List Word) → AllByRecursion IsFine ws → Gives seen r (statement_in ws) → Answers r ws
 answered (Ok statement) ws fine gives = subst (λ (read : Result Read Flaw). Judged read ws) gives (judged ws fine)
-answered (Err refusal.OutOfMemory) ws fine gives = tt
+answered (Err refusal.NoMemory) ws fine gives = tt
 answered (Err (refusal.Flawed flaw)) ws fine gives = subst (λ (read : Result Read Flaw). Judged read ws) gives (judged ws fine)

@@ -19,7 +19,7 @@ IsFault text fault.UnknownLabel line = HasFault text fault.UnknownLabel line
 IsFault text fault.LabelTwice line = HasFault text fault.LabelTwice line
 IsFault text fault.LabelNotForward line = HasFault text fault.LabelNotForward line
 IsFault text fault.Limit line = HasFault text fault.Limit line
-IsFault text fault.Memory line = line ≡ 0
+IsFault text fault.NoMemory line = line ≡ 0
 
 -- the program that the text spells, or its first fault, or want of memory
 abbrev pub IsAssembled : List ℕ → Result (List Procedure) AsmFault → Type 0

@@ -10,7 +10,7 @@ use Rattle.std.specs.Str.Lines.{lines}
 use Rattle.tw_words.specs.Words.{Bare, IsFirstWord, IsLine, Word}
 use Rattle.tw_asm.specs.declared.statement.First.{First}
 use Rattle.tw_asm.specs.declared.statement.First.TheVariants as first
-use Rattle.tw_asm.specs.Statement.{Statement, Head, Registers, Label, Code, HaveForm, IsPromised, NamesLabel, Say}
+use Rattle.tw_asm.specs.Statement.{Statement, Head, Registers, Label, Code, HaveForm, IsExpected, NamesLabel, Say}
 use Rattle.tw_asm.specs.declared.fault.FaultNo.{FaultNo}
 use Rattle.tw_asm.specs.declared.fault.FaultNo.TheVariants as fault
 
@@ -22,7 +22,7 @@ fault_number fault.UnknownLabel = 3
 fault_number fault.LabelTwice = 4
 fault_number fault.LabelNotForward = 5
 fault_number fault.Limit = 6
-fault_number fault.Memory = 7
+fault_number fault.NoMemory = 7
 
 -- ---- situations
 
@@ -91,15 +91,15 @@ situation said = situation_from 1 at_start said
 
 -- ---- what is wrong with a line
 
--- what a first word may promise
+-- what a first word may expectation
 abbrev pub MayBegin : Stage → First → Type 0
-MayBegin Start promised = promised ≡ first.Head
-MayBegin AfterHead promised = promised ≡ first.Registers
-MayBegin InBody promised = (promised ≡ first.Head) ⊎ (promised ≡ first.Body)
+MayBegin Start expected = expected ≡ first.Head
+MayBegin AfterHead expected = expected ≡ first.Registers
+MayBegin InBody expected = (expected ≡ first.Head) ⊎ (expected ≡ first.Body)
 
--- the line's first word promises what may stand here
+-- the line's first word lets expect what may stand here
 abbrev pub Begins : Situation → List ℕ → First → Type 0
-Begins s line promised = (word rest : List ℕ) × IsFirstWord (Bare word) line rest × IsPromised promised word × MayBegin s.stage promised
+Begins s line expected = (word rest : List ℕ) × IsFirstWord (Bare word) line rest × IsExpected expected word × MayBegin s.stage expected
 
 -- the line's words have a form, within the limits or not
 abbrev pub HasWords : List ℕ → Type 0
@@ -112,13 +112,13 @@ IsEmpty s = (s.stage ≡ InBody) × (s.instructions ≡ 0)
 -- what is wrong with the line of this number, and at which line it is told
 pub data LineFault (number : ℕ) (s : Situation) (line : List ℕ) : FaultNo → ℕ → Type 0 where
   -- it has something, but no first word that may stand here
-  word : (IsLine [] line → ⊥) → ((promised : First) → Begins s line promised → ⊥) → LineFault number s line fault.Word number
-  operand : (promised : First) → Begins s line promised → (HasWords line → ⊥) → LineFault number s line fault.Operand number
+  word : (IsLine [] line → ⊥) → ((expected : First) → Begins s line expected → ⊥) → LineFault number s line fault.Word number
+  operand : (expected : First) → Begins s line expected → (HasWords line → ⊥) → LineFault number s line fault.Operand number
   label_twice : (name : List ℕ) (words : List Word) → s.stage ≡ InBody → IsLine words line → Say (Label name) words
       → Contains s.labels name → LineFault number s line fault.LabelTwice number
   -- a procedure without instructions is met at the next head, and the fault is at its own
   empty : Begins s line first.Head → HasWords line → IsEmpty s → LineFault number s line fault.Limit s.head_line
-  limit : (promised : First) → Begins s line promised → HasWords line → (promised ≡ first.Head → IsEmpty s → ⊥)
+  limit : (expected : First) → Begins s line expected → HasWords line → (expected ≡ first.Head → IsEmpty s → ⊥)
       → ((statement : Statement) (words : List Word) → IsLine words line → Say statement words → ⊥)
       → LineFault number s line fault.Limit number
   procedures : Begins s line first.Head → HasWords line → (IsEmpty s → ⊥) → 64 ≤ s.procedures → LineFault number s line fault.Limit number

@@ -9,7 +9,7 @@ use Rattle.tw_asm.specs.declared.refusal.Flaw.TheVariants as flaw
 use Rattle.tw_asm.specs.declared.refusal.Refusal.{Refusal}
 use Rattle.tw_asm.specs.declared.refusal.Refusal.TheVariants as refusal
 
--- what is wrong with these words, after a first word that promises a statement
+-- what is wrong with these words, after a first word that lets expect a statement
 abbrev pub IsFlawed : Flaw → List Word → Type 0
 IsFlawed flaw.Form words = HaveForm words → ⊥
 IsFlawed flaw.Limit words = HaveForm words × ((statement : Statement) → Say statement words → ⊥)
@@ -17,5 +17,5 @@ IsFlawed flaw.Limit words = HaveForm words × ((statement : Statement) → Say s
 -- what reading answers, memory aside
 abbrev pub Answers : Result statements.Statement Refusal → List Word → Type 0
 Answers (Ok read) words = IsRead (seen read) words
-Answers (Err refusal.OutOfMemory) words = Unit {0}
+Answers (Err refusal.NoMemory) words = Unit {0}
 Answers (Err (refusal.Flawed flaw)) words = IsFlawed flaw words

@@ -128,7 +128,7 @@ pub record NamesLabel (name : List ℕ) (words : List Word) : Type 0 where
   pub spells : Spells (λ skip word. word ≡ name) (Code i) words
   pub names : (other : Instr) → Spells (λ skip word. ⊥) (Code other) words → ⊥
 
--- ---- what a first word promises
+-- ---- what a first word lets expect
 
 abbrev pub IsLabelWord : List ℕ → Type 0
 IsLabelWord word = (name : List ℕ) × IsName name × (word ≡ name ++ codes ":")
@@ -137,7 +137,7 @@ IsLabelWord word = (name : List ℕ) × IsName name × (word ≡ name ++ codes "
 abbrev pub IsInstrWord : List ℕ → Type 0
 IsInstrWord word = (i : Instr) × (operands : List Part) × (instr_parts i ≡ Name word ∷ operands)
 
-abbrev pub IsPromised : First → List ℕ → Type 0
-IsPromised first.Head word = word ≡ codes "proc"
-IsPromised first.Registers word = word ≡ codes "regs"
-IsPromised first.Body word = IsLabelWord word ⊎ IsInstrWord word
+abbrev pub IsExpected : First → List ℕ → Type 0
+IsExpected first.Head word = word ≡ codes "proc"
+IsExpected first.Registers word = word ≡ codes "regs"
+IsExpected first.Body word = IsLabelWord word ⊎ IsInstrWord word

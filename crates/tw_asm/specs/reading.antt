@@ -1,5 +1,5 @@
 -- What the assembler keeps to itself: no public clause reaches this folder.
-pub mod Promise
+pub mod Expected
 pub mod Progress
 pub mod Goals
 pub mod Operands

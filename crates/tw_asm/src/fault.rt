@@ -2,7 +2,7 @@
 
 ghost use Rattle.std.specs.Prelude.{◌≡◌};
 ghost use Rattle.tw_asm.specs.Fault.{fault_number};
-ghost use Rattle.tw_asm.specs.declared.fault.FaultNo.TheVariants.{Memory};
+ghost use Rattle.tw_asm.specs.declared.fault.FaultNo.TheVariants.{NoMemory};
 
 use std::alloc::{AllocError, AllocFailed};
 use thiserror::Error;
@@ -23,7 +23,7 @@ pub enum FaultNo {
     /// A06: a number, a count, a nesting, a name or a text is past its limit, or a procedure has no instruction.
     Limit,
     /// A07: memory was refused.
-    Memory,
+    NoMemory,
 }
 
 impl FaultNo {
@@ -54,20 +54,20 @@ impl AsmFault {
     }
 
     pub(crate) fn memory() -> AsmFault
-        ensures no { result.no ≡ Memory }
+        ensures no { result.no ≡ NoMemory }
         ensures line { result.line ≡ 0 }
     {
         AsmFault {
-            no: FaultNo::Memory,
+            no: FaultNo::NoMemory,
             line: 0,
         }
     }
 }
 
 impl From<AllocError> for AsmFault {
-    ghost use Rattle.tw_asm.specs.declared.fault.FaultNo.TheVariants.{Memory};
+    ghost use Rattle.tw_asm.specs.declared.fault.FaultNo.TheVariants.{NoMemory};
 
-    ghost from_gives = { λ _ f. f ≡ record { no = Memory; line = 0 } };
+    ghost from_gives = { λ _ f. f ≡ record { no = NoMemory; line = 0 } };
 
     fn from(_e: AllocError) -> AsmFault {
         AsmFault::memory()
@@ -75,9 +75,9 @@ impl From<AllocError> for AsmFault {
 }
 
 impl<T: Drop> From<AllocFailed<T>> for AsmFault {
-    ghost use Rattle.tw_asm.specs.declared.fault.FaultNo.TheVariants.{Memory};
+    ghost use Rattle.tw_asm.specs.declared.fault.FaultNo.TheVariants.{NoMemory};
 
-    ghost from_gives = { λ _ f. f ≡ record { no = Memory; line = 0 } };
+    ghost from_gives = { λ _ f. f ≡ record { no = NoMemory; line = 0 } };
 
     fn from(_e: AllocFailed<T>) -> AsmFault {
         AsmFault::memory()

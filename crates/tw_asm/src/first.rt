@@ -1,8 +1,8 @@
-//! What the first word of a line promises.
+//! What the first word of a line lets expect.
 
 ghost use Rattle.std.specs.Prelude.{◌⊎◌, ◌↔◌, MatchOption, IsTrue};
 ghost use Rattle.tw_asm.specs.declared.statement.First.{First};
-ghost use Rattle.tw_asm.specs.Statement.{IsInstrWord, IsLabelWord, IsPromised};
+ghost use Rattle.tw_asm.specs.Statement.{IsInstrWord, IsLabelWord, IsExpected};
 
 use crate::label_names::{before, is_name};
 use crate::opcode::opcode_named;
@@ -25,9 +25,9 @@ fn is_instr_name(word: &[u8]) -> bool
     opcode_named(word).is_some()
 }
 
-/// What a first word promises, if anything.
+/// What a first word lets expect, if anything.
 pub fn first_of(word: &[u8]) -> Option<First>
-    ensures { MatchOption result ((first : First) → IsPromised first word.now → ⊥) (λ first. IsPromised first word.now) }
+    ensures { MatchOption result ((first : First) → IsExpected first word.now → ⊥) (λ first. IsExpected first word.now) }
 {
     if word == b"proc".as_slice() {
         Some(First::Head)

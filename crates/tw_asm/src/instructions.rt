@@ -13,40 +13,40 @@ use std::alloc::Global;
 use tw_code::{Action, Arithmetic, DataInstr, Instr, LocalInstr};
 use tw_words::Word;
 use crate::opcode::Opcode;
-use crate::statement::Draft;
+use crate::statement::Unlinked;
 
 /// An instruction that names no label.
-fn straight<'a>(instr: Instr) -> Draft<'a>
+fn straight<'a>(instr: Instr) -> Unlinked<'a>
     ensures { drafted result ≡ (instr, None) }
 {
-    Draft { instr, goal: None }
+    Unlinked { instr, goal: None }
 }
 
 /// An instruction that goes on there.
-fn going<'a>(instr: Instr, goal: Goal<'a>) -> Draft<'a>
+fn going<'a>(instr: Instr, goal: Goal<'a>) -> Unlinked<'a>
     ensures { drafted result ≡ (instr, goal.entry.label) }
 {
-    Draft {
+    Unlinked {
         instr,
         goal: goal.label,
     }
 }
 
-fn int_of<'a>(words: &[Word<'a>]) -> Result<Draft<'a>, Refusal>
+fn int_of<'a>(words: &[Word<'a>]) -> Result<Unlinked<'a>, Refusal>
     ensures { Gives drafted result (draft_in opcode.Int (map seen_word words.now)) }
 {
     let (to, value) = value_and_number(words)?;
     Ok(straight(Instr::Local(LocalInstr::Int { to, value })))
 }
 
-fn copy_of<'a>(words: &[Word<'a>]) -> Result<Draft<'a>, Refusal>
+fn copy_of<'a>(words: &[Word<'a>]) -> Result<Unlinked<'a>, Refusal>
     ensures { Gives drafted result (draft_in opcode.Copy (map seen_word words.now)) }
 {
     let (to, from) = two_values(words)?;
     Ok(straight(Instr::Local(LocalInstr::Copy { to, from })))
 }
 
-fn concatenate_of<'a>(words: &[Word<'a>]) -> Result<Draft<'a>, Refusal>
+fn concatenate_of<'a>(words: &[Word<'a>]) -> Result<Unlinked<'a>, Refusal>
     ensures { Gives drafted result (draft_in opcode.Concatenate (map seen_word words.now)) }
 {
     let (to, (left, (right, goal))) = three_values_and_goal(words)?;
@@ -62,21 +62,21 @@ fn concatenate_of<'a>(words: &[Word<'a>]) -> Result<Draft<'a>, Refusal>
     ))
 }
 
-fn length_of<'a>(words: &[Word<'a>]) -> Result<Draft<'a>, Refusal>
+fn length_of<'a>(words: &[Word<'a>]) -> Result<Unlinked<'a>, Refusal>
     ensures { Gives drafted result (draft_in opcode.Length (map seen_word words.now)) }
 {
     let (to, from) = two_values(words)?;
     Ok(straight(Instr::Local(LocalInstr::Length { to, from })))
 }
 
-fn show_of<'a>(words: &[Word<'a>]) -> Result<Draft<'a>, Refusal>
+fn show_of<'a>(words: &[Word<'a>]) -> Result<Unlinked<'a>, Refusal>
     ensures { Gives drafted result (draft_in opcode.Show (map seen_word words.now)) }
 {
     let (to, from) = two_values(words)?;
     Ok(straight(Instr::Local(LocalInstr::Show { to, from })))
 }
 
-fn read_int_of<'a>(words: &[Word<'a>]) -> Result<Draft<'a>, Refusal>
+fn read_int_of<'a>(words: &[Word<'a>]) -> Result<Unlinked<'a>, Refusal>
     ensures { Gives drafted result (draft_in opcode.ReadInt (map seen_word words.now)) }
 {
     let (to, (from, goal)) = two_values_and_goal(words)?;
@@ -84,7 +84,7 @@ fn read_int_of<'a>(words: &[Word<'a>]) -> Result<Draft<'a>, Refusal>
     Ok(going(Instr::Local(LocalInstr::ReadInt { to, from, skip }), goal))
 }
 
-fn jump_of<'a>(words: &[Word<'a>]) -> Result<Draft<'a>, Refusal>
+fn jump_of<'a>(words: &[Word<'a>]) -> Result<Unlinked<'a>, Refusal>
     ensures { Gives drafted result (draft_in opcode.Jump (map seen_word words.now)) }
 {
     let goal = only_goal(words)?;
@@ -92,7 +92,7 @@ fn jump_of<'a>(words: &[Word<'a>]) -> Result<Draft<'a>, Refusal>
     Ok(going(Instr::Local(LocalInstr::Jump { skip }), goal))
 }
 
-fn jump_equal_of<'a>(words: &[Word<'a>]) -> Result<Draft<'a>, Refusal>
+fn jump_equal_of<'a>(words: &[Word<'a>]) -> Result<Unlinked<'a>, Refusal>
     ensures { Gives drafted result (draft_in opcode.JumpEqual (map seen_word words.now)) }
 {
     let (left, (right, goal)) = two_values_and_goal(words)?;
@@ -103,7 +103,7 @@ fn jump_equal_of<'a>(words: &[Word<'a>]) -> Result<Draft<'a>, Refusal>
     ))
 }
 
-fn jump_less_of<'a>(words: &[Word<'a>]) -> Result<Draft<'a>, Refusal>
+fn jump_less_of<'a>(words: &[Word<'a>]) -> Result<Unlinked<'a>, Refusal>
     ensures { Gives drafted result (draft_in opcode.JumpLess (map seen_word words.now)) }
 {
     let (left, (right, goal)) = two_values_and_goal(words)?;
@@ -114,21 +114,21 @@ fn jump_less_of<'a>(words: &[Word<'a>]) -> Result<Draft<'a>, Refusal>
     ))
 }
 
-fn store_of<'a>(words: &[Word<'a>]) -> Result<Draft<'a>, Refusal>
+fn store_of<'a>(words: &[Word<'a>]) -> Result<Unlinked<'a>, Refusal>
     ensures { Gives drafted result (draft_in opcode.Store (map seen_word words.now)) }
 {
     let (datum, from) = right_and_value(words)?;
     Ok(straight(Instr::Data(DataInstr::Store { datum, from })))
 }
 
-fn get_of<'a>(words: &[Word<'a>]) -> Result<Draft<'a>, Refusal>
+fn get_of<'a>(words: &[Word<'a>]) -> Result<Unlinked<'a>, Refusal>
     ensures { Gives drafted result (draft_in opcode.Get (map seen_word words.now)) }
 {
     let (to, datum) = value_and_right(words)?;
     Ok(straight(Instr::Data(DataInstr::Get { to, datum })))
 }
 
-fn insert_of<'a>(words: &[Word<'a>]) -> Result<Draft<'a>, Refusal>
+fn insert_of<'a>(words: &[Word<'a>]) -> Result<Unlinked<'a>, Refusal>
     ensures { Gives drafted result (draft_in opcode.Insert (map seen_word words.now)) }
 {
     let (container, (subscript, (member, goal))) = right_value_right_and_goal(words)?;
@@ -144,7 +144,7 @@ fn insert_of<'a>(words: &[Word<'a>]) -> Result<Draft<'a>, Refusal>
     ))
 }
 
-fn look_of<'a>(words: &[Word<'a>]) -> Result<Draft<'a>, Refusal>
+fn look_of<'a>(words: &[Word<'a>]) -> Result<Unlinked<'a>, Refusal>
     ensures { Gives drafted result (draft_in opcode.Look (map seen_word words.now)) }
 {
     let (member, (container, (subscript, goal))) = right_right_value_and_goal(words)?;
@@ -160,14 +160,14 @@ fn look_of<'a>(words: &[Word<'a>]) -> Result<Draft<'a>, Refusal>
     ))
 }
 
-fn size_of<'a>(words: &[Word<'a>]) -> Result<Draft<'a>, Refusal>
+fn size_of<'a>(words: &[Word<'a>]) -> Result<Unlinked<'a>, Refusal>
     ensures { Gives drafted result (draft_in opcode.Size (map seen_word words.now)) }
 {
     let (to, container) = value_and_right(words)?;
     Ok(straight(Instr::Data(DataInstr::Size { to, container })))
 }
 
-fn subscript_at_of<'a>(words: &[Word<'a>]) -> Result<Draft<'a>, Refusal>
+fn subscript_at_of<'a>(words: &[Word<'a>]) -> Result<Unlinked<'a>, Refusal>
     ensures { Gives drafted result (draft_in opcode.SubscriptAt (map seen_word words.now)) }
 {
     let (to, (container, (index, goal))) = value_right_value_and_goal(words)?;
@@ -183,49 +183,49 @@ fn subscript_at_of<'a>(words: &[Word<'a>]) -> Result<Draft<'a>, Refusal>
     ))
 }
 
-fn copy_read_of<'a>(words: &[Word<'a>]) -> Result<Draft<'a>, Refusal>
+fn copy_read_of<'a>(words: &[Word<'a>]) -> Result<Unlinked<'a>, Refusal>
     ensures { Gives drafted result (draft_in opcode.CopyRead (map seen_word words.now)) }
 {
     let (to, from) = two_rights(words)?;
     Ok(straight(Instr::Data(DataInstr::CopyRead { to, from })))
 }
 
-fn copy_write_of<'a>(words: &[Word<'a>]) -> Result<Draft<'a>, Refusal>
+fn copy_write_of<'a>(words: &[Word<'a>]) -> Result<Unlinked<'a>, Refusal>
     ensures { Gives drafted result (draft_in opcode.CopyWrite (map seen_word words.now)) }
 {
     let (to, from) = two_rights(words)?;
     Ok(straight(Instr::Data(DataInstr::CopyWrite { to, from })))
 }
 
-fn drop_read_of<'a>(words: &[Word<'a>]) -> Result<Draft<'a>, Refusal>
+fn drop_read_of<'a>(words: &[Word<'a>]) -> Result<Unlinked<'a>, Refusal>
     ensures { Gives drafted result (draft_in opcode.DropRead (map seen_word words.now)) }
 {
     let right = only_right(words)?;
     Ok(straight(Instr::Data(DataInstr::DropRead { right })))
 }
 
-fn drop_write_of<'a>(words: &[Word<'a>]) -> Result<Draft<'a>, Refusal>
+fn drop_write_of<'a>(words: &[Word<'a>]) -> Result<Unlinked<'a>, Refusal>
     ensures { Gives drafted result (draft_in opcode.DropWrite (map seen_word words.now)) }
 {
     let right = only_right(words)?;
     Ok(straight(Instr::Data(DataInstr::DropWrite { right })))
 }
 
-fn end_of<'a>(words: &[Word<'a>]) -> Result<Draft<'a>, Refusal>
+fn end_of<'a>(words: &[Word<'a>]) -> Result<Unlinked<'a>, Refusal>
     ensures { Gives drafted result (draft_in opcode.End (map seen_word words.now)) }
 {
     nothing_of(words)?;
     Ok(straight(Instr::Local(LocalInstr::End)))
 }
 
-fn ret_of<'a>(words: &[Word<'a>]) -> Result<Draft<'a>, Refusal>
+fn ret_of<'a>(words: &[Word<'a>]) -> Result<Unlinked<'a>, Refusal>
     ensures { Gives drafted result (draft_in opcode.Ret (map seen_word words.now)) }
 {
     nothing_of(words)?;
     Ok(straight(Instr::Ret))
 }
 
-fn compute_of<'a>(operation: Arithmetic, words: &[Word<'a>]) -> Result<Draft<'a>, Refusal>
+fn compute_of<'a>(operation: Arithmetic, words: &[Word<'a>]) -> Result<Unlinked<'a>, Refusal>
     ensures { Gives drafted result (draft_in (opcode.Compute operation) (map seen_word words.now)) }
 {
     let (to, (left, (right, goal))) = three_values_and_goal(words)?;
@@ -239,7 +239,7 @@ fn compute_of<'a>(operation: Arithmetic, words: &[Word<'a>]) -> Result<Draft<'a>
     Ok(going(Instr::Local(compute), goal))
 }
 
-fn repeat_of<'a>(words: &[Word<'a>]) -> Result<Draft<'a>, Refusal>
+fn repeat_of<'a>(words: &[Word<'a>]) -> Result<Unlinked<'a>, Refusal>
     ensures { Gives drafted result (draft_in opcode.Repeat (map seen_word words.now)) }
 {
     match words {
@@ -251,7 +251,7 @@ fn repeat_of<'a>(words: &[Word<'a>]) -> Result<Draft<'a>, Refusal>
     }
 }
 
-fn text_of<'a>(alloc: Global, words: &[Word<'a>]) -> Result<Draft<'a>, Refusal>
+fn text_of<'a>(alloc: Global, words: &[Word<'a>]) -> Result<Unlinked<'a>, Refusal>
     ensures { Gives drafted result (draft_in opcode.Text (map seen_word words.now)) }
 {
     match words {
@@ -264,7 +264,7 @@ fn text_of<'a>(alloc: Global, words: &[Word<'a>]) -> Result<Draft<'a>, Refusal>
     }
 }
 
-fn new_of<'a>(words: &[Word<'a>]) -> Result<Draft<'a>, Refusal>
+fn new_of<'a>(words: &[Word<'a>]) -> Result<Unlinked<'a>, Refusal>
     ensures { Gives drafted result (draft_in opcode.New (map seen_word words.now)) }
 {
     let (write, (read, ty)) = two_rights_and_type(words)?;
@@ -294,14 +294,14 @@ fn action_of(alloc: Global, words: &[Word<'_>]) -> Result<Action, Refusal>
     }
 }
 
-fn rule_of<'a>(alloc: Global, words: &[Word<'a>]) -> Result<Draft<'a>, Refusal>
+fn rule_of<'a>(alloc: Global, words: &[Word<'a>]) -> Result<Unlinked<'a>, Refusal>
     ensures { Gives drafted result (draft_in opcode.Rule (map seen_word words.now)) }
 {
     let action = action_of(alloc, words)?;
     Ok(straight(Instr::Rule(action)))
 }
 
-fn put_of<'a>(alloc: Global, words: &[Word<'a>]) -> Result<Draft<'a>, Refusal>
+fn put_of<'a>(alloc: Global, words: &[Word<'a>]) -> Result<Unlinked<'a>, Refusal>
     ensures { Gives drafted result (draft_in opcode.Put (map seen_word words.now)) }
 {
     let action = action_of(alloc, words)?;
@@ -309,7 +309,7 @@ fn put_of<'a>(alloc: Global, words: &[Word<'a>]) -> Result<Draft<'a>, Refusal>
 }
 
 /// An instruction, by its name and the words behind that. Only a text and a list of arguments take memory.
-pub fn draft_of<'a>(alloc: Global, opcode: Opcode, words: &[Word<'a>]) -> Result<Draft<'a>, Refusal>
+pub fn draft_of<'a>(alloc: Global, opcode: Opcode, words: &[Word<'a>]) -> Result<Unlinked<'a>, Refusal>
     ensures { Gives drafted result (draft_in opcode (map seen_word words.now)) }
 {
     match opcode {

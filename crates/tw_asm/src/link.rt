@@ -6,7 +6,7 @@ ghost use Rattle.tw_asm.specs.reading.Goals.{AreLinkedProcedures, AreWithin, Fir
 ghost use Rattle.tw_asm.specs.reading.Progress.{IsMemory, seen_draft, seen_label, seen_section};
 
 use crate::fault::{AsmFault, FaultNo};
-use crate::reading::{DraftLine, Section};
+use crate::reading::{UnlinkedLine, Section};
 use indexmap::IndexMap;
 use std::alloc::Global;
 use tw_code::{Instr, Procedure};
@@ -33,12 +33,12 @@ fn skip_to(labels: &IndexMap<&[u8], usize>, place: usize, name: &[u8]) -> Result
 fn link_instr(
     labels: &IndexMap<&[u8], usize>,
     place: usize,
-    line: DraftLine<'_>,
+    line: UnlinkedLine<'_>,
 ) -> Result<Instr, AsmFault>
     requires { AreWithin (map seen_label labels.now.entries) }
     ensures { IsLinkedInstr (map seen_label labels.now.entries) place (seen_draft line.entry) result }
 {
-    let DraftLine { draft, number } = line;
+    let UnlinkedLine { draft, number } = line;
     match draft.goal {
         None => Ok(draft.instr),
         Some(name) => match skip_to(labels, place, name) {

@@ -4,11 +4,11 @@ ghost use Rattle.std.specs.Prelude.{◌≡◌, ◌⊎◌, ◌↔◌, ℕ, List, 
 ghost use Rattle.std.specs.Prelude.{None};
 ghost use Rattle.tw_asm.specs.Fault.{MayBegin};
 ghost use Rattle.tw_asm.specs.reading.Progress.{AreClosed, AreFinished, AreNotRead, HasSections, IsEmptyAt, IsNotClosed, IsNotFinished, LabelAdded, LinesAreRead, TakenLine, TakenStatement, WithDraft, WithLabel, WordsRead, IsLimitLine, seen_draft, seen_label, seen_reading, seen_section, seen_stage, stage_of};
-ghost use Rattle.tw_asm.specs.reading.Promise.{IsPromisedBy, promise};
+ghost use Rattle.tw_asm.specs.reading.Expected.{IsExpectedBy, expectation};
 ghost use Rattle.tw_words.specs.Seen.{seen as seen_word};
 ghost use Rattle.tw_asm.specs.Seen.{bytes_of, seen as seen_statement};
 ghost use Rattle.tw_asm.specs.Statement.{Code, Head, Label, Registers};
-ghost use Rattle.tw_asm.specs.declared.statement.First.TheVariants as promised;
+ghost use Rattle.tw_asm.specs.declared.statement.First.TheVariants as expected;
 ghost use Rattle.tw_asm.specs.declared.statement.First.{First};
 
 use crate::fault::{AsmFault, FaultNo};
@@ -18,13 +18,13 @@ use tw_words::{Word, words_of};
 use crate::first::first_of;
 use crate::read::statement_of;
 use crate::refusal::{Flaw, Refusal};
-use crate::statement::{Draft, First, Statement};
+use crate::statement::{Unlinked, First, Statement};
 use tw_types::{Items, Kind, Param, Scalar};
 
 /// An instruction whose goal isn't looked for yet, and the number of its line.
 #[derive(Drop)]
-pub struct DraftLine<'a> {
-    pub draft: Draft<'a>,
+pub struct UnlinkedLine<'a> {
+    pub draft: Unlinked<'a>,
     pub number: usize,
 }
 
@@ -35,7 +35,7 @@ pub struct Section<'a> {
     pub params: Items<Param>,
     pub registers: Items<Scalar>,
     pub labels: IndexMap<&'a [u8], usize>,
-    pub drafts: Vec<DraftLine<'a>>,
+    pub drafts: Vec<UnlinkedLine<'a>>,
 }
 
 /// What may follow.
@@ -58,19 +58,19 @@ pub struct Reading<'a> {
     pub stage: Stage<'a>,
 }
 
-fn may_begin(stage: &Stage<'_>, promised: First) -> bool
-    ensures { IsTrue result ↔ MayBegin (stage_of (seen_stage stage.now)) promised }
+fn may_begin(stage: &Stage<'_>, expected: First) -> bool
+    ensures { IsTrue result ↔ MayBegin (stage_of (seen_stage stage.now)) expected }
 {
     match stage {
-        Stage::Start => matches!(promised, First::Head),
-        Stage::AfterHead { .. } => matches!(promised, First::Registers),
-        Stage::InBody(_) => matches!(promised, First::Head | First::Body),
+        Stage::Start => matches!(expected, First::Head),
+        Stage::AfterHead { .. } => matches!(expected, First::Registers),
+        Stage::InBody(_) => matches!(expected, First::Head | First::Body),
     }
 }
 
-/// What a line's first word promises, if that may stand here.
-fn promise_of(word: &Word<'_>, stage: &Stage<'_>) -> Option<First>
-    ensures { MatchOption result ((first : First) → IsPromisedBy (seen_word word.now) first → MayBegin (stage_of (seen_stage stage.now)) first → ⊥) (λ first. IsPromisedBy (seen_word word.now) first × MayBegin (stage_of (seen_stage stage.now)) first) }
+/// What a line's first word lets expect, if that may stand here.
+fn expected_of(word: &Word<'_>, stage: &Stage<'_>) -> Option<First>
+    ensures { MatchOption result ((first : First) → IsExpectedBy (seen_word word.now) first → MayBegin (stage_of (seen_stage stage.now)) first → ⊥) (λ first. IsExpectedBy (seen_word word.now) first × MayBegin (stage_of (seen_stage stage.now)) first) }
 {
     match word {
         Word::Quoted(_) => None,
@@ -122,7 +122,7 @@ fn read_words<'a>(
             Err(AsmFault::new(FaultNo::Word, number))
         };
     };
-    let Some(promised) = promise_of(word, &reading.stage) else {
+    let Some(expected) = expected_of(word, &reading.stage) else {
         return Err(AsmFault::new(FaultNo::Word, number));
     };
     if !read.whole {
@@ -130,10 +130,10 @@ fn read_words<'a>(
     }
     match statement_of(alloc, &read.words) {
         Ok(statement) => Ok(Some(statement)),
-        Err(Refusal::OutOfMemory) => Err(AsmFault::memory()),
+        Err(Refusal::NoMemory) => Err(AsmFault::memory()),
         Err(Refusal::Flawed(Flaw::Form)) => Err(AsmFault::new(FaultNo::Operand, number)),
         Err(Refusal::Flawed(Flaw::Limit)) => {
-            Err(AsmFault::new(FaultNo::Limit, limit_line(reading, promised, number)))
+            Err(AsmFault::new(FaultNo::Limit, limit_line(reading, expected, number)))
         }
     }
 }
@@ -161,7 +161,7 @@ fn take_head<'a>(
     kind: Kind,
     params: Items<Param>,
 ) -> Result<Reading<'a>, AsmFault>
-    ensures { MayBegin (stage_of (seen_stage reading.entry.stage)) promised.Head → TakenStatement (seen_reading reading.entry) number (record { statement = Head kind params; goal = None }) result }
+    ensures { MayBegin (stage_of (seen_stage reading.entry.stage)) expected.Head → TakenStatement (seen_reading reading.entry) number (record { statement = Head kind params; goal = None }) result }
 {
     let Reading {
         sections,
@@ -185,7 +185,7 @@ fn take_registers<'a>(
     number: usize,
     registers: Items<Scalar>,
 ) -> Result<Reading<'a>, AsmFault>
-    ensures { MayBegin (stage_of (seen_stage reading.entry.stage)) promised.Registers → TakenStatement (seen_reading reading.entry) number (record { statement = Registers registers; goal = None }) result }
+    ensures { MayBegin (stage_of (seen_stage reading.entry.stage)) expected.Registers → TakenStatement (seen_reading reading.entry) number (record { statement = Registers registers; goal = None }) result }
 {
     let Reading {
         sections,
@@ -231,7 +231,7 @@ fn with_label<'a>(section: &mut Section<'a>, number: usize, name: &'a [u8]) -> R
     add_label(&mut section.labels, name, place, number)
 }
 
-fn with_draft<'a>(section: &mut Section<'a>, line: DraftLine<'a>) -> Result<(), AsmFault>
+fn with_draft<'a>(section: &mut Section<'a>, line: UnlinkedLine<'a>) -> Result<(), AsmFault>
     ensures { WithDraft (seen_section section.old) (seen_section section.new) (seen_draft line.entry) result }
 {
     if section.drafts.len() >= 4096 {
@@ -246,7 +246,7 @@ fn take_label<'a>(
     number: usize,
     name: &'a [u8],
 ) -> Result<Reading<'a>, AsmFault>
-    ensures { MayBegin (stage_of (seen_stage reading.entry.stage)) promised.Body → TakenStatement (seen_reading reading.entry) number (record { statement = Label name.now; goal = None }) result }
+    ensures { MayBegin (stage_of (seen_stage reading.entry.stage)) expected.Body → TakenStatement (seen_reading reading.entry) number (record { statement = Label name.now; goal = None }) result }
 {
     let Stage::InBody(section) = &mut reading.stage else {
         return Err(AsmFault::new(FaultNo::Word, number));
@@ -258,14 +258,14 @@ fn take_label<'a>(
 fn take_draft<'a>(
     mut reading: Reading<'a>,
     number: usize,
-    draft: Draft<'a>,
+    draft: Unlinked<'a>,
 ) -> Result<Reading<'a>, AsmFault>
-    ensures { MayBegin (stage_of (seen_stage reading.entry.stage)) promised.Body → TakenStatement (seen_reading reading.entry) number (record { statement = Code draft.entry.instr; goal = bytes_of draft.entry.goal }) result }
+    ensures { MayBegin (stage_of (seen_stage reading.entry.stage)) expected.Body → TakenStatement (seen_reading reading.entry) number (record { statement = Code draft.entry.instr; goal = bytes_of draft.entry.goal }) result }
 {
     let Stage::InBody(section) = &mut reading.stage else {
         return Err(AsmFault::new(FaultNo::Word, number));
     };
-    with_draft(section, DraftLine { draft, number })?;
+    with_draft(section, UnlinkedLine { draft, number })?;
     Ok(reading)
 }
 
@@ -275,7 +275,7 @@ fn take_statement<'a>(
     number: usize,
     statement: Statement<'a>,
 ) -> Result<Reading<'a>, AsmFault>
-    ensures { MayBegin (stage_of (seen_stage reading.entry.stage)) (promise (seen_statement statement.entry).statement) → TakenStatement (seen_reading reading.entry) number (seen_statement statement.entry) result }
+    ensures { MayBegin (stage_of (seen_stage reading.entry.stage)) (expectation (seen_statement statement.entry).statement) → TakenStatement (seen_reading reading.entry) number (seen_statement statement.entry) result }
 {
     match statement {
         Statement::Head { kind, params } => take_head(reading, number, kind, params),

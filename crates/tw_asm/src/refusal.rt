@@ -1,7 +1,7 @@
 //! Why words are no statement, and why none is read.
 
 ghost use Rattle.std.specs.Prelude.{◌≡◌};
-ghost use Rattle.tw_asm.specs.declared.refusal.Refusal.TheVariants.{OutOfMemory, Flawed};
+ghost use Rattle.tw_asm.specs.declared.refusal.Refusal.TheVariants.{NoMemory, Flawed};
 
 use std::alloc::{AllocError, AllocFailed};
 
@@ -18,22 +18,22 @@ pub enum Flaw {
 #[derive(Clone, Copy, Debug, PartialEq, Eq)]
 pub enum Refusal {
     Flawed(Flaw),
-    OutOfMemory,
+    NoMemory,
 }
 
 impl From<AllocError> for Refusal {
-    ghost from_gives = { λ _ refusal. refusal ≡ OutOfMemory };
+    ghost from_gives = { λ _ refusal. refusal ≡ NoMemory };
 
     fn from(_refused: AllocError) -> Refusal {
-        Refusal::OutOfMemory
+        Refusal::NoMemory
     }
 }
 
 impl<T: Drop> From<AllocFailed<T>> for Refusal {
-    ghost from_gives = { λ _ refusal. refusal ≡ OutOfMemory };
+    ghost from_gives = { λ _ refusal. refusal ≡ NoMemory };
 
     fn from(_refused: AllocFailed<T>) -> Refusal {
-        Refusal::OutOfMemory
+        Refusal::NoMemory
     }
 }
 

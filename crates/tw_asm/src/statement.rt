@@ -5,7 +5,7 @@ use tw_types::{Items, Kind, Param, Scalar};
 
 /// An instruction, and the label that it names as its goal, where it names one; its skip is 0 then.
 #[derive(Drop)]
-pub struct Draft<'a> {
+pub struct Unlinked<'a> {
     pub instr: Instr,
     pub goal: Option<&'a [u8]>,
 }
@@ -19,10 +19,10 @@ pub enum Statement<'a> {
     Registers(Items<Scalar>),
     /// A label with this name.
     Label(&'a [u8]),
-    Code(Draft<'a>),
+    Code(Unlinked<'a>),
 }
 
-/// What a first word promises.
+/// What a first word lets expect.
 #[derive(Clone, Copy, Debug, PartialEq, Eq)]
 pub enum First {
     /// `proc`.

@@ -26,10 +26,10 @@ pub enum Flow {
 /// By which outcome an instruction goes on.
 #[derive(Clone, Copy)]
 pub enum Way {
-    /// It is done.
-    Done,
-    /// It is refused, and skips.
-    Refused,
+    /// It has done what it says.
+    Completed,
+    /// It could not, or its test held: it skips.
+    Skipped,
 }
 
 impl LocalInstr {

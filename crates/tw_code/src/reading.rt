@@ -106,8 +106,8 @@ pub fn decode(alloc: Global, bytes: &[u8]) -> Result<Program, Fault>
 {
     match whole_of(alloc, bytes) {
         Ok(procedures) => Ok(Program::new(procedures)),
-        Err(Stop::OutOfMemory) => Err(Fault {
-            no: FaultNo::Memory,
+        Err(Stop::NoMemory) => Err(Fault {
+            no: FaultNo::NoMemory,
             offset: 0,
         }),
         Err(Stop::At(broken)) => Err(Fault {

@@ -7,13 +7,13 @@ use Rattle.tw_code.specs.machine.Inputs.{has_input_count, has_fitting_inputs}
 use Rattle.tw_code.specs.machine.Opening.{Opened}
 use Rattle.tw_code.specs.accepting.MainShape.{has_main_shape}
 use Rattle.tw_machine.specs.declared.refusal.OpenRefusal.{OpenRefusal}
-use Rattle.tw_machine.specs.declared.refusal.OpenRefusal.TheVariants.{InputCount, InputType, Memory, MainShape}
+use Rattle.tw_machine.specs.declared.refusal.OpenRefusal.TheVariants.{InputCount, InputType, NoMemory, MainShape}
 
 -- the number behind the letter O
 abbrev pub open_refusal_number : OpenRefusal → ℕ
 open_refusal_number InputCount = 1
 open_refusal_number InputType = 2
-open_refusal_number Memory = 5
+open_refusal_number NoMemory = 5
 open_refusal_number MainShape = 6
 
 -- before the first of main's parameters
@@ -32,4 +32,4 @@ refusal_of program inputs =
 -- this refusal is told; where there is none, want of memory
 abbrev pub IsTold : Option OpenRefusal → OpenRefusal → Type 0
 IsTold (Some why) told = told ≡ why
-IsTold None told = told ≡ Memory
+IsTold None told = told ≡ NoMemory

@@ -77,7 +77,7 @@ impl Plain {
             }),
             Err(_) => Err(OpenRefused {
                 program,
-                no: OpenRefusal::Memory,
+                no: OpenRefusal::NoMemory,
             }),
         }
     }

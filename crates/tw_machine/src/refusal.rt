@@ -16,7 +16,7 @@ pub enum OpenRefusal {
     /// many or don't rise.
     InputType,
     /// O05.
-    Memory,
+    NoMemory,
     /// O06.
     MainShape,
 }
@@ -29,7 +29,7 @@ impl OpenRefusal {
         match self {
             OpenRefusal::InputCount => 1,
             OpenRefusal::InputType => 2,
-            OpenRefusal::Memory => 5,
+            OpenRefusal::NoMemory => 5,
             OpenRefusal::MainShape => 6,
         }
     }

@@ -10,7 +10,7 @@ use Rattle.std.specs.Prelude.{is_none}
 use Rattle.tw_types.specs.declared.actor.Actor.{Actor}
 use Rattle.tw_types.specs.declared.param.Param.{Param}
 use Rattle.tw_code.specs.declared.flow.Flow.TheVariants.{Straight}
-use Rattle.tw_code.specs.declared.flow.Way.TheVariants.{Done}
+use Rattle.tw_code.specs.declared.flow.Way.TheVariants.{Completed}
 use Rattle.tw_code.specs.declared.instr.Action.{Action}
 use Rattle.tw_code.specs.declared.instr.DataInstr.{DataInstr}
 use Rattle.tw_code.specs.declared.instr.Instr.{Instr}
@@ -23,7 +23,7 @@ use Rattle.tw_code.specs.machine.Data.{data_instr}
 use Rattle.tw_code.specs.machine.Holders.{Typings, typing_of}
 use Rattle.tw_code.specs.machine.Machine.{is_ret, local_steps}
 use Rattle.tw_code.specs.machine.Position.{at_next_place}
-use Rattle.tw_code.specs.machine.Rights.{Right, Typing, right_of}
+use Rattle.tw_code.specs.machine.Rights.{RightType, Typing, right_of}
 use Rattle.tw_code.specs.machine.State.{Frame, State, context_of}
 use Rattle.tw_budget.proofs.FrameLaws.{starts_within}
 use Rattle.tw_no_trap.specs.Invariant.{IsHeld}
@@ -48,7 +48,7 @@ rights_few : (params : List Param) → length (rights_given params) ≤ length p
 rights_few [] = omega arith
 rights_few (p ∷ params) = by (right_of p) (rights_few params)
   where
-    by : (o : Option Right) → length (rights_given params) ≤ length params → length (option_to_list o ++ rights_given params) ≤ suc (length params)
+    by : (o : Option RightType) → length (rights_given params) ≤ length params → length (option_to_list o ++ rights_given params) ≤ suc (length params)
     by None h = omega arith
     by (Some right) h = omega arith
 
@@ -98,7 +98,7 @@ module _ (program : List Procedure) (typings : Typings) (accepts : (k : ℕ) (p 
 
     module _ (i : Instr) (at : slice_get p.code f.position.place ≡ Some i) where
       straight : Moves p.registers Straight f.position (at_next_place f.position)
-      straight = record { way = Done; goes_on = refl; values = stands.values }
+      straight = record { way = Completed; goes_on = refl; values = stands.values }
 
       behind_rule : (action : Action) → i ≡ instr.Rule action → GoesBehind program typings s held a f is p here action
       behind_rule action e =

@@ -12,7 +12,7 @@ use Rattle.tw_types.specs.Store.{Members, Content, Unset, Set, Contains, Datum, 
 use Rattle.tw_types.specs.StoreCalls.{with_member, members_in}
 use Rattle.tw_types.specs.Totals.{sum_of, total}
 use Rattle.tw_code.specs.machine.Data.{Context}
-use Rattle.tw_code.specs.machine.Rights.{Right, Typing}
+use Rattle.tw_code.specs.machine.Rights.{RightType, Typing}
 use Rattle.tw_types.specs.Counts.{hits, count_of, subscripts_in, inside, HasWriters}
 use Rattle.tw_code.specs.machine.Holders.{read_by, write_by, over}
 use Rattle.tw_types.specs.TypedStore.{IsOfType, IsTypedStore}
@@ -52,7 +52,7 @@ has_members x deep of = at x.content of
     at (Set v) h = let z : true ≡ false = sym h.0 ∙ deep in cc
     at (Contains members) h = refl
 
-module _ (typing : Typing) (c : Context) (r w : ℕ → ℕ) (fits : Fits typing c r w) (container member : ℕ) (q p : Right) (h : At typing c r w container q) (g : At typing c r w member p)
+module _ (typing : Typing) (c : Context) (r w : ℕ → ℕ) (fits : Fits typing c r w) (container member : ℕ) (q p : RightType) (h : At typing c r w container q) (g : At typing c r w member p)
     (mode : is_write q.mode ≡ true) (deep : is_scalar q.ty ≡ false) (reads : is_write p.mode ≡ false) (element : is_element_of p.ty q.ty ≡ true) (subscript : ℤ) (free : get (members_in h.x.content) subscript ≡ None) where
   abbrev fuller : Datum
   fuller = with_member subscript g.id h.x

@@ -16,12 +16,12 @@ use Rattle.tw_types.specs.declared.param.Mode.TheVariants.{Val, Closed, Ref, Wri
 use Rattle.tw_types.specs.Store.{members_of, Content, Unset, Set, Contains, Datum, is_closed, subscribers_cleared, settled}
 use Rattle.tw_types.specs.StoreCalls.{set_to, one_write_less, store_after, read_dropped}
 use Rattle.tw_types.specs.StoreChecks.{is_unset, may_store, may_drop_read, may_drop_write}
-use Rattle.tw_code.specs.declared.flow.Way.TheVariants.{Done}
+use Rattle.tw_code.specs.declared.flow.Way.TheVariants.{Completed}
 use Rattle.tw_code.specs.declared.instr.DataInstr.{DataInstr}
 use Rattle.tw_code.specs.declared.instr.DataInstr.TheVariants as on_data
 use Rattle.tw_code.specs.declared.procedure.Procedure.{Procedure}
 use Rattle.tw_code.specs.machine.Data.{datum_at, suits, Context, datum_of, data_instr}
-use Rattle.tw_code.specs.machine.Rights.{held, Right, Typing, right_at}
+use Rattle.tw_code.specs.machine.Rights.{held, RightType, Typing, right_at}
 use Rattle.tw_code.specs.accepting.Flow.{data_flow}
 use Rattle.tw_code.specs.accepting.Question.{passes}
 use Rattle.tw_code.specs.accepting.Typing.{writes, writes_scalar, reads, asks_data, after_data}
@@ -50,7 +50,7 @@ read_no_write Write e = cc
 -- ---- a read is dropped
 
 module _ (p : Procedure) (typing : Typing) (c : Context) (r w : ℕ → ℕ) (fits : Fits typing c r w) (values : ValuesFit p.registers c.position.values) where
-  drop_read_at : (d : ℕ) (q : Right) → is_write q.mode ≡ false → At typing c r w d q → Goes (data_instr (on_data.DropRead d) c) (Leaves p.registers (on_data.DropRead d) typing c r w)
+  drop_read_at : (d : ℕ) (q : RightType) → is_write q.mode ≡ false → At typing c r w d q → Goes (data_instr (on_data.DropRead d) c) (Leaves p.registers (on_data.DropRead d) typing c r w)
   drop_read_at d q mode h =
       let some = h.has_read mode in
       let more : 0 < h.x.reads = (let e = h.reads in omega arith) in
@@ -64,7 +64,7 @@ module _ (p : Procedure) (typing : Typing) (c : Context) (r w : ℕ → ℕ) (fi
       goes (held c.rights d) _ _ h.id (ap (λ o. ok_or (option_flatten o) EmptyRegister) h.register)
       (goes_then (may_drop_read (datum_of c h.id)) _ _ (rw (h.live, kept) refl)
       (record {
-        moves = record { way = Done; goes_on = refl; values = values };
+        moves = record { way = Completed; goes_on = refl; values = values };
         settles = aged_context typing (slice_set typing d None) c _ r w h.id h.x (record h.x { reads = h.x.reads - 1 }) fits h.live
             (record { ty = refl; members = refl; closed = λ t. t; content = λ t. t; writers = λ t. t })
             (λ e ne. (let no_hit = hits_other e h.id (λ z. ne (sym z)) in let s = sum_r e in omega arith, let s = sum_w e in omega arith))
@@ -100,7 +100,7 @@ module _ (p : Procedure) (typing : Typing) (c : Context) (r w : ℕ → ℕ) (fi
       at (Set v) h = let z : true ≡ false = sym h.0 ∙ deep in cc
       at (Contains members) h = record { ty = refl; members = refl; closed = λ t. let z = eqb-true x.writes 0 t in eq-eqb (x.writes - 1) 0 (omega arith); content = λ t. t; writers = λ t. t }
 
-  drop_write_at : (d : ℕ) (q : Right) → is_write q.mode ≡ true → is_scalar q.ty ≡ false → At typing c r w d q → Goes (data_instr (on_data.DropWrite d) c) (Leaves p.registers (on_data.DropWrite d) typing c r w)
+  drop_write_at : (d : ℕ) (q : RightType) → is_write q.mode ≡ true → is_scalar q.ty ≡ false → At typing c r w d q → Goes (data_instr (on_data.DropWrite d) c) (Leaves p.registers (on_data.DropWrite d) typing c r w)
   drop_write_at d q mode deep h =
       let some = h.has_write mode in
       let more : 0 < h.x.writes = (let e = h.writes in omega arith) in
@@ -117,7 +117,7 @@ module _ (p : Procedure) (typing : Typing) (c : Context) (r w : ℕ → ℕ) (fi
       goes (held c.rights d) _ _ h.id (ap (λ o. ok_or (option_flatten o) EmptyRegister) h.register)
       (goes_then (may_drop_write (datum_of c h.id)) _ _ (rw (h.live, deep_x, kept) refl)
       (record {
-        moves = record { way = Done; goes_on = refl; values = values };
+        moves = record { way = Completed; goes_on = refl; values = values };
         settles = aged_context typing (slice_set typing d None) c _ r w h.id h.x (subscribers_cleared (one_write_less h.x)) fits h.live
             (told_aged h.x (one_write_less h.x) (less_aged h.x deep_x (fits.store.contents h.id h.x h.live)))
             (λ e ne. (let s = sum_r e in omega arith, let no_hit = hits_other e h.id (λ z. ne (sym z)) in let s = sum_w e in omega arith))
@@ -129,7 +129,7 @@ module _ (p : Procedure) (typing : Typing) (c : Context) (r w : ℕ → ℕ) (fi
       let q = passed writes (right_at typing d) met.0 in
       drop_write_at d q.0 q.2 (container q.0 q.2 (right_at typing d) q.1 met.1.0) (at_right d typing c r w q.0 fits q.1)
     where
-      container : (q : Right) → is_write q.mode ≡ true → (o : Option Right) → o ≡ Some q → not (passes writes_scalar o) ≡ true → is_scalar q.ty ≡ false
+      container : (q : RightType) → is_write q.mode ≡ true → (o : Option RightType) → o ≡ Some q → not (passes writes_scalar o) ≡ true → is_scalar q.ty ≡ false
       container q mode o e t = sym (ap (λ b. b && is_scalar q.ty) mode) ∙ not-true _ (sym (ap (λ u. not (passes writes_scalar u)) e) ∙ t)
 
   -- ---- a scalar is set, which closes it
@@ -139,7 +139,7 @@ module _ (p : Procedure) (typing : Typing) (c : Context) (r w : ℕ → ℕ) (fi
   still_unset ty (Set x) writes s w scalar some = absurd (omega arith)
   still_unset ty (Contains members) writes s w scalar some = cc (s, scalar)
 
-  store_at : (d from : ℕ) (q : Right) (x : Value) → is_write q.mode ≡ true → is_scalar q.ty ≡ true → slice_get c.position.values from ≡ Some x → scalar_of x ≡ q.ty.scalar → At typing c r w d q
+  store_at : (d from : ℕ) (q : RightType) (x : Value) → is_write q.mode ≡ true → is_scalar q.ty ≡ true → slice_get c.position.values from ≡ Some x → scalar_of x ≡ q.ty.scalar → At typing c r w d q
       → Goes (data_instr (on_data.Store d from) c) (Leaves p.registers (on_data.Store d from) typing c r w)
   store_at d from q x mode scalar at_from of_ty h =
       let some = h.has_write mode in
@@ -164,7 +164,7 @@ module _ (p : Procedure) (typing : Typing) (c : Context) (r w : ℕ → ℕ) (fi
       (goes (held c.rights d) _ _ h.id (ap (λ o. ok_or (option_flatten o) EmptyRegister) h.register)
       (goes_then (may_store x (datum_of c h.id)) _ _ (rw (h.live, x_scalar, same, is_un, kept) refl)
       (record {
-        moves = record { way = Done; goes_on = refl; values = values };
+        moves = record { way = Completed; goes_on = refl; values = values };
         settles = aged_context typing (slice_set typing d None) c _ r w h.id h.x (subscribers_cleared (set_to x h.x)) fits h.live
             (told_aged h.x (set_to x h.x) (record { ty = refl; members = ap members_of (sym unset.0); closed = λ z. refl; content = λ z. (x_scalar, of_x); writers = λ z. omega (arith, unset.1) }))
             (λ e ne. (let s = sum_r e in omega arith, let no_hit = hits_other e h.id (λ z. ne (sym z)) in let s = sum_w e in omega arith))
@@ -174,10 +174,10 @@ module _ (p : Procedure) (typing : Typing) (c : Context) (r w : ℕ → ℕ) (fi
   pub store_leaves : (d from : ℕ) → AllYes (asks_data p.registers (on_data.Store d from) typing) → Goes (data_instr (on_data.Store d from) c) (Leaves p.registers (on_data.Store d from) typing c r w)
   store_leaves d from met = by (right_at typing d) refl met.0 met.1.1.0
     where
-      typed : (right : Right) → writes_scalar right ≡ true → (not (writes_scalar right) || passes (λ declared. same_scalar declared right.ty.scalar) (slice_get p.registers from)) ≡ true → slice_get p.registers from ≡ Some right.ty.scalar
+      typed : (right : RightType) → writes_scalar right ≡ true → (not (writes_scalar right) || passes (λ declared. same_scalar declared right.ty.scalar) (slice_get p.registers from)) ≡ true → slice_get p.registers from ≡ Some right.ty.scalar
       typed right writes e = declared_as (slice_get p.registers from) right.ty.scalar (sym (ap (λ b. not b || passes (λ declared. same_scalar declared right.ty.scalar) (slice_get p.registers from)) writes) ∙ e)
 
-      by : (o : Option Right) → right_at typing d ≡ o → passes writes_scalar o ≡ true
+      by : (o : Option RightType) → right_at typing d ≡ o → passes writes_scalar o ≡ true
           → (not (passes writes_scalar o) || passes (λ right. passes (λ declared. same_scalar declared right.ty.scalar) (slice_get p.registers from)) o) ≡ true
           → Goes (data_instr (on_data.Store d from) c) (Leaves p.registers (on_data.Store d from) typing c r w)
       by None e first second = cc

@@ -12,11 +12,11 @@ use Rattle.tw_types.specs.Store.{Content, Unset, Set, Contains, Datum, Store, is
 use Rattle.tw_types.specs.DataType.{is_scalar}
 use Rattle.tw_types.specs.StoreCalls.{one_write_more, one_read_more, changed}
 use Rattle.tw_types.specs.StoreChecks.{may_be_read, may_copy_write}
-use Rattle.tw_code.specs.declared.flow.Way.TheVariants.{Done}
+use Rattle.tw_code.specs.declared.flow.Way.TheVariants.{Completed}
 use Rattle.tw_code.specs.declared.instr.DataInstr.TheVariants as on_data
 use Rattle.tw_code.specs.declared.procedure.Procedure.{Procedure}
 use Rattle.tw_code.specs.machine.Data.{Context, datum_of, data_instr}
-use Rattle.tw_code.specs.machine.Rights.{held, must_be_empty, Right, Typing, right_at}
+use Rattle.tw_code.specs.machine.Rights.{held, must_be_empty, RightType, Typing, right_at}
 use Rattle.tw_code.specs.accepting.Question.{passes}
 use Rattle.tw_code.specs.accepting.Typing.{is_free, writes, writes_scalar, reads, asks_data}
 use Rattle.tw_types.specs.Counts.{hits, count_of, subscripts_in, inside}
@@ -53,7 +53,7 @@ put_context ts us k l r w id x y fits is aged other reads writes some store_is f
     subst (λ (s : Store). Settles us k r w (record l { store = s })) (sym store_is) done
 
 -- what a register with a right says of its datum
-pub at_holds : (ts : Typing) (k : Context) (r w : ℕ → ℕ) (d : ℕ) (q : Right) → Fits ts k r w → (h : At ts k r w d q) → Holds k.store q h.id
+pub at_holds : (ts : Typing) (k : Context) (r w : ℕ → ℕ) (d : ℕ) (q : RightType) → Fits ts k r w → (h : At ts k r w d q) → Holds k.store q h.id
 at_holds ts k r w d q fits h = record {
   given = fits.store.fresh h.id h.x h.live;
   ty = λ y at. ap (λ (z : Datum). z.ty) (sym (same_Some h.x y (sym h.live ∙ at))) ∙ h.ty;
@@ -68,7 +68,7 @@ module _ (p : Procedure) (typing : Typing) (c : Context) (r w : ℕ → ℕ) (fi
   may_fill to e = ap (λ o. must (is_none (option_flatten o)) WrongRegister) e
 
   -- a second read
-  copy_read_at : (to from : ℕ) (q : Right) → right_at typing from ≡ Some q → is_write q.mode ≡ false → slice_get typing to ≡ Some None → slice_get c.rights to ≡ Some None → At typing c r w from q
+  copy_read_at : (to from : ℕ) (q : RightType) → right_at typing from ≡ Some q → is_write q.mode ≡ false → slice_get typing to ≡ Some None → slice_get c.rights to ≡ Some None → At typing c r w from q
       → Goes (data_instr (on_data.CopyRead to from) c) (Leaves p.registers (on_data.CopyRead to from) typing c r w)
   copy_read_at to from q there_is mode a b h =
       let sum_r : (e : ℕ) → over (read_by e) (slice_set typing to (Some q)) (slice_set c.rights to (Some h.id)) + 0 ≡ over (read_by e) typing c.rights + hits e h.id = λ e. rw mode at (over-set (read_by e) typing c.rights to None (Some q) None (Some h.id) a b) in
@@ -81,7 +81,7 @@ module _ (p : Procedure) (typing : Typing) (c : Context) (r w : ℕ → ℕ) (fi
       (goes (held c.rights from) _ _ h.id (ap (λ o. ok_or (option_flatten o) EmptyRegister) h.register)
       (goes_then (may_be_read (datum_of c h.id)) _ _ (rw h.live refl)
       (record {
-        moves = record { way = Done; goes_on = refl; values = values };
+        moves = record { way = Completed; goes_on = refl; values = values };
         settles = rw there_is (put_context typing (slice_set typing to (Some q)) c _ r w h.id h.x (one_read_more h.x) fits h.live
             (record { ty = refl; members = refl; closed = λ t. t; content = λ t. t; writers = λ t. t })
             (λ e ne. let no_hit = hits_other e h.id (λ z. ne (sym z)) in (let s = sum_r e in omega arith, let s = sum_w e in omega arith))
@@ -104,7 +104,7 @@ module _ (p : Procedure) (typing : Typing) (c : Context) (r w : ℕ → ℕ) (fi
       at (Set v) h = let z : true ≡ false = sym h.0 ∙ deep in cc
       at (Contains members) h = record { ty = refl; members = refl; closed = λ t. let z = eqb-true x.writes 0 t in absurd (omega arith); content = λ t. t; writers = λ t. t }
 
-  copy_write_at : (to from : ℕ) (q : Right) → right_at typing from ≡ Some q → is_write q.mode ≡ true → is_scalar q.ty ≡ false → slice_get typing to ≡ Some None → slice_get c.rights to ≡ Some None → At typing c r w from q
+  copy_write_at : (to from : ℕ) (q : RightType) → right_at typing from ≡ Some q → is_write q.mode ≡ true → is_scalar q.ty ≡ false → slice_get typing to ≡ Some None → slice_get c.rights to ≡ Some None → At typing c r w from q
       → Goes (data_instr (on_data.CopyWrite to from) c) (Leaves p.registers (on_data.CopyWrite to from) typing c r w)
   copy_write_at to from q there_is mode deep a b h =
       let deep_x : is_scalar h.x.ty ≡ false = ap is_scalar h.ty ∙ deep in
@@ -120,7 +120,7 @@ module _ (p : Procedure) (typing : Typing) (c : Context) (r w : ℕ → ℕ) (fi
       (goes (held c.rights from) _ _ h.id (ap (λ o. ok_or (option_flatten o) EmptyRegister) h.register)
       (goes_then (may_copy_write (datum_of c h.id)) _ _ (rw (h.live, deep_x) refl)
       (record {
-        moves = record { way = Done; goes_on = refl; values = values };
+        moves = record { way = Completed; goes_on = refl; values = values };
         settles = rw there_is (put_context typing (slice_set typing to (Some q)) c _ r w h.id h.x (one_write_more h.x) fits h.live
             (more_aged h.x deep_x (fits.store.contents h.id h.x h.live) more)
             (λ e ne. let no_hit = hits_other e h.id (λ z. ne (sym z)) in (let s = sum_r e in omega arith, let s = sum_w e in omega arith))
@@ -134,5 +134,5 @@ module _ (p : Procedure) (typing : Typing) (c : Context) (r w : ℕ → ℕ) (fi
       let e = empty_register to l met.0 in
       copy_write_at to from q.0 q.1 q.2 (container q.0 q.2 (right_at typing from) q.1 met.1.1.0) e.0 e.1 (at_right from typing c r w q.0 fits q.1)
     where
-      container : (q : Right) → is_write q.mode ≡ true → (o : Option Right) → o ≡ Some q → not (passes writes_scalar o) ≡ true → is_scalar q.ty ≡ false
+      container : (q : RightType) → is_write q.mode ≡ true → (o : Option RightType) → o ≡ Some q → not (passes writes_scalar o) ≡ true → is_scalar q.ty ≡ false
       container q mode o e t = sym (ap (λ b. b && is_scalar q.ty) mode) ∙ not-true _ (sym (ap (λ u. not (passes writes_scalar u)) e) ∙ t)

@@ -15,11 +15,11 @@ use Rattle.tw_types.specs.Nesting.{NestedScalar}
 use Rattle.tw_types.specs.Result.{must}
 use Rattle.tw_types.specs.Store.{Unset, Contains, Datum, Store, empty_content, new_datum, members_of}
 use Rattle.tw_types.specs.StoreCalls.{created}
-use Rattle.tw_code.specs.declared.flow.Way.TheVariants.{Done}
+use Rattle.tw_code.specs.declared.flow.Way.TheVariants.{Completed}
 use Rattle.tw_code.specs.declared.instr.DataInstr.TheVariants as on_data
 use Rattle.tw_code.specs.declared.procedure.Procedure.{Procedure}
 use Rattle.tw_code.specs.machine.Data.{Context, data_instr}
-use Rattle.tw_code.specs.machine.Rights.{must_be_empty, Right, Typing}
+use Rattle.tw_code.specs.machine.Rights.{must_be_empty, RightType, Typing}
 use Rattle.tw_code.specs.accepting.Typing.{a_write, a_read, asks_data}
 use Rattle.tw_types.specs.Counts.{hits, count_of, subscripts_in, inside, HasWriters}
 use Rattle.tw_code.specs.machine.Holders.{read_by, write_by, over}
@@ -98,7 +98,7 @@ module _ (s : Store) (ty : NestedScalar) (typed : IsTypedStore s) (shallow : IsD
     ];
   }
 
-  new_held : (right : Right) → right.ty ≡ ty → (is_closed_mode right.mode ≡ true → ⊥) → Holds (created s ty) right s.next
+  new_held : (right : RightType) → right.ty ≡ ty → (is_closed_mode right.mode ≡ true → ⊥) → Holds (created s ty) right s.next
   new_held right same open_mode = record {
     given = omega arith;
     ty = λ x at. let x_is : new_datum ty ≡ x = same_Some (new_datum ty) x (sym (data_insert_same s.live s.next (new_datum ty)) ∙ at) in ap (λ (z : Datum). z.ty) (sym x_is) ∙ sym same;
@@ -134,7 +134,7 @@ module _ (p : Procedure) (typing : Typing) (c : Context) (r w : ℕ → ℕ) (fi
       (goes_then (must_be_empty c.rights read) _ _ (ap (λ o. must (is_none (option_flatten o)) WrongRegister) rr)
       (goes_then (must (not (write == read)) WrongRegister) _ _ (ap (λ b. must b WrongRegister) met.1.1.0)
       (record {
-        moves = record { way = Done; goes_on = refl; values = values };
+        moves = record { way = Completed; goes_on = refl; values = values };
         settles = record {
           others = others;
           fits = record {

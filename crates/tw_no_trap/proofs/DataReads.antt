@@ -24,7 +24,7 @@ use Rattle.tw_types.specs.StoreChecks.{is_kept, may_insert, may_look, may_read_m
 use Rattle.tw_types.specs.TypedStore.{IsOfType}
 use Rattle.tw_types.specs.Value.{scalar_of}
 use Rattle.tw_types.proofs.Freeing.{balanced_some, hits_other, hits_same}
-use Rattle.tw_code.specs.declared.flow.Way.TheVariants.{Done, Refused}
+use Rattle.tw_code.specs.declared.flow.Way.TheVariants.{Completed, Skipped}
 use Rattle.tw_code.specs.declared.instr.DataInstr.TheVariants as on_data
 use Rattle.tw_code.specs.declared.procedure.Procedure.{Procedure}
 use Rattle.tw_code.specs.accepting.Question.{passes}
@@ -32,7 +32,7 @@ use Rattle.tw_code.specs.accepting.Typing.{a_member_read, a_read, asks_data, rea
 use Rattle.tw_code.specs.machine.Data.{Context, after_insert, after_look, data_instr, datum_at, datum_of, given, suits}
 use Rattle.tw_code.specs.machine.Holders.{over, read_by, write_by}
 use Rattle.tw_code.specs.machine.Position.{int_at, must_have_type, value_at, with_result}
-use Rattle.tw_code.specs.machine.Rights.{Right, Typing, held, must_be_empty, right_at}
+use Rattle.tw_code.specs.machine.Rights.{RightType, Typing, held, must_be_empty, right_at}
 use Rattle.tw_no_trap.specs.Invariant.{Holds, ValuesFit}
 use Rattle.tw_no_trap.proofs.DataInsert.{insert_settles, member_there, same_settles}
 use Rattle.tw_no_trap.proofs.DataLeft.{Leaves, read_no_write}
@@ -57,10 +57,10 @@ member_read : (ty element : NestedScalar) → ty ≡ container_of element → op
 member_read ty element e = ap (λ (t : NestedScalar). option_and_then a_read (element_of t)) e
 
 module _ (p : Procedure) (typing : Typing) (c : Context) (r w : ℕ → ℕ) (fits : Fits typing c r w) (values : ValuesFit p.registers c.position.values) where
-  held_goes : (d : ℕ) (q : Right) (h : At typing c r w d q) → held c.rights d ≡ Ok h.id
+  held_goes : (d : ℕ) (q : RightType) (h : At typing c r w d q) → held c.rights d ≡ Ok h.id
   held_goes d q h = ap (λ o. ok_or (option_flatten o) EmptyRegister) h.register
 
-  members_read : (d : ℕ) (q : Right) → is_closed_mode q.mode ≡ true → is_scalar q.ty ≡ false → (h : At typing c r w d q) → may_read_members (datum_of c h.id) ≡ Ok tt
+  members_read : (d : ℕ) (q : RightType) → is_closed_mode q.mode ≡ true → is_scalar q.ty ≡ false → (h : At typing c r w d q) → may_read_members (datum_of c h.id) ≡ Ok tt
   members_read d q mode deep h =
       let deep_x : is_scalar h.x.ty ≡ false = ap is_scalar h.ty ∙ deep in
       let shut = h.closed mode in
@@ -72,7 +72,7 @@ module _ (p : Procedure) (typing : Typing) (c : Context) (r w : ℕ → ℕ) (fi
 
   -- ---- GET
 
-  get_at : (to d : ℕ) (q : Right) → is_closed_mode q.mode ≡ true → is_scalar q.ty ≡ true → slice_get p.registers to ≡ Some q.ty.scalar → At typing c r w d q
+  get_at : (to d : ℕ) (q : RightType) → is_closed_mode q.mode ≡ true → is_scalar q.ty ≡ true → slice_get p.registers to ≡ Some q.ty.scalar → At typing c r w d q
       → Goes (data_instr (on_data.Get to d) c) (Leaves p.registers (on_data.Get to d) typing c r w)
   get_at to d q mode scalar declared h =
       let x_scalar : is_scalar h.x.ty ≡ true = ap is_scalar h.ty ∙ scalar in
@@ -91,12 +91,12 @@ module _ (p : Procedure) (typing : Typing) (c : Context) (r w : ℕ → ℕ) (fi
       (goes (held c.rights d) _ _ h.id (held_goes d q h)
       (goes_then (may_retrieve (datum_of c h.id)) _ _ may
       (goes (ok_or (store.value_at c.store h.id) UnsetDatum) _ _ v.0 (at_some (store.value_at c.store h.id) UnsetDatum v.0 there)
-      (record { moves = record { way = Done; goes_on = refl; values = left.1 }; settles = left.0 })))))
+      (record { moves = record { way = Completed; goes_on = refl; values = left.1 }; settles = left.0 })))))
 
   pub get_leaves : (to d : ℕ) → AllYes (asks_data p.registers (on_data.Get to d) typing) → Goes (data_instr (on_data.Get to d) c) (Leaves p.registers (on_data.Get to d) typing c r w)
   get_leaves to d met = by (right_at typing d) refl met.0 met.1.1.0
     where
-      by : (o : Option Right) → right_at typing d ≡ o → passes reads_closed_scalar o ≡ true
+      by : (o : Option RightType) → right_at typing d ≡ o → passes reads_closed_scalar o ≡ true
           → (not (passes reads_closed_scalar o) || passes (λ q. passes (λ declared. same_scalar declared q.ty.scalar) (slice_get p.registers to)) o) ≡ true
           → Goes (data_instr (on_data.Get to d) c) (Leaves p.registers (on_data.Get to d) typing c r w)
       by None e first second = cc
@@ -108,14 +108,14 @@ module _ (p : Procedure) (typing : Typing) (c : Context) (r w : ℕ → ℕ) (fi
 
   -- ---- SIZE and AT
 
-  size_at : (to d : ℕ) (q : Right) → is_closed_mode q.mode ≡ true → is_scalar q.ty ≡ false → slice_get p.registers to ≡ Some scalar.Int → At typing c r w d q
+  size_at : (to d : ℕ) (q : RightType) → is_closed_mode q.mode ≡ true → is_scalar q.ty ≡ false → slice_get p.registers to ≡ Some scalar.Int → At typing c r w d q
       → Goes (data_instr (on_data.Size to d) c) (Leaves p.registers (on_data.Size to d) typing c r w)
   size_at to d q mode deep declared h =
       let left = given_leaves to scalar.Int (value.Int (pos (map.len (members_at c.store h.id)))) declared refl in
       goes_then (must_have_type c.position to scalar.Int) _ _ (has_type p.registers c.position values to scalar.Int declared)
       (goes (held c.rights d) _ _ h.id (held_goes d q h)
       (goes_then (may_read_members (datum_of c h.id)) _ _ (members_read d q mode deep h)
-      (record { moves = record { way = Done; goes_on = refl; values = left.1 }; settles = left.0 })))
+      (record { moves = record { way = Completed; goes_on = refl; values = left.1 }; settles = left.0 })))
 
   pub size_leaves : (to d : ℕ) → AllYes (asks_data p.registers (on_data.Size to d) typing) → Goes (data_instr (on_data.Size to d) c) (Leaves p.registers (on_data.Size to d) typing c r w)
   size_leaves to d met =
@@ -123,7 +123,7 @@ module _ (p : Procedure) (typing : Typing) (c : Context) (r w : ℕ → ℕ) (fi
       let both = and_parts (is_closed_mode q.0.mode) (not (is_scalar q.0.ty)) q.2 in
       size_at to d q.0 both.0 (not-true _ both.1) (declared_as (slice_get p.registers to) scalar.Int met.1.1.0) (at_right d typing c r w q.0 fits q.1)
 
-  subscript_at : (to d index skip : ℕ) (q : Right) → is_closed_mode q.mode ≡ true → is_scalar q.ty ≡ false → slice_get p.registers to ≡ Some scalar.Int → slice_get p.registers index ≡ Some scalar.Int → At typing c r w d q
+  subscript_at : (to d index skip : ℕ) (q : RightType) → is_closed_mode q.mode ≡ true → is_scalar q.ty ≡ false → slice_get p.registers to ≡ Some scalar.Int → slice_get p.registers index ≡ Some scalar.Int → At typing c r w d q
       → Goes (data_instr (on_data.SubscriptAt to d index skip) c) (Leaves p.registers (on_data.SubscriptAt to d index skip) typing c r w)
   subscript_at to d index skip q mode deep declared indexed h =
       let count = int_there p.registers c.position values index indexed in
@@ -157,7 +157,7 @@ module _ (p : Procedure) (typing : Typing) (c : Context) (r w : ℕ → ℕ) (fi
           ne_zero : (n : ℕ) → 0 < n → (n == 0) ≡ false
           ne_zero n l = ne_eqb n 0 (λ e. omega arith)
 
-  insert_at : (container subscript member skip : ℕ) (q m : Right) → is_write q.mode ≡ true → is_scalar q.ty ≡ false → is_write m.mode ≡ false → is_element_of m.ty q.ty ≡ true → slice_get p.registers subscript ≡ Some scalar.Int
+  insert_at : (container subscript member skip : ℕ) (q m : RightType) → is_write q.mode ≡ true → is_scalar q.ty ≡ false → is_write m.mode ≡ false → is_element_of m.ty q.ty ≡ true → slice_get p.registers subscript ≡ Some scalar.Int
       → At typing c r w container q → At typing c r w member m
       → Goes (data_instr (on_data.Insert container subscript member skip) c) (Leaves p.registers (on_data.Insert container subscript member skip) typing c r w)
   insert_at container subscript member skip q m mode deep reads element declared h g =
@@ -176,12 +176,12 @@ module _ (p : Procedure) (typing : Typing) (c : Context) (r w : ℕ → ℕ) (fi
       (by at.0 (member_at c.store h.id at.0) (sym found)))))
     where
       by : (at : ℤ) (o : Option ℕ) → get (members_in h.x.content) at ≡ o → Leaves p.registers (on_data.Insert container subscript member skip) typing c r w (after_insert c h.id at g.id member skip o)
-      by at (Some other) e = record { moves = record { way = Refused; goes_on = refl; values = values }; settles = same_settles typing c (after_insert c h.id at g.id member skip (Some other)) r w fits refl refl }
+      by at (Some other) e = record { moves = record { way = Skipped; goes_on = refl; values = values }; settles = same_settles typing c (after_insert c h.id at g.id member skip (Some other)) r w fits refl refl }
       by at None e =
           let done = insert_settles typing c r w fits container member q m h g mode deep reads element at e in
           let store_is : inserted c.store h.id at g.id ≡ record c.store { live = insert c.store.live h.id (with_member at g.id h.x) } = rw h.live refl in
           record {
-            moves = record { way = Done; goes_on = refl; values = values };
+            moves = record { way = Completed; goes_on = refl; values = values };
             settles = record {
               fits = subst (λ (s : Store). Fits (slice_set typing member None) (record (after_insert c h.id at g.id member skip None) { store = s }) r w) (sym store_is)
                   (record { balanced = done.fits.balanced; writers = done.fits.writers; store = done.fits.store; rights = done.fits.rights });
@@ -225,7 +225,7 @@ module _ (p : Procedure) (typing : Typing) (c : Context) (r w : ℕ → ℕ) (fi
         (omega (arith, counts.0)) (omega (arith, counts.1)) (omega arith) store_is
         (rights_set c.store typing c.rights member (a_read y.ty) (Some m) fits.rights holds)
 
-    look_at : (member d subscript skip : ℕ) (q : Right) → right_at typing d ≡ Some q → is_closed_mode q.mode ≡ true → is_scalar q.ty ≡ false → slice_get p.registers subscript ≡ Some scalar.Int
+    look_at : (member d subscript skip : ℕ) (q : RightType) → right_at typing d ≡ Some q → is_closed_mode q.mode ≡ true → is_scalar q.ty ≡ false → slice_get p.registers subscript ≡ Some scalar.Int
         → slice_get typing member ≡ Some None → slice_get c.rights member ≡ Some None → At typing c r w d q
         → Goes (data_instr (on_data.Look member d subscript skip) c) (Leaves p.registers (on_data.Look member d subscript skip) typing c r w)
     look_at member d subscript skip q there_is mode deep declared a b h =
@@ -248,12 +248,12 @@ module _ (p : Procedure) (typing : Typing) (c : Context) (r w : ℕ → ℕ) (fi
             kept m y e = rw e refl
 
         by : (at : ℤ) (o : Option ℕ) → get (members_in h.x.content) at ≡ o → Leaves p.registers (on_data.Look member d subscript skip) typing c r w (after_look c member skip o)
-        by at None e = record { moves = record { way = Refused; goes_on = refl; values = values }; settles = same_settles typing c (after_look c member skip None) r w fits refl refl }
+        by at None e = record { moves = record { way = Skipped; goes_on = refl; values = values }; settles = same_settles typing c (after_look c member skip None) r w fits refl refl }
         by at (Some m) e =
             let y = member_there typing c r w fits h.id h.x at m h.live e in
             let read : a_member_read (right_at typing d) ≡ a_read y.0.ty = ap a_member_read there_is ∙ member_read q.ty y.0.ty (sym h.ty ∙ y.2) in
             record {
-              moves = record { way = Done; goes_on = refl; values = values };
+              moves = record { way = Completed; goes_on = refl; values = values };
               settles = subst (λ o. Settles (slice_set typing member o) c r w (after_look c member skip (Some m))) (sym read) (look_settles member d skip m y.0 y.1 a b);
             }
 

@@ -21,7 +21,7 @@ use Rattle.tw_types.specs.Task.{Arg, ValueArg, RightArg}
 use Rattle.tw_types.specs.DataType.{same_scalar, same_type}
 use Rattle.tw_types.specs.Value.{scalar_of}
 use Rattle.tw_code.specs.machine.Arguments.{HandedOver, with_arg, handed_over, has_type, values_suit, all_pass, is_live, is_of_type, is_closed_if_asked}
-use Rattle.tw_code.specs.machine.Rights.{Rights, held, Right, Typing, right_at, right_of}
+use Rattle.tw_code.specs.machine.Rights.{Rights, held, RightType, Typing, right_at, right_of}
 use Rattle.tw_code.specs.accepting.Question.{passes}
 use Rattle.tw_code.specs.accepting.Typing.{suits_mode, may_stand_for, asks_value, asks_args, without_args}
 use Rattle.tw_types.specs.Counts.{hits}
@@ -40,7 +40,7 @@ use Rattle.tw_no_trap.proofs.Values.{AllYes, declared_as, value_found, passed}
 
 -- a right that suits the parameter, held on this datum
 pub record StandsFor (waits : Bool) (s : Store) (p : Param) (id : ℕ) : Type 0 where
-  pub right : Right
+  pub right : RightType
   pub suits : suits_mode waits p.mode right ≡ true
   pub ty : right.ty ≡ p.ty
   pub holds : Holds s right id
@@ -64,7 +64,7 @@ pub record GivenSo (waits : Bool) (s : Store) (params : List Param) (typing : Ty
   pub reads : (d : ℕ) → over (read_by d) typing rights ≡ over (read_by d) left given.rights + over_params (read_by d) params given.args
   pub writes : (d : ℕ) → over (write_by d) typing rights ≡ over (write_by d) left given.rights + over_params (write_by d) params given.args
 
-suits_write : (waits : Bool) (mode : Mode) (right : Right) → suits_mode waits mode right ≡ true → is_write right.mode ≡ is_write mode
+suits_write : (waits : Bool) (mode : Mode) (right : RightType) → suits_mode waits mode right ≡ true → is_write right.mode ≡ is_write mode
 suits_write waits mode right e = by mode right.mode e
   where
     by : (mode have : Mode) → suits_mode waits mode (record right { mode = have }) ≡ true → is_write have ≡ is_write mode
@@ -112,7 +112,7 @@ module _ (waits : Bool) (s : Store) (declared : List Scalar) (values : List Valu
         writes = λ d. let z : write_by d (right_of p) None ≡ 0 = ap (λ o. write_by d o None) none in let h = so.writes d in omega arith;
       }))
 
-  right_goes : (p : Param) (params : List Param) (r : ℕ) (registers : List ℕ) (typing : Typing) (rights : Rights) (q : Right) → is_val p.mode ≡ false → may_stand_for waits p q ≡ true → (f : Found s rights typing r q)
+  right_goes : (p : Param) (params : List Param) (r : ℕ) (registers : List ℕ) (typing : Typing) (rights : Rights) (q : RightType) → is_val p.mode ≡ false → may_stand_for waits p q ≡ true → (f : Found s rights typing r q)
       → Goes (handed_over values (slice_set rights r None) params registers) (GivenSo waits s params (slice_set typing r None) (slice_set rights r None) (without_args params registers (slice_set typing r None)))
       → Goes (right_then values rights params registers r) (GivenSo waits s (p ∷ params) typing rights (without_args params registers (slice_set typing r None)))
   right_goes p params r registers typing rights q e stands f rest =

@@ -23,7 +23,7 @@ use Rattle.tw_types.proofs.Totals.{part, part-le-total}
 use Rattle.tw_code.specs.declared.procedure.Procedure.{Procedure}
 use Rattle.tw_code.specs.machine.Arguments.{params_in}
 use Rattle.tw_code.specs.machine.Holders.{Typings, read_by, reads_of, rule_reads, rule_writes, task_reads, task_writes, typing_of, write_by, writes_of}
-use Rattle.tw_code.specs.machine.Rights.{Right, Rights, Typing, right_at, right_of}
+use Rattle.tw_code.specs.machine.Rights.{RightType, Rights, Typing, right_at, right_of}
 use Rattle.tw_code.specs.machine.State.{Frame, State, context_of}
 use Rattle.tw_no_trap.specs.Invariant.{ArgFits, ArgsFit, IsHeld, RightsFit, RuleArgsFit, read_until, right_until}
 use Rattle.tw_no_trap.proofs.DataInsert.{found_inside}
@@ -35,14 +35,14 @@ use Rattle.tw_no_trap.proofs.Wanted.{wanted_is_there}
 
 -- ---- one right, one count
 
-right_counts : (d : ℕ) (right : Right) → read_by d (Some right) (Some d) + write_by d (Some right) (Some d) ≡ 1
+right_counts : (d : ℕ) (right : RightType) → read_by d (Some right) (Some d) + write_by d (Some right) (Some d) ≡ 1
 right_counts d right = by (is_write right.mode)
   where
     by : (b : Bool) → (if b then 0 else hits d d) + (if b then hits d d else 0) ≡ 1
     by true = let one = hits_same d in omega arith
     by false = let one = hits_same d in omega arith
 
-arg_counts : (s : Store) (p : Param) (right : Option Right) (d : ℕ) → ArgFits s p right (RightArg d) → read_by d right (Some d) + write_by d right (Some d) ≡ 1
+arg_counts : (s : Store) (p : Param) (right : Option RightType) (d : ℕ) → ArgFits s p right (RightArg d) → read_by d right (Some d) + write_by d right (Some d) ≡ 1
 arg_counts s p None d fit = absurd fit
 arg_counts s p (Some right) d fit = right_counts d right
 
@@ -85,7 +85,7 @@ rule_args_count s (p ∷ params) (stage ∷ stages) (arg ∷ args) zero d fit at
 rule_args_count s (p ∷ params) (stage ∷ stages) (arg ∷ args) (suc k) d fit at = let rest = rule_args_count s params stages args k d fit.2 at in omega arith
 
 -- where a register holds an id, its typing has a right
-pub typed_where_held : (s : Store) (typing : Typing) (rights : Rights) (k d : ℕ) → RightsFit s typing rights → right_at rights k ≡ Some d → (right : Right) × (right_at typing k ≡ Some right)
+pub typed_where_held : (s : Store) (typing : Typing) (rights : Rights) (k d : ℕ) → RightsFit s typing rights → right_at rights k ≡ Some d → (right : RightType) × (right_at typing k ≡ Some right)
 typed_where_held s [] [] k d fit at = cc
 typed_where_held s [] (r ∷ rights) k d fit at = absurd fit
 typed_where_held s (t ∷ typing) [] k d fit at = absurd fit

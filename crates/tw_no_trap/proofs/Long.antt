@@ -7,19 +7,19 @@ use Rattle.tw_types.specs.declared.param.Param.{Param}
 use Rattle.tw_types.specs.Mode.{is_val}
 use Rattle.tw_types.specs.Store.{Store}
 use Rattle.tw_code.specs.declared.flow.Way.{Way}
-use Rattle.tw_code.specs.declared.flow.Way.TheVariants.{Done, Refused}
+use Rattle.tw_code.specs.declared.flow.Way.TheVariants.{Completed, Skipped}
 use Rattle.tw_code.specs.declared.instr.Instr.{Instr}
 use Rattle.tw_code.specs.declared.instr.Instr.TheVariants as instr
 use Rattle.tw_code.specs.declared.instr.DataInstr.{DataInstr}
 use Rattle.tw_code.specs.declared.instr.DataInstr.TheVariants as on_data
 use Rattle.tw_code.specs.declared.procedure.Procedure.{Procedure}
-use Rattle.tw_code.specs.machine.Rights.{Rights, Right, Typing, right_at}
+use Rattle.tw_code.specs.machine.Rights.{Rights, RightType, Typing, right_at}
 use Rattle.tw_code.specs.accepting.Typing.{is_free, a_write, a_read, a_member_read, rights_given, start_typing, without_args, after, after_data}
 use Rattle.tw_code.specs.machine.Arguments.{params_of}
 use Rattle.tw_code.specs.accepting.WellTyped.{IsWellTyped}
 use Rattle.tw_no_trap.specs.Invariant.{RightsFit}
 
-set_long : (typing : Typing) (k : ℕ) (o : Option Right) → length (slice_set typing k o) ≡ length typing
+set_long : (typing : Typing) (k : ℕ) (o : Option RightType) → length (slice_set typing k o) ≡ length typing
 set_long [] k o = refl
 set_long (t ∷ typing) zero o = refl
 set_long (t ∷ typing) (suc k) o = let h = set_long typing k o in omega arith
@@ -38,10 +38,10 @@ data_long : (way : Way) (i : DataInstr) (typing : Typing) → length (after_data
 data_long way (on_data.New write read ty) typing = set_long (slice_set typing write (a_write ty)) read (a_read ty) ∙ set_long typing write (a_write ty)
 data_long way (on_data.Store datum from) typing = set_long typing datum None
 data_long way (on_data.Get to datum) typing = refl
-data_long Done (on_data.Insert container subscript member skip) typing = set_long typing member None
-data_long Refused (on_data.Insert container subscript member skip) typing = refl
-data_long Done (on_data.Look member container subscript skip) typing = set_long typing member (a_member_read (right_at typing container))
-data_long Refused (on_data.Look member container subscript skip) typing = refl
+data_long Completed (on_data.Insert container subscript member skip) typing = set_long typing member None
+data_long Skipped (on_data.Insert container subscript member skip) typing = refl
+data_long Completed (on_data.Look member container subscript skip) typing = set_long typing member (a_member_read (right_at typing container))
+data_long Skipped (on_data.Look member container subscript skip) typing = refl
 data_long way (on_data.Size to container) typing = refl
 data_long way (on_data.SubscriptAt to container index skip) typing = refl
 data_long way (on_data.CopyRead to from) typing = set_long typing to (right_at typing from)
@@ -60,7 +60,7 @@ pub start_long : (params : List Param) → length (rights_given params) ≤ 16 �
 start_long params few =
     let a = length-append (map Some (rights_given params)) (replicate (16 - length (rights_given params)) None) in
     let b : length (map Some (rights_given params)) ≡ length (rights_given params) = length-map (rights_given params) Some in
-    let c : length (replicate {A = Option Right} (16 - length (rights_given params)) None) ≡ 16 - length (rights_given params) = length-replicate (16 - length (rights_given params)) None in
+    let c : length (replicate {A = Option RightType} (16 - length (rights_given params)) None) ≡ 16 - length (rights_given params) = length-replicate (16 - length (rights_given params)) None in
     omega arith
 
 -- by the earlier place that leads to each

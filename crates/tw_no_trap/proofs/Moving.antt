@@ -7,7 +7,7 @@ use Rattle.tw_types.specs.Outcome.{Outcome, NotEnabled, outcome_of}
 use Rattle.tw_code.specs.declared.flow.Flow.{Flow}
 use Rattle.tw_code.specs.declared.flow.Flow.TheVariants.{Straight, Branch, Jump, Begin, Close, Stop}
 use Rattle.tw_code.specs.declared.flow.Way.{Way}
-use Rattle.tw_code.specs.declared.flow.Way.TheVariants.{Done, Refused}
+use Rattle.tw_code.specs.declared.flow.Way.TheVariants.{Completed, Skipped}
 use Rattle.tw_code.specs.declared.instr.DataInstr.{DataInstr}
 use Rattle.tw_code.specs.declared.instr.DataInstr.TheVariants as on_data
 use Rattle.tw_code.specs.declared.instr.LocalInstr.{LocalInstr}
@@ -37,24 +37,24 @@ use Rattle.tw_no_trap.proofs.Values.{AllYes, HasLoop, Moves, all_yes, local_move
 
 -- each loop that is begun after a move was begun by a REPEAT
 begun_on : (code : List Flow) (place : ℕ) (flow : Flow) (loops : List Loop) (way : Way) (to : Cursor) → slice_get code place ≡ Some flow → moved way place loops flow ≡ Some to → AreBegun code loops → AreBegun code to.loops
-begun_on code place Straight loops Done to at e b = subst (λ (c : Cursor). AreBegun code c.loops) (same_Some _ to e) b
-begun_on code place Straight loops Refused to at e b = cc
-begun_on code place (Branch skip) loops Done to at e b = subst (λ (c : Cursor). AreBegun code c.loops) (same_Some _ to e) b
-begun_on code place (Branch skip) loops Refused to at e b = subst (λ (c : Cursor). AreBegun code c.loops) (same_Some _ to e) b
-begun_on code place (Jump skip) loops Done to at e b = subst (λ (c : Cursor). AreBegun code c.loops) (same_Some _ to e) b
-begun_on code place (Jump skip) loops Refused to at e b = cc
-begun_on code place (Begin turns) loops Done to at e b = subst (λ (c : Cursor). AreBegun code c.loops) (same_Some _ to e) ((place, turns, refl, at), b)
-begun_on code place (Begin turns) loops Refused to at e b = cc
-begun_on code place Close [] Done to at e b = cc
-begun_on code place Close (inner ∷ outer) Done to at e b = ended inner.first inner.left b.0 b.1 e
+begun_on code place Straight loops Completed to at e b = subst (λ (c : Cursor). AreBegun code c.loops) (same_Some _ to e) b
+begun_on code place Straight loops Skipped to at e b = cc
+begun_on code place (Branch skip) loops Completed to at e b = subst (λ (c : Cursor). AreBegun code c.loops) (same_Some _ to e) b
+begun_on code place (Branch skip) loops Skipped to at e b = subst (λ (c : Cursor). AreBegun code c.loops) (same_Some _ to e) b
+begun_on code place (Jump skip) loops Completed to at e b = subst (λ (c : Cursor). AreBegun code c.loops) (same_Some _ to e) b
+begun_on code place (Jump skip) loops Skipped to at e b = cc
+begun_on code place (Begin turns) loops Completed to at e b = subst (λ (c : Cursor). AreBegun code c.loops) (same_Some _ to e) ((place, turns, refl, at), b)
+begun_on code place (Begin turns) loops Skipped to at e b = cc
+begun_on code place Close [] Completed to at e b = cc
+begun_on code place Close (inner ∷ outer) Completed to at e b = ended inner.first inner.left b.0 b.1 e
   where
     ended : (first left : ℕ) → (begin : ℕ) × (turns : ℕ) × (first ≡ begin + 1) × (slice_get code begin ≡ Some (Begin turns)) → AreBegun code outer → Some (turned place first left outer) ≡ Some to → AreBegun code to.loops
     ended first zero here rest e = subst (λ (c : Cursor). AreBegun code c.loops) (same_Some _ to e) rest
     ended first (suc zero) here rest e = subst (λ (c : Cursor). AreBegun code c.loops) (same_Some _ to e) rest
     ended first (suc (suc left)) here rest e = subst (λ (c : Cursor). AreBegun code c.loops) (same_Some _ to e) (here, rest)
-begun_on code place Close loops Refused to at e b = cc
-begun_on code place Stop loops Done to at e b = cc
-begun_on code place Stop loops Refused to at e b = cc
+begun_on code place Close loops Skipped to at e b = cc
+begun_on code place Stop loops Completed to at e b = cc
+begun_on code place Stop loops Skipped to at e b = cc
 
 -- back to the first place of a loop
 pub record GoesBack (flow : Flow) (loops : List Loop) (to : Cursor) : Type 0 where
@@ -66,24 +66,24 @@ pub record GoesBack (flow : Flow) (loops : List Loop) (to : Cursor) : Type 0 whe
 
 -- a move leads to a later place, or back
 forward_or_back : (place : ℕ) (flow : Flow) (loops : List Loop) (way : Way) (to : Cursor) → moved way place loops flow ≡ Some to → (onward way place flow ≡ Some to.place) ⊎ GoesBack flow loops to
-forward_or_back place Straight loops Done to e = inl (ap (λ (c : Cursor). Some c.place) (same_Some _ to e))
-forward_or_back place Straight loops Refused to e = cc
-forward_or_back place (Branch skip) loops Done to e = inl (ap (λ (c : Cursor). Some c.place) (same_Some _ to e))
-forward_or_back place (Branch skip) loops Refused to e = inl (ap (λ (c : Cursor). Some c.place) (same_Some _ to e))
-forward_or_back place (Jump skip) loops Done to e = inl (ap (λ (c : Cursor). Some c.place) (same_Some _ to e))
-forward_or_back place (Jump skip) loops Refused to e = cc
-forward_or_back place (Begin turns) loops Done to e = inl (ap (λ (c : Cursor). Some c.place) (same_Some _ to e))
-forward_or_back place (Begin turns) loops Refused to e = cc
-forward_or_back place Close [] Done to e = cc
-forward_or_back place Close (inner ∷ outer) Done to e = ended inner.left refl e
+forward_or_back place Straight loops Completed to e = inl (ap (λ (c : Cursor). Some c.place) (same_Some _ to e))
+forward_or_back place Straight loops Skipped to e = cc
+forward_or_back place (Branch skip) loops Completed to e = inl (ap (λ (c : Cursor). Some c.place) (same_Some _ to e))
+forward_or_back place (Branch skip) loops Skipped to e = inl (ap (λ (c : Cursor). Some c.place) (same_Some _ to e))
+forward_or_back place (Jump skip) loops Completed to e = inl (ap (λ (c : Cursor). Some c.place) (same_Some _ to e))
+forward_or_back place (Jump skip) loops Skipped to e = cc
+forward_or_back place (Begin turns) loops Completed to e = inl (ap (λ (c : Cursor). Some c.place) (same_Some _ to e))
+forward_or_back place (Begin turns) loops Skipped to e = cc
+forward_or_back place Close [] Completed to e = cc
+forward_or_back place Close (inner ∷ outer) Completed to e = ended inner.left refl e
   where
     ended : (left : ℕ) → inner.left ≡ left → Some (turned place inner.first left outer) ≡ Some to → (Some (place + 1) ≡ Some to.place) ⊎ GoesBack Close (inner ∷ outer) to
     ended zero is e = inl (ap (λ (c : Cursor). Some c.place) (same_Some _ to e))
     ended (suc zero) is e = inl (ap (λ (c : Cursor). Some c.place) (same_Some _ to e))
     ended (suc (suc left)) is e = inr (record { closes = refl; inner = inner; outer = outer; loop = refl; first = sym (ap (λ (c : Cursor). c.place) (same_Some _ to e)) })
-forward_or_back place Close loops Refused to e = cc
-forward_or_back place Stop loops Done to e = cc
-forward_or_back place Stop loops Refused to e = cc
+forward_or_back place Close loops Skipped to e = cc
+forward_or_back place Stop loops Completed to e = cc
+forward_or_back place Stop loops Skipped to e = cc
 
 no_close : (i : DataInstr) → data_flow i ≡ Close → ⊥
 no_close (on_data.New write read ty) e = cc

@@ -29,7 +29,7 @@ use Rattle.tw_code.specs.format.Program.{IsParam, IsTypeUnder}
 use Rattle.tw_code.specs.machine.Holders.{Typings, frame_reads, frame_writes, id_of, read_by, rule_reads, rule_writes, task_reads, task_writes, write_by}
 use Rattle.tw_code.specs.machine.Inputs.{AreInputsOf, are_inputs_of, input_params, is_input_of}
 use Rattle.tw_code.specs.machine.Opening.{Opened, main_task, opened, opening, opening_of, with_given, with_input, with_output}
-use Rattle.tw_code.specs.machine.Rights.{Right, right_of}
+use Rattle.tw_code.specs.machine.Rights.{RightType, right_of}
 use Rattle.tw_code.specs.machine.State.{Frame}
 use Rattle.tw_no_trap.specs.Invariant.{ArgFits, ArgsFit, Holds, IsHeld, NumbersHeld, TypesHeld, CountsHeld, BudgetsHeld}
 use Rattle.tw_no_trap.proofs.Asked.{opening_named}
@@ -67,7 +67,7 @@ args_joined s [] (a ∷ args) p arg h f = absurd h
 args_joined s (q ∷ params) [] p arg h f = absurd h
 args_joined s (q ∷ params) (a ∷ args) p arg h f = (h.0, args_joined s params args p arg h.1 f)
 
-over_joined : (by : Option Right → Option ℕ → ℕ) (s : Store) (params : List Param) (args : List Arg) (p : Param) (arg : Arg) → ArgsFit s params args
+over_joined : (by : Option RightType → Option ℕ → ℕ) (s : Store) (params : List Param) (args : List Arg) (p : Param) (arg : Arg) → ArgsFit s params args
     → over_params by (params ++ p ∷ []) (args ++ arg ∷ []) ≡ over_params by params args + by (right_of p) (id_of arg)
 over_joined by s [] [] p arg h = omega arith
 over_joined by s [] (a ∷ args) p arg h = absurd h
@@ -97,9 +97,9 @@ module _ (params : List Param) (o : Opened) (p : Param) (h : IsOpened params o) 
     args_more : ArgsFit t (params ++ p ∷ []) (map RightArg (o.rights ++ id ∷ []))
     args_more = subst (λ (args : List Arg). ArgsFit t (params ++ p ∷ []) args) (sym (map-append RightArg o.rights (id ∷ [])))
         (args_joined t params (map RightArg o.rights) p (RightArg id) (args_kept o.store t others params (map RightArg o.rights) h.args)
-        (subst (λ (q : Option Right). ArgFits t p q (RightArg id)) (sym (right_is p no_value)) holds))
+        (subst (λ (q : Option RightType). ArgFits t p q (RightArg id)) (sym (right_is p no_value)) holds))
 
-  over_more : (by : Option Right → Option ℕ → ℕ) → over_params by (params ++ p ∷ []) (map RightArg (o.rights ++ id ∷ [])) ≡ over_params by params (map RightArg o.rights) + by (Some (record { mode = p.mode; ty = p.ty })) (Some id)
+  over_more : (by : Option RightType → Option ℕ → ℕ) → over_params by (params ++ p ∷ []) (map RightArg (o.rights ++ id ∷ [])) ≡ over_params by params (map RightArg o.rights) + by (Some (record { mode = p.mode; ty = p.ty })) (Some id)
   over_more by =
       ap (over_params by (params ++ p ∷ [])) (map-append RightArg o.rights (id ∷ [])) ∙ over_joined by o.store params (map RightArg o.rights) p (RightArg id) h.args
       ∙ ap (λ q. over_params by params (map RightArg o.rights) + by q (Some id)) (right_is p no_value)

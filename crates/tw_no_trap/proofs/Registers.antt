@@ -3,7 +3,7 @@ use Rattle.std.proofs.Common.{◌≡◌, ℕ, zero, suc, ◌+◌, ◌<◌, ◌�
 use Rattle.std.proofs.lemmas.Bool.{cases_Bool}
 use Rattle.std.specs.FinMap.{get}
 use Rattle.tw_types.specs.Store.{Datum, Store, is_closed, settled, drop_read_within}
-use Rattle.tw_code.specs.machine.Rights.{Rights, Right, Typing, right_at}
+use Rattle.tw_code.specs.machine.Rights.{Rights, RightType, Typing, right_at}
 use Rattle.tw_code.specs.machine.Data.{Context}
 use Rattle.tw_types.specs.Mode.{is_write, is_closed_mode}
 use Rattle.tw_types.specs.Counts.{inside, Balanced, HaveWriters}
@@ -15,47 +15,47 @@ use Rattle.tw_types.proofs.Freeing.{held_is_there, hits_same, balanced_some}
 
 -- ---- all registers
 
-pub over-set : (by : Option Right → Option ℕ → ℕ) (typing : Typing) (rights : Rights) (k : ℕ) (t u : Option Right) (r s : Option ℕ) → slice_get typing k ≡ Some t → slice_get rights k ≡ Some r
+pub over-set : (by : Option RightType → Option ℕ → ℕ) (typing : Typing) (rights : Rights) (k : ℕ) (t u : Option RightType) (r s : Option ℕ) → slice_get typing k ≡ Some t → slice_get rights k ≡ Some r
     → over by (slice_set typing k u) (slice_set rights k s) + by t r ≡ over by typing rights + by u s
 over-set by [] rights k t u r s a b = cc
 over-set by (t₀ ∷ typing) [] k t u r s a b = cc
 over-set by (t₀ ∷ typing) (r₀ ∷ rights) zero t u r s a b = let p : t₀ ≡ t = cc in let q : r₀ ≡ r = cc in rw (p, q) (omega arith)
 over-set by (t₀ ∷ typing) (r₀ ∷ rights) (suc k) t u r s a b = let h = over-set by typing rights k t u r s a b in omega arith
 
-pub rights_set : (m : Store) (typing : Typing) (rights : Rights) (k : ℕ) (u : Option Right) (s : Option ℕ) → RightsFit m typing rights → RightFits m u s → RightsFit m (slice_set typing k u) (slice_set rights k s)
+pub rights_set : (m : Store) (typing : Typing) (rights : Rights) (k : ℕ) (u : Option RightType) (s : Option ℕ) → RightsFit m typing rights → RightFits m u s → RightsFit m (slice_set typing k u) (slice_set rights k s)
 rights_set m [] [] k u s f g = f
 rights_set m [] (r ∷ rights) k u s f g = absurd f
 rights_set m (t ∷ typing) [] k u s f g = absurd f
 rights_set m (t ∷ typing) (r ∷ rights) zero u s f g = (g, f.1)
 rights_set m (t ∷ typing) (r ∷ rights) (suc k) u s f g = (f.0, rights_set m typing rights k u s f.1 g)
 
-pub rights_kept : (m n : Store) (typing : Typing) (rights : Rights) → ((p : Right) (id : ℕ) → Holds m p id → Holds n p id) → RightsFit m typing rights → RightsFit n typing rights
+pub rights_kept : (m n : Store) (typing : Typing) (rights : Rights) → ((p : RightType) (id : ℕ) → Holds m p id → Holds n p id) → RightsFit m typing rights → RightsFit n typing rights
 rights_kept m n [] [] h f = f
 rights_kept m n [] (r ∷ rights) h f = f
 rights_kept m n (t ∷ typing) [] h f = f
 rights_kept m n (t ∷ typing) (r ∷ rights) h f = (fit t r f.0, rights_kept m n typing rights h f.1)
   where
-    fit : (t : Option Right) (r : Option ℕ) → RightFits m t r → RightFits n t r
+    fit : (t : Option RightType) (r : Option ℕ) → RightFits m t r → RightFits n t r
     fit None None f = f
     fit None (Some id) f = f
     fit (Some p) None f = f
     fit (Some p) (Some id) f = h p id f
 
 -- the sum without what a register held
-pub emptied : (by : Option Right → Option ℕ → ℕ) (typing : Typing) (rights : Rights) (k : ℕ) (p : Right) (id : ℕ) → by None None ≡ 0 → slice_get typing k ≡ Some (Some p) → slice_get rights k ≡ Some (Some id)
+pub emptied : (by : Option RightType → Option ℕ → ℕ) (typing : Typing) (rights : Rights) (k : ℕ) (p : RightType) (id : ℕ) → by None None ≡ 0 → slice_get typing k ≡ Some (Some p) → slice_get rights k ≡ Some (Some id)
     → over by (slice_set typing k None) (slice_set rights k None) + by (Some p) (Some id) ≡ over by typing rights
 emptied by typing rights k p id none a b = let h = over-set by typing rights k (Some p) None (Some id) None a b in omega arith
 
 -- ---- one register
 
 -- where the typing has a right, the register has an id
-pub record Found (m : Store) (rights : Rights) (typing : Typing) (k : ℕ) (p : Right) : Type 0 where
+pub record Found (m : Store) (rights : Rights) (typing : Typing) (k : ℕ) (p : RightType) : Type 0 where
   pub id : ℕ
   pub typed : slice_get typing k ≡ Some (Some p)
   pub register : slice_get rights k ≡ Some (Some id)
   pub holds : Holds m p id
 
-pub found : (m : Store) (rights : Rights) (typing : Typing) (k : ℕ) (p : Right) → RightsFit m typing rights → right_at typing k ≡ Some p → Found m rights typing k p
+pub found : (m : Store) (rights : Rights) (typing : Typing) (k : ℕ) (p : RightType) → RightsFit m typing rights → right_at typing k ≡ Some p → Found m rights typing k p
 found m rights [] k p f e = cc
 found m [] (t ∷ typing) k p f e = absurd f
 found m (Some id ∷ rights) (Some q ∷ typing) zero p f e = let same : q ≡ p = cc in record { id = id; typed = ap (λ z. Some (Some z)) same; register = refl; holds = subst (λ z. Holds m z id) same f.0 }
@@ -82,7 +82,7 @@ pub record Undisturbed (s t : Store) : Type 0 where
 pub later_undisturbed : (s t : Store) → Later t.live s.live → t.next ≡ s.next → Undisturbed s t
 later_undisturbed s t l next = record { next = omega arith; kept = λ d y given at. let p = l.there d y at in (p.0, p.1, p.2.ty, p.2.closed) }
 
-pub holds_undisturbed : (s t : Store) → Undisturbed s t → (p : Right) (id : ℕ) → Holds s p id → Holds t p id
+pub holds_undisturbed : (s t : Store) → Undisturbed s t → (p : RightType) (id : ℕ) → Holds s p id → Holds t p id
 holds_undisturbed s t u p id h = record {
   given = (let a = h.given in let b = u.next in omega arith);
   ty = λ y at. let q = u.kept id y h.given at in q.2 ∙ h.ty q.0 q.1;
@@ -126,7 +126,7 @@ aged_context ts us k l r w id x y fits is aged other reads writes live next fit 
     }
 
 -- a register that has a right: the id, and the datum as it is
-pub record At (ts : Typing) (k : Context) (r w : ℕ → ℕ) (d : ℕ) (p : Right) : Type 0 where
+pub record At (ts : Typing) (k : Context) (r w : ℕ → ℕ) (d : ℕ) (p : RightType) : Type 0 where
   pub id : ℕ
   pub x : Datum
   pub typed : slice_get ts d ≡ Some (Some p)
@@ -139,25 +139,25 @@ pub record At (ts : Typing) (k : Context) (r w : ℕ → ℕ) (d : ℕ) (p : Rig
   pub has_read : is_write p.mode ≡ false → 0 < over (read_by id) ts k.rights
   pub has_write : is_write p.mode ≡ true → 0 < over (write_by id) ts k.rights
 
-pub at_right : (d : ℕ) (ts : Typing) (k : Context) (r w : ℕ → ℕ) (p : Right) → Fits ts k r w → right_at ts d ≡ Some p → At ts k r w d p
+pub at_right : (d : ℕ) (ts : Typing) (k : Context) (r w : ℕ → ℕ) (p : RightType) → Fits ts k r w → right_at ts d ≡ Some p → At ts k r w d p
 at_right d ts k r w p fits at = located d ts k r w p fits (found k.store k.rights ts d p fits.rights at)
   where
-    hit_read : (ts : Typing) (rights : Rights) (d : ℕ) (p : Right) (id : ℕ) → slice_get ts d ≡ Some (Some p) → slice_get rights d ≡ Some (Some id) → is_write p.mode ≡ false → 0 < over (read_by id) ts rights
+    hit_read : (ts : Typing) (rights : Rights) (d : ℕ) (p : RightType) (id : ℕ) → slice_get ts d ≡ Some (Some p) → slice_get rights d ≡ Some (Some id) → is_write p.mode ≡ false → 0 < over (read_by id) ts rights
     hit_read ts rights d p id a b reads =
         let h = emptied (read_by id) ts rights d p id refl a b in
         let one : read_by id (Some p) (Some id) ≡ 1 = rw reads (hits_same id) in
         omega arith
 
-    hit_write : (ts : Typing) (rights : Rights) (d : ℕ) (p : Right) (id : ℕ) → slice_get ts d ≡ Some (Some p) → slice_get rights d ≡ Some (Some id) → is_write p.mode ≡ true → 0 < over (write_by id) ts rights
+    hit_write : (ts : Typing) (rights : Rights) (d : ℕ) (p : RightType) (id : ℕ) → slice_get ts d ≡ Some (Some p) → slice_get rights d ≡ Some (Some id) → is_write p.mode ≡ true → 0 < over (write_by id) ts rights
     hit_write ts rights d p id a b writes =
         let h = emptied (write_by id) ts rights d p id refl a b in
         let one : write_by id (Some p) (Some id) ≡ 1 = rw writes (hits_same id) in
         omega arith
 
-    some_hit : (ts : Typing) (rights : Rights) (d : ℕ) (p : Right) (id : ℕ) → slice_get ts d ≡ Some (Some p) → slice_get rights d ≡ Some (Some id) → 0 < over (read_by id) ts rights + over (write_by id) ts rights
+    some_hit : (ts : Typing) (rights : Rights) (d : ℕ) (p : RightType) (id : ℕ) → slice_get ts d ≡ Some (Some p) → slice_get rights d ≡ Some (Some id) → 0 < over (read_by id) ts rights + over (write_by id) ts rights
     some_hit ts rights d p id a b = elim (cases_Bool (is_write p.mode)) [ inl y ↦ let h = hit_write ts rights d p id a b y in omega arith | inr n ↦ let h = hit_read ts rights d p id a b n in omega arith ]
 
-    filled : (d : ℕ) (ts : Typing) (k : Context) (r w : ℕ → ℕ) (p : Right) → Fits ts k r w → (f : Found k.store k.rights ts d p) (x : Datum) → get k.store.live f.id ≡ Some x → At ts k r w d p
+    filled : (d : ℕ) (ts : Typing) (k : Context) (r w : ℕ → ℕ) (p : RightType) → Fits ts k r w → (f : Found k.store k.rights ts d p) (x : Datum) → get k.store.live f.id ≡ Some x → At ts k r w d p
     filled d ts k r w p fits f x live =
         let c = balanced_some k.store.live (λ e. over (read_by e) ts k.rights + r e) (λ e. over (write_by e) ts k.rights + w e) f.id x fits.balanced live in
         record {
@@ -174,7 +174,7 @@ at_right d ts k r w p fits at = located d ts k r w p fits (found k.store k.right
           has_write = hit_write ts k.rights d p f.id f.typed f.register;
         }
 
-    located : (d : ℕ) (ts : Typing) (k : Context) (r w : ℕ → ℕ) (p : Right) → Fits ts k r w → Found k.store k.rights ts d p → At ts k r w d p
+    located : (d : ℕ) (ts : Typing) (k : Context) (r w : ℕ → ℕ) (p : RightType) → Fits ts k r w → Found k.store k.rights ts d p → At ts k r w d p
     located d ts k r w p fits f =
         let some = some_hit ts k.rights d p f.id f.typed f.register in
         let there_is = held_is_there k.store.live (λ e. over (read_by e) ts k.rights + r e) (λ e. over (write_by e) ts k.rights + w e) f.id fits.balanced (omega arith) in

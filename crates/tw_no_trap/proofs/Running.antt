@@ -11,7 +11,7 @@ use Rattle.tw_types.specs.Store.{Datum, is_closed}
 use Rattle.tw_code.specs.declared.flow.Flow.{Flow}
 use Rattle.tw_code.specs.declared.flow.Flow.TheVariants.{Straight, Branch, Jump, Begin, Close, Stop}
 use Rattle.tw_code.specs.declared.flow.Way.{Way}
-use Rattle.tw_code.specs.declared.flow.Way.TheVariants.{Done, Refused}
+use Rattle.tw_code.specs.declared.flow.Way.TheVariants.{Completed, Skipped}
 use Rattle.tw_code.specs.declared.instr.Instr.{Instr}
 use Rattle.tw_code.specs.declared.procedure.Procedure.{Procedure}
 use Rattle.tw_code.specs.accepting.Flow.{flow_of, flows, onward}
@@ -21,7 +21,7 @@ use Rattle.tw_code.specs.format.Program.{IsProgram}
 use Rattle.tw_code.specs.machine.Holders.{Typings, typing_at, typing_of}
 use Rattle.tw_code.specs.machine.Machine.{local_steps}
 use Rattle.tw_code.specs.machine.Position.{Position, goal_of}
-use Rattle.tw_code.specs.machine.Rights.{Right, Rights, Typing, right_at}
+use Rattle.tw_code.specs.machine.Rights.{RightType, Rights, Typing, right_at}
 use Rattle.tw_code.specs.machine.State.{Frame, State, context_of}
 use Rattle.tw_budget.proofs.Places.{end_within, no_refusals, not_last, stays}
 use Rattle.tw_budget.specs.Sound.{IsSound}
@@ -39,18 +39,18 @@ use Rattle.tw_no_trap.proofs.Values.{AllYes}
 
 -- each later successor of a place is in the code
 onward_inside : (code : List Flow) → IsSound code → (place next : ℕ) (flow : Flow) (way : Way) → slice_get code place ≡ Some flow → onward way place flow ≡ Some next → next < length code
-onward_inside code s place next Straight Done at e = omega (arith, same_Some (place + 1) next e, not_last code s place Straight at refl)
-onward_inside code s place next Straight Refused at e = cc
-onward_inside code s place next (Branch skip) Done at e = omega (arith, same_Some (place + 1) next e, not_last code s place (Branch skip) at refl)
-onward_inside code s place next (Branch skip) Refused at e = subst (λ (n : ℕ). n < length code) (same_Some (goal_of place skip) next e) (stays code s place (goal_of place skip) (no_refusals code s place (Branch skip) at).0).0
-onward_inside code s place next (Jump skip) Done at e = subst (λ (n : ℕ). n < length code) (same_Some (goal_of place skip) next e) (stays code s place (goal_of place skip) (no_refusals code s place (Jump skip) at).0).0
-onward_inside code s place next (Jump skip) Refused at e = cc
-onward_inside code s place next (Begin turns) Done at e = omega (arith, same_Some (place + 1) next e, not_last code s place (Begin turns) at refl)
-onward_inside code s place next (Begin turns) Refused at e = cc
-onward_inside code s place next Close Done at e = omega (arith, same_Some (place + 1) next e, not_last code s place Close at refl)
-onward_inside code s place next Close Refused at e = cc
-onward_inside code s place next Stop Done at e = cc
-onward_inside code s place next Stop Refused at e = cc
+onward_inside code s place next Straight Completed at e = omega (arith, same_Some (place + 1) next e, not_last code s place Straight at refl)
+onward_inside code s place next Straight Skipped at e = cc
+onward_inside code s place next (Branch skip) Completed at e = omega (arith, same_Some (place + 1) next e, not_last code s place (Branch skip) at refl)
+onward_inside code s place next (Branch skip) Skipped at e = subst (λ (n : ℕ). n < length code) (same_Some (goal_of place skip) next e) (stays code s place (goal_of place skip) (no_refusals code s place (Branch skip) at).0).0
+onward_inside code s place next (Jump skip) Completed at e = subst (λ (n : ℕ). n < length code) (same_Some (goal_of place skip) next e) (stays code s place (goal_of place skip) (no_refusals code s place (Jump skip) at).0).0
+onward_inside code s place next (Jump skip) Skipped at e = cc
+onward_inside code s place next (Begin turns) Completed at e = omega (arith, same_Some (place + 1) next e, not_last code s place (Begin turns) at refl)
+onward_inside code s place next (Begin turns) Skipped at e = cc
+onward_inside code s place next Close Completed at e = omega (arith, same_Some (place + 1) next e, not_last code s place Close at refl)
+onward_inside code s place next Close Skipped at e = cc
+onward_inside code s place next Stop Completed at e = cc
+onward_inside code s place next Stop Skipped at e = cc
 
 -- where the typing has nothing, a register is empty
 empty_where_free : (s : State) (typing : Typing) (rights : Rights) (k : ℕ) (o : Option ℕ) → RightsFit s.store typing rights → right_at typing k ≡ None → right_at rights k ≡ o → o ≡ None
@@ -61,7 +61,7 @@ empty_where_free s typing rights k (Some d) fit free at =
     cc
 
 -- a register holds a live datum of the right's type, closed where the right says so
-pub record HoldsLive (s : State) (f : Frame) (k : ℕ) (right : Right) : Type 0 where
+pub record HoldsLive (s : State) (f : Frame) (k : ℕ) (right : RightType) : Type 0 where
   pub id : ℕ
   pub register : right_at f.rights k ≡ Some id
   pub x : Datum
@@ -137,13 +137,13 @@ module _ (program : List Procedure) (typings : Typings) (is : IsProgram program)
     -- ---- its registers
 
     -- where the typing has a right, such a datum stands in the register
-    pub register_holds : (k : ℕ) (right : Right) → right_at (typing_of typings f) k ≡ Some right → HoldsLive s f k right
+    pub register_holds : (k : ℕ) (right : RightType) → right_at (typing_of typings f) k ≡ Some right → HoldsLive s f k right
     register_holds k right typed =
         let h = at_right k (typing_of typings f) (context_of s f) (other_reads program typings s a) (other_writes program typings s a) right (fits_of program typings s held a f runs) typed in
         record { id = h.id; register = ap option_flatten h.register; x = h.x; live = h.live; ty = h.ty; closed = h.closed }
 
     -- where a register holds an id, the typing has a right
-    pub register_is_typed : (k d : ℕ) → right_at f.rights k ≡ Some d → (right : Right) × (right_at (typing_of typings f) k ≡ Some right)
+    pub register_is_typed : (k d : ℕ) → right_at f.rights k ≡ Some d → (right : RightType) × (right_at (typing_of typings f) k ≡ Some right)
     register_is_typed k d at = typed_where_held s.store (typing_of typings f) f.rights k d (held.types.rights a f runs) at
 
     -- where the typing has none, it is empty

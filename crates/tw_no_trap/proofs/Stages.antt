@@ -18,7 +18,7 @@ use Rattle.tw_types.specs.StoreCalls.{with_subscriber}
 use Rattle.tw_types.specs.Task.{Arg, ValueArg, RightArg, Task}
 use Rattle.tw_code.specs.declared.procedure.Procedure.{Procedure}
 use Rattle.tw_code.specs.machine.State.{State, with_stage, with_task}
-use Rattle.tw_code.specs.machine.Rights.{Right, right_of}
+use Rattle.tw_code.specs.machine.Rights.{RightType, right_of}
 use Rattle.tw_types.specs.Counts.{HasWriters}
 use Rattle.tw_code.specs.machine.Holders.{Typings, typing_of, rule_reads, rule_writes, task_reads, task_writes, reads_of, writes_of}
 use Rattle.tw_no_trap.specs.Invariant.{ArgFits, ArgsFit, right_until, is_asked_for, RuleArgsFit, NumbersHeld, TypesHeld, CountsHeld}
@@ -30,7 +30,7 @@ use Rattle.tw_no_trap.proofs.Sums.{sum_apart, sum_new, sum_replaced}
 
 -- ---- what another store leaves of the arguments
 
-pub arg_kept : (s t : Store) → Undisturbed s t → (p : Param) (o : Option Right) (arg : Arg) → ArgFits s p o arg → ArgFits t p o arg
+pub arg_kept : (s t : Store) → Undisturbed s t → (p : Param) (o : Option RightType) (arg : Arg) → ArgFits s p o arg → ArgFits t p o arg
 arg_kept s t u p None (ValueArg x) h = h
 arg_kept s t u p None (RightArg id) h = h
 arg_kept s t u p (Some right) (ValueArg x) h = h

@@ -17,7 +17,7 @@ use Rattle.tw_types.specs.Store.{Store}
 use Rattle.tw_types.specs.Task.{Arg, ValueArg, RightArg, Task, Tasks, is_eligible, better, best_of, best}
 use Rattle.tw_types.specs.DataType.{same_scalar}
 use Rattle.tw_types.specs.Value.{scalar_of, blank_of}
-use Rattle.tw_code.specs.machine.Rights.{Rights, first_rights, Right, Typing}
+use Rattle.tw_code.specs.machine.Rights.{Rights, first_rights, RightType, Typing}
 use Rattle.tw_code.specs.machine.State.{values_in, ids_in, filled}
 use Rattle.tw_types.specs.Mode.{is_val}
 use Rattle.tw_code.specs.accepting.Typing.{value_types, rights_given, start_typing, values_fit}
@@ -130,18 +130,18 @@ start_fits s params args h =
 
 -- ---- what it holds
 
-over_joined : (by : Option Right → Option ℕ → ℕ) (xs us : Typing) (ys vs : Rights) → length xs ≡ length ys → over by (xs ++ us) (ys ++ vs) ≡ over by xs ys + over by us vs
+over_joined : (by : Option RightType → Option ℕ → ℕ) (xs us : Typing) (ys vs : Rights) → length xs ≡ length ys → over by (xs ++ us) (ys ++ vs) ≡ over by xs ys + over by us vs
 over_joined by [] us [] vs e = omega arith
 over_joined by [] us (y ∷ ys) vs e = absurd (omega arith)
 over_joined by (x ∷ xs) us [] vs e = absurd (omega arith)
 over_joined by (x ∷ xs) us (y ∷ ys) vs e = let h = over_joined by xs us ys vs (omega arith) in omega arith
 
-over_none : (by : Option Right → Option ℕ → ℕ) → ((o : Option ℕ) → by None o ≡ 0) → (n : ℕ) (ys : Rights) → over by (replicate n None) ys ≡ 0
+over_none : (by : Option RightType → Option ℕ → ℕ) → ((o : Option ℕ) → by None o ≡ 0) → (n : ℕ) (ys : Rights) → over by (replicate n None) ys ≡ 0
 over_none by none zero ys = refl
 over_none by none (suc n) [] = refl
 over_none by none (suc n) (y ∷ ys) = let h = over_none by none n ys in let z = none y in omega arith
 
-over_given : (by : Option Right → Option ℕ → ℕ) → ((o : Option ℕ) → by None o ≡ 0) → (s : Store) (params : List Param) (args : List Arg) → ArgsFit s params args → over by (map Some (rights_given params)) (map Some (ids_in args)) ≡ over_params by params args
+over_given : (by : Option RightType → Option ℕ → ℕ) → ((o : Option ℕ) → by None o ≡ 0) → (s : Store) (params : List Param) (args : List Arg) → ArgsFit s params args → over by (map Some (rights_given params)) (map Some (ids_in args)) ≡ over_params by params args
 over_given by none s [] [] h = refl
 over_given by none s [] (arg ∷ args) h = absurd h
 over_given by none s (p ∷ params) [] h = absurd h
@@ -160,7 +160,7 @@ length_some [] = refl
 length_some (x ∷ xs) = let h = length_some xs in omega arith
 
 -- the registers hold what the arguments hold
-pub over_start : (by : Option Right → Option ℕ → ℕ) → ((o : Option ℕ) → by None o ≡ 0) → (s : Store) (params : List Param) (args : List Arg) → ArgsFit s params args → over by (start_typing params) (first_rights (ids_in args)) ≡ over_params by params args
+pub over_start : (by : Option RightType → Option ℕ → ℕ) → ((o : Option ℕ) → by None o ≡ 0) → (s : Store) (params : List Param) (args : List Arg) → ArgsFit s params args → over by (start_typing params) (first_rights (ids_in args)) ≡ over_params by params args
 over_start by none s params args h =
     let lengths : length (map Some (rights_given params)) ≡ length (map Some (ids_in args)) = length_some (rights_given params) ∙ same_length s params args h ∙ sym (length_some (ids_in args)) in
     let joined = over_joined by (map Some (rights_given params)) (replicate (16 - length (rights_given params)) None) (map Some (ids_in args)) (replicate (16 - length (ids_in args)) None) lengths in

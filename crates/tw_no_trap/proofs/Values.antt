@@ -14,7 +14,7 @@ use Rattle.tw_types.specs.Value.{scalar_of}
 use Rattle.tw_code.specs.declared.flow.Flow.{Flow}
 use Rattle.tw_code.specs.declared.flow.Flow.TheVariants.{Straight, Branch, Jump, Begin, Close}
 use Rattle.tw_code.specs.declared.flow.Way.{Way}
-use Rattle.tw_code.specs.declared.flow.Way.TheVariants.{Done, Refused}
+use Rattle.tw_code.specs.declared.flow.Way.TheVariants.{Completed, Skipped}
 use Rattle.tw_code.specs.declared.instr.Arithmetic.{Arithmetic}
 use Rattle.tw_code.specs.declared.instr.LocalInstr.{LocalInstr}
 use Rattle.tw_code.specs.declared.instr.LocalInstr.TheVariants as local
@@ -109,15 +109,15 @@ module _ (registers : List Scalar) (at : Position) (fits : ValuesFit registers a
       (is.0, rw found.1 is.1)
 
   pub set_moves : (register : ℕ) (ty : Scalar) (x : Value) → slice_get registers register ≡ Some ty → scalar_of x ≡ ty → Moves registers Straight at (at_next_place (with_value at register x))
-  set_moves register ty x e is = record { way = Done; goes_on = refl; values = values_set registers at.values register ty x fits e is }
+  set_moves register ty x e is = record { way = Completed; goes_on = refl; values = values_set registers at.values register ty x fits e is }
 
   pub result_moves : {A : Type 0} (make : A → Value) (o : Option A) (register skip : ℕ) (ty : Scalar) → slice_get registers register ≡ Some ty → ((a : A) → scalar_of (make a) ≡ ty) → Moves registers (Branch skip) at (with_result at register skip (option_map make o))
-  result_moves make None register skip ty e is = record { way = Refused; goes_on = refl; values = fits }
-  result_moves make (Some a) register skip ty e is = record { way = Done; goes_on = refl; values = values_set registers at.values register ty (make a) fits e (is a) }
+  result_moves make None register skip ty e is = record { way = Skipped; goes_on = refl; values = fits }
+  result_moves make (Some a) register skip ty e is = record { way = Completed; goes_on = refl; values = values_set registers at.values register ty (make a) fits e (is a) }
 
   branch_moves : (b : Bool) (skip : ℕ) → Moves registers (Branch skip) at (if b then at_goal at skip else at_next_place at)
-  branch_moves true skip = record { way = Refused; goes_on = refl; values = fits }
-  branch_moves false skip = record { way = Done; goes_on = refl; values = fits }
+  branch_moves true skip = record { way = Skipped; goes_on = refl; values = fits }
+  branch_moves false skip = record { way = Completed; goes_on = refl; values = fits }
 
   same_goes : (x y : Value) → scalar_of x ≡ scalar_of y → (b : Bool) × (same_value x y ≡ Ok b)
   same_goes (value.Int a) (value.Int b) e = (int_eq a b, refl)
@@ -195,7 +195,7 @@ module _ (registers : List Scalar) (at : Position) (fits : ValuesFit registers a
       (result_moves registers at fits value.Int (int_shown_as a.0) to skip scalar.Int declared (λ n. refl)))
 
   jump_moves : (skip : ℕ) → Goes (local_instr (local.Jump skip) at) (Moves registers (Jump skip) at)
-  jump_moves skip = record { way = Done; goes_on = refl; values = fits }
+  jump_moves skip = record { way = Completed; goes_on = refl; values = fits }
 
   equal_moves : (left right skip : ℕ) → AllYes (asks_alike registers left right) → Goes (local_instr (local.JumpEqual left right skip) at) (Moves registers (Branch skip) at)
   equal_moves left right skip met =
@@ -217,10 +217,10 @@ module _ (registers : List Scalar) (at : Position) (fits : ValuesFit registers a
       (branch_moves registers at fits (int_lt a.0 b.0) skip))
 
   repeat_moves : (turns : ℕ) → Goes (local_instr (local.Repeat turns) at) (Moves registers (Begin turns) at)
-  repeat_moves turns = record { way = Done; goes_on = refl; values = fits }
+  repeat_moves turns = record { way = Completed; goes_on = refl; values = fits }
 
   end_moves : HasLoop at → Goes (local_instr local.End at) (Moves registers Close at)
-  end_moves (cursor, e) = goes (ok_or (after_end at.place at.loops) NoLoop) _ _ cursor (at_some (after_end at.place at.loops) NoLoop cursor e) (record { way = Done; goes_on = e; values = fits })
+  end_moves (cursor, e) = goes (ok_or (after_end at.place at.loops) NoLoop) _ _ cursor (at_some (after_end at.place at.loops) NoLoop cursor e) (record { way = Completed; goes_on = e; values = fits })
 
   -- each of them, a line an instruction
   pub local_moves : (i : LocalInstr) → AllYes (asks_local registers i) → (local_flow i ≡ Close → HasLoop at) → Goes (local_instr i at) (Moves registers (local_flow i) at)

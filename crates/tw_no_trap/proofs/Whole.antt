@@ -20,7 +20,7 @@ use Rattle.tw_code.specs.declared.instr.Instr.{Instr}
 use Rattle.tw_code.specs.declared.instr.Instr.TheVariants as instr
 use Rattle.tw_code.specs.declared.procedure.Procedure.{Procedure}
 use Rattle.tw_code.specs.machine.Data.{Context, data_instr}
-use Rattle.tw_code.specs.machine.Rights.{right_at, Right, Typing}
+use Rattle.tw_code.specs.machine.Rights.{right_at, RightType, Typing}
 use Rattle.tw_code.specs.machine.State.{State, Frame, after_context, context_of}
 use Rattle.tw_code.specs.machine.Machine.{Standing, call_by, standing_of, call_event}
 use Rattle.tw_code.specs.machine.Position.{at_next_place}
@@ -42,7 +42,7 @@ use Rattle.tw_no_trap.proofs.Sums.{sum_apart, sum_replaced}
 
 -- ---- a write that is copied has a holder
 
-writer_found : (typing : Typing) (c : Context) (r w : ℕ → ℕ) (from : ℕ) (q : Right) → is_write q.mode ≡ true → (h : At typing c r w from q) → (id : ℕ) (x : Datum) → right_at c.rights from ≡ Some id → get c.store.live id ≡ Some x → 0 < x.writes
+writer_found : (typing : Typing) (c : Context) (r w : ℕ → ℕ) (from : ℕ) (q : RightType) → is_write q.mode ≡ true → (h : At typing c r w from q) → (id : ℕ) (x : Datum) → right_at c.rights from ≡ Some id → get c.store.live id ≡ Some x → 0 < x.writes
 writer_found typing c r w from q mode h id x at there =
     let id_is : h.id ≡ id = same_Some h.id id (sym (ap option_flatten h.register) ∙ at) in
     let x_is : h.x ≡ x = same_Some h.x x (sym h.live ∙ ap (get c.store.live) id_is ∙ there) in

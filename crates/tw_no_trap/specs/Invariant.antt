@@ -22,7 +22,7 @@ use Rattle.tw_code.specs.accepting.Flow.{flows}
 use Rattle.tw_code.specs.accepting.Walk.{IsBudget}
 use Rattle.tw_code.specs.machine.Holders.{Typings, typing_of, reads_of, writes_of}
 use Rattle.tw_code.specs.machine.Position.{Loop}
-use Rattle.tw_code.specs.machine.Rights.{Right, Rights, Typing, right_of}
+use Rattle.tw_code.specs.machine.Rights.{RightType, Rights, Typing, right_of}
 use Rattle.tw_code.specs.machine.State.{Frame, State}
 use Rattle.tw_budget.specs.Frames.{IsWithinBudget}
 use Rattle.tw_no_trap.specs.Noticed.{NoticesHeld}
@@ -30,12 +30,12 @@ use Rattle.tw_no_trap.specs.Noticed.{NoticesHeld}
 -- ---- what fits
 
 -- the id was given, and if its datum is live, it is of the right's type, and closed where the right says so
-pub record Holds (s : Store) (right : Right) (id : ℕ) : Type 0 where
+pub record Holds (s : Store) (right : RightType) (id : ℕ) : Type 0 where
   pub given : id < s.next
   pub ty : (x : Datum) → get s.live id ≡ Some x → x.ty ≡ right.ty
   pub closed : (x : Datum) → get s.live id ≡ Some x → is_closed_mode right.mode ≡ true → is_closed x ≡ true
 
-abbrev pub RightFits : Store → Option Right → Option ℕ → Type 0
+abbrev pub RightFits : Store → Option RightType → Option ℕ → Type 0
 RightFits s None None = Unit {0}
 RightFits s None (Some id) = ⊥
 RightFits s (Some right) None = ⊥
@@ -56,7 +56,7 @@ ValuesFit (ty ∷ registers) [] = ⊥
 ValuesFit (ty ∷ registers) (x ∷ values) = (scalar_of x ≡ ty) × ValuesFit registers values
 
 -- an argument is a value of the parameter's type, or the id of such a datum
-abbrev pub ArgFits : Store → Param → Option Right → Arg → Type 0
+abbrev pub ArgFits : Store → Param → Option RightType → Arg → Type 0
 ArgFits s p None (ValueArg x) = scalar_of x ≡ p.ty.scalar
 ArgFits s p None (RightArg id) = ⊥
 ArgFits s p (Some right) (ValueArg x) = ⊥
@@ -70,11 +70,11 @@ ArgsFit s (p ∷ params) [] = ⊥
 ArgsFit s (p ∷ params) (arg ∷ args) = ArgFits s p (right_of p) arg × ArgsFit s params args
 
 -- a plain read for what isn't a value
-abbrev pub read_until : Param → Option Right
+abbrev pub read_until : Param → Option RightType
 read_until p = if is_val p.mode then None else Some (record { mode = Ref; ty = p.ty })
 
 -- what a rule's parameter holds: of a `closed` one a plain read, until it is ready
-abbrev pub right_until : Stage → Param → Option Right
+abbrev pub right_until : Stage → Param → Option RightType
 right_until Free p = right_of p
 right_until Unasked p = read_until p
 right_until Waiting p = read_until p

@@ -2,7 +2,7 @@ pub mod Kept
 pub mod Bests
 pub mod Members
 pub mod Order
-pub mod Places
+pub mod Lanes
 pub mod Runs
 pub mod Ranking
 pub mod Rooms

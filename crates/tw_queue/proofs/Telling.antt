@@ -17,7 +17,7 @@ use Rattle.tw_rights.specs.declared.arg.Arg.{Arg}
 use Rattle.tw_queue.specs.declared.rank.Rank.{Rank}
 use Rattle.tw_queue.specs.declared.waiting.Waiting.{Waiting}
 use Rattle.tw_queue.specs.Ranks.{rank_cmp}
-use Rattle.tw_queue.specs.Lists.{place_of, IsBest, IsOwnPlace}
+use Rattle.tw_queue.specs.Lists.{lane_of, IsBest, IsOwnLane}
 use Rattle.tw_queue.specs.Queues.{IsTarget, handed_out}
 use Rattle.tw_queue.specs.Index.{Ranking, IsRankBest}
 use Rattle.tw_queue.specs.Indexed.{IsIndex, IsEntryAt, rank_of, task_in}
@@ -32,14 +32,14 @@ pub record Tells (actor : Actor) (entry : Entries) (tasks : TasksOf Arg) (rank :
   pub there : entry rank.slot ≡ Some waiting
   pub best_is : best actor tasks ≡ Some (waiting.task.no, task_in waiting)
 
-for_itself : (target : Option ℕ) (number place : ℕ) → IsTarget target → place_of target ≡ place → IsOwnPlace number place → is_for target number ≡ true
-for_itself None number place few at own = refl
-for_itself (Some t) number place few at (inl last) = absurd (omega arith)
-for_itself (Some t) number place few at (inr same) = subst (λ n. nat_eq t n ≡ true) (at ∙ same) (nat_itself t)
+for_itself : (target : Option ℕ) (number lane : ℕ) → IsTarget target → lane_of target ≡ lane → IsOwnLane number lane → is_for target number ≡ true
+for_itself None number lane few at own = refl
+for_itself (Some t) number lane few at (inl last) = absurd (omega arith)
+for_itself (Some t) number lane few at (inr same) = subst (λ n. nat_eq t n ≡ true) (at ∙ same) (nat_itself t)
 
-own_place : (target : Option ℕ) (number : ℕ) → is_for target number ≡ true → IsOwnPlace number (place_of target)
-own_place None number e = inl refl
-own_place (Some t) number e = inr (nat_same t number e)
+own_lane : (target : Option ℕ) (number : ℕ) → is_for target number ≡ true → IsOwnLane number (lane_of target)
+own_lane None number e = inl refl
+own_lane (Some t) number e = inr (nat_same t number e)
 
 -- what the slots decide last
 but_for_slots : (o p q : Ordering) → is_lt (ordering_then o (ordering_then p q)) ≡ false → is_lt (ordering_then o p) ≡ false
@@ -53,12 +53,12 @@ module _ (entry : Entries) (ranks : Ranking) (is : IsIndex entry ranks) (tasks :
   module _ (actor : Actor) (kind : Kind) (number : ℕ) (own : (k : Kind) → may_take actor k ≡ true → k ≡ kind) (may : may_take actor kind ≡ true) (is_number : number_in_kind actor ≡ number) where
     -- the rank of each task that the actor may take is one of those
     candidate : (q : ℕ) (v : Waiting) → entry q ≡ Some v → is_eligible actor (task_in v) ≡ true → Contains (ranks kind 16) (rank_of q v) ⊎ Contains (ranks kind number) (rank_of q v)
-    candidate q v e eligible = by (own_place v.target number (subst (λ n. is_for v.target n ≡ true) is_number (and_parts (may_take actor v.kind) _ eligible).1))
+    candidate q v e eligible = by (own_lane v.target number (subst (λ n. is_for v.target n ≡ true) is_number (and_parts (may_take actor v.kind) _ eligible).1))
       where
-        there : Contains (ranks kind (place_of v.target)) (rank_of q v)
-        there = subst (λ k. Contains (ranks k (place_of v.target)) (rank_of q v)) (own v.kind (and_parts (may_take actor v.kind) _ eligible).0) (is.complete q v e)
+        there : Contains (ranks kind (lane_of v.target)) (rank_of q v)
+        there = subst (λ k. Contains (ranks k (lane_of v.target)) (rank_of q v)) (own v.kind (and_parts (may_take actor v.kind) _ eligible).0) (is.complete q v e)
 
-        by : IsOwnPlace number (place_of v.target) → Contains (ranks kind 16) (rank_of q v) ⊎ Contains (ranks kind number) (rank_of q v)
+        by : IsOwnLane number (lane_of v.target) → Contains (ranks kind 16) (rank_of q v) ⊎ Contains (ranks kind number) (rank_of q v)
         by (inl any) = inl (subst (λ p. Contains (ranks kind p) (rank_of q v)) any there)
         by (inr same) = inr (subst (λ p. Contains (ranks kind p) (rank_of q v)) same there)
 

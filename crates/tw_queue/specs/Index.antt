@@ -9,7 +9,7 @@ use Rattle.tw_queue.specs.declared.index.Index.{Index}
 use Rattle.tw_queue.specs.declared.rank.Rank.{Rank}
 use Rattle.tw_queue.specs.Lists.{Listed, ranks_at, IsBest}
 
--- the ranks of a kind at a place
+-- the ranks of a kind at a lane
 abbrev pub Ranking : Type 0
 Ranking = Kind → ℕ → List Rank
 
@@ -18,23 +18,23 @@ listed Control index = index.control
 listed Leaf index = index.leaf
 
 abbrev pub ranks_of : Index → Ranking
-ranks_of index kind place = ranks_at (listed kind index).places place
+ranks_of index kind lane = ranks_at (listed kind index).lanes lane
 
 abbrev pub has_room_for : Kind → Index → Bool
 has_room_for kind index = (listed kind index).has_room
 
--- only this kind at this place has others
+-- only this kind at this lane has others
 abbrev pub IsHereOrSame : Kind → ℕ → Ranking → Ranking → Type 0
-IsHereOrSame kind place old new = (k : Kind) (p : ℕ) → ((k ≡ kind) × (p ≡ place)) ⊎ (new k p ≡ old k p)
+IsHereOrSame kind lane old new = (k : Kind) (p : ℕ) → ((k ≡ kind) × (p ≡ lane)) ⊎ (new k p ≡ old k p)
 
 -- the first has there one rank more than the second
-pub record IsRankAdded (kind : Kind) (place : ℕ) (rank : Rank) (more less : Ranking) : Type 0 where
-  pub here : IsPermutation (rank ∷ less kind place) (more kind place)
-  pub others : IsHereOrSame kind place less more
+pub record IsRankAdded (kind : Kind) (lane : ℕ) (rank : Rank) (more less : Ranking) : Type 0 where
+  pub here : IsPermutation (rank ∷ less kind lane) (more kind lane)
+  pub others : IsHereOrSame kind lane less more
 
--- the rank has left its kind and place
+-- the rank has left its kind and lane
 abbrev pub IsRankGone : Rank → Ranking → Ranking → Type 0
-IsRankGone rank old new = (kind : Kind) × (place : ℕ) × IsRankAdded kind place rank old new
+IsRankGone rank old new = (kind : Kind) × (lane : ℕ) × IsRankAdded kind lane rank old new
 
 -- the first rank of those that the actor may take
 abbrev pub IsRankBest : Actor → Ranking → Option Rank → Type 0

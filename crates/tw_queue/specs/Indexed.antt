@@ -8,7 +8,7 @@ use Rattle.tw_rights.specs.declared.arg.Arg.{Arg}
 use Rattle.tw_queue.specs.declared.rank.Rank.{Rank}
 use Rattle.tw_queue.specs.declared.waiting.Waiting.{Waiting}
 use Rattle.tw_queue.specs.Index.{Ranking}
-use Rattle.tw_queue.specs.Lists.{place_of}
+use Rattle.tw_queue.specs.Lists.{lane_of}
 use Rattle.tw_queue.specs.Queues.{IsTarget, waiting}
 
 -- a task as it waits in a slot
@@ -28,11 +28,11 @@ tasks_in slots = from_entries (numbered slots)
 abbrev pub rank_of : ℕ → Waiting → Rank
 rank_of slot w = record { priority = w.priority; number = w.task.no; slot = slot }
 
--- the task in the rank's slot has this kind, this place, and its priority and number
+-- the task in the rank's slot has this kind, this lane, and its priority and number
 abbrev pub IsEntryAt : Kind → ℕ → Rank → Option Waiting → Type 0
-IsEntryAt kind place rank None = ⊥
-IsEntryAt kind place rank (Some w) =
-    (w.kind ≡ kind) × (place_of w.target ≡ place) × (w.priority ≡ rank.priority) × (w.task.no ≡ rank.number)
+IsEntryAt kind lane rank None = ⊥
+IsEntryAt kind lane rank (Some w) =
+    (w.kind ≡ kind) × (lane_of w.target ≡ lane) × (w.priority ≡ rank.priority) × (w.task.no ≡ rank.number)
 
 -- no number stands in two slots
 abbrev pub AreApart : (ℕ → Option Waiting) → Type 0
@@ -40,10 +40,10 @@ AreApart entry = (p q : ℕ) (v w : Waiting) → entry p ≡ Some v → entry q 
 
 -- each rank is that of the task in its slot, each task has its rank, and no slot and no number stands twice
 pub record IsIndex (entry : ℕ → Option Waiting) (ranks : Ranking) : Type 0 where
-  pub sound : (kind : Kind) (place : ℕ) (rank : Rank) → Contains (ranks kind place) rank
-      → IsEntryAt kind place rank (entry rank.slot)
+  pub sound : (kind : Kind) (lane : ℕ) (rank : Rank) → Contains (ranks kind lane) rank
+      → IsEntryAt kind lane rank (entry rank.slot)
   pub complete : (slot : ℕ) (w : Waiting) → entry slot ≡ Some w
-      → Contains (ranks w.kind (place_of w.target)) (rank_of slot w)
-  pub distinct : (kind : Kind) (place : ℕ) → IsDistinct nat_eq (map (λ rank. rank.slot) (ranks kind place))
+      → Contains (ranks w.kind (lane_of w.target)) (rank_of slot w)
+  pub distinct : (kind : Kind) (lane : ℕ) → IsDistinct nat_eq (map (λ rank. rank.slot) (ranks kind lane))
   pub targets : (slot : ℕ) (w : Waiting) → entry slot ≡ Some w → IsTarget w.target
   pub apart : AreApart entry

@@ -2,7 +2,7 @@
 
 ghost use Rattle.std.specs.Prelude.{◌≡◌, ℕ, [], IfNone, IfOk, IfSome, IsOk, OnErr, OnOk, true};
 ghost use Rattle.tw_types.specs.declared.actor.Kind.{Kind};
-ghost use Rattle.tw_queue.specs.Lists.{place_of};
+ghost use Rattle.tw_queue.specs.Lists.{lane_of};
 ghost use Rattle.tw_queue.specs.Index.{ranks_of, has_room_for, IsRankBest, IsRankAdded, IsRankGone};
 ghost use Rattle.tw_queue.specs.Queues.{IsTarget};
 
@@ -21,7 +21,7 @@ pub struct Index {
 impl Index {
     /// No ranks.
     pub fn new(alloc: Global) -> Result<Index, AllocError>
-        ensures { IfOk result (λ index. (kind : Kind) (place : ℕ) → ranks_of index kind place ≡ []) }
+        ensures { IfOk result (λ index. (kind : Kind) (lane : ℕ) → ranks_of index kind lane ≡ []) }
     {
         let control = Lists::new(alloc)?;
         let leaf = Lists::new(alloc)?;
@@ -44,7 +44,7 @@ impl Index {
     /// Adds the rank of a task.
     pub fn push(&mut self, kind: Kind, target: Option<u8>, rank: Rank) -> Result<(), AllocError>
         requires { IsTarget target }
-        ensures pushed { OnOk result (IsRankAdded kind (place_of target) rank (ranks_of self.new) (ranks_of self.old)) }
+        ensures pushed { OnOk result (IsRankAdded kind (lane_of target) rank (ranks_of self.new) (ranks_of self.old)) }
         ensures refused { OnErr result (ranks_of self.new ≡ ranks_of self.old) }
         ensures room { OnErr result ((other : Kind) → has_room_for other self.old ≡ true → has_room_for other self.new ≡ true) }
         ensures reserved { has_room_for kind self.old ≡ true → IsOk result }

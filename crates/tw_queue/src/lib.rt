@@ -3,7 +3,7 @@
 
 mod index;
 mod lists;
-mod place;
+mod lane;
 mod queues;
 mod rank;
 mod slots;

@@ -1,9 +1,9 @@
 //! The ranks of the tasks of one kind.
 
 ghost use Rattle.std.specs.Prelude.{◌≡◌, ◌<◌, ◌≤◌, [], IsOk, IfOk, IfSome, IfNone, OnOk, OnErr, replicate, true};
-ghost use Rattle.tw_queue.specs.Lists.{place_of, ranks_at, IsPushed, IsFirstAt, IsBestPlace, IsBest, IsTaken};
+ghost use Rattle.tw_queue.specs.Lists.{lane_of, ranks_at, IsPushed, IsFirstAt, IsBestLane, IsBest, IsTaken};
 
-use crate::place::Place;
+use crate::lane::Lane;
 use crate::rank::Rank;
 use std::alloc::{AllocError, Global};
 use std::marker::Model;
@@ -11,7 +11,7 @@ use std::marker::Model;
 /// For each target the ranks of its tasks, and behind them those for any actor.
 #[derive(Drop)]
 pub struct Lists {
-    places: Vec<Place>,
+    lanes: Vec<Lane>,
 }
 
 impl Model for Lists {
@@ -20,76 +20,76 @@ impl Model for Lists {
 
     ghost Value = { Listed };
 
-    ghost view = { λ lists. seen lists.places.items };
+    ghost view = { λ lists. seen lists.lanes.items };
 
-    ghost invariant = { λ lists. length lists.places.items ≡ 17 };
+    ghost invariant = { λ lists. length lists.lanes.items ≡ 17 };
 }
 
 impl Lists {
-    /// The place of the tasks for any actor.
+    /// The lane of the tasks for any actor.
     const ANY: usize = 16;
 
     const COUNT: usize = 17;
 
-    /// Seventeen places without ranks.
+    /// Seventeen lanes without ranks.
     pub fn new(alloc: Global) -> Result<Lists, AllocError>
-        ensures { IfOk result (λ lists. lists.places ≡ replicate 17 []) }
+        ensures { IfOk result (λ lists. lists.lanes ≡ replicate 17 []) }
     {
-        let mut places = Vec::new(alloc);
+        let mut lanes = Vec::new(alloc);
         for _ in 0..Lists::COUNT {
-            places.push(Place::new(alloc))?;
+            lanes.push(Lane::new(alloc))?;
         }
-        Ok(Lists { places })
+        Ok(Lists { lanes })
     }
 
-    /// Makes room for one rank at every place.
+    /// Makes room for one rank at every lane.
     pub fn reserve(&mut self) -> Result<(), AllocError>
-        ensures same { self.new.places ≡ self.old.places }
+        ensures same { self.new.lanes ≡ self.old.lanes }
         ensures room { OnOk result (self.new.has_room ≡ true) }
         ensures kept { self.old.has_room ≡ true → self.new.has_room ≡ true }
         ensures reserved { self.old.has_room ≡ true → IsOk result }
     {
-        for index in 0..self.places.len() {
-            let place = &mut self.places[index];
-            place.reserve()?;
+        for index in 0..self.lanes.len() {
+            let lane = &mut self.lanes[index];
+            lane.reserve()?;
         }
         Ok(())
     }
 
     /// Puts the rank of a task for this target.
     pub fn push(&mut self, target: Option<u8>, rank: Rank) -> Result<(), AllocError>
-        requires { place_of target < 17 }
-        ensures pushed { OnOk result (IsPushed (place_of target) rank (ranks_at self.old.places) (ranks_at self.new.places)) }
-        ensures refused { OnErr result (self.new.places ≡ self.old.places) }
+        requires { lane_of target < 17 }
+        ensures pushed { OnOk result (IsPushed (lane_of target) rank (ranks_at self.old.lanes) (ranks_at self.new.lanes)) }
+        ensures refused { OnErr result (self.new.lanes ≡ self.old.lanes) }
         ensures reserved { self.old.has_room ≡ true → IsOk result }
     {
-        let place = &mut self.places[place_of(target)];
-        place.push(rank)
+        let lane = &mut self.lanes[lane_of(target)];
+        lane.push(rank)
     }
 
     /// The first of the ranks that an actor of this number may take.
     pub fn best(&self, number: u8) -> Option<Rank>
-        ensures { IsBest number (ranks_at self.now.places) result }
+        ensures { IsBest number (ranks_at self.now.lanes) result }
     {
-        let (_, rank) = self.best_place(number)?;
+        let (_, rank) = self.best_lane(number)?;
         Some(rank)
     }
 
     /// Takes the first of the ranks that an actor of this number may take.
     pub fn take(&mut self, number: u8) -> Option<Rank>
-        ensures best { IsBest number (ranks_at self.old.places) result }
-        ensures taken { IfSome result (λ rank. IsTaken rank (ranks_at self.old.places) (ranks_at self.new.places)) }
-        ensures none { IfNone result (self.new.places ≡ self.old.places) }
+        ensures best { IsBest number (ranks_at self.old.lanes) result }
+        ensures taken { IfSome result (λ rank. IsTaken rank (ranks_at self.old.lanes) (ranks_at self.new.lanes)) }
+        ensures none { IfNone result (self.new.lanes ≡ self.old.lanes) }
         ensures room { self.old.has_room ≡ true → self.new.has_room ≡ true }
     {
-        let (index, _) = self.best_place(number)?;
-        let place = &mut self.places[index];
-        place.pop()
+        let (index, _) = self.best_lane(number)?;
+        let lane = &mut self.lanes[index];
+        lane.pop()
     }
 
-    /// The place of that rank, with the rank.
-    fn best_place(&self, number: u8) -> Option<(usize, Rank)>
-        ensures { IsBestPlace number self.now.places result }
+    /// The lane of that rank, with the rank.
+    fn best_lane(&self, number: u8) -> Option<(usize, Rank)>
+        ensures { IsBestLane number self.now.lanes result }
     {
         let own = usize::from(number);
         match (self.first(Lists::ANY), self.first(own)) {
@@ -106,21 +106,21 @@ impl Lists {
         }
     }
 
-    /// The first rank at a place.
+    /// The first rank at a lane.
     fn first(&self, index: usize) -> Option<Rank>
-        ensures { IsFirstAt index self.now.places result }
+        ensures { IsFirstAt index self.now.lanes result }
     {
-        if index < self.places.len() {
-            let place = &self.places[index];
-            place.first()
+        if index < self.lanes.len() {
+            let lane = &self.lanes[index];
+            lane.first()
         } else {
             None
         }
     }
 }
 
-fn place_of(target: Option<u8>) -> usize
-    ensures { result ≡ place_of target }
+fn lane_of(target: Option<u8>) -> usize
+    ensures { result ≡ lane_of target }
 {
     match target {
         Some(number) => usize::from(number),

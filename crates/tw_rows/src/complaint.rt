@@ -8,7 +8,7 @@ use tw_code::NoMemory;
 /// What is wrong with a line, or that memory ran out; never an answer that a case may want.
 #[derive(Clone, Copy)]
 pub enum Complaint {
-    Memory,
+    NoMemory,
     Number,
     Digits,
     UnknownName,
@@ -43,7 +43,7 @@ pub enum Complaint {
 impl Complaint {
     pub fn text(self) -> &'static str {
         match self {
-            Complaint::Memory => "memory ran out",
+            Complaint::NoMemory => "memory ran out",
             Complaint::Number => "this is no number, or a number out of its range",
             Complaint::Digits => "these are no bytes in hexadecimal digits",
             Complaint::UnknownName => "no earlier line names these bytes",
@@ -79,19 +79,19 @@ impl Complaint {
 
 impl From<AllocError> for Complaint {
     fn from(_error: AllocError) -> Complaint {
-        Complaint::Memory
+        Complaint::NoMemory
     }
 }
 
 impl<T: Drop> From<AllocFailed<T>> for Complaint {
     fn from(_error: AllocFailed<T>) -> Complaint {
-        Complaint::Memory
+        Complaint::NoMemory
     }
 }
 
 impl From<NoMemory> for Complaint {
     fn from(_error: NoMemory) -> Complaint {
-        Complaint::Memory
+        Complaint::NoMemory
     }
 }
 

@@ -8,7 +8,7 @@ use Rattle.tw_code.specs.machine.Inputs.{has_fitting_inputs, has_input_count}
 use Rattle.tw_code.specs.machine.Opening.{opening}
 use Rattle.tw_machine.specs.PlainView.{PlainView}
 use Rattle.tw_machine.specs.declared.refusal.OpenRefusal.{OpenRefusal}
-use Rattle.tw_machine.specs.declared.refusal.OpenRefusal.TheVariants.{InputCount, InputType, Memory, MainShape}
+use Rattle.tw_machine.specs.declared.refusal.OpenRefusal.TheVariants.{InputCount, InputType, NoMemory, MainShape}
 use Rattle.tw_machine.specs.Opening.{IsTold, open_refusal_number, refusal_of}
 use Rattle.tw_command.specs.declared.command.RunOrder.{RunOrder}
 use Rattle.tw_session.specs.declared.status.Close.TheVariants.{Refused}
@@ -44,14 +44,14 @@ replies_given program given order inputs plain r same inputs_are opened none h =
     let by_order = subst (λ (xs : List Input). RepliesByLayout given (record { layout = order.layout; inputs = xs; limit = order.limit }) r) inputs_are by_view in
     replies_opened program order r none_refused (subst (λ (ps : List Procedure). RepliesByLayout ps order r) same by_order)
 
-line_told : (count fit : Bool) (Runs : Type 0) (why : OpenRefusal) (r : Reply) → IsTold (told_by true count fit) why → (why ≡ Memory → ⊥) → r ≡ reply (opening_line (open_refusal_number why)) Refused → BothAsked count fit Runs r
+line_told : (count fit : Bool) (Runs : Type 0) (why : OpenRefusal) (r : Reply) → IsTold (told_by true count fit) why → (why ≡ NoMemory → ⊥) → r ≡ reply (opening_line (open_refusal_number why)) Refused → BothAsked count fit Runs r
 unfolding told_by
 line_told false fit Runs why r told other is = is ∙ ap (λ (w : OpenRefusal). reply (opening_line (open_refusal_number w)) Refused) told
 line_told true false Runs why r told other is = is ∙ ap (λ (w : OpenRefusal). reply (opening_line (open_refusal_number w)) Refused) told
 line_told true true Runs why r told other is = absurd (other told)
 
 -- the line of a refused opening
-pub replies_refused : (program : List Procedure) (order : RunOrder) (why : OpenRefusal) (number : ℕ) (r : Reply) → has_main_shape program ≡ true → IsTold (refusal_of program order.inputs) why → (why ≡ Memory → ⊥)
+pub replies_refused : (program : List Procedure) (order : RunOrder) (why : OpenRefusal) (number : ℕ) (r : Reply) → has_main_shape program ≡ true → IsTold (refusal_of program order.inputs) why → (why ≡ NoMemory → ⊥)
     → number ≡ open_refusal_number why → r ≡ reply (opening_line number) Refused → RepliesByOpening program order r
 unfolding told_by
 replies_refused program order why number r shape told other is written =
@@ -60,7 +60,7 @@ replies_refused program order why number r shape told other is written =
     (written ∙ ap (λ (n : ℕ). reply (opening_line n) Refused) is)
 
 pub refused_given : (program given : List Procedure) (order : RunOrder) (inputs : List Input) (why : OpenRefusal) (number : ℕ) (r : Reply) → given ≡ program → inputs ≡ order.inputs
-    → has_main_shape program ≡ true → IsTold (refusal_of given inputs) why → (why ≡ Memory → ⊥) → number ≡ open_refusal_number why → r ≡ reply (opening_line number) Refused → RepliesByOpening program order r
+    → has_main_shape program ≡ true → IsTold (refusal_of given inputs) why → (why ≡ NoMemory → ⊥) → number ≡ open_refusal_number why → r ≡ reply (opening_line number) Refused → RepliesByOpening program order r
 refused_given program given order inputs why number r same inputs_are shape told other is written =
     replies_refused program order why number r shape
     (subst (λ (ps : List Procedure). IsTold (refusal_of ps order.inputs) why) same (subst (λ (xs : List Input). IsTold (refusal_of given xs) why) inputs_are told)) other is written

@@ -54,11 +54,11 @@ replied_to_known asked order (Some all) input text close status old new is_asked
     replied asked order all text close status old new is_asked (to_all order all (reply text close) (subst (λ (i : List ℕ). MayReply order i (reply text close)) is h)) ends wrote
 
 -- a fault that isn't want of memory is the first of a text that spells no program
-pub fault_has : (text : List ℕ) (which : FaultNo) (line : ℕ) → (which ≡ asm.Memory → ⊥) → IsFault text which line → HasFault text which line
+pub fault_has : (text : List ℕ) (which : FaultNo) (line : ℕ) → (which ≡ asm.NoMemory → ⊥) → IsFault text which line → HasFault text which line
 fault_has text asm.Word line other h = h
 fault_has text asm.Operand line other h = h
 fault_has text asm.UnknownLabel line other h = h
 fault_has text asm.LabelTwice line other h = h
 fault_has text asm.LabelNotForward line other h = h
 fault_has text asm.Limit line other h = h
-fault_has text asm.Memory line other h = absurd (other refl)
+fault_has text asm.NoMemory line other h = absurd (other refl)

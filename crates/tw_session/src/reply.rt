@@ -125,7 +125,7 @@ fn run_of(alloc: Global, order: &RunOrder, verified: Verified) -> Result<Reply, 
     ) {
         Ok(plain) => opened_reply(alloc, plain, needs, order.limit),
         Err(refused) => match refused.no {
-            OpenRefusal::Memory => Err(AllocError),
+            OpenRefusal::NoMemory => Err(AllocError),
             no => opening_reply(alloc, no.number()),
         },
     }
@@ -178,7 +178,7 @@ fn verified_reply(
     match verify(alloc, program) {
         Ok(verified) => accepted_reply(alloc, order, verified),
         Err(refused) => match refused.no {
-            VerifyRefusal::Memory => Err(AllocError),
+            VerifyRefusal::NoMemory => Err(AllocError),
             no => refusal_reply(alloc, no.number(), refused.procedure, refused.place),
         },
     }
@@ -207,7 +207,7 @@ fn bytes_reply(alloc: Global, order: &ProgramOrder, bytes: &[u8]) -> Result<Repl
     match decode(alloc, bytes) {
         Ok(program) => program_reply(alloc, order, program),
         Err(fault) => match fault.no {
-            FaultNo::Memory => Err(AllocError),
+            FaultNo::NoMemory => Err(AllocError),
             no => {
                 let mut text = Vec::new(alloc);
                 put_fault_line(alloc, &mut text, no.number(), fault.offset)?;
@@ -254,7 +254,7 @@ fn assembly_reply(alloc: Global, text: &str) -> Result<Reply, AllocError>
     match assemble(alloc, text) {
         Ok(program) => hex_reply(alloc, &program),
         Err(fault) => match fault.no {
-            tw_asm::FaultNo::Memory => Err(AllocError),
+            tw_asm::FaultNo::NoMemory => Err(AllocError),
             no => {
                 let mut text = Vec::new(alloc);
                 put_asm_line(alloc, &mut text, no.number(), fault.line)?;

@@ -40,7 +40,7 @@ fn errors_are_told(rt: HostRuntime) -> Result<(), Fail> {
     let text = format!(in rt.alloc();
         "{}; {}; {}",
         BudgetRefusal::TooLarge,
-        BudgetRefusal::Memory,
+        BudgetRefusal::NoMemory,
         NoMemory
     )?;
     assert_eq!(rt;

@@ -4,7 +4,7 @@ use Rattle.std.specs.Prelude.{slice_get}
 use Rattle.std.proofs.lemmas.Bool.{cases_lt}
 use Rattle.std.proofs.lemmas.Option.{slice_get_within, slice_get-get_or, same_Some}
 use Rattle.tw_code.specs.declared.flow.Way.{Way}
-use Rattle.tw_code.specs.declared.flow.Way.TheVariants.{Done, Refused}
+use Rattle.tw_code.specs.declared.flow.Way.TheVariants.{Completed, Skipped}
 use Rattle.tw_code.specs.declared.instr.Instr.{Instr}
 use Rattle.tw_code.specs.declared.procedure.Procedure.{Procedure}
 use Rattle.tw_code.specs.accepting.Flow.{flow_of, onward}
@@ -12,7 +12,7 @@ use Rattle.tw_code.specs.accepting.Question.{refusal_in}
 use Rattle.tw_code.specs.machine.Rights.{Typing}
 use Rattle.tw_code.specs.accepting.Typing.{start_typing, asks_at, after}
 use Rattle.tw_code.specs.accepting.WellTyped.{LeadsTo, IsEndOf, IsWellTyped, Brings, IsReached, IsRefusalAt, IsTypingRefusal}
-use Rattle.tw_verify.specs.declared.rows.Reached.{Reached}
+use Rattle.tw_verify.specs.declared.reached.Reached.{Reached}
 use Rattle.tw_verify.specs.Passes.{lowest_at, HasChanged}
 use Rattle.tw_verify.proofs.Lists.{get_pushed}
 use Rattle.tw_verify.proofs.Causes.{IsCause, cause_at, least_at}
@@ -22,8 +22,8 @@ use Rattle.tw_verify.proofs.Typings.{onward_later, agree, brought_typing, reache
 
 -- an outcome of a place before another one comes before the outcomes of that
 pub early_outcome : (before place : ℕ) (way : Way) → before < place → outcome_number before way < place + place
-early_outcome before place Done h = omega arith
-early_outcome before place Refused h = omega arith
+early_outcome before place Completed h = omega arith
+early_outcome before place Skipped h = omega arith
 
 -- ---- nothing is wrong
 

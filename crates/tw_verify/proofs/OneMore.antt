@@ -7,10 +7,10 @@ use Rattle.tw_types.specs.declared.data_type.Scalar.{Scalar}
 use Rattle.tw_types.specs.declared.param.Param.{Param}
 use Rattle.tw_types.specs.DataType.{same_scalar}
 use Rattle.tw_types.specs.Mode.{is_val}
-use Rattle.tw_code.specs.machine.Rights.{Right, right_of}
+use Rattle.tw_code.specs.machine.Rights.{RightType, right_of}
 use Rattle.tw_code.specs.accepting.Typing.{value_types, values_fit, rights_given, start_typing}
 
-abbrev pub as_right : Param → Right
+abbrev pub as_right : Param → RightType
 as_right p = record { mode = p.mode; ty = p.ty }
 
 -- ---- a parameter at the end of a list
@@ -31,7 +31,7 @@ value_types-right (q ∷ ps) p e = ap (λ (types : List Scalar). if is_val q.mod
 rights_given-push : (ps : List Param) (p : Param) → rights_given (ps ++ p ∷ []) ≡ rights_given ps ++ option_to_list (right_of p)
 rights_given-push [] p = append-nil (option_to_list (right_of p))
 rights_given-push (q ∷ ps) p =
-    ap (λ (rights : List Right). option_to_list (right_of q) ++ rights) (rights_given-push ps p)
+    ap (λ (rights : List RightType). option_to_list (right_of q) ++ rights) (rights_given-push ps p)
     ∙ sym (append_assoc (option_to_list (right_of q)) (rights_given ps) (option_to_list (right_of p)))
 
 rights_given-value : (ps : List Param) (p : Param) → is_val p.mode ≡ true → rights_given (ps ++ p ∷ []) ≡ rights_given ps
@@ -54,7 +54,7 @@ start_typing-right ps p e few =
     let rights = rights_given ps in
     let here : 16 - length (rights ++ as_right p ∷ []) ≡ 15 - length rights = omega (arith, length-append rights (as_right p ∷ [])) in
     let there : suc (15 - length rights) ≡ 16 - length rights = omega arith in
-    ap (λ (given : List Right). map Some given ++ replicate (16 - length given) None) (rights_given-right ps p e)
+    ap (λ (given : List RightType). map Some given ++ replicate (16 - length given) None) (rights_given-right ps p e)
     ∙ ap (λ (n : ℕ). map Some (rights ++ as_right p ∷ []) ++ replicate n None) here
     ∙ fill_next rights (as_right p) (15 - length rights)
     ∙ ap (λ (n : ℕ). set (map Some rights ++ replicate n None) (length rights) (Some (as_right p))) there

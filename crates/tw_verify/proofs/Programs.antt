@@ -66,20 +66,20 @@ pub not_both : (program : List Procedure) (number procedure place : ℕ) → IsA
 not_both program number procedure place a (inl r) = let both : true ≡ false = sym a.main ∙ r.shape in cc
 not_both program number procedure place a (inr r) = not_accepted program r.p number place (a.each procedure r.p r.here) r.refusal
 
-is_memory : (cause : VerifyRefusal) → (cause ≡ refusal.Memory) ⊎ (cause ≢ refusal.Memory)
-is_memory refusal.Memory = inl refl
+is_memory : (cause : VerifyRefusal) → (cause ≡ refusal.NoMemory) ⊎ (cause ≢ refusal.NoMemory)
+is_memory refusal.NoMemory = inl refl
 is_memory _ = inr (λ e. cc)
 
-pub refusal_is_memory : (program : List Procedure) (cause : VerifyRefusal) (procedure place : ℕ) → IsRefusal program cause procedure place → IsAccepted program → cause ≡ refusal.Memory
+pub refusal_is_memory : (program : List Procedure) (cause : VerifyRefusal) (procedure place : ℕ) → IsRefusal program cause procedure place → IsAccepted program → cause ≡ refusal.NoMemory
 refusal_is_memory program cause procedure place r a = by (is_memory cause)
   where
-    by : (cause ≡ refusal.Memory) ⊎ (cause ≢ refusal.Memory) → cause ≡ refusal.Memory
+    by : (cause ≡ refusal.NoMemory) ⊎ (cause ≢ refusal.NoMemory) → cause ≡ refusal.NoMemory
     by (inl is) = is
     by (inr other) = absurd (not_both program (verify_refusal_number cause) procedure place a (r.first other))
 
 -- ---- a procedure that is refused refuses its program
 
-names_a_place : (violation : Violation) → refusal_for violation ≡ refusal.Memory → ⊥
+names_a_place : (violation : Violation) → refusal_for violation ≡ refusal.NoMemory → ⊥
 names_a_place broken.UndeclaredValue e = cc
 names_a_place broken.WrongValueType e = cc
 names_a_place broken.RightNotEmpty e = cc
@@ -99,7 +99,7 @@ names_a_place broken.BudgetTooLarge e = cc
 
 pub refusal_by : (program : List Procedure) (all : List Findings) (number : ℕ) (p : Procedure) (stop : Fault) → has_main_shape program ≡ true → AreTyped program all number → slice_get program number ≡ Some p → IfFault stop (IsProcedureRefusal program p)
     → IsRefusal program (refusal_of number stop).no (refusal_of number stop).procedure (refusal_of number stop).place
-refusal_by program all number p fault.Memory main t at h = record { first = λ other. absurd (other refl); memory = λ is. (refl, refl) }
+refusal_by program all number p fault.NoMemory main t at h = record { first = λ other. absurd (other refl); memory = λ is. (refl, refl) }
 refusal_by program all number p (fault.At violation place) main t at h = record {
   first = λ other. inr (record { main = main; before = λ k q below here. accepted_one program all number k q t below here; p = p; here = at; refusal = h });
   memory = λ is. absurd (names_a_place violation is);

@@ -14,15 +14,15 @@ use Rattle.tw_types.specs.declared.param.Mode.TheVariants.{Val, Closed, Ref, Wri
 use Rattle.tw_types.specs.DataType.{same_type}
 use Rattle.tw_types.specs.Nesting.{NestedScalar}
 use Rattle.tw_code.specs.declared.flow.Way.{Way}
-use Rattle.tw_code.specs.declared.flow.Way.TheVariants.{Done, Refused}
+use Rattle.tw_code.specs.declared.flow.Way.TheVariants.{Completed, Skipped}
 use Rattle.tw_code.specs.declared.instr.Instr.{Instr}
 use Rattle.tw_code.specs.declared.procedure.Procedure.{Procedure}
 use Rattle.tw_code.specs.accepting.Flow.{flow_of, onward}
-use Rattle.tw_code.specs.machine.Rights.{Right, Typing}
+use Rattle.tw_code.specs.machine.Rights.{RightType, Typing}
 use Rattle.tw_code.specs.accepting.Typing.{start_typing, after}
 use Rattle.tw_code.specs.accepting.WellTyped.{LeadsTo, Brings, IsReached}
 use Rattle.tw_verify.specs.Same.{mode_rank, same_right, same_typing}
-use Rattle.tw_verify.specs.declared.rows.Reached.{Reached}
+use Rattle.tw_verify.specs.declared.reached.Reached.{Reached}
 use Rattle.tw_verify.specs.Passes.{is_place, noted, sent, first_row}
 use Rattle.tw_verify.proofs.Lists.{get_front, get_last}
 use Rattle.tw_no_trap.proofs.Scalars.{same_types, type_itself}
@@ -54,8 +54,8 @@ own_mode Closed = refl
 own_mode Ref = refl
 own_mode Write = refl
 
-right_decides : (a b : Right) → Decides (same_right a b) (a ≡ b)
-right_decides a b = (same, λ e. subst (λ (x : Right). same_right a x ≡ true) e own)
+right_decides : (a b : RightType) → Decides (same_right a b) (a ≡ b)
+right_decides a b = (same, λ e. subst (λ (x : RightType). same_right a x ≡ true) e own)
   where
     same : same_right a b ≡ true → a ≡ b
     same h =
@@ -66,7 +66,7 @@ right_decides a b = (same, λ e. subst (λ (x : Right). same_right a x ≡ true)
     own : same_right a a ≡ true
     own = rw (own_mode a.mode) (type_itself a.ty)
 
-slot_decides : (a b : Option Right) → Decides (option_eq same_right a b) (a ≡ b)
+slot_decides : (a b : Option RightType) → Decides (option_eq same_right a b) (a ≡ b)
 slot_decides None None = (λ _. refl, λ _. refl)
 slot_decides None (Some b) = (λ h. cc, λ h. cc)
 slot_decides (Some a) None = (λ h. cc, λ h. cc)
@@ -78,8 +78,8 @@ typing_decides a b = slice_eq-Decides slot_decides a b (same_typing a b) refl
 -- ---- the outcomes in the order in which they are looked at
 
 abbrev pub outcome_number : ℕ → Way → ℕ
-outcome_number place Done = place + place
-outcome_number place Refused = suc (place + place)
+outcome_number place Completed = place + place
+outcome_number place Skipped = suc (place + place)
 
 never_odd : (a b : ℕ) → a + a ≡ suc (b + b) → ⊥
 never_odd zero b h = absurd (omega arith)
@@ -87,16 +87,16 @@ never_odd (suc a) zero h = absurd (omega arith)
 never_odd (suc a) (suc b) h = never_odd a b (omega arith)
 
 same_outcome : (a b : ℕ) (v w : Way) → outcome_number a v ≡ outcome_number b w → (a ≡ b) × (v ≡ w)
-same_outcome a b Done Done h = (omega arith, refl)
-same_outcome a b Done Refused h = absurd (never_odd a b h)
-same_outcome a b Refused Done h = absurd (never_odd b a (sym h))
-same_outcome a b Refused Refused h = (omega arith, refl)
+same_outcome a b Completed Completed h = (omega arith, refl)
+same_outcome a b Completed Skipped h = absurd (never_odd a b h)
+same_outcome a b Skipped Completed h = absurd (never_odd b a (sym h))
+same_outcome a b Skipped Skipped h = (omega arith, refl)
 
 earlier_outcome : (a b : ℕ) (v w : Way) → a < b → outcome_number a v < outcome_number b w
-earlier_outcome a b Done Done h = omega arith
-earlier_outcome a b Done Refused h = omega arith
-earlier_outcome a b Refused Done h = omega arith
-earlier_outcome a b Refused Refused h = omega arith
+earlier_outcome a b Completed Completed h = omega arith
+earlier_outcome a b Completed Skipped h = omega arith
+earlier_outcome a b Skipped Completed h = omega arith
+earlier_outcome a b Skipped Skipped h = omega arith
 
 -- ---- rows
 
@@ -145,8 +145,8 @@ row_more program p ts us n place (Some r) long h = record {
 }
   where
     early : (before : ℕ) (way : Way) → outcome_number before way < n + n → before < n
-    early before Done below = omega arith
-    early before Refused below = omega arith
+    early before Completed below = omega arith
+    early before Skipped below = omega arith
 
 -- ---- one outcome more
 
@@ -219,9 +219,9 @@ row_here program p ts number place way i t now next row goes h = by row h
     brings : Brings program p ts place next new
     brings = record { step = step; from = t; there = now.there; is = refl }
 
-    done : (w : Way) → number ≡ outcome_number place w → ((before : ℕ) (s : LeadsTo p.code before next) → outcome_number before s.way < number → ⊥) → onward Done place (flow_of i) ≡ Some next → w ≡ Done
-    done Done is none e = refl
-    done Refused is none e = absurd (none place (record { earlier = onward_later Done place (flow_of i) next e; instr = i; here = now.here; way = Done; goes_on = e }) (omega (arith, is)))
+    done : (w : Way) → number ≡ outcome_number place w → ((before : ℕ) (s : LeadsTo p.code before next) → outcome_number before s.way < number → ⊥) → onward Completed place (flow_of i) ≡ Some next → w ≡ Completed
+    done Completed is none e = refl
+    done Skipped is none e = absurd (none place (record { earlier = onward_later Completed place (flow_of i) next e; instr = i; here = now.here; way = Completed; goes_on = e }) (omega (arith, is)))
 
     again : (r : Reached) → HasReached program p ts number next r → (d s : Bool) → r.differs ≡ d → same_typing r.typing new ≡ s → HasReached program p ts (suc number) next (record { typing = r.typing; differs = d || not s })
     again r k true s e f = record { first = k.first; same = λ g. cc; another = λ g. k.another e }
@@ -261,7 +261,7 @@ row_sent program p ts number place way i t now next row h = by (is_place next (o
 
 -- both outcomes of a place
 abbrev pub sent_both : List Procedure → ℕ → Instr → Typing → ℕ → Option Reached → Option Reached
-sent_both program place i t next row = sent (onward Refused place (flow_of i)) (after program Refused i t) next (sent (onward Done place (flow_of i)) (after program Done i t) next row)
+sent_both program place i t next row = sent (onward Skipped place (flow_of i)) (after program Skipped i t) next (sent (onward Completed place (flow_of i)) (after program Completed i t) next row)
 
 pub rows_more : (program : List Procedure) (p : Procedure) (ts : List Typing) (place : ℕ) (i : Instr) (t : Typing) (old new : List (Option Reached)) → length ts ≡ place → slice_get p.code place ≡ Some i → length new ≡ length old
     → ((k : ℕ) (row : Option Reached) → slice_get old k ≡ Some row → slice_get new k ≡ Some (sent_both program place i t k row))
@@ -273,8 +273,8 @@ rows_more program p ts place i t old new long here same step known k row at =
     let is : sent_both program place i t k before ≡ row = same_Some (sent_both program place i t k before) row (sym (step k before was) ∙ at) in
     let last : slice_get (ts ++ t ∷ []) place ≡ Some t = ap (slice_get (ts ++ t ∷ [])) (sym long) ∙ get_last ts t in
     let first = row_more program p ts (t ∷ []) place k before long (known k before was) in
-    let second = row_sent program p (ts ++ t ∷ []) (place + place) place Done i t (record { now = refl; here = here; there = last }) k before first in
-    let third = row_sent program p (ts ++ t ∷ []) (suc (place + place)) place Refused i t (record { now = refl; here = here; there = last }) k (sent (onward Done place (flow_of i)) (after program Done i t) k before) second in
+    let second = row_sent program p (ts ++ t ∷ []) (place + place) place Completed i t (record { now = refl; here = here; there = last }) k before first in
+    let third = row_sent program p (ts ++ t ∷ []) (suc (place + place)) place Skipped i t (record { now = refl; here = here; there = last }) k (sent (onward Completed place (flow_of i)) (after program Completed i t) k before) second in
     let numbers : suc (suc (place + place)) ≡ place + 1 + (place + 1) = omega arith in
     subst (λ (x : Option Reached). IsRow program p (ts ++ t ∷ []) (place + 1 + (place + 1)) k x) is
     (subst (λ (n : ℕ). IsRow program p (ts ++ t ∷ []) n k (sent_both program place i t k before)) numbers third)

@@ -7,7 +7,7 @@ use Rattle.std.proofs.lemmas.Option.{slice_get_within, slice_get-get_or, same_So
 use Rattle.tw_code.specs.declared.flow.Flow.{Flow}
 use Rattle.tw_code.specs.declared.flow.Flow.TheVariants.{Straight, Branch, Jump, Begin, Close, Stop}
 use Rattle.tw_code.specs.declared.flow.Way.{Way}
-use Rattle.tw_code.specs.declared.flow.Way.TheVariants.{Done, Refused}
+use Rattle.tw_code.specs.declared.flow.Way.TheVariants.{Completed, Skipped}
 use Rattle.tw_code.specs.declared.instr.Instr.{Instr}
 use Rattle.tw_code.specs.declared.procedure.Procedure.{Procedure}
 use Rattle.tw_code.specs.accepting.Flow.{flow_of, onward}
@@ -19,18 +19,18 @@ use Rattle.tw_verify.proofs.Lists.{get-take}
 
 -- the later place of an outcome is later
 pub onward_later : (way : Way) (place : ℕ) (flow : Flow) (next : ℕ) → onward way place flow ≡ Some next → place < next
-onward_later Done place Straight next h = let e = same_Some (place + 1) next h in omega (arith, e)
-onward_later Done place (Branch skip) next h = let e = same_Some (place + 1) next h in omega (arith, e)
-onward_later Done place (Jump skip) next h = let e = same_Some (goal_of place skip) next h in omega (arith, e)
-onward_later Done place (Begin turns) next h = let e = same_Some (place + 1) next h in omega (arith, e)
-onward_later Done place Close next h = let e = same_Some (place + 1) next h in omega (arith, e)
-onward_later Done place Stop next h = cc
-onward_later Refused place Straight next h = cc
-onward_later Refused place (Branch skip) next h = let e = same_Some (goal_of place skip) next h in omega (arith, e)
-onward_later Refused place (Jump skip) next h = cc
-onward_later Refused place (Begin turns) next h = cc
-onward_later Refused place Close next h = cc
-onward_later Refused place Stop next h = cc
+onward_later Completed place Straight next h = let e = same_Some (place + 1) next h in omega (arith, e)
+onward_later Completed place (Branch skip) next h = let e = same_Some (place + 1) next h in omega (arith, e)
+onward_later Completed place (Jump skip) next h = let e = same_Some (goal_of place skip) next h in omega (arith, e)
+onward_later Completed place (Begin turns) next h = let e = same_Some (place + 1) next h in omega (arith, e)
+onward_later Completed place Close next h = let e = same_Some (place + 1) next h in omega (arith, e)
+onward_later Completed place Stop next h = cc
+onward_later Skipped place Straight next h = cc
+onward_later Skipped place (Branch skip) next h = let e = same_Some (goal_of place skip) next h in omega (arith, e)
+onward_later Skipped place (Jump skip) next h = cc
+onward_later Skipped place (Begin turns) next h = cc
+onward_later Skipped place Close next h = cc
+onward_later Skipped place Stop next h = cc
 
 -- ---- lists that stand
 
@@ -82,15 +82,15 @@ reached_typing program p ts us m n place t u v (inr (before, f)) w at = brought_
 
 -- ---- a place is reached with one typing
 
-same_way : (v w : Way) → (v ≡ Done → w ≡ Done) → (w ≡ Done → v ≡ Done) → v ≡ w
-same_way Done w h k = sym (h refl)
-same_way Refused Done h k = k refl
-same_way Refused Refused h k = refl
+same_way : (v w : Way) → (v ≡ Completed → w ≡ Completed) → (w ≡ Completed → v ≡ Completed) → v ≡ w
+same_way Completed w h k = sym (h refl)
+same_way Skipped Completed h k = k refl
+same_way Skipped Skipped h k = refl
 
 -- an outcome of one instruction is one of the same instruction
-moved_step : (code : List Instr) (a b place : ℕ) (i j : Instr) (v : Way) → a ≡ b → i ≡ j → v ≡ Done → onward v a (flow_of i) ≡ Some place → onward Done b (flow_of j) ≡ Some place
+moved_step : (code : List Instr) (a b place : ℕ) (i j : Instr) (v : Way) → a ≡ b → i ≡ j → v ≡ Completed → onward v a (flow_of i) ≡ Some place → onward Completed b (flow_of j) ≡ Some place
 moved_step code a b place i j v same is done goes =
-    sym (ap (λ (w : Way). onward w a (flow_of i)) done ∙ ap (λ (n : ℕ). onward Done n (flow_of i)) same ∙ ap (λ (x : Instr). onward Done b (flow_of x)) is) ∙ goes
+    sym (ap (λ (w : Way). onward w a (flow_of i)) done ∙ ap (λ (n : ℕ). onward Completed n (flow_of i)) same ∙ ap (λ (x : Instr). onward Completed b (flow_of x)) is) ∙ goes
 
 pub reached_same : (program : List Procedure) (p : Procedure) (ts : List Typing) (place : ℕ) (t u : Typing) → IsReached program p ts place t → IsReached program p ts place u → t ≡ u
 reached_same program p ts place t u (inl (start, is)) (inl (first, was)) = is ∙ sym was

@@ -5,7 +5,7 @@ use Rattle.std.specs.Cmp.Lexicographic.{pointwise}
 use Rattle.tw_types.specs.declared.param.Mode.{Mode}
 use Rattle.tw_types.specs.declared.param.Mode.TheVariants.{Val, Closed, Ref, Write}
 use Rattle.tw_types.specs.DataType.{same_type}
-use Rattle.tw_code.specs.machine.Rights.{Right, Typing}
+use Rattle.tw_code.specs.machine.Rights.{RightType, Typing}
 
 abbrev pub mode_rank : Mode → ℕ
 mode_rank Val = 0
@@ -13,7 +13,7 @@ mode_rank Closed = 1
 mode_rank Ref = 2
 mode_rank Write = 3
 
-abbrev pub same_right : Right → Right → Bool
+abbrev pub same_right : RightType → RightType → Bool
 same_right a b = (mode_rank a.mode == mode_rank b.mode) && same_type a.ty b.ty
 
 abbrev pub same_typing : Typing → Typing → Bool

@@ -2,7 +2,7 @@
 
 ghost use Rattle.std.specs.Prelude.{◌≡◌, [], ◌∷◌, ◌++◌, OnOk};
 ghost use Rattle.tw_verify.specs.Passes.{refusal_of};
-ghost use Rattle.tw_verify.specs.declared.fault.Fault.TheVariants.{Memory as NoMemory};
+ghost use Rattle.tw_verify.specs.declared.fault.Fault.TheVariants.{NoMemory};
 
 use std::alloc::AllocError;
 use crate::refusal::VerifyRefusal;
@@ -12,14 +12,14 @@ use crate::violation::Violation;
 #[derive(Clone, Copy)]
 pub(crate) enum Fault {
     At { violation: Violation, place: usize },
-    Memory,
+    NoMemory,
 }
 
 impl From<AllocError> for Fault {
     ghost from_gives = { λ _ fault. fault ≡ NoMemory };
 
     fn from(_error: AllocError) -> Fault {
-        Fault::Memory
+        Fault::NoMemory
     }
 }
 
@@ -35,7 +35,7 @@ impl From<AllocError> for Refusal {
     ghost from_gives = { λ _ refusal. refusal ≡ refusal_of 0 NoMemory };
 
     fn from(_error: AllocError) -> Refusal {
-        Refusal::new(0, Fault::Memory)
+        Refusal::new(0, Fault::NoMemory)
     }
 }
 
@@ -50,8 +50,8 @@ impl Refusal {
                 procedure,
                 place,
             },
-            Fault::Memory => Refusal {
-                no: VerifyRefusal::Memory,
+            Fault::NoMemory => Refusal {
+                no: VerifyRefusal::NoMemory,
                 procedure: 0,
                 place: 0,
             },

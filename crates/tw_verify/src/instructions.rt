@@ -14,7 +14,7 @@ use crate::questions::{
     is_container_write, is_member_read, lowest, members_refusal, read_refusal, value_of_refusal,
     value_refusal, values_refusal,
 };
-use crate::typing::{Right, Typing};
+use crate::typing::{RightType, Typing};
 use crate::violation::Violation;
 use tw_code::{DataInstr, Instr, LocalInstr, Procedure};
 use tw_types::Scalar;
@@ -72,7 +72,7 @@ fn store_refusal(registers: &[Scalar], typing: &Typing, datum: u8, from: u8) -> 
         ≡ refusal_in (asks_data registers.now (DataInstr.Store datum from) typing.now) }
 {
     let right = typing.right_at(datum);
-    let fits = right.is_some_and(Right::writes_scalar);
+    let fits = right.is_some_and(RightType::writes_scalar);
     value_of_refusal(registers, from, &right, fits)
 }
 
@@ -83,7 +83,7 @@ fn get_refusal(registers: &[Scalar], typing: &Typing, to: u8, datum: u8) -> Opti
         ≡ refusal_in (asks_data registers.now (DataInstr.Get to datum) typing.now) }
 {
     let right = typing.right_at(datum);
-    let fits = right.is_some_and(Right::reads_closed_scalar);
+    let fits = right.is_some_and(RightType::reads_closed_scalar);
     value_of_refusal(registers, to, &right, fits)
 }
 

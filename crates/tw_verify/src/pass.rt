@@ -18,7 +18,7 @@ ghost use Rattle.tw_verify.specs.Verified.{AreFindings};
 use crate::fault::{Fault, keep};
 use crate::findings::Findings;
 use crate::loops::Loops;
-use crate::rows::{Reached, first_rows, row_at, send_both};
+use crate::reached::{Reached, first_rows, row_at, send_both};
 use crate::structure::ask_structure;
 use std::alloc::Global;
 use tw_budget::{BudgetRefusal, budgets};
@@ -133,7 +133,7 @@ fn budget(alloc: Global, procedure: &Procedure) -> Result<u64, Fault>
             violation: Violation::BudgetTooLarge,
             place: 0,
         }),
-        Err(BudgetRefusal::Memory) => Err(Fault::Memory),
+        Err(BudgetRefusal::NoMemory) => Err(Fault::NoMemory),
     }
 }
 

@@ -4,11 +4,11 @@
 ghost use Rattle.std.specs.Prelude.{◌≡◌, ◌<◌, ◌∷◌, [], ◌++◌, Bool};
 ghost use Rattle.std.specs.Option.{option_map};
 ghost use Rattle.tw_code.specs.accepting.Question.{passes, refusal_in};
-ghost use Rattle.tw_code.specs.machine.Rights.{Right, right_at};
+ghost use Rattle.tw_code.specs.machine.Rights.{RightType, right_at};
 ghost use Rattle.tw_code.specs.accepting.Typing.{asks_value, asks_alike, asks_values, asks_value_of, asks_empty_pair, asks_container_write, writes_container, reads, reads_closed_container, reads_member_of};
 ghost use Rattle.tw_verify.specs.Violations.{lowest_of, refusal_with, violation_number};
 
-use crate::typing::{Right, Typing};
+use crate::typing::{RightType, Typing};
 use crate::violation::Violation;
 use tw_types::Scalar;
 
@@ -99,10 +99,10 @@ pub(crate) fn alike_refusal(registers: &[Scalar], first: u8, second: u8) -> Opti
 pub(crate) fn value_of_refusal(
     registers: &[Scalar],
     register: u8,
-    right: &Option<Right>,
+    right: &Option<RightType>,
     fits: bool,
 ) -> Option<Violation>
-    ensures { (test : Right → Bool) → fits ≡ passes test right.now
+    ensures { (test : RightType → Bool) → fits ≡ passes test right.now
         → option_map violation_number result
         ≡ refusal_in (asks_value_of registers.now register test right.now) }
 {
@@ -133,7 +133,7 @@ pub(crate) fn read_refusal(typing: &Typing, register: u8) -> Option<Violation>
     ensures { option_map violation_number result
         ≡ refusal_in ((4, passes reads (right_at typing.now register)) ∷ []) }
 {
-    let fits = typing.right_at(register).is_some_and(Right::reads);
+    let fits = typing.right_at(register).is_some_and(RightType::reads);
     (!fits).then_some(Violation::WrongRight)
 }
 
@@ -162,7 +162,7 @@ pub(crate) fn members_refusal(
 {
     let fits = typing
         .right_at(register)
-        .is_some_and(Right::reads_closed_container);
+        .is_some_and(RightType::reads_closed_container);
     beside(fits, Violation::WrongRight, others)
 }
 
@@ -173,7 +173,7 @@ pub(crate) fn is_container_write(typing: &Typing, register: u8) -> bool
 {
     typing
         .right_at(register)
-        .is_some_and(Right::writes_container)
+        .is_some_and(RightType::writes_container)
 }
 
 /// Whether a right register has a read of what the datum of another one has as members.

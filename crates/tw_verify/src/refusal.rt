@@ -41,7 +41,7 @@ pub enum VerifyRefusal {
     /// V17.
     BudgetTooLarge,
     /// V18.
-    Memory,
+    NoMemory,
 }
 
 impl VerifyRefusal {
@@ -67,7 +67,7 @@ impl VerifyRefusal {
             VerifyRefusal::ScalarWrite => 15,
             VerifyRefusal::MainShape => 16,
             VerifyRefusal::BudgetTooLarge => 17,
-            VerifyRefusal::Memory => 18,
+            VerifyRefusal::NoMemory => 18,
         }
     }
 }

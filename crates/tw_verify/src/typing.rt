@@ -16,13 +16,13 @@ use tw_types::{DataType, Mode, Param};
 
 /// A right on a datum of a type.
 #[derive(Clone, Copy, PartialEq, Eq)]
-pub struct Right {
+pub struct RightType {
     mode: Mode,
     ty: DataType,
 }
 
-impl Model for Right {
-    ghost use Rattle.tw_code.specs.machine.Rights.{Right as RightOn};
+impl Model for RightType {
+    ghost use Rattle.tw_code.specs.machine.Rights.{RightType as RightOn};
 
     ghost Value = { RightOn };
 
@@ -31,7 +31,7 @@ impl Model for Right {
     ghost inverse = { λ r. record { mode = r.mode; ty = r.ty } };
 }
 
-impl Right {
+impl RightType {
     /// How it is held.
     pub fn mode(self) -> Mode
         ensures { result ≡ self.mode }
@@ -47,30 +47,30 @@ impl Right {
     }
 
     /// A right to write a datum of the type.
-    fn write(ty: DataType) -> Right
+    fn write(ty: DataType) -> RightType
         ensures { a_write ty ≡ Some result }
     {
-        Right {
+        RightType {
             mode: Mode::Write,
             ty,
         }
     }
 
     /// A right to read a datum of the type.
-    fn read(ty: DataType) -> Right
+    fn read(ty: DataType) -> RightType
         ensures { a_read ty ≡ Some result }
     {
-        Right {
+        RightType {
             mode: Mode::Ref,
             ty,
         }
     }
 
     /// A right to read a member of its datum, where that has members.
-    fn member_read(self) -> Option<Right>
+    fn member_read(self) -> Option<RightType>
         ensures { result ≡ option_and_then a_read (element_of self.ty) }
     {
-        self.ty.element().map(Right::read)
+        self.ty.element().map(RightType::read)
     }
 
     pub(crate) fn writes(self) -> bool
@@ -124,7 +124,7 @@ impl Right {
     }
 
     /// Whether it reads what that container has as members.
-    pub(crate) fn reads_member_of(self, container: Right) -> bool
+    pub(crate) fn reads_member_of(self, container: RightType) -> bool
         ensures { result ≡ reads_member_of container self }
     {
         self.reads() && container.ty.element() == Some(self.ty)
@@ -134,12 +134,12 @@ impl Right {
 /// What the 16 right registers hold at a place: each is empty or has a right.
 #[derive(Clone, Copy, PartialEq, Eq)]
 pub struct Typing {
-    rights: [Option<Right>; 16],
+    rights: [Option<RightType>; 16],
 }
 
 impl Model for Typing {
     ghost use Rattle.std.specs.Prelude.{List, Option};
-    ghost use Rattle.tw_code.specs.machine.Rights.{Right as RightOn};
+    ghost use Rattle.tw_code.specs.machine.Rights.{RightType as RightOn};
 
     ghost Value = { List (Option RightOn) };
 
@@ -158,7 +158,7 @@ impl Typing {
         let mut given = 0;
         for param in params {
             if !param.mode.is_val() {
-                rights[given] = Some(Right {
+                rights[given] = Some(RightType {
                     mode: param.mode,
                     ty: param.ty,
                 });
@@ -169,7 +169,7 @@ impl Typing {
     }
 
     /// What a register holds.
-    pub fn right_at(&self, register: u8) -> Option<Right>
+    pub fn right_at(&self, register: u8) -> Option<RightType>
         requires { register < 16 }
         ensures { result ≡ right_at self.now register }
     {
@@ -198,7 +198,7 @@ impl Typing {
         self.rights == other.rights
     }
 
-    fn with(mut self, register: u8, right: Option<Right>) -> Typing
+    fn with(mut self, register: u8, right: Option<RightType>) -> Typing
         requires { register < 16 }
         ensures { result ≡ slice_set self register right }
     {
@@ -213,23 +213,23 @@ impl Typing {
     {
         match instr {
             DataInstr::New { write, read, ty } => self
-                .with(write, Some(Right::write(ty)))
-                .with(read, Some(Right::read(ty))),
+                .with(write, Some(RightType::write(ty)))
+                .with(read, Some(RightType::read(ty))),
             DataInstr::Store { datum, .. } => self.with(datum, None),
             DataInstr::Insert { member, .. } => match way {
-                Way::Done => self.with(member, None),
-                Way::Refused => self,
+                Way::Completed => self.with(member, None),
+                Way::Skipped => self,
             },
             DataInstr::Look {
                 member,
                 container,
                 ..
             } => match way {
-                Way::Done => self.with(
+                Way::Completed => self.with(
                     member,
-                    self.right_at(container).and_then(Right::member_read),
+                    self.right_at(container).and_then(RightType::member_read),
                 ),
-                Way::Refused => self,
+                Way::Skipped => self,
             },
             DataInstr::CopyRead { to, from } | DataInstr::CopyWrite { to, from } => {
                 self.with(to, self.right_at(from))

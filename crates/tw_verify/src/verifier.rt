@@ -4,7 +4,7 @@ ghost use Rattle.std.specs.Prelude.{◌≡◌, ◌≢◌, IfOk, IfErr, OnOk};
 ghost use Rattle.tw_code.specs.format.Program.{IsProgram};
 ghost use Rattle.tw_code.specs.accepting.WellTyped.{IsAccepted, IsFirstRefusal};
 ghost use Rattle.tw_verify.specs.Refusal.{verify_refusal_number};
-ghost use Rattle.tw_verify.specs.declared.refusal.VerifyRefusal.TheVariants.{Memory};
+ghost use Rattle.tw_verify.specs.declared.refusal.VerifyRefusal.TheVariants.{NoMemory};
 ghost use Rattle.tw_verify.specs.Passes.{IsRefusal};
 ghost use Rattle.tw_verify.specs.Verified.{IsTyped};
 
@@ -46,17 +46,17 @@ fn all_findings(alloc: Global, procedures: &[Procedure]) -> Result<Items<Finding
 /// in order its structure, then its typings, then its budget.
 pub fn verify(alloc: Global, program: Program) -> Result<Verified, Refused>
     // An accepted program is answered `Ok`, unless memory runs out.
-    ensures complete { IsAccepted program → IfErr result (λ refused. refused.no ≡ Memory) }
+    ensures complete { IsAccepted program → IfErr result (λ refused. refused.no ≡ NoMemory) }
     // No other program is.
     ensures sound { OnOk result (IsAccepted program) }
     // What is accepted is the program that was given.
     ensures kept { IfOk result (λ verified. verified.program ≡ program) }
 
     // A refusal is the program's first one, unless memory ran out.
-    ensures first { IfErr result (λ refused. refused.no ≢ Memory
+    ensures first { IfErr result (λ refused. refused.no ≢ NoMemory
         → IsFirstRefusal program (verify_refusal_number refused.no) refused.procedure refused.place) }
     // Where memory ran out, no place is told.
-    ensures memory { IfErr result (λ refused. refused.no ≡ Memory
+    ensures memory { IfErr result (λ refused. refused.no ≡ NoMemory
         → (refused.procedure ≡ 0) × (refused.place ≡ 0)) }
     // The program comes back.
     ensures back { IfErr result (λ refused. refused.program ≡ program) }

@@ -12,7 +12,7 @@ use Rattle.tw_asm.specs.Seen.{Read, bytes_of}
 use Rattle.tw_asm.specs.Statement as said
 use Rattle.tw_asm.specs.declared.opcode.Opcode.{Opcode}
 use Rattle.tw_asm.specs.declared.opcode.Opcode.TheVariants as op
-use Rattle.tw_asm.specs.declared.statement.Draft.{Draft}
+use Rattle.tw_asm.specs.declared.statement.Unlinked.{Unlinked}
 use Rattle.tw_asm.specs.declared.refusal.Flaw.{Flaw}
 use Rattle.tw_asm.specs.declared.refusal.Flaw.TheVariants.{Form, Limit}
 use Rattle.tw_asm.specs.declared.refusal.Refusal.{Refusal}
@@ -312,12 +312,12 @@ statement_in (Bare word ∷ ws) = if bytes_eq word (codes "proc") then head_in w
 
 -- ---- what functions answer
 
-abbrev pub drafted : Draft → Instr × Option (List ℕ)
+abbrev pub drafted : Unlinked → Instr × Option (List ℕ)
 drafted draft = (draft.instr, bytes_of draft.goal)
 
 -- the reading fails as the function did
 abbrev pub Fails : {Y : Type 0} → Refusal → Result Y Flaw → Type 0
-Fails refusal.OutOfMemory read = Unit {0}
+Fails refusal.NoMemory read = Unit {0}
 Fails (refusal.Flawed flaw) read = read ≡ Err flaw
 
 -- What a function returned, seen by view, is what reading gives, unless memory ran out.

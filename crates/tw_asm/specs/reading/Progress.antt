@@ -15,14 +15,14 @@ use Rattle.tw_asm.specs.Seen.{Read, IsRead, bytes_of, seen}
 use Rattle.tw_asm.specs.Statement.{Statement, Head, Registers, Label, Code}
 use Rattle.tw_asm.specs.declared.fault.AsmFault.{AsmFault}
 use Rattle.tw_asm.specs.declared.fault.FaultNo.TheVariants as fault
-use Rattle.tw_asm.specs.declared.reading.DraftLine as draft_lines
+use Rattle.tw_asm.specs.declared.reading.UnlinkedLine as draft_lines
 use Rattle.tw_asm.specs.declared.reading.Reading as readings
 use Rattle.tw_asm.specs.declared.reading.Section as sections
 use Rattle.tw_asm.specs.declared.reading.Stage as stages
 use Rattle.tw_asm.specs.declared.reading.Stage.TheVariants as stage
 use Rattle.tw_asm.specs.Fault.{Stage, Start, AfterHead, InBody, Situation, MayBegin, MayStand, LineFault, IsEndFault, IsLineFault, IsUnfinished, IsWhole}
 use Rattle.tw_asm.specs.Spelling.{Placed}
-use Rattle.tw_asm.specs.reading.Promise.{promise}
+use Rattle.tw_asm.specs.reading.Expected.{expectation}
 
 -- an instruction, the label that it names, and the number of its line
 pub record Drafted : Type 0 where
@@ -52,7 +52,7 @@ pub record Progress : Type 0 where
 abbrev pub seen_label : Bor (List ℕ) × ℕ → Placed
 seen_label entry = record { name = entry.0.now; place = entry.1 }
 
-abbrev pub seen_draft : draft_lines.DraftLine → Drafted
+abbrev pub seen_draft : draft_lines.UnlinkedLine → Drafted
 seen_draft line = record { instr = line.draft.instr; goal = bytes_of line.draft.goal; number = line.number }
 
 abbrev pub seen_section : sections.Section → Section
@@ -156,7 +156,7 @@ LinesRead number p (line ∷ after) (read ∷ others) = LineRead (situation_of p
 -- ---- what the functions answer
 
 abbrev pub IsMemory : AsmFault → Type 0
-IsMemory f = (f.no ≡ fault.Memory) × (f.line ≡ 0)
+IsMemory f = (f.no ≡ fault.NoMemory) × (f.line ≡ 0)
 
 abbrev pub IsLimit : AsmFault → ℕ → Type 0
 IsLimit f at = (f.no ≡ fault.Limit) × (f.line ≡ at)
@@ -168,12 +168,12 @@ IsEmptyAt (Within section) = length section.drafts ≡ 0
 
 -- where a limit is told: at the head of an empty procedure, which another head would end, or else at the line itself
 abbrev pub IsLimitLine : Progress → First → ℕ → ℕ → Type 0
-IsLimitLine p promised number at = ((promised ≡ first.Head) × IsEmptyAt p.place × (at ≡ p.head_line)) ⊎ ((promised ≡ first.Head → IsEmptyAt p.place → ⊥) × (at ≡ number))
+IsLimitLine p expected number at = ((expected ≡ first.Head) × IsEmptyAt p.place × (at ≡ p.head_line)) ⊎ ((expected ≡ first.Head → IsEmptyAt p.place → ⊥) × (at ≡ number))
 
 -- the line's statement, if it has any; it begins with what may stand here
 abbrev pub WordsRead : Progress → ℕ → List ℕ → Result (Option statements.Statement) AsmFault → Type 0
 WordsRead p number line (Ok None) = IsLine [] line
-WordsRead p number line (Ok (Some statement)) = ((words : List Word) × IsLine words line × IsRead (seen statement) words) × MayBegin (stage_of p.place) (promise (seen statement).statement)
+WordsRead p number line (Ok (Some statement)) = ((words : List Word) × IsLine words line × IsRead (seen statement) words) × MayBegin (stage_of p.place) (expectation (seen statement).statement)
 WordsRead p number line (Err f) = IsMemory f ⊎ LineFault number (situation_of p) line f.no f.line
 
 abbrev pub Stopped : Progress → ℕ → Read → AsmFault → Type 0

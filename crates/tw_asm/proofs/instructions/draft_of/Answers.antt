@@ -2,13 +2,13 @@ use Rattle.std.proofs.Common.{◌≡◌, List, Result, map, sym, subst}
 use Rattle.tw_words.specs.Seen.{seen}
 use Rattle.tw_words.specs.Words.{Word}
 use Rattle.tw_asm.specs.declared.opcode.Opcode.{Opcode}
-use Rattle.tw_asm.specs.declared.statement.Draft.{Draft}
+use Rattle.tw_asm.specs.declared.statement.Unlinked.{Unlinked}
 use Rattle.tw_asm.specs.declared.refusal.Refusal.{Refusal}
 use Rattle.tw_asm.specs.reading.Lines.{Gives, draft_in, drafted}
 use Rattle.tw_asm.proofs.instructions.draft_of.Goals as goal
 
 -- the instruction that it is
-made : (o p : Opcode) (ws : List Word) (r : Result Draft Refusal) → o ≡ p → Gives drafted r (draft_in p ws) → Gives drafted r (draft_in o ws)
+made : (o p : Opcode) (ws : List Word) (r : Result Unlinked Refusal) → o ≡ p → Gives drafted r (draft_in p ws) → Gives drafted r (draft_in o ws)
 made o p ws r is gives = subst (λ (q : Opcode). Gives drafted r (draft_in q ws)) (sym is) gives
 
 pub returns-in-Int : goal.returns-in-Int

@@ -22,21 +22,21 @@ returns-in_default c =
       | else-read w ↦ rw w.result-is (inr (rw (w.new.ensures.no, w.new.ensures.line) (broken_fault c.args.number (situation_of (seen_reading c.args.reading.now)) c.args.line.now (subst (λ (ws : List Word). IsBrokenLine ws c.args.line.now) words (rw w.if-read.false at all)))))
     ]
 
-pub returns-in_default-promise_of : goal.returns-in_default-promise_of
-returns-in_default-promise_of c =
+pub returns-in_default-expected_of : goal.returns-in_default-expected_of
+returns-in_default-expected_of c =
     let all = subst (λ (b : List ℕ). IsLineRead (map seen_word c.in_ok-read.read.words.items) c.in_ok-read.read.whole b) c.as_bytes.ensures.value c.in_ok-read.ensures in
     let first = a_first c.in_ok-read.read.words.items c.in-Some.word.now (c.in-Some.ensures.value ∙ ap (λ xs. slice_get xs 0) c.deref.ensures.value) in
     let words = ap (map seen_word) first.1 in
-    inr (rw (c.new-in_default-promise_of.ensures.no, c.new-in_default-promise_of.ensures.line) (any_word_fault c.args.number (situation_of (seen_reading c.args.reading.now)) c.args.line.now (seen_word c.in-Some.word.now) (map seen_word first.0) c.in_ok-read.read.whole
-    (subst (λ (ws : List Word). IsLineRead ws c.in_ok-read.read.whole c.args.line.now) words all) c.in_default-promise_of.ensures))
+    inr (rw (c.new-in_default-expected_of.ensures.no, c.new-in_default-expected_of.ensures.line) (any_word_fault c.args.number (situation_of (seen_reading c.args.reading.now)) c.args.line.now (seen_word c.in-Some.word.now) (map seen_word first.0) c.in_ok-read.read.whole
+    (subst (λ (ws : List Word). IsLineRead ws c.in_ok-read.read.whole c.args.line.now) words all) c.in_default-expected_of.ensures))
 
 pub returns-then-not-read : goal.returns-then-not-read
 returns-then-not-read c =
     let all = subst (λ (b : List ℕ). IsLineRead (map seen_word c.in_ok-read.read.words.items) c.in_ok-read.read.whole b) c.as_bytes.ensures.value c.in_ok-read.ensures in
     let first = a_first c.in_ok-read.read.words.items c.in-Some.word.now (c.in-Some.ensures.value ∙ ap (λ xs. slice_get xs 0) c.deref.ensures.value) in
     let words = ap (map seen_word) first.1 in
-    inr (rw (c.new-then-not-read.ensures.no, c.new-then-not-read.ensures.line) (broken_operand c.args.number (situation_of (seen_reading c.args.reading.now)) c.args.line.now (seen_word c.in-Some.word.now) (map seen_word first.0) c.in-Some-promise_of.promised
-    (subst (λ (ws : List Word). IsBrokenLine ws c.args.line.now) words (rw c.if-not-read.true at all)) c.in-Some-promise_of.ensures.0 c.in-Some-promise_of.ensures.1))
+    inr (rw (c.new-then-not-read.ensures.no, c.new-then-not-read.ensures.line) (broken_operand c.args.number (situation_of (seen_reading c.args.reading.now)) c.args.line.now (seen_word c.in-Some.word.now) (map seen_word first.0) c.in-Some-expected_of.expected
+    (subst (λ (ws : List Word). IsBrokenLine ws c.args.line.now) words (rw c.if-not-read.true at all)) c.in-Some-expected_of.ensures.0 c.in-Some-expected_of.ensures.1))
 
 pub returns-in-Ok : goal.returns-in-Ok
 returns-in-Ok c =
@@ -45,8 +45,8 @@ returns-in-Ok c =
     let words = ap (map seen_word) first.1 in
     let read = subst (IsRead (seen c.in-Ok.statement)) (ap (map seen_word) c.deref-2.ensures.value) c.in-Ok.ensures in (
       (map seen_word c.in_ok-read.read.words.items, rw c.if-not-read.false at all, read),
-      may_stand_there (stage_of (seen_stage c.args.reading.now.stage)) (seen c.in-Ok.statement) (seen_word c.in-Some.word.now) (map seen_word first.0) c.in-Some-promise_of.promised
-          (subst (IsRead (seen c.in-Ok.statement)) words read) c.in-Some-promise_of.ensures.0 c.in-Some-promise_of.ensures.1,
+      may_stand_there (stage_of (seen_stage c.args.reading.now.stage)) (seen c.in-Ok.statement) (seen_word c.in-Some.word.now) (map seen_word first.0) c.in-Some-expected_of.expected
+          (subst (IsRead (seen c.in-Ok.statement)) words read) c.in-Some-expected_of.ensures.0 c.in-Some-expected_of.ensures.1,
     )
 
 pub returns-in-Err-Flawed-Form : goal.returns-in-Err-Flawed-Form
@@ -56,8 +56,8 @@ returns-in-Err-Flawed-Form c =
     let words = ap (map seen_word) first.1 in
     let flawed = subst (λ (r : Refusal). Answers (Err r) (map seen_word c.deref-2.result.now)) (c.in-Err-Flawed-Form.field-0-is ∙ ap refusal.Flawed c.in-Err-Flawed-Form.field-0-0-is) c.in-Err-Flawed-Form.ensures in
     let here = subst (λ (ws : List Word). Answers (Err (refusal.Flawed flaw.Form)) ws) (ap (map seen_word) c.deref-2.ensures.value ∙ words) flawed in
-    inr (rw (c.new-in-Err-Flawed-Form.ensures.no, c.new-in-Err-Flawed-Form.ensures.line) (form_fault c.args.number (situation_of (seen_reading c.args.reading.now)) c.args.line.now (seen_word c.in-Some.word.now) (map seen_word first.0) c.in-Some-promise_of.promised
-    (subst (λ (ws : List Word). IsLine ws c.args.line.now) words (rw c.if-not-read.false at all)) c.in-Some-promise_of.ensures.0 c.in-Some-promise_of.ensures.1 here))
+    inr (rw (c.new-in-Err-Flawed-Form.ensures.no, c.new-in-Err-Flawed-Form.ensures.line) (form_fault c.args.number (situation_of (seen_reading c.args.reading.now)) c.args.line.now (seen_word c.in-Some.word.now) (map seen_word first.0) c.in-Some-expected_of.expected
+    (subst (λ (ws : List Word). IsLine ws c.args.line.now) words (rw c.if-not-read.false at all)) c.in-Some-expected_of.ensures.0 c.in-Some-expected_of.ensures.1 here))
 
 pub returns : goal.returns
 returns c =
@@ -66,5 +66,5 @@ returns c =
     let words = ap (map seen_word) first.1 in
     let flawed = subst (λ (r : Refusal). Answers (Err r) (map seen_word c.deref-2.result.now)) (c.in-Err-Flawed-Limit.field-0-is ∙ ap refusal.Flawed c.in-Err-Flawed-Limit.field-0-0-is) c.in-Err-Flawed-Limit.ensures in
     let here = subst (λ (ws : List Word). Answers (Err (refusal.Flawed flaw.Limit)) ws) (ap (map seen_word) c.deref-2.ensures.value ∙ words) flawed in
-    inr (rw (c.new-in-Err-Flawed-Limit.ensures.no, c.new-in-Err-Flawed-Limit.ensures.line) (limit_fault c.args.number c.limit_line.result (seen_reading c.args.reading.now) c.args.line.now (seen_word c.in-Some.word.now) (map seen_word first.0) c.in-Some-promise_of.promised
-    (subst (λ (ws : List Word). IsLine ws c.args.line.now) words (rw c.if-not-read.false at all)) c.in-Some-promise_of.ensures.0 c.in-Some-promise_of.ensures.1 here.0 here.1 c.limit_line.ensures))
+    inr (rw (c.new-in-Err-Flawed-Limit.ensures.no, c.new-in-Err-Flawed-Limit.ensures.line) (limit_fault c.args.number c.limit_line.result (seen_reading c.args.reading.now) c.args.line.now (seen_word c.in-Some.word.now) (map seen_word first.0) c.in-Some-expected_of.expected
+    (subst (λ (ws : List Word). IsLine ws c.args.line.now) words (rw c.if-not-read.false at all)) c.in-Some-expected_of.ensures.0 c.in-Some-expected_of.ensures.1 here.0 here.1 c.limit_line.ensures))

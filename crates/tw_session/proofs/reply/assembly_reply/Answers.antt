@@ -12,7 +12,7 @@ returns-in_ok-put_asm_line-in_default c =
     let text = c.args.text.now in
     let line = c.in-Err.fault.line in
     let which = c.in-Err.fault.no in
-    let has : HasFault text which line = fault_has text which line c.in_default.not-Memory c.in-Err.ensures in
+    let has : HasFault text which line = fault_has text which line c.in_default.not-NoMemory c.in-Err.ensures in
     let written : c.put_asm_line.new.out.items ≡ asm_line (fault_number which) line =
     c.in_ok-put_asm_line-in_default.ensures ∙ ap (λ (t : List ℕ). t ++ asm_line c.number.result line) c.new-text.ensures.items ∙ ap (λ (n : ℕ). asm_line n line) c.number.ensures in
     inr (which, line, has, ap (λ (t : List ℕ). reply t Refused) written)

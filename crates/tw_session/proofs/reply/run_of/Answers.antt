@@ -20,4 +20,4 @@ pub returns : goal.returns
 returns c =
     IfOk-weaker _ _ _
     (λ (r : Reply) h. refused_given c.args.verified.program c.into_program.result c.args.order.now c.as_slice.result.now c.in-Err.refused.no c.number.result (reply r.text.items r.close) c.into_program.ensures
-    c.as_slice.ensures c.requires.main c.in-Err.ensures.asked c.in_default.not-Memory c.number.ensures h) c.opening_reply.ensures
+    c.as_slice.ensures c.requires.main c.in-Err.ensures.asked c.in_default.not-NoMemory c.number.ensures h) c.opening_reply.ensures

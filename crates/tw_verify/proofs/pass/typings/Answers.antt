@@ -8,7 +8,7 @@ use Rattle.tw_code.specs.machine.Rights.{Typing}
 use Rattle.tw_code.specs.accepting.Typing.{start_typing, asks_at}
 use Rattle.tw_code.specs.accepting.WellTyped.{IsEndOf, IsWellTyped}
 use Rattle.tw_verify.specs.Violations.{violation_number}
-use Rattle.tw_verify.specs.declared.rows.Reached.{Reached}
+use Rattle.tw_verify.specs.declared.reached.Reached.{Reached}
 use Rattle.tw_verify.specs.Passes.{first_row, HasChanged, lowest_at}
 use Rattle.tw_verify.proofs.Causes.{nothing_at}
 use Rattle.tw_verify.proofs.Mistakes.{none_typed, typed_more, unreached, refusal_at}

@@ -1,7 +1,7 @@
 use Rattle.std.proofs.Common.{◌≡◌, ℕ, ◌+◌, length, Option, Some}
 use Rattle.std.specs.Prelude.{slice_get}
 use Rattle.tw_code.specs.accepting.WellTyped.{IsWellTyped}
-use Rattle.tw_verify.specs.declared.rows.Reached.{Reached}
+use Rattle.tw_verify.specs.declared.reached.Reached.{Reached}
 use Rattle.tw_verify.proofs.Reaching.{IsRow}
 use Rattle.tw_verify.proofs.pass.typings.Given as goal
 

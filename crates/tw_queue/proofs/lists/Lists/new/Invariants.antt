@@ -4,6 +4,6 @@ use Rattle.tw_queue.proofs.lists.Lists.new.Given as goal
 
 abbrev pub invariant-loop : goal.invariant-loop
 invariant-loop l = record {
-  ranks : ranks_in l.places.items ≡ replicate l.counter [];
-  count : length l.places.items ≡ l.counter;
+  ranks : ranks_in l.lanes.items ≡ replicate l.counter [];
+  count : length l.lanes.items ≡ l.counter;
 }

@@ -5,7 +5,7 @@ use Rattle.std.specs.List.Sorted.{IsPermutation}
 use Rattle.tw_queue.specs.declared.waiting.Waiting.{Waiting}
 use Rattle.tw_queue.specs.Index.{ranks_of}
 use Rattle.tw_queue.specs.Indexed.{IsIndex, tasks_in}
-use Rattle.tw_queue.specs.Lists.{place_of}
+use Rattle.tw_queue.specs.Lists.{lane_of}
 use Rattle.tw_queue.specs.Slots.{IsChangedAt, slot_at}
 use Rattle.tw_queue.specs.Queues.{room_for, waiting}
 use Rattle.tw_queue.proofs.Entries.{apart_put, fresh, tasks_put, updated}
@@ -32,8 +32,8 @@ invariant_of-self-2 c =
     let none : map.get (tasks_in ready) c.args.task.no ≡ None =
     ap (λ slots. map.get (tasks_in slots) c.args.task.no) c.reserve.ensures.same ∙ ap (λ q. map.get q.tasks c.args.task.no) c.self.view_is ∙ c.requires.new in
     let pushed = c.in-Ok-push.ensures.pushed in
-    let here = subst (λ n. IsPermutation (ranked kept n slot ∷ less c.args.kind (place_of c.args.target)) (more c.args.kind (place_of c.args.target))) c.number-number.ensures pushed.here in
-    put_index (slot_at ready) (slot_at new) less more is c.args.kind (place_of c.args.target) slot w pushed.others here (updated slot (Some w) ready new changed) c.next-slot.ensures.free refl refl
+    let here = subst (λ n. IsPermutation (ranked kept n slot ∷ less c.args.kind (lane_of c.args.target)) (more c.args.kind (lane_of c.args.target))) c.number-number.ensures pushed.here in
+    put_index (slot_at ready) (slot_at new) less more is c.args.kind (lane_of c.args.target) slot w pushed.others here (updated slot (Some w) ready new changed) c.next-slot.ensures.free refl refl
     c.requires.target (apart_put slot w ready new is.apart (fresh ready is.apart c.args.task.no none) changed)
 
 pub returns-clause-put : goal.returns-clause-put

@@ -1,5 +1,5 @@
 use Rattle.std.proofs.Common.{◌-◌, List, ◌++◌, map, replicate, Some, None, ap, sym, ◌∙◌, arith, length, length-append, set, take, ◌∷◌, []}
-use Rattle.tw_code.specs.machine.Rights.{Right, Typing}
+use Rattle.tw_code.specs.machine.Rights.{RightType, Typing}
 use Rattle.tw_code.specs.accepting.Typing.{rights_given}
 use Rattle.tw_verify.proofs.OneMore.{next_value, next_right, next_typing, as_right}
 use Rattle.tw_verify.proofs.typing.Typing.start.Goals as goal
@@ -18,5 +18,5 @@ loop-param-preserved c =
           record { rights = w.rights-is ∙ ap (λ (t : Typing). set t c.loop-param.given (Some (as_right p))) c.loop-param.invariant.rights ∙ sym typing; given = omega (arith, ap length more.1, length-append (rights_given (take i ps)) (as_right p ∷ [])); few = omega arith }
       | else-not-is_val w ↦
           let more = next_value ps i p c.loop-param-test.true c.param-item.is (sym c.is_val.ensures ∙ w.if-not-is_val.false) in
-          record { rights = w.rights-is ∙ c.loop-param.invariant.rights ∙ sym (ap (λ (given : List Right). map Some given ++ replicate (16 - length given) None) more.1); given = omega (arith, ap length more.1); few = omega arith }
+          record { rights = w.rights-is ∙ c.loop-param.invariant.rights ∙ sym (ap (λ (given : List RightType). map Some given ++ replicate (16 - length given) None) more.1); given = omega (arith, ap length more.1); few = omega arith }
     ]

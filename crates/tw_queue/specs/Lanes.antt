@@ -1,4 +1,4 @@
--- What is seen of the ranks at one place.
+-- What is seen of the ranks at one lane.
 use Rattle.std.specs.Prelude.{◌≡◌, Bool, List, [], ◌∷◌, Option, Some, None, ⊤}
 use Rattle.std.specs.List.{Contains}
 use Rattle.std.specs.BinaryHeap.{IsUpperBound}
@@ -6,7 +6,7 @@ use Rattle.tw_queue.specs.declared.rank.Rank.{Rank}
 use Rattle.tw_queue.specs.Ranks.{rank_cmp}
 
 -- the ranks, in no order that matters; and whether there is room for one more
-pub record Placed : Type 0 where
+pub record LaneSeen : Type 0 where
   pub ranks : List Rank
   pub has_room : Bool
 

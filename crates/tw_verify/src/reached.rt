@@ -4,9 +4,9 @@ ghost use Rattle.std.specs.Prelude.{◌≡◌, ℕ, ◌<◌, Option, Some, None,
 ghost use Rattle.tw_code.specs.accepting.Flow.{flow_of, onward};
 ghost use Rattle.tw_code.specs.format.Program.{IsInstr};
 ghost use Rattle.tw_code.specs.accepting.Typing.{after};
-ghost use Rattle.tw_code.specs.declared.flow.Way.TheVariants.{Done, Refused};
+ghost use Rattle.tw_code.specs.declared.flow.Way.TheVariants.{Completed, Skipped};
 ghost use Rattle.tw_verify.specs.Passes.{noted, sent, first_row};
-ghost use Rattle.tw_verify.specs.declared.rows.Reached.{Reached};
+ghost use Rattle.tw_verify.specs.declared.reached.Reached.{Reached};
 
 use std::alloc::{AllocError, Global};
 use tw_code::{Flow, Instr, Procedure, Way};
@@ -40,12 +40,12 @@ fn next_place(way: Way, place: usize, flow: Flow) -> Option<usize>
     ensures { result ≡ onward way place flow }
 {
     match way {
-        Way::Done => match flow {
+        Way::Completed => match flow {
             Flow::Straight | Flow::Branch(_) | Flow::Begin(_) | Flow::Close => Some(place + 1),
             Flow::Jump(skip) => Some(place + 1 + skip as usize),
             Flow::Stop => None,
         },
-        Way::Refused => match flow {
+        Way::Skipped => match flow {
             Flow::Branch(skip) => Some(place + 1 + skip as usize),
             Flow::Straight | Flow::Jump(_) | Flow::Begin(_) | Flow::Close | Flow::Stop => None,
         },
@@ -76,14 +76,14 @@ pub(crate) fn send_both(
     requires short { place < 2 ^ 32 }
     ensures { (q : ℕ) (r : Option Reached) → slice_get rows.old q ≡ Some r
         → slice_get rows.new q
-        ≡ Some (sent (onward Refused place (flow_of instr.now)) (after procedures.now Refused instr.now typing) q
-        (sent (onward Done place (flow_of instr.now)) (after procedures.now Done instr.now typing) q r)) }
+        ≡ Some (sent (onward Skipped place (flow_of instr.now)) (after procedures.now Skipped instr.now typing) q
+        (sent (onward Completed place (flow_of instr.now)) (after procedures.now Completed instr.now typing) q r)) }
 {
     let flow = instr.flow();
-    let done = typing.after(procedures, Way::Done, instr);
-    send(rows, next_place(Way::Done, place, flow), done);
-    let refused = typing.after(procedures, Way::Refused, instr);
-    send(rows, next_place(Way::Refused, place, flow), refused);
+    let done = typing.after(procedures, Way::Completed, instr);
+    send(rows, next_place(Way::Completed, place, flow), done);
+    let refused = typing.after(procedures, Way::Skipped, instr);
+    send(rows, next_place(Way::Skipped, place, flow), refused);
 }
 
 /// Before any instruction the parameters' typing has reached the first place, and nothing another one.

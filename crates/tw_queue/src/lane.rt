@@ -3,7 +3,7 @@
 ghost use Rattle.std.specs.Prelude.{◌≡◌, ◌++◌, ◌∷◌, [], true, false, IfNone, IfSome, IsOk, OnErr, OnOk};
 ghost use Rattle.std.specs.BinaryHeap.{IsHeap, heap_items};
 ghost use Rattle.std.specs.List.Sorted.{IsPermutation};
-ghost use Rattle.tw_queue.specs.Places.{IsFirst, IsInFront, IsInOrder};
+ghost use Rattle.tw_queue.specs.Lanes.{IsFirst, IsInFront, IsInOrder};
 ghost use Rattle.tw_queue.specs.Ranks.{rank_cmp};
 
 use crate::rank::Rank;
@@ -14,21 +14,21 @@ use std::marker::Model;
 /// Ranks with the first of them at hand. Where tasks of one priority come in order, all ranks stand in the run, and each
 /// comes and goes in constant time.
 #[derive(Drop)]
-pub struct Place {
+pub struct Lane {
     /// The first one in front, and none goes before one that stands in front of it.
     run: VecDeque<Rank>,
     /// Those that went before the last of the run when they came.
     rest: BinaryHeap<Rank>,
 }
 
-impl Model for Place {
+impl Model for Lane {
     ghost use Rattle.std.specs.Prelude.{◌&&◌, ◌++◌, nat_lt};
     ghost use Rattle.std.specs.BinaryHeap.{IsHeap, heap_items, heap_len, heap_capacity};
     ghost use Rattle.std.specs.VecDeque.{deque_len, deque_capacity};
-    ghost use Rattle.tw_queue.specs.Places.{Placed, IsInOrder};
+    ghost use Rattle.tw_queue.specs.Lanes.{LaneSeen, IsInOrder};
     ghost use Rattle.tw_queue.specs.Ranks.{rank_cmp};
 
-    ghost Value = { Placed };
+    ghost Value = { LaneSeen };
 
     ghost view = { λ p. record {
       ranks = p.run.items ++ heap_items p.rest;
@@ -38,12 +38,12 @@ impl Model for Place {
     ghost invariant = { λ p. IsInOrder p.run.items × IsHeap rank_cmp (heap_items p.rest) };
 }
 
-impl Place {
+impl Lane {
     /// No ranks.
-    pub fn new(alloc: Global) -> Place
+    pub fn new(alloc: Global) -> Lane
         ensures { result.ranks ≡ [] }
     {
-        Place {
+        Lane {
             run: VecDeque::new(alloc),
             rest: BinaryHeap::new(alloc),
         }
