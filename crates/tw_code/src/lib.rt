@@ -11,6 +11,7 @@ mod instr;
 mod items;
 mod laws;
 mod main_shape;
+mod many;
 mod operands;
 mod parts;
 mod procedure;
