@@ -23,7 +23,7 @@ mod writing;
 pub use fault::{Fault, FaultNo, NoMemory};
 pub use flow::{Flow, Way, flow_at};
 pub use instr::{Action, Arithmetic, DataInstr, Instr, LocalInstr};
-pub use laws::{named_once, numbers_grow, shown_and_read, some_enabled, takes_once};
+pub use laws::{numbers_grow, shown_and_read, some_enabled, takes_once};
 pub use main_shape::{has_main_shape, main_params};
 pub use procedure::Procedure;
 pub use program::Program;
