@@ -8,11 +8,11 @@ use Rattle.tw_asm.specs.Fault.{Begins, MayBegin, Situation}
 use Rattle.tw_asm.specs.reading.Expected.{expectation}
 
 -- what the first word of a statement lets expect
-promise_is : (statement : Statement) → expected_of statement ≡ expectation statement
-promise_is (Head kind params) = refl
-promise_is (Registers registers) = refl
-promise_is (Label name) = refl
-promise_is (Code i) = refl
+expectation_is : (statement : Statement) → expected_of statement ≡ expectation statement
+expectation_is (Head kind params) = refl
+expectation_is (Registers registers) = refl
+expectation_is (Label name) = refl
+expectation_is (Code i) = refl
 
 pub record FirstOf (statement : Statement) (words : List Word) : Type 0 where
   pub word : List ℕ
@@ -28,7 +28,7 @@ first_of_words goals statement words s =
       word = word;
       others = f.0;
       parts = f.1;
-      expected = subst (λ (p : First). IsExpected p word) (promise_is statement) (expected goals statement word f.0 (subst (λ (ws : List Word). Spells goals statement ws) f.1 s));
+      expected = subst (λ (p : First). IsExpected p word) (expectation_is statement) (expected goals statement word f.0 (subst (λ (ws : List Word). Spells goals statement ws) f.1 s));
     }
 
 pub record FirstIn (statement : Statement) (line : List ℕ) : Type 0 where

@@ -1,5 +1,6 @@
 -- A text has one first fault.
-use Rattle.std.proofs.Common.{◌≡◌, ℕ, zero, suc, ◌+◌, ◌≤◌, List, [], ◌∷◌, ◌++◌, length, take, drop, Option, inl, inr, refl, sym, subst, ap, ◌∙◌, arith}
+use Rattle.std.proofs.Common.{◌≡◌, ℕ, zero, suc, ◌+◌, ◌<◌, ◌≤◌, ◌⊎◌, List, [], ◌∷◌, ◌++◌, length, take, drop, Option, inl, inr, refl, sym, subst, ap, ◌∙◌, arith}
+use Rattle.std.proofs.lemmas.Bool.{cases_lt}
 use Rattle.std.specs.List.{Contains, slice_get}
 use Rattle.std.specs.Str.Lines.{lines}
 use Rattle.tw_code.specs.declared.instr.Instr.{Instr}
@@ -8,7 +9,8 @@ use Rattle.tw_asm.specs.Statement.{Statement, Label, Code, AnyShortName, IsExpec
 use Rattle.tw_asm.specs.declared.statement.First.{First}
 use Rattle.tw_asm.specs.declared.statement.First.TheVariants as first
 use Rattle.tw_asm.specs.declared.fault.FaultNo.{FaultNo}
-use Rattle.tw_asm.specs.Fault.{Stage, InBody, Begins, GoalFault, IsEndFault, IsFirstFault, IsFirstGoalFault, IsLineFault, IsUnfinished, LineFault, LineSays, LinesSay, MayBegin, Situation, after_line, at_start, labels_ahead, situation, situation_from, not_forward, unknown}
+use Rattle.tw_asm.specs.declared.fault.FaultNo.TheVariants as fault
+use Rattle.tw_asm.specs.Fault.{Stage, InBody, Begins, GoalFault, HasWords, IsEmpty, IsEndFault, IsFirstFault, IsFirstGoalFault, IsLineFault, IsUnfinished, LineFault, LineSays, LinesSay, MayBegin, Situation, after_line, at_start, labels_ahead, situation, situation_from, not_forward, unknown}
 use Rattle.tw_asm.proofs.Begins.{line_begins}
 use Rattle.tw_asm.proofs.NamedLabels.{named_once}
 use Rattle.tw_asm.proofs.Twice.{both_alike, line_is_same, others_say, says_alike}
@@ -36,56 +38,89 @@ label_begins s line name words body is say = line_begins AnyShortName (Label nam
 code_begins : (s : Situation) (line : List ℕ) (i : Instr) (words : List Word) → s.stage ≡ InBody → IsLine words line → Say (Code i) words → Begins s line first.Body
 code_begins s line i words body is say = line_begins AnyShortName (Code i) words s line is say.0 (body_may s body)
 
+-- What is so of a line by the kind of its fault. The kinds stand in the order in which a line is asked: no first word, no
+-- form, an empty procedure before a head, a label that stands twice, and any other limit.
+abbrev IsSo : Situation → List ℕ → ℕ → Type 0
+IsSo s line zero = (expected : First) → Begins s line expected → ⊥
+IsSo s line (suc zero) = HasWords line → ⊥
+IsSo s line (suc (suc zero)) = Begins s line first.Head × IsEmpty s
+IsSo s line (suc (suc (suc zero))) = (name : List ℕ) × (words : List Word) × (s.stage ≡ InBody) × IsLine words line × Say (Label name) words
+IsSo s line (suc (suc (suc (suc k)))) = Unit {0}
+
+-- nothing is so by the kinds before this one
+abbrev NoneBefore : Situation → List ℕ → ℕ → Type 0
+NoneBefore s line zero = Unit {0}
+NoneBefore s line (suc k) = NoneBefore s line k × (IsSo s line k → ⊥)
+
+none_before : (s : Situation) (line : List ℕ) (j k : ℕ) → j < k → NoneBefore s line k → IsSo s line j → ⊥
+none_before s line j zero less none so = absurd (omega (arith, less))
+none_before s line j (suc k) less none so = by (λ earlier. none_before s line j k earlier none.0 so) (cases_lt j k)
+  where
+    by : (j < k → ⊥) → (j < k) ⊎ (k ≤ j) → ⊥
+    by none_earlier (inl earlier) = none_earlier earlier
+    by none_earlier (inr later) = let same : j ≡ k = omega (arith, less) in none.1 (subst (IsSo s line) same so)
+
+abbrev fault_of : ℕ → FaultNo
+fault_of zero = fault.Word
+fault_of (suc zero) = fault.Operand
+fault_of (suc (suc zero)) = fault.Limit
+fault_of (suc (suc (suc zero))) = fault.LabelTwice
+fault_of (suc (suc (suc (suc k)))) = fault.Limit
+
+abbrev line_of : ℕ → Situation → ℕ → ℕ
+line_of number s zero = number
+line_of number s (suc zero) = number
+line_of number s (suc (suc zero)) = s.head_line
+line_of number s (suc (suc (suc k))) = number
+
+-- a fault with its kind, which gives its number and its line
+record HasKind (number : ℕ) (s : Situation) (line : List ℕ) (which : FaultNo) (at : ℕ) : Type 0 where
+  kind : ℕ
+  which_is : which ≡ fault_of kind
+  at_is : at ≡ line_of number s kind
+  so : IsSo s line kind
+  none : NoneBefore s line kind
+
+limit_kind : (number : ℕ) (s : Situation) (line : List ℕ) (p : First) → Begins s line p → HasWords line → (Begins s line first.Head × IsEmpty s → ⊥) → (IsSo s line 3 → ⊥) → HasKind number s line fault.Limit number
+limit_kind number s line p b has full unlabelled = record {
+  kind = 4; which_is = refl; at_is = refl; so = tt; none = ((((tt, λ none. none p b), λ formless. formless has), full), unlabelled);
+}
+
+kind_of : (number : ℕ) (s : Situation) (line : List ℕ) (a : FaultNo) (m : ℕ) → LineFault number s line a m → HasKind number s line a m
+kind_of number s line _ _ (LineFault.word some none) = record { kind = 0; which_is = refl; at_is = refl; so = none; none = tt }
+kind_of number s line _ _ (LineFault.operand p b formless) = record { kind = 1; which_is = refl; at_is = refl; so = formless; none = (tt, λ none. none p b) }
+kind_of number s line _ _ (LineFault.empty b has e) = record {
+  kind = 2; which_is = refl; at_is = refl; so = (b, e); none = ((tt, λ none. none first.Head b), λ formless. formless has);
+}
+kind_of number s line _ _ (LineFault.label_twice name words body is say c) =
+    let b = label_begins s line name words body is say in
+    record {
+      kind = 3; which_is = refl; at_is = refl; so = (name, words, body, is, say);
+      none = (((tt, λ none. none first.Body b), λ formless. formless (has_words (Label name) words line is say)), λ e. body_head (begins_once s line first.Body first.Head b e.0));
+    }
+kind_of number s line _ _ (LineFault.limit p b has full unsaid) =
+    limit_kind number s line p b has (λ e. full (begins_once s line p first.Head b e.0) e.1) (λ l. unsaid (Label l.0) l.1 l.3 l.4)
+kind_of number s line _ _ (LineFault.procedures b has full many) =
+    limit_kind number s line first.Head b has (λ e. full e.1) (λ l. body_head (begins_once s line first.Body first.Head (label_begins s line l.0 l.1 l.2 l.3 l.4) b))
+kind_of number s line _ _ (LineFault.instructions i words body is say many) =
+    let b = code_begins s line i words body is say in
+    limit_kind number s line first.Body b (has_words (Code i) words line is say) (λ e. body_head (begins_once s line first.Body first.Head b e.0)) (λ l. says_alike (Label l.0) (Code i) l.1 words line l.3 l.4 is say)
+
 line_faults : (number : ℕ) (s : Situation) (line : List ℕ) (a b : FaultNo) (m n : ℕ) → LineFault number s line a m → LineFault number s line b n → (a ≡ b) × (m ≡ n)
-line_faults number s line _ _ _ _ (LineFault.word some1 none1) (LineFault.word some2 none2) = (refl, refl)
-line_faults number s line _ _ _ _ (LineFault.word some1 none1) (LineFault.operand p2 b2 formless2) = absurd (none1 p2 b2)
-line_faults number s line _ _ _ _ (LineFault.word some1 none1) (LineFault.label_twice name2 words2 body2 is2 say2 c2) = absurd (none1 first.Body (label_begins s line name2 words2 body2 is2 say2))
-line_faults number s line _ _ _ _ (LineFault.word some1 none1) (LineFault.empty b2 has2 e2) = absurd (none1 first.Head b2)
-line_faults number s line _ _ _ _ (LineFault.word some1 none1) (LineFault.limit p2 b2 has2 full2 unsaid2) = absurd (none1 p2 b2)
-line_faults number s line _ _ _ _ (LineFault.word some1 none1) (LineFault.procedures b2 has2 full2 many2) = absurd (none1 first.Head b2)
-line_faults number s line _ _ _ _ (LineFault.word some1 none1) (LineFault.instructions i2 words2 body2 is2 say2 many2) = absurd (none1 first.Body (code_begins s line i2 words2 body2 is2 say2))
-line_faults number s line _ _ _ _ (LineFault.operand p1 b1 formless1) (LineFault.word some2 none2) = absurd (none2 p1 b1)
-line_faults number s line _ _ _ _ (LineFault.operand p1 b1 formless1) (LineFault.operand p2 b2 formless2) = (refl, refl)
-line_faults number s line _ _ _ _ (LineFault.operand p1 b1 formless1) (LineFault.label_twice name2 words2 body2 is2 say2 c2) = absurd (formless1 (has_words (Label name2) words2 line is2 say2))
-line_faults number s line _ _ _ _ (LineFault.operand p1 b1 formless1) (LineFault.empty b2 has2 e2) = absurd (formless1 has2)
-line_faults number s line _ _ _ _ (LineFault.operand p1 b1 formless1) (LineFault.limit p2 b2 has2 full2 unsaid2) = absurd (formless1 has2)
-line_faults number s line _ _ _ _ (LineFault.operand p1 b1 formless1) (LineFault.procedures b2 has2 full2 many2) = absurd (formless1 has2)
-line_faults number s line _ _ _ _ (LineFault.operand p1 b1 formless1) (LineFault.instructions i2 words2 body2 is2 say2 many2) = absurd (formless1 (has_words (Code i2) words2 line is2 say2))
-line_faults number s line _ _ _ _ (LineFault.label_twice name1 words1 body1 is1 say1 c1) (LineFault.word some2 none2) = absurd (none2 first.Body (label_begins s line name1 words1 body1 is1 say1))
-line_faults number s line _ _ _ _ (LineFault.label_twice name1 words1 body1 is1 say1 c1) (LineFault.operand p2 b2 formless2) = absurd (formless2 (has_words (Label name1) words1 line is1 say1))
-line_faults number s line _ _ _ _ (LineFault.label_twice name1 words1 body1 is1 say1 c1) (LineFault.label_twice name2 words2 body2 is2 say2 c2) = (refl, refl)
-line_faults number s line _ _ _ _ (LineFault.label_twice name1 words1 body1 is1 say1 c1) (LineFault.empty b2 has2 e2) = absurd (body_head (begins_once s line first.Body first.Head (label_begins s line name1 words1 body1 is1 say1) b2))
-line_faults number s line _ _ _ _ (LineFault.label_twice name1 words1 body1 is1 say1 c1) (LineFault.limit p2 b2 has2 full2 unsaid2) = absurd (unsaid2 (Label name1) words1 is1 say1)
-line_faults number s line _ _ _ _ (LineFault.label_twice name1 words1 body1 is1 say1 c1) (LineFault.procedures b2 has2 full2 many2) = absurd (body_head (begins_once s line first.Body first.Head (label_begins s line name1 words1 body1 is1 say1) b2))
-line_faults number s line _ _ _ _ (LineFault.label_twice name1 words1 body1 is1 say1 c1) (LineFault.instructions i2 words2 body2 is2 say2 many2) = absurd (says_alike (Label name1) (Code i2) words1 words2 line is1 say1 is2 say2)
-line_faults number s line _ _ _ _ (LineFault.empty b1 has1 e1) (LineFault.word some2 none2) = absurd (none2 first.Head b1)
-line_faults number s line _ _ _ _ (LineFault.empty b1 has1 e1) (LineFault.operand p2 b2 formless2) = absurd (formless2 has1)
-line_faults number s line _ _ _ _ (LineFault.empty b1 has1 e1) (LineFault.label_twice name2 words2 body2 is2 say2 c2) = absurd (body_head (begins_once s line first.Body first.Head (label_begins s line name2 words2 body2 is2 say2) b1))
-line_faults number s line _ _ _ _ (LineFault.empty b1 has1 e1) (LineFault.empty b2 has2 e2) = (refl, refl)
-line_faults number s line _ _ _ _ (LineFault.empty b1 has1 e1) (LineFault.limit p2 b2 has2 full2 unsaid2) = absurd (full2 (begins_once s line p2 first.Head b2 b1) e1)
-line_faults number s line _ _ _ _ (LineFault.empty b1 has1 e1) (LineFault.procedures b2 has2 full2 many2) = absurd (full2 e1)
-line_faults number s line _ _ _ _ (LineFault.empty b1 has1 e1) (LineFault.instructions i2 words2 body2 is2 say2 many2) = absurd (body_head (begins_once s line first.Body first.Head (code_begins s line i2 words2 body2 is2 say2) b1))
-line_faults number s line _ _ _ _ (LineFault.limit p1 b1 has1 full1 unsaid1) (LineFault.word some2 none2) = absurd (none2 p1 b1)
-line_faults number s line _ _ _ _ (LineFault.limit p1 b1 has1 full1 unsaid1) (LineFault.operand p2 b2 formless2) = absurd (formless2 has1)
-line_faults number s line _ _ _ _ (LineFault.limit p1 b1 has1 full1 unsaid1) (LineFault.label_twice name2 words2 body2 is2 say2 c2) = absurd (unsaid1 (Label name2) words2 is2 say2)
-line_faults number s line _ _ _ _ (LineFault.limit p1 b1 has1 full1 unsaid1) (LineFault.empty b2 has2 e2) = absurd (full1 (begins_once s line p1 first.Head b1 b2) e2)
-line_faults number s line _ _ _ _ (LineFault.limit p1 b1 has1 full1 unsaid1) (LineFault.limit p2 b2 has2 full2 unsaid2) = (refl, refl)
-line_faults number s line _ _ _ _ (LineFault.limit p1 b1 has1 full1 unsaid1) (LineFault.procedures b2 has2 full2 many2) = (refl, refl)
-line_faults number s line _ _ _ _ (LineFault.limit p1 b1 has1 full1 unsaid1) (LineFault.instructions i2 words2 body2 is2 say2 many2) = (refl, refl)
-line_faults number s line _ _ _ _ (LineFault.procedures b1 has1 full1 many1) (LineFault.word some2 none2) = absurd (none2 first.Head b1)
-line_faults number s line _ _ _ _ (LineFault.procedures b1 has1 full1 many1) (LineFault.operand p2 b2 formless2) = absurd (formless2 has1)
-line_faults number s line _ _ _ _ (LineFault.procedures b1 has1 full1 many1) (LineFault.label_twice name2 words2 body2 is2 say2 c2) = absurd (body_head (begins_once s line first.Body first.Head (label_begins s line name2 words2 body2 is2 say2) b1))
-line_faults number s line _ _ _ _ (LineFault.procedures b1 has1 full1 many1) (LineFault.empty b2 has2 e2) = absurd (full1 e2)
-line_faults number s line _ _ _ _ (LineFault.procedures b1 has1 full1 many1) (LineFault.limit p2 b2 has2 full2 unsaid2) = (refl, refl)
-line_faults number s line _ _ _ _ (LineFault.procedures b1 has1 full1 many1) (LineFault.procedures b2 has2 full2 many2) = (refl, refl)
-line_faults number s line _ _ _ _ (LineFault.procedures b1 has1 full1 many1) (LineFault.instructions i2 words2 body2 is2 say2 many2) = (refl, refl)
-line_faults number s line _ _ _ _ (LineFault.instructions i1 words1 body1 is1 say1 many1) (LineFault.word some2 none2) = absurd (none2 first.Body (code_begins s line i1 words1 body1 is1 say1))
-line_faults number s line _ _ _ _ (LineFault.instructions i1 words1 body1 is1 say1 many1) (LineFault.operand p2 b2 formless2) = absurd (formless2 (has_words (Code i1) words1 line is1 say1))
-line_faults number s line _ _ _ _ (LineFault.instructions i1 words1 body1 is1 say1 many1) (LineFault.label_twice name2 words2 body2 is2 say2 c2) = absurd (says_alike (Label name2) (Code i1) words2 words1 line is2 say2 is1 say1)
-line_faults number s line _ _ _ _ (LineFault.instructions i1 words1 body1 is1 say1 many1) (LineFault.empty b2 has2 e2) = absurd (body_head (begins_once s line first.Body first.Head (code_begins s line i1 words1 body1 is1 say1) b2))
-line_faults number s line _ _ _ _ (LineFault.instructions i1 words1 body1 is1 say1 many1) (LineFault.limit p2 b2 has2 full2 unsaid2) = (refl, refl)
-line_faults number s line _ _ _ _ (LineFault.instructions i1 words1 body1 is1 say1 many1) (LineFault.procedures b2 has2 full2 many2) = (refl, refl)
-line_faults number s line _ _ _ _ (LineFault.instructions i1 words1 body1 is1 say1 many1) (LineFault.instructions i2 words2 body2 is2 say2 many2) = (refl, refl)
+line_faults number s line a b m n f g = by (cases_lt x.kind y.kind) (cases_lt y.kind x.kind)
+  where
+    x : HasKind number s line a m
+    x = kind_of number s line a m f
+
+    y : HasKind number s line b n
+    y = kind_of number s line b n g
+
+    by : (x.kind < y.kind) ⊎ (y.kind ≤ x.kind) → (y.kind < x.kind) ⊎ (x.kind ≤ y.kind) → (a ≡ b) × (m ≡ n)
+    by (inl less) h = absurd (none_before s line x.kind y.kind less y.none x.so)
+    by (inr past) (inl less) = absurd (none_before s line y.kind x.kind less x.none y.so)
+    by (inr past) (inr most) =
+        let same : x.kind ≡ y.kind = omega (arith, past, most) in
+        (x.which_is ∙ ap fault_of same ∙ sym y.which_is, x.at_is ∙ ap (line_of number s) same ∙ sym y.at_is)
 
 -- ---- two readings of the same lines
 

@@ -43,8 +43,8 @@ nothing_begins : {Z : Type 0} (s : Situation) (line : List ℕ) (expected : Firs
 nothing_begins s line expected blank b = absurd (blank_no_word (Bare b.0) line b.1 (line_blank line blank) b.2)
 
 -- the line's first word lets expect its statement
-lets expect : (s : Situation) (line : List ℕ) (statement : Statement) (words : List Word) (expected : First) → IsLine words line → Say statement words → Begins s line expected → expected ≡ expectation statement
-lets expect s line statement words expected is say b =
+is_expectation : (s : Situation) (line : List ℕ) (statement : Statement) (words : List Word) (expected : First) → IsLine words line → Say statement words → Begins s line expected → expected ≡ expectation statement
+is_expectation s line statement words expected is say b =
     let f = first_in_line AnyShortName statement words line is say.0 in
     let same = bare_is b.0 f.word (first_word_once (Bare b.0) (Bare f.word) line b.1 f.rest b.2 f.first).0 in
     one_expected expected (expectation statement) f.word (subst (IsExpected expected) same b.3) f.expected
@@ -89,9 +89,9 @@ said_no_fault : (number : ℕ) (s : Situation) (line : List ℕ) (statement : St
 said_no_fault number s line statement ws _ _ l h may (LineFault.word some none) = none (expectation statement) (line_begins AnyShortName statement ws s line l h.0 (may_begin statement s may))
 said_no_fault number s line statement ws _ _ l h may (LineFault.operand expected b formless) = formless (has_words statement ws line l h)
 said_no_fault number s line statement ws _ _ l h may (LineFault.label_twice name words body is say c) = label_may statement name s (says_alike statement (Label name) ws words line l h is say) may c
-said_no_fault number s line statement ws _ _ l h may (LineFault.empty b has e) = not_empty s (head_may statement s (lets expect s line statement ws first.Head l h b) may).0 e
+said_no_fault number s line statement ws _ _ l h may (LineFault.empty b has e) = not_empty s (head_may statement s (is_expectation s line statement ws first.Head l h b) may).0 e
 said_no_fault number s line statement ws _ _ l h may (LineFault.limit expected b has e unsaid) = unsaid statement ws l h
-said_no_fault number s line statement ws _ _ l h may (LineFault.procedures b has e many) = omega (arith, many, (head_may statement s (lets expect s line statement ws first.Head l h b) may).1)
+said_no_fault number s line statement ws _ _ l h may (LineFault.procedures b has e many) = omega (arith, many, (head_may statement s (is_expectation s line statement ws first.Head l h b) may).1)
 said_no_fault number s line statement ws _ _ l h may (LineFault.instructions i words body is say many) = omega (arith, many, code_may statement i s (says_alike statement (Code i) ws words line l h is say) may)
 
 pub line_no_fault : (number : ℕ) (s : Situation) (line : List ℕ) (said : Option Statement) (which : FaultNo) (at : ℕ) → LineSays s line said → LineFault number s line which at → ⊥

@@ -91,7 +91,7 @@ situation said = situation_from 1 at_start said
 
 -- ---- what is wrong with a line
 
--- what a first word may expectation
+-- what a first word may let expect here
 abbrev pub MayBegin : Stage → First → Type 0
 MayBegin Start expected = expected ≡ first.Head
 MayBegin AfterHead expected = expected ≡ first.Registers

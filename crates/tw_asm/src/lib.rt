@@ -1,6 +1,6 @@
 //! Assembly text: programs from it, and the one text of a program.
 //!
-//! * From text: `assemble` reads it line by line; a line's words expectation a statement by the first of them, and say it or are
+//! * From text: `assemble` reads it line by line; the first word of a line lets expect a statement, and the words say it or are
 //!   flawed; then skips are linked to labels.
 //! * To text: `disassemble` writes a line a statement.
 #![tactic(auto)]

@@ -14,8 +14,6 @@ pub mod Loop
 pub mod Losing
 pub mod Next
 pub mod Numbers
-pub mod Once
-pub mod OnceRuns
 pub mod Opened
 pub mod Placed
 pub mod Programs

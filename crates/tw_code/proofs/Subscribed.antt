@@ -1,7 +1,7 @@
 -- Who is named: sums over the subscribers of data, and notices of a parameter.
 use Rattle.std.proofs.Common.{◌≡◌, ℕ, ◌+◌, ◌≤◌, true, if◌then◌else◌, [], map, Option, Some, None, refl, ap, subst, ◌∙◌, arith, nat_cmp}
 use Rattle.std.specs.Cmp.{nat_cmp_total}
-use Rattle.std.specs.FinMap.{get, insert, nat_cmp-IsAntisymmetric}
+use Rattle.std.specs.FinMap.{get, insert, empty, nat_cmp-IsAntisymmetric}
 use Rattle.std.specs.FinSet as set
 use Rattle.tw_types.specs.declared.notice.Notice.{Notice}
 use Rattle.tw_types.specs.declared.stage.Stage.{Stage}
@@ -11,8 +11,9 @@ use Rattle.tw_types.specs.Rule.{Rules}
 use Rattle.tw_types.specs.Store.{Data, Datum, notice_to}
 use Rattle.tw_types.specs.Task.{Arg, ValueArg, RightArg}
 use Rattle.tw_types.specs.Totals.{total}
-use Rattle.tw_types.proofs.Totals.{part, total-insert, part-le-total}
-use Rattle.tw_code.specs.machine.Waiting.{times_subscribed, times_at, arg_at, times_noticed_by, times_noticed}
+use Rattle.tw_types.proofs.Parts.{total-le}
+use Rattle.tw_types.proofs.Totals.{part, total-empty, total-insert, part-le-total}
+use Rattle.tw_code.specs.machine.Waiting.{times_among, times_subscribed, times_at, arg_at, times_noticed_by, times_noticed}
 
 -- ---- sums of subscribers
 
@@ -21,6 +22,17 @@ subscribed_put rule parameter m id x y is = subst (λ o. total (times_subscribed
 
 pub subscribed-le : (rule parameter : ℕ) (m : Data) (id : ℕ) (x : Datum) → get m id ≡ Some x → times_subscribed rule parameter x ≤ total (times_subscribed rule parameter) m
 subscribed-le rule parameter m id x is = subst (λ o. part (times_subscribed rule parameter) o ≤ total (times_subscribed rule parameter) m) is (part-le-total nat_cmp nat_cmp_total nat_cmp-IsAntisymmetric (times_subscribed rule parameter) m id)
+
+-- where no datum has subscribers
+pub unsubscribed : (m : Data) → ((id : ℕ) (x : Datum) → get m id ≡ Some x → x.subscribers ≡ []) → (r p : ℕ) → total (times_subscribed r p) m ≡ 0
+unsubscribed m silent r p =
+    let none = total-empty nat_cmp (times_subscribed r p) in
+    let no_more = total-le nat_cmp_total nat_cmp-IsAntisymmetric (times_subscribed r p) m (empty {X = Datum} {R = nat_cmp}) (λ d. each d (get m d) refl) in
+    omega arith
+  where
+    each : (d : ℕ) (o : Option Datum) → get m d ≡ o → part (times_subscribed r p) (get m d) ≤ part (times_subscribed r p) (get (empty {X = Datum} {R = nat_cmp}) d)
+    each d None e = let zero : part (times_subscribed r p) (get m d) ≡ 0 = ap (part (times_subscribed r p)) e in omega arith
+    each d (Some x) e = let zero : part (times_subscribed r p) (get m d) ≡ 0 = ap (part (times_subscribed r p)) e ∙ ap (times_among r p) (silent d x e) in omega arith
 
 -- ---- what is 0 or 1
 

@@ -1,11 +1,12 @@
 //! The tasks that RULE and PUT name, from bytes.
 
 ghost use Rattle.std.specs.Prelude.{◌≡◌};
-ghost use Rattle.tw_code.specs.format.Reading.{Gives, byte_at, register_at, target_at, action_at, many, counted};
+ghost use Rattle.tw_code.specs.format.Reading.{Gives, byte_at, register_at, target_at, action_at, counted};
 
 use crate::fault::Stop;
 use crate::instr::Action;
 use crate::items::*;
+use crate::many::many;
 use std::alloc::Global;
 use tw_types::Items;
 
@@ -20,30 +21,12 @@ fn target_of(bytes: &[u8]) -> Result<(Option<u8>, &[u8]), Stop>
     }
 }
 
-#[tactic(auto, using(crate::proofs::Loop::goes_on, crate::proofs::Loop::ends))]
-fn some_args(alloc: Global, count: u8, bytes: &[u8]) -> Result<(Vec<u8>, &[u8]), Stop>
-    ensures { Gives (λ x. (x.0.items, x.1.now)) result (many register_at count bytes.now) }
-{
-    let mut args = Vec::new(alloc);
-    let mut rest = bytes;
-    for _ in 0..count {
-        match register_of(rest) {
-            Ok((arg, after)) => {
-                args.push(arg)?;
-                rest = after;
-            }
-            Err(e) => return Err(e),
-        }
-    }
-    Ok((args, rest))
-}
-
 /// Up to 8 registers, behind their number.
 fn args_of(alloc: Global, bytes: &[u8]) -> Result<(Items<u8>, &[u8]), Stop>
     ensures { Gives (λ x. (x.0, x.1.now)) result (counted (byte_at 0 8) register_at bytes.now) }
 {
     let (count, rest) = byte_of(0, 8, bytes)?;
-    match some_args(alloc, count, rest) {
+    match many(alloc, u16::from(count), rest, register_of) {
         Ok((args, rest)) => Ok((Items::from(args), rest)),
         Err(e) => Err(e),
     }

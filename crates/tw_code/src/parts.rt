@@ -1,11 +1,12 @@
 //! The parts of a procedure from bytes.
 
 ghost use Rattle.std.specs.Prelude.{◌≡◌};
-ghost use Rattle.tw_code.specs.format.Reading.{Gives, param_at, instr_at, scalar_at, type_under, many, counted, byte_at, wide_at};
+ghost use Rattle.tw_code.specs.format.Reading.{Gives, param_at, instr_at, scalar_at, type_under, counted, byte_at, wide_at};
 
 use crate::fault::Stop;
 use crate::instr::Instr;
 use crate::items::*;
+use crate::many::many;
 use crate::operands::instr_of;
 use std::alloc::Global;
 use tw_types::{DataType, Items, Mode, Param, Scalar};
@@ -30,66 +31,12 @@ fn param_of(bytes: &[u8]) -> Result<(Param, &[u8]), Stop>
     }
 }
 
-#[tactic(auto, using(crate::proofs::Loop::goes_on, crate::proofs::Loop::ends))]
-fn some_params(alloc: Global, count: u8, bytes: &[u8]) -> Result<(Vec<Param>, &[u8]), Stop>
-    ensures { Gives (λ x. (x.0.items, x.1.now)) result (many param_at count bytes.now) }
-{
-    let mut params = Vec::new(alloc);
-    let mut rest = bytes;
-    for _ in 0..count {
-        match param_of(rest) {
-            Ok((param, after)) => {
-                params.push(param)?;
-                rest = after;
-            }
-            Err(e) => return Err(e),
-        }
-    }
-    Ok((params, rest))
-}
-
-#[tactic(auto, using(crate::proofs::Loop::goes_on, crate::proofs::Loop::ends))]
-fn some_registers(alloc: Global, count: u8, bytes: &[u8]) -> Result<(Vec<Scalar>, &[u8]), Stop>
-    ensures { Gives (λ x. (x.0.items, x.1.now)) result (many scalar_at count bytes.now) }
-{
-    let mut registers = Vec::new(alloc);
-    let mut rest = bytes;
-    for _ in 0..count {
-        match scalar_of(rest) {
-            Ok((register, after)) => {
-                registers.push(register)?;
-                rest = after;
-            }
-            Err(e) => return Err(e),
-        }
-    }
-    Ok((registers, rest))
-}
-
-#[tactic(auto, using(crate::proofs::Loop::goes_on, crate::proofs::Loop::ends))]
-fn some_code(alloc: Global, count: u16, bytes: &[u8]) -> Result<(Vec<Instr>, &[u8]), Stop>
-    ensures { Gives (λ x. (x.0.items, x.1.now)) result (many instr_at count bytes.now) }
-{
-    let mut code = Vec::new(alloc);
-    let mut rest = bytes;
-    for _ in 0..count {
-        match instr_of(alloc, rest) {
-            Ok((instr, after)) => {
-                code.push(instr)?;
-                rest = after;
-            }
-            Err(e) => return Err(e),
-        }
-    }
-    Ok((code, rest))
-}
-
 /// Up to 8 parameters, behind their number.
 pub fn params_of(alloc: Global, bytes: &[u8]) -> Result<(Items<Param>, &[u8]), Stop>
     ensures { Gives (λ x. (x.0, x.1.now)) result (counted (byte_at 0 8) param_at bytes.now) }
 {
     let (count, rest) = byte_of(0, 8, bytes)?;
-    match some_params(alloc, count, rest) {
+    match many(alloc, u16::from(count), rest, param_of) {
         Ok((params, rest)) => Ok((Items::from(params), rest)),
         Err(e) => Err(e),
     }
@@ -100,7 +47,7 @@ pub fn registers_of(alloc: Global, bytes: &[u8]) -> Result<(Items<Scalar>, &[u8]
     ensures { Gives (λ x. (x.0, x.1.now)) result (counted (byte_at 0 16) scalar_at bytes.now) }
 {
     let (count, rest) = byte_of(0, 16, bytes)?;
-    match some_registers(alloc, count, rest) {
+    match many(alloc, u16::from(count), rest, scalar_of) {
         Ok((registers, rest)) => Ok((Items::from(registers), rest)),
         Err(e) => Err(e),
     }
@@ -111,7 +58,7 @@ pub fn code_of(alloc: Global, bytes: &[u8]) -> Result<(Items<Instr>, &[u8]), Sto
     ensures { Gives (λ x. (x.0, x.1.now)) result (counted (wide_at 1 4096) instr_at bytes.now) }
 {
     let (count, rest) = wide_of(1, 4096, bytes)?;
-    match some_code(alloc, count, rest) {
+    match many(alloc, count, rest, |bytes| instr_of(alloc, bytes)) {
         Ok((code, rest)) => Ok((Items::from(code), rest)),
         Err(e) => Err(e),
     }

@@ -3,12 +3,13 @@
 ghost use Rattle.std.specs.Prelude.{◌≡◌, List, IfOk, IfErr, Ok};
 ghost use Rattle.tw_code.specs.format.Fault.{IsFirstFault};
 ghost use Rattle.tw_code.specs.format.Program.{IsProgram};
-ghost use Rattle.tw_code.specs.format.Reading.{Gives, procedure_at, header_at, many, counted, byte_at, whole, program_of, Answers};
+ghost use Rattle.tw_code.specs.format.Reading.{Gives, procedure_at, header_at, counted, byte_at, whole, program_of, Answers};
 ghost use Rattle.tw_code.specs.format.Spelling.{spelling};
 ghost use Rattle.tw_code.specs.declared.procedure.Procedure.{Procedure};
 
 use crate::fault::{Fault, FaultNo, Stop};
 use crate::items::*;
+use crate::many::many;
 use crate::parts::*;
 use crate::procedure::Procedure;
 use crate::program::Program;
@@ -36,30 +37,17 @@ fn procedure_of(alloc: Global, bytes: &[u8]) -> Result<(Procedure, &[u8]), Stop>
     ))
 }
 
-#[tactic(auto, using(crate::proofs::Loop::goes_on, crate::proofs::Loop::ends))]
-fn some_procedures(alloc: Global, count: u8, bytes: &[u8]) -> Result<(Vec<Procedure>, &[u8]), Stop>
-    ensures { Gives (λ x. (x.0.items, x.1.now)) result (many procedure_at count bytes.now) }
-{
-    let mut procedures = Vec::new(alloc);
-    let mut rest = bytes;
-    for _ in 0..count {
-        match procedure_of(alloc, rest) {
-            Ok((procedure, after)) => {
-                procedures.push(procedure)?;
-                rest = after;
-            }
-            Err(e) => return Err(e),
-        }
-    }
-    Ok((procedures, rest))
-}
-
 /// 1 to 64 procedures, behind their number.
 fn procedures_of(alloc: Global, bytes: &[u8]) -> Result<(Vec<Procedure>, &[u8]), Stop>
     ensures { Gives (λ x. (x.0.items, x.1.now)) result (counted (byte_at 1 64) procedure_at bytes.now) }
 {
     let (count, rest) = byte_of(1, 64, bytes)?;
-    some_procedures(alloc, count, rest)
+    many(
+        alloc,
+        u16::from(count),
+        rest,
+        |bytes| procedure_of(alloc, bytes),
+    )
 }
 
 /// The magic bytes and the version.

@@ -16,12 +16,11 @@ use Rattle.tw_types.specs.Totals.{total}
 use Rattle.tw_code.specs.machine.Waiting.{times_among, times_subscribed, stage_at, times_at, times_waiting, arg_at, times_noticed_by, times_noticed}
 use Rattle.tw_no_trap.specs.Noticed.{AreNamed, NoticesHeld}
 use Rattle.tw_code.proofs.Staged.{rule_put, rule_other, rule_gone, rule_kept, staged, staged_arg, staged_noticed, staged_here, was_here, staged_other, that_or_other, NothingWaits}
-use Rattle.tw_code.proofs.Once.{unsubscribed}
 use Rattle.tw_code.proofs.Opened.{opening_silent}
 use Rattle.tw_code.specs.declared.procedure.Procedure.{Procedure}
 use Rattle.tw_code.specs.machine.Opening.{opening}
 use Rattle.tw_types.specs.declared.input.Input.{Input}
-use Rattle.tw_code.proofs.Subscribed.{subscribed_put, subscribed-le, waits-le, noticed_one, noticed_at, noticed_alike}
+use Rattle.tw_code.proofs.Subscribed.{subscribed_put, subscribed-le, unsubscribed, waits-le, noticed_one, noticed_at, noticed_alike}
 use Rattle.tw_code.proofs.Sets.{is_that, that_itself, that_other, named-append, gone_has, gone_other, gone_only}
 use Rattle.tw_types.proofs.Freeing.{data_insert_same, data_insert_other}
 

@@ -8,7 +8,7 @@ use Rattle.tw_types.specs.Mode.{is_val}
 use Rattle.tw_code.specs.accepting.Question.{Question, passes, refusal_in}
 use Rattle.tw_code.specs.accepting.Typing.{asks_value, asks_args, may_stand_for, without_args}
 use Rattle.tw_code.specs.machine.Rights.{Typing, right_at}
-use Rattle.tw_verify.specs.Violations.{lowest_of}
+use Rattle.tw_verify.specs.Refusal.{lowest_of}
 use Rattle.tw_verify.proofs.Numbers.{refusal_in-append}
 
 -- one argument, and the others when it has left its register

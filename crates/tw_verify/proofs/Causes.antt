@@ -5,8 +5,8 @@ use Rattle.std.specs.Bool.{then_some}
 use Rattle.std.specs.Option.{option_map}
 use Rattle.std.proofs.lemmas.Bool.{leb-true, leb-false}
 use Rattle.std.proofs.lemmas.Option.{same_Some}
-use Rattle.tw_verify.specs.declared.violation.Violation.{Violation}
-use Rattle.tw_verify.specs.Violations.{lowest_of, violation_number}
+use Rattle.tw_verify.specs.declared.refusal.VerifyRefusal.{VerifyRefusal}
+use Rattle.tw_verify.specs.Refusal.{lowest_of, verify_refusal_number}
 use Rattle.tw_verify.specs.Passes.{lowest_at}
 
 -- ---- the lower of two
@@ -47,10 +47,10 @@ if_not false k h = refl
 if_so : (b : Bool) (k : ℕ) → b ≡ true → (if b then Some k else None) ≡ Some k
 if_so b k e = ap (λ (t : Bool). if t then Some k else None) e
 
--- a violation that is told where a test says so
-pub then_number : (b : Bool) (violation : Violation) → option_map violation_number (then_some b violation) ≡ (if b then Some (violation_number violation) else None)
-then_number true violation = refl
-then_number false violation = refl
+-- a refusal that is told where a test says so
+pub then_number : (b : Bool) (refusal : VerifyRefusal) → option_map verify_refusal_number (then_some b refusal) ≡ (if b then Some (verify_refusal_number refusal) else None)
+then_number true refusal = refl
+then_number false refusal = refl
 
 -- ---- the lowest number at a place
 

@@ -9,12 +9,8 @@ use Rattle.tw_code.specs.accepting.Walk.{IsBudget, greatest_budget}
 use Rattle.tw_code.specs.accepting.WellTyped.{IsAcceptedProcedure, IsAccepted, IsProcedureRefusal, IsFirstRefusal}
 use Rattle.tw_verify.specs.declared.refusal.VerifyRefusal.{VerifyRefusal}
 use Rattle.tw_verify.specs.declared.refusal.VerifyRefusal.TheVariants as refusal
-use Rattle.tw_verify.specs.declared.violation.Violation.{Violation}
-use Rattle.tw_verify.specs.declared.violation.Violation.TheVariants as broken
-use Rattle.tw_verify.specs.Refusal.{verify_refusal_number}
-use Rattle.tw_verify.specs.Violations.{refusal_for}
+use Rattle.tw_verify.specs.Refusal.{is_memory, verify_refusal_number}
 use Rattle.tw_verify.specs.declared.fault.Fault.{Fault}
-use Rattle.tw_verify.specs.declared.fault.Fault.TheVariants as fault
 use Rattle.tw_verify.specs.declared.findings.Findings.{Findings}
 use Rattle.tw_verify.specs.Passes.{IfFault, refusal_of, IsRefusal}
 use Rattle.tw_verify.specs.Verified.{AreFindings, AreTyped, IsTyped}
@@ -66,12 +62,12 @@ pub not_both : (program : List Procedure) (number procedure place : ℕ) → IsA
 not_both program number procedure place a (inl r) = let both : true ≡ false = sym a.main ∙ r.shape in cc
 not_both program number procedure place a (inr r) = not_accepted program r.p number place (a.each procedure r.p r.here) r.refusal
 
-is_memory : (cause : VerifyRefusal) → (cause ≡ refusal.NoMemory) ⊎ (cause ≢ refusal.NoMemory)
-is_memory refusal.NoMemory = inl refl
-is_memory _ = inr (λ e. cc)
+which : (cause : VerifyRefusal) → (cause ≡ refusal.NoMemory) ⊎ (cause ≢ refusal.NoMemory)
+which refusal.NoMemory = inl refl
+which _ = inr (λ e. cc)
 
 pub refusal_is_memory : (program : List Procedure) (cause : VerifyRefusal) (procedure place : ℕ) → IsRefusal program cause procedure place → IsAccepted program → cause ≡ refusal.NoMemory
-refusal_is_memory program cause procedure place r a = by (is_memory cause)
+refusal_is_memory program cause procedure place r a = by (which cause)
   where
     by : (cause ≡ refusal.NoMemory) ⊎ (cause ≢ refusal.NoMemory) → cause ≡ refusal.NoMemory
     by (inl is) = is
@@ -79,31 +75,20 @@ refusal_is_memory program cause procedure place r a = by (is_memory cause)
 
 -- ---- a procedure that is refused refuses its program
 
-names_a_place : (violation : Violation) → refusal_for violation ≡ refusal.NoMemory → ⊥
-names_a_place broken.UndeclaredValue e = cc
-names_a_place broken.WrongValueType e = cc
-names_a_place broken.RightNotEmpty e = cc
-names_a_place broken.WrongRight e = cc
-names_a_place broken.SkipLeavesBlock e = cc
-names_a_place broken.Unmatched e = cc
-names_a_place broken.TypingsDiffer e = cc
-names_a_place broken.TypingChanged e = cc
-names_a_place broken.Unreached e = cc
-names_a_place broken.RightLeft e = cc
-names_a_place broken.MisplacedRet e = cc
-names_a_place broken.UnknownProcedure e = cc
-names_a_place broken.ArgumentCount e = cc
-names_a_place broken.ActionInLeaf e = cc
-names_a_place broken.ScalarWrite e = cc
-names_a_place broken.BudgetTooLarge e = cc
+memory_by : (cause : VerifyRefusal) → (cause ≡ refusal.NoMemory) ⊎ (is_memory cause ≡ false)
+memory_by refusal.NoMemory = inl refl
+memory_by _ = inr refl
 
 pub refusal_by : (program : List Procedure) (all : List Findings) (number : ℕ) (p : Procedure) (stop : Fault) → has_main_shape program ≡ true → AreTyped program all number → slice_get program number ≡ Some p → IfFault stop (IsProcedureRefusal program p)
     → IsRefusal program (refusal_of number stop).no (refusal_of number stop).procedure (refusal_of number stop).place
-refusal_by program all number p fault.NoMemory main t at h = record { first = λ other. absurd (other refl); memory = λ is. (refl, refl) }
-refusal_by program all number p (fault.At violation place) main t at h = record {
-  first = λ other. inr (record { main = main; before = λ k q below here. accepted_one program all number k q t below here; p = p; here = at; refusal = h });
-  memory = λ is. absurd (names_a_place violation is);
-}
+refusal_by program all number p stop main t at h = by (memory_by stop.no)
+  where
+    by : (stop.no ≡ refusal.NoMemory) ⊎ (is_memory stop.no ≡ false) → IsRefusal program (refusal_of number stop).no (refusal_of number stop).procedure (refusal_of number stop).place
+    by (inl is) = rw is (record { first = λ other. absurd (other refl); memory = λ same. (refl, refl) })
+    by (inr other) = rw other (record {
+      first = λ differs. inr (record { main = main; before = λ k q below here. accepted_one program all number k q t below here; p = p; here = at; refusal = h other });
+      memory = λ same. let both : true ≡ false = sym (ap is_memory same) ∙ other in cc;
+    })
 
 -- ---- one procedure more
 

@@ -1,9 +1,8 @@
--- What a reader must believe: as what a verified program is seen (Typed), which refusal a violation is (Violations), by which
--- number (Refusal), and when two typings are the same (Same). Which programs are accepted, what refuses another, and what an
--- instruction asks and leaves stand with the programs, under `accepting`; what `no_trap` says, in tw_no_trap. Laws says that
--- there is one first refusal, and of accepted programs none.
+-- What a reader must believe: as what a verified program is seen (Typed), the numbers of the refusals (Refusal), and when
+-- two typings are the same (Same). Which programs are accepted, what refuses another, and what an instruction asks and leaves
+-- stand with the programs, under `accepting`; what `no_trap` says, in tw_no_trap. Laws says that there is one first refusal,
+-- and of accepted programs none.
 pub mod Typed
-pub mod Violations
 pub mod Refusal
 pub mod Same
 pub mod Laws

@@ -7,11 +7,11 @@ ghost use Rattle.tw_types.specs.Actor.{is_control};
 ghost use Rattle.tw_code.specs.format.Program.{IsAction, IsRegister};
 ghost use Rattle.tw_code.specs.accepting.Question.{refusal_in};
 ghost use Rattle.tw_code.specs.accepting.Typing.{asks_args, asks_callee, asks_action};
-ghost use Rattle.tw_verify.specs.Violations.{violation_number};
+ghost use Rattle.tw_verify.specs.Refusal.{verify_refusal_number};
 
 use crate::questions::{beside, lowest, value_refusal};
 use crate::typing::Typing;
-use crate::violation::Violation;
+use crate::refusal::VerifyRefusal;
 use tw_code::{Action, Procedure};
 use tw_types::{Kind, Param, Scalar};
 
@@ -22,9 +22,9 @@ fn argument_refusal(
     param: Param,
     arg: u8,
     typing: &Typing,
-) -> Option<Violation>
+) -> Option<VerifyRefusal>
     requires { IsRegister arg }
-    ensures { option_map violation_number result
+    ensures { option_map verify_refusal_number result
         ≡ refusal_in (asks_args waits registers.now (param ∷ []) (arg ∷ []) typing.now) }
 {
     if param.mode.is_val() {
@@ -33,7 +33,7 @@ fn argument_refusal(
     let fits = typing
         .right_at(arg)
         .is_some_and(|right| right.may_stand_for(waits, param));
-    (!fits).then_some(Violation::WrongRight)
+    (!fits).then_some(VerifyRefusal::WrongRight)
 }
 
 /// What is asked of the arguments in order. A right leaves its register, so that one that is named twice is missing
@@ -44,9 +44,9 @@ fn arguments_refusal(
     params: &[Param],
     args: &[u8],
     typing: &Typing,
-) -> Option<Violation>
+) -> Option<VerifyRefusal>
     requires { AllByRecursion IsRegister args.now }
-    ensures { option_map violation_number result
+    ensures { option_map verify_refusal_number result
         ≡ refusal_in (asks_args waits registers.now params.now args.now typing.now) }
 {
     let mut refusal = None;
@@ -67,19 +67,19 @@ fn callee_refusal(
     procedure: &Procedure,
     action: &Action,
     typing: &Typing,
-) -> Option<Violation>
+) -> Option<VerifyRefusal>
     requires { IsAction action.now }
-    ensures { option_map violation_number result
+    ensures { option_map verify_refusal_number result
         ≡ refusal_in (asks_callee waits procedure.now.registers
         (slice_get procedures.now action.now.procedure) action.now.args typing.now) }
 {
     let Some(callee) = procedures.get(action.procedure as usize) else {
-        return Some(Violation::UnknownProcedure);
+        return Some(VerifyRefusal::UnknownProcedure);
     };
     let params = callee.params.as_slice();
     let args = action.args.as_slice();
     if args.len() != params.len() {
-        return Some(Violation::ArgumentCount);
+        return Some(VerifyRefusal::ArgumentCount);
     }
     arguments_refusal(waits, procedure.registers.as_slice(), params, args, typing)
 }
@@ -97,11 +97,11 @@ pub(crate) fn action_refusal(
     procedure: &Procedure,
     action: &Action,
     typing: &Typing,
-) -> Option<Violation>
+) -> Option<VerifyRefusal>
     requires { IsAction action.now }
-    ensures { option_map violation_number result
+    ensures { option_map verify_refusal_number result
         ≡ refusal_in (asks_action waits procedures.now procedure.now action.now typing.now) }
 {
     let others = callee_refusal(waits, procedures, procedure, action, typing);
-    beside(is_control(procedure), Violation::ActionInLeaf, others)
+    beside(is_control(procedure), VerifyRefusal::ActionInLeaf, others)
 }

@@ -1,25 +1,35 @@
 //! Where a pass stops.
 
 ghost use Rattle.std.specs.Prelude.{◌≡◌, [], ◌∷◌, ◌++◌, OnOk};
-ghost use Rattle.tw_verify.specs.Passes.{refusal_of};
-ghost use Rattle.tw_verify.specs.declared.fault.Fault.TheVariants.{NoMemory};
+ghost use Rattle.tw_verify.specs.Passes.{no_memory, refusal_of};
 
-use std::alloc::AllocError;
 use crate::refusal::VerifyRefusal;
-use crate::violation::Violation;
+use std::alloc::AllocError;
 
-/// Why a pass over one procedure stops.
+/// Why a pass over one procedure stops, and at which place; where memory ran out, at place 0.
 #[derive(Clone, Copy)]
-pub(crate) enum Fault {
-    At { violation: Violation, place: usize },
-    NoMemory,
+pub(crate) struct Fault {
+    pub(crate) no: VerifyRefusal,
+    pub(crate) place: usize,
+}
+
+impl Fault {
+    /// Memory ran out.
+    pub(crate) fn no_memory() -> Fault
+        ensures { result ≡ no_memory }
+    {
+        Fault {
+            no: VerifyRefusal::NoMemory,
+            place: 0,
+        }
+    }
 }
 
 impl From<AllocError> for Fault {
-    ghost from_gives = { λ _ fault. fault ≡ NoMemory };
+    ghost from_gives = { λ _ fault. fault ≡ no_memory };
 
     fn from(_error: AllocError) -> Fault {
-        Fault::NoMemory
+        Fault::no_memory()
     }
 }
 
@@ -32,10 +42,10 @@ pub(crate) struct Refusal {
 }
 
 impl From<AllocError> for Refusal {
-    ghost from_gives = { λ _ refusal. refusal ≡ refusal_of 0 NoMemory };
+    ghost from_gives = { λ _ refusal. refusal ≡ refusal_of 0 no_memory };
 
     fn from(_error: AllocError) -> Refusal {
-        Refusal::new(0, Fault::NoMemory)
+        Refusal::new(0, Fault::no_memory())
     }
 }
 
@@ -44,17 +54,18 @@ impl Refusal {
     pub(crate) fn new(procedure: usize, fault: Fault) -> Refusal
         ensures { result ≡ refusal_of procedure fault }
     {
-        match fault {
-            Fault::At { violation, place } => Refusal {
-                no: violation.refusal(),
-                procedure,
-                place,
-            },
-            Fault::NoMemory => Refusal {
-                no: VerifyRefusal::NoMemory,
+        if fault.no.is_memory() {
+            Refusal {
+                no: fault.no,
                 procedure: 0,
                 place: 0,
-            },
+            }
+        } else {
+            Refusal {
+                no: fault.no,
+                procedure,
+                place: fault.place,
+            }
         }
     }
 }

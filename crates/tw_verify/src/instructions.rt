@@ -6,7 +6,7 @@ ghost use Rattle.tw_types.specs.DataType.{same_scalar};
 ghost use Rattle.tw_code.specs.format.Program.{IsDataInstr, IsInstr};
 ghost use Rattle.tw_code.specs.accepting.Question.{refusal_in};
 ghost use Rattle.tw_code.specs.accepting.Typing.{asks_local, asks_data, asks, asks_params, asks_at};
-ghost use Rattle.tw_verify.specs.Violations.{violation_number};
+ghost use Rattle.tw_verify.specs.Refusal.{verify_refusal_number};
 
 use crate::arguments::action_refusal;
 use crate::questions::{
@@ -15,13 +15,13 @@ use crate::questions::{
     value_refusal, values_refusal,
 };
 use crate::typing::{RightType, Typing};
-use crate::violation::Violation;
+use crate::refusal::VerifyRefusal;
 use tw_code::{DataInstr, Instr, LocalInstr, Procedure};
 use tw_types::Scalar;
 
 /// What a local instruction asks, a line an instruction.
-fn local_refusal(registers: &[Scalar], instr: &LocalInstr) -> Option<Violation>
-    ensures { option_map violation_number result ≡ refusal_in (asks_local registers.now instr.now) }
+fn local_refusal(registers: &[Scalar], instr: &LocalInstr) -> Option<VerifyRefusal>
+    ensures { option_map verify_refusal_number result ≡ refusal_in (asks_local registers.now instr.now) }
 {
     match instr {
         LocalInstr::Int { to, .. } => value_refusal(registers, *to, Scalar::Int),
@@ -66,9 +66,9 @@ fn local_refusal(registers: &[Scalar], instr: &LocalInstr) -> Option<Violation>
 }
 
 /// STORE: a write of a scalar, and a value of its type.
-fn store_refusal(registers: &[Scalar], typing: &Typing, datum: u8, from: u8) -> Option<Violation>
+fn store_refusal(registers: &[Scalar], typing: &Typing, datum: u8, from: u8) -> Option<VerifyRefusal>
     requires { datum < 16 }
-    ensures { option_map violation_number result
+    ensures { option_map verify_refusal_number result
         ≡ refusal_in (asks_data registers.now (DataInstr.Store datum from) typing.now) }
 {
     let right = typing.right_at(datum);
@@ -77,9 +77,9 @@ fn store_refusal(registers: &[Scalar], typing: &Typing, datum: u8, from: u8) -> 
 }
 
 /// GET: a read of a closed scalar, and a register of its type.
-fn get_refusal(registers: &[Scalar], typing: &Typing, to: u8, datum: u8) -> Option<Violation>
+fn get_refusal(registers: &[Scalar], typing: &Typing, to: u8, datum: u8) -> Option<VerifyRefusal>
     requires { datum < 16 }
-    ensures { option_map violation_number result
+    ensures { option_map verify_refusal_number result
         ≡ refusal_in (asks_data registers.now (DataInstr.Get to datum) typing.now) }
 {
     let right = typing.right_at(datum);
@@ -94,17 +94,17 @@ fn insert_refusal(
     container: u8,
     subscript: u8,
     member: u8,
-) -> Option<Violation>
+) -> Option<VerifyRefusal>
     requires container { container < 16 }
     requires member { member < 16 }
-    ensures { option_map violation_number result
+    ensures { option_map verify_refusal_number result
         ≡ refusal_in (asks_data registers.now (DataInstr.Insert container subscript member 0) typing.now) }
 {
     let others = value_refusal(registers, subscript, Scalar::Int);
     let fits = is_member_read(typing, container, member);
-    let others = beside(fits, Violation::WrongRight, others);
+    let others = beside(fits, VerifyRefusal::WrongRight, others);
     let writes = is_container_write(typing, container);
-    beside(writes, Violation::WrongRight, others)
+    beside(writes, VerifyRefusal::WrongRight, others)
 }
 
 /// LOOK: a register for the member, a read of a closed container, and an integer.
@@ -114,15 +114,15 @@ fn look_refusal(
     member: u8,
     container: u8,
     subscript: u8,
-) -> Option<Violation>
+) -> Option<VerifyRefusal>
     requires member { member < 16 }
     requires container { container < 16 }
-    ensures { option_map violation_number result
+    ensures { option_map verify_refusal_number result
         ≡ refusal_in (asks_data registers.now (DataInstr.Look member container subscript 0) typing.now) }
 {
     let others = value_refusal(registers, subscript, Scalar::Int);
     let others = members_refusal(typing, container, others);
-    beside(typing.is_free(member), Violation::RightNotEmpty, others)
+    beside(typing.is_free(member), VerifyRefusal::RightNotEmpty, others)
 }
 
 /// Two integers, and a read of a closed container.
@@ -132,9 +132,9 @@ fn subscript_refusal(
     to: u8,
     container: u8,
     index: u8,
-) -> Option<Violation>
+) -> Option<VerifyRefusal>
     requires { container < 16 }
-    ensures { option_map violation_number result
+    ensures { option_map verify_refusal_number result
         ≡ refusal_in (asks_data registers.now (DataInstr.SubscriptAt to container index 0) typing.now) }
 {
     let others = both_refusal(registers, to, Scalar::Int, index, Scalar::Int);
@@ -142,9 +142,9 @@ fn subscript_refusal(
 }
 
 /// SIZE: an integer, and a read of a closed container.
-fn size_refusal(registers: &[Scalar], typing: &Typing, to: u8, container: u8) -> Option<Violation>
+fn size_refusal(registers: &[Scalar], typing: &Typing, to: u8, container: u8) -> Option<VerifyRefusal>
     requires { container < 16 }
-    ensures { option_map violation_number result
+    ensures { option_map verify_refusal_number result
         ≡ refusal_in (asks_data registers.now (DataInstr.Size to container) typing.now) }
 {
     let others = value_refusal(registers, to, Scalar::Int);
@@ -152,31 +152,31 @@ fn size_refusal(registers: &[Scalar], typing: &Typing, to: u8, container: u8) ->
 }
 
 /// DUPR: a register for the copy, and a read.
-fn copy_read_refusal(typing: &Typing, to: u8, from: u8) -> Option<Violation>
+fn copy_read_refusal(typing: &Typing, to: u8, from: u8) -> Option<VerifyRefusal>
     requires to { to < 16 }
     requires from { from < 16 }
-    ensures { option_map violation_number result
+    ensures { option_map verify_refusal_number result
         ≡ refusal_in (asks_data [] (DataInstr.CopyRead to from) typing.now) }
 {
     let others = read_refusal(typing, from);
-    beside(typing.is_free(to), Violation::RightNotEmpty, others)
+    beside(typing.is_free(to), VerifyRefusal::RightNotEmpty, others)
 }
 
 /// DUPW: a register for the copy, and a write of a container.
-fn copy_write_refusal(typing: &Typing, to: u8, from: u8) -> Option<Violation>
+fn copy_write_refusal(typing: &Typing, to: u8, from: u8) -> Option<VerifyRefusal>
     requires to { to < 16 }
     requires from { from < 16 }
-    ensures { option_map violation_number result
+    ensures { option_map verify_refusal_number result
         ≡ refusal_in (asks_data [] (DataInstr.CopyWrite to from) typing.now) }
 {
     let others = container_write_refusal(typing, from);
-    beside(typing.is_free(to), Violation::RightNotEmpty, others)
+    beside(typing.is_free(to), VerifyRefusal::RightNotEmpty, others)
 }
 
 /// What an instruction on data asks at a typing, a case an instruction.
-fn data_refusal(registers: &[Scalar], instr: DataInstr, typing: &Typing) -> Option<Violation>
+fn data_refusal(registers: &[Scalar], instr: DataInstr, typing: &Typing) -> Option<VerifyRefusal>
     requires { IsDataInstr instr }
-    ensures { option_map violation_number result ≡ refusal_in (asks_data registers.now instr typing.now) }
+    ensures { option_map verify_refusal_number result ≡ refusal_in (asks_data registers.now instr typing.now) }
 {
     match instr {
         DataInstr::New { write, read, .. } => empty_pair_refusal(typing, write, read),
@@ -214,9 +214,9 @@ fn instr_refusal(
     procedure: &Procedure,
     instr: &Instr,
     typing: &Typing,
-) -> Option<Violation>
+) -> Option<VerifyRefusal>
     requires { IsInstr instr.now }
-    ensures { option_map violation_number result
+    ensures { option_map verify_refusal_number result
         ≡ refusal_in (asks procedures.now procedure.now instr.now typing.now) }
 {
     let registers = procedure.registers.as_slice();
@@ -225,7 +225,7 @@ fn instr_refusal(
         Instr::Data(instr) => data_refusal(registers, *instr, typing),
         Instr::Rule(action) => action_refusal(true, procedures, procedure, action, typing),
         Instr::Put(action) => action_refusal(false, procedures, procedure, action, typing),
-        Instr::Ret => (!typing.is_empty()).then_some(Violation::RightLeft),
+        Instr::Ret => (!typing.is_empty()).then_some(VerifyRefusal::RightLeft),
     }
 }
 
@@ -241,8 +241,8 @@ fn is_open_or_of(registers: &[Scalar], register: usize, ty: Scalar) -> bool
 }
 
 /// The value parameters must have registers, of their types.
-fn params_refusal(procedure: &Procedure) -> Option<Violation>
-    ensures { option_map violation_number result ≡ refusal_in (asks_params procedure.now) }
+fn params_refusal(procedure: &Procedure) -> Option<VerifyRefusal>
+    ensures { option_map verify_refusal_number result ≡ refusal_in (asks_params procedure.now) }
 {
     let registers = procedure.registers.as_slice();
     let mut given = 0;
@@ -254,9 +254,9 @@ fn params_refusal(procedure: &Procedure) -> Option<Violation>
         }
     }
     if given > registers.len() {
-        Some(Violation::UndeclaredValue)
+        Some(VerifyRefusal::UndeclaredValue)
     } else {
-        (!fits).then_some(Violation::WrongValueType)
+        (!fits).then_some(VerifyRefusal::WrongValueType)
     }
 }
 
@@ -267,9 +267,9 @@ pub fn place_refusal(
     place: usize,
     instr: &Instr,
     typing: &Typing,
-) -> Option<Violation>
+) -> Option<VerifyRefusal>
     requires { IsInstr instr.now }
-    ensures { option_map violation_number result
+    ensures { option_map verify_refusal_number result
         ≡ refusal_in (asks_at procedures.now procedure.now place instr.now typing.now) }
 {
     let own = instr_refusal(procedures, procedure, instr, typing);

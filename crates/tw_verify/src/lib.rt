@@ -24,7 +24,6 @@ mod structure;
 mod typing;
 mod verified;
 mod verifier;
-mod violation;
 
 pub use instructions::place_refusal;
 pub use laws::{no_trap, one_first_refusal};
@@ -34,4 +33,3 @@ pub use tw_no_trap::{budgets_held, counts_held, notes_held, types_held};
 pub use typing::{RightType, Typing};
 pub use verified::Verified;
 pub use verifier::verify;
-pub use violation::Violation;

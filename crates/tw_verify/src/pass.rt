@@ -10,7 +10,7 @@ ghost use Rattle.tw_code.specs.machine.Rights.{Typing};
 ghost use Rattle.tw_code.specs.accepting.Typing.{asks_at};
 ghost use Rattle.tw_code.specs.accepting.Walk.{IsBudget, greatest_budget};
 ghost use Rattle.tw_code.specs.accepting.WellTyped.{IsEndOf, IsWellTyped, IsTypingRefusal, IsBudgetRefusal, IsProcedureRefusal};
-ghost use Rattle.tw_verify.specs.Violations.{violation_number};
+ghost use Rattle.tw_verify.specs.Refusal.{verify_refusal_number};
 ghost use Rattle.tw_verify.specs.Loops.{AreLoops};
 ghost use Rattle.tw_verify.specs.Passes.{IfFault, HasChanged, lowest_at};
 ghost use Rattle.tw_verify.specs.Verified.{AreFindings};
@@ -27,7 +27,7 @@ use tw_types::Items;
 use crate::instructions::place_refusal;
 use crate::questions::lowest;
 use crate::typing::Typing;
-use crate::violation::Violation;
+use crate::refusal::VerifyRefusal;
 
 fn typing_at(typings: &[Typing], place: usize) -> Option<Typing>
     ensures { result ≡ slice_get typings.now place }
@@ -66,15 +66,15 @@ fn typing_refusal(
     instr: &Instr,
     reached: &Reached,
     changed: bool,
-) -> Option<Violation>
+) -> Option<VerifyRefusal>
     requires { IsInstr instr.now }
-    ensures { option_map violation_number result ≡ lowest_at
+    ensures { option_map verify_refusal_number result ≡ lowest_at
         (refusal_in (asks_at procedures.now procedure.now place instr.now reached.now.typing))
         reached.now.differs changed }
 {
     let own = place_refusal(procedures, procedure, place, instr, &reached.typing);
-    let differs = reached.differs.then_some(Violation::TypingsDiffer);
-    let changed = changed.then_some(Violation::TypingChanged);
+    let differs = reached.differs.then_some(VerifyRefusal::TypingsDiffer);
+    let changed = changed.then_some(VerifyRefusal::TypingChanged);
     lowest(lowest(own, differs), changed)
 }
 
@@ -102,16 +102,16 @@ fn typings(
     let mut all = Vec::new(alloc);
     for (place, instr) in code.iter().enumerate() {
         let Some(reached) = row_at(&rows, place) else {
-            return Err(Fault::At {
-                violation: Violation::Unreached,
+            return Err(Fault {
+                no: VerifyRefusal::Unreached,
                 place,
             });
         };
         let changed = is_changed(code, loops, &all, place, &reached.typing);
-        if let Some(violation) = typing_refusal(
+        if let Some(no) = typing_refusal(
             procedures, procedure, place, instr, &reached, changed,
         ) {
-            return Err(Fault::At { violation, place });
+            return Err(Fault { no, place });
         }
         keep(&mut all, reached.typing)?;
         send_both(&mut rows, procedures, place, instr, reached.typing);
@@ -129,11 +129,11 @@ fn budget(alloc: Global, procedure: &Procedure) -> Result<u64, Fault>
 {
     match budgets(alloc, procedure) {
         Ok(budget) => Ok(budget),
-        Err(BudgetRefusal::TooLarge) => Err(Fault::At {
-            violation: Violation::BudgetTooLarge,
+        Err(BudgetRefusal::TooLarge) => Err(Fault {
+            no: VerifyRefusal::BudgetTooLarge,
             place: 0,
         }),
-        Err(BudgetRefusal::NoMemory) => Err(Fault::NoMemory),
+        Err(BudgetRefusal::NoMemory) => Err(Fault::no_memory()),
     }
 }
 

@@ -6,16 +6,16 @@ ghost use Rattle.std.specs.Option.{option_map};
 ghost use Rattle.tw_code.specs.accepting.Question.{passes, refusal_in};
 ghost use Rattle.tw_code.specs.machine.Rights.{RightType, right_at};
 ghost use Rattle.tw_code.specs.accepting.Typing.{asks_value, asks_alike, asks_values, asks_value_of, asks_empty_pair, asks_container_write, writes_container, reads, reads_closed_container, reads_member_of};
-ghost use Rattle.tw_verify.specs.Violations.{lowest_of, refusal_with, violation_number};
+ghost use Rattle.tw_verify.specs.Refusal.{lowest_of, refusal_with, verify_refusal_number};
 
 use crate::typing::{RightType, Typing};
-use crate::violation::Violation;
+use crate::refusal::VerifyRefusal;
 use tw_types::Scalar;
 
 /// The lower of two refusals, of which each may be missing.
-pub fn lowest(first: Option<Violation>, second: Option<Violation>) -> Option<Violation>
-    ensures { option_map violation_number result
-        ≡ lowest_of (option_map violation_number first) (option_map violation_number second) }
+pub fn lowest(first: Option<VerifyRefusal>, second: Option<VerifyRefusal>) -> Option<VerifyRefusal>
+    ensures { option_map verify_refusal_number result
+        ≡ lowest_of (option_map verify_refusal_number first) (option_map verify_refusal_number second) }
 {
     match (first, second) {
         (Some(a), Some(b)) => Some(if b.number() < a.number() { b } else { a }),
@@ -27,26 +27,26 @@ pub fn lowest(first: Option<Violation>, second: Option<Violation>) -> Option<Vio
 /// One question beside others: where its answer is no, the lower of its refusal and theirs.
 pub(crate) fn beside(
     met: bool,
-    violation: Violation,
-    others: Option<Violation>,
-) -> Option<Violation>
-    ensures { option_map violation_number result
-        ≡ refusal_with (violation_number violation, met) (option_map violation_number others) }
+    refusal: VerifyRefusal,
+    others: Option<VerifyRefusal>,
+) -> Option<VerifyRefusal>
+    ensures { option_map verify_refusal_number result
+        ≡ refusal_with (verify_refusal_number refusal, met) (option_map verify_refusal_number others) }
 {
     if met {
         others
     } else {
-        lowest(Some(violation), others)
+        lowest(Some(refusal), others)
     }
 }
 
 /// A value register must be declared, and be of this type.
-pub(crate) fn value_refusal(registers: &[Scalar], register: u8, ty: Scalar) -> Option<Violation>
-    ensures { option_map violation_number result ≡ refusal_in (asks_value registers.now register ty) }
+pub(crate) fn value_refusal(registers: &[Scalar], register: u8, ty: Scalar) -> Option<VerifyRefusal>
+    ensures { option_map verify_refusal_number result ≡ refusal_in (asks_value registers.now register ty) }
 {
     match registers.get(register as usize) {
-        None => Some(Violation::UndeclaredValue),
-        Some(declared) => (*declared != ty).then_some(Violation::WrongValueType),
+        None => Some(VerifyRefusal::UndeclaredValue),
+        Some(declared) => (*declared != ty).then_some(VerifyRefusal::WrongValueType),
     }
 }
 
@@ -57,8 +57,8 @@ pub(crate) fn both_refusal(
     first_ty: Scalar,
     second: u8,
     second_ty: Scalar,
-) -> Option<Violation>
-    ensures { option_map violation_number result
+) -> Option<VerifyRefusal>
+    ensures { option_map verify_refusal_number result
         ≡ refusal_in (asks_value registers.now first first_ty ++ asks_value registers.now second second_ty) }
 {
     lowest(
@@ -74,8 +74,8 @@ pub(crate) fn values_refusal(
     second: u8,
     third: u8,
     ty: Scalar,
-) -> Option<Violation>
-    ensures { option_map violation_number result
+) -> Option<VerifyRefusal>
+    ensures { option_map verify_refusal_number result
         ≡ refusal_in (asks_values registers.now first second third ty) }
 {
     lowest(
@@ -85,11 +85,11 @@ pub(crate) fn values_refusal(
 }
 
 /// Two value registers must be declared, and be of the same type.
-pub(crate) fn alike_refusal(registers: &[Scalar], first: u8, second: u8) -> Option<Violation>
-    ensures { option_map violation_number result ≡ refusal_in (asks_alike registers.now first second) }
+pub(crate) fn alike_refusal(registers: &[Scalar], first: u8, second: u8) -> Option<VerifyRefusal>
+    ensures { option_map verify_refusal_number result ≡ refusal_in (asks_alike registers.now first second) }
 {
     match registers.get(first as usize) {
-        None => Some(Violation::UndeclaredValue),
+        None => Some(VerifyRefusal::UndeclaredValue),
         Some(ty) => value_refusal(registers, second, *ty),
     }
 }
@@ -101,51 +101,51 @@ pub(crate) fn value_of_refusal(
     register: u8,
     right: &Option<RightType>,
     fits: bool,
-) -> Option<Violation>
+) -> Option<VerifyRefusal>
     ensures { (test : RightType → Bool) → fits ≡ passes test right.now
-        → option_map violation_number result
+        → option_map verify_refusal_number result
         ≡ refusal_in (asks_value_of registers.now register test right.now) }
 {
     let Some(declared) = registers.get(register as usize) else {
-        return Some(Violation::UndeclaredValue);
+        return Some(VerifyRefusal::UndeclaredValue);
     };
     match right {
         Some(right) if fits => (*declared != right.ty().scalar()).then_some(
-            Violation::WrongValueType,
+            VerifyRefusal::WrongValueType,
         ),
-        _ => Some(Violation::WrongRight),
+        _ => Some(VerifyRefusal::WrongRight),
     }
 }
 
 /// Two right registers must be empty, and different.
-pub(crate) fn empty_pair_refusal(typing: &Typing, first: u8, second: u8) -> Option<Violation>
+pub(crate) fn empty_pair_refusal(typing: &Typing, first: u8, second: u8) -> Option<VerifyRefusal>
     requires first { first < 16 }
     requires second { second < 16 }
-    ensures { option_map violation_number result ≡ refusal_in (asks_empty_pair typing.now first second) }
+    ensures { option_map verify_refusal_number result ≡ refusal_in (asks_empty_pair typing.now first second) }
 {
     let fits = typing.is_free(first) && typing.is_free(second) && first != second;
-    (!fits).then_some(Violation::RightNotEmpty)
+    (!fits).then_some(VerifyRefusal::RightNotEmpty)
 }
 
 /// A right register must have a right to read.
-pub(crate) fn read_refusal(typing: &Typing, register: u8) -> Option<Violation>
+pub(crate) fn read_refusal(typing: &Typing, register: u8) -> Option<VerifyRefusal>
     requires { register < 16 }
-    ensures { option_map violation_number result
+    ensures { option_map verify_refusal_number result
         ≡ refusal_in ((4, passes reads (right_at typing.now register)) ∷ []) }
 {
     let fits = typing.right_at(register).is_some_and(RightType::reads);
-    (!fits).then_some(Violation::WrongRight)
+    (!fits).then_some(VerifyRefusal::WrongRight)
 }
 
 /// A right register must have a right to write, and not a scalar's.
-pub(crate) fn container_write_refusal(typing: &Typing, register: u8) -> Option<Violation>
+pub(crate) fn container_write_refusal(typing: &Typing, register: u8) -> Option<VerifyRefusal>
     requires { register < 16 }
-    ensures { option_map violation_number result
+    ensures { option_map verify_refusal_number result
         ≡ refusal_in (asks_container_write (right_at typing.now register)) }
 {
     match typing.right_at(register) {
-        Some(right) if right.writes() => right.writes_scalar().then_some(Violation::ScalarWrite),
-        _ => Some(Violation::WrongRight),
+        Some(right) if right.writes() => right.writes_scalar().then_some(VerifyRefusal::ScalarWrite),
+        _ => Some(VerifyRefusal::WrongRight),
     }
 }
 
@@ -153,17 +153,17 @@ pub(crate) fn container_write_refusal(typing: &Typing, register: u8) -> Option<V
 pub(crate) fn members_refusal(
     typing: &Typing,
     register: u8,
-    others: Option<Violation>,
-) -> Option<Violation>
+    others: Option<VerifyRefusal>,
+) -> Option<VerifyRefusal>
     requires { register < 16 }
-    ensures { option_map violation_number result
+    ensures { option_map verify_refusal_number result
         ≡ refusal_with (4, passes reads_closed_container (right_at typing.now register))
-        (option_map violation_number others) }
+        (option_map verify_refusal_number others) }
 {
     let fits = typing
         .right_at(register)
         .is_some_and(RightType::reads_closed_container);
-    beside(fits, Violation::WrongRight, others)
+    beside(fits, VerifyRefusal::WrongRight, others)
 }
 
 /// Whether a right register has a right to write a container.

@@ -1,7 +1,7 @@
 //! Why a program is refused.
 
 ghost use Rattle.std.specs.Prelude.{◌≡◌};
-ghost use Rattle.tw_verify.specs.Refusal.{verify_refusal_number};
+ghost use Rattle.tw_verify.specs.Refusal.{is_memory, verify_refusal_number};
 
 /// Why a program isn't accepted, by rising numbers.
 #[derive(Clone, Copy)]
@@ -45,6 +45,13 @@ pub enum VerifyRefusal {
 }
 
 impl VerifyRefusal {
+    /// Whether it says nothing of the program.
+    pub(crate) fn is_memory(self) -> bool
+        ensures { result ≡ is_memory self }
+    {
+        matches!(self, VerifyRefusal::NoMemory)
+    }
+
     /// The number behind the letter V.
     pub fn number(self) -> u8
         ensures { result ≡ verify_refusal_number self }

@@ -4,14 +4,14 @@ ghost use Rattle.std.specs.Prelude.{◌≡◌, ◌<◌, length, OnOk, IfErr, ◌
 ghost use Rattle.std.specs.Option.{option_map};
 ghost use Rattle.tw_code.specs.accepting.Flow.{flows};
 ghost use Rattle.tw_code.specs.accepting.Structure.{same_block, is_in_block, skips_in_block, is_matched, ends_well, structure_refusal_at, IsStructured, IsStructureRefusal};
-ghost use Rattle.tw_verify.specs.Violations.{violation_number};
+ghost use Rattle.tw_verify.specs.Refusal.{verify_refusal_number};
 ghost use Rattle.tw_verify.specs.Loops.{AreLoops};
 ghost use Rattle.tw_verify.specs.Passes.{IfFault};
 
 use crate::fault::Fault;
 use crate::loops::Loops;
 use tw_code::{Flow, Instr, flow_at};
-use crate::violation::Violation;
+use crate::refusal::VerifyRefusal;
 
 /// How many loops may stand in one another.
 const MAX_DEPTH: usize = 4;
@@ -76,21 +76,21 @@ fn is_ending_well(code: &[Instr], loops: &Loops, place: usize, flow: Flow) -> bo
 }
 
 /// The lowest number that is refused at a place.
-fn structure_refusal(code: &[Instr], loops: &Loops, place: usize) -> Option<Violation>
+fn structure_refusal(code: &[Instr], loops: &Loops, place: usize) -> Option<VerifyRefusal>
     requires known { AreLoops code.now loops.now }
     requires within { place < length code.now }
     requires short { length code.now < 2 ^ 32 }
-    ensures { option_map violation_number result ≡ structure_refusal_at (flows code.now) place }
+    ensures { option_map verify_refusal_number result ≡ structure_refusal_at (flows code.now) place }
 {
     let flow = flow_at(code, place);
     if !is_skip_in_block(code, loops, place, flow) {
-        return Some(Violation::SkipLeavesBlock);
+        return Some(VerifyRefusal::SkipLeavesBlock);
     }
     if !has_partner(code, loops, place, flow) {
-        return Some(Violation::Unmatched);
+        return Some(VerifyRefusal::Unmatched);
     }
     if !is_ending_well(code, loops, place, flow) {
-        return Some(Violation::MisplacedRet);
+        return Some(VerifyRefusal::MisplacedRet);
     }
     None
 }
@@ -103,8 +103,8 @@ pub(crate) fn ask_structure(code: &[Instr], loops: &Loops) -> Result<(), Fault>
     ensures refused { IfErr result (λ fault. IfFault fault (IsStructureRefusal code.now)) }
 {
     for place in 0..code.len() {
-        if let Some(violation) = structure_refusal(code, loops, place) {
-            return Err(Fault::At { violation, place });
+        if let Some(no) = structure_refusal(code, loops, place) {
+            return Err(Fault { no, place });
         }
     }
     Ok(())

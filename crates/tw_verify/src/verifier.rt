@@ -11,12 +11,12 @@ ghost use Rattle.tw_verify.specs.Verified.{IsTyped};
 use crate::fault::{Refusal, keep};
 use crate::findings::Findings;
 use crate::pass::procedure_findings;
+use crate::refusal::VerifyRefusal;
 use crate::refused::Refused;
 use crate::verified::Verified;
 use std::alloc::Global;
 use tw_code::{Procedure, Program, has_main_shape};
 use tw_types::Items;
-use crate::refusal::VerifyRefusal;
 
 /// What is found out about each procedure of an accepted program.
 fn all_findings(alloc: Global, procedures: &[Procedure]) -> Result<Items<Findings>, Refusal>

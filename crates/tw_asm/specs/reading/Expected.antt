@@ -1,4 +1,4 @@
--- First words and what they expectation.
+-- First words, and what they let expect.
 use Rattle.tw_words.specs.Words.{Word, Bare, Quoted}
 use Rattle.tw_asm.specs.declared.statement.First.{First}
 use Rattle.tw_asm.specs.declared.statement.First.TheVariants as first

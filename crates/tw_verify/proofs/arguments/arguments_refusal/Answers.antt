@@ -9,7 +9,7 @@ use Rattle.tw_code.specs.format.Program.{IsRegister}
 use Rattle.tw_code.specs.machine.Rights.{Typing}
 use Rattle.tw_code.specs.accepting.Question.{refusal_in}
 use Rattle.tw_code.specs.accepting.Typing.{asks_args, without_args}
-use Rattle.tw_verify.specs.Violations.{lowest_of, violation_number}
+use Rattle.tw_verify.specs.Refusal.{lowest_of, verify_refusal_number}
 use Rattle.tw_verify.proofs.Asking.{ask_more, nothing_asked}
 use Rattle.tw_verify.proofs.Numbers.{lowest_nothing, lowest_of_three}
 use Rattle.tw_verify.proofs.arguments.arguments_refusal.Goals as goal
@@ -23,7 +23,7 @@ loop-param-preserved c =
     let left = c.loop-param.left in
     let params = iter_rest (zip_first c.next.new.self) in
     let args = iter_rest (zip_second c.next.new.self) in
-    let so_far = option_map violation_number c.loop-param.refusal in
+    let so_far = option_map verify_refusal_number c.loop-param.refusal in
     let own = refusal_in (asks_args waits registers (p ∷ []) (arg ∷ []) left) in
     let others = refusal_in (asks_args waits registers params args (without_args (p ∷ []) (arg ∷ []) left)) in
     let more = Zip-more c.loop-param.param-iterator c.next.new.self _ (c.in-Some.param, c.in-Some.arg) refl c.in-Some.ensures.steps in
@@ -35,11 +35,11 @@ loop-param-preserved c =
           ∙ sym (lowest_of_three so_far own others)
           ∙ ap (λ (o : Option ℕ). lowest_of (lowest_of so_far o) others) (sym c.argument_refusal-own.ensures)
           ∙ ap (λ (o : Option ℕ). lowest_of o others) (sym c.lowest-refusal.ensures)
-          ∙ ap (λ (t : Typing). lowest_of (option_map violation_number c.lowest-refusal.result) (refusal_in (asks_args waits registers params args t))) (sym c.without-left.ensures);
+          ∙ ap (λ (t : Typing). lowest_of (option_map verify_refusal_number c.lowest-refusal.result) (refusal_in (asks_args waits registers params args t))) (sym c.without-left.ensures);
       operands = (subst (AllByRecursion IsRegister) more.1 c.loop-param.invariant.operands).1;
     }
 
 pub returns : goal.returns
 returns c =
     let at_end = nothing_asked c.args.waits c.args.registers.now _ _ c.loop-param.left (either_empty_from_Zip c.loop-param.param-iterator c.next.new.self _ refl c.in-None.ensures.steps) in
-    sym (c.loop-param.invariant.rest ∙ ap (λ questions. lowest_of (option_map violation_number c.loop-param.refusal) (refusal_in questions)) at_end ∙ lowest_nothing (option_map violation_number c.loop-param.refusal))
+    sym (c.loop-param.invariant.rest ∙ ap (λ questions. lowest_of (option_map verify_refusal_number c.loop-param.refusal) (refusal_in questions)) at_end ∙ lowest_nothing (option_map verify_refusal_number c.loop-param.refusal))

@@ -6,12 +6,12 @@ use Rattle.std.specs.Slice.Iter.{iter_rest}
 use Rattle.tw_code.specs.format.Program.{IsRegister}
 use Rattle.tw_code.specs.accepting.Question.{refusal_in}
 use Rattle.tw_code.specs.accepting.Typing.{asks_args}
-use Rattle.tw_verify.specs.Violations.{lowest_of, violation_number}
+use Rattle.tw_verify.specs.Refusal.{lowest_of, verify_refusal_number}
 use Rattle.tw_verify.proofs.arguments.arguments_refusal.Given as goal
 
 -- what is found so far, and what is still asked
 abbrev pub invariant-loop-param : goal.invariant-loop-param
 invariant-loop-param l = record {
-  rest : refusal_in (asks_args l.waits l.registers l.params l.args l.typing) ≡ lowest_of (option_map violation_number l.refusal) (refusal_in (asks_args l.waits l.registers (iter_rest (zip_first l.param-iterator)) (iter_rest (zip_second l.param-iterator)) l.left));
+  rest : refusal_in (asks_args l.waits l.registers l.params l.args l.typing) ≡ lowest_of (option_map verify_refusal_number l.refusal) (refusal_in (asks_args l.waits l.registers (iter_rest (zip_first l.param-iterator)) (iter_rest (zip_second l.param-iterator)) l.left));
   operands : AllByRecursion IsRegister (iter_rest (zip_second l.param-iterator));
 }

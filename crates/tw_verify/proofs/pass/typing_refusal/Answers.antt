@@ -3,8 +3,8 @@ use Rattle.std.specs.Prelude.{if◌then◌else◌}
 use Rattle.std.specs.Option.{option_map}
 use Rattle.tw_code.specs.accepting.Question.{refusal_in}
 use Rattle.tw_code.specs.accepting.Typing.{asks_at}
-use Rattle.tw_verify.specs.declared.violation.Violation.TheVariants.{TypingsDiffer, TypingChanged}
-use Rattle.tw_verify.specs.Violations.{lowest_of, violation_number}
+use Rattle.tw_verify.specs.declared.refusal.VerifyRefusal.TheVariants.{TypingsDiffer, TypingChanged}
+use Rattle.tw_verify.specs.Refusal.{lowest_of, verify_refusal_number}
 use Rattle.tw_verify.proofs.Causes.{then_number}
 use Rattle.tw_verify.proofs.pass.typing_refusal.Goals as goal
 
@@ -14,8 +14,8 @@ returns c =
     let differs = c.args.reached.now.differs in
     let inner =
     c.lowest.ensures
-    ∙ ap (λ (o : Option ℕ). lowest_of o (option_map violation_number c.then_some-differs.result)) c.place_refusal-own.ensures
-    ∙ ap (lowest_of own) (ap (option_map violation_number) c.then_some-differs.ensures ∙ then_number differs TypingsDiffer) in
+    ∙ ap (λ (o : Option ℕ). lowest_of o (option_map verify_refusal_number c.then_some-differs.result)) c.place_refusal-own.ensures
+    ∙ ap (lowest_of own) (ap (option_map verify_refusal_number) c.then_some-differs.ensures ∙ then_number differs TypingsDiffer) in
     c.lowest-2.ensures
-    ∙ ap (λ (o : Option ℕ). lowest_of o (option_map violation_number c.then_some-changed.result)) inner
-    ∙ ap (lowest_of (lowest_of own (if differs then Some 7 else None))) (ap (option_map violation_number) c.then_some-changed.ensures ∙ then_number c.args.changed TypingChanged)
+    ∙ ap (λ (o : Option ℕ). lowest_of o (option_map verify_refusal_number c.then_some-changed.result)) inner
+    ∙ ap (lowest_of (lowest_of own (if differs then Some 7 else None))) (ap (option_map verify_refusal_number) c.then_some-changed.ensures ∙ then_number c.args.changed TypingChanged)

@@ -7,7 +7,7 @@ use Rattle.tw_code.specs.accepting.Question.{refusal_in}
 use Rattle.tw_code.specs.machine.Rights.{Typing}
 use Rattle.tw_code.specs.accepting.Typing.{start_typing, asks_at}
 use Rattle.tw_code.specs.accepting.WellTyped.{IsEndOf, IsWellTyped}
-use Rattle.tw_verify.specs.Violations.{violation_number}
+use Rattle.tw_verify.specs.Refusal.{verify_refusal_number}
 use Rattle.tw_verify.specs.declared.reached.Reached.{Reached}
 use Rattle.tw_verify.specs.Passes.{first_row, HasChanged, lowest_at}
 use Rattle.tw_verify.proofs.Causes.{nothing_at}
@@ -36,7 +36,7 @@ returns-in_default-clause-refused c =
     let place = c.loop-place.place in
     let at = subst (λ (xs : List (Option Reached)). slice_get xs place ≡ Some c.row_at.result) c.deref.ensures.value c.row_at.ensures in
     let row = subst (λ (x : Option Reached). IsRow program p all (place + place) place x) c.in_default.is (c.loop-place.invariant.rows place c.row_at.result at) in
-    unreached program p all place c.loop-place.invariant.typed row (omega (arith, ap (length {A = Instr}) c.as_slice-code.ensures))
+    λ real. unreached program p all place c.loop-place.invariant.typed row (omega (arith, ap (length {A = Instr}) c.as_slice-code.ensures))
 
 pub returns-in-Some-typing_refusal-clause-refused : goal.returns-in-Some-typing_refusal-clause-refused
 returns-in-Some-typing_refusal-clause-refused c =
@@ -51,8 +51,8 @@ returns-in-Some-typing_refusal-clause-refused c =
     let at = subst (λ (xs : List (Option Reached)). slice_get xs place ≡ Some c.row_at.result) c.deref.ensures.value c.row_at.ensures in
     let row : HasReached program p all (place + place) place r = subst (λ (x : Option Reached). IsRow program p all (place + place) place x) c.in-Some.is (c.loop-place.invariant.rows place c.row_at.result at) in
     let here : slice_get p.code place ≡ Some i = ap (λ (xs : List Instr). slice_get xs place) (sym c.as_slice-code.ensures) ∙ slice_get_read code (length code) place i refl c.loop-place-test.true c.index-code-place.is in
-    let is : lowest_at (refusal_in (asks_at program p place i r.typing)) r.differs changed ≡ Some (violation_number c.in-Some-typing_refusal.violation) = sym c.typing_refusal.ensures ∙ ap (option_map violation_number) c.in-Some-typing_refusal.is in
-    refusal_at program p all place (violation_number c.in-Some-typing_refusal.violation) r i changed c.loop-place.invariant.typed row here
+    let is : lowest_at (refusal_in (asks_at program p place i r.typing)) r.differs changed ≡ Some (verify_refusal_number c.in-Some-typing_refusal.no) = sym c.typing_refusal.ensures ∙ ap (option_map verify_refusal_number) c.in-Some-typing_refusal.is in
+    λ real. refusal_at program p all place (verify_refusal_number c.in-Some-typing_refusal.no) r i changed c.loop-place.invariant.typed row here
     (λ e. subst (λ (ts : List Typing). HasChanged p.code ts place r.typing) c.deref-in-loop-place.ensures.value (subst (λ (xs : List Instr). HasChanged xs c.deref-in-loop-place.result.now place r.typing) c.as_slice-code.ensures (c.is_changed-changed.ensures.found e)))
     (λ first begun e end there. c.is_changed-changed.ensures.all first begun e (subst (λ (xs : List Instr). IsEndOf xs first place) (sym c.as_slice-code.ensures) end) (subst (λ (ts : List Typing). slice_get ts first ≡ Some begun) (sym c.deref-in-loop-place.ensures.value) there))
     is
@@ -72,7 +72,7 @@ loop-place-preserved c =
     let at = subst (λ (xs : List (Option Reached)). slice_get xs place ≡ Some c.row_at.result) c.deref.ensures.value c.row_at.ensures in
     let row : HasReached program p all (place + place) place r = subst (λ (x : Option Reached). IsRow program p all (place + place) place x) c.in-Some.is (c.loop-place.invariant.rows place c.row_at.result at) in
     let here : slice_get p.code place ≡ Some i = ap (λ (xs : List Instr). slice_get xs place) (sym c.as_slice-code.ensures) ∙ slice_get_read code (length code) place i refl c.loop-place-test.true c.index-code-place.is in
-    let nothing = nothing_at (refusal_in (asks_at program p place i r.typing)) r.differs changed (sym c.typing_refusal.ensures ∙ ap (option_map violation_number) c.in_default-typing_refusal.is) in
+    let nothing = nothing_at (refusal_in (asks_at program p place i r.typing)) r.differs changed (sym c.typing_refusal.ensures ∙ ap (option_map verify_refusal_number) c.in_default-typing_refusal.is) in
     let kept : c.keep.new.list.items ≡ all ++ r.typing ∷ [] = c.in_ok-keep.ensures in
     let same : length new ≡ length old = c.send_both.auto.rows ∙ ap length c.deref_mut.ensures.value in
     let whole : take c.loop-place.rows.len (new ++ drop (length new) old) ≡ new = whole_slice new old c.loop-place.rows.len same c.loop-place.rows.ok.0 in

@@ -2,7 +2,7 @@ use Rattle.std.proofs.Common.{ℕ, Option, ap, sym, ◌∙◌}
 use Rattle.std.specs.Option.{option_map}
 use Rattle.tw_code.specs.accepting.Question.{refusal_in}
 use Rattle.tw_code.specs.accepting.Typing.{asks_value}
-use Rattle.tw_verify.specs.Violations.{lowest_of, violation_number}
+use Rattle.tw_verify.specs.Refusal.{lowest_of, verify_refusal_number}
 use Rattle.tw_verify.proofs.Numbers.{refusal_in-append}
 use Rattle.tw_verify.proofs.questions.both_refusal.Goals as goal
 
@@ -10,6 +10,6 @@ pub returns : goal.returns
 returns c =
     let registers = c.args.registers.now in
     c.lowest.ensures
-    ∙ ap (λ (first : Option ℕ). lowest_of first (option_map violation_number c.value_refusal-2.result)) c.value_refusal.ensures
+    ∙ ap (λ (first : Option ℕ). lowest_of first (option_map verify_refusal_number c.value_refusal-2.result)) c.value_refusal.ensures
     ∙ ap (lowest_of (refusal_in (asks_value registers c.args.first c.args.first_ty))) c.value_refusal-2.ensures
     ∙ sym (refusal_in-append (asks_value registers c.args.first c.args.first_ty) (asks_value registers c.args.second c.args.second_ty))

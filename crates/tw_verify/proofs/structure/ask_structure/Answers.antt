@@ -5,14 +5,14 @@ use Rattle.std.proofs.lemmas.Option.{slice_get_past}
 use Rattle.std.specs.Option.{option_and_then, option_map}
 use Rattle.tw_code.specs.accepting.Flow.{flow_of, flows}
 use Rattle.tw_code.specs.accepting.Structure.{structure_refusal, structure_refusal_at}
-use Rattle.tw_verify.specs.Violations.{violation_number}
+use Rattle.tw_verify.specs.Refusal.{verify_refusal_number}
 use Rattle.tw_verify.proofs.structure.ask_structure.Goals as goal
 
 pub loop-place-preserved : goal.loop-place-preserved
 loop-place-preserved c = λ k before. by k before (cases_lt k c.loop-place.place)
   where
     here : structure_refusal_at (flows c.args.code.now) c.loop-place.place ≡ None
-    here = sym c.structure_refusal.ensures ∙ ap (option_map violation_number) c.in_default.is
+    here = sym c.structure_refusal.ensures ∙ ap (option_map verify_refusal_number) c.in_default.is
 
     by : (k : ℕ) → k < c.loop-place.place + 1 → (k < c.loop-place.place) ⊎ (c.loop-place.place ≤ k) → structure_refusal_at (flows c.args.code.now) k ≡ None
     by k before (inl earlier) = c.loop-place.invariant k earlier
