@@ -13,16 +13,14 @@ ghost use Rattle.tw_instr.specs.Room.{HasRoom};
 ghost use Rattle.tw_machine.specs.Events.{CallComes, HaveRoom, TablesCome, with_frames, with_tables};
 ghost use Rattle.tw_machine.specs.Parts.{frames_of};
 
+use crate::rule::Rule;
 use crate::tables::Tables;
+use crate::task::Task;
 use std::alloc::Global;
 use std::collections::BTreeMap;
 use tw_code::{Action, DataInstr, Instr, Procedure};
-use tw_instr::{
-    Call, Frame, Stopped, called, data_instr, instr_at, procedure_of, put_called,
-};
+use tw_instr::{Call, Frame, Stopped, called, data_instr, instr_at, procedure_of, put_called};
 use tw_types::{Actor, Kind};
-use crate::rule::Rule;
-use crate::task::Task;
 
 /// The frame's task does a RULE.
 fn make_rule(

@@ -1,7 +1,7 @@
 //! Rules.
 
 ghost use Rattle.std.specs.Prelude.{◌≡◌, ◌≤◌, length, map, slice_set, IfOk};
-ghost use Rattle.tw_types.specs.Rule.{at_stage, first_stage, first_unasked, has_unasked, is_releasable, is_settled, is_unasked, task_from};
+ghost use Rattle.tw_types.specs.Rule.{at_stage, first_stage, first_unasked, has_unasked, is_releasable, task_from};
 ghost use Rattle.tw_code.specs.machine.State.{new_rule};
 ghost use Rattle.tw_instr.specs.Arguments.{arg_of};
 ghost use Rattle.tw_machine.specs.Waiting.{right_in, unasked_id};
@@ -10,7 +10,7 @@ use crate::task::Task;
 use std::alloc::{AllocError, Global};
 use std::marker::Model;
 use tw_instr::{Arg, keep};
-use tw_types::{DatumId, Kind, Mode, Param, Stage};
+use tw_types::{DatumId, Kind, Param, Stage};
 
 /// A rule: the engine that holds it, what its task will be, with at most eight arguments, and the stage of each
 /// parameter.
@@ -104,20 +104,20 @@ impl Rule {
     pub fn is_releasable(&self) -> bool
         ensures { result ≡ is_releasable self.now }
     {
-        self.stages.iter().all(|stage| is_settled(*stage))
+        Stage::all_settled(&self.stages)
     }
 
     pub(crate) fn has_unasked(&self) -> bool
         ensures { result ≡ has_unasked self.now }
     {
-        self.stages.iter().any(|stage| is_unasked(*stage))
+        Stage::any_unasked(&self.stages)
     }
 
     /// The first parameter that is unasked.
     pub(crate) fn first_unasked(&self) -> Option<u8>
         ensures { result ≡ first_unasked 0 self.now.stages }
     {
-        first_unasked(&self.stages)
+        Stage::first_unasked(&self.stages)
     }
 
     /// The id that stands for a parameter, if that is unasked.
@@ -126,7 +126,7 @@ impl Rule {
     {
         let parameter = usize::from(parameter);
         let stage = self.stages.get(parameter)?;
-        if is_unasked(*stage) {
+        if stage.is_unasked() {
             right_in(self.args.get(parameter)?)
         } else {
             None
@@ -159,48 +159,13 @@ fn right_in(arg: &Arg) -> Option<DatumId>
     }
 }
 
-fn is_unasked(stage: Stage) -> bool
-    ensures { result ≡ is_unasked stage }
-{
-    matches!(stage, Stage::Unasked)
-}
-
-fn is_settled(stage: Stage) -> bool
-    ensures { result ≡ is_settled stage }
-{
-    matches!(stage, Stage::Free | Stage::Ready)
-}
-
 fn first_stages(alloc: Global, params: &[Param]) -> Result<Vec<Stage>, AllocError>
     ensures { IfOk result (λ stages. stages.items ≡ map (λ p. first_stage p.mode) params.now) }
 {
     params
         .iter()
-        .map(|param| first_stage(param.mode))
+        .map(|param| Stage::first(param.mode))
         .collect(alloc)
-}
-
-fn first_stage(mode: Mode) -> Stage
-    ensures { result ≡ first_stage mode }
-{
-    match mode {
-        Mode::Closed => Stage::Unasked,
-        Mode::Val | Mode::Ref | Mode::Write => Stage::Free,
-    }
-}
-
-fn first_unasked(stages: &[Stage]) -> Option<u8>
-    requires { length stages.now ≤ 8 }
-    ensures { result ≡ first_unasked 0 stages.now }
-{
-    let mut parameter = 0;
-    for stage in stages {
-        if is_unasked(*stage) {
-            return Some(parameter);
-        }
-        parameter += 1;
-    }
-    None
 }
 
 fn set_in(stages: &mut Vec<Stage>, parameter: u8, stage: Stage)
