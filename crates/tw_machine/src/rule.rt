@@ -6,34 +6,28 @@ ghost use Rattle.tw_code.specs.machine.State.{new_rule};
 ghost use Rattle.tw_instr.specs.Arguments.{arg_of};
 ghost use Rattle.tw_machine.specs.Waiting.{right_in, unasked_id};
 
-use crate::task::Task;
 use std::alloc::{AllocError, Global};
 use std::marker::Model;
-use tw_instr::{Arg, keep};
+use tw_instr::{Arg, Task};
 use tw_types::{DatumId, Kind, Param, Stage};
 
-/// A rule: the engine that holds it, what its task will be, with at most eight arguments, and the stage of each
-/// parameter.
+/// A rule: the engine that holds it, the task that it becomes but for the kind, and the stage of each parameter.
 #[derive(Drop)]
 pub struct Rule {
     engine: u8,
-    procedure: u8,
-    priority: i64,
-    target: Option<u8>,
-    args: Vec<Arg>,
+    task: Task,
     stages: Vec<Stage>,
 }
 
 impl Model for Rule {
-    ghost use Rattle.std.specs.Prelude.{◌≤◌, length, map};
+    ghost use Rattle.std.specs.Prelude.{◌≤◌, length};
     ghost use Rattle.tw_types.specs.Rule.{Rule as Meaning};
-    ghost use Rattle.tw_instr.specs.Arguments.{arg_of};
 
     ghost Value = { Meaning };
 
-    ghost view = { λ r. record { engine = r.engine; procedure = r.procedure; priority = r.priority; target = r.target; args = map arg_of r.args.items; stages = r.stages.items } };
+    ghost view = { λ r. record { engine = r.engine; procedure = r.task.procedure; priority = r.task.priority; target = r.task.target; args = r.task.args; stages = r.stages.items } };
 
-    ghost invariant = { λ r. (length r.args.items ≤ 8) × (length r.stages.items ≤ 8) };
+    ghost invariant = { λ r. length r.stages.items ≤ 8 };
 }
 
 impl Rule {
@@ -43,19 +37,9 @@ impl Rule {
         ensures { IfOk result (λ rule. rule ≡ new_rule engine params.now task) }
     {
         let stages = first_stages(alloc, params)?;
-        let Task {
-            kind: _,
-            procedure,
-            priority,
-            target,
-            args,
-        } = task;
         Ok(Rule {
             engine,
-            procedure,
-            priority,
-            target,
-            args,
+            task,
             stages,
         })
     }
@@ -71,26 +55,26 @@ impl Rule {
     pub fn procedure(&self) -> u8
         ensures { result ≡ self.now.procedure }
     {
-        self.procedure
+        self.task.procedure()
     }
 
     pub fn priority(&self) -> i64
         ensures { result ≡ self.now.priority }
     {
-        self.priority
+        self.task.priority()
     }
 
     /// The number of the one actor that may take its task, if not any.
     pub fn target(&self) -> Option<u8>
         ensures { result ≡ self.now.target }
     {
-        self.target
+        self.task.target()
     }
 
     pub fn args(&self) -> &[Arg]
         ensures { map arg_of result.now ≡ self.now.args }
     {
-        &self.args
+        self.task.args()
     }
 
     /// What is known of each parameter.
@@ -127,7 +111,7 @@ impl Rule {
         let parameter = usize::from(parameter);
         let stage = self.stages.get(parameter)?;
         if stage.is_unasked() {
-            right_in(self.args.get(parameter)?)
+            right_in(self.task.args().get(parameter)?)
         } else {
             None
         }
@@ -144,8 +128,7 @@ impl Rule {
     pub fn task(&self, alloc: Global, kind: Kind) -> Result<Task, AllocError>
         ensures { IfOk result (λ task. task ≡ task_from kind self.now) }
     {
-        let args = copies_of(alloc, &self.args)?;
-        Ok(Task::new(kind, self.procedure, self.priority, self.target, args))
+        self.task.try_clone(alloc, kind)
     }
 }
 
@@ -175,14 +158,4 @@ fn set_in(stages: &mut Vec<Stage>, parameter: u8, stage: Stage)
     if parameter < stages.len() {
         stages[parameter] = stage;
     }
-}
-
-fn copies_of(alloc: Global, args: &[Arg]) -> Result<Vec<Arg>, AllocError>
-    ensures { IfOk result (λ copies. copies.items ≡ args.now) }
-{
-    let mut copies = Vec::new(alloc);
-    for arg in args {
-        keep(&mut copies, arg.try_clone(alloc)?)?;
-    }
-    Ok(copies)
 }
