@@ -1,5 +1,6 @@
 pub mod Empty
-pub mod Named
+pub mod Filling
+pub mod Handing
 pub mod Removed
 pub mod Stretches
 pub mod Told

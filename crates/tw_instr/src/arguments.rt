@@ -10,17 +10,18 @@ ghost use Rattle.tw_instr.specs.Arguments.{arg_of, test_of};
 ghost use Rattle.tw_instr.specs.Attempts.{Fails, Gives};
 ghost use Rattle.tw_instr.specs.Contexts.{context};
 
+use crate::code::procedure_of;
+use crate::data::Data;
+use crate::datum::Datum;
+use crate::failure::{Failure, must};
 use crate::frame::Frame;
+use crate::lists::keep;
+use crate::position::Position;
+use crate::task::Task;
+use crate::value_registers::copy_at;
 use std::alloc::{AllocError, Global};
 use std::marker::Model;
 use tw_code::{Action, Procedure};
-use crate::data::Data;
-use crate::datum::Datum;
-use crate::code::procedure_of;
-use crate::failure::{Failure, must};
-use crate::lists::keep;
-use crate::position::Position;
-use crate::value_registers::copy_at;
 use tw_types::{Cause, DatumId, Kind, Mode, Param, Value};
 
 /// An argument: a value, or a right on a datum.
@@ -42,29 +43,23 @@ impl Arg {
     }
 }
 
-/// What an action names: the task's parts, at most eight arguments among them, the parameters that these stand for,
-/// and the right registers that are left.
+/// What RULE or PUT names: the task, the parameters that its arguments stand for, and the right registers that are left.
 #[derive(Drop)]
-pub struct Call<'a> {
-    pub kind: Kind,
-    pub procedure: u8,
-    pub priority: i64,
-    pub target: Option<u8>,
-    pub args: Vec<Arg>,
+pub struct Named<'a> {
+    pub task: Task,
     pub params: &'a [Param],
     pub rights: [Option<DatumId>; 16],
 }
 
-impl<'a> Model for Call<'a> {
-    ghost use Rattle.std.specs.Prelude.{◌≤◌, length, map};
+impl<'a> Model for Named<'a> {
+    ghost use Rattle.std.specs.Prelude.{◌≤◌, length};
     ghost use Rattle.tw_code.specs.machine.Arguments.{Called};
-    ghost use Rattle.tw_instr.specs.Arguments.{arg_of};
 
     ghost Value = { Called };
 
-    ghost view = { λ c. record { task = record { kind = c.kind; procedure = c.procedure; priority = c.priority; target = c.target; args = map arg_of c.args.items }; params = c.params.now; rights = c.rights } };
+    ghost view = { λ n. record { task = n.task; params = n.params.now; rights = n.rights } };
 
-    ghost invariant = { λ c. (length c.args.items ≤ 8) × (length c.params.now ≤ 8) };
+    ghost invariant = { λ n. length n.params.now ≤ 8 };
 }
 
 /// What RULE names, of the task that does it; the frame is as it was.
@@ -75,7 +70,7 @@ pub fn called<'a>(
     store: &Data,
     frame: &Frame,
     action: &Action,
-) -> Result<Call<'a>, Failure>
+) -> Result<Named<'a>, Failure>
     requires { IsProgram program.now }
     ensures { (n : Notices) → Gives (called program.now kind (context store.now n frame.now) action.now) result }
 {
@@ -98,12 +93,8 @@ pub fn called<'a>(
         all_pass(Need::OfType, store, params, &args),
         Cause::WrongType,
     )?;
-    Ok(Call {
-        kind: procedure.kind,
-        procedure: action.procedure,
-        priority: action.priority,
-        target: action.target,
-        args,
+    Ok(Named {
+        task: Task::of(procedure.kind, action, args),
         params,
         rights,
     })
@@ -117,16 +108,16 @@ pub fn put_called<'a>(
     store: &Data,
     frame: &Frame,
     action: &Action,
-) -> Result<Call<'a>, Failure>
+) -> Result<Named<'a>, Failure>
     requires { IsProgram program.now }
     ensures { (n : Notices) → Gives (put_called program.now kind (context store.now n frame.now) action.now) result }
 {
-    let call = called(alloc, program, kind, store, frame, action)?;
+    let named = called(alloc, program, kind, store, frame, action)?;
     must(
-        all_pass(Need::ClosedIfAsked, store, call.params, &call.args),
+        all_pass(Need::ClosedIfAsked, store, named.params, named.task.args()),
         Cause::ArgumentNotClosed,
     )?;
-    Ok(call)
+    Ok(named)
 }
 
 /// Whether a register is declared and its value is of the type of a parameter.

@@ -5,10 +5,10 @@ ghost use Rattle.tw_code.specs.declared.instr.DataInstr.TheVariants.{Insert as I
 ghost use Rattle.tw_instr.specs.Contexts.{DoesQuietly};
 ghost use Rattle.tw_instr.specs.Room.{HasRoom};
 
-use crate::frame::Frame;
-use crate::right_registers::{held, must_be_empty};
 use crate::data::Data;
 use crate::failure::Failure;
+use crate::frame::Frame;
+use crate::right_registers::{held, must_be_empty};
 use crate::value_registers::{int_at, must_have_type};
 use tw_types::{Scalar, Value};
 

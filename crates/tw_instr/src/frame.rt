@@ -7,11 +7,11 @@ ghost use Rattle.tw_code.specs.machine.Position.{at_goal, at_next_place, with_va
 ghost use Rattle.tw_code.specs.machine.State.{gone_behind};
 ghost use Rattle.tw_instr.specs.Stretch.{IsStretch};
 
+use crate::local::count_local;
+use crate::position::Position;
 use std::alloc::{AllocError, Global};
 use std::marker::Model;
 use tw_code::Procedure;
-use crate::local::count_local;
-use crate::position::Position;
 use tw_types::{DatumId, TaskNo, Value};
 
 /// A task that runs: where it stands, its right registers, and how many instructions it has done.

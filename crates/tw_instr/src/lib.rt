@@ -29,9 +29,10 @@ mod right_registers;
 mod rights;
 mod scalars;
 mod stopped;
+mod task;
 mod value_registers;
 
-pub use arguments::{Arg, Call, called, put_called};
+pub use arguments::{Arg, Named, called, put_called};
 pub use code::{instr_at, procedure_of};
 pub use data::Data;
 pub use datum::{Content, Datum};
@@ -43,5 +44,6 @@ pub use notices::Notices;
 pub use on_data::data_instr;
 pub use position::Position;
 pub use stopped::Stopped;
+pub use task::Task;
 pub use tw_ranked::RankedMap;
 pub use value_registers::value_at;

@@ -4,13 +4,13 @@ ghost use Rattle.std.specs.Prelude.{◌<◌, ◌^◌};
 ghost use Rattle.tw_instr.specs.Contexts.{Does};
 ghost use Rattle.tw_instr.specs.Room.{HasRoom};
 
+use crate::data::Data;
+use crate::failure::Failure;
 use crate::frame::Frame;
 use crate::notices::Notices;
 use crate::{containers, rights, scalars};
 use std::alloc::Global;
 use tw_code::DataInstr;
-use crate::data::Data;
-use crate::failure::Failure;
 
 /// One instruction on data.
 pub fn data_instr(

@@ -3,8 +3,8 @@
 ghost use Rattle.tw_code.specs.machine.Rights.{held, must_be_empty};
 ghost use Rattle.tw_instr.specs.Attempts.{Gives};
 
-use crate::frame::Frame;
 use crate::failure::{Failure, must};
+use crate::frame::Frame;
 use tw_types::{Cause, DatumId};
 
 /// The id in a right register that is used.

@@ -9,12 +9,12 @@ ghost use Rattle.tw_types.specs.StoreChecks.{may_drop_write};
 ghost use Rattle.tw_instr.specs.Contexts.{Does, DoesQuietly};
 ghost use Rattle.tw_instr.specs.Room.{HasRoom};
 
+use crate::data::Data;
+use crate::failure::{Failure, must};
 use crate::frame::Frame;
 use crate::notices::Notices;
 use crate::right_registers::{held, must_be_empty};
 use std::alloc::{AllocError, Global};
-use crate::data::Data;
-use crate::failure::{Failure, must};
 use tw_types::{Cause, DataType, DatumId};
 
 pub fn create(

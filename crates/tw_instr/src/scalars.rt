@@ -14,14 +14,14 @@ ghost use Rattle.tw_types.specs.StoreChecks.{may_store};
 ghost use Rattle.tw_instr.specs.Attempts.{Gives};
 ghost use Rattle.tw_instr.specs.Contexts.{Does, DoesQuietly};
 
-use crate::frame::Frame;
-use crate::notices::Notices;
-use crate::right_registers::held;
-use std::alloc::{AllocError, Global};
 use crate::data::Data;
 use crate::datum::Datum;
 use crate::failure::{Failure, must};
+use crate::frame::Frame;
+use crate::notices::Notices;
+use crate::right_registers::held;
 use crate::value_registers::value_at;
+use std::alloc::{AllocError, Global};
 use tw_types::{Cause, DatumId, Value};
 
 /// Whether a value is of the type of a datum, where that is a live scalar.

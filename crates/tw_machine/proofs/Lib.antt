@@ -7,6 +7,5 @@ pub mod Standing
 pub mod Pending
 pub mod Due
 pub mod Growth
-pub mod Filling
 pub mod Bests
 pub mod Numbered

@@ -13,16 +13,13 @@ ghost use Rattle.tw_instr.specs.Room.{HasRoom};
 ghost use Rattle.tw_machine.specs.Events.{CallComes, HaveRoom, TablesCome, with_frames, with_tables};
 ghost use Rattle.tw_machine.specs.Parts.{frames_of};
 
+use crate::rule::Rule;
 use crate::tables::Tables;
 use std::alloc::Global;
 use std::collections::BTreeMap;
 use tw_code::{Action, DataInstr, Instr, Procedure};
-use tw_instr::{
-    Call, Frame, Stopped, called, data_instr, instr_at, procedure_of, put_called,
-};
+use tw_instr::{Frame, Named, Stopped, called, data_instr, instr_at, procedure_of, put_called};
 use tw_types::{Actor, Kind};
-use crate::rule::Rule;
-use crate::task::Task;
 
 /// The frame's task does a RULE.
 fn make_rule(
@@ -40,16 +37,11 @@ fn make_rule(
     requires room { HaveRoom tables.old }
     ensures { (procedure : AProcedure) → procedure.kind ≡ kind → CallComes program.now actor procedure (RULE action.now) tables.old frame.old result tables.new frame.new }
 {
-    let Call {
-        kind,
-        procedure,
-        priority,
-        target,
-        args,
+    let Named {
+        task,
         params,
         rights,
     } = called(alloc, program, kind, &tables.store, frame, action)?;
-    let task = Task::new(kind, procedure, priority, target, args);
     let rule = Rule::new(alloc, actor.number(), params, task)?;
     tables.rules.add(rule)?;
     frame.go_behind(rights);
@@ -72,16 +64,11 @@ fn put_task(
     requires room { HaveRoom tables.old }
     ensures { (procedure : AProcedure) → procedure.kind ≡ kind → CallComes program.now actor procedure (PUT action.now) tables.old frame.old result tables.new frame.new }
 {
-    let Call {
-        kind,
-        procedure,
-        priority,
-        target,
-        args,
+    let Named {
+        task,
         params: _,
         rights,
     } = put_called(alloc, program, kind, &tables.store, frame, action)?;
-    let task = Task::new(kind, procedure, priority, target, args);
     tables.tasks.put(task)?;
     frame.go_behind(rights);
     Ok(())

@@ -21,7 +21,6 @@ mod state;
 mod stepped;
 mod tables;
 mod take;
-mod task;
 mod tasks;
 
 pub use plain::Plain;
@@ -29,5 +28,4 @@ pub use refusal::{OpenRefusal, OpenRefused};
 pub use rule::Rule;
 pub use state::State;
 pub use stepped::Stepped;
-pub use task::Task;
-pub use tw_instr::{Arg, Datum, Frame};
+pub use tw_instr::{Arg, Datum, Frame, Task};

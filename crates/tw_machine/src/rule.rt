@@ -1,39 +1,33 @@
 //! Rules.
 
 ghost use Rattle.std.specs.Prelude.{◌≡◌, ◌≤◌, length, map, slice_set, IfOk};
-ghost use Rattle.tw_types.specs.Rule.{at_stage, first_stage, first_unasked, has_unasked, is_releasable, is_settled, is_unasked, task_from};
+ghost use Rattle.tw_types.specs.Rule.{at_stage, first_stage, first_unasked, has_unasked, is_releasable, task_from};
 ghost use Rattle.tw_code.specs.machine.State.{new_rule};
 ghost use Rattle.tw_instr.specs.Arguments.{arg_of};
 ghost use Rattle.tw_machine.specs.Waiting.{right_in, unasked_id};
 
-use crate::task::Task;
 use std::alloc::{AllocError, Global};
 use std::marker::Model;
-use tw_instr::{Arg, keep};
-use tw_types::{DatumId, Kind, Mode, Param, Stage};
+use tw_instr::{Arg, Task};
+use tw_types::{DatumId, Kind, Param, Stage};
 
-/// A rule: the engine that holds it, what its task will be, with at most eight arguments, and the stage of each
-/// parameter.
+/// A rule: the engine that holds it, the task that it becomes but for the kind, and the stage of each parameter.
 #[derive(Drop)]
 pub struct Rule {
     engine: u8,
-    procedure: u8,
-    priority: i64,
-    target: Option<u8>,
-    args: Vec<Arg>,
+    task: Task,
     stages: Vec<Stage>,
 }
 
 impl Model for Rule {
-    ghost use Rattle.std.specs.Prelude.{◌≤◌, length, map};
+    ghost use Rattle.std.specs.Prelude.{◌≤◌, length};
     ghost use Rattle.tw_types.specs.Rule.{Rule as Meaning};
-    ghost use Rattle.tw_instr.specs.Arguments.{arg_of};
 
     ghost Value = { Meaning };
 
-    ghost view = { λ r. record { engine = r.engine; procedure = r.procedure; priority = r.priority; target = r.target; args = map arg_of r.args.items; stages = r.stages.items } };
+    ghost view = { λ r. record { engine = r.engine; procedure = r.task.procedure; priority = r.task.priority; target = r.task.target; args = r.task.args; stages = r.stages.items } };
 
-    ghost invariant = { λ r. (length r.args.items ≤ 8) × (length r.stages.items ≤ 8) };
+    ghost invariant = { λ r. length r.stages.items ≤ 8 };
 }
 
 impl Rule {
@@ -43,19 +37,9 @@ impl Rule {
         ensures { IfOk result (λ rule. rule ≡ new_rule engine params.now task) }
     {
         let stages = first_stages(alloc, params)?;
-        let Task {
-            kind: _,
-            procedure,
-            priority,
-            target,
-            args,
-        } = task;
         Ok(Rule {
             engine,
-            procedure,
-            priority,
-            target,
-            args,
+            task,
             stages,
         })
     }
@@ -71,26 +55,26 @@ impl Rule {
     pub fn procedure(&self) -> u8
         ensures { result ≡ self.now.procedure }
     {
-        self.procedure
+        self.task.procedure()
     }
 
     pub fn priority(&self) -> i64
         ensures { result ≡ self.now.priority }
     {
-        self.priority
+        self.task.priority()
     }
 
     /// The number of the one actor that may take its task, if not any.
     pub fn target(&self) -> Option<u8>
         ensures { result ≡ self.now.target }
     {
-        self.target
+        self.task.target()
     }
 
     pub fn args(&self) -> &[Arg]
         ensures { map arg_of result.now ≡ self.now.args }
     {
-        &self.args
+        self.task.args()
     }
 
     /// What is known of each parameter.
@@ -104,20 +88,20 @@ impl Rule {
     pub fn is_releasable(&self) -> bool
         ensures { result ≡ is_releasable self.now }
     {
-        self.stages.iter().all(|stage| is_settled(*stage))
+        Stage::all_settled(&self.stages)
     }
 
     pub(crate) fn has_unasked(&self) -> bool
         ensures { result ≡ has_unasked self.now }
     {
-        self.stages.iter().any(|stage| is_unasked(*stage))
+        Stage::any_unasked(&self.stages)
     }
 
     /// The first parameter that is unasked.
     pub(crate) fn first_unasked(&self) -> Option<u8>
         ensures { result ≡ first_unasked 0 self.now.stages }
     {
-        first_unasked(&self.stages)
+        Stage::first_unasked(&self.stages)
     }
 
     /// The id that stands for a parameter, if that is unasked.
@@ -126,8 +110,8 @@ impl Rule {
     {
         let parameter = usize::from(parameter);
         let stage = self.stages.get(parameter)?;
-        if is_unasked(*stage) {
-            right_in(self.args.get(parameter)?)
+        if stage.is_unasked() {
+            right_in(self.task.args().get(parameter)?)
         } else {
             None
         }
@@ -144,8 +128,7 @@ impl Rule {
     pub fn task(&self, alloc: Global, kind: Kind) -> Result<Task, AllocError>
         ensures { IfOk result (λ task. task ≡ task_from kind self.now) }
     {
-        let args = copies_of(alloc, &self.args)?;
-        Ok(Task::new(kind, self.procedure, self.priority, self.target, args))
+        self.task.try_clone(alloc, kind)
     }
 }
 
@@ -159,48 +142,13 @@ fn right_in(arg: &Arg) -> Option<DatumId>
     }
 }
 
-fn is_unasked(stage: Stage) -> bool
-    ensures { result ≡ is_unasked stage }
-{
-    matches!(stage, Stage::Unasked)
-}
-
-fn is_settled(stage: Stage) -> bool
-    ensures { result ≡ is_settled stage }
-{
-    matches!(stage, Stage::Free | Stage::Ready)
-}
-
 fn first_stages(alloc: Global, params: &[Param]) -> Result<Vec<Stage>, AllocError>
     ensures { IfOk result (λ stages. stages.items ≡ map (λ p. first_stage p.mode) params.now) }
 {
     params
         .iter()
-        .map(|param| first_stage(param.mode))
+        .map(|param| Stage::first(param.mode))
         .collect(alloc)
-}
-
-fn first_stage(mode: Mode) -> Stage
-    ensures { result ≡ first_stage mode }
-{
-    match mode {
-        Mode::Closed => Stage::Unasked,
-        Mode::Val | Mode::Ref | Mode::Write => Stage::Free,
-    }
-}
-
-fn first_unasked(stages: &[Stage]) -> Option<u8>
-    requires { length stages.now ≤ 8 }
-    ensures { result ≡ first_unasked 0 stages.now }
-{
-    let mut parameter = 0;
-    for stage in stages {
-        if is_unasked(*stage) {
-            return Some(parameter);
-        }
-        parameter += 1;
-    }
-    None
 }
 
 fn set_in(stages: &mut Vec<Stage>, parameter: u8, stage: Stage)
@@ -210,14 +158,4 @@ fn set_in(stages: &mut Vec<Stage>, parameter: u8, stage: Stage)
     if parameter < stages.len() {
         stages[parameter] = stage;
     }
-}
-
-fn copies_of(alloc: Global, args: &[Arg]) -> Result<Vec<Arg>, AllocError>
-    ensures { IfOk result (λ copies. copies.items ≡ args.now) }
-{
-    let mut copies = Vec::new(alloc);
-    for arg in args {
-        keep(&mut copies, arg.try_clone(alloc)?)?;
-    }
-    Ok(copies)
 }

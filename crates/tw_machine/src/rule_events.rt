@@ -13,13 +13,13 @@ ghost use Rattle.tw_machine.specs.Due.{is_due};
 ghost use Rattle.tw_machine.specs.Events.{TablesChange, with_frames, with_tables};
 ghost use Rattle.tw_machine.specs.Parts.{frames_of};
 
+use crate::rule::Rule;
 use crate::tables::Tables;
 use std::alloc::Global;
 use std::collections::BTreeMap;
 use tw_code::Procedure;
 use tw_instr::{Frame, Notices, Stopped, procedure_of};
 use tw_types::{Actor, Cause, DatumId, Layout, Notice, RuleNo, Stage, Subscriber};
-use crate::rule::Rule;
 
 /// The rule of the number, if the engine holds it and runs no task.
 fn own_rule<'a>(

@@ -20,18 +20,17 @@ ghost use Rattle.tw_machine.specs.Opening.{nothing_opened};
 ghost use Rattle.tw_machine.specs.Parts.{frames_of};
 
 use crate::opened::Opened;
+use crate::rule::Rule;
+use crate::rules::Rules;
 use crate::tables::Tables;
+use crate::tasks::Tasks;
 use crate::{calls, events, rule_events, take};
 use std::alloc::{AllocError, Global};
 use std::collections::BTreeMap;
 use std::marker::Model;
 use tw_code::Procedure;
-use tw_instr::{Datum, Frame, Notices, Stopped};
+use tw_instr::{Datum, Frame, Notices, Stopped, Task};
 use tw_types::{Actor, DatumId, Ending, Event, Input, Layout, Notice, Param, RuleNo, TaskNo};
-use crate::rule::Rule;
-use crate::rules::Rules;
-use crate::task::Task;
-use crate::tasks::Tasks;
 
 /// The data, the rules, the tasks that wait, the notices, the tasks that run, and the outputs.
 #[derive(Drop)]

@@ -1,8 +1,8 @@
 //! All of the state but the tasks that run.
 
-use tw_instr::{Data, Notices};
 use crate::rules::Rules;
 use crate::tasks::Tasks;
+use tw_instr::{Data, Notices};
 
 /// The data, the rules, the tasks and the notices.
 #[derive(Drop)]

@@ -6,12 +6,12 @@ ghost use Rattle.tw_instr.specs.Attempts.{Changes};
 ghost use Rattle.tw_machine.specs.Events.{with_frames, with_tasks};
 ghost use Rattle.tw_machine.specs.Parts.{frames_of};
 
+use crate::tasks::Tasks;
 use std::alloc::Global;
 use std::collections::BTreeMap;
 use tw_code::Procedure;
 use tw_instr::{Frame, Stopped};
 use tw_types::{Actor, Layout};
-use crate::tasks::Tasks;
 
 /// The actor takes a task.
 pub fn take(

@@ -7,10 +7,10 @@ ghost use Rattle.tw_machine.specs.Best.{is_better};
 ghost use Rattle.tw_machine.specs.Parts.{tasks_of};
 ghost use Rattle.tw_machine.specs.Waiting.{task_put, task_taken};
 
-use crate::task::Task;
 use std::alloc::{AllocError, Global};
 use std::collections::BTreeMap;
 use std::marker::Model;
+use tw_instr::Task;
 use tw_types::Actor;
 
 /// The tasks that wait, by their numbers, and the number of the next one. No number is used again.

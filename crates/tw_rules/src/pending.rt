@@ -1,8 +1,7 @@
 //! A rule with its rights.
 
 ghost use Rattle.std.specs.Prelude.{◌≡◌, ◌≤◌, length, map};
-ghost use Rattle.std.specs.List.{list_all};
-ghost use Rattle.tw_types.specs.Rule.{first_stage, first_unasked, has_unasked, is_releasable, is_settled, is_unasked};
+ghost use Rattle.tw_types.specs.Rule.{first_stage, first_unasked, has_unasked, is_releasable};
 ghost use Rattle.tw_rules.specs.Table.{plain_arg, told};
 ghost use Rattle.tw_rules.specs.Entries.{rule_in};
 
@@ -10,7 +9,7 @@ use crate::action::Action;
 use crate::few::Few;
 use crate::plain::{PlainArg, PlainRule};
 use tw_rights::{Arg, Bundle};
-use tw_types::{Mode, Param, RuleNo, Stage};
+use tw_types::{Param, RuleNo, Stage};
 
 /// A rule that is pending.
 pub struct Pending {
@@ -25,22 +24,20 @@ impl Pending {
     pub fn first_unasked(&self) -> Option<u8>
         ensures { result ≡ first_unasked 0 self.now.stages }
     {
-        first_unasked(self.stages.as_slice())
+        Stage::first_unasked(self.stages.as_slice())
     }
 
     pub fn has_unasked(&self) -> bool
         ensures { result ≡ has_unasked (rule_in self.now) }
     {
-        let stages = self.stages.as_slice();
-        stages.iter().any(|stage| is_unasked(*stage))
+        Stage::any_unasked(self.stages.as_slice())
     }
 
     /// Whether nothing is left to be known of any parameter.
     pub fn is_releasable(&self) -> bool
         ensures { result ≡ is_releasable (rule_in self.now) }
     {
-        let stages = self.stages.as_slice();
-        stages.iter().all(|stage| is_settled(*stage))
+        Stage::all_settled(self.stages.as_slice())
     }
 
     /// Ends the rule with its rights, and tells it.
@@ -72,44 +69,9 @@ pub fn first_stages(params: &[Param]) -> Few<Stage>
 {
     let mut stages = Few::new(Stage::Free);
     for param in params {
-        stages.push(first_stage(param.mode));
+        stages.push(Stage::first(param.mode));
     }
     stages
-}
-
-fn first_stage(mode: Mode) -> Stage
-    ensures { result ≡ first_stage mode }
-{
-    match mode {
-        Mode::Closed => Stage::Unasked,
-        Mode::Val | Mode::Ref | Mode::Write => Stage::Free,
-    }
-}
-
-fn is_unasked(stage: Stage) -> bool
-    ensures { result ≡ is_unasked stage }
-{
-    stage == Stage::Unasked
-}
-
-fn is_settled(stage: Stage) -> bool
-    ensures { result ≡ is_settled stage }
-{
-    stage == Stage::Free || stage == Stage::Ready
-}
-
-fn first_unasked(stages: &[Stage]) -> Option<u8>
-    requires { length stages.now ≤ 8 }
-    ensures { result ≡ first_unasked 0 stages.now }
-{
-    let mut parameter = 0;
-    for stage in stages {
-        if is_unasked(*stage) {
-            return Some(parameter);
-        }
-        parameter += 1;
-    }
-    None
 }
 
 fn plain_args(args: &Bundle) -> Few<PlainArg>

@@ -1,7 +1,7 @@
 use Rattle.std.proofs.Common.{◌∙◌, sym, refl}
 use Rattle.std.proofs.lemmas.Slice.Zip.{either_empty_from_Zip}
 use Rattle.tw_instr.specs.Arguments.{arg_of, test_of}
-use Rattle.tw_instr.proofs.Named.{pass_at_end}
+use Rattle.tw_instr.proofs.Handing.{pass_at_end}
 use Rattle.tw_instr.proofs.arguments.all_pass.Goals as goal
 
 pub returns : goal.returns

@@ -1,7 +1,7 @@
 use Rattle.std.proofs.Common.{◌∙◌, ap, refl, map}
 use Rattle.std.proofs.lemmas.Slice.Zip.{either_empty_from_Zip}
 use Rattle.tw_instr.specs.Arguments.{arg_of}
-use Rattle.tw_instr.proofs.Named.{after, after_nothing, given_at_end}
+use Rattle.tw_instr.proofs.Handing.{after, after_nothing, given_at_end}
 use Rattle.tw_instr.proofs.arguments.hand_over.Goals as goal
 
 pub returns-clause-given : goal.returns-clause-given

@@ -3,7 +3,7 @@ use Rattle.std.specs.Iterator.Adapters.{zip_first, zip_second}
 use Rattle.std.specs.Slice.Iter.{iter_rest}
 use Rattle.tw_code.specs.machine.Arguments.{handed_over}
 use Rattle.tw_instr.specs.Arguments.{arg_of}
-use Rattle.tw_instr.proofs.Named.{after}
+use Rattle.tw_instr.proofs.Handing.{after}
 use Rattle.tw_instr.proofs.arguments.hand_over.Given as goal
 
 abbrev pub invariant-loop-param : goal.invariant-loop-param

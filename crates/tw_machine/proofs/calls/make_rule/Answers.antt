@@ -3,7 +3,7 @@ use Rattle.std.proofs.lemmas.Result.{err_from_is_err_and}
 use Rattle.tw_instr.proofs.Stops.{fails_then}
 use Rattle.tw_machine.proofs.calls.make_rule.Goals as goal
 
-pub returns-in_err-kind : goal.returns-in_err-kind
-returns-in_err-kind c = λ procedure same.
+pub returns-in_err-task : goal.returns-in_err-task
+returns-in_err-task c = λ procedure same.
     let p = err_from_is_err_and c.from_residual.result c.from_residual.ensures.1 in
-    rw (p.1, p.2, same) ((λ s. fails_then _ _ _ (c.in_err-kind.ensures c.args.tables.now.notices)), refl, refl)
+    rw (p.1, p.2, same) ((λ s. fails_then _ _ _ (c.in_err-task.ensures c.args.tables.now.notices)), refl, refl)

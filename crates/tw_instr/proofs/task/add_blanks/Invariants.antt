@@ -1,6 +1,6 @@
 use Rattle.std.proofs.Common.{◌≡◌, ◌++◌, take, map}
 use Rattle.tw_types.specs.Value.{blank_of}
-use Rattle.tw_machine.proofs.task.add_blanks.Given as goal
+use Rattle.tw_instr.proofs.task.add_blanks.Given as goal
 
 abbrev pub invariant-loop-ty : goal.invariant-loop-ty
 invariant-loop-ty l = l.values.items ≡ l.initial.values.items ++ map blank_of (take l.ty-index l.registers)

@@ -1,5 +1,5 @@
 use Rattle.std.proofs.Common.{◌≡◌, take}
-use Rattle.tw_machine.proofs.rule.copies_of.Given as goal
+use Rattle.tw_instr.proofs.task.copies_of.Given as goal
 
 abbrev pub invariant-loop-arg : goal.invariant-loop-arg
 invariant-loop-arg l = l.copies.items ≡ take l.arg-index l.args

@@ -2,7 +2,7 @@ use Rattle.std.proofs.Common.{◌≡◌, ◌≤◌, take, length, map}
 use Rattle.tw_code.specs.machine.State.{ids_in}
 use Rattle.tw_code.specs.machine.Rights.{first_rights}
 use Rattle.tw_instr.specs.Arguments.{arg_of}
-use Rattle.tw_machine.proofs.task.first_rights.Given as goal
+use Rattle.tw_instr.proofs.task.first_rights.Given as goal
 
 abbrev pub invariant-loop-arg : goal.invariant-loop-arg
 invariant-loop-arg l = record {

@@ -1,8 +1,8 @@
 use Rattle.std.proofs.Common.{◌≡◌, ◌≤◌, drop, length, map}
 use Rattle.tw_code.specs.machine.State.{filled, values_in}
 use Rattle.tw_instr.specs.Arguments.{arg_of}
-use Rattle.tw_machine.proofs.Filling.{after}
-use Rattle.tw_machine.proofs.task.first_values.Given as goal
+use Rattle.tw_instr.proofs.Filling.{after}
+use Rattle.tw_instr.proofs.task.first_values.Given as goal
 
 abbrev pub invariant-loop-arg : goal.invariant-loop-arg
 invariant-loop-arg l = record {

@@ -1,8 +1,8 @@
 use Rattle.std.proofs.Common.{◌∙◌, ap, sym, arith, length}
 use Rattle.tw_code.specs.machine.Rights.{first_rights}
-use Rattle.tw_machine.proofs.Filling.{rights_more, rights_same}
-use Rattle.tw_machine.proofs.task.first_rights.Goals as goal
-use Rattle.tw_machine.proofs.task.first_rights.Goals.{in-Right, in_default}
+use Rattle.tw_instr.proofs.Filling.{rights_more, rights_same}
+use Rattle.tw_instr.proofs.task.first_rights.Goals as goal
+use Rattle.tw_instr.proofs.task.first_rights.Goals.{in-Right, in_default}
 
 pub loop-arg-preserved : goal.loop-arg-preserved
 loop-arg-preserved c =

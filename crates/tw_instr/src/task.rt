@@ -1,4 +1,4 @@
-//! Tasks that wait.
+//! Tasks.
 
 ghost use Rattle.std.specs.Prelude.{◌≡◌, ◌<◌, ◌≤◌, ◌++◌, length, drop, map, MatchResult, Ok, IfOk, OnOk};
 ghost use Rattle.tw_types.specs.Task.{is_eligible, is_for};
@@ -9,20 +9,24 @@ ghost use Rattle.tw_types.specs.Value.{blank_of};
 ghost use Rattle.tw_instr.specs.Attempts.{Fails, Gives};
 ghost use Rattle.tw_instr.specs.Arguments.{arg_of};
 
+use crate::arguments::Arg;
+use crate::code::procedure_of;
+use crate::failure::Failure;
+use crate::frame::Frame;
+use crate::lists::keep;
 use std::alloc::{AllocError, Global};
 use std::marker::Model;
-use tw_code::Procedure;
-use tw_instr::{Arg, Failure, Frame, keep, procedure_of};
+use tw_code::{Action, Procedure};
 use tw_types::{Actor, Cause, DatumId, Kind, Scalar, TaskNo, Value};
 
 /// A task: its procedure with the kind of that, the target if it has one, and at most eight arguments.
 #[derive(Drop)]
 pub struct Task {
-    pub(crate) kind: Kind,
-    pub(crate) procedure: u8,
-    pub(crate) priority: i64,
-    pub(crate) target: Option<u8>,
-    pub(crate) args: Vec<Arg>,
+    kind: Kind,
+    procedure: u8,
+    priority: i64,
+    target: Option<u8>,
+    args: Vec<Arg>,
 }
 
 impl Model for Task {
@@ -57,18 +61,31 @@ impl Task {
         })
     }
 
-    /// A task of these parts.
-    pub fn new(kind: Kind, procedure: u8, priority: i64, target: Option<u8>, args: Vec<Arg>) -> Task
+    /// The task of an action on a procedure of this kind, with these arguments.
+    pub fn of(kind: Kind, action: &Action, args: Vec<Arg>) -> Task
         requires { length args.items ≤ 8 }
-        ensures { result ≡ record { kind = kind; procedure = procedure; priority = priority; target = target; args = map arg_of args.items } }
+        ensures { result ≡ record { kind = kind; procedure = action.now.procedure; priority = action.now.priority; target = action.now.target; args = map arg_of args.items } }
     {
         Task {
             kind,
-            procedure,
-            priority,
-            target,
+            procedure: action.procedure,
+            priority: action.priority,
+            target: action.target,
             args,
         }
+    }
+
+    /// A second task, of this kind and otherwise equal to this one.
+    pub fn try_clone(&self, alloc: Global, kind: Kind) -> Result<Task, AllocError>
+        ensures { IfOk result (λ copy. copy ≡ record self.now { kind = kind }) }
+    {
+        Ok(Task {
+            kind,
+            procedure: self.procedure,
+            priority: self.priority,
+            target: self.target,
+            args: copies_of(alloc, &self.args)?,
+        })
     }
 
     /// The number of its procedure in the program.
@@ -115,6 +132,16 @@ impl Task {
         let number = TaskNo::new(number);
         Ok(Frame::first(alloc, number, self.procedure, values, rights))
     }
+}
+
+fn copies_of(alloc: Global, args: &[Arg]) -> Result<Vec<Arg>, AllocError>
+    ensures { IfOk result (λ copies. copies.items ≡ args.now) }
+{
+    let mut copies = Vec::new(alloc);
+    for arg in args {
+        keep(&mut copies, arg.try_clone(alloc)?)?;
+    }
+    Ok(copies)
 }
 
 fn filled(alloc: Global, args: &[Arg], registers: &[Scalar]) -> Result<Vec<Value>, Failure>

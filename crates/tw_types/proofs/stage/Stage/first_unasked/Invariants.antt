@@ -1,6 +1,6 @@
 use Rattle.std.proofs.Common.{◌≡◌, drop}
 use Rattle.tw_types.specs.Rule.{first_unasked}
-use Rattle.tw_machine.proofs.rule.first_unasked.Given as goal
+use Rattle.tw_types.proofs.stage.Stage.first_unasked.Given as goal
 
 abbrev pub invariant-loop-stage : goal.invariant-loop-stage
 invariant-loop-stage l = record {
