@@ -83,19 +83,30 @@ record HasKind (number : ℕ) (s : Situation) (line : List ℕ) (which : FaultNo
 
 limit_kind : (number : ℕ) (s : Situation) (line : List ℕ) (p : First) → Begins s line p → HasWords line → (Begins s line first.Head × IsEmpty s → ⊥) → (IsSo s line 3 → ⊥) → HasKind number s line fault.Limit number
 limit_kind number s line p b has full unlabelled = record {
-  kind = 4; which_is = refl; at_is = refl; so = tt; none = ((((tt, λ none. none p b), λ formless. formless has), full), unlabelled);
+  kind = 4;
+  which_is = refl;
+  at_is = refl;
+  so = tt;
+  none = ((((tt, λ none. none p b), λ formless. formless has), full), unlabelled);
 }
 
 kind_of : (number : ℕ) (s : Situation) (line : List ℕ) (a : FaultNo) (m : ℕ) → LineFault number s line a m → HasKind number s line a m
 kind_of number s line _ _ (LineFault.word some none) = record { kind = 0; which_is = refl; at_is = refl; so = none; none = tt }
 kind_of number s line _ _ (LineFault.operand p b formless) = record { kind = 1; which_is = refl; at_is = refl; so = formless; none = (tt, λ none. none p b) }
 kind_of number s line _ _ (LineFault.empty b has e) = record {
-  kind = 2; which_is = refl; at_is = refl; so = (b, e); none = ((tt, λ none. none first.Head b), λ formless. formless has);
+  kind = 2;
+  which_is = refl;
+  at_is = refl;
+  so = (b, e);
+  none = ((tt, λ none. none first.Head b), λ formless. formless has);
 }
 kind_of number s line _ _ (LineFault.label_twice name words body is say c) =
     let b = label_begins s line name words body is say in
     record {
-      kind = 3; which_is = refl; at_is = refl; so = (name, words, body, is, say);
+      kind = 3;
+      which_is = refl;
+      at_is = refl;
+      so = (name, words, body, is, say);
       none = (((tt, λ none. none first.Body b), λ formless. formless (has_words (Label name) words line is say)), λ e. body_head (begins_once s line first.Body first.Head b e.0));
     }
 kind_of number s line _ _ (LineFault.limit p b has full unsaid) =

@@ -8,11 +8,11 @@ ghost use Rattle.tw_asm.specs.Parts.{skip_of};
 ghost use Rattle.tw_asm.specs.Statement.{Code};
 ghost use Rattle.tw_asm.specs.Written.{goal_word, line_of};
 
+use crate::skip::skip_of;
+use crate::write::{put_head, put_instr, put_label, put_registers};
 use indexmap::IndexSet;
 use std::alloc::{AllocError, Global};
 use tw_code::{Instr, NoMemory, Procedure, Program};
-use crate::skip::skip_of;
-use crate::write::{put_head, put_instr, put_label, put_registers};
 
 /// The places of the labels of a procedure's code, in the order in which they are first named.
 fn label_places(alloc: Global, code: &[Instr]) -> Result<IndexSet<usize>, AllocError>

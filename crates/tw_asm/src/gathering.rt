@@ -9,8 +9,9 @@ ghost use Rattle.tw_asm.specs.reading.Operands.{as_is, natural_in, scalar_in};
 use crate::operands::{both_of, byte_of, piece_of, scalar_of};
 use crate::refusal::Flaw;
 use std::alloc::{AllocError, Global};
-use tw_words::Word;
+use tw_code::Procedure;
 use tw_types::{DataType, Items, Scalar};
+use tw_words::Word;
 
 /// One item more.
 pub fn joined<A: Drop>(
@@ -30,12 +31,12 @@ pub fn joined<A: Drop>(
 }
 
 /// At most so many items.
-pub fn few<A: Drop>(most: usize, items: Result<Vec<A>, Flaw>) -> Result<Items<A>, Flaw>
+pub fn few<A: Drop>(most: u8, items: Result<Vec<A>, Flaw>) -> Result<Items<A>, Flaw>
     ensures { result ≡ few most (as_is (λ v. v.items) items) }
 {
     match items {
         Ok(items) => {
-            if items.len() > most {
+            if items.len() > usize::from(most) {
                 Err(Flaw::Limit)
             } else {
                 Ok(Items::from(items))
@@ -50,7 +51,7 @@ fn arg_list(alloc: Global, words: &[Word<'_>]) -> Result<Result<Vec<u8>, Flaw>, 
 {
     let mut args = Ok(Vec::new(alloc));
     for word in words {
-        args = joined(args, byte_of(0, 15, word))?;
+        args = joined(args, byte_of(0, Procedure::LAST_REGISTER, word))?;
     }
     Ok(args)
 }
@@ -60,7 +61,7 @@ pub fn args_of(alloc: Global, words: &[Word<'_>]) -> Result<Result<Items<u8>, Fl
     ensures { IfOk result (λ read. read ≡ few 8 (each (natural_in 0 15) (map seen_word words.now))) }
 {
     let args = arg_list(alloc, words)?;
-    Ok(few(8, args))
+    Ok(few(Procedure::MAX_PARAMS, args))
 }
 
 fn scalar_list(alloc: Global, words: &[Word<'_>]) -> Result<Result<Vec<Scalar>, Flaw>, AllocError>
@@ -81,7 +82,7 @@ pub fn scalars_of(
     ensures { IfOk result (λ read. read ≡ few 16 (each scalar_in (map seen_word words.now))) }
 {
     let scalars = scalar_list(alloc, words)?;
-    Ok(few(16, scalars))
+    Ok(few(Procedure::VALUE_REGISTERS, scalars))
 }
 
 /// A scalar in so many containers.

@@ -11,8 +11,9 @@ use crate::gathering::{few, joined, nested_of};
 use crate::operands::{mode_of, piece_of};
 use crate::refusal::Flaw;
 use std::alloc::{AllocError, Global};
-use tw_words::Word;
+use tw_code::Procedure;
 use tw_types::{Items, Kind, Mode, Param, Scalar};
+use tw_words::Word;
 
 /// A parameter whose type isn't whole.
 #[derive(Clone, Copy)]
@@ -136,7 +137,7 @@ pub fn params_of(
     ensures { IfOk result (λ read. read ≡ few 8 (params_from no_params (map seen_word words.now))) }
 {
     let params = param_list(alloc, words)?;
-    Ok(few(8, params))
+    Ok(few(Procedure::MAX_PARAMS, params))
 }
 
 fn kind_in(text: &[u8]) -> Result<Kind, Flaw>

@@ -6,14 +6,14 @@ ghost use Rattle.tw_asm.specs.declared.opcode.Opcode.TheVariants as opcode;
 ghost use Rattle.tw_asm.specs.reading.Lines.{Gives, action_line, draft_in, drafted, line_in};
 
 use crate::gathering::args_of;
+use crate::opcode::Opcode;
 use crate::operands::*;
 use crate::refusal::{Flaw, Refusal};
 use crate::shapes::*;
+use crate::statement::Unlinked;
 use std::alloc::Global;
 use tw_code::{Action, Arithmetic, DataInstr, Instr, LocalInstr};
 use tw_words::Word;
-use crate::opcode::Opcode;
-use crate::statement::Unlinked;
 
 /// An instruction that names no label.
 fn straight<'a>(instr: Instr) -> Unlinked<'a>
@@ -309,7 +309,11 @@ fn put_of<'a>(alloc: Global, words: &[Word<'a>]) -> Result<Unlinked<'a>, Refusal
 }
 
 /// An instruction, by its name and the words behind that. Only a text and a list of arguments take memory.
-pub fn draft_of<'a>(alloc: Global, opcode: Opcode, words: &[Word<'a>]) -> Result<Unlinked<'a>, Refusal>
+pub fn draft_of<'a>(
+    alloc: Global,
+    opcode: Opcode,
+    words: &[Word<'a>],
+) -> Result<Unlinked<'a>, Refusal>
     ensures { Gives drafted result (draft_in opcode (map seen_word words.now)) }
 {
     match opcode {

@@ -7,6 +7,9 @@ ghost use Rattle.tw_asm.specs.reading.Operands.{as_is, is_within, is_letter, is_
 
 use crate::refusal::Flaw;
 
+/// The most bytes of a label's name.
+const MAX_NAME: usize = 64;
+
 fn is_within(low: u8, high: u8, byte: u8) -> bool
     ensures { result ≡ is_within low high byte }
 {
@@ -53,7 +56,7 @@ pub fn name_of(text: &[u8]) -> Result<&[u8], Flaw>
 {
     if !is_name(text) {
         Err(Flaw::Form)
-    } else if text.len() > 64 {
+    } else if text.len() > MAX_NAME {
         Err(Flaw::Limit)
     } else {
         Ok(text)

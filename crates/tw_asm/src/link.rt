@@ -6,11 +6,11 @@ ghost use Rattle.tw_asm.specs.reading.Goals.{AreLinkedProcedures, AreWithin, Fir
 ghost use Rattle.tw_asm.specs.reading.Progress.{IsMemory, seen_draft, seen_label, seen_section};
 
 use crate::fault::{AsmFault, FaultNo};
-use crate::reading::{UnlinkedLine, Section};
+use crate::reading::{Section, UnlinkedLine};
+use crate::skip::with_skip;
 use indexmap::IndexMap;
 use std::alloc::Global;
 use tw_code::{Instr, Procedure};
-use crate::skip::with_skip;
 use tw_types::Items;
 
 /// The skip from the instruction at a place to a label.

@@ -9,8 +9,9 @@ use crate::label_names::name_of;
 use crate::refusal::Flaw;
 use std::alloc::{AllocError, Global};
 use std::marker::Model;
+use tw_code::{LocalInstr, Procedure};
+use tw_types::{Layout, Mode, Scalar, Text};
 use tw_words::Word;
-use tw_types::{Mode, Scalar, Text};
 
 /// Where an instruction goes on: so many instructions further, or at a label, and `skip` is 0 then.
 #[derive(Drop)]
@@ -98,7 +99,7 @@ pub fn turns_of(word: &Word<'_>) -> Result<u16, Flaw>
     ensures { result ≡ natural_in 1 1000 (seen_word word.now) }
 {
     match word {
-        Word::Bare(text) => match digits_of(text, 1, 1000) {
+        Word::Bare(text) => match digits_of(text, 1, u64::from(LocalInstr::MAX_TURNS)) {
             Ok(number) => Ok(number as u16),
             Err(flaw) => Err(flaw),
         },
@@ -111,7 +112,7 @@ fn number_behind(letter: u8, text: &[u8]) -> Result<u8, Flaw>
     ensures { result ≡ register_in letter (Bare text.now) }
 {
     match text {
-        [first, rest @ ..] if *first == letter => byte_in(0, 15, rest),
+        [first, rest @ ..] if *first == letter => byte_in(0, Procedure::LAST_REGISTER, rest),
         _ => Err(Flaw::Form),
     }
 }
@@ -176,7 +177,7 @@ pub fn target_of(word: &Word<'_>) -> Result<Option<u8>, Flaw>
             if *text == b"any".as_slice() {
                 return Ok(None);
             }
-            match byte_in(0, 15, text) {
+            match byte_in(0, Layout::MAX_WORKERS - 1, text) {
                 Ok(number) => Ok(Some(number)),
                 Err(flaw) => Err(flaw),
             }

@@ -12,12 +12,12 @@ use crate::gathering::scalars_of;
 use crate::heads::{kind_of, params_of};
 use crate::instructions::draft_of;
 use crate::label_names::{before_colon, name_of};
+use crate::opcode::opcode_named;
 use crate::operands::both_of;
 use crate::refusal::{Flaw, Refusal};
+use crate::statement::Statement;
 use std::alloc::Global;
 use tw_words::Word;
-use crate::opcode::opcode_named;
-use crate::statement::Statement;
 
 /// What stands behind `proc`.
 fn head_of<'a>(alloc: Global, words: &[Word<'_>]) -> Result<Statement<'a>, Refusal>

@@ -12,14 +12,15 @@ ghost use Rattle.tw_asm.specs.declared.statement.First.TheVariants as expected;
 ghost use Rattle.tw_asm.specs.declared.statement.First.{First};
 
 use crate::fault::{AsmFault, FaultNo};
-use indexmap::IndexMap;
-use std::alloc::Global;
-use tw_words::{Word, words_of};
 use crate::first::first_of;
 use crate::read::statement_of;
 use crate::refusal::{Flaw, Refusal};
-use crate::statement::{Unlinked, First, Statement};
+use crate::statement::{First, Statement, Unlinked};
+use indexmap::IndexMap;
+use std::alloc::Global;
+use tw_code::{Procedure, Program};
 use tw_types::{Items, Kind, Param, Scalar};
+use tw_words::{Word, words_of};
 
 /// An instruction whose goal isn't looked for yet, and the number of its line.
 #[derive(Drop)]
@@ -169,7 +170,7 @@ fn take_head<'a>(
         stage,
     } = reading;
     let sections = close(sections, head_line, stage)?;
-    if sections.len() >= 64 {
+    if sections.len() >= usize::from(Program::MAX_PROCEDURES) {
         return Err(AsmFault::new(FaultNo::Limit, number));
     }
     Ok(Reading {
@@ -234,7 +235,7 @@ fn with_label<'a>(section: &mut Section<'a>, number: usize, name: &'a [u8]) -> R
 fn with_draft<'a>(section: &mut Section<'a>, line: UnlinkedLine<'a>) -> Result<(), AsmFault>
     ensures { WithDraft (seen_section section.old) (seen_section section.new) (seen_draft line.entry) result }
 {
-    if section.drafts.len() >= 4096 {
+    if section.drafts.len() >= usize::from(Procedure::MAX_CODE) {
         return Err(AsmFault::new(FaultNo::Limit, line.number));
     }
     section.drafts.push(line)?;

@@ -8,8 +8,8 @@ ghost use Rattle.tw_asm.specs.reading.Operands.{as_is};
 use crate::gathering::type_of;
 use crate::operands::*;
 use crate::refusal::Flaw;
-use tw_words::Word;
 use tw_types::DataType;
+use tw_words::Word;
 
 /// No operands.
 pub fn nothing_of(words: &[Word<'_>]) -> Result<(), Flaw>

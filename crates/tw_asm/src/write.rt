@@ -194,219 +194,50 @@ fn put_line(
     put(out, "\n")
 }
 
-fn put_local(
-    alloc: Global,
-    out: &mut Vec<u8>,
-    label: Option<usize>,
-    instr: &LocalInstr,
-) -> Result<(), AllocError>
+/// A row an instruction: its name and its operands.
+#[rattlefmt::skip]
+fn put_local(alloc: Global, out: &mut Vec<u8>, label: Option<usize>, instr: &LocalInstr) -> Result<(), AllocError>
     ensures { OnOk result (out.new.items ≡ out.old.items ++ line_of_parts (goal_word label) (local_parts instr.now)) }
 {
     match instr {
-        LocalInstr::Int { to, value } => put_line(
-            alloc,
-            out,
-            label,
-            Opcode::Int,
-            &[Value(*to), Number(*value)],
-        ),
-        LocalInstr::Text { to, text } => put_line(
-            alloc,
-            out,
-            label,
-            Opcode::Text,
-            &[Value(*to), Literal(text.as_str())],
-        ),
-        LocalInstr::Copy { to, from } => put_line(
-            alloc,
-            out,
-            label,
-            Opcode::Copy,
-            &[Value(*to), Value(*from)],
-        ),
-        LocalInstr::Compute {
-            operation,
-            to,
-            left,
-            right,
-            skip,
-        } => put_line(
-            alloc,
-            out,
-            label,
-            Opcode::Compute(*operation),
-            &[Value(*to), Value(*left), Value(*right), Skip(*skip)],
-        ),
-        LocalInstr::Concatenate {
-            to,
-            left,
-            right,
-            skip,
-        } => put_line(
-            alloc,
-            out,
-            label,
-            Opcode::Concatenate,
-            &[Value(*to), Value(*left), Value(*right), Skip(*skip)],
-        ),
-        LocalInstr::Length { to, from } => put_line(
-            alloc,
-            out,
-            label,
-            Opcode::Length,
-            &[Value(*to), Value(*from)],
-        ),
-        LocalInstr::Show { to, from } => put_line(
-            alloc,
-            out,
-            label,
-            Opcode::Show,
-            &[Value(*to), Value(*from)],
-        ),
-        LocalInstr::ReadInt { to, from, skip } => put_line(
-            alloc,
-            out,
-            label,
-            Opcode::ReadInt,
-            &[Value(*to), Value(*from), Skip(*skip)],
-        ),
+        LocalInstr::Int { to, value } => put_line(alloc, out, label, Opcode::Int, &[Value(*to), Number(*value)]),
+        LocalInstr::Text { to, text } => put_line(alloc, out, label, Opcode::Text, &[Value(*to), Literal(text.as_str())]),
+        LocalInstr::Copy { to, from } => put_line(alloc, out, label, Opcode::Copy, &[Value(*to), Value(*from)]),
+        LocalInstr::Compute { operation, to, left, right, skip } =>
+            put_line(alloc, out, label, Opcode::Compute(*operation), &[Value(*to), Value(*left), Value(*right), Skip(*skip)]),
+        LocalInstr::Concatenate { to, left, right, skip } =>
+            put_line(alloc, out, label, Opcode::Concatenate, &[Value(*to), Value(*left), Value(*right), Skip(*skip)]),
+        LocalInstr::Length { to, from } => put_line(alloc, out, label, Opcode::Length, &[Value(*to), Value(*from)]),
+        LocalInstr::Show { to, from } => put_line(alloc, out, label, Opcode::Show, &[Value(*to), Value(*from)]),
+        LocalInstr::ReadInt { to, from, skip } => put_line(alloc, out, label, Opcode::ReadInt, &[Value(*to), Value(*from), Skip(*skip)]),
         LocalInstr::Jump { skip } => put_line(alloc, out, label, Opcode::Jump, &[Skip(*skip)]),
-        LocalInstr::JumpEqual { left, right, skip } => put_line(
-            alloc,
-            out,
-            label,
-            Opcode::JumpEqual,
-            &[Value(*left), Value(*right), Skip(*skip)],
-        ),
-        LocalInstr::JumpLess { left, right, skip } => put_line(
-            alloc,
-            out,
-            label,
-            Opcode::JumpLess,
-            &[Value(*left), Value(*right), Skip(*skip)],
-        ),
-        LocalInstr::Repeat { turns } => put_line(
-            alloc,
-            out,
-            label,
-            Opcode::Repeat,
-            &[Natural(*turns)],
-        ),
+        LocalInstr::JumpEqual { left, right, skip } => put_line(alloc, out, label, Opcode::JumpEqual, &[Value(*left), Value(*right), Skip(*skip)]),
+        LocalInstr::JumpLess { left, right, skip } => put_line(alloc, out, label, Opcode::JumpLess, &[Value(*left), Value(*right), Skip(*skip)]),
+        LocalInstr::Repeat { turns } => put_line(alloc, out, label, Opcode::Repeat, &[Natural(*turns)]),
         LocalInstr::End => put_line(alloc, out, label, Opcode::End, &[]),
     }
 }
 
-fn put_data(
-    alloc: Global,
-    out: &mut Vec<u8>,
-    label: Option<usize>,
-    instr: DataInstr,
-) -> Result<(), AllocError>
+/// A row an instruction: its name and its operands.
+#[rattlefmt::skip]
+fn put_data(alloc: Global, out: &mut Vec<u8>, label: Option<usize>, instr: DataInstr) -> Result<(), AllocError>
     ensures { OnOk result (out.new.items ≡ out.old.items ++ line_of_parts (goal_word label) (data_parts instr)) }
 {
     match instr {
-        DataInstr::New { write, read, ty } => put_line(
-            alloc,
-            out,
-            label,
-            Opcode::New,
-            &[Right(write), Right(read), TypeOf(ty)],
-        ),
-        DataInstr::Store { datum, from } => put_line(
-            alloc,
-            out,
-            label,
-            Opcode::Store,
-            &[Right(datum), Value(from)],
-        ),
-        DataInstr::Get { to, datum } => put_line(
-            alloc,
-            out,
-            label,
-            Opcode::Get,
-            &[Value(to), Right(datum)],
-        ),
-        DataInstr::Insert {
-            container,
-            subscript,
-            member,
-            skip,
-        } => put_line(
-            alloc,
-            out,
-            label,
-            Opcode::Insert,
-            &[
-                Right(container),
-                Value(subscript),
-                Right(member),
-                Skip(skip),
-            ],
-        ),
-        DataInstr::Look {
-            member,
-            container,
-            subscript,
-            skip,
-        } => put_line(
-            alloc,
-            out,
-            label,
-            Opcode::Look,
-            &[
-                Right(member),
-                Right(container),
-                Value(subscript),
-                Skip(skip),
-            ],
-        ),
-        DataInstr::Size { to, container } => put_line(
-            alloc,
-            out,
-            label,
-            Opcode::Size,
-            &[Value(to), Right(container)],
-        ),
-        DataInstr::SubscriptAt {
-            to,
-            container,
-            index,
-            skip,
-        } => put_line(
-            alloc,
-            out,
-            label,
-            Opcode::SubscriptAt,
-            &[Value(to), Right(container), Value(index), Skip(skip)],
-        ),
-        DataInstr::CopyRead { to, from } => put_line(
-            alloc,
-            out,
-            label,
-            Opcode::CopyRead,
-            &[Right(to), Right(from)],
-        ),
-        DataInstr::CopyWrite { to, from } => put_line(
-            alloc,
-            out,
-            label,
-            Opcode::CopyWrite,
-            &[Right(to), Right(from)],
-        ),
-        DataInstr::DropRead { right } => put_line(
-            alloc,
-            out,
-            label,
-            Opcode::DropRead,
-            &[Right(right)],
-        ),
-        DataInstr::DropWrite { right } => put_line(
-            alloc,
-            out,
-            label,
-            Opcode::DropWrite,
-            &[Right(right)],
-        ),
+        DataInstr::New { write, read, ty } => put_line(alloc, out, label, Opcode::New, &[Right(write), Right(read), TypeOf(ty)]),
+        DataInstr::Store { datum, from } => put_line(alloc, out, label, Opcode::Store, &[Right(datum), Value(from)]),
+        DataInstr::Get { to, datum } => put_line(alloc, out, label, Opcode::Get, &[Value(to), Right(datum)]),
+        DataInstr::Insert { container, subscript, member, skip } =>
+            put_line(alloc, out, label, Opcode::Insert, &[Right(container), Value(subscript), Right(member), Skip(skip)]),
+        DataInstr::Look { member, container, subscript, skip } =>
+            put_line(alloc, out, label, Opcode::Look, &[Right(member), Right(container), Value(subscript), Skip(skip)]),
+        DataInstr::Size { to, container } => put_line(alloc, out, label, Opcode::Size, &[Value(to), Right(container)]),
+        DataInstr::SubscriptAt { to, container, index, skip } =>
+            put_line(alloc, out, label, Opcode::SubscriptAt, &[Value(to), Right(container), Value(index), Skip(skip)]),
+        DataInstr::CopyRead { to, from } => put_line(alloc, out, label, Opcode::CopyRead, &[Right(to), Right(from)]),
+        DataInstr::CopyWrite { to, from } => put_line(alloc, out, label, Opcode::CopyWrite, &[Right(to), Right(from)]),
+        DataInstr::DropRead { right } => put_line(alloc, out, label, Opcode::DropRead, &[Right(right)]),
+        DataInstr::DropWrite { right } => put_line(alloc, out, label, Opcode::DropWrite, &[Right(right)]),
     }
 }
 

@@ -6,10 +6,7 @@ ghost use Rattle.tw_code.specs.machine.Position.{goal_of};
 ghost use Rattle.tw_budget.specs.Rows.{IsRow, RowsFrom, most_told};
 ghost use Rattle.tw_budget.specs.Sound.{IsSound};
 
-use tw_code::{Flow, Instr, flow_at};
-
-/// The greatest budget.
-pub const GREATEST: u64 = 1_000_000_000;
+use tw_code::{Flow, Instr, Procedure, flow_at};
 
 /// What is known of a place: the length of the longest rest of a walk up to the END of the loop that the place is in,
 /// cut off over the greatest budget, and that END.
@@ -23,7 +20,7 @@ pub struct Row {
 fn told(length: u64) -> u64
     ensures { result ≡ min length most_told }
 {
-    length.min(GREATEST + 1)
+    length.min(Procedure::MAX_BUDGET + 1)
 }
 
 pub fn row_of(code: &[Instr], rows: &[Row], from: usize, place: usize) -> Row

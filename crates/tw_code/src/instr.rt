@@ -104,6 +104,11 @@ pub enum LocalInstr {
     End,
 }
 
+impl LocalInstr {
+    /// The most turns of REPEAT; the least is 1.
+    pub const MAX_TURNS: u16 = 1_000;
+}
+
 /// An instruction on data: it reads and changes besides the store, its notices and the task's right registers.
 #[derive(Clone, Copy)]
 pub enum DataInstr {

@@ -5,6 +5,7 @@ ghost use Rattle.tw_code.specs.format.Reading.{Gives, byte_at, register_at, wide
 ghost use Rattle.tw_types.specs.DataType.{scalar_type};
 
 use crate::fault::{FaultNo, Stop};
+use crate::procedure::Procedure;
 use tw_types::{DataType, Kind, Mode, Scalar};
 
 /// One byte from `low` to `high`.
@@ -23,7 +24,7 @@ pub fn byte_of(low: u8, high: u8, bytes: &[u8]) -> Result<(u8, &[u8]), Stop>
 pub fn register_of(bytes: &[u8]) -> Result<(u8, &[u8]), Stop>
     ensures { Gives (λ x. (x.0, x.1.now)) result (register_at bytes.now) }
 {
-    byte_of(0, 15, bytes)
+    byte_of(0, Procedure::LAST_REGISTER, bytes)
 }
 
 /// Two bytes that make a number from `low` to `high`.

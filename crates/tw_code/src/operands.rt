@@ -149,7 +149,7 @@ fn jump_less_of(bytes: &[u8]) -> Result<(Instr, &[u8]), Stop>
 fn repeat_of(bytes: &[u8]) -> Result<(Instr, &[u8]), Stop>
     ensures { Gives (λ x. (x.0, x.1.now)) result (operands_at 0x23 bytes.now) }
 {
-    let (turns, rest) = wide_of(1, 1000, bytes)?;
+    let (turns, rest) = wide_of(1, LocalInstr::MAX_TURNS, bytes)?;
     Ok((Instr::Local(LocalInstr::Repeat { turns }), rest))
 }
 

@@ -8,6 +8,7 @@ use crate::instr::Instr;
 use crate::items::*;
 use crate::many::many;
 use crate::operands::instr_of;
+use crate::procedure::Procedure;
 use std::alloc::Global;
 use tw_types::{DataType, Items, Mode, Param, Scalar};
 
@@ -35,7 +36,7 @@ fn param_of(bytes: &[u8]) -> Result<(Param, &[u8]), Stop>
 pub fn params_of(alloc: Global, bytes: &[u8]) -> Result<(Items<Param>, &[u8]), Stop>
     ensures { Gives (λ x. (x.0, x.1.now)) result (counted (byte_at 0 8) param_at bytes.now) }
 {
-    let (count, rest) = byte_of(0, 8, bytes)?;
+    let (count, rest) = byte_of(0, Procedure::MAX_PARAMS, bytes)?;
     match many(alloc, u16::from(count), rest, param_of) {
         Ok((params, rest)) => Ok((Items::from(params), rest)),
         Err(e) => Err(e),
@@ -46,7 +47,7 @@ pub fn params_of(alloc: Global, bytes: &[u8]) -> Result<(Items<Param>, &[u8]), S
 pub fn registers_of(alloc: Global, bytes: &[u8]) -> Result<(Items<Scalar>, &[u8]), Stop>
     ensures { Gives (λ x. (x.0, x.1.now)) result (counted (byte_at 0 16) scalar_at bytes.now) }
 {
-    let (count, rest) = byte_of(0, 16, bytes)?;
+    let (count, rest) = byte_of(0, Procedure::VALUE_REGISTERS, bytes)?;
     match many(alloc, u16::from(count), rest, scalar_of) {
         Ok((registers, rest)) => Ok((Items::from(registers), rest)),
         Err(e) => Err(e),
@@ -57,7 +58,7 @@ pub fn registers_of(alloc: Global, bytes: &[u8]) -> Result<(Items<Scalar>, &[u8]
 pub fn code_of(alloc: Global, bytes: &[u8]) -> Result<(Items<Instr>, &[u8]), Stop>
     ensures { Gives (λ x. (x.0, x.1.now)) result (counted (wide_at 1 4096) instr_at bytes.now) }
 {
-    let (count, rest) = wide_of(1, 4096, bytes)?;
+    let (count, rest) = wide_of(1, Procedure::MAX_CODE, bytes)?;
     match many(alloc, count, rest, |bytes| instr_of(alloc, bytes)) {
         Ok((code, rest)) => Ok((Items::from(code), rest)),
         Err(e) => Err(e),

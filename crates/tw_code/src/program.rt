@@ -25,6 +25,9 @@ impl Model for Program {
 }
 
 impl Program {
+    /// The most procedures; the least is 1.
+    pub const MAX_PROCEDURES: u8 = 64;
+
     /// A program of these procedures, in this order.
     pub fn new(procedures: Vec<Procedure>) -> Program
         requires { IsProgram procedures.items }

@@ -41,7 +41,7 @@ fn procedure_of(alloc: Global, bytes: &[u8]) -> Result<(Procedure, &[u8]), Stop>
 fn procedures_of(alloc: Global, bytes: &[u8]) -> Result<(Vec<Procedure>, &[u8]), Stop>
     ensures { Gives (λ x. (x.0.items, x.1.now)) result (counted (byte_at 1 64) procedure_at bytes.now) }
 {
-    let (count, rest) = byte_of(1, 64, bytes)?;
+    let (count, rest) = byte_of(1, Program::MAX_PROCEDURES, bytes)?;
     many(
         alloc,
         u16::from(count),

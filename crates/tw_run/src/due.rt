@@ -17,7 +17,7 @@ use tw_machine::{Frame, Plain, State};
 use tw_types::{Actor, Event, Layout};
 
 /// The most local instructions of one event.
-const MOST_STEPS: u64 = 1_000_000_000;
+const MOST_STEPS: u64 = Procedure::MAX_BUDGET;
 
 /// The event of the instruction that a task of the actor has come to.
 fn instr_event(program: &[Procedure], actor: Actor, frame: &Frame) -> Event

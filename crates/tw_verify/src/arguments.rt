@@ -10,8 +10,8 @@ ghost use Rattle.tw_code.specs.accepting.Typing.{asks_args, asks_callee, asks_ac
 ghost use Rattle.tw_verify.specs.Refusal.{verify_refusal_number};
 
 use crate::questions::{beside, lowest, value_refusal};
-use crate::typing::Typing;
 use crate::refusal::VerifyRefusal;
+use crate::typing::Typing;
 use tw_code::{Action, Procedure};
 use tw_types::{Kind, Param, Scalar};
 

@@ -1,6 +1,6 @@
 //! Where a pass stops.
 
-ghost use Rattle.std.specs.Prelude.{◌≡◌, [], ◌∷◌, ◌++◌, OnOk};
+ghost use Rattle.std.specs.Prelude.{◌≡◌};
 ghost use Rattle.tw_verify.specs.Passes.{no_memory, refusal_of};
 
 use crate::refusal::VerifyRefusal;
@@ -68,12 +68,4 @@ impl Refusal {
             }
         }
     }
-}
-
-/// Adds an item at the end; where memory runs out the item is let go.
-pub(crate) fn keep<T: Drop>(list: &mut Vec<T>, item: T) -> Result<(), AllocError>
-    ensures { OnOk result (list.new.items ≡ list.old.items ++ item ∷ []) }
-{
-    list.push(item)?;
-    Ok(())
 }

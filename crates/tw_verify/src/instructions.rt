@@ -14,8 +14,8 @@ use crate::questions::{
     is_container_write, is_member_read, lowest, members_refusal, read_refusal, value_of_refusal,
     value_refusal, values_refusal,
 };
-use crate::typing::{RightType, Typing};
 use crate::refusal::VerifyRefusal;
+use crate::typing::{RightType, Typing};
 use tw_code::{DataInstr, Instr, LocalInstr, Procedure};
 use tw_types::Scalar;
 
@@ -66,7 +66,12 @@ fn local_refusal(registers: &[Scalar], instr: &LocalInstr) -> Option<VerifyRefus
 }
 
 /// STORE: a write of a scalar, and a value of its type.
-fn store_refusal(registers: &[Scalar], typing: &Typing, datum: u8, from: u8) -> Option<VerifyRefusal>
+fn store_refusal(
+    registers: &[Scalar],
+    typing: &Typing,
+    datum: u8,
+    from: u8,
+) -> Option<VerifyRefusal>
     requires { datum < 16 }
     ensures { option_map verify_refusal_number result
         ≡ refusal_in (asks_data registers.now (DataInstr.Store datum from) typing.now) }
@@ -142,7 +147,12 @@ fn subscript_refusal(
 }
 
 /// SIZE: an integer, and a read of a closed container.
-fn size_refusal(registers: &[Scalar], typing: &Typing, to: u8, container: u8) -> Option<VerifyRefusal>
+fn size_refusal(
+    registers: &[Scalar],
+    typing: &Typing,
+    to: u8,
+    container: u8,
+) -> Option<VerifyRefusal>
     requires { container < 16 }
     ensures { option_map verify_refusal_number result
         ≡ refusal_in (asks_data registers.now (DataInstr.Size to container) typing.now) }

@@ -15,19 +15,19 @@ ghost use Rattle.tw_verify.specs.Loops.{AreLoops};
 ghost use Rattle.tw_verify.specs.Passes.{IfFault, HasChanged, lowest_at};
 ghost use Rattle.tw_verify.specs.Verified.{AreFindings};
 
-use crate::fault::{Fault, keep};
+use crate::fault::Fault;
 use crate::findings::Findings;
+use crate::instructions::place_refusal;
 use crate::loops::Loops;
+use crate::questions::lowest;
 use crate::reached::{Reached, first_rows, row_at, send_both};
+use crate::refusal::VerifyRefusal;
 use crate::structure::ask_structure;
+use crate::typing::Typing;
 use std::alloc::Global;
 use tw_budget::{BudgetRefusal, budgets};
 use tw_code::{Instr, Procedure};
-use tw_types::Items;
-use crate::instructions::place_refusal;
-use crate::questions::lowest;
-use crate::typing::Typing;
-use crate::refusal::VerifyRefusal;
+use tw_types::{Items, keep};
 
 fn typing_at(typings: &[Typing], place: usize) -> Option<Typing>
     ensures { result ≡ slice_get typings.now place }
@@ -108,9 +108,7 @@ fn typings(
             });
         };
         let changed = is_changed(code, loops, &all, place, &reached.typing);
-        if let Some(no) = typing_refusal(
-            procedures, procedure, place, instr, &reached, changed,
-        ) {
+        if let Some(no) = typing_refusal(procedures, procedure, place, instr, &reached, changed) {
             return Err(Fault { no, place });
         }
         keep(&mut all, reached.typing)?;

@@ -8,8 +8,8 @@ ghost use Rattle.tw_code.specs.machine.Rights.{RightType, right_at};
 ghost use Rattle.tw_code.specs.accepting.Typing.{asks_value, asks_alike, asks_values, asks_value_of, asks_empty_pair, asks_container_write, writes_container, reads, reads_closed_container, reads_member_of};
 ghost use Rattle.tw_verify.specs.Refusal.{lowest_of, refusal_with, verify_refusal_number};
 
-use crate::typing::{RightType, Typing};
 use crate::refusal::VerifyRefusal;
+use crate::typing::{RightType, Typing};
 use tw_types::Scalar;
 
 /// The lower of two refusals, of which each may be missing.
@@ -144,7 +144,9 @@ pub(crate) fn container_write_refusal(typing: &Typing, register: u8) -> Option<V
         ≡ refusal_in (asks_container_write (right_at typing.now register)) }
 {
     match typing.right_at(register) {
-        Some(right) if right.writes() => right.writes_scalar().then_some(VerifyRefusal::ScalarWrite),
+        Some(right) if right.writes() => right
+            .writes_scalar()
+            .then_some(VerifyRefusal::ScalarWrite),
         _ => Some(VerifyRefusal::WrongRight),
     }
 }

@@ -8,9 +8,9 @@ ghost use Rattle.tw_code.specs.declared.flow.Way.TheVariants.{Completed, Skipped
 ghost use Rattle.tw_verify.specs.Passes.{noted, sent, first_row};
 ghost use Rattle.tw_verify.specs.declared.reached.Reached.{Reached};
 
+use crate::typing::Typing;
 use std::alloc::{AllocError, Global};
 use tw_code::{Flow, Instr, Procedure, Way};
-use crate::typing::Typing;
 
 /// What has reached a place so far: the typing that came first, and whether another one came.
 #[derive(Clone, Copy)]

@@ -1,9 +1,9 @@
 //! A program that is refused.
 
+use crate::refusal::VerifyRefusal;
 use std::fmt;
 use thiserror::Error;
 use tw_code::Program;
-use crate::refusal::VerifyRefusal;
 
 /// A program that isn't accepted, with its first refusal.
 #[derive(Drop, Error)]

@@ -10,11 +10,8 @@ ghost use Rattle.tw_verify.specs.Passes.{IfFault};
 
 use crate::fault::Fault;
 use crate::loops::Loops;
-use tw_code::{Flow, Instr, flow_at};
 use crate::refusal::VerifyRefusal;
-
-/// How many loops may stand in one another.
-const MAX_DEPTH: usize = 4;
+use tw_code::{Flow, Instr, Procedure, flow_at};
 
 fn is_same_block(left: Option<usize>, right: Option<usize>) -> bool
     ensures { result ≡ same_block left right }
@@ -56,7 +53,7 @@ fn has_partner(code: &[Instr], loops: &Loops, place: usize, flow: Flow) -> bool
 {
     match flow {
         Flow::Begin(_) => loops.end(code, place + 1).is_some()
-            && loops.depth(code, place) < MAX_DEPTH,
+            && loops.depth(code, place) < Procedure::MAX_DEPTH,
         Flow::Close => loops.depth(code, place) > 0,
         Flow::Straight | Flow::Branch(_) | Flow::Jump(_) | Flow::Stop => true,
     }

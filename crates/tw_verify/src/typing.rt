@@ -131,10 +131,10 @@ impl RightType {
     }
 }
 
-/// What the 16 right registers hold at a place: each is empty or has a right.
+/// What the right registers hold at a place: each is empty or has a right.
 #[derive(Clone, Copy, PartialEq, Eq)]
 pub struct Typing {
-    rights: [Option<RightType>; 16],
+    rights: [Option<RightType>; Procedure::RIGHT_REGISTERS],
 }
 
 impl Model for Typing {
@@ -154,7 +154,7 @@ impl Typing {
         requires { length params.now ≤ 16 }
         ensures { result ≡ start_typing params.now }
     {
-        let mut rights = [None; 16];
+        let mut rights = [None; Procedure::RIGHT_REGISTERS];
         let mut given = 0;
         for param in params {
             if !param.mode.is_val() {

@@ -8,7 +8,7 @@ ghost use Rattle.tw_verify.specs.declared.refusal.VerifyRefusal.TheVariants.{NoM
 ghost use Rattle.tw_verify.specs.Passes.{IsRefusal};
 ghost use Rattle.tw_verify.specs.Verified.{IsTyped};
 
-use crate::fault::{Refusal, keep};
+use crate::fault::Refusal;
 use crate::findings::Findings;
 use crate::pass::procedure_findings;
 use crate::refusal::VerifyRefusal;
@@ -16,7 +16,7 @@ use crate::refused::Refused;
 use crate::verified::Verified;
 use std::alloc::Global;
 use tw_code::{Procedure, Program, has_main_shape};
-use tw_types::Items;
+use tw_types::{Items, keep};
 
 /// What is found out about each procedure of an accepted program.
 fn all_findings(alloc: Global, procedures: &[Procedure]) -> Result<Items<Findings>, Refusal>

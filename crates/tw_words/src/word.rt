@@ -5,8 +5,8 @@ ghost use Rattle.tw_words.specs.Words.{is_edge, is_parting};
 ghost use Rattle.tw_words.specs.Seen.{IsRead, seen};
 ghost use Rattle.tw_words.specs.reading.Next.{IsAfterGap, IsAtWord, IsNext, bare_length, is_at_edge};
 
-use std::alloc::{AllocError, Global};
 use crate::quoted::quoted_text;
+use std::alloc::{AllocError, Global};
 
 /// A word of a line.
 #[derive(Drop)]

@@ -26,10 +26,6 @@ abbrev pub as_is : {A B : Type 0} → (A → B) → Result A Flaw → Result B F
 as_is make (Ok a) = Ok (make a)
 as_is make (Err e) = Err e
 
-abbrev pub or_form : {A : Type 0} → Option A → Result A Flaw
-or_form (Some a) = Ok a
-or_form None = Err Form
-
 -- what a number's reader of texts in general answers
 abbrev pub own : {A : Type 0} → Result A words.Flaw → Result A Flaw
 own (Ok a) = Ok a

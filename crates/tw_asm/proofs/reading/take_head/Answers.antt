@@ -10,8 +10,8 @@ returns-in_err-sections c = λ m.
     let p = err_from_is_err_and c.from_residual.result c.from_residual.ensures.1 in
     rw (p.1, p.2) (head_stopped (seen_reading c.args.reading) c.args.number c.args.kind c.args.params c.in_err-sections.field-0.0 m c.in_err-sections.ensures)
 
-pub returns-then-len-ge64 : goal.returns-then-len-ge64
-returns-then-len-ge64 c = λ m.
+pub returns-then-len-from : goal.returns-then-len-from
+returns-then-len-from c = λ m.
     let many : 64 ≤ length (map seen_section c.in_ok-sections.sections.items) = omega (arith, length-map c.in_ok-sections.sections.items seen_section, c.in_ok-sections.sections.ok) in
     too_many_heads (seen_reading c.args.reading) c.args.number c.args.kind c.args.params _ (map seen_section c.in_ok-sections.sections.items) m c.in_ok-sections.ensures many c.new.ensures.no c.new.ensures.line
 

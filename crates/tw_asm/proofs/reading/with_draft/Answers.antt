@@ -3,8 +3,8 @@ use Rattle.std.proofs.lemmas.List.{length-map, map-append}
 use Rattle.tw_asm.specs.reading.Progress.{seen_draft}
 use Rattle.tw_asm.proofs.reading.with_draft.Goals as goal
 
-pub returns-then-len-ge4096 : goal.returns-then-len-ge4096
-returns-then-len-ge4096 c =
+pub returns-then-len-from : goal.returns-then-len-from
+returns-then-len-from c =
     inr ((c.new.ensures.no, c.new.ensures.line), omega (arith, length-map c.args.section.now.drafts.items seen_draft, c.args.section.now.drafts.ok))
 
 pub returns : goal.returns

@@ -1,0 +1,13 @@
+//! Lists that grow.
+
+ghost use Rattle.std.specs.Prelude.{◌≡◌, ◌∷◌, ◌++◌, [], OnOk};
+
+use std::alloc::AllocError;
+
+/// Adds an item at the end; where memory runs out the item is let go.
+pub fn keep<T: Drop>(list: &mut Vec<T>, item: T) -> Result<(), AllocError>
+    ensures { OnOk result (list.new.items ≡ list.old.items ++ item ∷ []) }
+{
+    list.push(item)?;
+    Ok(())
+}
