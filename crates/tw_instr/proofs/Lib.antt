@@ -5,7 +5,6 @@ pub mod Removed
 pub mod Stretches
 pub mod Told
 pub mod Live
-pub mod Members
 pub mod Views
 pub mod Closes
 pub mod Steps

@@ -1,36 +1,68 @@
--- The live data: a `BTreeMap` by ids, seen as a finite map.
-use Rattle.std.proofs.Common.{◌≡◌, ℕ, Some, None, refl, ◌∙◌, subst, IsSome}
+-- The live data: a `BTreeMap` by ids, seen as a finite map of what its data are.
+use Rattle.std.proofs.Common.{◌≡◌, ℕ, [], Some, None, refl, sym, ap, ◌∙◌, subst, IsSome}
 use Rattle.std.specs.declared.option.Option.{Option}
 use Rattle.std.specs.Ordering.{nat_cmp}
 use Rattle.std.specs.Cmp.{nat_cmp_total}
-use Rattle.std.specs.FinMap.{nat_cmp-IsAntisymmetric, get, insert, remove}
+use Rattle.std.specs.FinMap.{FinMap, nat_cmp-IsAntisymmetric, empty, from_entries, get, insert, remove}
 use Rattle.std.specs.BTreeMap.{BTreeMap, get_by, UpdatesBy, WritesThrough}
-use Rattle.tw_types.specs.Store.{Data, Datum}
-use Rattle.tw_types.proofs.Maps.{found_view, written_view, removed_view, insert_same, get_here}
-use Rattle.tw_instr.specs.Parts.{data_of}
+use Rattle.tw_types.specs.Store.{Data, Datum, Contains, members_of}
+use Rattle.tw_types.proofs.Maps.{found_view, written_view, removed_view, inserted_view, insert_same, get_here}
+use Rattle.tw_datum.specs.declared.datum.Content.{Content}
+use Rattle.tw_datum.specs.declared.datum.Content.TheVariants as content
+use Rattle.tw_datum.specs.Kept.{KeptDatum, datum_if, mapped}
+use Rattle.tw_datum.specs.Kept.{content_of as kept_content}
+use Rattle.tw_datum.proofs.Mapped.{empty_mapped, get_mapped, insert_mapped, mapped_same, remove_mapped}
+use Rattle.tw_instr.specs.Content.{content_of}
+use Rattle.tw_instr.specs.Parts.{bare, data_of}
+
+abbrev pub Kept : Type 0
+Kept = KeptDatum ℕ
+
+pub none_live : data_of [] ≡ empty
+none_live = empty_mapped nat_cmp bare
 
 -- what a look-up finds
-pub found : (m : BTreeMap ℕ Datum) (id : ℕ) (r : Option Datum) → r ≡ get_by (nat_cmp id) m → get (data_of m.entries) id ≡ r
-found = found_view nat_cmp_total nat_cmp-IsAntisymmetric
+pub found : (m : BTreeMap ℕ Kept) (id : ℕ) (r : Option Kept) → r ≡ get_by (nat_cmp id) m → get (data_of m.entries) id ≡ datum_if r
+found m id r h = get_mapped nat_cmp bare _ id ∙ ap datum_if (found_view nat_cmp_total nat_cmp-IsAntisymmetric m id r h)
+
+inserted_bare : (m : FinMap nat_cmp Kept) (id : ℕ) (x : Kept) → mapped bare (insert m id x) ≡ insert (mapped bare m) id x.datum
+inserted_bare = insert_mapped nat_cmp bare nat_cmp_total nat_cmp-IsAntisymmetric
 
 -- what a change of the datum leaves
-pub written : (m n : BTreeMap ℕ Datum) (id : ℕ) (x y : Datum) → Some x ≡ get_by (nat_cmp id) m → WritesThrough nat_cmp (nat_cmp id) m y n → data_of n.entries ≡ insert (data_of m.entries) id y
-written = written_view nat_cmp_total nat_cmp-IsAntisymmetric
+pub written : (m n : BTreeMap ℕ Kept) (id : ℕ) (x y : Kept) → Some x ≡ get_by (nat_cmp id) m → WritesThrough nat_cmp (nat_cmp id) m y n → data_of n.entries ≡ insert (data_of m.entries) id y.datum
+written m n id x y here h = ap (mapped bare) (written_view nat_cmp_total nat_cmp-IsAntisymmetric m n id x y here h) ∙ inserted_bare _ id y
 
 -- and what stands there then
-pub written_found : (m n : BTreeMap ℕ Datum) (id : ℕ) (x y : Datum) → Some x ≡ get_by (nat_cmp id) m → WritesThrough nat_cmp (nat_cmp id) m y n → get_by (nat_cmp id) n ≡ Some y
+pub written_found : (m n : BTreeMap ℕ Kept) (id : ℕ) (x y : Kept) → Some x ≡ get_by (nat_cmp id) m → WritesThrough nat_cmp (nat_cmp id) m y n → get_by (nat_cmp id) n ≡ Some y
 written_found m n id x y here h = (h.3 (subst IsSome here refl)).1
-
--- a datum that was looked at stays
-pub looked : (m n : BTreeMap ℕ Datum) (id : ℕ) (x : Datum) → Some x ≡ get_by (nat_cmp id) m → WritesThrough nat_cmp (nat_cmp id) m x n → data_of n.entries ≡ data_of m.entries
-looked m n id x here h = written m n id x x here h ∙ insert_same nat_cmp_total nat_cmp-IsAntisymmetric _ id x (found m id (Some x) here)
-
--- what a removal leaves
-pub removed : (m n : BTreeMap ℕ Datum) (id : ℕ) → UpdatesBy nat_cmp (nat_cmp id) m n None → data_of n.entries ≡ remove (data_of m.entries) id
-removed = removed_view nat_cmp_total nat_cmp-IsAntisymmetric
 
 pub here : (m : Data) (id : ℕ) (x : Datum) → get (insert m id x) id ≡ Some x
 here = get_here nat_cmp_total nat_cmp-IsAntisymmetric
 
 pub same : (m : Data) (id : ℕ) (x : Datum) → get m id ≡ Some x → insert m id x ≡ m
 same = insert_same nat_cmp_total nat_cmp-IsAntisymmetric
+
+-- a datum that was looked at stays
+pub looked : (m n : BTreeMap ℕ Kept) (id : ℕ) (x : Kept) → Some x ≡ get_by (nat_cmp id) m → WritesThrough nat_cmp (nat_cmp id) m x n → data_of n.entries ≡ data_of m.entries
+looked m n id x here h = written m n id x x here h ∙ same _ id x.datum (found m id (Some x) here)
+
+-- what a removal leaves
+pub removed : (m n : BTreeMap ℕ Kept) (id : ℕ) → UpdatesBy nat_cmp (nat_cmp id) m n None → data_of n.entries ≡ remove (data_of m.entries) id
+removed m n id h = ap (mapped bare) (removed_view nat_cmp_total nat_cmp-IsAntisymmetric m n id h) ∙ remove_mapped nat_cmp bare nat_cmp_total nat_cmp-IsAntisymmetric _ id
+
+-- what an addition leaves
+pub inserted : (m n : BTreeMap ℕ Kept) (id : ℕ) (x : Kept) → UpdatesBy nat_cmp (nat_cmp id) m n (Some x) → data_of n.entries ≡ insert (data_of m.entries) id x.datum
+inserted m n id x h = ap (mapped bare) (inserted_view nat_cmp_total nat_cmp-IsAntisymmetric m n id x h) ∙ inserted_bare _ id x
+
+-- what was found twice has the same members
+pub same_kept : (x y : Kept) (r : Option Kept) → Some x ≡ r → r ≡ Some y → members_of x.datum.content ≡ members_of y.datum.content
+same_kept x y r e f = same_of x y (e ∙ f)
+  where
+    same_of : (x y : Kept) → Some x ≡ Some y → members_of x.datum.content ≡ members_of y.datum.content
+    same_of x y e = cc
+
+-- the ids of members that are ids are those
+pub content_kept : (c : Content ℕ) → kept_content (λ id. id) c ≡ content_of c
+content_kept content.Unset = refl
+content_kept (content.Set value) = refl
+content_kept (content.Contains members) = ap Contains (mapped_same members)

@@ -9,7 +9,7 @@ use Rattle.tw_types.specs.Store.{Data, Datum, Store, notice_to, is_closed}
 use Rattle.tw_types.specs.StoreCalls.{changed, members_at, subscript_after, one_write_less, notices_of_stored, notices_of_write_dropped}
 use Rattle.tw_types.specs.declared.notice.Subscriber.{Subscriber}
 use Rattle.tw_types.specs.declared.value.Value.{Value}
-use Rattle.tw_instr.proofs.Members.{no_members, none_after}
+use Rattle.tw_datum.proofs.Members.{no_members, none_after}
 use Rattle.tw_types.specs.Room.{HasReadRoom, HasWriteRoom}
 
 abbrev pub with_live : ℕ → Data → Store

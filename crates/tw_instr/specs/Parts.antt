@@ -3,9 +3,14 @@ use Rattle.std.specs.Prelude.{ℕ, List}
 use Rattle.std.specs.Ordering.{nat_cmp}
 use Rattle.std.specs.FinMap.{from_entries}
 use Rattle.tw_types.specs.Store.{Data, Datum, Store}
+use Rattle.tw_datum.specs.Kept.{KeptDatum, mapped}
 
-abbrev pub data_of : List (ℕ × Datum) → Data
-data_of es = from_entries {R = nat_cmp} es
+-- a datum whose members are known by their ids alone
+abbrev pub bare : KeptDatum ℕ → Datum
+bare d = d.datum
 
-abbrev pub store_of : List (ℕ × Datum) → ℕ → Store
+abbrev pub data_of : List (ℕ × KeptDatum ℕ) → Data
+data_of es = mapped bare (from_entries {R = nat_cmp} es)
+
+abbrev pub store_of : List (ℕ × KeptDatum ℕ) → ℕ → Store
 store_of es next = record { live = data_of es; next = next }

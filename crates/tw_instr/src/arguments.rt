@@ -6,6 +6,7 @@ ghost use Rattle.tw_types.specs.Notices.{Notices};
 ghost use Rattle.tw_code.specs.format.Program.{IsProgram};
 ghost use Rattle.tw_code.specs.machine.Arguments.{all_pass, called, handed_over, has_type, put_called, values_suit};
 ghost use Rattle.tw_code.specs.machine.Rights.{held};
+ghost use Rattle.tw_datum.specs.Kept.{datum_if};
 ghost use Rattle.tw_instr.specs.Arguments.{arg_of, test_of};
 ghost use Rattle.tw_instr.specs.Attempts.{Fails, Gives};
 ghost use Rattle.tw_instr.specs.Contexts.{context};
@@ -187,7 +188,7 @@ enum Need {
 }
 
 fn passes(need: Need, param: Param, datum: Option<&Datum>) -> bool
-    ensures { result ≡ test_of need param (option_copied datum.entry) }
+    ensures { result ≡ test_of need param (datum_if (option_copied datum.entry)) }
 {
     match (need, datum) {
         (Need::Live, datum) => datum.is_some(),

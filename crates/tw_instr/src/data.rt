@@ -9,16 +9,17 @@ ghost use Rattle.tw_types.specs.Store.{empty_store, added, notice_to};
 ghost use Rattle.tw_types.specs.StoreCalls.{created, stored, inserted, read_copied, write_copied, read_dropped, write_dropped, subscribed, value_at, member_at, members_at, subscript_after, notices_of_stored, notices_of_write_dropped};
 ghost use Rattle.tw_types.specs.StoreChecks.{may_store, may_retrieve, may_insert, may_look, may_read_members, may_be_read, may_copy_write, may_drop_read, may_drop_write};
 ghost use Rattle.tw_types.specs.declared.value.Value.{Value as ValueMeaning};
-ghost use Rattle.tw_instr.specs.Content.{content_of, closed_datum, FitsType};
+ghost use Rattle.tw_datum.specs.Kept.{closed_datum, datum_if, FitsType};
+ghost use Rattle.tw_instr.specs.Content.{content_of};
 ghost use Rattle.tw_types.specs.Room.{HasReadRoom, HasWriteRoom};
 
 use crate::changes::{add_read_in, add_write_in, drop_write_in, insert_in, set_in, subscribe_in};
-use crate::checks;
-use crate::datum::{Content, Datum};
+use crate::datum::Datum;
 use crate::freeing::drop_read_within;
 use std::alloc::{AllocError, Global};
 use std::collections::BTreeMap;
 use std::marker::Model;
+use tw_datum::{Content, checks};
 use tw_types::{Cause, DataType, DatumId, Subscriber, Value};
 
 /// The live data by their ids. No id is used again.
@@ -61,7 +62,7 @@ impl Data {
 
     /// The datum of an id, if it is live.
     pub fn datum(&self, id: DatumId) -> Option<&Datum>
-        ensures { option_copied result ≡ get self.now.live id }
+        ensures { datum_if (option_copied result) ≡ get self.now.live id }
     {
         self.live.get(&id.number())
     }
@@ -81,7 +82,7 @@ impl Data {
         &mut self,
         alloc: Global,
         ty: DataType,
-        content: Content,
+        content: Content<DatumId>,
     ) -> Result<DatumId, AllocError>
         requires fits { FitsType ty (content_of content) }
         requires room { self.old.next < 2 ^ 63 }
@@ -94,7 +95,7 @@ impl Data {
 
     fn add(&mut self, datum: Datum) -> Result<DatumId, AllocError>
         requires { self.old.next < 2 ^ 63 }
-        ensures made { OnOk result (self.new ≡ added self.old datum) }
+        ensures made { OnOk result (self.new ≡ added self.old datum.datum) }
         ensures id { IfOk result (λ id. id ≡ self.old.next) }
         ensures refused { OnErr result (self.new ≡ self.old) }
     {

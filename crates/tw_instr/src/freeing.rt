@@ -8,7 +8,7 @@ ghost use Rattle.tw_instr.specs.Parts.{data_of};
 
 use crate::datum::Datum;
 use std::collections::BTreeMap;
-use tw_ranked::RankedMap;
+use tw_datum::RankedMap;
 use tw_types::DatumId;
 
 /// Takes one read of a datum whose type is nested so deep at most. Where it was the last right, the datum is freed.

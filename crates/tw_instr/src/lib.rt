@@ -12,7 +12,6 @@
 
 mod arguments;
 mod changes;
-mod checks;
 mod code;
 mod containers;
 mod data;
@@ -35,7 +34,7 @@ mod value_registers;
 pub use arguments::{Arg, Named, called, put_called};
 pub use code::{instr_at, procedure_of};
 pub use data::Data;
-pub use datum::{Content, Datum};
+pub use datum::Datum;
 pub use failure::{Failure, must};
 pub use frame::Frame;
 pub use lists::keep;
@@ -45,5 +44,5 @@ pub use on_data::data_instr;
 pub use position::Position;
 pub use stopped::Stopped;
 pub use task::Task;
-pub use tw_ranked::RankedMap;
+pub use tw_datum::{Content, RankedMap};
 pub use value_registers::value_at;

@@ -11,6 +11,7 @@ ghost use Rattle.tw_types.specs.declared.cause.Cause.TheVariants.{UnsetDatum};
 ghost use Rattle.tw_types.specs.StoreCalls.{notices_of_stored, stored};
 ghost use Rattle.tw_types.specs.StoreCalls.{value_at as stored_at};
 ghost use Rattle.tw_types.specs.StoreChecks.{may_store};
+ghost use Rattle.tw_datum.specs.Kept.{datum_if};
 ghost use Rattle.tw_instr.specs.Attempts.{Gives};
 ghost use Rattle.tw_instr.specs.Contexts.{Does, DoesQuietly};
 
@@ -26,7 +27,7 @@ use tw_types::{Cause, DatumId, Value};
 
 /// Whether a value is of the type of a datum, where that is a live scalar.
 fn suits(value: &Value, datum: Option<&Datum>) -> bool
-    ensures { result ≡ suits value.now (option_copied datum.entry) }
+    ensures { result ≡ suits value.now (datum_if (option_copied datum.entry)) }
 {
     match datum {
         Some(datum) => !datum.ty().is_scalar() || value.scalar() == datum.ty().scalar(),
@@ -36,7 +37,7 @@ fn suits(value: &Value, datum: Option<&Datum>) -> bool
 
 /// The datum of a right register, if it is live.
 fn datum_at<'a>(store: &'a Data, frame: &Frame, register: u8) -> Option<&'a Datum>
-    ensures { option_copied result ≡ option_and_then (get store.now.live) (right_at frame.now.rights register) }
+    ensures { datum_if (option_copied result) ≡ option_and_then (get store.now.live) (right_at frame.now.rights register) }
 {
     store.datum(frame.right(register)?)
 }

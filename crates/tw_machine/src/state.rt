@@ -118,7 +118,7 @@ impl State {
 
     /// The datum of an id, if it is live.
     pub fn datum(&self, id: DatumId) -> Option<&Datum>
-        ensures { option_copied result ≡ get self.now.store.live id }
+        ensures { option_map (λ d. d.datum) (option_copied result) ≡ get self.now.store.live id }
     {
         self.tables.store.datum(id)
     }

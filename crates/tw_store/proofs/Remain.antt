@@ -13,7 +13,8 @@ use Rattle.tw_types.specs.Store.{Datum, drop_read_within, settled, is_unheld, me
 use Rattle.tw_types.specs.StoreCalls.{with_member}
 use Rattle.tw_store.specs.declared.member.Member.{Member}
 use Rattle.tw_store.specs.declared.slot.Slot.{Slot}
-use Rattle.tw_store.specs.Placed.{PlacedDatum, PlacedMembers, with_placed_member}
+use Rattle.tw_datum.specs.Kept.{with_kept_member}
+use Rattle.tw_store.specs.Placed.{PlacedDatum, PlacedMembers, id_of}
 use Rattle.tw_store.specs.Slots.{Slots, live_of, places_of, datum_in, place_in, AreApart, IsAt, AllAt, AreSeated, Stood, Remains, IsChanged, IsChangedAt, IsSettled}
 use Rattle.tw_store.proofs.Shown.{map_of, get_shown, get_nowhere, search_slots, same_slot, no_slot, shown_put, shown_gone, apart_put, set_there, set_others, seat_of, IsSeat}
 use Rattle.tw_store.proofs.Live.{same, changed_is, after_is, settled_held, settled_gone}
@@ -344,7 +345,7 @@ changed_at slots p x d f at is next e seated there =
     subst (λ (y : Slot). IsChanged next y.id f slots (set slots p (Some (record { id = x.id; datum = d })))) (same_slot x e (sym at ∙ there))
     (written_changed slots next p x seated at d (ap (λ (y : PlacedDatum). y.members) is) f (ap (λ (y : PlacedDatum). y.datum) is))
 
-pub joined_at : (slots : Slots) (p : ℕ) (x : Slot) (d : PlacedDatum) (k : ℤ) (m : Member) → get_or slots p None ≡ Some x → d ≡ with_placed_member k m x.datum → get (places_of slots) m.id ≡ Some m.place → IsChangedAt p (with_member k m.id) slots (set slots p (Some (record { id = x.id; datum = d })))
+pub joined_at : (slots : Slots) (p : ℕ) (x : Slot) (d : PlacedDatum) (k : ℤ) (m : Member) → get_or slots p None ≡ Some x → d ≡ with_kept_member id_of k m x.datum → get (places_of slots) m.id ≡ Some m.place → IsChangedAt p (with_member k m.id) slots (set slots p (Some (record { id = x.id; datum = d })))
 joined_at slots p x d k m at is placed next e seated there =
     subst (λ (y : Slot). IsChanged next y.id (with_member k m.id) slots (set slots p (Some (record { id = x.id; datum = d })))) (same_slot x e (sym at ∙ there))
     (joined_changed slots next p x seated at d k m (with_member k m.id) (ap (λ (y : PlacedDatum). y.members) is) (ap (λ (y : PlacedDatum). y.datum) is) placed)

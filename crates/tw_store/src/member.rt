@@ -1,5 +1,7 @@
 //! A member of a container.
 
+ghost use Rattle.std.specs.Prelude.{◌≡◌};
+
 use tw_types::DatumId;
 
 /// The id of a member, and the place where its datum stands.
@@ -8,3 +10,14 @@ pub struct Member {
     pub id: DatumId,
     pub place: usize,
 }
+
+impl tw_datum::Member for Member {
+    ghost id = { λ it. it.id };
+
+    fn id(&self) -> DatumId {
+        self.id
+    }
+}
+
+/// A datum of the store.
+pub type Datum = tw_datum::Datum<Member>;

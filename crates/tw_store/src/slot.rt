@@ -4,7 +4,7 @@ ghost use Rattle.std.specs.Prelude.{◌≡◌, ◌≢◌, ℕ, IfNone, IfSome, I
 ghost use Rattle.tw_store.specs.declared.slot.Slot.{Slot as Meaning};
 ghost use Rattle.tw_store.specs.Slots.{slot_at, StandsAs};
 
-use crate::datum::Datum;
+use crate::member::Datum;
 use slab::Slab;
 use tw_types::DatumId;
 

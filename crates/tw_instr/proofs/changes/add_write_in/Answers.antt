@@ -1,5 +1,5 @@
 use Rattle.std.proofs.Common.{ap, ◌∙◌, Some, None}
-use Rattle.tw_instr.specs.Parts.{data_of}
+use Rattle.tw_instr.specs.Parts.{bare, data_of}
 use Rattle.tw_instr.proofs.Live.{found, written}
 use Rattle.std.specs.FinMap.{insert}
 use Rattle.tw_types.specs.StoreCalls.{one_write_more}
@@ -10,8 +10,8 @@ pub returns-in_default : goal.returns-in_default
 returns-in_default c = λ s view. absent_is s _ _ c.args.id one_write_more view (found c.args.live.now c.args.id None c.in_default.ensures.value) (ap (λ m. data_of m.entries) c.get_mut.follows.holds-at-none)
 
 pub add_write-requires : goal.add_write-requires
-add_write-requires c = write_room _ c.in-Some.datum.now (found c.args.live.now c.args.id (Some c.in-Some.datum.now) c.in-Some.ensures.value) c.requires
+add_write-requires c = write_room _ c.in-Some.datum.now.datum (found c.args.live.now c.args.id (Some c.in-Some.datum.now) c.in-Some.ensures.value) c.requires
 
 pub returns : goal.returns
-returns c = λ s view. changed_is s _ _ c.args.id c.in-Some.datum.now one_write_more view (found c.args.live.now c.args.id (Some c.in-Some.datum.now) c.in-Some.ensures.value)
-    (written c.args.live.now (c.get_mut.follows.lender c.add_write.new.self) c.args.id c.in-Some.datum.now c.add_write.new.self c.in-Some.ensures.value (c.get_mut.follows.holds c.add_write.new.self) ∙ ap (insert (data_of c.args.live.now.entries) c.args.id) c.add_write.ensures)
+returns c = λ s view. changed_is s _ _ c.args.id c.in-Some.datum.now.datum one_write_more view (found c.args.live.now c.args.id (Some c.in-Some.datum.now) c.in-Some.ensures.value)
+    (written c.args.live.now (c.get_mut.follows.lender c.add_write.new.self) c.args.id c.in-Some.datum.now c.add_write.new.self c.in-Some.ensures.value (c.get_mut.follows.holds c.add_write.new.self) ∙ ap (insert (data_of c.args.live.now.entries) c.args.id) (ap bare c.add_write.ensures))

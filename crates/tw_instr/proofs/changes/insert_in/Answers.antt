@@ -1,5 +1,5 @@
 use Rattle.std.proofs.Common.{◌≡◌, ap, ◌∙◌, arith, to_z-of_z, to_z, of_z, w64, Some, None}
-use Rattle.tw_instr.specs.Parts.{data_of}
+use Rattle.tw_instr.specs.Parts.{bare, data_of}
 use Rattle.tw_instr.proofs.Live.{found, written, same}
 use Rattle.std.specs.FinMap.{insert}
 use Rattle.tw_types.specs.StoreCalls.{with_member}
@@ -11,17 +11,17 @@ pub unreachable-requires : goal.unreachable-requires
 unreachable-requires c = none_is _ (found c.args.live.now c.args.id None c.in_default.ensures.value) (insert_live _ _ c.requires)
 
 pub add_member-requires : goal.add_member-requires
-add_member-requires c = insert_container _ _ c.in-Some.datum.now (found c.args.live.now c.args.id (Some c.in-Some.datum.now) c.in-Some.ensures.value) c.requires
+add_member-requires c = insert_container _ _ c.in-Some.datum.now.datum (found c.args.live.now c.args.id (Some c.in-Some.datum.now) c.in-Some.ensures.value) c.requires
 
 pub returns-clause-inserted : goal.returns-clause-inserted
 returns-clause-inserted c =
     let key : to_z w64 (of_z w64 c.args.subscript) ≡ c.args.subscript = grind (arith, to_z-of_z) in
     let changes = written c.args.live.now (c.get_mut.follows.lender c.add_member.new.self) c.args.id c.in-Some.datum.now c.add_member.new.self c.in-Some.ensures.value (c.get_mut.follows.holds c.add_member.new.self) in
-    on_ok c.add_member.result c.add_member.ensures.added (λ added. λ s view. changed_is s _ _ c.args.id c.in-Some.datum.now (with_member c.args.subscript c.args.member) view (found c.args.live.now c.args.id (Some c.in-Some.datum.now) c.in-Some.ensures.value)
-    (changes ∙ ap (insert (data_of c.args.live.now.entries) c.args.id) (added ∙ ap (λ k. with_member k c.args.member c.in-Some.datum.now) key)))
+    on_ok c.add_member.result c.add_member.ensures.added (λ added. λ s view. changed_is s _ _ c.args.id c.in-Some.datum.now.datum (with_member c.args.subscript c.args.member) view (found c.args.live.now c.args.id (Some c.in-Some.datum.now) c.in-Some.ensures.value)
+    (changes ∙ ap (insert (data_of c.args.live.now.entries) c.args.id) (ap bare added ∙ ap (λ k. with_member k c.args.member c.in-Some.datum.now.datum) key)))
 
 pub returns-clause-refused : goal.returns-clause-refused
 returns-clause-refused c =
     let there = (found c.args.live.now c.args.id (Some c.in-Some.datum.now) c.in-Some.ensures.value) in
     let changes = written c.args.live.now (c.get_mut.follows.lender c.add_member.new.self) c.args.id c.in-Some.datum.now c.add_member.new.self c.in-Some.ensures.value (c.get_mut.follows.holds c.add_member.new.self) in
-    on_err c.add_member.result c.add_member.ensures.refused (λ kept. changes ∙ ap (insert (data_of c.args.live.now.entries) c.args.id) kept ∙ same _ _ _ there)
+    on_err c.add_member.result c.add_member.ensures.refused (λ kept. changes ∙ ap (insert (data_of c.args.live.now.entries) c.args.id) (ap bare kept) ∙ same _ _ _ there)

@@ -5,10 +5,11 @@ use Rattle.std.proofs.lemmas.List.{length-map}
 use Rattle.std.proofs.lemmas.Option.{slice_get-get_or}
 use Rattle.std.specs.FinMap as map
 use Rattle.tw_types.proofs.Maps.{remove_insert}
-use Rattle.tw_instr.specs.Parts.{data_of}
-use Rattle.tw_instr.proofs.Live.{found, written, written_found, looked, removed}
+use Rattle.tw_datum.proofs.Mapped.{each_same}
+use Rattle.tw_instr.specs.Parts.{bare, data_of}
+use Rattle.tw_instr.proofs.Live.{found, written, written_found, looked, removed, same_kept}
 use Rattle.tw_types.specs.Store.{drop_read_within, is_unheld, members_of}
-use Rattle.tw_types.proofs.Drops.{same_members, drop_absent, drop_unread, drop_held, drop_lowest, drop_last, fold_next, fold_end}
+use Rattle.tw_types.proofs.Drops.{drop_absent, drop_unread, drop_held, drop_lowest, drop_last, fold_next, fold_end}
 use Rattle.tw_instr.proofs.freeing.+freeing.Goals as goal
 use Rattle.tw_instr.proofs.freeing.+freeing.Goals.{drop_each-in-Some, drop_each-in_default}
 
@@ -20,46 +21,46 @@ pub drop_read_within-returns-then-reads-eq0 : goal.drop_read_within-returns-then
 drop_read_within-returns-then-reads-eq0 t c =
     let there = found c.args.live.now c.args.id (Some c.in-Some.datum.now) c.in-Some.ensures.value in
     looked c.args.live.now (c.get_mut.follows.lender c.in-Some.datum.now) c.args.id c.in-Some.datum.now c.in-Some.ensures.value (c.get_mut.follows.holds c.in-Some.datum.now)
-    ∙ drop_unread _ _ c.args.depth c.in-Some.datum.now there (sym c.reads.ensures ∙ c.if-reads-eq0.true)
+    ∙ drop_unread _ _ c.args.depth c.in-Some.datum.now.datum there (sym c.reads.ensures ∙ c.if-reads-eq0.true)
 
 pub drop_read_within-returns-then-not-is_unheld : goal.drop_read_within-returns-then-not-is_unheld
 drop_read_within-returns-then-not-is_unheld t c =
     let there = found c.args.live.now c.args.id (Some c.in-Some.datum.now) c.in-Some.ensures.value in
     let changes = written c.args.live.now (c.get_mut.follows.lender c.take_read.new.self) c.args.id c.in-Some.datum.now c.take_read.new.self c.in-Some.ensures.value (c.get_mut.follows.holds c.take_read.new.self) in
-    let stays : is_unheld c.take_read.new.self ≡ false = sym c.is_unheld.ensures ∙ c.if-not-is_unheld.true in
-    changes ∙ ap (insert (data_of c.args.live.now.entries) c.args.id) c.take_read.ensures
-    ∙ drop_held _ _ c.args.depth c.in-Some.datum.now there (λ e. c.if-reads-eq0.false (c.reads.ensures ∙ e)) (subst (λ x. is_unheld x ≡ false) c.take_read.ensures stays)
+    let stays : is_unheld c.take_read.new.self.datum ≡ false = sym c.is_unheld.ensures ∙ c.if-not-is_unheld.true in
+    changes ∙ ap (insert (data_of c.args.live.now.entries) c.args.id) (ap bare c.take_read.ensures)
+    ∙ drop_held _ _ c.args.depth c.in-Some.datum.now.datum there (λ e. c.if-reads-eq0.false (c.reads.ensures ∙ e)) (subst (λ x. is_unheld x ≡ false) (ap bare c.take_read.ensures) stays)
 
 pub drop_read_within-returns-then-depth-eq0 : goal.drop_read_within-returns-then-depth-eq0
 drop_read_within-returns-then-depth-eq0 t c =
     let there = found c.args.live.now c.args.id (Some c.in-Some.datum.now) c.in-Some.ensures.value in
     let changes = written c.args.live.now (c.get_mut.follows.lender c.take_read.new.self) c.args.id c.in-Some.datum.now c.take_read.new.self c.in-Some.ensures.value (c.get_mut.follows.holds c.take_read.new.self) in
-    let go : is_unheld c.take_read.new.self ≡ true = sym c.is_unheld.ensures ∙ c.if-not-is_unheld.false in
-    let rest = removed (c.get_mut.follows.lender c.take_read.new.self) c.remove.new.self c.args.id c.remove.ensures.updates ∙ ap (λ m. remove m c.args.id) changes ∙ remove_insert nat_cmp_total nat_cmp-IsAntisymmetric (data_of c.args.live.now.entries) c.args.id c.take_read.new.self in
-    rest ∙ drop_lowest _ _ c.args.depth c.in-Some.datum.now c.if-depth-eq0.true there (λ e. c.if-reads-eq0.false (c.reads.ensures ∙ e)) (subst (λ x. is_unheld x ≡ true) c.take_read.ensures go)
+    let go : is_unheld c.take_read.new.self.datum ≡ true = sym c.is_unheld.ensures ∙ c.if-not-is_unheld.false in
+    let rest = removed (c.get_mut.follows.lender c.take_read.new.self) c.remove.new.self c.args.id c.remove.ensures.updates ∙ ap (λ m. remove m c.args.id) changes ∙ remove_insert nat_cmp_total nat_cmp-IsAntisymmetric (data_of c.args.live.now.entries) c.args.id c.take_read.new.self.datum in
+    rest ∙ drop_lowest _ _ c.args.depth c.in-Some.datum.now.datum c.if-depth-eq0.true there (λ e. c.if-reads-eq0.false (c.reads.ensures ∙ e)) (subst (λ x. is_unheld x ≡ true) (ap bare c.take_read.ensures) go)
 
 pub drop_read_within-returns-in-Some-into_members : goal.drop_read_within-returns-in-Some-into_members
 drop_read_within-returns-in-Some-into_members t c =
     let there = found c.args.live.now c.args.id (Some c.in-Some.datum.now) c.in-Some.ensures.value in
     let changes = written c.args.live.now (c.get_mut.follows.lender c.take_read.new.self) c.args.id c.in-Some.datum.now c.take_read.new.self c.in-Some.ensures.value (c.get_mut.follows.holds c.take_read.new.self) in
-    let go : is_unheld c.take_read.new.self ≡ true = sym c.is_unheld.ensures ∙ c.if-not-is_unheld.false in
-    let rest = removed (c.get_mut.follows.lender c.take_read.new.self) c.remove.new.self c.args.id c.remove.ensures.updates ∙ ap (λ m. remove m c.args.id) changes ∙ remove_insert nat_cmp_total nat_cmp-IsAntisymmetric (data_of c.args.live.now.entries) c.args.id c.take_read.new.self in
-    let members = c.in-Some-into_members.ensures ∙ same_members c.in-Some-remove.gone c.take_read.new.self _ c.in-Some-remove.ensures.value (written_found c.args.live.now (c.get_mut.follows.lender c.take_read.new.self) c.args.id c.in-Some.datum.now c.take_read.new.self c.in-Some.ensures.value (c.get_mut.follows.holds c.take_read.new.self)) ∙ ap (λ x. members_of x.content) c.take_read.ensures in
+    let go : is_unheld c.take_read.new.self.datum ≡ true = sym c.is_unheld.ensures ∙ c.if-not-is_unheld.false in
+    let rest = removed (c.get_mut.follows.lender c.take_read.new.self) c.remove.new.self c.args.id c.remove.ensures.updates ∙ ap (λ m. remove m c.args.id) changes ∙ remove_insert nat_cmp_total nat_cmp-IsAntisymmetric (data_of c.args.live.now.entries) c.args.id c.take_read.new.self.datum in
+    let members = sym (each_same (map.values c.in-Some-into_members.members)) ∙ c.in-Some-into_members.ensures.ids ∙ same_kept c.in-Some-remove.gone c.take_read.new.self _ c.in-Some-remove.ensures.value (written_found c.args.live.now (c.get_mut.follows.lender c.take_read.new.self) c.args.id c.in-Some.datum.now c.take_read.new.self c.in-Some.ensures.value (c.get_mut.follows.holds c.take_read.new.self)) ∙ ap (λ x. members_of x.content) (ap bare c.take_read.ensures) in
     c.drop_each.ensures
     ∙ ap (λ m. fold (drop_read_within (c.args.depth - 1)) m (map.values c.in-Some-into_members.members)) rest
     ∙ ap (fold (drop_read_within (c.args.depth - 1)) (remove (data_of c.args.live.now.entries) c.args.id)) members
-    ∙ drop_last _ _ c.args.depth c.in-Some.datum.now c.if-depth-eq0.false there (λ e. c.if-reads-eq0.false (c.reads.ensures ∙ e)) (subst (λ x. is_unheld x ≡ true) c.take_read.ensures go)
+    ∙ drop_last _ _ c.args.depth c.in-Some.datum.now.datum c.if-depth-eq0.false there (λ e. c.if-reads-eq0.false (c.reads.ensures ∙ e)) (subst (λ x. is_unheld x ≡ true) (ap bare c.take_read.ensures) go)
 
 pub drop_read_within-returns-in_default-into_members : goal.drop_read_within-returns-in_default-into_members
 drop_read_within-returns-in_default-into_members t c =
     let there = found c.args.live.now c.args.id (Some c.in-Some.datum.now) c.in-Some.ensures.value in
     let changes = written c.args.live.now (c.get_mut.follows.lender c.take_read.new.self) c.args.id c.in-Some.datum.now c.take_read.new.self c.in-Some.ensures.value (c.get_mut.follows.holds c.take_read.new.self) in
-    let go : is_unheld c.take_read.new.self ≡ true = sym c.is_unheld.ensures ∙ c.if-not-is_unheld.false in
-    let rest = removed (c.get_mut.follows.lender c.take_read.new.self) c.remove.new.self c.args.id c.remove.ensures.updates ∙ ap (λ m. remove m c.args.id) changes ∙ remove_insert nat_cmp_total nat_cmp-IsAntisymmetric (data_of c.args.live.now.entries) c.args.id c.take_read.new.self in
-    let members = c.in_default-into_members.ensures ∙ same_members c.in-Some-remove.gone c.take_read.new.self _ c.in-Some-remove.ensures.value (written_found c.args.live.now (c.get_mut.follows.lender c.take_read.new.self) c.args.id c.in-Some.datum.now c.take_read.new.self c.in-Some.ensures.value (c.get_mut.follows.holds c.take_read.new.self)) ∙ ap (λ x. members_of x.content) c.take_read.ensures in
+    let go : is_unheld c.take_read.new.self.datum ≡ true = sym c.is_unheld.ensures ∙ c.if-not-is_unheld.false in
+    let rest = removed (c.get_mut.follows.lender c.take_read.new.self) c.remove.new.self c.args.id c.remove.ensures.updates ∙ ap (λ m. remove m c.args.id) changes ∙ remove_insert nat_cmp_total nat_cmp-IsAntisymmetric (data_of c.args.live.now.entries) c.args.id c.take_read.new.self.datum in
+    let members = c.in_default-into_members.ensures.ids ∙ same_kept c.in-Some-remove.gone c.take_read.new.self _ c.in-Some-remove.ensures.value (written_found c.args.live.now (c.get_mut.follows.lender c.take_read.new.self) c.args.id c.in-Some.datum.now c.take_read.new.self c.in-Some.ensures.value (c.get_mut.follows.holds c.take_read.new.self)) ∙ ap (λ x. members_of x.content) (ap bare c.take_read.ensures) in
     rest
     ∙ ap (fold (drop_read_within (c.args.depth - 1)) (remove (data_of c.args.live.now.entries) c.args.id)) members
-    ∙ drop_last _ _ c.args.depth c.in-Some.datum.now c.if-depth-eq0.false there (λ e. c.if-reads-eq0.false (c.reads.ensures ∙ e)) (subst (λ x. is_unheld x ≡ true) c.take_read.ensures go)
+    ∙ drop_last _ _ c.args.depth c.in-Some.datum.now.datum c.if-depth-eq0.false there (λ e. c.if-reads-eq0.false (c.reads.ensures ∙ e)) (subst (λ x. is_unheld x ≡ true) (ap bare c.take_read.ensures) go)
 
 pub drop_each-loop-index-preserved : goal.drop_each-loop-index-preserved
 drop_each-loop-index-preserved t c =

@@ -21,10 +21,10 @@ returns-in_default-datum c = λ s.
 
 pub returns-then-closed : goal.returns-then-closed
 returns-then-closed c = λ s.
-    closed_asked c.args.engine c.args.number s c.args.tables.now (frames_of c.args.frames.now.entries) c.in-Some.rule.now (c.in-Some.ensures s) c.args.parameter c.in-Some-unasked_id.id (sym c.in-Some-unasked_id.ensures) c.in-Some-datum.datum.now (sym c.in-Some-datum.ensures)
+    closed_asked c.args.engine c.args.number s c.args.tables.now (frames_of c.args.frames.now.entries) c.in-Some.rule.now (c.in-Some.ensures s) c.args.parameter c.in-Some-unasked_id.id (sym c.in-Some-unasked_id.ensures) c.in-Some-datum.datum.now.datum (sym c.in-Some-datum.ensures)
     c.set_stage.new.self (sym c.closed.ensures ∙ c.if-closed.true) c.set_stage.ensures
 
 pub returns-in_ok-subscribe : goal.returns-in_ok-subscribe
 returns-in_ok-subscribe c = λ s.
-    open_asked c.args.engine c.args.number s c.args.tables.now (frames_of c.args.frames.now.entries) c.in-Some.rule.now (c.in-Some.ensures s) c.args.parameter c.in-Some-unasked_id.id (sym c.in-Some-unasked_id.ensures) c.in-Some-datum.datum.now (sym c.in-Some-datum.ensures)
+    open_asked c.args.engine c.args.number s c.args.tables.now (frames_of c.args.frames.now.entries) c.in-Some.rule.now (c.in-Some.ensures s) c.args.parameter c.in-Some-unasked_id.id (sym c.in-Some-unasked_id.ensures) c.in-Some-datum.datum.now.datum (sym c.in-Some-datum.ensures)
     c.subscribe.new.self c.set_stage-else-closed.new.self (sym c.closed.ensures ∙ c.if-closed.false) c.in_ok-subscribe.ensures.noted c.set_stage-else-closed.ensures

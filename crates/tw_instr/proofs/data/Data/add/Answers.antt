@@ -1,11 +1,9 @@
 use Rattle.std.proofs.Common.{ap, ◌+◌}
-use Rattle.std.specs.Cmp.{nat_cmp_total}
-use Rattle.std.specs.FinMap.{nat_cmp-IsAntisymmetric}
-use Rattle.tw_types.proofs.Maps.{inserted_view}
+use Rattle.tw_instr.proofs.Live.{inserted}
 use Rattle.tw_instr.proofs.Views.{with_live}
 use Rattle.tw_instr.proofs.data.Data.add.Goals as goal
 
 pub returns-clause-made : goal.returns-clause-made
 returns-clause-made c =
     let s = c.self.inside in
-    rw (← c.self.view_is) (ap (with_live (s.next + 1)) (inserted_view nat_cmp_total nat_cmp-IsAntisymmetric s.live c.insert.new.self s.next c.args.datum c.in_ok-insert.ensures.updates))
+    rw (← c.self.view_is) (ap (with_live (s.next + 1)) (inserted s.live c.insert.new.self s.next c.args.datum c.in_ok-insert.ensures.updates))

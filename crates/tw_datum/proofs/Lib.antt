@@ -1,0 +1,7 @@
+pub mod Rising
+pub mod Order
+pub mod Sides
+pub mod Turns
+pub mod Entries
+pub mod Mapped
+pub mod Members

@@ -1,0 +1,75 @@
+-- A datum as it is kept: a member may say more than its id, such as the place of its datum.
+use Rattle.std.specs.Prelude.{◌≡◌, ℕ, ℤ, Bool, true, false, not, List, [], map as each, Option, Some, None, option_map}
+use Rattle.std.specs.declared.cmp.Ordering.{Ordering}
+use Rattle.std.specs.Ordering.{int_cmp}
+use Rattle.std.specs.FinMap as map
+use Rattle.std.specs.FinMap.{FinMap}
+use Rattle.tw_types.specs.Nesting.{NestedScalar}
+use Rattle.tw_types.specs.DataType.{is_scalar}
+use Rattle.tw_types.specs.Store.{Content as Meaning, Unset, Set, Contains, Members, Datum, new_datum}
+use Rattle.tw_types.specs.StoreCalls.{members_in, with_member}
+use Rattle.tw_datum.specs.declared.datum.Content.{Content}
+use Rattle.tw_datum.specs.declared.datum.Content.TheVariants as content
+
+-- with f of each value
+unfoldable pub mapped : {K V W : Type 0} {R : K → K → Ordering} → (V → W) → FinMap R V → FinMap R W
+mapped f m = map.from_sorted (each (λ e. (e.0, f e.1)) (map.entries m))
+
+-- the member at each subscript
+abbrev pub KeptMembers : Type 0 → Type 0
+KeptMembers M = FinMap int_cmp M
+
+-- their ids alone
+abbrev pub ids_of : {M : Type 0} → (M → ℕ) → KeptMembers M → Members
+ids_of id members = mapped id members
+
+-- a datum, and its members
+pub record KeptDatum (M : Type 0) : Type 0 where
+  pub datum : Datum
+  pub members : KeptMembers M
+
+-- the datum, if there is one
+abbrev pub datum_if : {M : Type 0} → Option (KeptDatum M) → Option Datum
+datum_if r = option_map (λ d. d.datum) r
+
+-- with no members
+abbrev pub new_kept : {M : Type 0} → NestedScalar → KeptDatum M
+new_kept ty = record { datum = new_datum ty; members = map.empty }
+
+abbrev pub with_kept_member : {M : Type 0} → (M → ℕ) → ℤ → M → KeptDatum M → KeptDatum M
+with_kept_member id subscript member d = record { datum = with_member subscript (id member) d.datum; members = map.insert d.members subscript member }
+
+-- it has one read, and nobody will write it
+abbrev pub closed_datum : NestedScalar → Meaning → Datum
+closed_datum ty content = record { ty = ty; content = content; reads = 1; writes = 0; subscribers = [] }
+
+-- ---- as the code keeps it
+
+abbrev pub content_of : {M : Type 0} → (M → ℕ) → Content M → Meaning
+content_of id content.Unset = Unset
+content_of id (content.Set value) = Set value
+content_of id (content.Contains members) = Contains (ids_of id members)
+
+abbrev pub members_kept : {M : Type 0} → Content M → KeptMembers M
+members_kept content.Unset = map.empty
+members_kept (content.Set value) = map.empty
+members_kept (content.Contains members) = members
+
+abbrev pub is_container : Meaning → Bool
+is_container Unset = false
+is_container (Set _) = false
+is_container (Contains _) = true
+
+-- only a container has members
+abbrev pub FitsType : NestedScalar → Meaning → Type 0
+FitsType ty content = is_container content ≡ not (is_scalar ty)
+
+-- the members of a datum, if it is a container
+abbrev pub AreMembers : {M : Type 0} → (M → ℕ) → KeptDatum M → Option (KeptMembers M) → Type 0
+AreMembers id d None = (members_in d.datum.content ≡ map.empty) × (d.members ≡ map.empty)
+AreMembers id d (Some members) = (members_in d.datum.content ≡ ids_of id members) × (d.members ≡ members)
+
+-- the ids of members, if there are any
+abbrev pub ids_if : {M : Type 0} → (M → ℕ) → Option (KeptMembers M) → List ℕ
+ids_if id None = []
+ids_if id (Some members) = each id (map.values members)

@@ -1,0 +1,96 @@
+//! What the calls ask of their data, each with the first cause that refuses it.
+
+ghost use Rattle.std.specs.Prelude.{◌≡◌};
+ghost use Rattle.std.specs.Option.{option_copied};
+ghost use Rattle.tw_types.specs.Result.{must};
+ghost use Rattle.tw_types.specs.Value.{is_of};
+ghost use Rattle.tw_types.specs.DataType.{is_element_of};
+ghost use Rattle.tw_datum.specs.Kept.{datum_if};
+ghost use Rattle.tw_types.specs.StoreChecks.{may_store, may_retrieve, may_insert, may_read_members, may_be_read, may_copy_write, may_drop_read, may_drop_write};
+
+use crate::datum::Datum;
+use crate::member::Member;
+use tw_types::{Cause, DataType, Value};
+
+fn must(holds: bool, cause: Cause) -> Result<(), Cause>
+    ensures { result ≡ must holds cause }
+{
+    if holds { Ok(()) } else { Err(cause) }
+}
+
+/// Whether a value may be stored in a datum of a type.
+fn is_of(value: &Value, ty: DataType) -> bool
+    ensures { result ≡ is_of value.now ty }
+{
+    ty.depth() == 0 && value.scalar() == ty.scalar()
+}
+
+/// Whether the first is the type of the members of the second.
+fn is_element_of(element: DataType, ty: DataType) -> bool
+    ensures { result ≡ is_element_of element ty }
+{
+    element.depth() + 1 == ty.depth() && element.scalar() == ty.scalar()
+}
+
+pub fn may_store<M: Member>(datum: Option<&Datum<M>>, value: &Value) -> Result<(), Cause>
+    ensures { result ≡ may_store value.now (datum_if (option_copied datum.entry)) }
+{
+    let datum = datum.ok_or(Cause::FreedDatum)?;
+    must(is_of(value, datum.ty()), Cause::WrongType)?;
+    must(datum.is_unset(), Cause::AlreadySet)?;
+    must(datum.writes() != 0, Cause::NoWriteCount)
+}
+
+pub fn may_retrieve<M: Member>(datum: Option<&Datum<M>>) -> Result<(), Cause>
+    ensures { result ≡ may_retrieve (datum_if (option_copied datum.entry)) }
+{
+    let datum = datum.ok_or(Cause::FreedDatum)?;
+    must(datum.ty().depth() == 0, Cause::WrongType)?;
+    must(datum.value().is_some(), Cause::UnsetDatum)
+}
+
+pub fn may_insert<M: Member>(container: Option<&Datum<M>>, member: Option<&Datum<M>>) -> Result<(), Cause>
+    ensures { result ≡ may_insert (datum_if (option_copied container.entry)) (datum_if (option_copied member.entry)) }
+{
+    let container = container.ok_or(Cause::FreedDatum)?;
+    let member = member.ok_or(Cause::FreedDatum)?;
+    must(is_element_of(member.ty(), container.ty()), Cause::WrongType)?;
+    must(!container.closed(), Cause::ClosedContainer)
+}
+
+pub fn may_read_members<M: Member>(datum: Option<&Datum<M>>) -> Result<(), Cause>
+    ensures { result ≡ may_read_members (datum_if (option_copied datum.entry)) }
+{
+    let datum = datum.ok_or(Cause::FreedDatum)?;
+    must(datum.ty().depth() != 0, Cause::WrongType)?;
+    must(datum.closed(), Cause::OpenContainer)
+}
+
+pub fn may_be_read<M: Member>(datum: Option<&Datum<M>>) -> Result<(), Cause>
+    ensures { result ≡ may_be_read (datum_if (option_copied datum.entry)) }
+{
+    let _datum = datum.ok_or(Cause::FreedDatum)?;
+    Ok(())
+}
+
+pub fn may_copy_write<M: Member>(datum: Option<&Datum<M>>) -> Result<(), Cause>
+    ensures { result ≡ may_copy_write (datum_if (option_copied datum.entry)) }
+{
+    let datum = datum.ok_or(Cause::FreedDatum)?;
+    must(datum.ty().depth() != 0, Cause::WrongType)
+}
+
+pub fn may_drop_read<M: Member>(datum: Option<&Datum<M>>) -> Result<(), Cause>
+    ensures { result ≡ may_drop_read (datum_if (option_copied datum.entry)) }
+{
+    let datum = datum.ok_or(Cause::FreedDatum)?;
+    must(datum.reads() != 0, Cause::NoReadCount)
+}
+
+pub fn may_drop_write<M: Member>(datum: Option<&Datum<M>>) -> Result<(), Cause>
+    ensures { result ≡ may_drop_write (datum_if (option_copied datum.entry)) }
+{
+    let datum = datum.ok_or(Cause::FreedDatum)?;
+    must(datum.ty().depth() != 0, Cause::WrongType)?;
+    must(datum.writes() != 0, Cause::NoWriteCount)
+}

@@ -1,0 +1,330 @@
+//! One datum.
+
+ghost use Rattle.std.specs.Prelude.{◌≡◌, ◌-◌, ◌<◌, ◌^◌, IfSome, OnOk, OnErr, slice_get, true, false, if◌then◌else◌, [], option_map};
+ghost use Rattle.std.specs.FinMap as map;
+ghost use Rattle.std.specs.Option.{option_copied};
+ghost use Rattle.tw_types.specs.Store.{empty_content, is_closed, is_unheld, members_of, subscribers_cleared};
+ghost use Rattle.tw_types.specs.DataType.{is_scalar};
+ghost use Rattle.tw_types.specs.StoreCalls.{value_in, members_in, set_to, one_read_more, one_write_more, one_write_less, with_subscriber, subscript_after};
+ghost use Rattle.tw_types.specs.StoreChecks.{is_unset};
+ghost use Rattle.tw_datum.specs.Kept.{AreMembers, FitsType, closed_datum, content_of, ids_if, members_kept, new_kept, with_kept_member};
+
+use crate::member::Member;
+use crate::ranked_map::RankedMap;
+use smallvec::SmallVec;
+use std::alloc::{AllocError, Global};
+use std::marker::Model;
+use tw_types::{DataType, DatumId, Subscriber, Value};
+
+/// What is in a datum.
+#[derive(Drop)]
+pub enum Content<M> {
+    /// A scalar without a value.
+    Unset,
+    /// A scalar with its value.
+    Set(Value),
+    /// A container.
+    Contains(RankedMap<M>),
+}
+
+/// A datum, with how many rights are held on it and who waits for it.
+#[derive(Drop)]
+pub struct Datum<M: Member> {
+    ty: DataType,
+    content: Content<M>,
+    reads: u64,
+    writes: u64,
+    subscribers: SmallVec<Subscriber, 2>,
+}
+
+impl<M: Member> Model for Datum<M> {
+    ghost use Rattle.tw_datum.specs.Kept.{KeptDatum, content_of, members_kept, FitsType};
+    ghost use Rattle.std.specs.FinMap.{code};
+    ghost use Rattle.std.specs.Ordering.{int_cmp};
+    ghost use Rattle.std.specs.Coded.{codes, coded_ℕ, coded_ℤ};
+
+    ghost Value = { KeptDatum M };
+
+    ghost coded = { Prim.hlevel (codes, code {X = M} {R = int_cmp} coded_ℤ M.code, code {R = int_cmp} coded_ℤ coded_ℕ) };
+
+    ghost view = { λ d. record {
+      datum = record { ty = d.ty; content = content_of M.id d.content; reads = d.reads; writes = d.writes; subscribers = d.subscribers.items };
+      members = members_kept d.content;
+    } };
+
+    ghost invariant = { λ d. FitsType d.ty (content_of M.id d.content) };
+}
+
+/// An unset scalar, or a container without members.
+fn empty_content<M: Member>(alloc: Global, ty: DataType) -> Content<M>
+    ensures content { content_of M.id result ≡ empty_content ty }
+    ensures members { members_kept result ≡ map.empty }
+{
+    if ty.depth() == 0 {
+        Content::Unset
+    } else {
+        Content::Contains(RankedMap::new(alloc))
+    }
+}
+
+/// The id of a member, with its subscript.
+fn bare<M: Member>(entry: Option<(i64, M)>) -> Option<(i64, DatumId)>
+    ensures { result ≡ option_map (λ e. (e.0, M.id e.1)) entry }
+{
+    match entry {
+        Some((subscript, member)) => Some((subscript, member.id())),
+        None => None,
+    }
+}
+
+impl<M: Member> Datum<M> {
+    /// A datum with one read and one write: an unset scalar, or a container without members.
+    pub fn new(alloc: Global, ty: DataType) -> Datum<M>
+        ensures { result ≡ new_kept ty }
+    {
+        Datum {
+            ty,
+            content: empty_content(alloc, ty),
+            reads: 1,
+            writes: 1,
+            subscribers: SmallVec::new(alloc),
+        }
+    }
+
+    /// A datum that is closed, with one read: a scalar that is set, or a container with its members.
+    pub fn new_closed(alloc: Global, ty: DataType, content: Content<M>) -> Datum<M>
+        requires { FitsType ty (content_of M.id content) }
+        ensures datum { result.datum ≡ closed_datum ty (content_of M.id content) }
+        ensures members { result.members ≡ members_kept content }
+    {
+        Datum {
+            ty,
+            content,
+            reads: 1,
+            writes: 0,
+            subscribers: SmallVec::new(alloc),
+        }
+    }
+
+    pub fn ty(&self) -> DataType
+        ensures { result ≡ self.now.datum.ty }
+    {
+        self.ty
+    }
+
+    /// The value of a scalar that is set.
+    pub fn value(&self) -> Option<&Value>
+        ensures { option_copied result ≡ value_in self.now.datum.content }
+    {
+        match &self.content {
+            Content::Set(value) => Some(value),
+            Content::Unset | Content::Contains(_) => None,
+        }
+    }
+
+    /// The members of a container.
+    fn members(&self) -> Option<&RankedMap<M>>
+        ensures { AreMembers M.id self.now (option_copied result) }
+    {
+        match &self.content {
+            Content::Contains(members) => Some(members),
+            Content::Unset | Content::Set(_) => None,
+        }
+    }
+
+    /// Whether it will never change again: a scalar that is set, or a container that nobody may write.
+    pub fn closed(&self) -> bool
+        ensures { result ≡ is_closed self.now.datum }
+    {
+        match &self.content {
+            Content::Unset => false,
+            Content::Set(_) => true,
+            Content::Contains(_) => self.writes == 0,
+        }
+    }
+
+    /// The number of members; a scalar has none.
+    pub fn len(&self) -> usize
+        ensures { result ≡ map.len (members_in self.now.datum.content) }
+    {
+        match self.members() {
+            Some(members) => members.len(),
+            None => 0,
+        }
+    }
+
+    /// The member with so many smaller subscripts, with its own subscript.
+    pub fn member(&self, index: usize) -> Option<(i64, DatumId)>
+        ensures { result ≡ slice_get (map.entries (members_in self.now.datum.content)) index }
+    {
+        match self.members() {
+            Some(members) => bare(members.nth(index)),
+            None => None,
+        }
+    }
+
+    /// The subscript with exactly so many smaller ones.
+    pub fn subscript(&self, index: i64) -> Option<i64>
+        ensures { result ≡ subscript_after index (map.keys (members_in self.now.datum.content)) }
+    {
+        let Ok(index) = usize::try_from(index) else {
+            return None;
+        };
+        let (subscript, _) = self.member(index)?;
+        Some(subscript)
+    }
+
+    /// The member at a subscript, as it is kept.
+    pub fn kept_member(&self, subscript: i64) -> Option<M>
+        ensures member { option_map M.id result ≡ map.get (members_in self.now.datum.content) subscript }
+        ensures kept { result ≡ map.get self.now.members subscript }
+    {
+        match self.members() {
+            Some(members) => members.get(subscript),
+            None => None,
+        }
+    }
+
+    /// The member at a subscript.
+    pub fn member_at(&self, subscript: i64) -> Option<DatumId>
+        ensures { result ≡ map.get (members_in self.now.datum.content) subscript }
+    {
+        match self.kept_member(subscript) {
+            Some(member) => Some(member.id()),
+            None => None,
+        }
+    }
+
+    /// The number of read rights on it, those of its containers and of the host included.
+    pub fn reads(&self) -> u64
+        ensures { result ≡ self.now.datum.reads }
+    {
+        self.reads
+    }
+
+    /// The number of write rights on it.
+    pub fn writes(&self) -> u64
+        ensures { result ≡ self.now.datum.writes }
+    {
+        self.writes
+    }
+
+    /// Whether it is a scalar without a value.
+    pub fn is_unset(&self) -> bool
+        ensures { result ≡ is_unset self.now.datum.content }
+    {
+        matches!(self.content, Content::Unset)
+    }
+
+    /// Whether nobody holds a right on it.
+    pub fn is_unheld(&self) -> bool
+        ensures { result ≡ is_unheld self.now.datum }
+    {
+        self.reads == 0 && self.writes == 0
+    }
+
+    /// Who waits for it, in the order of asking.
+    pub fn subscribers(&self) -> &[Subscriber]
+        ensures { result.now ≡ self.now.datum.subscribers }
+    {
+        self.subscribers.as_slice()
+    }
+
+    /// Who hears of it when it has one write less: nobody where it stays open.
+    pub fn heard_by_drop_write(&self) -> &[Subscriber]
+        ensures { result.now ≡ if is_closed (one_write_less self.now.datum) then self.now.datum.subscribers else [] }
+    {
+        let closes = match &self.content {
+            Content::Unset => false,
+            Content::Set(_) => true,
+            Content::Contains(_) => self.writes <= 1,
+        };
+        if closes {
+            self.subscribers.as_slice()
+        } else {
+            &[]
+        }
+    }
+
+    /// Sets a scalar, which spends a write. Nobody waits for it any more.
+    pub fn set(&mut self, value: Value)
+        requires scalar { is_scalar self.old.datum.ty ≡ true }
+        requires write { 0 < self.old.datum.writes }
+        ensures { self.new ≡ record self.old { datum = subscribers_cleared (set_to value self.old.datum) } }
+    {
+        self.content = Content::Set(value);
+        self.writes -= 1;
+        self.subscribers.clear();
+    }
+
+    /// Takes one write. Where that closes it, nobody waits for it any more.
+    pub fn take_write(&mut self)
+        requires { 0 < self.old.datum.writes }
+        ensures { self.new ≡ record self.old { datum = subscribers_cleared (one_write_less self.old.datum) } }
+    {
+        self.writes -= 1;
+        if self.closed() {
+            self.subscribers.clear();
+        }
+    }
+
+    pub fn take_read(&mut self)
+        requires { 0 < self.old.datum.reads }
+        ensures { self.new ≡ record self.old { datum = record self.old.datum { reads = self.old.datum.reads - 1 } } }
+    {
+        self.reads -= 1;
+    }
+
+    pub fn add_read(&mut self)
+        requires { self.old.datum.reads < 2 ^ 63 }
+        ensures { self.new ≡ record self.old { datum = one_read_more self.old.datum } }
+    {
+        self.reads += 1;
+    }
+
+    pub fn add_write(&mut self)
+        requires { self.old.datum.writes < 2 ^ 63 }
+        ensures { self.new ≡ record self.old { datum = one_write_more self.old.datum } }
+    {
+        self.writes += 1;
+    }
+
+    /// Puts a member into a container.
+    pub fn add_member(&mut self, subscript: i64, member: M) -> Result<(), AllocError>
+        requires { is_scalar self.old.datum.ty ≡ false }
+        ensures added { OnOk result (self.new ≡ with_kept_member M.id subscript member self.old) }
+        ensures refused { OnErr result (self.new ≡ self.old) }
+    {
+        match &mut self.content {
+            Content::Contains(members) => members.insert(subscript, member),
+            Content::Unset | Content::Set(_) => unreachable!(),
+        }
+    }
+
+    /// Adds one who waits, after the others.
+    pub fn add_subscriber(&mut self, subscriber: Subscriber) -> Result<(), AllocError>
+        ensures added { OnOk result (self.new ≡ record self.old { datum = with_subscriber subscriber self.old.datum }) }
+        ensures refused { OnErr result (self.new ≡ self.old) }
+    {
+        self.subscribers.push(subscriber)?;
+        Ok(())
+    }
+
+    /// The members of a datum that goes, if it is a container.
+    pub fn into_members(self) -> Option<RankedMap<M>>
+        ensures ids { ids_if M.id result ≡ members_of self.datum.content }
+        ensures kept { IfSome result (λ members. members ≡ self.members) }
+    {
+        let Datum {
+            ty: _,
+            content,
+            reads: _,
+            writes: _,
+            subscribers: _,
+        } = self;
+        match content {
+            Content::Contains(members) => Some(members),
+            Content::Unset | Content::Set(_) => None,
+        }
+    }
+}
