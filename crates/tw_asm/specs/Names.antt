@@ -1,4 +1,4 @@
--- The names of instructions, by the code's opcodes. That they are those of Parts is shown by whoever reads them (tw_parser).
+-- The names of instructions, by the code's opcodes. That they are those of Parts is shown by whoever reads them.
 use Rattle.std.specs.Prelude.{ℕ, List, [], ◌∷◌, codes, Option}
 use Rattle.std.specs.List.{find}
 use Rattle.std.specs.Str.{bytes_eq}
