@@ -8,15 +8,22 @@ use crate::layouts::layout_text;
 use crate::machine::{machine_text, open_text, state_text, steps_text};
 use crate::programs::{budget_text, decode_text, rights_text, signature_text, verify_text};
 use crate::sessions::{phrases_text, tw_text};
+use crate::shown::shown_text;
 use std::alloc::Global;
+use std::rt::Files;
 
 /// What a case comes to: the first field is its kind, with words that belong to it; the others are what it is given.
-pub fn outcome<H: AllocGlobal>(rt: &H, book: &Book, inputs: &str) -> Result<String, Complaint> {
+pub fn outcome<H: AllocGlobal + Files>(
+    rt: &H,
+    book: &Book,
+    inputs: &str,
+) -> Result<String, Complaint> {
     let (kind, given) = first_field(inputs);
     let (kind, words) = first_word(kind);
     match kind {
         "tw" => tw_text(rt, book, words, given),
         "phrases" => phrases_text(rt, words, given),
+        "shown" => shown_text(rt, given),
         "layout" => layout_text(rt.alloc(), given),
         _ => asked(rt.alloc(), book, kind, words, given),
     }
