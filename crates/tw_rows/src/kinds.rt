@@ -6,7 +6,9 @@ use crate::case::first_field;
 use crate::complaint::Complaint;
 use crate::layouts::layout_text;
 use crate::machine::{machine_text, open_text, state_text, steps_text};
-use crate::programs::{budget_text, decode_text, rights_text, signature_text, verify_text};
+use crate::programs::{
+    budget_text, decode_text, fronts_text, rights_text, signature_text, verify_text,
+};
 use crate::sessions::{phrases_text, tw_text};
 use crate::shown::shown_text;
 use std::alloc::Global;
@@ -77,6 +79,7 @@ fn program(
     }
     match kind {
         "decode" => decode_text(alloc, bytes),
+        "fronts" => fronts_text(alloc, bytes),
         "verify" => verify_text(alloc, bytes),
         "budget" => budget_text(alloc, bytes),
         "signature" => signature_text(alloc, bytes),
