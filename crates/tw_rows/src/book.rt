@@ -3,11 +3,12 @@
 use crate::complaint::Complaint;
 use std::alloc::{AllocError, Global};
 
-/// The bytes that earlier lines named, and the names of the cases so far.
+/// The bytes that earlier lines named, the names of the cases so far, and how many came to what is wanted.
 #[derive(Drop)]
 pub struct Book {
     bytes: Vec<(String, Vec<u8>)>,
     cases: Vec<String>,
+    as_wanted: u64,
 }
 
 impl Book {
@@ -15,12 +16,18 @@ impl Book {
         Book {
             bytes: Vec::new(alloc),
             cases: Vec::new(alloc),
+            as_wanted: 0,
         }
     }
 
-    /// Whether there was no case.
-    pub fn is_empty(&self) -> bool {
-        self.cases.is_empty()
+    /// How many cases came to what is wanted.
+    pub fn as_wanted(&self) -> u64 {
+        self.as_wanted
+    }
+
+    /// Counts a case that came to what is wanted.
+    pub fn count(&mut self) {
+        self.as_wanted = self.as_wanted.saturating_add(1);
     }
 
     /// The bytes of a name.

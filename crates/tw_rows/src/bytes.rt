@@ -1,14 +1,28 @@
-//! Bytes as a line tells them: digits and names, with single bytes changed, and cut.
+//! Bytes as a line tells them: a program as assembly text; or digits and names, with single bytes changed, and cut.
 
 use crate::book::Book;
 use crate::complaint::Complaint;
 use std::alloc::Global;
+use tw_asm::assemble;
+use tw_code::encode;
 
-/// The bytes of a text such as `@every with 26=10 27=01` or `545742 @code 61*4096 first 31`.
+/// The bytes of a text such as `proc control / regs / RET`, `@every with 26=10 27=01` or `545742 @code 61*4096 first 31`.
 pub fn read_bytes(alloc: Global, book: &Book, text: &str) -> Result<Vec<u8>, Complaint> {
+    if text.starts_with("proc ") {
+        return assembled(alloc, text);
+    }
     match text.rsplit_once(" first ") {
         Some((whole, count)) => first_of(read_changed(alloc, book, whole)?, count),
         None => read_changed(alloc, book, text),
+    }
+}
+
+/// The bytes of a program whose lines are parted by ` / `.
+fn assembled(alloc: Global, lines: &str) -> Result<Vec<u8>, Complaint> {
+    let text = lines.replace(alloc, " / ", "\n")?;
+    match assemble(alloc, text.as_str()) {
+        Ok(program) => Ok(encode(alloc, &program)?),
+        Err(_) => Err(Complaint::Assembly),
     }
 }
 

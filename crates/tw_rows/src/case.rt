@@ -5,9 +5,10 @@ use crate::bytes::read_bytes;
 use crate::complaint::Complaint;
 use crate::kinds::outcome;
 use std::alloc::{AllocError, Global};
+use std::rt::Files;
 
-/// What is to be printed of a line; nothing where it names bytes, is empty, or begins with `#`.
-pub fn play_line<H: AllocGlobal>(
+/// What is to be printed of a line: a complaint, or what came in place of what is wanted.
+pub fn play_line<H: AllocGlobal + Files>(
     rt: &H,
     book: &mut Book,
     line: &str,
@@ -18,7 +19,7 @@ pub fn play_line<H: AllocGlobal>(
     }
     match line.strip_prefix("let ") {
         Some(text) => name_line(rt.alloc(), book, text),
-        None => Ok(Some(case_line(rt, book, line)?)),
+        None => case_line(rt, book, line),
     }
 }
 
@@ -41,37 +42,37 @@ fn name_bytes(alloc: Global, book: &mut Book, text: &str) -> Result<(), Complain
     book.name(name.to_string(alloc)?, bytes)
 }
 
-/// What is told of a case, with its name in front: `ok`, what came in place of what is wanted, or a complaint.
-fn case_line<H: AllocGlobal>(rt: &H, book: &mut Book, line: &str) -> Result<String, AllocError> {
-    let alloc = rt.alloc();
+/// What is told of a case that didn't come to what is wanted, with its name in front. Others are counted.
+fn case_line<H: AllocGlobal + Files>(
+    rt: &H,
+    book: &mut Book,
+    line: &str,
+) -> Result<Option<String>, AllocError> {
     let (name, rest) = first_field(line);
     let (inputs, wanted) = last_field(rest);
-    if !book.note(alloc, name)? {
-        return format!(in alloc; "{name}: the case has no name of its own");
+    if !book.note(rt.alloc(), name)? {
+        return Ok(Some(format!(in rt.alloc(); "{name}: the case has no name of its own")?));
     }
-    told(alloc, name, wanted, outcome(rt, book, inputs))
-}
-
-fn told(
-    alloc: Global,
-    name: &str,
-    wanted: &str,
-    outcome: Result<String, Complaint>,
-) -> Result<String, AllocError> {
-    match outcome {
-        Ok(got) => compared(alloc, name, wanted, got.as_str()),
-        Err(complaint) => {
-            let why = complaint.text();
-            format!(in alloc; "{name}: {why}")
+    let told = difference(rt.alloc(), wanted, outcome(rt, book, inputs))?;
+    match told {
+        Some(told) => Ok(Some(format!(in rt.alloc(); "{name}: {told}")?)),
+        None => {
+            book.count();
+            Ok(None)
         }
     }
 }
 
-fn compared(alloc: Global, name: &str, wanted: &str, got: &str) -> Result<String, AllocError> {
-    if got == wanted {
-        format!(in alloc; "{name} ok")
-    } else {
-        format!(in alloc; "{name}: wanted {wanted}, got {got}")
+/// What came in place of what is wanted, or a complaint.
+fn difference(
+    alloc: Global,
+    wanted: &str,
+    outcome: Result<String, Complaint>,
+) -> Result<Option<String>, AllocError> {
+    match outcome {
+        Ok(got) if got.as_str() == wanted => Ok(None),
+        Ok(got) => Ok(Some(format!(in alloc; "wanted {wanted}, got {got}")?)),
+        Err(complaint) => Ok(Some(complaint.text().to_string(alloc)?)),
     }
 }
 

@@ -2,6 +2,7 @@
 
 use hex::FromHexError;
 use std::alloc::{AllocError, AllocFailed};
+use std::io;
 use std::num::ParseIntError;
 use tw_code::NoMemory;
 
@@ -11,6 +12,8 @@ pub enum Complaint {
     NoMemory,
     Number,
     Digits,
+    Assembly,
+    File,
     UnknownName,
     TakenName,
     CutPastEnd,
@@ -46,6 +49,8 @@ impl Complaint {
             Complaint::NoMemory => "memory ran out",
             Complaint::Number => "this is no number, or a number out of its range",
             Complaint::Digits => "these are no bytes in hexadecimal digits",
+            Complaint::Assembly => "this is no program in assembly text",
+            Complaint::File => "no file of this name can be read",
             Complaint::UnknownName => "no earlier line names these bytes",
             Complaint::TakenName => "the name is taken",
             Complaint::CutPastEnd => "there are fewer bytes than are to be left",
@@ -92,6 +97,12 @@ impl<T: Drop> From<AllocFailed<T>> for Complaint {
 impl From<NoMemory> for Complaint {
     fn from(_error: NoMemory) -> Complaint {
         Complaint::NoMemory
+    }
+}
+
+impl From<io::Error> for Complaint {
+    fn from(_error: io::Error) -> Complaint {
+        Complaint::File
     }
 }
 

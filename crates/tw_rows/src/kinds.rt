@@ -6,17 +6,26 @@ use crate::case::first_field;
 use crate::complaint::Complaint;
 use crate::layouts::layout_text;
 use crate::machine::{machine_text, open_text, state_text, steps_text};
-use crate::programs::{budget_text, decode_text, rights_text, signature_text, verify_text};
+use crate::programs::{
+    budget_text, decode_text, fronts_text, rights_text, signature_text, verify_text,
+};
 use crate::sessions::{phrases_text, tw_text};
+use crate::shown::shown_text;
 use std::alloc::Global;
+use std::rt::Files;
 
 /// What a case comes to: the first field is its kind, with words that belong to it; the others are what it is given.
-pub fn outcome<H: AllocGlobal>(rt: &H, book: &Book, inputs: &str) -> Result<String, Complaint> {
+pub fn outcome<H: AllocGlobal + Files>(
+    rt: &H,
+    book: &Book,
+    inputs: &str,
+) -> Result<String, Complaint> {
     let (kind, given) = first_field(inputs);
     let (kind, words) = first_word(kind);
     match kind {
         "tw" => tw_text(rt, book, words, given),
         "phrases" => phrases_text(rt, words, given),
+        "shown" => shown_text(rt, given),
         "layout" => layout_text(rt.alloc(), given),
         _ => asked(rt.alloc(), book, kind, words, given),
     }
@@ -70,6 +79,7 @@ fn program(
     }
     match kind {
         "decode" => decode_text(alloc, bytes),
+        "fronts" => fronts_text(alloc, bytes),
         "verify" => verify_text(alloc, bytes),
         "budget" => budget_text(alloc, bytes),
         "signature" => signature_text(alloc, bytes),

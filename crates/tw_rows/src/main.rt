@@ -1,4 +1,4 @@
-//! Plays the cases of its input, one a line, and tells of each whether it came to what the line wants.
+//! Plays the cases of its input, one a line: tells those that come to something else than is wanted, and how many do not.
 //!
 //! `README.md` says how a case is written, and `kinds` has the kinds of cases.
 #![tactic(auto)]
@@ -14,6 +14,7 @@ mod machine;
 mod play;
 mod programs;
 mod sessions;
+mod shown;
 mod state;
 mod waiting;
 mod words;
@@ -30,8 +31,7 @@ fn main(rt: HostRuntime) -> io::Result<()> {
             println!(rt; "{text}")?;
         }
     }
-    if book.is_empty() {
-        println!(rt; "there are no cases")?;
-    }
+    let cases = book.as_wanted();
+    println!(rt; "{cases} cases as wanted")?;
     Ok(())
 }

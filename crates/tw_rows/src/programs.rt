@@ -37,6 +37,20 @@ pub fn decode_text(alloc: Global, bytes: &[u8]) -> Result<String, Complaint> {
     }
 }
 
+/// How many fronts of the bytes lack bytes at their end; or what the first other one comes to.
+pub fn fronts_text(alloc: Global, bytes: &[u8]) -> Result<String, Complaint> {
+    for length in 0..bytes.len() {
+        let (front, _) = bytes.split_at(length);
+        let told = decode_text(alloc, front)?;
+        let lacking = format!(in alloc; "F03 at byte {length}")?;
+        if told.as_str() != lacking.as_str() {
+            return Ok(format!(in alloc; "of {length} bytes {told}")?);
+        }
+    }
+    let fronts = bytes.len();
+    Ok(format!(in alloc; "{fronts} lack bytes at their end")?)
+}
+
 fn fault_text(alloc: Global, fault: Fault) -> Result<String, AllocError> {
     format!(in alloc; "{fault}")
 }

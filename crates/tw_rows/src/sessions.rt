@@ -22,7 +22,7 @@ pub fn tw_text<H: AllocGlobal>(
 }
 
 /// The status of a session, how many bytes it left unread, and what it wrote.
-fn ended<H: AllocGlobal>(rt: &H, words: &[String], input: &[u8]) -> (u8, usize, Vec<u8>) {
+pub fn ended<H: AllocGlobal>(rt: &H, words: &[String], input: &[u8]) -> (u8, usize, Vec<u8>) {
     let mut reader = input;
     let mut writer = Vec::new(rt.alloc());
     let status = session(rt, words, &mut reader, &mut writer);
@@ -54,10 +54,10 @@ fn lacks_text(alloc: Global, code: u8, text: &str, phrases: &str) -> Result<Stri
     Ok(told)
 }
 
-/// Text as it stands, text so many times, or the digits of named bytes.
+/// Text as it stands, text so many times, or the digits of bytes.
 fn read_input(alloc: Global, book: &Book, text: &str) -> Result<Vec<u8>, Complaint> {
-    if text.starts_with('@') {
-        return digits_of(alloc, read_bytes(alloc, book, text)?.as_slice());
+    if let Some(bytes) = text.strip_prefix("hex ") {
+        return digits_of(alloc, read_bytes(alloc, book, bytes)?.as_slice());
     }
     match text.split_once(" times ") {
         Some((times, text)) => repeated(alloc, times.parse::<usize>()?, text),

@@ -1,0 +1,46 @@
+//! Cases of commands as a reader is shown them, each with what it prints.
+
+use crate::complaint::Complaint;
+use crate::sessions::ended;
+use crate::words::read_words;
+use std::fs;
+use std::rt::Files;
+
+/// How many commands a file shows that print what stands below them; or the first that prints something else.
+pub fn shown_text<H: AllocGlobal + Files>(rt: &H, file: &str) -> Result<String, Complaint> {
+    let text = fs::read_to_string(rt, file)?;
+    let mut commands = 0u64;
+    for shown in text.as_str().split("$ ./tw ").skip(1) {
+        let (command, wanted) = shown.split_once('\n').unwrap_or((shown, ""));
+        let printed = printed(rt, command)?;
+        if printed.as_str() != wanted {
+            return Ok(format!(in rt.alloc(); "{command} printed {printed}")?);
+        }
+        commands = commands.saturating_add(1);
+    }
+    Ok(format!(in rt.alloc(); "{commands} as shown")?)
+}
+
+/// What the last of some sessions prints, where each reads a file or what the one before wrote.
+fn printed<H: AllocGlobal + Files>(rt: &H, command: &str) -> Result<String, Complaint> {
+    let mut written = Vec::new(rt.alloc());
+    for part in command.split(" | ./tw ") {
+        written = played(rt, part, written)?;
+    }
+    String::from_utf8(written).map_err(|_| Complaint::WrittenBytes)
+}
+
+/// What a session writes that is given a file, where it names one, or else these bytes.
+fn played<H: AllocGlobal + Files>(
+    rt: &H,
+    part: &str,
+    before: Vec<u8>,
+) -> Result<Vec<u8>, Complaint> {
+    let (words, input) = match part.split_once(" < ") {
+        Some((words, file)) => (words, fs::read(rt, file)?),
+        None => (part, before),
+    };
+    let words = read_words(rt.alloc(), words.replace(rt.alloc(), "'", "")?.as_str())?;
+    let (_, _, written) = ended(rt, words.as_slice(), input.as_slice());
+    Ok(written)
+}
