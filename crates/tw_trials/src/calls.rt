@@ -1,29 +1,36 @@
-//! The calls of the store, and what it and the model answer to one.
+//! The calls of the store by ids, and what it answers to each.
 
-ghost use Rattle.std.specs.Prelude.{◌≡◌, ◌<◌, ◌^◌, IfSome, IsTrue};
-ghost use Rattle.std.specs.FinMap.{get};
+ghost use Rattle.std.specs.Prelude.{◌≡◌, ◌<◌, ◌^◌, IfSome, IsTrue, option_map, true};
+ghost use Rattle.std.specs.FinMap.{contains_key, get};
+ghost use Rattle.std.specs.Option.{option_copied};
 ghost use Rattle.std.specs.declared.result.Result.TheVariants.{Ok};
-ghost use Rattle.tw_types.specs.StoreChecks.{may_insert};
+ghost use Rattle.tw_types.specs.StoreCalls.{member_at};
+ghost use Rattle.tw_types.specs.StoreChecks.{may_copy_write, may_drop_read, may_drop_write, may_insert, may_look, may_read_members, may_retrieve, may_store};
 ghost use Rattle.tw_types.specs.Room.{HasReadRoom, HasWriteRoom};
 ghost use Rattle.tw_store.specs.Calls.{HasMemberRoom};
 ghost use Rattle.tw_store.specs.Served.{IsHere};
 
-use crate::may;
-use crate::model::{Answer, Model, Plain};
-use crate::same::has_value;
-use std::alloc::Global;
+use std::alloc::{AllocError, Global};
 use tw_rights::{ReadRight, WriteRight};
-use tw_store::{Asked, Inserted, Store};
-use tw_types::{Cause, DataType, DatumId, RuleNo, Text, Value};
+use tw_store::{Asked, Datum, Inserted, Store};
+use tw_types::{DataType, DatumId, RuleNo, Text, Value};
 
 /// No count comes near this one.
 const FAR: u64 = 1 << 40;
 
-/// What is to be called.
+/// The value of a scalar: a number, or the one text that is stored.
+#[derive(Clone, Copy, PartialEq, Eq)]
+pub enum Plain {
+    Number(i64),
+    Letter,
+}
+
+/// What is to be called: the first number is the id of the datum.
 #[derive(Clone, Copy)]
 pub enum Call {
+    /// So many containers around an int, or around a text.
     Create(u8, bool),
-    Store(u64, Plain),
+    Set(u64, Plain),
     Retrieve(u64),
     Insert(u64, i64, u64),
     Look(u64, i64),
@@ -39,37 +46,151 @@ pub enum Call {
     ReserveNotices(u64),
 }
 
+/// What a call answers.
+#[derive(Clone, Copy, PartialEq, Eq)]
+pub enum Answer {
+    Done,
+    Present,
+    Nothing,
+    Id(u64),
+    Number(i64),
+    Letter,
+    Closed,
+    Noted,
+    Notice(u64, u64, u8),
+    /// What the call asks isn't so, and it wasn't made.
+    Barred,
+    /// Memory was refused, and what was moved in came back.
+    Refused,
+    /// Something else came back, or a number is too large.
+    Strange,
+}
+
+// ---- what the calls ask
+
 /// A read right on the datum of an id, if it is live.
 fn read_of(store: &Store, id: u64) -> Option<ReadRight>
     ensures here { IfSome result (λ right. IsHere store.now right) }
-    ensures id { IfSome result (λ right. right.id ≡ id) }
 {
     let datum = DatumId::new(id);
-    match store.place_of(datum) {
-        Some(place) => Some(ReadRight::of(datum, place)),
-        None => None,
-    }
+    let place = store.place_of(datum)?;
+    Some(ReadRight::of(datum, place))
 }
 
 /// A write right on the datum of an id, if it is live.
 fn write_of(store: &Store, id: u64) -> Option<WriteRight>
     ensures here { IfSome result (λ right. IsHere store.now right) }
-    ensures id { IfSome result (λ right. right.id ≡ id) }
 {
     let datum = DatumId::new(id);
-    match store.place_of(datum) {
-        Some(place) => Some(WriteRight::of(datum, place)),
+    let place = store.place_of(datum)?;
+    Some(WriteRight::of(datum, place))
+}
+
+fn may_store(value: &Value, datum: Option<&Datum>) -> bool
+    ensures { IsTrue result → may_store value.now (option_map (λ d. d.datum) (option_copied datum.entry)) ≡ Ok tt }
+{
+    match datum {
+        Some(datum) => {
+            let ty = datum.ty();
+            let is_of = ty.depth() == 0 && value.scalar() == ty.scalar();
+            is_of && datum.is_unset() && datum.writes() != 0
+        }
+        None => false,
+    }
+}
+
+fn may_retrieve(datum: Option<&Datum>) -> bool
+    ensures { IsTrue result → may_retrieve (option_map (λ d. d.datum) (option_copied datum.entry)) ≡ Ok tt }
+{
+    match datum {
+        Some(datum) => datum.ty().depth() == 0 && datum.value().is_some(),
+        None => false,
+    }
+}
+
+fn may_insert(container: Option<&Datum>, member: Option<&Datum>) -> bool
+    ensures { IsTrue result → may_insert (option_map (λ d. d.datum) (option_copied container.entry)) (option_map (λ d. d.datum) (option_copied member.entry)) ≡ Ok tt }
+{
+    match (container, member) {
+        (Some(container), Some(member)) => {
+            let (element, ty) = (member.ty(), container.ty());
+            let is_element = element.depth() + 1 == ty.depth() && element.scalar() == ty.scalar();
+            is_element && !container.closed()
+        }
+        _ => false,
+    }
+}
+
+fn may_read_members(datum: Option<&Datum>) -> bool
+    ensures { IsTrue result → may_read_members (option_map (λ d. d.datum) (option_copied datum.entry)) ≡ Ok tt }
+{
+    match datum {
+        Some(datum) => datum.ty().depth() != 0 && datum.closed(),
+        None => false,
+    }
+}
+
+fn may_copy_write(datum: Option<&Datum>) -> bool
+    ensures allowed { IsTrue result → may_copy_write (option_map (λ d. d.datum) (option_copied datum.entry)) ≡ Ok tt }
+    ensures room { IsTrue result → HasWriteRoom (option_map (λ d. d.datum) (option_copied datum.entry)) }
+{
+    match datum {
+        Some(datum) => datum.ty().depth() != 0 && datum.writes() < FAR,
+        None => false,
+    }
+}
+
+fn may_drop_read(datum: Option<&Datum>) -> bool
+    ensures { IsTrue result → may_drop_read (option_map (λ d. d.datum) (option_copied datum.entry)) ≡ Ok tt }
+{
+    match datum {
+        Some(datum) => datum.reads() != 0,
+        None => false,
+    }
+}
+
+fn may_drop_write(datum: Option<&Datum>) -> bool
+    ensures { IsTrue result → may_drop_write (option_map (λ d. d.datum) (option_copied datum.entry)) ≡ Ok tt }
+{
+    match datum {
+        Some(datum) => datum.ty().depth() != 0 && datum.writes() != 0,
+        None => false,
+    }
+}
+
+/// It is live, and may have one read more.
+fn has_read_room(store: &Store, id: DatumId) -> bool
+    ensures live { IsTrue result → contains_key store.now.store.live id ≡ true }
+    ensures room { IsTrue result → HasReadRoom (get store.now.store.live id) }
+{
+    match store.view(id) {
+        Some(datum) => datum.reads() < FAR,
+        None => false,
+    }
+}
+
+fn member_of(store: &Store, container: DatumId, subscript: i64) -> Option<DatumId>
+    ensures { result ≡ member_at store.now.store container subscript }
+{
+    match store.view(container) {
+        Some(datum) => datum.member_at(subscript),
         None => None,
     }
 }
 
-/// The value, where memory isn't refused.
-fn value_of(alloc: Global, plain: Plain) -> Option<Value> {
-    match plain {
-        Plain::Number(number) => Some(Value::Int(number)),
-        Plain::Letter => Some(Value::Text(Text::new("a".to_string(alloc).ok()?).ok()?)),
-    }
+/// A member that is there is live, and may have one read more.
+fn may_look(store: &Store, container: DatumId, subscript: i64) -> bool
+    ensures allowed { IsTrue result → may_look store.now.store container subscript ≡ Ok tt }
+    ensures room { IsTrue result → HasMemberRoom store.now.store container subscript }
+{
+    may_read_members(store.view(container))
+        && match member_of(store, container, subscript) {
+            Some(member) => has_read_room(store, member),
+            None => true,
+        }
 }
+
+// ---- the calls
 
 /// The answer, where the right that came back is on this datum.
 fn if_back(id: u64, back: DatumId, answer: Answer) -> Answer {
@@ -77,6 +198,13 @@ fn if_back(id: u64, back: DatumId, answer: Answer) -> Answer {
         answer
     } else {
         Answer::Strange
+    }
+}
+
+fn done_or_refused(done: Result<(), AllocError>) -> Answer {
+    match done {
+        Ok(()) => Answer::Done,
+        Err(_) => Answer::Refused,
     }
 }
 
@@ -105,91 +233,101 @@ fn create(store: &mut Store, alloc: Global, ty: DataType) -> Answer {
     }
 }
 
-/// Room for one datum more.
-fn reserve_datum(store: &mut Store) -> Answer {
-    match store.reserve_datum() {
-        Ok(()) => Answer::Done,
+/// The value, where memory isn't refused.
+fn value_of(alloc: Global, plain: Plain) -> Option<Value> {
+    match plain {
+        Plain::Number(number) => Some(Value::Int(number)),
+        Plain::Letter => Some(Value::Text(Text::new("a".to_string(alloc).ok()?).ok()?)),
+    }
+}
+
+fn answer_of(value: &Value) -> Answer {
+    match value {
+        Value::Int(number) => Answer::Number(*number),
+        Value::Text(text) if text.as_str() == "a" => Answer::Letter,
+        Value::Text(_) => Answer::Strange,
+    }
+}
+
+fn retrieve(store: &Store, alloc: Global, right: &ReadRight) -> Answer
+    requires { IsHere store.now right.now }
+{
+    if !may_retrieve(store.view(right.id())) {
+        return Answer::Barred;
+    }
+    match store.retrieve(alloc, right) {
+        Ok(value) => answer_of(&value),
         Err(_) => Answer::Refused,
     }
 }
 
-/// Room for the notices of a datum.
-fn reserve_notices(store: &mut Store, id: u64) -> Answer {
-    let Some(right) = write_of(store, id) else {
-        return Answer::Misuse(Cause::FreedDatum);
-    };
-    let answer = match store.reserve_notices(&right) {
-        Ok(()) => Answer::Done,
-        Err(_) => Answer::Refused,
-    };
-    if_back(id, right.spend(), answer)
+fn look(store: &mut Store, right: &ReadRight, subscript: i64) -> Answer
+    requires { IsHere store.old right.now }
+{
+    if !may_look(store, right.id(), subscript) {
+        return Answer::Barred;
+    }
+    match store.look(right, subscript) {
+        Some(member) => Answer::Id(member.spend().number()),
+        None => Answer::Nothing,
+    }
 }
 
-/// The answer of a refused call, where what was moved in came back.
-fn refused(id: u64, back: DatumId, plain: Plain, value: &Value) -> Answer {
-    if has_value(Some(value), Some(plain)) {
-        if_back(id, back, Answer::Refused)
+/// The subscript at an index, or the size where none is asked for.
+fn read_members(store: &Store, right: &ReadRight, index: Option<i64>) -> Answer
+    requires { IsHere store.now right.now }
+{
+    if !may_read_members(store.view(right.id())) {
+        return Answer::Barred;
+    }
+    match index {
+        Some(index) => store
+            .subscript_at(right, index)
+            .map_or(Answer::Nothing, Answer::Number),
+        None => i64::try_from(store.size(right)).map_or(Answer::Strange, Answer::Number),
+    }
+}
+
+fn copy_read(store: &mut Store, right: &ReadRight) -> Answer
+    requires { IsHere store.old right.now }
+{
+    if has_read_room(store, right.id()) {
+        Answer::Id(store.copy_read(right).spend().number())
     } else {
         Answer::Strange
     }
 }
 
-fn store_plain(store: &mut Store, alloc: Global, id: u64, plain: Plain) -> Answer {
-    match value_of(alloc, plain) {
-        Some(value) => set(store, id, plain, value),
-        None => Answer::Refused,
-    }
-}
-
-fn set(store: &mut Store, id: u64, plain: Plain, value: Value) -> Answer {
-    if let Err(cause) = may::store(store, id, &value) {
-        return Answer::Misuse(cause);
-    }
-    let Some(right) = write_of(store, id) else {
-        return Answer::Strange;
-    };
-    match store.store(right, value) {
-        Ok(()) => Answer::Done,
-        Err((right, value)) => refused(id, right.spend(), plain, &value),
-    }
-}
-
-fn retrieve(store: &Store, alloc: Global, id: u64) -> Answer {
-    if let Err(cause) = may::retrieve(store, id) {
-        return Answer::Misuse(cause);
-    }
-    let Some(right) = read_of(store, id) else {
-        return Answer::Strange;
-    };
-    let answer = match store.retrieve(alloc, &right) {
-        Ok(Value::Int(number)) => Answer::Number(number),
-        Ok(Value::Text(text)) if text.as_str() == "a" => Answer::Letter,
-        Ok(Value::Text(_)) => Answer::Strange,
-        Err(_) => Answer::Refused,
-    };
-    if_back(id, right.spend(), answer)
-}
-
-fn insert(store: &mut Store, id: u64, subscript: i64, member: u64) -> Answer {
-    if let Err(cause) = may::insert(store, id, member) {
-        return Answer::Misuse(cause);
-    }
-    let Some(right) = write_of(store, id) else {
-        return Answer::Strange;
-    };
-    let answer = match read_of(store, member) {
-        Some(given) => inserted(store, &right, subscript, given),
-        None => Answer::Strange,
-    };
-    if_back(id, right.spend(), answer)
-}
-
-fn inserted(store: &mut Store, right: &WriteRight, subscript: i64, given: ReadRight) -> Answer
-    requires here { IsHere store.old right.now }
-    requires member_here { IsHere store.old given }
-    requires allowed { may_insert (get store.old.store.live right.now.id) (get store.old.store.live given.id) ≡ Ok tt }
+fn copy_write(store: &mut Store, right: &WriteRight) -> Answer
+    requires { IsHere store.old right.now }
 {
-    let member = given.id().number();
+    if may_copy_write(store.view(right.id())) {
+        Answer::Id(store.copy_write(right).spend().number())
+    } else {
+        Answer::Barred
+    }
+}
+
+fn ask(store: &mut Store, right: &ReadRight, rule: u64, parameter: u8) -> Answer
+    requires { IsHere store.old right.now }
+{
+    match store.ask(right, RuleNo::new(rule), parameter) {
+        Ok(Asked::Closed) => Answer::Closed,
+        Ok(Asked::Noted) => Answer::Noted,
+        Err(_) => Answer::Refused,
+    }
+}
+
+/// Adds the member of an id, if it is live.
+fn insert(store: &mut Store, right: &WriteRight, subscript: i64, member: u64) -> Answer
+    requires { IsHere store.old right.now }
+{
+    let Some(given) = read_of(store, member) else {
+        return Answer::Barred;
+    };
+    if !may_insert(store.view(right.id()), store.view(given.id())) {
+        return if_back(member, given.spend(), Answer::Barred);
+    }
     match store.insert(right, subscript, given) {
         Ok(Inserted::Done) => Answer::Done,
         Ok(Inserted::Present(back)) => if_back(member, back.spend(), Answer::Present),
@@ -197,142 +335,63 @@ fn inserted(store: &mut Store, right: &WriteRight, subscript: i64, given: ReadRi
     }
 }
 
-fn has_read_room(store: &Store, id: u64) -> bool
-    ensures { IsTrue result → HasReadRoom (get store.now.store.live id) }
+fn store_value(store: &mut Store, right: WriteRight, value: Value) -> Answer
+    requires { IsHere store.old right }
 {
-    match store.view(DatumId::new(id)) {
-        Some(datum) => datum.reads() < FAR,
-        None => true,
+    let (id, given) = (right.id().number(), answer_of(&value));
+    if !may_store(&value, store.view(right.id())) {
+        return if_back(id, right.spend(), Answer::Barred);
     }
-}
-
-fn has_write_room(store: &Store, id: u64) -> bool
-    ensures { IsTrue result → HasWriteRoom (get store.now.store.live id) }
-{
-    match store.view(DatumId::new(id)) {
-        Some(datum) => datum.writes() < FAR,
-        None => true,
-    }
-}
-
-fn has_member_room(store: &Store, id: u64, subscript: i64) -> bool
-    ensures { IsTrue result → HasMemberRoom store.now.store id subscript }
-{
-    let Some(datum) = store.view(DatumId::new(id)) else {
-        return true;
-    };
-    let Some(member) = datum.member_at(subscript) else {
-        return true;
-    };
-    has_read_room(store, member.number())
-}
-
-fn look(store: &mut Store, id: u64, subscript: i64) -> Answer {
-    if let Err(cause) = may::look(store, id, subscript) {
-        return Answer::Misuse(cause);
-    }
-    if !has_member_room(store, id, subscript) {
-        return Answer::Strange;
-    }
-    let Some(right) = read_of(store, id) else {
-        return Answer::Strange;
-    };
-    let answer = match store.look(&right, subscript) {
-        Some(member) => Answer::Id(member.spend().number()),
-        None => Answer::Nothing,
-    };
-    if_back(id, right.spend(), answer)
-}
-
-fn size(store: &Store, id: u64) -> Answer {
-    if let Err(cause) = may::read_members(store, id) {
-        return Answer::Misuse(cause);
-    }
-    let Some(right) = read_of(store, id) else {
-        return Answer::Strange;
-    };
-    let size = store.size(&right);
-    let answer = i64::try_from(size).map_or(Answer::Strange, Answer::Number);
-    if_back(id, right.spend(), answer)
-}
-
-fn subscript_at(store: &Store, id: u64, index: i64) -> Answer {
-    if let Err(cause) = may::read_members(store, id) {
-        return Answer::Misuse(cause);
-    }
-    let Some(right) = read_of(store, id) else {
-        return Answer::Strange;
-    };
-    let answer = match store.subscript_at(&right, index) {
-        Some(subscript) => Answer::Number(subscript),
-        None => Answer::Nothing,
-    };
-    if_back(id, right.spend(), answer)
-}
-
-fn copy_read(store: &mut Store, id: u64) -> Answer {
-    if !has_read_room(store, id) {
-        return Answer::Strange;
-    }
-    let Some(right) = read_of(store, id) else {
-        return Answer::Misuse(Cause::FreedDatum);
-    };
-    let second = store.copy_read(&right);
-    let answer = Answer::Id(second.spend().number());
-    if_back(id, right.spend(), answer)
-}
-
-fn copy_write(store: &mut Store, id: u64) -> Answer {
-    if let Err(cause) = may::copy_write(store, id) {
-        return Answer::Misuse(cause);
-    }
-    if !has_write_room(store, id) {
-        return Answer::Strange;
-    }
-    let Some(right) = write_of(store, id) else {
-        return Answer::Strange;
-    };
-    let second = store.copy_write(&right);
-    let answer = Answer::Id(second.spend().number());
-    if_back(id, right.spend(), answer)
-}
-
-fn drop_read(store: &mut Store, id: u64) -> Answer {
-    if let Err(cause) = may::drop_read(store, id) {
-        return Answer::Misuse(cause);
-    }
-    match read_of(store, id) {
-        Some(right) => {
-            store.drop_read(right);
-            Answer::Done
+    match store.store(right, value) {
+        Ok(()) => Answer::Done,
+        Err((right, value)) => {
+            let is_same = answer_of(&value) == given;
+            let answer = if is_same {
+                Answer::Refused
+            } else {
+                Answer::Strange
+            };
+            if_back(id, right.spend(), answer)
         }
-        None => Answer::Strange,
     }
 }
 
-fn drop_write(store: &mut Store, id: u64) -> Answer {
-    if let Err(cause) = may::drop_write(store, id) {
-        return Answer::Misuse(cause);
+/// Where the value has no memory, the right goes as nothing happened.
+fn store_plain(store: &mut Store, alloc: Global, right: WriteRight, plain: Plain) -> Answer
+    requires { IsHere store.old right }
+{
+    match value_of(alloc, plain) {
+        Some(value) => store_value(store, right, value),
+        None => {
+            let _id = right.spend();
+            Answer::Refused
+        }
     }
-    let Some(right) = write_of(store, id) else {
-        return Answer::Strange;
-    };
+}
+
+fn drop_read(store: &mut Store, right: ReadRight) -> Answer
+    requires { IsHere store.old right }
+{
+    if may_drop_read(store.view(right.id())) {
+        store.drop_read(right);
+        Answer::Done
+    } else {
+        let _id = right.spend();
+        Answer::Barred
+    }
+}
+
+fn drop_write(store: &mut Store, right: WriteRight) -> Answer
+    requires { IsHere store.old right }
+{
+    let id = right.id().number();
+    if !may_drop_write(store.view(right.id())) {
+        return if_back(id, right.spend(), Answer::Barred);
+    }
     match store.drop_write(right) {
         Ok(()) => Answer::Done,
         Err(back) => if_back(id, back.spend(), Answer::Refused),
     }
-}
-
-fn ask(store: &mut Store, id: u64, rule: u64, parameter: u8) -> Answer {
-    let Some(right) = read_of(store, id) else {
-        return Answer::Misuse(Cause::FreedDatum);
-    };
-    let answer = match store.ask(&right, RuleNo::new(rule), parameter) {
-        Ok(Asked::Closed) => Answer::Closed,
-        Ok(Asked::Noted) => Answer::Noted,
-        Err(_) => Answer::Refused,
-    };
-    if_back(id, right.spend(), answer)
 }
 
 fn take_note(store: &mut Store, server: u8) -> Answer {
@@ -340,53 +399,66 @@ fn take_note(store: &mut Store, server: u8) -> Answer {
         return Answer::Strange;
     }
     match store.take_note(server) {
-        Some(notice) => Answer::Notice(
-            notice.datum.number(),
-            notice.rule.number(),
-            notice.parameter,
-        ),
+        Some(note) => Answer::Notice(note.datum.number(), note.rule.number(), note.parameter),
         None => Answer::Nothing,
     }
+}
+
+// ---- by ids
+
+/// A call by a read right.
+fn by_read(store: &mut Store, alloc: Global, id: u64, call: Call) -> Answer {
+    let Some(right) = read_of(store, id) else {
+        return Answer::Barred;
+    };
+    let answer = match call {
+        Call::Retrieve(_) => retrieve(store, alloc, &right),
+        Call::Look(_, subscript) => look(store, &right, subscript),
+        Call::Size(_) => read_members(store, &right, None),
+        Call::SubscriptAt(_, index) => read_members(store, &right, Some(index)),
+        Call::CopyRead(_) => copy_read(store, &right),
+        Call::Ask(_, rule, parameter) => ask(store, &right, rule, parameter),
+        Call::DropRead(_) => return drop_read(store, right),
+        _ => Answer::Strange,
+    };
+    let _id = right.spend();
+    answer
+}
+
+/// A call by a write right.
+fn by_write(store: &mut Store, alloc: Global, id: u64, call: Call) -> Answer {
+    let Some(right) = write_of(store, id) else {
+        return Answer::Barred;
+    };
+    let answer = match call {
+        Call::Insert(_, subscript, member) => insert(store, &right, subscript, member),
+        Call::CopyWrite(_) => copy_write(store, &right),
+        Call::ReserveNotices(_) => done_or_refused(store.reserve_notices(&right)),
+        Call::Set(_, plain) => return store_plain(store, alloc, right, plain),
+        Call::DropWrite(_) => return drop_write(store, right),
+        _ => Answer::Strange,
+    };
+    let _id = right.spend();
+    answer
 }
 
 /// What the store answers to a call.
 pub fn answered(store: &mut Store, alloc: Global, call: Call) -> Answer {
     match call {
         Call::Create(depth, of_text) => create(store, alloc, type_of(depth, of_text)),
-        Call::Store(id, plain) => store_plain(store, alloc, id, plain),
-        Call::Retrieve(id) => retrieve(store, alloc, id),
-        Call::Insert(id, subscript, member) => insert(store, id, subscript, member),
-        Call::Look(id, subscript) => look(store, id, subscript),
-        Call::Size(id) => size(store, id),
-        Call::SubscriptAt(id, index) => subscript_at(store, id, index),
-        Call::CopyRead(id) => copy_read(store, id),
-        Call::CopyWrite(id) => copy_write(store, id),
-        Call::DropRead(id) => drop_read(store, id),
-        Call::DropWrite(id) => drop_write(store, id),
-        Call::Ask(id, rule, parameter) => ask(store, id, rule, parameter),
         Call::TakeNote(server) => take_note(store, server),
-        Call::ReserveDatum => reserve_datum(store),
-        Call::ReserveNotices(id) => reserve_notices(store, id),
-    }
-}
-
-/// What the model answers to a call.
-pub fn expected(model: &mut Model, alloc: Global, call: Call) -> Answer {
-    match call {
-        Call::Create(depth, of_text) => model.create(alloc, depth, of_text),
-        Call::Store(id, value) => model.store(alloc, id, value),
-        Call::Retrieve(id) => model.retrieve(id),
-        Call::Insert(id, subscript, member) => model.insert(id, subscript, member),
-        Call::Look(id, subscript) => model.look(id, subscript),
-        Call::Size(id) => model.size(id),
-        Call::SubscriptAt(id, index) => model.subscript_at(id, index),
-        Call::CopyRead(id) => model.copy_read(id),
-        Call::CopyWrite(id) => model.copy_write(id),
-        Call::DropRead(id) => model.drop_read(alloc, id),
-        Call::DropWrite(id) => model.drop_write(alloc, id),
-        Call::Ask(id, rule, parameter) => model.ask(id, rule, parameter),
-        Call::TakeNote(server) => model.take_note(u64::from(server)),
-        Call::ReserveDatum => Answer::Done,
-        Call::ReserveNotices(id) => model.reserve_notices(id),
+        Call::ReserveDatum => done_or_refused(store.reserve_datum()),
+        Call::Retrieve(id)
+        | Call::Look(id, _)
+        | Call::Size(id)
+        | Call::SubscriptAt(id, _)
+        | Call::CopyRead(id)
+        | Call::Ask(id, _, _)
+        | Call::DropRead(id) => by_read(store, alloc, id, call),
+        Call::Set(id, _)
+        | Call::Insert(id, _, _)
+        | Call::CopyWrite(id)
+        | Call::ReserveNotices(id)
+        | Call::DropWrite(id) => by_write(store, alloc, id, call),
     }
 }

@@ -1,12 +1,32 @@
 //! Scalars that are made, set, read and freed, one after the other, beside data that stay.
 
+ghost use Rattle.std.specs.Prelude.{◌≡◌, ◌<◌, ◌+◌, ◌^◌, IfOk, OnOk, true};
+ghost use Rattle.tw_types.specs.Value.{is_of};
+
 use std::alloc::{AllocError, Global};
 use tw_store::Store;
-use tw_store_calls::life;
 use tw_types::{DataType, Value};
 
 /// No id comes near this one.
 const FAR: u64 = 1 << 40;
+
+/// The life of a scalar, from NEW over STORE and GET to the drop of its last right: what is read is what was stored.
+/// Nobody waits for it, so STORE takes no memory.
+fn life(store: &mut Store, alloc: Global, ty: DataType, value: Value) -> Result<Value, AllocError>
+    requires next { store.old.store.next < 2 ^ 63 }
+    requires fits { is_of value ty ≡ true }
+    ensures read { IfOk result (λ read. read ≡ value) }
+    ensures made { OnOk result (store.new.store.next ≡ store.old.store.next + 1) }
+{
+    let (write, read) = store.create(alloc, ty)?;
+    match store.store(write, value) {
+        Ok(()) => {}
+        Err((_write, _value)) => unreachable!(),
+    }
+    let value = store.retrieve(alloc, &read);
+    store.drop_read(read);
+    value
+}
 
 /// Makes so many ints, which stay.
 fn filled(alloc: Global, store: &mut Store, count: u64) -> Result<(), AllocError> {

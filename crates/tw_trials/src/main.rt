@@ -1,129 +1,99 @@
-//! Trials that run long: each prints one line, `agrees` or its first difference. With a word behind the name only those
-//! of refusals run, which are the first.
+//! Trials that run long: each prints its first difference, if there is one, and a last line tells how many agree. With a word
+//! behind the name only those run in which memory may be refused, which are the first, and they are short.
 #![tactic(auto)]
 
 mod calls;
-mod checks;
+mod draw;
 mod letters;
 mod lives;
-mod may;
 mod members;
-mod model;
 mod numbered;
-mod order;
-mod parts;
 mod puts;
-mod random;
-mod refused;
-mod refused_puts;
-mod refused_rules;
 mod rules;
-mod same;
 mod search;
+mod stores;
 mod walks;
-mod worked;
 
 use std::{env, io};
 
-/// The line of a trial: what differs first, if something does.
-fn tell(rt: &HostRuntime, name: &str, difference: Option<(&'static str, u64)>) -> io::Result<()> {
-    match difference {
-        None => println!(rt; "{name}: agrees"),
-        Some((what, number)) => println!(rt; "{name}: {what} {number} differs"),
+/// What differs first, if something does, as a number of its kind.
+type Difference = Option<(&'static str, u64)>;
+
+/// Tells what differs in a trial; one more if nothing does.
+fn told(rt: &HostRuntime, agreeing: u64, name: &str, difference: Difference) -> io::Result<u64> {
+    if let Some((what, number)) = difference {
+        println!(rt; "{name}: {what} {number} differs")?;
+        return Ok(agreeing);
     }
+    Ok(agreeing.wrapping_add(1))
 }
 
 /// What differs in a trial that has one answer only.
-fn whole(agrees: bool) -> Option<(&'static str, u64)> {
+fn whole(agrees: bool) -> Difference {
     if agrees { None } else { Some(("its end", 0)) }
 }
 
-/// Whether a word stands behind the program's name.
-fn has_word(rt: &HostRuntime) -> io::Result<bool> {
-    Ok(env::args(rt)?.nth(1).is_some())
-}
-
-fn refusal_trials(rt: &HostRuntime) -> io::Result<()> {
+/// The trials in which memory may be refused, of so many calls; how many agree.
+fn refusal_trials(rt: &HostRuntime, calls: u16) -> io::Result<u64> {
     let alloc = rt.alloc();
-    let calls = refused::refused_calls_go(alloc);
-    tell(rt, "refused calls of the store", calls)?;
-    let puts = refused_puts::refusals_change_nothing(alloc);
-    tell(rt, "200 puts, where memory may be refused, and takes", puts)?;
-    let rules = refused_rules::refusals_change_nothing(alloc);
-    tell(
-        rt,
-        "40 rules, where memory may be refused, and what is done with them",
-        rules,
-    )
+    let agreeing = told(rt, 0, "calls of the store", stores::calls_go(alloc))?;
+    let puts = puts::calls_are_the_searchs(alloc, calls);
+    let agreeing = told(rt, agreeing, "puts and takes", puts)?;
+    let rules = rules::calls_are_the_lists(alloc, calls);
+    told(rt, agreeing, "calls of the rules", rules)
 }
 
-fn store_trials(rt: &HostRuntime) -> io::Result<()> {
+/// The trials of the host's parts in which all memory is had; how many agree, with those before.
+fn whole_trials(rt: &HostRuntime, agreeing: u64) -> io::Result<u64> {
     let alloc = rt.alloc();
-    let random = random::calls_are_the_models(alloc);
-    tell(rt, "10,000 calls of the store and of its model", random)?;
-    let worked = worked::worked_calls_go(alloc);
-    tell(rt, "the worked calls of the store", worked)?;
-    let found = whole(members::thousand_are_found(alloc));
-    tell(rt, "a thousand members are found", found)?;
-    let freed = whole(members::thousand_are_freed(alloc));
-    tell(rt, "a thousand members are freed", freed)?;
-    let in_turn = whole(members::thousand_in_turn(alloc));
-    tell(rt, "a thousand data are made and freed in turn", in_turn)?;
-    let read = whole(lives::lives_read(alloc, 100, 10_000) == Some(10_000));
-    tell(
-        rt,
-        "10,000 ints beside a hundred are read as they were set",
-        read,
-    )
-}
-
-fn queue_trials(rt: &HostRuntime) -> io::Result<()> {
-    let order = whole(order::best_goes_first(rt.alloc()));
-    tell(rt, "the order in which tasks are taken", order)?;
-    let puts = puts::puts_and_takes_are_the_searchs(rt.alloc());
-    tell(
-        rt,
-        "10,000 puts and takes, and a search of the tasks that wait",
-        puts,
-    )
-}
-
-fn rule_trials(rt: &HostRuntime) -> io::Result<()> {
-    let worked = whole(rules::worked_calls_go(rt.alloc()));
-    tell(rt, "the worked calls of the rules", worked)?;
-    let listed = rules::calls_are_the_lists(rt.alloc());
-    tell(
-        rt,
-        "10,000 calls of the rules, and a search of them all",
-        listed,
-    )
-}
-
-fn verifier_trials(rt: &HostRuntime) -> io::Result<()> {
-    for (digits, count, behind) in [
-        (1, 11, ""),
-        (2, 121, ""),
-        (3, 1_331, ""),
-        (4, 14_641, ""),
-        (4, 14_641, " and RET"),
-        (5, 161_051, " and RET"),
+    let puts = puts::calls_are_the_searchs(alloc, 10_000);
+    let agreeing = told(rt, agreeing, "10,000 puts and takes", puts)?;
+    let rules = rules::calls_are_the_lists(alloc, 10_000);
+    let mut agreeing = told(rt, agreeing, "10,000 calls of the rules", rules)?;
+    for (name, agrees) in [
+        (
+            "a thousand members are found",
+            members::thousand_are_found(alloc),
+        ),
+        (
+            "a thousand members are freed",
+            members::thousand_are_freed(alloc),
+        ),
+        ("a thousand data in turn", members::thousand_in_turn(alloc)),
+        (
+            "lives beside a hundred",
+            lives::lives_read(alloc, 100, 10_000) == Some(10_000),
+        ),
+        ("the order of tasks", puts::best_goes_first(alloc)),
+        ("worked calls of the rules", rules::worked_calls_go(alloc)),
     ] {
-        let difference = search::first_code(rt.alloc(), digits, count, !behind.is_empty());
-        print!(rt; "{digits} instructions{behind}, ")?;
-        tell(rt, "the verifier and all walks", difference)?;
+        agreeing = told(rt, agreeing, name, whole(agrees))?;
     }
-    Ok(())
+    Ok(agreeing)
+}
+
+/// The verifier against all walks; how many agree, with those before.
+fn verifier_trials(rt: &HostRuntime, agreeing: u64) -> io::Result<u64> {
+    let mut agreeing = agreeing;
+    for (name, digits, count, is_structured) in [
+        ("1 instruction", 1, 11, false),
+        ("2 instructions", 2, 121, false),
+        ("3 instructions", 3, 1_331, false),
+        ("4 instructions", 4, 14_641, false),
+        ("4 instructions and RET", 4, 14_641, true),
+        ("5 instructions and RET", 5, 161_051, true),
+    ] {
+        let difference = search::first_code(rt.alloc(), digits, count, is_structured);
+        agreeing = told(rt, agreeing, name, difference)?;
+    }
+    Ok(agreeing)
 }
 
 fn main(rt: HostRuntime) -> io::Result<()> {
-    refusal_trials(&rt)?;
-    if has_word(&rt)? {
-        return Ok(());
+    let mut agreeing = refusal_trials(&rt, 300)?;
+    if env::args(&rt)?.nth(1).is_none() {
+        agreeing = whole_trials(&rt, agreeing)?;
+        agreeing = verifier_trials(&rt, agreeing)?;
     }
-    store_trials(&rt)?;
-    queue_trials(&rt)?;
-    rule_trials(&rt)?;
-    verifier_trials(&rt)?;
-    let parts = parts::first_other_instruction(rt.alloc());
-    tell(&rt, "the parts of every instruction", parts)
+    println!(rt; "{agreeing} trials agree")
 }

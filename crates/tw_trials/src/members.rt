@@ -1,7 +1,6 @@
 //! A container of a thousand members, and a thousand data one after the other.
 
-use crate::calls::{Call, answered};
-use crate::model::{Answer, Plain};
+use crate::calls::{Answer, Call, Plain, answered};
 use std::alloc::Global;
 use tw_store::{Datum, Store};
 use tw_types::DatumId;
@@ -24,7 +23,7 @@ fn filled(alloc: Global, store: &mut Store, factor: i64) -> bool {
 /// Makes the next datum, sets it to the turn, and adds it there.
 fn member_added(alloc: Global, store: &mut Store, turn: i64, subscript: i64) -> bool {
     let id = store.next().number();
-    let set = Call::Store(id, Plain::Number(turn));
+    let set = Call::Set(id, Plain::Number(turn));
     answers(alloc, store, Call::Create(0, false), Answer::Id(id))
         && answers(alloc, store, set, Answer::Done)
         && answers(alloc, store, Call::Insert(1, subscript, id), Answer::Done)
@@ -88,7 +87,7 @@ fn are_filled_and_freed(alloc: Global, store: &mut Store) -> bool {
 /// Makes the next datum, lets its read go and sets it, which frees it; whether all that went, and it is gone.
 fn is_made_and_freed(alloc: Global, store: &mut Store) -> bool {
     let id = store.next().number();
-    let set = Call::Store(id, Plain::Number(0));
+    let set = Call::Set(id, Plain::Number(0));
     answers(alloc, store, Call::Create(0, false), Answer::Id(id))
         && answers(alloc, store, Call::DropRead(id), Answer::Done)
         && answers(alloc, store, set, Answer::Done)

@@ -18,14 +18,14 @@ pub enum Taken {
     Strange,
 }
 
-/// What a put comes to.
+/// What a put of a task, or an `add` of a rule, comes to.
 #[derive(Clone, Copy, PartialEq, Eq)]
 pub enum Put {
-    /// The task of this number waits.
+    /// That of this number waits.
     Done(u64),
-    /// Memory is refused, and the task has come back as it was.
+    /// Memory is refused, and what was moved in has come back as it was.
     Refused,
-    /// A task has come back that isn't as it was, or there is no number left.
+    /// What has come back isn't as it was, or no number is left.
     Strange,
 }
 

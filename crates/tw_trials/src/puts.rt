@@ -1,19 +1,20 @@
-//! 10,000 puts and takes from a fixed seed, compared with a search over a plain list of the tasks that wait.
+//! Puts and takes of tasks with rights: worked ones, and others by chance, compared with a search over a plain list of the
+//! tasks that wait. Where memory is refused nothing has changed, and the call goes when it is made again.
 
 ghost use Rattle.tw_queue.specs.Queues.{IsTarget};
 
+use crate::draw::draw;
 use crate::numbered::{Numbered, Put, Taken};
-use crate::random::draw;
-use std::alloc::Global;
+use std::alloc::{AllocError, Global};
 use tw_types::{Actor, Kind};
 
 /// A task that waits.
 #[derive(Clone, Copy)]
-pub struct Plain {
-    pub number: u64,
-    pub kind: Kind,
-    pub priority: i64,
-    pub target: Option<u8>,
+struct Plain {
+    number: u64,
+    kind: Kind,
+    priority: i64,
+    target: Option<u8>,
 }
 
 impl Plain {
@@ -33,7 +34,7 @@ impl Plain {
 }
 
 /// Of the tasks that the actor may take the one that goes before the others, with its place.
-pub fn first_of(plains: &[Plain], actor: Actor) -> Option<(usize, Plain)> {
+fn first_of(plains: &[Plain], actor: Actor) -> Option<(usize, Plain)> {
     let mut first: Option<(usize, Plain)> = None;
     for (place, plain) in plains.iter().enumerate() {
         if plain.may_be_taken(actor) && first.is_none_or(|(_, other)| plain.goes_before(other)) {
@@ -44,7 +45,7 @@ pub fn first_of(plains: &[Plain], actor: Actor) -> Option<(usize, Plain)> {
 }
 
 /// Takes it out of the list.
-pub fn taken_of(plains: &mut Vec<Plain>, actor: Actor) -> Taken {
+fn taken_of(plains: &mut Vec<Plain>, actor: Actor) -> Taken {
     match first_of(plains, actor) {
         None => Taken::Nothing,
         Some((place, plain)) if place < plains.len() => {
@@ -52,6 +53,97 @@ pub fn taken_of(plains: &mut Vec<Plain>, actor: Actor) -> Taken {
             Taken::Task(plain.number)
         }
         Some(_) => Taken::Strange,
+    }
+}
+
+/// Whether just the tasks of the list wait, as far as actors see.
+fn are_listed(queues: &Numbered, plains: &[Plain]) -> bool {
+    let mut is_so = queues.len() == plains.len();
+    for number in 0..17_u8 {
+        for actor in [Actor::Engine(number), Actor::Worker(number)] {
+            let first = first_of(plains, actor);
+            let wanted = first.map_or(Taken::Nothing, |(_, plain)| Taken::Task(plain.number));
+            is_so &= queues.best(actor) == wanted;
+        }
+    }
+    is_so
+}
+
+// ---- the worked calls
+
+/// The numbers of those who take, one after the other, and what each takes.
+type Takes = [(u8, Taken); 5];
+
+/// Actor 0 goes first.
+const FIRST: Takes = [
+    (0, Taken::Task(2)),
+    (0, Taken::Task(1)),
+    (0, Taken::Nothing),
+    (1, Taken::Task(3)),
+    (1, Taken::Nothing),
+];
+
+/// Actor 1 goes first. Of two tasks with the same priority it takes that with the lower number, though the other is for
+/// itself alone.
+const SECOND: Takes = [
+    (1, Taken::Task(2)),
+    (1, Taken::Task(1)),
+    (0, Taken::Nothing),
+    (1, Taken::Task(3)),
+    (0, Taken::Nothing),
+];
+
+fn actor_of(kind: Kind, number: u8) -> Actor {
+    match kind {
+        Kind::Control => Actor::Engine(number),
+        Kind::Leaf => Actor::Worker(number),
+    }
+}
+
+/// Puts task 1 of priority 5 and task 2 of priority 9, for any actor, and task 3 of priority 5 for actor 1. Whether they
+/// are taken so.
+fn three_go(queues: &mut Numbered, kind: Kind, takes: &Takes) -> bool {
+    let mut is_so = queues.put(kind, 5, None) == Put::Done(1)
+        && queues.put(kind, 9, None) == Put::Done(2)
+        && queues.put(kind, 5, Some(1)) == Put::Done(3)
+        && queues.take(Actor::Server(1)) == Taken::Nothing;
+    for (number, taken) in takes {
+        is_so &= queues.take(actor_of(kind, *number)) == *taken;
+    }
+    is_so && queues.len() == 0
+}
+
+/// The best task goes first, for workers and for engines.
+pub fn best_goes_first(alloc: Global) -> bool {
+    let mut is_so = true;
+    for kind in [Kind::Control, Kind::Leaf] {
+        for takes in [&FIRST, &SECOND] {
+            if let Ok(mut queues) = Numbered::new(alloc) {
+                is_so &= three_go(&mut queues, kind, takes);
+                queues.shut();
+            } else {
+                is_so = false;
+            }
+        }
+    }
+    is_so
+}
+
+// ---- calls by chance
+
+fn kind_of(seed: &mut u64) -> Kind {
+    if draw(seed, 2) == 0 {
+        Kind::Control
+    } else {
+        Kind::Leaf
+    }
+}
+
+fn priority_of(seed: &mut u64) -> i64 {
+    match draw(seed, 8) {
+        0 => i64::MIN,
+        1 => i64::MAX,
+        small => i64::from(small).wrapping_sub(4),
     }
 }
 
@@ -63,117 +155,76 @@ fn target_of(seed: &mut u64) -> Option<u8>
     if number < 16 { Some(number) } else { None }
 }
 
-/// Puts a task into both; whether that went.
-fn put_agrees(queues: &mut Numbered, plains: &mut Vec<Plain>, seed: &mut u64) -> bool {
-    let kind = if draw(seed, 2) == 0 {
-        Kind::Control
-    } else {
-        Kind::Leaf
-    };
-    let priority = match draw(seed, 8) {
-        0 => i64::MIN,
-        1 => i64::MAX,
-        small => i64::from(small).wrapping_sub(4),
-    };
-    let target = target_of(seed);
-    match queues.put(kind, priority, target) {
-        Put::Done(number) => {
-            let plain = Plain {
-                number,
-                kind,
-                priority,
-                target,
-            };
-            plains.push(plain).is_ok()
-        }
-        Put::Refused | Put::Strange => false,
-    }
+/// Makes room for a task, at the second time if memory is refused at the first; whether that went, and a refusal
+/// changed nothing.
+fn reserve_agrees(queues: &mut Numbered, plains: &[Plain], kind: Kind) -> bool {
+    queues.reserve(kind).is_ok() || are_listed(queues, plains) && queues.reserve(kind).is_ok()
 }
 
-/// An actor, whose number is a target or one of two greater ones.
-fn actor_of(seed: &mut u64) -> Actor {
+/// Puts a task into both, with room made before or in the same way; whether that went.
+fn put_agrees(queues: &mut Numbered, plains: &mut Vec<Plain>, seed: &mut u64) -> bool {
+    let (kind, priority, target) = (kind_of(seed), priority_of(seed), target_of(seed));
+    let has_room = draw(seed, 2) == 0;
+    if has_room && !reserve_agrees(queues, plains, kind) {
+        return false;
+    }
+    let mut put = queues.put(kind, priority, target);
+    if put == Put::Refused && !has_room && are_listed(queues, plains) {
+        put = queues.put(kind, priority, target);
+    }
+    let Put::Done(number) = put else {
+        return false;
+    };
+    let plain = Plain {
+        number,
+        kind,
+        priority,
+        target,
+    };
+    plains.push(plain).is_ok()
+}
+
+/// An actor takes a task out of both, whose number is a target or one of two greater ones; whether that is the same.
+fn take_agrees(queues: &mut Numbered, plains: &mut Vec<Plain>, seed: &mut u64) -> bool {
     let number = draw(seed, 18);
-    match draw(seed, 9) {
+    let actor = match draw(seed, 9) {
         0 => Actor::Server(number),
         1 | 2 | 3 | 4 => Actor::Engine(number),
         _ => Actor::Worker(number),
-    }
-}
-
-/// How often an engine took a task, an engine nothing, a worker a task, a worker nothing, and a server nothing.
-#[derive(Drop)]
-struct Tally {
-    counts: [u64; 5],
-}
-
-impl Tally {
-    fn count(&mut self, actor: Actor, taken: Taken) {
-        let kind = match (actor, taken) {
-            (Actor::Engine(_), Taken::Task(_)) => 0,
-            (Actor::Engine(_), _) => 1,
-            (Actor::Worker(_), Taken::Task(_)) => 2,
-            (Actor::Worker(_), _) => 3,
-            (Actor::Server(_), _) => 4,
-        };
-        let count = &mut self.counts[kind];
-        *count = count.wrapping_add(1);
-    }
-
-    /// The first of these that came less than a hundred times.
-    fn first_rare(&self) -> Option<u64> {
-        let mut kind = 0_u64;
-        for count in &self.counts {
-            if *count < 100 {
-                return Some(kind);
-            }
-            kind = kind.wrapping_add(1);
-        }
-        None
-    }
-}
-
-/// One call of both, a put or a take; whether they agree.
-fn call_agrees(
-    queues: &mut Numbered,
-    plains: &mut Vec<Plain>,
-    seed: &mut u64,
-    tally: &mut Tally,
-) -> bool {
-    let is_same = if draw(seed, 2) == 0 {
-        put_agrees(queues, plains, seed)
-    } else {
-        let actor = actor_of(seed);
-        let taken = queues.take(actor);
-        tally.count(actor, taken);
-        taken == taken_of(plains, actor)
     };
-    is_same && queues.len() == plains.len()
+    queues.take(actor) == taken_of(plains, actor)
 }
 
-/// What differs first: the number of a call, how many tasks are left if they are few, or a kind of take that is rare.
-fn first_difference(alloc: Global, queues: &mut Numbered) -> Option<(&'static str, u64)> {
-    let mut plains = Vec::new(alloc);
-    let mut tally = Tally { counts: [0; 5] };
+/// The number of the first call that differs, if one does.
+fn first_difference(queues: &mut Numbered, plains: &mut Vec<Plain>, calls: u16) -> Option<u64> {
     let mut seed = 20_251_123;
-    for number in 0..10_000 {
-        if !call_agrees(queues, &mut plains, &mut seed, &mut tally) {
-            return Some(("call", number));
+    for number in 0..calls {
+        let agrees = if draw(&mut seed, 2) == 0 {
+            put_agrees(queues, plains, &mut seed)
+        } else {
+            take_agrees(queues, plains, &mut seed)
+        };
+        if !agrees || queues.len() != plains.len() {
+            return Some(u64::from(number));
         }
     }
-    if queues.len() < 100 {
-        return Some(("tasks left", queues.len() as u64));
-    }
-    Some(("kind", tally.first_rare()?))
+    None
 }
 
-/// 10,000 puts and takes give what the search gives, and what is left is shut.
-pub fn puts_and_takes_are_the_searchs(alloc: Global) -> Option<(&'static str, u64)> {
-    match Numbered::new(alloc) {
-        Ok(mut queues) => {
-            let difference = first_difference(alloc, &mut queues);
-            queues.shut();
-            difference
-        }
-        Err(_) => Some(("memory ran out at queues", 0)),
-    }
+fn list_of(alloc: Global, calls: u16) -> Result<Vec<Plain>, AllocError> {
+    Vec::with_capacity(alloc, usize::from(calls))
+}
+
+/// So many puts and takes give what the search gives, whichever one piece of memory is refused to them, and what is left
+/// is shut.
+pub fn calls_are_the_searchs(alloc: Global, calls: u16) -> Option<(&'static str, u64)> {
+    let Ok(mut plains) = list_of(alloc, calls).or_else(|_| list_of(alloc, calls)) else {
+        return Some(("memory ran out at list", 0));
+    };
+    let Ok(mut queues) = Numbered::new(alloc).or_else(|_| Numbered::new(alloc)) else {
+        return Some(("memory ran out at queues", 0));
+    };
+    let difference = first_difference(&mut queues, &mut plains, calls);
+    queues.shut();
+    Some(("call", difference?))
 }

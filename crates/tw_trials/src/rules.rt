@@ -1,7 +1,9 @@
-//! Rules: the worked calls of their table, and 10,000 random calls compared with a plain list that is searched whole.
+//! Rules: worked calls of their table, and calls by chance compared with a plain list that is searched whole. Where memory
+//! is refused the arguments come back, nothing has changed, and the call goes when it is made again.
 
-use crate::random::draw;
-use std::alloc::Global;
+use crate::draw::draw;
+use crate::numbered::Put;
+use std::alloc::{AllocError, Global};
 use tw_rights::{Arg, Bundle, ReadRight, WriteRight};
 use tw_rules::{Action, PlainArg, PlainRule, RuleTable};
 use tw_types::{DataType, DatumId, Mode, Param, RuleNo, Stage, Value};
@@ -11,26 +13,20 @@ use tw_types::{DataType, DatumId, Mode, Param, RuleNo, Stage, Value};
 struct Listed {
     number: u64,
     engine: u8,
+    modes: [Mode; 3],
     stages: [Stage; 3],
 }
 
 impl Listed {
     fn first_unasked(&self) -> Option<u8> {
-        if self.stages[0] == Stage::Unasked {
-            Some(0)
-        } else if self.stages[1] == Stage::Unasked {
-            Some(1)
-        } else if self.stages[2] == Stage::Unasked {
-            Some(2)
-        } else {
-            None
-        }
+        let mut stages = self.stages.iter();
+        let place = stages.position(|stage| *stage == Stage::Unasked)?;
+        u8::try_from(place).ok()
     }
 
     fn is_releasable(&self) -> bool {
-        self.stages
-            .iter()
-            .all(|stage| *stage == Stage::Free || *stage == Stage::Ready)
+        let mut stages = self.stages.iter();
+        stages.all(|stage| *stage == Stage::Free || *stage == Stage::Ready)
     }
 }
 
@@ -59,22 +55,20 @@ fn least_release(list: &[Listed], engine: u8) -> Option<u64> {
     least
 }
 
-/// Puts a parameter of a rule of the list at a stage.
-fn restage(list: &mut [Listed], number: u64, parameter: u8, stage: Stage) {
+/// Puts a parameter of a rule of the list at a stage, where it may come to it; whether it does.
+fn restage(list: &mut [Listed], number: u64, parameter: u8, stage: Stage) -> bool {
+    let mut may = false;
     for rule in list {
         if rule.number == number {
-            match parameter {
-                0 => rule.stages[0] = stage,
-                1 => rule.stages[1] = stage,
-                2 => rule.stages[2] = stage,
-                _ => {}
+            if let Some(old) = rule.stages.get_mut(usize::from(parameter)) {
+                may = *old == Stage::Unasked || *old == Stage::Waiting && stage == Stage::Ready;
+                if may {
+                    *old = stage;
+                }
             }
         }
     }
-}
-
-fn place_of(list: &[Listed], number: u64) -> Option<usize> {
-    list.iter().position(|rule| rule.number == number)
+    may
 }
 
 /// A mode, twice as often `Closed` as another.
@@ -95,7 +89,7 @@ fn stage_of(mode: Mode) -> Stage {
 }
 
 /// The datum of a parameter of a rule.
-pub fn datum_of(number: u64, parameter: u64) -> DatumId {
+fn datum_of(number: u64, parameter: u64) -> DatumId {
     DatumId::new(number.wrapping_mul(3).wrapping_add(parameter))
 }
 
@@ -114,7 +108,7 @@ fn push(args: &mut Bundle, arg: Arg) {
     }
 }
 
-pub fn args_of(number: u64, modes: [Mode; 3]) -> Bundle {
+fn args_of(number: u64, modes: [Mode; 3]) -> Bundle {
     let mut args = Bundle::new();
     push(&mut args, arg_of(modes[0], datum_of(number, 0)));
     push(&mut args, arg_of(modes[1], datum_of(number, 1)));
@@ -122,7 +116,7 @@ pub fn args_of(number: u64, modes: [Mode; 3]) -> Bundle {
     args
 }
 
-pub fn action_of(number: u64) -> Action {
+fn action_of(number: u64) -> Action {
     Action {
         procedure: u8::try_from(number % 64).unwrap_or(0),
         priority: 9,
@@ -130,36 +124,74 @@ pub fn action_of(number: u64) -> Action {
     }
 }
 
-pub fn params_of(modes: [Mode; 3]) -> [Param; 3] {
-    let ty = DataType::int();
-    [
-        Param { mode: modes[0], ty },
-        Param { mode: modes[1], ty },
-        Param { mode: modes[2], ty },
-    ]
+fn plain_of(arg: Option<&Arg>) -> Option<PlainArg> {
+    Some(match arg? {
+        Arg::Val(_) => PlainArg::Val,
+        Arg::Read(right) => PlainArg::Read(right.id()),
+        Arg::Write(right) => PlainArg::Write(right.id()),
+    })
 }
 
-/// Adds the next rule, for an engine from 0 to 3. Its number, or none where memory or numbers run out.
-fn add(table: &mut RuleTable, engine: u8, modes: [Mode; 3]) -> Option<u64> {
-    let number = table.next().number();
-    let args = args_of(number, modes);
-    let params = params_of(modes);
-    if engine < 4 && number < 1_000_000 {
-        match table.add(engine, &params, action_of(number), args) {
-            Ok(added) => Some(added.number()),
-            Err(args) => {
-                args.shut();
-                None
-            }
-        }
-    } else {
-        args.shut();
-        None
+/// The argument of a parameter of a rule.
+fn plain_arg(number: u64, parameter: u64, mode: Mode) -> PlainArg {
+    let id = datum_of(number, parameter);
+    match mode {
+        Mode::Val => PlainArg::Val,
+        Mode::Closed | Mode::Ref => PlainArg::Read(id),
+        Mode::Write => PlainArg::Write(id),
     }
 }
 
+fn plain_args(number: u64, modes: [Mode; 3]) -> [PlainArg; 3] {
+    [
+        plain_arg(number, 0, modes[0]),
+        plain_arg(number, 1, modes[1]),
+        plain_arg(number, 2, modes[2]),
+    ]
+}
+
+// ---- the calls of the table
+
+/// Whether these are the arguments of a rule.
+fn are_args(args: &Bundle, number: u64, modes: [Mode; 3]) -> bool {
+    let wanted = plain_args(number, modes);
+    args.len() == 3
+        && plain_of(args.get(0)) == Some(wanted[0])
+        && plain_of(args.get(1)) == Some(wanted[1])
+        && plain_of(args.get(2)) == Some(wanted[2])
+}
+
+/// What has come back from an `add`.
+fn come_back(args: Bundle, number: u64, modes: [Mode; 3]) -> Put {
+    let is_back = are_args(&args, number, modes);
+    args.shut();
+    if is_back { Put::Refused } else { Put::Strange }
+}
+
+/// Adds the next rule, for an engine from 0 to 3.
+fn add(table: &mut RuleTable, engine: u8, modes: [Mode; 3]) -> Put {
+    let number = table.next().number();
+    if engine >= 4 || number >= 1_000_000 {
+        return Put::Strange;
+    }
+    let ty = DataType::int();
+    let params = [
+        Param { mode: modes[0], ty },
+        Param { mode: modes[1], ty },
+        Param { mode: modes[2], ty },
+    ];
+    match table.add(engine, &params, action_of(number), args_of(number, modes)) {
+        Ok(added) => Put::Done(added.number()),
+        Err(args) => come_back(args, number, modes),
+    }
+}
+
+fn reserve(table: &mut RuleTable, engine: u8) -> bool {
+    engine < 4 && table.reserve(engine).is_ok()
+}
+
 /// Asks for a parameter whose datum is open; whether it was unasked.
-pub fn mark_asked(table: &mut RuleTable, number: u64, parameter: u8) -> bool {
+fn mark_asked(table: &mut RuleTable, number: u64, parameter: u8) -> bool {
     let rule = RuleNo::new(number);
     match table.stage(rule, parameter) {
         Some(Stage::Unasked) => {
@@ -171,7 +203,7 @@ pub fn mark_asked(table: &mut RuleTable, number: u64, parameter: u8) -> bool {
 }
 
 /// Makes a parameter ready; whether it was unasked or waited.
-pub fn mark_ready(table: &mut RuleTable, number: u64, parameter: u8) -> bool {
+fn mark_ready(table: &mut RuleTable, number: u64, parameter: u8) -> bool {
     let rule = RuleNo::new(number);
     match table.stage(rule, parameter) {
         Some(Stage::Unasked) => {
@@ -187,7 +219,7 @@ pub fn mark_ready(table: &mut RuleTable, number: u64, parameter: u8) -> bool {
 }
 
 /// Releases a rule; whether it could be, and became the task that it was added for.
-pub fn release(table: &mut RuleTable, number: u64) -> bool {
+fn release(table: &mut RuleTable, number: u64) -> bool {
     let rule = RuleNo::new(number);
     match table.is_releasable(rule) {
         Some(true) => {
@@ -200,14 +232,66 @@ pub fn release(table: &mut RuleTable, number: u64) -> bool {
     }
 }
 
-pub fn asked_of(table: &RuleTable, engine: u8) -> Option<(u64, u8)> {
+fn asked_of(table: &RuleTable, engine: u8) -> Option<(u64, u8)> {
     let (rule, parameter) = table.next_ask(engine)?;
     Some((rule.number(), parameter))
 }
 
-pub fn released_of(table: &RuleTable, engine: u8) -> Option<u64> {
+fn released_of(table: &RuleTable, engine: u8) -> Option<u64> {
     let rule = table.next_release(engine)?;
     Some(rule.number())
+}
+
+// ---- whether the table is as the list
+
+fn is_action(table: &RuleTable, rule: RuleNo) -> bool {
+    match table.is_releasable(rule) {
+        Some(_) => table.action(rule) == action_of(rule.number()),
+        None => false,
+    }
+}
+
+/// Whether a rule is pending as it stands in the list.
+fn is_pending(table: &RuleTable, listed: &Listed) -> bool {
+    let rule = RuleNo::new(listed.number);
+    let wanted = plain_args(listed.number, listed.modes);
+    let mut is_so = is_action(table, rule) && table.stage(rule, 3).is_none();
+    for parameter in 0..3_u8 {
+        let place = usize::from(parameter);
+        is_so &= table.stage(rule, parameter) == listed.stages.get(place).copied()
+            && plain_of(table.arg(rule, parameter)) == wanted.get(place).copied();
+    }
+    is_so
+}
+
+/// Whether the table tells an engine what the list tells.
+fn tells_engine(table: &RuleTable, list: &[Listed], engine: u8) -> bool {
+    asked_of(table, engine) == least_ask(list, engine)
+        && released_of(table, engine) == least_release(list, engine)
+}
+
+/// Whether just the rules of the list are pending, and the next number is this.
+fn are_listed(table: &RuleTable, list: &[Listed], next: u64) -> bool {
+    let mut is_so = table.pending() == list.len() && table.next().number() == next;
+    for rule in list {
+        is_so &= is_pending(table, rule);
+    }
+    for engine in 0..4_u8 {
+        is_so &= tells_engine(table, list, engine);
+    }
+    is_so
+}
+
+/// Whether a rule that is told stands in the list.
+fn is_told_of(list: &[Listed], told: &PlainRule) -> bool {
+    let number = told.number.number();
+    list.iter().any(|rule| {
+        rule.number == number
+            && rule.engine == told.engine
+            && told.action == action_of(number)
+            && told.args.as_slice() == plain_args(number, rule.modes).as_slice()
+            && rule.stages.as_slice() == told.stages.as_slice()
+    })
 }
 
 // ---- the worked calls
@@ -215,7 +299,7 @@ pub fn released_of(table: &RuleTable, engine: u8) -> Option<u64> {
 /// Whether rule 1 of engine 0 over (`closed`, `write`, `closed`) is asked for and released in order.
 fn one_rule_goes(table: &mut RuleTable) -> bool {
     let modes = [Mode::Closed, Mode::Write, Mode::Closed];
-    add(table, 0, modes) == Some(1)
+    add(table, 0, modes) == Put::Done(1)
         && asked_of(table, 0) == Some((1, 0))
         && mark_asked(table, 1, 0)
         && asked_of(table, 0) == Some((1, 2))
@@ -229,212 +313,156 @@ fn one_rule_goes(table: &mut RuleTable) -> bool {
         && table.pending() == 0
 }
 
-/// Whether the right of each parameter and the action are told as they were given.
-fn rule_is_told(table: &mut RuleTable) -> bool {
-    let modes = [Mode::Closed, Mode::Write, Mode::Closed];
-    let Some(number) = add(table, 3, modes) else {
-        return false;
-    };
-    let rule = RuleNo::new(number);
-    let is_same = match table.arg(rule, 2) {
-        Some(Arg::Read(_)) => table.asked_right(rule, 2).id() == datum_of(number, 2),
-        _ => false,
-    };
-    let is_done = match table.is_releasable(rule) {
-        Some(_) => table.action(rule) == action_of(number),
-        None => false,
-    };
-    is_same && is_done
-}
-
-/// Whether what is left is told when the table is shut.
-fn is_shut(table: RuleTable) -> bool {
-    let told = table.shut();
-    match told.first() {
-        Some(rule) => told.len() == 1 && is_second(rule),
-        None => false,
-    }
-}
-
-/// Whether it is rule 2 of engine 3, as it was added.
-fn is_second(rule: &PlainRule) -> bool {
-    let args = [
-        PlainArg::Read(datum_of(2, 0)),
-        PlainArg::Write(datum_of(2, 1)),
-        PlainArg::Read(datum_of(2, 2)),
-    ];
-    let stages = [Stage::Unasked, Stage::Free, Stage::Unasked];
-    rule.number == RuleNo::new(2)
-        && rule.engine == 3
-        && rule.action == action_of(2)
-        && rule.args.as_slice() == args.as_slice()
-        && rule.stages.as_slice() == stages.as_slice()
-}
-
-/// The worked calls go, and what is left is told.
+/// The worked calls go, and nothing is left that is told.
 pub fn worked_calls_go(alloc: Global) -> bool {
     let mut table = RuleTable::new(alloc);
-    let goes = one_rule_goes(&mut table) && rule_is_told(&mut table);
-    is_shut(table) && goes
+    let goes = one_rule_goes(&mut table);
+    table.shut().is_empty() && goes
 }
 
-// ---- random calls
+// ---- calls by chance
 
+/// Makes room for a rule, at the second time if memory is refused at the first; whether that went, and a refusal changed
+/// nothing.
+fn reserve_agrees(table: &mut RuleTable, list: &[Listed], engine: u8) -> bool {
+    let next = table.next().number();
+    reserve(table, engine) || are_listed(table, list, next) && reserve(table, engine)
+}
+
+/// Adds a rule to both, with room made before or in the same way; whether that went.
 fn add_both(table: &mut RuleTable, list: &mut Vec<Listed>, seed: &mut u64) -> bool {
     let engine = draw(seed, 4);
     let modes = [mode_of(seed), mode_of(seed), mode_of(seed)];
-    match add(table, engine, modes) {
-        Some(number) => {
-            let stages = [stage_of(modes[0]), stage_of(modes[1]), stage_of(modes[2])];
-            let rule = Listed {
-                number,
-                engine,
-                stages,
-            };
-            list.push(rule).is_ok()
-        }
-        None => false,
+    let has_room = draw(seed, 2) == 0;
+    if has_room && !reserve_agrees(table, list, engine) {
+        return false;
     }
+    let number = table.next().number();
+    let mut added = add(table, engine, modes);
+    if added == Put::Refused && !has_room && are_listed(table, list, number) {
+        added = add(table, engine, modes);
+    }
+    let rule = Listed {
+        number,
+        engine,
+        modes,
+        stages: [stage_of(modes[0]), stage_of(modes[1]), stage_of(modes[2])],
+    };
+    added == Put::Done(number) && list.push(rule).is_ok()
 }
 
 /// Asks for the next parameter of an engine, whose datum is open or closed.
 fn ask_both(table: &mut RuleTable, list: &mut [Listed], seed: &mut u64) -> bool {
-    let engine = draw(seed, 4);
-    let Some((number, parameter)) = least_ask(list, engine) else {
-        return asked_of(table, engine).is_none();
-    };
-    if asked_of(table, engine) != Some((number, parameter)) {
-        return false;
-    }
-    if draw(seed, 2) == 0 {
-        restage(list, number, parameter, Stage::Waiting);
-        mark_asked(table, number, parameter)
-    } else {
-        restage(list, number, parameter, Stage::Ready);
-        mark_ready(table, number, parameter)
+    let next = least_ask(list, draw(seed, 4));
+    let is_open = draw(seed, 2) == 0;
+    match next {
+        Some((number, parameter)) => mark_one(table, list, (number, parameter), is_open),
+        None => true,
     }
 }
 
-/// A rule of the list and a parameter, by chance.
-fn some_parameter(list: &[Listed], seed: &mut u64) -> Option<(Listed, u8)> {
+/// Marks a parameter in both as asked, or as ready; whether it is marked in both or in neither.
+fn mark_one(
+    table: &mut RuleTable,
+    list: &mut [Listed],
+    (number, parameter): (u64, u8),
+    is_open: bool,
+) -> bool {
+    if is_open {
+        let may = restage(list, number, parameter, Stage::Waiting);
+        mark_asked(table, number, parameter) == may
+    } else {
+        let may = restage(list, number, parameter, Stage::Ready);
+        mark_ready(table, number, parameter) == may
+    }
+}
+
+/// A rule of the list, by chance.
+fn some_rule(list: &[Listed], seed: &mut u64) -> Option<Listed> {
     let place = usize::from(draw(seed, 256)).wrapping_mul(usize::from(draw(seed, 256)));
     let count = list.len();
     if count == 0 {
         return None;
     }
-    let rule = list.get(place % count)?;
-    Some((*rule, draw(seed, 3)))
+    list.get(place % count).copied()
 }
 
-fn stage_in(rule: &Listed, parameter: u8) -> Stage {
-    match parameter {
-        0 => rule.stages[0],
-        1 => rule.stages[1],
-        _ => rule.stages[2],
-    }
-}
-
-/// Marks a parameter of some rule as asked, or as ready, where it can be.
+/// Marks a parameter of some rule, where it can be.
 fn mark_both(table: &mut RuleTable, list: &mut [Listed], seed: &mut u64) -> bool {
-    let Some((rule, parameter)) = some_parameter(list, seed) else {
-        return true;
-    };
-    let stage = stage_in(&rule, parameter);
-    if draw(seed, 4) == 0 {
-        let may = stage == Stage::Unasked;
-        if may {
-            restage(list, rule.number, parameter, Stage::Waiting);
-        }
-        mark_asked(table, rule.number, parameter) == may
-    } else {
-        let may = stage == Stage::Unasked || stage == Stage::Waiting;
-        if may {
-            restage(list, rule.number, parameter, Stage::Ready);
-        }
-        mark_ready(table, rule.number, parameter) == may
-    }
-}
-
-/// Takes a rule out of the list.
-fn strike(list: &mut Vec<Listed>, number: u64) -> bool {
-    match place_of(list, number) {
-        Some(place) if place < list.len() => {
-            list.swap_remove(place);
-            true
-        }
-        _ => false,
-    }
-}
-
-/// Releases the next rule of an engine, or now and then some other that can be.
-fn release_both(table: &mut RuleTable, list: &mut Vec<Listed>, seed: &mut u64) -> bool {
-    let engine = draw(seed, 4);
-    if draw(seed, 4) == 0 {
-        return match some_parameter(list, seed) {
-            Some((rule, _)) => {
-                let may = rule.is_releasable();
-                release(table, rule.number) == may && (!may || strike(list, rule.number))
-            }
-            None => true,
-        };
-    }
-    let next = least_release(list, engine);
-    if released_of(table, engine) != next {
-        return false;
-    }
-    match next {
-        Some(number) => release(table, number) && strike(list, number),
+    let parameter = draw(seed, 3);
+    let is_open = draw(seed, 4) == 0;
+    match some_rule(list, seed) {
+        Some(rule) => mark_one(table, list, (rule.number, parameter), is_open),
         None => true,
     }
 }
 
-/// One call of both; whether they agree, before and after.
+/// Releases a rule in both, if it can be.
+fn release_both(table: &mut RuleTable, list: &mut Vec<Listed>, number: u64) -> bool {
+    match list
+        .iter()
+        .position(|rule| rule.number == number && rule.is_releasable())
+    {
+        Some(place) if place < list.len() => {
+            list.swap_remove(place);
+            release(table, number)
+        }
+        _ => !release(table, number),
+    }
+}
+
+/// The next rule that an engine releases, or now and then some other.
+fn rule_to_release(list: &[Listed], seed: &mut u64) -> Option<u64> {
+    if draw(seed, 4) == 0 {
+        let rule = some_rule(list, seed)?;
+        Some(rule.number)
+    } else {
+        least_release(list, draw(seed, 4))
+    }
+}
+
+/// One call of both; whether they agree after it.
 fn call_agrees(table: &mut RuleTable, list: &mut Vec<Listed>, seed: &mut u64) -> bool {
     let goes = match draw(seed, 7) {
         0 => add_both(table, list, seed),
         1 | 2 => ask_both(table, list, seed),
         3 | 4 => mark_both(table, list, seed),
-        _ => release_both(table, list, seed),
+        _ => match rule_to_release(list, seed) {
+            Some(number) => release_both(table, list, number),
+            None => true,
+        },
     };
-    let engine = draw(seed, 4);
-    goes && asked_of(table, engine) == least_ask(list, engine)
-        && released_of(table, engine) == least_release(list, engine)
-        && table.pending() == list.len()
+    goes && tells_engine(table, list, draw(seed, 4)) && table.pending() == list.len()
 }
 
-/// Whether a rule that is told stands in the list.
-fn is_listed(list: &[Listed], told: &PlainRule) -> bool {
-    list.iter().any(|rule| {
-        rule.number == told.number.number()
-            && rule.engine == told.engine
-            && rule.stages.as_slice() == told.stages.as_slice()
-    })
-}
-
-fn first_difference(table: &mut RuleTable, list: &mut Vec<Listed>) -> Option<(&'static str, u64)> {
+/// The number of the first call that differs, if one does.
+fn first_difference(table: &mut RuleTable, list: &mut Vec<Listed>, calls: u16) -> Option<u64> {
     let mut seed = 20_261_123;
-    for number in 0..10_000 {
+    for number in 0..calls {
         if !call_agrees(table, list, &mut seed) {
-            return Some(("call", number));
+            return Some(u64::from(number));
         }
     }
     None
 }
 
-/// 10,000 calls give what the list gives, and what is left is told.
-pub fn calls_are_the_lists(alloc: Global) -> Option<(&'static str, u64)> {
+fn list_of(alloc: Global, calls: u16) -> Result<Vec<Listed>, AllocError> {
+    Vec::with_capacity(alloc, usize::from(calls))
+}
+
+/// So many calls give what the list gives, whichever one piece of memory is refused to them, and what is left is told.
+pub fn calls_are_the_lists(alloc: Global, calls: u16) -> Option<(&'static str, u64)> {
+    let Ok(mut list) = list_of(alloc, calls).or_else(|_| list_of(alloc, calls)) else {
+        return Some(("memory ran out at list", 0));
+    };
     let mut table = RuleTable::new(alloc);
-    let mut list = Vec::new(alloc);
-    let difference = first_difference(&mut table, &mut list);
+    let difference = first_difference(&mut table, &mut list, calls);
     let told = table.shut();
-    if difference.is_some() {
-        return difference;
+    if let Some(call) = difference {
+        Some(("call", call))
+    } else if told.len() != list.len() || !told.iter().all(|rule| is_told_of(&list, rule)) {
+        Some(("rules told", told.len() as u64))
+    } else {
+        None
     }
-    if told.len() < 20 {
-        return Some(("rules left", told.len() as u64));
-    }
-    if told.len() != list.len() || !told.iter().all(|rule| is_listed(&list, rule)) {
-        return Some(("rules told", told.len() as u64));
-    }
-    None
 }

@@ -6,8 +6,8 @@ use Rattle.tw_rights.specs.Rights.{Right}
 use Rattle.tw_types.specs.Store.{Store}
 use Rattle.tw_types.specs.StoreCalls.{value_in}
 use Rattle.tw_types.specs.StoreChecks.{may_store, may_retrieve, may_drop_read}
-use Rattle.tw_store_calls.proofs.Lives.{made_at, new_may, none_wait, set_at, still_here, set_may, if_same, next_kept, on_ok}
-use Rattle.tw_store_calls.proofs.life.Goals as goal
+use Rattle.tw_trials.proofs.Scalars.{made_at, new_may, none_wait, set_at, still_here, set_may, if_same, next_kept, on_ok}
+use Rattle.tw_trials.proofs.lives.life.Goals as goal
 
 pub store-requires-clause-allowed : goal.store-requires-clause-allowed
 store-requires-clause-allowed c =
