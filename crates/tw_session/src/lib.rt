@@ -14,4 +14,4 @@ mod status;
 pub use reply::{Reply, reply_to};
 pub use shell::{session, without_words};
 pub use status::{Close, Status};
-pub use tw_command::{EventLimit, Order, ProgramOrder, RunOrder, VerifiedOrder, input_of};
+pub use tw_command::input_of;
