@@ -10,10 +10,9 @@ use Rattle.tw_types.specs.declared.cause.Cause.TheVariants.{WrongCall}
 use Rattle.tw_types.specs.declared.event.Event.{Event}
 use Rattle.tw_types.specs.declared.event.Event.TheVariants.{Take, Local, Call, End, Ask, Deliver, Release}
 use Rattle.tw_types.specs.declared.notice.Subscriber.{Subscriber}
-use Rattle.tw_types.specs.Actor.{actor_cmp}
 use Rattle.tw_types.specs.Layout.{ActorCounts}
-use Rattle.tw_types.specs.Outcome.{Outcome, Went}
-use Rattle.tw_types.specs.Store.{Datum, Store}
+use Rattle.tw_types.specs.Outcome.{Went}
+use Rattle.tw_types.specs.Store.{Datum}
 use Rattle.tw_types.specs.StoreCalls.{subscribed}
 use Rattle.tw_types.specs.Task.{Task}
 use Rattle.tw_types.proofs.ActorOrder.{actor_cmp_total, actor_cmp-IsAntisymmetric}

@@ -15,7 +15,7 @@ use Rattle.tw_code.specs.machine.Holders.{Typings, typing_of}
 use Rattle.tw_code.specs.machine.Rights.{RightType, right_at, right_of}
 use Rattle.tw_code.specs.machine.State.{Frame, State}
 use Rattle.tw_no_trap.specs.Invariant.{ArgFits, ArgsFit, Holds, IsHeld, RuleArgsFit, ValuesFit}
-use Rattle.tw_no_trap.specs.InOrder.{ArgAsDue, HeldAsDue, IsArgOf, IsAwaited, IsHeldAs, IsInOrder, IsNumbered, IsTyped, IsTypedFrame, IsTypedRule, IsTypedTask, RuleArgAsDue, ValueAsDue, output_rights, right_until}
+use Rattle.tw_no_trap.specs.InOrder.{ArgAsDue, HeldAsDue, IsArgOf, IsHeldAs, IsInOrder, IsTypedFrame, IsTypedRule, IsTypedTask, RuleArgAsDue, ValueAsDue, output_rights, right_until}
 use Rattle.tw_no_trap.specs.NoTrap.{AreRight}
 use Rattle.tw_no_trap.proofs.Lasting.{AreRunning}
 use Rattle.tw_no_trap.proofs.Live.{notice_is_live, output_is_live, rule_is_live, task_is_live}

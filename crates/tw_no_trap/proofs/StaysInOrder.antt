@@ -1,5 +1,5 @@
 -- Each state that an accepted program reaches is in order, and its data live on.
-use Rattle.std.proofs.Common.{◌≡◌, ℕ, List, [], ◌∷◌, slice_get, Some, sym, subst}
+use Rattle.std.proofs.Common.{◌≡◌, List, [], ◌∷◌, sym, subst}
 use Rattle.tw_types.specs.declared.event.Event.{Event}
 use Rattle.tw_types.specs.declared.input.Input.{Input}
 use Rattle.tw_types.specs.Layout.{ActorCounts}
@@ -12,7 +12,7 @@ use Rattle.tw_code.specs.machine.Machine.{run}
 use Rattle.tw_code.specs.machine.Opening.{opening, reached}
 use Rattle.tw_code.specs.machine.State.{State}
 use Rattle.tw_code.proofs.Taken.{takes_once}
-use Rattle.tw_no_trap.specs.InOrder.{IsInOrder, LivesOn, StaysInOrder, output_rights}
+use Rattle.tw_no_trap.specs.InOrder.{LivesOn, StaysInOrder, output_rights}
 use Rattle.tw_no_trap.specs.NoTrap.{AreRight}
 use Rattle.tw_no_trap.proofs.Accepted.{accepted}
 use Rattle.tw_no_trap.proofs.Lasting.{AreRunning, Lasts, run_lasts}

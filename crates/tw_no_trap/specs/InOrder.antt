@@ -1,6 +1,6 @@
 -- What holds besides of each state that an accepted program reaches: who holds what, of which type, who waits, and which
 -- numbers were given.
-use Rattle.std.specs.Prelude.{◌≡◌, ◌≢◌, ◌≤◌, ◌<◌, ℕ, Bool, true, false, if◌then◌else◌, List, [], ◌∷◌, map, filter, Option, Some, None, slice_get}
+use Rattle.std.specs.Prelude.{◌≡◌, ◌≢◌, ◌≤◌, ◌<◌, ℕ, Bool, true, false, if◌then◌else◌, List, map, filter, Option, Some, None, slice_get}
 use Rattle.std.specs.FinMap.{get}
 use Rattle.std.specs.FinSet as set
 use Rattle.tw_types.specs.declared.actor.Actor.{Actor}
