@@ -27,7 +27,8 @@ use Rattle.tw_code.specs.accepting.Typing.{suits_mode, may_stand_for, asks_value
 use Rattle.tw_types.specs.Counts.{hits}
 use Rattle.tw_code.specs.machine.Holders.{read_by, write_by, over}
 use Rattle.tw_no_trap.proofs.Over.{over_params}
-use Rattle.tw_no_trap.specs.Invariant.{Holds, RightsFit, ValuesFit, ArgFits, ArgsFit, right_until, is_asked_for, RuleArgsFit}
+use Rattle.tw_no_trap.specs.Invariant.{Holds, RightsFit, ValuesFit, ArgFits, ArgsFit, RuleArgsFit}
+use Rattle.tw_no_trap.specs.InOrder.{right_until, is_asked_for}
 use Rattle.tw_types.proofs.Freeing.{hits_same}
 use Rattle.tw_no_trap.proofs.Registers.{Found, found, emptied, rights_set}
 use Rattle.tw_no_trap.proofs.Scalars.{scalar_itself, same_types, type_itself}

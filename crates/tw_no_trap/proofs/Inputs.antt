@@ -29,7 +29,7 @@ use Rattle.tw_code.specs.machine.Opening.{closed_scalar, numbered, with_containe
 use Rattle.tw_no_trap.specs.Invariant.{Holds}
 use Rattle.tw_no_trap.proofs.DataInsert.{count_total, values_insert}
 use Rattle.tw_no_trap.proofs.Filling.{IsFilling, IsNext, added_filling, filled, filled_balanced, filled_typed, inside-le, not_yet, plain_next, undisturbed_added}
-use Rattle.tw_no_trap.proofs.Registers.{Undisturbed, holds_undisturbed}
+use Rattle.tw_no_trap.proofs.Registers.{Undisturbed, holds_undisturbed, undisturbed_after, undisturbed_itself}
 use Rattle.tw_no_trap.proofs.Scalars.{same_types}
 
 -- ---- subscripts that rise
@@ -105,18 +105,6 @@ right_filled s ty r w h = filled s ty r w h.typed h.balanced h.writers
 
 pub filled_right : (s : Store) (ty : Scalar) (r w : ℕ → ℕ) → IsFilling s ty 0 r w → IsRight s r w
 filled_right s ty r w f = record { typed = filled_typed s ty r w f; balanced = filled_balanced s ty r w f; writers = f.writers }
-
-undisturbed_itself : (s : Store) → Undisturbed s s
-undisturbed_itself s = record { next = omega arith; kept = λ d y given at. (y, at, refl, λ c. c) }
-
-undisturbed_after : (s t u : Store) → Undisturbed s t → Undisturbed t u → Undisturbed s u
-undisturbed_after s t u a b = record {
-  next = (let x = a.next in let y = b.next in omega arith);
-  kept = λ d y given at.
-      let older = b.kept d y (let x = a.next in omega arith) at in
-      let oldest = a.kept d older.0 given older.1 in
-      (oldest.0, oldest.1, older.2 ∙ oldest.2, λ c. older.3 (oldest.3 c));
-}
 
 -- what an input leaves: one datum more that main holds a read of, and that it may wait for
 pub record IsGiven (s t : Store) (ty : NestedScalar) (r w : ℕ → ℕ) : Type 0 where

@@ -25,7 +25,8 @@ use Rattle.tw_code.specs.machine.Arguments.{params_in}
 use Rattle.tw_code.specs.machine.Holders.{Typings, read_by, reads_of, rule_reads, rule_writes, task_reads, task_writes, typing_of, write_by, writes_of}
 use Rattle.tw_code.specs.machine.Rights.{RightType, Rights, Typing, right_at, right_of}
 use Rattle.tw_code.specs.machine.State.{Frame, State, context_of}
-use Rattle.tw_no_trap.specs.Invariant.{ArgFits, ArgsFit, IsHeld, RightsFit, RuleArgsFit, read_until, right_until}
+use Rattle.tw_no_trap.specs.Invariant.{ArgFits, ArgsFit, IsHeld, RightsFit, RuleArgsFit}
+use Rattle.tw_no_trap.specs.InOrder.{read_until, right_until}
 use Rattle.tw_no_trap.proofs.DataInsert.{found_inside}
 use Rattle.tw_no_trap.proofs.Named.{notice_wants}
 use Rattle.tw_no_trap.proofs.Over.{over_params}

@@ -1,7 +1,8 @@
 -- The state in which main waits: all is held, whatever the inputs.
-use Rattle.std.proofs.Common.{◌≡◌, ℕ, ◌+◌, Bool, true, false, not, List, [], ◌∷◌, ◌++◌, length, map, slice_get, Option, Some, None, refl, sym, ap, subst, ◌∙◌, arith, if◌then◌else◌, nat_cmp, inl, inr}
+use Rattle.std.proofs.Common.{◌≡◌, ℕ, ◌+◌, Bool, true, false, not, List, [], ◌∷◌, ◌++◌, length, map, filter, slice_get, Option, Some, None, refl, sym, ap, subst, ◌∙◌, arith, if◌then◌else◌, nat_cmp, inl, inr}
 use Rattle.std.proofs.lemmas.Bool.{and_parts, cases_eq, eqb-true, not-true}
 use Rattle.std.proofs.lemmas.List.{append-nil, append_assoc, map-append}
+use Rattle.std.proofs.lemmas.List.Elements.{filter-append}
 use Rattle.std.proofs.lemmas.Option.{same_Some}
 use Rattle.std.specs.Cmp.{nat_cmp_total}
 use Rattle.std.specs.FinMap.{empty, get, get-empty, insert, nat_cmp-IsAntisymmetric}
@@ -32,12 +33,14 @@ use Rattle.tw_code.specs.machine.Opening.{Opened, main_task, opened, opening, op
 use Rattle.tw_code.specs.machine.Rights.{RightType, right_of}
 use Rattle.tw_code.specs.machine.State.{Frame}
 use Rattle.tw_no_trap.specs.Invariant.{ArgFits, ArgsFit, Holds, IsHeld, NumbersHeld, TypesHeld, CountsHeld, BudgetsHeld}
+use Rattle.tw_no_trap.specs.InOrder.{output_rights}
 use Rattle.tw_no_trap.proofs.Asked.{opening_named}
 use Rattle.tw_no_trap.proofs.DataNew.{new_content, new_writers, no_members}
 use Rattle.tw_no_trap.proofs.Filling.{added_filling, not_yet, plain_next, undisturbed_added}
 use Rattle.tw_no_trap.proofs.Inputs.{IsRight, filled_right, input_given, right_filled}
+use Rattle.tw_no_trap.proofs.Lasting.{AreRunning}
 use Rattle.tw_no_trap.proofs.Over.{over_params}
-use Rattle.tw_no_trap.proofs.Registers.{Undisturbed}
+use Rattle.tw_no_trap.proofs.Registers.{Undisturbed, holds_undisturbed}
 use Rattle.tw_no_trap.proofs.Stages.{args_kept}
 
 -- ---- main's parameters
@@ -80,8 +83,49 @@ given_reads params o d = over_params (read_by d) params (map RightArg o.rights) 
 abbrev given_writes : List Param → Opened → ℕ → ℕ
 given_writes params o d = over_params (write_by d) params (map RightArg o.rights)
 
+-- the reads of these that the host has
+abbrev pub outputs_of : List Param → List RightType
+outputs_of params = map (λ p. record { mode = Ref; ty = p.ty }) (filter (λ p. is_write p.mode) params)
+
+abbrev pub OutputsFit : Store → List RightType → List ℕ → Type 0
+OutputsFit s [] [] = Unit {0}
+OutputsFit s [] (id ∷ ids) = ⊥
+OutputsFit s (right ∷ rights) [] = ⊥
+OutputsFit s (right ∷ rights) (id ∷ ids) = Holds s right id × OutputsFit s rights ids
+
+outputs_joined : (s : Store) (rights : List RightType) (ids : List ℕ) (right : RightType) (id : ℕ) → OutputsFit s rights ids → Holds s right id → OutputsFit s (rights ++ right ∷ []) (ids ++ id ∷ [])
+outputs_joined s [] [] right id h f = (f, tt)
+outputs_joined s [] (i ∷ ids) right id h f = absurd h
+outputs_joined s (r ∷ rights) [] right id h f = absurd h
+outputs_joined s (r ∷ rights) (i ∷ ids) right id h f = (h.0, outputs_joined s rights ids right id h.1 f)
+
+pub outputs_kept : (s t : Store) → Undisturbed s t → (rights : List RightType) (ids : List ℕ) → OutputsFit s rights ids → OutputsFit t rights ids
+outputs_kept s t u [] [] h = h
+outputs_kept s t u [] (i ∷ ids) h = absurd h
+outputs_kept s t u (r ∷ rights) [] h = absurd h
+outputs_kept s t u (r ∷ rights) (i ∷ ids) h = (holds_undisturbed s t u r i h.0, outputs_kept s t u rights ids h.1)
+
+abbrev as_read : Param → RightType
+as_read p = record { mode = Ref; ty = p.ty }
+
+outputs_more : (params : List Param) (p : Param) → outputs_of (params ++ p ∷ []) ≡ outputs_of params ++ outputs_of (p ∷ [])
+outputs_more params p =
+    ap (map as_read) (filter-append (λ (q : Param). is_write q.mode) params (p ∷ []))
+    ∙ map-append as_read (filter (λ (q : Param). is_write q.mode) params) (filter (λ (q : Param). is_write q.mode) (p ∷ []))
+
+outputs_one_more : (params : List Param) (p : Param) → is_write p.mode ≡ true → outputs_of (params ++ p ∷ []) ≡ outputs_of params ++ record { mode = Ref; ty = p.ty } ∷ []
+outputs_one_more params p writes =
+    let one : outputs_of (p ∷ []) ≡ record { mode = Ref; ty = p.ty } ∷ [] = rw writes refl in
+    outputs_more params p ∙ ap (λ (rights : List RightType). outputs_of params ++ rights) one
+
+outputs_same : (params : List Param) (p : Param) → is_write p.mode ≡ false → outputs_of (params ++ p ∷ []) ≡ outputs_of params
+outputs_same params p reads =
+    let none : outputs_of (p ∷ []) ≡ [] = rw reads refl in
+    outputs_more params p ∙ ap (λ (rights : List RightType). outputs_of params ++ rights) none ∙ append-nil (outputs_of params)
+
 -- what holds while they are gone through
 pub record IsOpened (params : List Param) (o : Opened) : Type 0 where
+  pub outputs : OutputsFit o.store (outputs_of params) o.outputs
   pub right : IsRight o.store (given_reads params o) (given_writes params o)
   pub args : ArgsFit o.store params (map RightArg o.rights)
 
@@ -121,7 +165,11 @@ module _ (params : List Param) (o : Opened) (p : Param) (h : IsOpened params o) 
         ty = λ x at. ap (λ (y : Datum). y.ty) (sym (same_Some (new_datum p.ty) x (sym (insert_same nat_cmp nat_cmp_total o.store.live id (new_datum p.ty)) ∙ at)));
         closed = λ x at c. absurd (not_closed p.mode writes c);
       } in
+      let read : Holds (added o.store (new_datum p.ty)) (record { mode = Ref; ty = p.ty }) id = record { given = holds.given; ty = holds.ty; closed = λ x at c. cc } in
+      let others = undisturbed_added o.store scalar.Int 0 r w f (new_datum p.ty) in
       record {
+        outputs = subst (λ (rights : List RightType). OutputsFit (added o.store (new_datum p.ty)) rights (o.outputs ++ id ∷ [])) (sym (outputs_one_more params p writes))
+            (outputs_joined (added o.store (new_datum p.ty)) (outputs_of params) o.outputs (record { mode = Ref; ty = p.ty }) id (outputs_kept o.store (added o.store (new_datum p.ty)) others (outputs_of params) o.outputs h.outputs) read);
         right = right_same (added o.store (new_datum p.ty)) _ _ (given_reads (params ++ p ∷ []) (with_output o p.ty)) (given_writes (params ++ p ∷ []) (with_output o p.ty)) right (λ d.
             let a = over_more (read_by d) in
             let b = over_more (write_by d) in
@@ -129,7 +177,7 @@ module _ (params : List Param) (o : Opened) (p : Param) (h : IsOpened params o) 
             let no_read : read_by d (Some (record { mode = p.mode; ty = p.ty })) (Some id) ≡ 0 = ap (λ b. if b then 0 else hits d id) writes in
             let a_write : write_by d (Some (record { mode = p.mode; ty = p.ty })) (Some id) ≡ hits d id = ap (λ b. if b then hits d id else 0) writes in
             (omega arith, omega arith));
-        args = args_more (added o.store (new_datum p.ty)) (undisturbed_added o.store scalar.Int 0 r w f (new_datum p.ty)) holds;
+        args = args_more (added o.store (new_datum p.ty)) others holds;
       }
 
   -- an input
@@ -137,6 +185,7 @@ module _ (params : List Param) (o : Opened) (p : Param) (h : IsOpened params o) 
   input_more i reads fit =
       let g = input_given o.store (given_reads params o) (given_writes params o) h.right i p.ty fit in
       record {
+        outputs = subst (λ (rights : List RightType). OutputsFit (with_input o.store i) rights o.outputs) (sym (outputs_same params p reads)) (outputs_kept o.store (with_input o.store i) g.others (outputs_of params) o.outputs h.outputs);
         right = right_same (with_input o.store i) _ _ (given_reads (params ++ p ∷ []) (with_given o (Some i))) (given_writes (params ++ p ∷ []) (with_given o (Some i))) g.right (λ d.
             let a = over_more (read_by d) in
             let b = over_more (write_by d) in
@@ -197,6 +246,7 @@ start_opened = record {
     balanced = record { at = λ d. subst (λ (o : Option Datum). BalancedAt o (inside empty d) (0 + 0) 0) (sym (get-empty nat_cmp d)) (total-empty nat_cmp (subscripts_in d), omega arith, refl) };
   };
   args = tt;
+  outputs = tt;
 }
 
 -- ---- the state
@@ -261,17 +311,30 @@ module _ (main : Procedure) (others : List Procedure) (typings : Typings) (o : O
     within = λ a f p budget at here most. absurd (no_frame a f at);
   }
 
-pub opening_held : (main : Procedure) (others : List Procedure) (typings : Typings) (inputs : List Input) → AllByRecursion IsParam main.params → has_main_shape (main ∷ others) ≡ true → AreInputsOf (main ∷ others) inputs
-    → IsHeld (main ∷ others) typings (opening (main ∷ others) inputs)
-unfolding opening
-opening_held main others typings inputs each shape given =
-    let o : Opened = opened (record { store = empty_store; rights = []; outputs = [] }) main.params inputs in
-    let shaped = (and_parts (is_control main.kind) (list_all is_main_param main.params) shape).1 in
-    let h = opened_all [] main.params inputs (record { store = empty_store; rights = []; outputs = [] }) start_opened shaped each (eqb-true (length inputs) (length (input_params main.params)) given.count) given.fit in
-    record {
-      numbers = numbers_opened main others typings o h;
-      types = types_opened main others typings o h;
-      counts = counts_opened main others typings o h;
-      notices = opening_named (main ∷ others) inputs;
-      budgets = budgets_opened main others typings o h;
-    }
+module _ (main : Procedure) (others : List Procedure) (inputs : List Input) (each : AllByRecursion IsParam main.params) (shape : has_main_shape (main ∷ others) ≡ true) (given : AreInputsOf (main ∷ others) inputs) where
+  main_opened : IsOpened main.params (opened (record { store = empty_store; rights = []; outputs = [] }) main.params inputs)
+  main_opened =
+      let shaped = (and_parts (is_control main.kind) (list_all is_main_param main.params) shape).1 in
+      opened_all [] main.params inputs (record { store = empty_store; rights = []; outputs = [] }) start_opened shaped each (eqb-true (length inputs) (length (input_params main.params)) given.count) given.fit
+
+  pub opening_held : (typings : Typings) → IsHeld (main ∷ others) typings (opening (main ∷ others) inputs)
+  unfolding opening
+  opening_held typings =
+      let o : Opened = opened (record { store = empty_store; rights = []; outputs = [] }) main.params inputs in
+      record {
+        numbers = numbers_opened main others typings o main_opened;
+        types = types_opened main others typings o main_opened;
+        counts = counts_opened main others typings o main_opened;
+        notices = opening_named (main ∷ others) inputs;
+        budgets = budgets_opened main others typings o main_opened;
+      }
+
+  -- no task runs yet
+  pub opening_running : AreRunning (opening (main ∷ others) inputs)
+  unfolding opening
+  opening_running a f at = absurd (no_frame a f at)
+
+  -- the host's outputs
+  pub opening_outputs : OutputsFit (opening (main ∷ others) inputs).store (output_rights (main ∷ others)) (opening (main ∷ others) inputs).outputs
+  unfolding opening
+  opening_outputs = main_opened.outputs

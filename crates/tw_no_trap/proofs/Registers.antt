@@ -82,6 +82,18 @@ pub record Undisturbed (s t : Store) : Type 0 where
 pub later_undisturbed : (s t : Store) → Later t.live s.live → t.next ≡ s.next → Undisturbed s t
 later_undisturbed s t l next = record { next = omega arith; kept = λ d y given at. let p = l.there d y at in (p.0, p.1, p.2.ty, p.2.closed) }
 
+pub undisturbed_itself : (s : Store) → Undisturbed s s
+undisturbed_itself s = record { next = omega arith; kept = λ d y given at. (y, at, refl, λ c. c) }
+
+pub undisturbed_after : (s t u : Store) → Undisturbed s t → Undisturbed t u → Undisturbed s u
+undisturbed_after s t u a b = record {
+  next = (let x = a.next in let y = b.next in omega arith);
+  kept = λ d y given at.
+      let older = b.kept d y (let x = a.next in omega arith) at in
+      let oldest = a.kept d older.0 given older.1 in
+      (oldest.0, oldest.1, older.2 ∙ oldest.2, λ c. older.3 (oldest.3 c));
+}
+
 pub holds_undisturbed : (s t : Store) → Undisturbed s t → (p : RightType) (id : ℕ) → Holds s p id → Holds t p id
 holds_undisturbed s t u p id h = record {
   given = (let a = h.given in let b = u.next in omega arith);

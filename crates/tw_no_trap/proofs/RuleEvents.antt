@@ -17,7 +17,8 @@ use Rattle.tw_code.specs.declared.procedure.Procedure.{Procedure}
 use Rattle.tw_code.specs.machine.State.{State, with_stage}
 use Rattle.tw_code.specs.machine.Machine.{own_rule, id_in, asked, ask_event, ready_at, deliver_event, release_event}
 use Rattle.tw_code.specs.machine.Holders.{Typings}
-use Rattle.tw_no_trap.specs.Invariant.{ArgFits, right_until, IsHeld}
+use Rattle.tw_no_trap.specs.Invariant.{ArgFits, IsHeld}
+use Rattle.tw_no_trap.specs.InOrder.{right_until}
 use Rattle.tw_code.specs.machine.Rights.{right_of}
 use Rattle.tw_no_trap.proofs.Asked.{Noted, noted, named_staged, named_asked, named_delivered, named_released}
 use Rattle.tw_code.proofs.Staged.{settled_waits}

@@ -11,7 +11,6 @@ use Rattle.tw_code.specs.machine.Inputs.{AreInputsOf}
 use Rattle.tw_code.specs.machine.Machine.{step}
 use Rattle.tw_code.specs.machine.Opening.{opening, reached}
 use Rattle.tw_code.specs.machine.State.{State}
-use Rattle.tw_code.proofs.Taken.{takes_once}
 use Rattle.tw_budget.proofs.Sound.{sound_flows}
 use Rattle.tw_no_trap.specs.Invariant.{IsHeld}
 use Rattle.tw_no_trap.specs.NoTrap.{AreRight, IsSafe, NoTrap}
@@ -44,20 +43,26 @@ module _ (program : List Procedure) (typings : Typings) (is : IsProgram program)
     below = λ a f at. below program typings accepts s a f held at;
   }
 
-  all_held : ((inputs : List Input) → AreInputsOf program inputs → IsHeld program typings (opening program inputs)) → NoTrap program typings
-  all_held open_held = record {
-    run_goes = λ inputs layout events cause given e. keeps_no_trap (reached program inputs layout events) (IsHeld program typings) cause (run_held inputs layout events given) e;
-    reached_is_safe = λ inputs layout events s given e. safe layout s (keeps_went (reached program inputs layout events) (IsHeld program typings) s (run_held inputs layout events given) e);
-    reached_is_held = λ inputs layout events s given e. keeps_went (reached program inputs layout events) (IsHeld program typings) s (run_held inputs layout events given) e;
-    once = λ inputs layout events. takes_once program inputs layout events;
-  }
-    where
-      run_held : (inputs : List Input) (layout : ActorCounts) (events : List Event) → AreInputsOf program inputs → Keeps (reached program inputs layout events) (IsHeld program typings)
-      run_held inputs layout events given = run_keeps program typings layout (accepted program typings accepts) events (opening program inputs) (open_held inputs given)
+-- of the state in which main waits
+pub opened_held : (program : List Procedure) (typings : Typings) → IsProgram program → AreRight program typings → (inputs : List Input) → AreInputsOf program inputs → IsHeld program typings (opening program inputs)
+opened_held [] typings is right inputs given = let main = right.accepted.main in cc
+opened_held (main ∷ others) typings is right inputs given = opening_held main others inputs is.1.0.params.1 right.accepted.main given typings
 
-pub no_trap : (program : List Procedure) (typings : Typings) → IsProgram program → AreRight program typings → NoTrap program typings
-no_trap [] typings is right = let main = right.accepted.main in cc
-no_trap (main ∷ others) typings is right = all_held (main ∷ others) typings is right (λ inputs given. opening_held main others typings inputs is.1.0.params.1 right.accepted.main given)
+pub no_trap : (program : List Procedure) (typings : Typings) → IsProgram program → AreRight program typings → NoTrap program
+no_trap program typings is right = record {
+  run_goes = λ inputs layout events cause given e. keeps_no_trap (reached program inputs layout events) (IsHeld program typings) cause (run_held inputs layout events given) e;
+  reached_is_safe = λ inputs layout events s given e. safe program typings is right layout s (keeps_went (reached program inputs layout events) (IsHeld program typings) s (run_held inputs layout events given) e);
+}
+  where
+    run_held : (inputs : List Input) (layout : ActorCounts) (events : List Event) → AreInputsOf program inputs → Keeps (reached program inputs layout events) (IsHeld program typings)
+    run_held inputs layout events given = run_keeps program typings layout (accepted program typings (accepts program typings is right)) events (opening program inputs) (opened_held program typings is right inputs given)
+
+-- of each state that is reached
+pub reached_is_held : (program : List Procedure) (typings : Typings) → IsProgram program → AreRight program typings → (inputs : List Input) (layout : ActorCounts) (events : List Event) (s : State)
+    → AreInputsOf program inputs → reached program inputs layout events ≡ Went s → IsHeld program typings s
+reached_is_held program typings is right inputs layout events s given e =
+    keeps_went (reached program inputs layout events) (IsHeld program typings) s
+    (run_keeps program typings layout (accepted program typings (accepts program typings is right)) events (opening program inputs) (opened_held program typings is right inputs given)) e
 
 -- what one event leaves, where it goes
 pub kept_by : (program : List Procedure) (typings : Typings) (layout : ActorCounts) (event : Event) (s next : State) → IsProgram program → AreRight program typings → IsHeld program typings s → step program layout event s ≡ Went next → IsHeld program typings next

@@ -21,7 +21,8 @@ use Rattle.tw_code.specs.machine.State.{State, with_stage, with_task}
 use Rattle.tw_code.specs.machine.Rights.{RightType, right_of}
 use Rattle.tw_types.specs.Counts.{HasWriters}
 use Rattle.tw_code.specs.machine.Holders.{Typings, typing_of, rule_reads, rule_writes, task_reads, task_writes, reads_of, writes_of}
-use Rattle.tw_no_trap.specs.Invariant.{ArgFits, ArgsFit, right_until, is_asked_for, RuleArgsFit, NumbersHeld, TypesHeld, CountsHeld}
+use Rattle.tw_no_trap.specs.Invariant.{ArgFits, ArgsFit, RuleArgsFit, NumbersHeld, TypesHeld, CountsHeld}
+use Rattle.tw_no_trap.specs.InOrder.{right_until, is_asked_for}
 use Rattle.tw_no_trap.proofs.Aging.{Aged, later_put}
 use Rattle.tw_types.proofs.Freeing.{balanced_same, balanced_some, put_balanced}
 use Rattle.tw_types.proofs.Parts.{put_or_before, before_removal}
@@ -197,7 +198,7 @@ module _ (program : List Procedure) (typings : Typings) where
     subscribed_aged : Aged x (with_subscriber sub x)
     subscribed_aged = record { ty = refl; members = refl; closed = λ c. c; content = λ h. h; writers = λ h. h }
 
-    subscribed_undisturbed : Undisturbed s.store (record s.store { live = insert s.store.live id (with_subscriber sub x) })
+    pub subscribed_undisturbed : Undisturbed s.store (record s.store { live = insert s.store.live id (with_subscriber sub x) })
     subscribed_undisturbed = later_undisturbed s.store (record s.store { live = insert s.store.live id (with_subscriber sub x) }) (later_put s.store.live id x (with_subscriber sub x) there subscribed_aged) refl
 
     pub types_subscribed : TypesHeld program typings s → TypesHeld program typings subscribed_to

@@ -21,7 +21,8 @@ use Rattle.tw_code.specs.machine.Holders.{read_by, Typings, rule_reads, reads_of
 use Rattle.tw_no_trap.proofs.Over.{over_params}
 use Rattle.tw_types.specs.Counts.{hits}
 use Rattle.tw_code.specs.machine.Rights.{right_of}
-use Rattle.tw_no_trap.specs.Invariant.{is_asked_for, RuleArgsFit, TypesHeld, CountsHeld}
+use Rattle.tw_no_trap.specs.Invariant.{RuleArgsFit, TypesHeld, CountsHeld}
+use Rattle.tw_no_trap.specs.InOrder.{is_asked_for}
 use Rattle.tw_types.proofs.Freeing.{hits_same, held_is_there}
 use Rattle.tw_no_trap.proofs.Named.{Wanted}
 use Rattle.tw_types.proofs.Totals.{part, part-le-total}

@@ -1,16 +1,14 @@
 -- What holds of each state that an accepted program reaches, in parts.
-use Rattle.std.specs.Prelude.{◌≡◌, ℕ, ◌+◌, ◌<◌, true, false, Bool, if◌then◌else◌, List, [], ◌∷◌, Option, Some, None, slice_get}
+use Rattle.std.specs.Prelude.{◌≡◌, ℕ, ◌+◌, ◌<◌, true, List, [], ◌∷◌, Option, Some, None, slice_get}
 use Rattle.std.specs.FinMap.{get}
 use Rattle.tw_types.specs.declared.actor.Actor.{Actor}
 use Rattle.tw_types.specs.declared.data_type.Scalar.{Scalar}
-use Rattle.tw_types.specs.declared.param.Mode.TheVariants.{Ref}
 use Rattle.tw_types.specs.declared.param.Param.{Param}
 use Rattle.tw_types.specs.declared.stage.Stage.{Stage}
-use Rattle.tw_types.specs.declared.stage.Stage.TheVariants.{Free, Unasked, Waiting, Ready}
 use Rattle.tw_types.specs.declared.value.Value.{Value}
 use Rattle.tw_types.specs.Counts.{Balanced, HaveWriters}
 use Rattle.tw_types.specs.Store.{Datum, Store, is_closed}
-use Rattle.tw_types.specs.Mode.{is_val, is_closed_mode}
+use Rattle.tw_types.specs.Mode.{is_closed_mode}
 use Rattle.tw_types.specs.Rule.{Rule}
 use Rattle.tw_types.specs.Task.{Arg, ValueArg, RightArg, Task}
 use Rattle.tw_types.specs.TypedStore.{IsTypedStore}
@@ -25,6 +23,7 @@ use Rattle.tw_code.specs.machine.Position.{Loop}
 use Rattle.tw_code.specs.machine.Rights.{RightType, Rights, Typing, right_of}
 use Rattle.tw_code.specs.machine.State.{Frame, State}
 use Rattle.tw_budget.specs.Frames.{IsWithinBudget}
+use Rattle.tw_no_trap.specs.InOrder.{is_asked_for, right_until}
 use Rattle.tw_no_trap.specs.Noticed.{NoticesHeld}
 
 -- ---- what fits
@@ -68,24 +67,6 @@ ArgsFit s [] [] = Unit {0}
 ArgsFit s [] (arg ∷ args) = ⊥
 ArgsFit s (p ∷ params) [] = ⊥
 ArgsFit s (p ∷ params) (arg ∷ args) = ArgFits s p (right_of p) arg × ArgsFit s params args
-
--- a plain read for what isn't a value
-abbrev pub read_until : Param → Option RightType
-read_until p = if is_val p.mode then None else Some (record { mode = Ref; ty = p.ty })
-
--- what a rule's parameter holds: of a `closed` one a plain read, until it is ready
-abbrev pub right_until : Stage → Param → Option RightType
-right_until Free p = right_of p
-right_until Unasked p = read_until p
-right_until Waiting p = read_until p
-right_until Ready p = right_of p
-
--- just the `closed` parameters are asked for
-abbrev pub is_asked_for : Stage → Bool
-is_asked_for Free = false
-is_asked_for Unasked = true
-is_asked_for Waiting = true
-is_asked_for Ready = true
 
 -- there is an argument and a stage for each parameter
 abbrev pub RuleArgsFit : Store → List Param → List Stage → List Arg → Type 0

@@ -1,5 +1,11 @@
--- What a reader must believe of the law: what it says (NoTrap).
+-- What a reader must believe of the laws: NoTrap, of the headline; InOrder, of what holds besides of the states that are
+-- reached; Circle, Pending and EndsWell, of how runs end.
 pub mod NoTrap
--- What holds of each state that an accepted program reaches. By it the law is proved, and nothing of it need be believed.
+pub mod InOrder
+pub mod Circle
+pub mod Pending
+pub mod EndsWell
+-- What holds of each state that an accepted program reaches, in the form in which an event keeps it. By it the laws are
+-- proved, and nothing of it need be believed.
 pub mod Noticed
 pub mod Invariant

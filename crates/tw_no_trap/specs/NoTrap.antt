@@ -15,10 +15,8 @@ use Rattle.tw_code.specs.accepting.WellTyped.{IsAccepted, IsWellTyped}
 use Rattle.tw_code.specs.machine.Holders.{Typings}
 use Rattle.tw_code.specs.machine.Inputs.{AreInputsOf}
 use Rattle.tw_code.specs.machine.Machine.{step}
-use Rattle.tw_code.specs.machine.Once.{TakesOnce}
 use Rattle.tw_code.specs.machine.Opening.{reached}
 use Rattle.tw_code.specs.machine.State.{State, Frame}
-use Rattle.tw_no_trap.specs.Invariant.{IsHeld}
 
 -- it gives a state
 abbrev pub GivesState : Outcome State → Type 0
@@ -53,10 +51,8 @@ pub record AreRight (program : List Procedure) (typings : Typings) : Type 0 wher
   pub accepted : IsAccepted program
   pub typed : (k : ℕ) (p : Procedure) → slice_get program k ≡ Some p → IsWellTyped program p (typings k) (length p.code)
 
--- whatever the inputs of the signature, the layout and the events: the run doesn't trap, and the state that it reaches
--- is safe and has all parts of the invariant
-pub record NoTrap (program : List Procedure) (typings : Typings) : Type 0 where
+-- whatever the inputs of the signature, the layout and the events: the run doesn't trap, and the state that it reaches is
+-- safe
+pub record NoTrap (program : List Procedure) : Type 0 where
   pub run_goes : (inputs : List Input) (layout : ActorCounts) (events : List Event) (cause : Cause) → AreInputsOf program inputs → reached program inputs layout events ≡ Trap cause → ⊥
   pub reached_is_safe : (inputs : List Input) (layout : ActorCounts) (events : List Event) (s : State) → AreInputsOf program inputs → reached program inputs layout events ≡ Went s → IsSafe program layout s
-  pub reached_is_held : (inputs : List Input) (layout : ActorCounts) (events : List Event) (s : State) → AreInputsOf program inputs → reached program inputs layout events ≡ Went s → IsHeld program typings s
-  pub once : (inputs : List Input) (layout : ActorCounts) (events : List Event) → TakesOnce program inputs layout events

@@ -3,4 +3,4 @@
 
 mod laws;
 
-pub use laws::{budgets_held, counts_held, no_trap, notes_held, types_held};
+pub use laws::{budgets_held, counts_held, ends_well, no_trap, notes_held, types_held};

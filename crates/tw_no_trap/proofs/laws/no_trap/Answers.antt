@@ -1,5 +1,9 @@
 use Rattle.tw_no_trap.proofs.Safe as safe
+use Rattle.tw_no_trap.proofs.StaysInOrder as order
 use Rattle.tw_no_trap.proofs.laws.no_trap.Goals as goal
 
-pub returns : goal.returns
-returns c = safe.no_trap
+pub returns-clause-safe : goal.returns-clause-safe
+returns-clause-safe c = safe.no_trap
+
+pub returns-clause-ordered : goal.returns-clause-ordered
+returns-clause-ordered c = order.stays_in_order

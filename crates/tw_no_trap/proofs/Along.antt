@@ -1,0 +1,89 @@
+-- Along a run: one event more, numbers and counts that stay small, and the engine that makes a rule.
+use Rattle.std.proofs.Common.{◌≡◌, ℕ, suc, ◌+◌, ◌*◌, ◌<◌, ◌≤◌, ◌==◌, true, not, List, [], ◌∷◌, ◌++◌, length, slice_get, Some, ap, subst, ◌∙◌, arith}
+use Rattle.std.proofs.lemmas.Bool.{ltb-true}
+use Rattle.std.specs.FinMap.{get}
+use Rattle.tw_types.specs.declared.actor.Actor.{Actor}
+use Rattle.tw_types.specs.declared.actor.Actor.TheVariants.{Engine, Server, Worker}
+use Rattle.tw_types.specs.declared.actor.Kind.TheVariants.{Control}
+use Rattle.tw_types.specs.declared.cause.Cause.TheVariants.{WrongCall}
+use Rattle.tw_types.specs.declared.event.Event.{Event}
+use Rattle.tw_types.specs.declared.event.Event.TheVariants.{Take, Local, Call, End, Ask, Deliver, Release}
+use Rattle.tw_types.specs.Actor.{is_control, is_in, may_take, number_in_kind}
+use Rattle.tw_types.specs.Layout.{ActorCounts}
+use Rattle.tw_types.specs.Outcome.{Outcome, Went, ◌>>=◌, enabled, only_if, outcome_of}
+use Rattle.tw_types.proofs.Outcomes.{same_went, went_after, went_enabled, went_first, went_ok}
+use Rattle.tw_types.proofs.Results.{there_ok}
+use Rattle.tw_code.specs.declared.procedure.Procedure.{Procedure}
+use Rattle.tw_code.specs.accepting.Walk.{greatest_budget}
+use Rattle.tw_code.specs.format.Program.{IsProgram}
+use Rattle.tw_code.specs.machine.Arguments.{procedure_of}
+use Rattle.tw_code.specs.machine.Bounds.{AreBelow, AreNumbersBelow, size_of}
+use Rattle.tw_code.specs.machine.Holders.{Typings}
+use Rattle.tw_code.specs.machine.Machine.{local_steps, run, step}
+use Rattle.tw_code.specs.machine.State.{Frame, State}
+use Rattle.tw_code.proofs.Growth.{below_more, numbers_wider, step_grows}
+use Rattle.tw_code.proofs.Placed.{IsPlaced}
+use Rattle.tw_no_trap.specs.Invariant.{IsHeld}
+use Rattle.tw_no_trap.specs.NoTrap.{AreRight}
+use Rattle.tw_no_trap.proofs.Safe.{kept_by}
+use Rattle.tw_no_trap.proofs.Turning.{few_steps}
+
+-- one event more, at the end
+pub run_more : (program : List Procedure) (layout : ActorCounts) (history : List Event) (event : Event) (s t u : State)
+    → run program layout history s ≡ Went t → step program layout event t ≡ Went u → run program layout (history ++ event ∷ []) s ≡ Went u
+unfolding run
+run_more program layout [] event s t u e h =
+    let same : s ≡ t = same_went s t e in
+    ap (λ (o : Outcome State). o >>= run program layout []) (ap (step program layout event) same ∙ h)
+run_more program layout (first ∷ history) event s t u e h =
+    let one = went_first (step program layout first s) (run program layout history) t e in
+    ap (λ (o : Outcome State). o >>= run program layout (history ++ event ∷ [])) one.1 ∙ run_more program layout history event one.0 t u one.2 h
+
+-- the next numbers grow by one an event at most
+pub numbers_along : (program : List Procedure) (layout : ActorCounts) (events : List Event) (bound : ℕ) (s t : State) → AreNumbersBelow bound s → run program layout events s ≡ Went t → AreNumbersBelow (bound + length events) t
+unfolding run
+numbers_along program layout [] bound s t h e = subst (AreNumbersBelow (bound + 0)) (same_went s t e) (numbers_wider bound (bound + 0) s (omega arith) h)
+numbers_along program layout (event ∷ events) bound s t h e =
+    let one = went_first (step program layout event s) (run program layout events) t e in
+    numbers_wider (bound + 1 + length events) (bound + suc (length events)) t (omega arith)
+    (numbers_along program layout events (bound + 1) one.0 t ((step_grows program layout event).numbers bound s one.0 h one.1) one.2)
+
+module _ (program : List Procedure) (typings : Typings) (is : IsProgram program) (are : AreRight program typings) (layout : ActorCounts) where
+  -- an event that goes does no more instructions than a budget may have
+  pub event_small : (event : Event) (s next : State) → IsHeld program typings s → step program layout event s ≡ Went next → size_of event ≤ greatest_budget
+  unfolding step
+  event_small (Take actor) s next held e = omega arith
+  event_small (Local actor n) s next held e =
+      let some = went_after (only_if (not (n == 0))) _ next e in
+      let f = went_first (enabled (get s.frames actor)) _ next some.1 in
+      let p = went_first (outcome_of (procedure_of program f.0.procedure)) _ next f.2 in
+      let k = went_first (local_steps n p.0.code f.0.position) _ next p.2 in
+      let runs = went_enabled (get s.frames actor) f.0 f.1 in
+      let here = there_ok (slice_get program f.0.procedure) WrongCall p.0 (went_ok (procedure_of program f.0.procedure) p.0 p.1) in
+      let few = few_steps program typings is are s held actor f.0 runs p.0 here n k.0 k.1 in
+      omega (arith, few)
+  event_small (Call actor) s next held e = omega arith
+  event_small (End actor) s next held e = omega arith
+  event_small (Ask engine rule parameter) s next held e = omega arith
+  event_small (Deliver server datum rule parameter) s next held e = omega arith
+  event_small (Release engine rule) s next held e = omega arith
+
+  -- so numbers, counts and what is spent stay small along a run
+  pub small_along : (events : List Event) (bound : ℕ) (s t : State) → IsHeld program typings s → AreBelow bound s → run program layout events s ≡ Went t → AreBelow (bound + length events * greatest_budget) t
+  unfolding run
+  small_along [] bound s t held h e = subst (AreBelow (bound + 0 * greatest_budget)) (same_went s t e) (below_more bound (bound + 0 * greatest_budget) s (omega arith) h)
+  small_along (event ∷ events) bound s t held h e =
+      let one = went_first (step program layout event s) (run program layout events) t e in
+      let small = event_small event s one.0 held one.1 in
+      let next = below_more (bound + size_of event) (bound + greatest_budget) one.0 (omega (arith, small)) ((step_grows program layout event).all bound s one.0 h one.1) in
+      below_more (bound + greatest_budget + length events * greatest_budget) (bound + suc (length events) * greatest_budget) t (omega arith)
+      (small_along events (bound + greatest_budget) one.0 t (kept_by program typings layout event s one.0 is are held one.1) next one.2)
+
+  -- a task of a control procedure runs on an engine of the layout
+  pub engine_below : (s : State) → IsPlaced program layout s → (actor : Actor) (f : Frame) (p : Procedure) → get s.frames actor ≡ Some f → slice_get program f.procedure ≡ Some p → is_control p.kind ≡ true → number_in_kind actor < layout.engines
+  engine_below s placed actor f p runs here control = by actor (placed.frames actor f runs).there ((placed.frames actor f runs).engine p here control)
+    where
+      by : (a : Actor) → is_in layout a ≡ true → may_take a Control ≡ true → number_in_kind a < layout.engines
+      by (Engine number) there may = ltb-true number layout.engines there
+      by (Server number) there may = cc
+      by (Worker number) there may = cc
