@@ -1,19 +1,19 @@
 //! The events of an actor's frame.
 
-ghost use Rattle.std.specs.Prelude.{◌≡◌, ◌<◌, ◌^◌, IfSome, MatchResult, Ok, OnOk, Some};
+ghost use Rattle.std.specs.Prelude.{◌≡◌, ◌<◌, ◌^◌, IfSome, MatchResult, Ok, Err, OnOk, Some};
 ghost use Rattle.std.specs.FinMap.{get, remove};
 ghost use Rattle.tw_types.specs.declared.actor.Actor.{Actor as AnActor};
 ghost use Rattle.tw_types.specs.Outcome.{Went};
 ghost use Rattle.tw_code.specs.machine.Machine.{end_event, local_event};
 ghost use Rattle.tw_code.specs.machine.State.{State as Meaning};
-ghost use Rattle.tw_instr.specs.Attempts.{Fails, IsStopped};
+ghost use Rattle.tw_instr.specs.Attempts.{IsStopped};
 ghost use Rattle.tw_machine.specs.Events.{FrameComes, FramesCome, instr_of, with_frames};
 ghost use Rattle.tw_machine.specs.Parts.{frames_of};
 
 use std::alloc::Global;
 use std::collections::BTreeMap;
 use tw_code::{Instr, Procedure};
-use tw_instr::{Failure, Frame, Stopped, instr_at, local_steps, procedure_of};
+use tw_instr::{Frame, Stopped, instr_at, local_steps, procedure_of};
 use tw_types::{Actor, Cause};
 
 /// The actor's task does so many local instructions.
@@ -55,8 +55,8 @@ fn local_of(
 }
 
 /// The instruction at the place of a frame.
-fn instr_of<'a>(program: &'a [Procedure], frame: &Frame) -> Result<&'a Instr, Failure>
-    ensures gives { MatchResult result (λ instr. instr_of program.now frame.now ≡ Ok instr.now) (Fails (instr_of program.now frame.now)) }
+fn instr_of<'a>(program: &'a [Procedure], frame: &Frame) -> Result<&'a Instr, Cause>
+    ensures gives { MatchResult result (λ instr. instr_of program.now frame.now ≡ Ok instr.now) (λ cause. instr_of program.now frame.now ≡ Err cause) }
     ensures inside { OnOk result (frame.now.position.place < 2 ^ 63) }
 {
     let procedure = procedure_of(program, frame.procedure())?;
