@@ -7,7 +7,6 @@
 //! * `State` is what a machine has: live data, tasks that run or wait, rules that are pending, notices.
 #![tactic(auto)]
 
-mod calls;
 mod events;
 mod inputs;
 mod opened;
@@ -15,11 +14,9 @@ mod opening;
 mod plain;
 mod refusal;
 mod rule;
-mod rule_events;
 mod rules;
 mod state;
 mod tables;
-mod take;
 mod tasks;
 
 pub use plain::Plain;
