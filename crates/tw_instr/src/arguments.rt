@@ -144,13 +144,13 @@ fn values_suit(position: &Position, params: &[Param], registers: &[u8]) -> bool
 }
 
 /// The id in a right register that is used; it leaves the register.
-fn take_right(rights: &mut [Option<DatumId>; 16], register: u8) -> Result<DatumId, Failure>
-    ensures gives { Gives (held rights.old register) result }
+fn take_right(rights: &mut [Option<DatumId>; 16], register: u8) -> Result<DatumId, Cause>
+    ensures gives { result ≡ held rights.old register }
     ensures left { OnOk result (rights.new ≡ slice_set rights.old register None) }
 {
     let register = usize::from(register);
     let Some(Some(id)) = rights.get(register).copied() else {
-        return Err(Failure::Trap(Cause::EmptyRegister));
+        return Err(Cause::EmptyRegister);
     };
     rights[register] = None;
     Ok(id)

@@ -1,7 +1,7 @@
 //! Why an instruction isn't made.
 
+ghost use Rattle.std.specs.Prelude.{◌≡◌};
 ghost use Rattle.tw_types.specs.Result.{must};
-ghost use Rattle.tw_instr.specs.Attempts.{Gives};
 
 use std::alloc::AllocError;
 use tw_types::Cause;
@@ -36,12 +36,8 @@ impl From<AllocError> for Failure {
 }
 
 /// Fails with the cause unless this holds.
-pub fn must(holds: bool, cause: Cause) -> Result<(), Failure>
-    ensures { Gives (must holds cause) result }
+pub fn must(holds: bool, cause: Cause) -> Result<(), Cause>
+    ensures { result ≡ must holds cause }
 {
-    if holds {
-        Ok(())
-    } else {
-        Err(Failure::Trap(cause))
-    }
+    if holds { Ok(()) } else { Err(cause) }
 }

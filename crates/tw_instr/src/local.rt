@@ -7,7 +7,7 @@ ghost use Rattle.tw_code.specs.machine.Local.{local_instr, same_value};
 ghost use Rattle.tw_code.specs.machine.Machine.{local_step, local_steps};
 ghost use Rattle.tw_code.specs.machine.Position.{at_goal, at_next_place};
 ghost use Rattle.tw_code.specs.machine.Position.{Position as Where};
-ghost use Rattle.tw_instr.specs.Attempts.{Changes, Gives, IsStopped, Leaves};
+ghost use Rattle.tw_instr.specs.Attempts.{Changes, IsStopped, Leaves};
 
 use crate::code::instr_at;
 use crate::failure::Failure;
@@ -20,14 +20,14 @@ use tw_code::{Arithmetic, Instr, LocalInstr};
 use tw_types::{Cause, Scalar, Text, Value};
 
 /// Whether two values are the same; they must be of one type.
-fn same_value(left: &Value, right: &Value) -> Result<bool, Failure>
-    ensures { Gives (same_value left.now right.now) result }
+fn same_value(left: &Value, right: &Value) -> Result<bool, Cause>
+    ensures { result ≡ same_value left.now right.now }
 {
     match (left, right) {
         (Value::Int(left), Value::Int(right)) => Ok(left == right),
         (Value::Text(left), Value::Text(right)) => Ok(left.as_str() == right.as_str()),
         (Value::Int(_), Value::Text(_)) | (Value::Text(_), Value::Int(_)) => {
-            Err(Failure::Trap(Cause::WrongRegister))
+            Err(Cause::WrongRegister)
         }
     }
 }

@@ -1,24 +1,22 @@
 //! What instructions need of their right registers.
 
+ghost use Rattle.std.specs.Prelude.{◌≡◌};
 ghost use Rattle.tw_code.specs.machine.Rights.{held, must_be_empty};
-ghost use Rattle.tw_instr.specs.Attempts.{Gives};
 
-use crate::failure::{Failure, must};
+use crate::failure::must;
 use crate::frame::Frame;
 use tw_types::{Cause, DatumId};
 
 /// The id in a right register that is used.
-pub fn held(frame: &Frame, register: u8) -> Result<DatumId, Failure>
-    ensures { Gives (held frame.now.rights register) result }
+pub fn held(frame: &Frame, register: u8) -> Result<DatumId, Cause>
+    ensures { result ≡ held frame.now.rights register }
 {
-    frame
-        .right(register)
-        .ok_or(Failure::Trap(Cause::EmptyRegister))
+    frame.right(register).ok_or(Cause::EmptyRegister)
 }
 
 /// Fails where something is in a right register that is to be filled.
-pub fn must_be_empty(frame: &Frame, register: u8) -> Result<(), Failure>
-    ensures { Gives (must_be_empty frame.now.rights register) result }
+pub fn must_be_empty(frame: &Frame, register: u8) -> Result<(), Cause>
+    ensures { result ≡ must_be_empty frame.now.rights register }
 {
     must(frame.right(register).is_none(), Cause::WrongRegister)
 }

@@ -7,9 +7,23 @@ use tw_types::Cause;
 /// Why an event, or a part of one, isn't made.
 #[derive(Clone, Copy)]
 pub enum Stopped {
+    /// It can't be made now.
     NotEnabled,
+    /// The task breaks a rule of data or rights.
     Trap(Cause),
+    /// Memory is refused.
     NoMemory,
+}
+
+impl From<Cause> for Stopped {
+    ghost use Rattle.std.specs.Prelude.{◌≡◌};
+    ghost use Rattle.tw_instr.specs.declared.stopped.Stopped.TheVariants.{Trap};
+
+    ghost from_gives = { λ cause stopped. stopped ≡ Trap cause };
+
+    fn from(cause: Cause) -> Stopped {
+        Stopped::Trap(cause)
+    }
 }
 
 impl From<Failure> for Stopped {

@@ -1,8 +1,8 @@
 //! What instructions need of their value registers.
 
-ghost use Rattle.std.specs.Prelude.{◌≡◌, ◌<◌, length, MatchResult, Ok, OnOk};
+ghost use Rattle.std.specs.Prelude.{◌≡◌, ◌<◌, length, MatchResult, Ok, Err, OnOk};
 ghost use Rattle.tw_code.specs.machine.Position.{must_have_type, value_at, int_at, text_at};
-ghost use Rattle.tw_instr.specs.Attempts.{Fails, Gives};
+ghost use Rattle.tw_instr.specs.Attempts.{Gives};
 
 use crate::failure::{Failure, must};
 use crate::position::Position;
@@ -10,13 +10,11 @@ use std::alloc::Global;
 use tw_types::{Cause, Scalar, Text, Value};
 
 /// The value of a declared register; `WrongRegister` where it isn't declared.
-pub fn value_at(position: &Position, register: u8) -> Result<&Value, Failure>
-    ensures gives { MatchResult result (λ value. value_at position.now register ≡ Ok value.now) (Fails (value_at position.now register)) }
+pub fn value_at(position: &Position, register: u8) -> Result<&Value, Cause>
+    ensures gives { MatchResult result (λ value. value_at position.now register ≡ Ok value.now) (λ cause. value_at position.now register ≡ Err cause) }
     ensures declared { OnOk result (register < length position.now.values) }
 {
-    position
-        .value(register)
-        .ok_or(Failure::Trap(Cause::WrongRegister))
+    position.value(register).ok_or(Cause::WrongRegister)
 }
 
 /// A copy of the value of a declared register; `WrongRegister` where it isn't declared.
@@ -27,28 +25,28 @@ pub fn copy_at(alloc: Global, position: &Position, register: u8) -> Result<Value
 }
 
 /// The number in a declared register of type int; `WrongRegister` where there is none.
-pub fn int_at(position: &Position, register: u8) -> Result<i64, Failure>
-    ensures { Gives (int_at position.now register) result }
+pub fn int_at(position: &Position, register: u8) -> Result<i64, Cause>
+    ensures { result ≡ int_at position.now register }
 {
     match value_at(position, register)? {
         Value::Int(number) => Ok(*number),
-        Value::Text(_) => Err(Failure::Trap(Cause::WrongRegister)),
+        Value::Text(_) => Err(Cause::WrongRegister),
     }
 }
 
 /// The text in a declared register of type text; `WrongRegister` where there is none.
-pub fn text_at(position: &Position, register: u8) -> Result<&Text, Failure>
-    ensures { MatchResult result (λ text. text_at position.now register ≡ Ok text.now) (Fails (text_at position.now register)) }
+pub fn text_at(position: &Position, register: u8) -> Result<&Text, Cause>
+    ensures { MatchResult result (λ text. text_at position.now register ≡ Ok text.now) (λ cause. text_at position.now register ≡ Err cause) }
 {
     match value_at(position, register)? {
-        Value::Int(_) => Err(Failure::Trap(Cause::WrongRegister)),
+        Value::Int(_) => Err(Cause::WrongRegister),
         Value::Text(text) => Ok(text),
     }
 }
 
 /// `WrongRegister` where the register isn't declared, or has a value of another type.
-pub fn must_have_type(position: &Position, register: u8, ty: Scalar) -> Result<(), Failure>
-    ensures gives { Gives (must_have_type position.now register ty) result }
+pub fn must_have_type(position: &Position, register: u8, ty: Scalar) -> Result<(), Cause>
+    ensures gives { result ≡ must_have_type position.now register ty }
     ensures declared { OnOk result (register < length position.now.values) }
 {
     let value = value_at(position, register)?;

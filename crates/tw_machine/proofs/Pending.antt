@@ -1,10 +1,11 @@
 -- What comes of asking for a parameter of a rule, and of its release.
 use Rattle.std.proofs.Common.{◌≡◌, ℕ, Bool, true, false, List, refl, sym, ap, subst, ◌∙◌, is_some, arith}
 use Rattle.std.proofs.lemmas.Bool.Decides.{nat_tests}
-use Rattle.std.specs.Prelude.{◌==◌, Ok, Option, Some, None, slice_get}
+use Rattle.std.specs.Prelude.{◌==◌, Ok, Err, Option, Some, None, slice_get}
 use Rattle.std.specs.FinMap.{get}
 use Rattle.std.specs.Option.{ok_or}
 use Rattle.tw_types.specs.declared.actor.Actor.TheVariants.{Engine}
+use Rattle.tw_types.specs.declared.cause.Cause.{Cause}
 use Rattle.tw_types.specs.declared.cause.Cause.TheVariants.{FreedDatum}
 use Rattle.tw_types.specs.declared.stage.Stage.{Stage}
 use Rattle.tw_types.specs.declared.stage.Stage.TheVariants.{Waiting, Ready}
@@ -17,9 +18,6 @@ use Rattle.tw_code.specs.declared.procedure.Procedure.{Procedure}
 use Rattle.tw_code.specs.machine.Arguments.{procedure_of}
 use Rattle.tw_code.specs.machine.Machine.{ask_event, asked, own_rule, release_event}
 use Rattle.tw_code.specs.machine.State.{Frame, Frames, State, with_task}
-use Rattle.tw_instr.specs.declared.failure.Failure.{Failure}
-use Rattle.tw_instr.specs.Attempts.{Fails, IsStopped, stopped_by}
-use Rattle.tw_instr.proofs.Stops.{fails_then}
 use Rattle.tw_machine.specs.Waiting.{RuleTable, TaskTable, rule_released, staged, task_put, unasked_id}
 use Rattle.tw_machine.proofs.Numbered.{staged_some}
 use Rattle.tw_machine.specs.declared.tables.Tables.{Tables}
@@ -101,8 +99,8 @@ module _ (engine number : ℕ) (s : State) where
       release_by : release_event program engine number s ≡ (outcome_of (procedure_of program rule.procedure) >>= λ p. Went (with_task (record s { rules = (rule_released (record { pending = s.rules; next = s.next_rule }) number).pending }) (task_from p.kind rule)))
       release_by = rw (own, ready) refl
 
-      pub release_stopped : (q : ℕ) (why : Failure) → q ≡ rule.procedure → Fails (procedure_of program q) why → IsStopped (release_event program engine number s) (stopped_by why)
-      release_stopped q why same fails = subst (λ o. IsStopped o (stopped_by why)) (sym release_by) (fails_then _ _ why (subst (λ (n : ℕ). Fails (procedure_of program n) why) same fails))
+      pub release_stopped : (q : ℕ) (cause : Cause) → q ≡ rule.procedure → procedure_of program q ≡ Err cause → release_event program engine number s ≡ Trap cause
+      release_stopped q cause same fails = release_by ∙ rw (ap (procedure_of program) (sym same) ∙ fails) refl
 
       pub release_goes : (q : ℕ) (p : Procedure) → q ≡ rule.procedure → procedure_of program q ≡ Ok p
           → release_event program engine number s ≡ Went (with_task (record s { rules = (rule_released (record { pending = s.rules; next = s.next_rule }) number).pending }) (task_from p.kind rule))

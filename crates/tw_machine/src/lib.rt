@@ -7,7 +7,6 @@
 //! * `State` is what a machine has: live data, tasks that run or wait, rules that are pending, notices.
 #![tactic(auto)]
 
-mod calls;
 mod events;
 mod inputs;
 mod opened;
@@ -15,17 +14,13 @@ mod opening;
 mod plain;
 mod refusal;
 mod rule;
-mod rule_events;
 mod rules;
 mod state;
-mod stepped;
 mod tables;
-mod take;
 mod tasks;
 
 pub use plain::Plain;
 pub use refusal::{OpenRefusal, OpenRefused};
 pub use rule::Rule;
 pub use state::State;
-pub use stepped::Stepped;
-pub use tw_instr::{Arg, Datum, Frame, Task};
+pub use tw_instr::{Arg, Datum, Frame, Stopped, Task};

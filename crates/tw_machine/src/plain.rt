@@ -4,16 +4,17 @@ ghost use Rattle.std.specs.Prelude.{◌≡◌, ℕ, ◌<◌, ◌+◌, ◌^◌, I
 ghost use Rattle.tw_code.specs.machine.Bounds.{AreBelow, opening_bound, size_of};
 ghost use Rattle.tw_code.specs.machine.Ending.{ending};
 ghost use Rattle.tw_code.specs.machine.Opening.{opening};
+ghost use Rattle.tw_code.specs.machine.Machine.{step};
+ghost use Rattle.tw_instr.specs.Attempts.{Changes};
 ghost use Rattle.tw_machine.specs.Opening.{IsTold, refusal_of};
-ghost use Rattle.tw_machine.specs.PlainView.{Steps};
 
 use crate::opening::refusal_of;
 use crate::refusal::{OpenRefusal, OpenRefused};
 use crate::state::State;
-use crate::stepped::Stepped;
 use std::alloc::Global;
 use std::marker::Model;
 use tw_code::{Program, main_params};
+use tw_instr::Stopped;
 use tw_types::{Ending, Event, Input, Layout};
 
 /// A program that runs on the actors of a layout, one event at a time.
@@ -83,18 +84,16 @@ impl Plain {
     }
 
     /// Makes one event, if it is enabled and breaks no rule and memory is there; else nothing changes.
-    pub fn step(&mut self, alloc: Global, event: Event) -> Stepped
+    pub fn step(&mut self, alloc: Global, event: Event) -> Result<(), Stopped>
         requires small { AreBelow (2 ^ 63) self.old.state }
         requires size { size_of event < 2 ^ 63 }
-        ensures steps { Steps self.old.program self.old.layout event self.old.state result self.new.state }
+        ensures steps { Changes (step self.old.program self.old.layout event self.old.state) self.old.state result self.new.state }
         ensures program { self.new.program ≡ self.old.program }
         ensures layout { self.new.layout ≡ self.old.layout }
         ensures below { (bound : ℕ) → AreBelow bound self.old.state → AreBelow (bound + size_of event) self.new.state }
     {
-        let made = self
-            .state
-            .step(alloc, self.program.procedures(), self.layout, event);
-        Stepped::from(made)
+        self.state
+            .step(alloc, self.program.procedures(), self.layout, event)
     }
 
     pub fn state(&self) -> &State

@@ -19,12 +19,12 @@ ghost use Rattle.tw_machine.specs.Due.{is_due};
 ghost use Rattle.tw_machine.specs.Opening.{nothing_opened};
 ghost use Rattle.tw_machine.specs.Parts.{frames_of};
 
+use crate::events::{calls, rules, tasks};
 use crate::opened::Opened;
 use crate::rule::Rule;
 use crate::rules::Rules;
 use crate::tables::Tables;
 use crate::tasks::Tasks;
-use crate::{calls, events, rule_events, take};
 use std::alloc::{AllocError, Global};
 use std::collections::BTreeMap;
 use std::marker::Model;
@@ -184,7 +184,7 @@ impl State {
     pub fn oldest_notice(&self, layout: Layout, server: u8) -> Option<Notice>
         ensures { MatchOption result ((n : ANotice) → is_due layout server self.now.notices n ≡ false) (λ n. is_due layout server self.now.notices n ≡ true) }
     {
-        rule_events::oldest_notice(layout, server, &self.tables.notices)
+        rules::oldest_notice(layout, server, &self.tables.notices)
     }
 
     /// Whether no task runs and none waits, no notice is to be delivered, and the rules are idle.
@@ -228,7 +228,7 @@ impl State {
     {
         match event {
             Event::Take(actor) => {
-                take::take(
+                tasks::take(
                     alloc,
                     program,
                     layout,
@@ -237,7 +237,7 @@ impl State {
                     actor,
                 )
             }
-            Event::Local(actor, steps) => events::local(
+            Event::Local(actor, steps) => tasks::local(
                 alloc,
                 program,
                 &mut self.frames,
@@ -251,9 +251,9 @@ impl State {
                 &mut self.frames,
                 actor,
             ),
-            Event::End(actor) => events::end(program, &mut self.frames, actor),
+            Event::End(actor) => tasks::end(program, &mut self.frames, actor),
             Event::Ask(engine, rule, parameter) => {
-                rule_events::ask(&mut self.tables, &self.frames, engine, rule, parameter)
+                rules::ask(&mut self.tables, &self.frames, engine, rule, parameter)
             }
             Event::Deliver(server, datum, rule, parameter) => {
                 let notice = Notice {
@@ -261,10 +261,10 @@ impl State {
                     rule,
                     parameter,
                 };
-                rule_events::deliver(layout, &mut self.tables, server, &notice)
+                rules::deliver(layout, &mut self.tables, server, &notice)
             }
             Event::Release(engine, rule) => {
-                rule_events::release(alloc, program, &mut self.tables, &self.frames, engine, rule)
+                rules::release(alloc, program, &mut self.tables, &self.frames, engine, rule)
             }
         }
     }

@@ -10,7 +10,7 @@ use crate::play::{Course, played};
 use crate::programs::{read_program, with_bytes};
 use crate::state::put_state;
 use std::alloc::{AllocError, Global};
-use tw_machine::{OpenRefused, Plain, Stepped};
+use tw_machine::{OpenRefused, Plain, Stopped};
 use tw_session::input_of;
 use tw_types::{Actor, Input};
 
@@ -48,35 +48,39 @@ pub fn machine_text(
     }
 }
 
-fn answers_text(alloc: Global, last: Stepped, others: &[Stepped]) -> Result<String, AllocError> {
+fn answers_text(
+    alloc: Global,
+    last: Result<(), Stopped>,
+    others: &[Result<(), Stopped>],
+) -> Result<String, AllocError> {
     let mut parts = refused(alloc, others)?;
-    parts.push(stepped_text(alloc, last)?)?;
+    parts.push(answer_text(alloc, last)?)?;
     parts.as_slice().join(alloc, " / ")
 }
 
 /// Those of the first events that didn't go.
-fn refused(alloc: Global, answers: &[Stepped]) -> Result<Vec<String>, AllocError> {
+fn refused(alloc: Global, answers: &[Result<(), Stopped>]) -> Result<Vec<String>, AllocError> {
     let mut parts = Vec::new(alloc);
     let mut number = 0u64;
     for answer in answers {
         number = number.saturating_add(1);
-        if *answer != Stepped::Went {
-            let text = stepped_text(alloc, *answer)?;
+        if answer.is_err() {
+            let text = answer_text(alloc, *answer)?;
             parts.push(format!(in alloc; "event {number} {text}")?)?;
         }
     }
     Ok(parts)
 }
 
-fn stepped_text(alloc: Global, answer: Stepped) -> Result<String, AllocError> {
+fn answer_text(alloc: Global, answer: Result<(), Stopped>) -> Result<String, AllocError> {
     match answer {
-        Stepped::Went => "went".to_string(alloc),
-        Stepped::NotEnabled => "not enabled".to_string(alloc),
-        Stepped::Trap(cause) => {
+        Ok(()) => "went".to_string(alloc),
+        Err(Stopped::NotEnabled) => "not enabled".to_string(alloc),
+        Err(Stopped::Trap(cause)) => {
             let number = cause.number();
             format!(in alloc; "trap C{number}")
         }
-        Stepped::NoMemory => "no memory".to_string(alloc),
+        Err(Stopped::NoMemory) => "no memory".to_string(alloc),
     }
 }
 

@@ -5,14 +5,14 @@ ghost use Rattle.tw_code.specs.machine.Bounds.{AreBelow, opening_bound, size_of}
 
 use crate::complaint::Complaint;
 use std::alloc::Global;
-use tw_machine::{Plain, Stepped};
+use tw_machine::{Plain, Stopped};
 use tw_types::Event;
 
 /// The machine after some events, and what each of them came to.
 #[derive(Drop)]
 pub struct Course {
     pub plain: Plain,
-    pub answers: Vec<Stepped>,
+    pub answers: Vec<Result<(), Stopped>>,
 }
 
 /// Whether an event does at most a thousand million instructions.

@@ -16,7 +16,7 @@ use crate::due::due_event;
 use crate::run_end::RunEnd;
 use crate::seats::{actor_at, seat_count};
 use std::alloc::{AllocError, Global};
-use tw_machine::{Plain, Stepped};
+use tw_machine::{Plain, Stopped};
 use tw_types::{Ending, Event};
 
 /// The first event that is due at these seats, and whose turn is then: the same actor's after local instructions, else
@@ -91,10 +91,10 @@ pub fn run(alloc: Global, plain: &mut Plain, limit: usize) -> Result<RunEnd, All
             return Ok(end_of(plain));
         };
         match plain.step(alloc, event) {
-            Stepped::Went => {}
-            Stepped::NotEnabled => unreachable!(),
-            Stepped::Trap(cause) => return Ok(RunEnd::Trapped(cause, made + 1)),
-            Stepped::NoMemory => return Err(AllocError),
+            Ok(()) => {}
+            Err(Stopped::NotEnabled) => unreachable!(),
+            Err(Stopped::Trap(cause)) => return Ok(RunEnd::Trapped(cause, made + 1)),
+            Err(Stopped::NoMemory) => return Err(AllocError),
         }
         seat = next;
     }

@@ -24,9 +24,10 @@ step-requires-clause-small c = below_more (opening_bound + c.loop-made.made * mo
 pub unreachable-requires : goal.unreachable-requires
 unreachable-requires c =
     let found = found_at_home c.loop-made.plain.state c.in_ok-next.field-0 (c.in-Some.next, c.in-Some.event) c.loop-made.invariant.program c.loop-made.invariant.layout c.in-Some.is c.in_ok-next.ensures in
+    let stopped : step c.loop-made.plain.program c.loop-made.plain.layout c.in-Some.event c.loop-made.plain.state ≡ NotEnabled = rw c.in-Err-NotEnabled.field-0-is at c.in-Err-NotEnabled.ensures.steps.0 in
     driven_enabled c.args.plain.now.program c.args.plain.now.layout c.args.plain.now.state c.loop-made.made c.loop-made.plain.state c.loop-made.invariant.driven c.requires.opened c.requires.targets
     (c.in-Some.next, c.in-Some.event) found
-    (at_home (λ p l. step p l c.in-Some.event c.loop-made.plain.state ≡ NotEnabled) c.loop-made.invariant.program c.loop-made.invariant.layout c.in-NotEnabled.ensures.steps.0)
+    (at_home (λ p l. step p l c.in-Some.event c.loop-made.plain.state ≡ NotEnabled) c.loop-made.invariant.program c.loop-made.invariant.layout stopped)
 
 pub loop-made-preserved : goal.loop-made-preserved
 loop-made-preserved c =
@@ -34,7 +35,7 @@ loop-made-preserved c =
     record {
       driven =
           driven_more c.args.plain.now.program c.args.plain.now.layout c.args.plain.now.state c.loop-made.made c.loop-made.plain.state c.loop-made.invariant.driven c.in-Some.event c.step.new.self.state
-          (at_home (λ p l. step p l c.in-Some.event c.loop-made.plain.state ≡ Went c.step.new.self.state) c.loop-made.invariant.program c.loop-made.invariant.layout c.in-Went.ensures.steps)
+          (at_home (λ p l. step p l c.in-Some.event c.loop-made.plain.state ≡ Went c.step.new.self.state) c.loop-made.invariant.program c.loop-made.invariant.layout c.in-Ok.ensures.steps)
           found.small (c.step.ensures.below (opening_bound + c.loop-made.made * most_steps) c.loop-made.invariant.driven.below);
       seat = found.seat;
       program = c.step.ensures.program ∙ c.loop-made.invariant.program;

@@ -6,7 +6,7 @@ use Rattle.tw_machine.specs.Parts.{frames_of}
 use Rattle.tw_types.proofs.ActorOrder.{actor_cmp_total, actor_cmp-IsAntisymmetric}
 use Rattle.tw_types.proofs.Maps.{found_view}
 use Rattle.tw_machine.proofs.Frames.{is_few, call_idle, tables_come}
-use Rattle.tw_machine.proofs.calls.call.Goals as goal
+use Rattle.tw_machine.proofs.events.calls.call.Goals as goal
 
 pub returns-in_default : goal.returns-in_default
 returns-in_default c = λ s.

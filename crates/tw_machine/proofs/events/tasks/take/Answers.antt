@@ -8,8 +8,8 @@ use Rattle.tw_machine.specs.Waiting.{TaskTable}
 use Rattle.tw_types.proofs.ActorOrder.{actor_cmp_total, actor_cmp-IsAntisymmetric}
 use Rattle.tw_types.proofs.Maps.{found_view, inserted_view}
 use Rattle.tw_machine.proofs.Takes.{take_outside, take_busy, take_none, take_stopped, take_goes}
-use Rattle.tw_machine.proofs.take.take.Goals as goal
-use Rattle.tw_machine.proofs.take.take.Goals.{then-not-has-via-then-not-has, then-not-has-via-else-not-has+then-contains_key}
+use Rattle.tw_machine.proofs.events.tasks.take.Goals as goal
+use Rattle.tw_machine.proofs.events.tasks.take.Goals.{then-not-has-via-then-not-has, then-not-has-via-else-not-has+then-contains_key}
 
 pub returns-then-not-has : goal.returns-then-not-has
 returns-then-not-has c = λ s.

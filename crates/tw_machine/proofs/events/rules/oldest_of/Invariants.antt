@@ -2,7 +2,7 @@ use Rattle.std.proofs.Common.{◌≡◌, drop}
 use Rattle.std.specs.Prelude.{◌==◌, ◌&&◌, nat_lt}
 use Rattle.std.specs.List.{list_any}
 use Rattle.tw_types.specs.Store.{server_of}
-use Rattle.tw_machine.proofs.rule_events.oldest_of.Given as goal
+use Rattle.tw_machine.proofs.events.rules.oldest_of.Given as goal
 
 abbrev pub invariant-loop-notice : goal.invariant-loop-notice
 invariant-loop-notice l =

@@ -2,7 +2,7 @@ use Rattle.std.proofs.Common.{sym, ◌∙◌, refl}
 use Rattle.tw_machine.specs.Events.{with_frames, with_tables}
 use Rattle.tw_machine.specs.Parts.{frames_of}
 use Rattle.tw_machine.proofs.Pending.{ask_other, ask_settled, ask_freed, closed_asked, open_asked}
-use Rattle.tw_machine.proofs.rule_events.ask.Goals as goal
+use Rattle.tw_machine.proofs.events.rules.ask.Goals as goal
 
 pub returns-in_default : goal.returns-in_default
 returns-in_default c = λ s.

@@ -1,7 +1,7 @@
 use Rattle.std.proofs.Common.{refl}
 use Rattle.tw_code.specs.declared.instr.Instr.TheVariants.{Data as DATA, Put as PUT, Rule as RULE}
 use Rattle.tw_machine.proofs.Standing.{calls_come}
-use Rattle.tw_machine.proofs.calls.call_of.Goals as goal
+use Rattle.tw_machine.proofs.events.calls.call_of.Goals as goal
 
 pub returns-in-Data : goal.returns-in-Data
 returns-in-Data c = calls_come c.args.program.now c.args.actor c.in_ok-procedure.procedure.now (DATA c.in-Data.on_data) c.args.tables.now c.args.frame.now

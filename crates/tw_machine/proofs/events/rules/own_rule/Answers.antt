@@ -5,7 +5,7 @@ use Rattle.tw_types.proofs.Maps.{found_view}
 use Rattle.tw_machine.specs.Events.{with_frames, with_tables}
 use Rattle.tw_machine.specs.Parts.{frames_of}
 use Rattle.tw_machine.proofs.Pending.{own_busy, own_is}
-use Rattle.tw_machine.proofs.rule_events.own_rule.Goals as goal
+use Rattle.tw_machine.proofs.events.rules.own_rule.Goals as goal
 
 pub returns-then-contains_key : goal.returns-then-contains_key
 returns-then-contains_key c = λ s.

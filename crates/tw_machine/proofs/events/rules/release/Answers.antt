@@ -3,7 +3,7 @@ use Rattle.std.proofs.lemmas.Result.{err_from_is_err_and}
 use Rattle.tw_machine.specs.Events.{with_frames, with_tables}
 use Rattle.tw_machine.specs.Parts.{frames_of}
 use Rattle.tw_machine.proofs.Pending.{release_other, release_held, release_stopped, released}
-use Rattle.tw_machine.proofs.rule_events.release.Goals as goal
+use Rattle.tw_machine.proofs.events.rules.release.Goals as goal
 
 pub returns-in_default : goal.returns-in_default
 returns-in_default c = λ s.

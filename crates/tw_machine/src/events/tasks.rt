@@ -1,0 +1,118 @@
+//! The events of tasks: one is taken, does local instructions, and ends.
+
+ghost use Rattle.std.specs.Prelude.{◌≡◌, ◌<◌, ◌^◌, IfSome, MatchResult, Ok, Err, OnOk, Some};
+ghost use Rattle.std.specs.FinMap.{get, remove};
+ghost use Rattle.tw_types.specs.declared.actor.Actor.{Actor as AnActor};
+ghost use Rattle.tw_types.specs.Outcome.{Went};
+ghost use Rattle.tw_code.specs.machine.Machine.{end_event, local_event, take_event};
+ghost use Rattle.tw_code.specs.machine.State.{State as Meaning};
+ghost use Rattle.tw_instr.specs.Attempts.{Changes, IsStopped};
+ghost use Rattle.tw_machine.specs.Events.{FrameComes, FramesCome, instr_of, with_frames, with_tasks};
+ghost use Rattle.tw_machine.specs.Parts.{frames_of};
+
+use crate::tasks::Tasks;
+use std::alloc::Global;
+use std::collections::BTreeMap;
+use tw_code::{Instr, Procedure};
+use tw_instr::{Frame, Stopped, instr_at, local_steps, procedure_of};
+use tw_types::{Actor, Cause, Layout};
+
+/// The actor takes a task.
+pub fn take(
+    alloc: Global,
+    program: &[Procedure],
+    layout: Layout,
+    tasks: &mut Tasks,
+    frames: &mut BTreeMap<Actor, Frame>,
+    actor: Actor,
+) -> Result<(), Stopped>
+    ensures { (s : Meaning) → let old = with_frames (with_tasks s tasks.old) (frames_of frames.old.entries) in Changes (take_event program.now layout actor old) old result (with_frames (with_tasks s tasks.new) (frames_of frames.new.entries)) }
+{
+    if !layout.has(actor) || frames.contains_key(&actor) {
+        return Err(Stopped::NotEnabled);
+    }
+    let Some((number, task)) = tasks.best(actor) else {
+        return Err(Stopped::NotEnabled);
+    };
+    let frame = task.begin(alloc, program, number)?;
+    frames.insert(actor, frame)?;
+    tasks.remove(number);
+    Ok(())
+}
+
+/// The actor's task does so many local instructions.
+pub fn local(
+    alloc: Global,
+    program: &[Procedure],
+    frames: &mut BTreeMap<Actor, Frame>,
+    actor: Actor,
+    steps: u64,
+) -> Result<(), Stopped>
+    requires steps { steps < 2 ^ 63 }
+    requires spent { IfSome (get (frames_of frames.old.entries) actor) (λ frame. frame.spent < 2 ^ 63) }
+    ensures { FramesCome (local_event program.now actor steps) (frames_of frames.old.entries) result (frames_of frames.new.entries) }
+{
+    let Some(frame) = frames.get_mut(&actor) else {
+        return Err(Stopped::NotEnabled);
+    };
+    local_of(alloc, program, frame, steps)
+}
+
+fn local_of(
+    alloc: Global,
+    program: &[Procedure],
+    frame: &mut Frame,
+    steps: u64,
+) -> Result<(), Stopped>
+    requires steps { steps < 2 ^ 63 }
+    requires spent { frame.old.spent < 2 ^ 63 }
+    ensures { FrameComes (λ actor. local_event program.now actor steps) frame.old result frame.new }
+{
+    if steps == 0 {
+        return Err(Stopped::NotEnabled);
+    }
+    let procedure = procedure_of(program, frame.procedure())?;
+    let mut position = frame.position().try_clone(alloc)?;
+    local_steps(alloc, procedure.code.as_slice(), &mut position, steps)?;
+    frame.move_to(position, steps);
+    Ok(())
+}
+
+/// The instruction at the place of a frame.
+fn instr_of<'a>(program: &'a [Procedure], frame: &Frame) -> Result<&'a Instr, Cause>
+    ensures gives { MatchResult result (λ instr. instr_of program.now frame.now ≡ Ok instr.now) (λ cause. instr_of program.now frame.now ≡ Err cause) }
+    ensures inside { OnOk result (frame.now.position.place < 2 ^ 63) }
+{
+    let procedure = procedure_of(program, frame.procedure())?;
+    instr_at(procedure.code.as_slice(), frame.place())
+}
+
+/// Stopped where the actor's task can't end.
+fn may_end(program: &[Procedure], frame: &Frame) -> Result<(), Stopped>
+    ensures { (s : Meaning) (actor : AnActor) → get s.frames actor ≡ Some frame.now → MatchResult result (λ _. end_event program.now actor s ≡ Went (with_frames s (remove s.frames actor))) (IsStopped (end_event program.now actor s)) }
+{
+    let instr = instr_of(program, frame)?;
+    let Instr::Ret = instr else {
+        return Err(Stopped::NotEnabled);
+    };
+    if !frame.is_clear() {
+        return Err(Stopped::Trap(Cause::RightLeft));
+    }
+    Ok(())
+}
+
+/// The actor's task ends.
+pub fn end(
+    program: &[Procedure],
+    frames: &mut BTreeMap<Actor, Frame>,
+    actor: Actor,
+) -> Result<(), Stopped>
+    ensures { FramesCome (end_event program.now actor) (frames_of frames.old.entries) result (frames_of frames.new.entries) }
+{
+    let Some(frame) = frames.get(&actor) else {
+        return Err(Stopped::NotEnabled);
+    };
+    may_end(program, frame)?;
+    let _frame = frames.remove(&actor);
+    Ok(())
+}
