@@ -3,7 +3,6 @@
 #![tactic(auto)]
 
 mod calls;
-mod checks;
 mod letters;
 mod lives;
 mod may;

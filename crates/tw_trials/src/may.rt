@@ -5,7 +5,7 @@ ghost use Rattle.std.specs.FinMap.{get};
 ghost use Rattle.tw_types.specs.StoreCalls.{member_at};
 ghost use Rattle.tw_types.specs.StoreChecks.{may_store, may_retrieve, may_insert, may_look, may_read_members, may_copy_write, may_drop_read, may_drop_write};
 
-use crate::checks;
+use tw_datum::checks;
 use tw_store::Store;
 use tw_types::{Cause, DatumId, Value};
 
