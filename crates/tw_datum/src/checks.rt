@@ -49,7 +49,10 @@ pub fn may_retrieve<M: Member>(datum: Option<&Datum<M>>) -> Result<(), Cause>
     must(datum.value().is_some(), Cause::UnsetDatum)
 }
 
-pub fn may_insert<M: Member>(container: Option<&Datum<M>>, member: Option<&Datum<M>>) -> Result<(), Cause>
+pub fn may_insert<M: Member>(
+    container: Option<&Datum<M>>,
+    member: Option<&Datum<M>>,
+) -> Result<(), Cause>
     ensures { result ≡ may_insert (datum_if (option_copied container.entry)) (datum_if (option_copied member.entry)) }
 {
     let container = container.ok_or(Cause::FreedDatum)?;

@@ -6,7 +6,6 @@
 #![tactic(auto)]
 
 pub mod checks;
-
 mod datum;
 mod member;
 mod ranked_map;

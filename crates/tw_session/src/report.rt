@@ -1,6 +1,6 @@
 //! The report of a state.
 
-ghost use Rattle.std.specs.Prelude.{◌≡◌, ◌++◌, OnOk};
+ghost use Rattle.std.specs.Prelude.{◌≡◌, ◌++◌, OnOk, option_map};
 ghost use Rattle.std.specs.Option.{option_copied};
 ghost use Rattle.std.specs.FinMap.{entries, get};
 ghost use Rattle.tw_types.specs.StoreCalls.{members_in};
@@ -29,7 +29,7 @@ fn closed_text(closed: bool) -> &'static str
 
 /// Adds what a container holds, and whether it is closed.
 fn put_container_head(out: &mut Vec<u8>, datum: &Datum) -> Result<(), AllocError>
-    ensures { OnOk result (out.new.items ≡ out.old.items ++ container_head datum.now) }
+    ensures { OnOk result (out.new.items ≡ out.old.items ++ container_head datum.now.datum) }
 {
     put(out, "cont ")?;
     put(out, scalar_text(datum.ty().scalar()))?;
@@ -38,7 +38,7 @@ fn put_container_head(out: &mut Vec<u8>, datum: &Datum) -> Result<(), AllocError
 
 /// Adds what is in a datum, or that it was freed.
 fn put_datum(alloc: Global, out: &mut Vec<u8>, datum: Option<&Datum>) -> Result<(), AllocError>
-    ensures { OnOk result (out.new.items ≡ out.old.items ++ datum_text (option_copied datum.entry)) }
+    ensures { OnOk result (out.new.items ≡ out.old.items ++ datum_text (option_map (λ d. d.datum) (option_copied datum.entry))) }
 {
     let Some(datum) = datum else {
         return put(out, "gone");
@@ -60,7 +60,7 @@ fn put_output_line(
     number: usize,
     datum: Option<&Datum>,
 ) -> Result<(), AllocError>
-    ensures { OnOk result (out.new.items ≡ out.old.items ++ output_line number (option_copied datum.entry)) }
+    ensures { OnOk result (out.new.items ≡ out.old.items ++ output_line number (option_map (λ d. d.datum) (option_copied datum.entry))) }
 {
     put_numbered(alloc, out, "out ", number)?;
     put(out, " ")?;
@@ -92,7 +92,7 @@ fn put_member_lines(
     container: &Datum,
 ) -> Result<(), AllocError>
     ensures { OnOk result (out.new.items ≡ out.old.items
-        ++ member_lines state.now.store.live (entries (members_in container.now.content))) }
+        ++ member_lines state.now.store.live (entries (members_in container.now.datum.content))) }
 {
     for index in 0..container.len() {
         let Some(member) = container.member(index) else {

@@ -5,4 +5,4 @@ use Rattle.tw_session.specs.Report.{member_lines}
 use Rattle.tw_session.proofs.report.put_member_lines.Given as goal
 
 abbrev pub invariant-loop-index : goal.invariant-loop-index
-invariant-loop-index l = l.out.items ≡ l.fn.out.items ++ member_lines l.state.store.live (take l.index (entries (members_in l.container.content)))
+invariant-loop-index l = l.out.items ≡ l.fn.out.items ++ member_lines l.state.store.live (take l.index (entries (members_in l.container.datum.content)))
