@@ -10,3 +10,4 @@ awk '/^```/ { block = !block; shown = 0; next }
 awk '/into `sum.tw`/ { wanted = 1 }
      /^```/ { if (wanted == 2) exit; if (wanted) wanted = 2; next }
      wanted == 2' README.md > "$data/sum.tw"
+printf '$ ./tw check < examples/store_seven.hex\nnonsense\n' > "$data/control.txt"

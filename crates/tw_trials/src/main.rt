@@ -95,5 +95,6 @@ fn main(rt: HostRuntime) -> io::Result<()> {
         agreeing = whole_trials(&rt, agreeing)?;
         agreeing = verifier_trials(&rt, agreeing)?;
     }
+    agreeing = told(&rt, agreeing, "a control that is to differ", whole(false))?;
     println!(rt; "{agreeing} trials agree")
 }
