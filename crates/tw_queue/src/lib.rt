@@ -2,8 +2,8 @@
 #![tactic(auto)]
 
 mod index;
-mod lists;
 mod lane;
+mod lists;
 mod queues;
 mod rank;
 mod slots;
