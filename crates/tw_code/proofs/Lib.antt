@@ -18,6 +18,7 @@ pub mod Opened
 pub mod Placed
 pub mod Programs
 pub mod Range
+pub mod Runs
 pub mod Sets
 pub mod Shown
 pub mod Staged

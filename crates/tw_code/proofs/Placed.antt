@@ -186,11 +186,14 @@ control_kind : (kind : Kind) → is_control kind ≡ true → kind ≡ Control
 control_kind Control e = refl
 control_kind Leaf e = cc
 
--- an engine of the layout
-engine_in : (layout : ActorCounts) (actor : Actor) → is_in layout actor ≡ true → may_take actor Control ≡ true → number_in_kind actor < layout.engines
-engine_in layout (Engine number) there may = ltb-true number layout.engines there
-engine_in layout (Server number) there may = cc
-engine_in layout (Worker number) there may = cc
+-- a task of a control procedure runs on an engine of the layout
+pub engine_below : (program : List Procedure) (layout : ActorCounts) (s : State) → IsPlaced program layout s → (actor : Actor) (f : Frame) (p : Procedure) → get s.frames actor ≡ Some f → slice_get program f.procedure ≡ Some p → is_control p.kind ≡ true → number_in_kind actor < layout.engines
+engine_below program layout s placed actor f p runs here control = by actor (placed.frames actor f runs).there ((placed.frames actor f runs).engine p here control)
+  where
+    by : (a : Actor) → is_in layout a ≡ true → may_take a Control ≡ true → number_in_kind a < layout.engines
+    by (Engine number) there may = ltb-true number layout.engines there
+    by (Server number) there may = cc
+    by (Worker number) there may = cc
 
 -- another stage than unasked
 still_unasked : (stages : List Stage) (k j : ℕ) (new : Stage) → new ≢ Unasked → slice_get (slice_set stages k new) j ≡ Some Unasked → slice_get stages j ≡ Some Unasked
@@ -246,13 +249,12 @@ module _ (program : List Procedure) (layout : ActorCounts) (targets : HasTargets
       by at (instr.Data i) st is = if_ok (data_instr i (context_of s at.frame)) (λ c _. record { is = record { frames = frame_again actor at.frame _ st.frame refl; tasks = h.tasks; rules = h.rules } })
       by at (instr.Rule action) st is = if_ok (called program at.procedure.kind (context_of s at.frame) action) (λ call e.
           let c = ok_of (called program at.procedure.kind (context_of s at.frame) action) _ call (called_is program at.procedure.kind (context_of s at.frame) action) e in
-          let frame = h.frames actor at.frame st.frame in
           record {
             is = record {
               frames = frame_again actor at.frame _ st.frame refl;
               tasks = h.tasks;
               rules = each_insert nat_cmp_total (IsRulePlaced program layout) s.rules h.rules s.next_rule _ (record {
-                engine = engine_in layout actor frame.there (frame.engine at.procedure st.procedure c.by_control);
+                engine = engine_below program layout s h actor at.frame at.procedure st.frame st.procedure c.by_control;
                 target = λ p there. as_named layout p.kind p.kind call.task.target action.target refl c.target (placed program layout targets at.frame.procedure at.frame.position.place at.procedure (instr.Rule action) st.procedure (st.instr ∙ ap Some is) action (λ kind. refl) p (ap (λ n. slice_get program n) (sym c.number) ∙ there));
                 asks = c.asks;
               });

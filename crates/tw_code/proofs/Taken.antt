@@ -8,6 +8,7 @@ use Rattle.std.specs.Ordering.{nat_cmp}
 use Rattle.tw_types.specs.declared.event.Event.{Event}
 use Rattle.tw_types.specs.declared.event.Event.TheVariants.{Take, Local, Call, End, Ask, Deliver, Release}
 use Rattle.tw_types.specs.declared.input.Input.{Input}
+use Rattle.tw_types.specs.Distinct.{is_among, AreDistinct}
 use Rattle.tw_types.specs.Layout.{ActorCounts}
 use Rattle.tw_types.specs.Outcome.{Outcome, Went, NotEnabled, Trap}
 use Rattle.tw_types.specs.Rule.{task_from}
@@ -18,36 +19,36 @@ use Rattle.tw_types.proofs.Parts.{before_removal, put_or_before}
 use Rattle.tw_code.specs.declared.procedure.Procedure.{Procedure}
 use Rattle.tw_code.specs.machine.History.{if_went, put_between, puts, taken_by, takes}
 use Rattle.tw_code.specs.machine.Machine.{step}
-use Rattle.tw_code.specs.machine.Once.{AreDistinct, TakesOnce, is_among}
+use Rattle.tw_code.specs.machine.Once.{TakesOnce}
 use Rattle.tw_code.specs.machine.Opening.{opening}
 use Rattle.tw_code.specs.machine.State.{State}
 use Rattle.tw_code.proofs.Leaving.{take_leaves, local_leaves, call_leaves, end_leaves, ask_leaves, deliver_leaves, release_leaves}
 
 -- ---- numbers among others
 
-among_one : (n m : ℕ) → is_among (m ∷ []) n ≡ true → m ≡ n
+among_one : (n m : ℕ) → is_among n (m ∷ []) ≡ true → m ≡ n
 among_one n m h = elim (or_cases (m == n) false h) [ inl e ↦ eqb-true m n e | inr e ↦ cc ]
 
-among_either : (ns ms : List ℕ) (n : ℕ) → is_among (ns ++ ms) n ≡ true → (is_among ns n ≡ true) ⊎ (is_among ms n ≡ true)
-among_either ns ms n h = or_cases (is_among ns n) (is_among ms n) (sym (list_any-append (λ m. m == n) ns ms) ∙ h)
+among_either : (ns ms : List ℕ) (n : ℕ) → is_among n (ns ++ ms) ≡ true → (is_among n ns ≡ true) ⊎ (is_among n ms ≡ true)
+among_either ns ms n h = or_cases (is_among n ns) (is_among n ms) (sym (list_any-append (λ m. m == n) ns ms) ∙ h)
 
-among_first : (ns ms : List ℕ) (n : ℕ) → is_among ns n ≡ true → is_among (ns ++ ms) n ≡ true
-among_first ns ms n h = list_any-append (λ m. m == n) ns ms ∙ or_left (is_among ns n) (is_among ms n) h
+among_first : (ns ms : List ℕ) (n : ℕ) → is_among n ns ≡ true → is_among n (ns ++ ms) ≡ true
+among_first ns ms n h = list_any-append (λ m. m == n) ns ms ∙ or_left (is_among n ns) (is_among n ms) h
 
-among_second : (ns ms : List ℕ) (n : ℕ) → is_among ms n ≡ true → is_among (ns ++ ms) n ≡ true
-among_second ns ms n h = list_any-append (λ m. m == n) ns ms ∙ or_right (is_among ns n) (is_among ms n) h
+among_second : (ns ms : List ℕ) (n : ℕ) → is_among n ms ≡ true → is_among n (ns ++ ms) ≡ true
+among_second ns ms n h = list_any-append (λ m. m == n) ns ms ∙ or_right (is_among n ns) (is_among n ms) h
 
-among_neither : (ns ms : List ℕ) (n : ℕ) → is_among ns n ≡ false → (is_among ms n ≡ true → ⊥) → is_among (ns ++ ms) n ≡ false
-among_neither ns ms n h other = elim (cases_Bool (is_among (ns ++ ms) n)) [
+among_neither : (ns ms : List ℕ) (n : ℕ) → is_among n ns ≡ false → (is_among n ms ≡ true → ⊥) → is_among n (ns ++ ms) ≡ false
+among_neither ns ms n h other = elim (cases_Bool (is_among n (ns ++ ms))) [
   | inl e ↦ elim (among_either ns ms n e) [ inl f ↦ cc | inr f ↦ absurd (other f) ]
   | inr e ↦ e
 ]
 
-both_distinct : (ns ms : List ℕ) → AreDistinct ns → AreDistinct ms → ((n : ℕ) → is_among ns n ≡ true → is_among ms n ≡ true → ⊥) → AreDistinct (ns ++ ms)
+both_distinct : (ns ms : List ℕ) → AreDistinct ns → AreDistinct ms → ((n : ℕ) → is_among n ns ≡ true → is_among n ms ≡ true → ⊥) → AreDistinct (ns ++ ms)
 both_distinct [] ms d e apart = e
 both_distinct (n ∷ ns) ms d e apart = (
-  among_neither ns ms n d.0 (apart n (or_left (n == n) (is_among ns n) (eq-eqb n n refl))),
-  both_distinct ns ms d.1 e (λ k h. apart k (or_right (n == k) (is_among ns k) h)),
+  among_neither ns ms n d.0 (apart n (or_left (n == n) (is_among n ns) (eq-eqb n n refl))),
+  both_distinct ns ms d.1 e (λ k h. apart k (or_right (n == k) (is_among k ns) h)),
 )
 
 -- ---- one event
@@ -62,15 +63,15 @@ HasEarlier s = (n : ℕ) (task : Task) → get s.tasks n ≡ Some task → n < s
 -- an event takes these: they waited, and no longer do; and what waits then waited before, or the event put it
 record Turns (taken : List ℕ) (s t : State) : Type 0 where
   numbers : s.next_task ≤ t.next_task
-  waits : (n : ℕ) → Waits t n → Waits s n ⊎ (is_among (put_between s t) n ≡ true)
-  gone : (n : ℕ) → is_among taken n ≡ true → Waits s n × (Waits t n → ⊥)
+  waits : (n : ℕ) → Waits t n → Waits s n ⊎ (is_among n (put_between s t) ≡ true)
+  gone : (n : ℕ) → is_among n taken ≡ true → Waits s n × (Waits t n → ⊥)
   distinct : AreDistinct taken
 
 -- what an event puts has the next number
-put_next : (s t : State) (n : ℕ) → s.next_task ≤ t.next_task → is_among (put_between s t) n ≡ true → (s.next_task ≡ n) × (n < t.next_task)
+put_next : (s t : State) (n : ℕ) → s.next_task ≤ t.next_task → is_among n (put_between s t) ≡ true → (s.next_task ≡ n) × (n < t.next_task)
 put_next s t n grown = by (s.next_task == t.next_task) refl
   where
-    by : (b : Bool) → (s.next_task == t.next_task) ≡ b → is_among (if b then [] else s.next_task ∷ []) n ≡ true → (s.next_task ≡ n) × (n < t.next_task)
+    by : (b : Bool) → (s.next_task == t.next_task) ≡ b → is_among n (if b then [] else s.next_task ∷ []) ≡ true → (s.next_task ≡ n) × (n < t.next_task)
     by true e h = cc
     by false e h =
         let is = among_one n s.next_task h in
@@ -105,7 +106,7 @@ module _ (s : State) where
     distinct = tt;
   }
     where
-      put_here : (n : ℕ) → n ≡ s.next_task → is_among (put_between s t) n ≡ true
+      put_here : (n : ℕ) → n ≡ s.next_task → is_among n (put_between s t) ≡ true
       put_here n is = rw (ne_eqb s.next_task t.next_task (λ e. omega arith), eq-eqb s.next_task n (sym is)) refl
 
   -- one goes
@@ -134,8 +135,8 @@ module _ (s : State) where
 
 -- what a run from here takes, where it puts these
 record Follows (taken put : List ℕ) (s : State) : Type 0 where
-  waited : (n : ℕ) → is_among taken n ≡ true → Waits s n ⊎ (is_among put n ≡ true)
-  later : (n : ℕ) → is_among put n ≡ true → s.next_task ≤ n
+  waited : (n : ℕ) → is_among n taken ≡ true → Waits s n ⊎ (is_among n put ≡ true)
+  later : (n : ℕ) → is_among n put ≡ true → s.next_task ≤ n
   distinct : AreDistinct taken
 
 nothing_follows : (s : State) → Follows [] [] s

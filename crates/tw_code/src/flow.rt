@@ -1,7 +1,8 @@
 //! What follows an instruction.
 
-ghost use Rattle.std.specs.Prelude.{◌≡◌, ◌<◌, Some, length, slice_get};
+ghost use Rattle.std.specs.Prelude.{◌≡◌, ◌<◌, Some, is_some, length, slice_get};
 ghost use Rattle.tw_code.specs.accepting.Flow.{data_flow, flow_of, flows, local_flow};
+ghost use Rattle.tw_code.specs.machine.Machine.{local_of};
 
 use crate::instr::{DataInstr, Instr, LocalInstr};
 
@@ -86,6 +87,13 @@ impl Instr {
             Instr::Rule(_) | Instr::Put(_) => Flow::Straight,
             Instr::Ret => Flow::Stop,
         }
+    }
+
+    /// Whether it changes nothing but its task's place, values and loops.
+    pub fn is_local(&self) -> bool
+        ensures { result ≡ is_some (local_of self.now) }
+    {
+        matches!(self, Instr::Local(_))
     }
 }
 

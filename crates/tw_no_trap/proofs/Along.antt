@@ -1,16 +1,11 @@
--- Along a run: one event more, numbers and counts that stay small, and the engine that makes a rule.
-use Rattle.std.proofs.Common.{◌≡◌, ℕ, suc, ◌+◌, ◌*◌, ◌<◌, ◌≤◌, ◌==◌, true, not, List, [], ◌∷◌, ◌++◌, length, slice_get, Some, ap, subst, ◌∙◌, arith}
-use Rattle.std.proofs.lemmas.Bool.{ltb-true}
+-- Along a run numbers and counts stay small.
+use Rattle.std.proofs.Common.{◌≡◌, ℕ, suc, ◌+◌, ◌*◌, ◌≤◌, ◌==◌, not, List, [], ◌∷◌, length, slice_get, subst, arith}
 use Rattle.std.specs.FinMap.{get}
-use Rattle.tw_types.specs.declared.actor.Actor.{Actor}
-use Rattle.tw_types.specs.declared.actor.Actor.TheVariants.{Engine, Server, Worker}
-use Rattle.tw_types.specs.declared.actor.Kind.TheVariants.{Control}
 use Rattle.tw_types.specs.declared.cause.Cause.TheVariants.{WrongCall}
 use Rattle.tw_types.specs.declared.event.Event.{Event}
 use Rattle.tw_types.specs.declared.event.Event.TheVariants.{Take, Local, Call, End, Ask, Deliver, Release}
-use Rattle.tw_types.specs.Actor.{is_control, is_in, may_take, number_in_kind}
 use Rattle.tw_types.specs.Layout.{ActorCounts}
-use Rattle.tw_types.specs.Outcome.{Outcome, Went, ◌>>=◌, enabled, only_if, outcome_of}
+use Rattle.tw_types.specs.Outcome.{Went, enabled, only_if, outcome_of}
 use Rattle.tw_types.proofs.Outcomes.{same_went, went_after, went_enabled, went_first, went_ok}
 use Rattle.tw_types.proofs.Results.{there_ok}
 use Rattle.tw_code.specs.declared.procedure.Procedure.{Procedure}
@@ -20,24 +15,12 @@ use Rattle.tw_code.specs.machine.Arguments.{procedure_of}
 use Rattle.tw_code.specs.machine.Bounds.{AreBelow, AreNumbersBelow, size_of}
 use Rattle.tw_code.specs.machine.Holders.{Typings}
 use Rattle.tw_code.specs.machine.Machine.{local_steps, run, step}
-use Rattle.tw_code.specs.machine.State.{Frame, State}
+use Rattle.tw_code.specs.machine.State.{State}
 use Rattle.tw_code.proofs.Growth.{below_more, numbers_wider, step_grows}
-use Rattle.tw_code.proofs.Placed.{IsPlaced}
 use Rattle.tw_no_trap.specs.Invariant.{IsHeld}
 use Rattle.tw_no_trap.specs.NoTrap.{AreRight}
 use Rattle.tw_no_trap.proofs.Safe.{kept_by}
 use Rattle.tw_no_trap.proofs.Turning.{few_steps}
-
--- one event more, at the end
-pub run_more : (program : List Procedure) (layout : ActorCounts) (history : List Event) (event : Event) (s t u : State)
-    → run program layout history s ≡ Went t → step program layout event t ≡ Went u → run program layout (history ++ event ∷ []) s ≡ Went u
-unfolding run
-run_more program layout [] event s t u e h =
-    let same : s ≡ t = same_went s t e in
-    ap (λ (o : Outcome State). o >>= run program layout []) (ap (step program layout event) same ∙ h)
-run_more program layout (first ∷ history) event s t u e h =
-    let one = went_first (step program layout first s) (run program layout history) t e in
-    ap (λ (o : Outcome State). o >>= run program layout (history ++ event ∷ [])) one.1 ∙ run_more program layout history event one.0 t u one.2 h
 
 -- the next numbers grow by one an event at most
 pub numbers_along : (program : List Procedure) (layout : ActorCounts) (events : List Event) (bound : ℕ) (s t : State) → AreNumbersBelow bound s → run program layout events s ≡ Went t → AreNumbersBelow (bound + length events) t
@@ -78,12 +61,3 @@ module _ (program : List Procedure) (typings : Typings) (is : IsProgram program)
       let next = below_more (bound + size_of event) (bound + greatest_budget) one.0 (omega (arith, small)) ((step_grows program layout event).all bound s one.0 h one.1) in
       below_more (bound + greatest_budget + length events * greatest_budget) (bound + suc (length events) * greatest_budget) t (omega arith)
       (small_along events (bound + greatest_budget) one.0 t (kept_by program typings layout event s one.0 is are held one.1) next one.2)
-
-  -- a task of a control procedure runs on an engine of the layout
-  pub engine_below : (s : State) → IsPlaced program layout s → (actor : Actor) (f : Frame) (p : Procedure) → get s.frames actor ≡ Some f → slice_get program f.procedure ≡ Some p → is_control p.kind ≡ true → number_in_kind actor < layout.engines
-  engine_below s placed actor f p runs here control = by actor (placed.frames actor f runs).there ((placed.frames actor f runs).engine p here control)
-    where
-      by : (a : Actor) → is_in layout a ≡ true → may_take a Control ≡ true → number_in_kind a < layout.engines
-      by (Engine number) there may = ltb-true number layout.engines there
-      by (Server number) there may = cc
-      by (Worker number) there may = cc

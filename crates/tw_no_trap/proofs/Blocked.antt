@@ -8,13 +8,13 @@ use Rattle.tw_types.specs.declared.param.Param.{Param}
 use Rattle.tw_types.specs.declared.stage.Stage.{Stage}
 use Rattle.tw_types.specs.declared.stage.Stage.TheVariants.{Free, Unasked, Waiting, Ready}
 use Rattle.tw_types.specs.Counts.{hits}
+use Rattle.tw_types.specs.Distinct.{is_among}
 use Rattle.tw_types.specs.Mode.{is_write}
 use Rattle.tw_types.specs.Rule.{is_settled, is_unasked}
 use Rattle.tw_types.specs.Task.{Arg, ValueArg, RightArg}
 use Rattle.tw_code.specs.machine.Holders.{id_of, over, write_by}
+use Rattle.tw_code.specs.machine.Pending.{waited_for, written_by}
 use Rattle.tw_code.specs.machine.Rights.{right_of}
-use Rattle.tw_no_trap.specs.Circle.{is_among}
-use Rattle.tw_no_trap.specs.Pending.{waited_for, written_by}
 
 -- ---- what waits
 

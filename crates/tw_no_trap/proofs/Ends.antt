@@ -10,6 +10,10 @@ use Rattle.std.specs.List.{list_any}
 use Rattle.tw_types.specs.declared.ending.Ending.TheVariants.{Quiet, Stuck}
 use Rattle.tw_types.specs.declared.notice.Notice.{Notice}
 use Rattle.tw_types.specs.declared.stage.Stage.TheVariants.{Waiting}
+use Rattle.tw_types.specs.declared.pending.Link.{Link}
+use Rattle.tw_types.specs.declared.pending.Pending.{Pending}
+use Rattle.tw_types.specs.Actor.{actor_cmp}
+use Rattle.tw_types.specs.Circle.{IsCircle, circle_of, has_rule}
 use Rattle.tw_types.specs.Counts.{count_of, inside, subscripts_in, HasWriters}
 use Rattle.tw_types.specs.DataType.{container_of}
 use Rattle.tw_types.specs.Nesting.{NestedScalar}
@@ -18,6 +22,7 @@ use Rattle.tw_types.specs.Rule.{Rule, has_unasked, is_releasable}
 use Rattle.tw_types.specs.Store.{Content, Unset, Set, Contains, Datum, is_closed}
 use Rattle.tw_types.specs.Task.{Arg, ValueArg, RightArg}
 use Rattle.tw_types.specs.Totals.{total}
+use Rattle.tw_types.proofs.Circles.{AreNumbered, IsBlocked, IsIn, circles_are_found}
 use Rattle.tw_types.proofs.Freeing.{balanced_none, balanced_some, held_is_there}
 use Rattle.tw_types.proofs.Rising.{first, second}
 use Rattle.tw_types.proofs.Totals.{IsEntry, get_entry, part, part-le-total}
@@ -25,15 +30,12 @@ use Rattle.tw_code.specs.declared.procedure.Procedure.{Procedure}
 use Rattle.tw_code.specs.machine.Arguments.{params_of}
 use Rattle.tw_code.specs.machine.Ending.{ending, has_idle_rules, is_quiet}
 use Rattle.tw_code.specs.machine.Holders.{Typings, frame_reads, frame_writes, reads_of, rule_reads, rule_writes, task_reads, task_writes, writes_of}
+use Rattle.tw_code.specs.machine.Pending.{pending_of, pending_rules}
 use Rattle.tw_code.specs.machine.State.{State}
 use Rattle.tw_code.specs.machine.Waiting.{arg_at, stage_at, times_at, times_noticed, times_noticed_by, times_subscribed, times_waiting}
 use Rattle.tw_no_trap.specs.Invariant.{IsHeld}
-use Rattle.tw_types.specs.Actor.{actor_cmp}
-use Rattle.tw_no_trap.specs.Circle.{AreNumbered, IsBlocked, IsCircle, IsIn, Link, Pending, circle_of, has_rule}
-use Rattle.tw_no_trap.specs.Pending.{pending_of, pending_rules}
 use Rattle.tw_no_trap.specs.EndsWell.{EndsWell, IsBlockedRule, IsKept, LeavesOutputs, member, output}
 use Rattle.tw_no_trap.proofs.Blocked.{IsFirstWaited, first_waited, written_there}
-use Rattle.tw_no_trap.proofs.Circles.{circles_are_found}
 use Rattle.tw_no_trap.proofs.Entries.{entry_of, none_of, none_passes, not_below, some_part}
 
 -- ---- what an ending says

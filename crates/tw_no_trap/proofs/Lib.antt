@@ -42,6 +42,5 @@ pub mod Conditions
 pub mod Turning
 pub mod Idling
 pub mod Along
-pub mod Circles
 pub mod Blocked
 pub mod Ends

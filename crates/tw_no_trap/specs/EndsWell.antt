@@ -2,15 +2,17 @@
 use Rattle.std.specs.Prelude.{◌≡◌, ℕ, ◌<◌, true, false, List, Some, slice_get}
 use Rattle.std.specs.FinMap.{get}
 use Rattle.tw_types.specs.declared.ending.Ending.TheVariants.{Quiet, Stuck}
+use Rattle.tw_types.specs.declared.pending.Link.{Link}
+use Rattle.tw_types.specs.Circle.{IsCircle}
 use Rattle.tw_types.specs.Counts.{count_of, subscripts_in}
+use Rattle.tw_types.specs.Distinct.{is_among}
 use Rattle.tw_types.specs.Store.{Datum, is_closed}
 use Rattle.tw_types.specs.Rule.{Rule}
 use Rattle.tw_code.specs.declared.procedure.Procedure.{Procedure}
 use Rattle.tw_code.specs.machine.Arguments.{params_of}
 use Rattle.tw_code.specs.machine.Ending.{ending}
+use Rattle.tw_code.specs.machine.Pending.{waited_for, written_by, pending_rules, circle}
 use Rattle.tw_code.specs.machine.State.{State}
-use Rattle.tw_no_trap.specs.Circle.{Link, is_among, IsCircle}
-use Rattle.tw_no_trap.specs.Pending.{waited_for, written_by, pending_rules, circle}
 
 -- an output, or a member of a container that is kept
 pub data IsKept (s : State) : ℕ → Type 0 where

@@ -4,6 +4,7 @@ pub mod Mistakes
 pub mod OneRefusal
 pub mod Places
 pub mod Programs
+pub mod QuickCode
 pub mod Reaching
 pub mod RightTypings
 pub mod Typings

@@ -13,6 +13,7 @@ use Rattle.tw_verify.specs.Refusal.{is_memory, verify_refusal_number}
 use Rattle.tw_verify.specs.declared.fault.Fault.{Fault}
 use Rattle.tw_verify.specs.declared.findings.Findings.{Findings}
 use Rattle.tw_verify.specs.Passes.{IfFault, refusal_of, IsRefusal}
+use Rattle.tw_verify.specs.Quick.{AreQuick}
 use Rattle.tw_verify.specs.Verified.{AreFindings, AreTyped, IsTyped}
 use Rattle.tw_verify.proofs.Lists.{get_none, get_pushed}
 use Rattle.tw_verify.proofs.Typings.{well_typed_front}
@@ -21,7 +22,7 @@ use Rattle.tw_verify.proofs.Typings.{well_typed_front}
 
 pub accepted_one : (program : List Procedure) (all : List Findings) (to k : ℕ) (p : Procedure) → AreTyped program all to → k < to → slice_get program k ≡ Some p → IsAcceptedProcedure program p
 accepted_one program all to k p t below at =
-    let blank : Findings = record { typings = []; budget = 0 } in
+    let blank : Findings = record { typings = []; budget = 0; quick = [] } in
     let own = get_or all k blank in
     let a = t.each k p own at (slice_get-get_or all k blank (omega (arith, t.long))) in
     record { structured = a.structured; typable = (own.typings, a.well_typed); budget = (own.budget, a.budget, a.within) }
@@ -46,6 +47,14 @@ budget_within program all k own t inside at = by (slice_get program k) refl
     by : (o : Option Procedure) → slice_get program k ≡ o → own.budget ≤ greatest_budget
     by None none = absurd (omega (arith, get_none program k none))
     by (Some p) here = (t.each k p own here at).within
+
+-- and its code in eight bytes an instruction
+pub quick_of : (program : List Procedure) (all : List Findings) (k : ℕ) (own : Findings) → AreTyped program all (length program) → k < length program → slice_get all k ≡ Some own → IsSomeAnd (slice_get program k) (λ p. AreQuick p.registers own.quick p.code)
+quick_of program all k own t inside at = by (slice_get program k) refl
+  where
+    by : (o : Option Procedure) → slice_get program k ≡ o → IsSomeAnd o (λ p. AreQuick p.registers own.quick p.code)
+    by None none = absurd (omega (arith, get_none program k none))
+    by (Some p) here = (t.each k p own here at).all_quick
 
 -- ---- and aren't refused
 

@@ -17,6 +17,7 @@ mod loops;
 mod needs;
 mod pass;
 mod questions;
+mod quick;
 mod reached;
 mod refusal;
 mod refused;
@@ -27,6 +28,7 @@ mod verifier;
 
 pub use instructions::place_refusal;
 pub use laws::{ends_well, no_trap, one_first_refusal};
+pub use quick::Quick;
 pub use refusal::VerifyRefusal;
 pub use refused::Refused;
 pub use tw_no_trap::{budgets_held, counts_held, notes_held, types_held};

@@ -20,6 +20,7 @@ use crate::findings::Findings;
 use crate::instructions::place_refusal;
 use crate::loops::Loops;
 use crate::questions::lowest;
+use crate::quick::all_quick;
 use crate::reached::{Reached, first_rows, row_at, send_both};
 use crate::refusal::VerifyRefusal;
 use crate::structure::ask_structure;
@@ -151,8 +152,10 @@ pub(crate) fn procedure_findings(
     ask_structure(code, &loops)?;
     let typings = typings(alloc, procedures, procedure, &loops)?;
     let budget = budget(alloc, procedure)?;
+    let quick = all_quick(alloc, procedure.registers.as_slice(), code)?;
     Ok(Findings {
         typings: Items::from(typings),
         budget,
+        quick: Items::from(quick),
     })
 }

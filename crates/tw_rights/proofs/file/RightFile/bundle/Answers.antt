@@ -2,15 +2,15 @@ use Rattle.std.proofs.Common.{List, ◌∷◌, [], ◌+◌, sym, ap, subst, arit
 use Rattle.std.specs.Vec.Iter.{into_iter_items}
 use Rattle.tw_types.specs.declared.value.Value.{Value}
 use Rattle.tw_rights.specs.declared.arg.Arg.{Arg}
-use Rattle.tw_rights.specs.HandedOver.{handed_over}
-use Rattle.tw_rights.proofs.HandingOver.{IsUnderWay, begins, has_register, one_there, goes_on, ends}
+use Rattle.tw_rights.specs.Bundled.{bundled}
+use Rattle.tw_rights.proofs.Bundling.{IsUnderWay, begins, has_register, one_there, goes_on, ends}
 use Rattle.tw_rights.proofs.file.RightFile.bundle.Goals as goal
 
 pub loop-index-init : goal.loop-index-init
 loop-index-init c =
     let from = begins c.args.self.now c.args.params.now c.args.args.now c.args.vals.items c.requires.fit in (
-      subst (λ (done : List Arg). IsUnderWay (handed_over c.args.self.now c.args.params.now c.args.args.now c.args.vals.items) c.args.self.now c.args.params.now c.args.args.now (into_iter_items c.into_iter-vals.result) done) (sym c.new-bundle.ensures)
-          (subst (λ (vs : List Value). IsUnderWay (handed_over c.args.self.now c.args.params.now c.args.args.now c.args.vals.items) c.args.self.now c.args.params.now c.args.args.now vs []) (sym c.into_iter-vals.ensures.rest) from),
+      subst (λ (done : List Arg). IsUnderWay (bundled c.args.self.now c.args.params.now c.args.args.now c.args.vals.items) c.args.self.now c.args.params.now c.args.args.now (into_iter_items c.into_iter-vals.result) done) (sym c.new-bundle.ensures)
+          (subst (λ (vs : List Value). IsUnderWay (bundled c.args.self.now c.args.params.now c.args.args.now c.args.vals.items) c.args.self.now c.args.params.now c.args.args.now vs []) (sym c.into_iter-vals.ensures.rest) from),
       ap length c.new-bundle.ensures,
     )
 
@@ -23,7 +23,7 @@ hand_over-arg-requires c = one_there _ _ _ _ _ _ c.loop-index.index c.loop-index
 pub loop-index-preserved : goal.loop-index-preserved
 loop-index-preserved c =
     let on = goes_on _ _ _ _ _ _ c.loop-index.index c.loop-index.invariant.0 c.index-params-index.result (omega (arith, c.loop-index-test.true)) 0 _ c.hand_over-arg.ensures in (
-      subst (λ (done : List Arg). IsUnderWay (handed_over c.args.self.now c.args.params.now c.args.args.now c.args.vals.items) c.hand_over-arg.new.self (drop (c.loop-index.index + 1) c.args.params.now) (drop (c.loop-index.index + 1) c.args.args.now) (into_iter_items c.hand_over-arg.new.vals) done) (sym c.in-Ok.ensures.pushed) on,
+      subst (λ (done : List Arg). IsUnderWay (bundled c.args.self.now c.args.params.now c.args.args.now c.args.vals.items) c.hand_over-arg.new.self (drop (c.loop-index.index + 1) c.args.params.now) (drop (c.loop-index.index + 1) c.args.args.now) (into_iter_items c.hand_over-arg.new.vals) done) (sym c.in-Ok.ensures.pushed) on,
       omega (arith, ap length c.in-Ok.ensures.pushed, length-append c.loop-index.bundle (c.hand_over-arg.result ∷ []), c.loop-index.invariant.1),
     )
 

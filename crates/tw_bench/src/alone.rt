@@ -1,0 +1,42 @@
+//! Main by itself.
+
+use std::alloc::{AllocError, Global};
+use tw_frame::{Draft, Frame};
+use tw_queue::Task;
+use tw_rights::Bundle;
+use tw_types::{Actor, TaskNo};
+use tw_verify::Verified;
+
+/// Spends the task's rights.
+fn shut(task: Task) {
+    let Task {
+        no: _,
+        procedure: _,
+        args,
+    } = task;
+    args.shut();
+}
+
+/// How many local instructions main does from its first place on, without rights.
+pub(crate) fn steps_alone(alloc: Global, verified: &Verified) -> Result<u64, AllocError> {
+    let _procedures = verified.program().procedures();
+    let task = Task {
+        no: TaskNo::new(1),
+        procedure: 0,
+        args: Bundle::new(),
+    };
+    let Ok(first) = Draft::start(alloc, &task, verified) else {
+        shut(task);
+        return Err(AllocError);
+    };
+    let Ok(second) = first.try_clone(alloc) else {
+        shut(task);
+        return Err(AllocError);
+    };
+    let mut frame = Frame::start(task, Actor::Engine(0), verified, first);
+    let done = frame.lend(0, second).run(alloc);
+    let steps = done.steps();
+    let accepted = frame.accept(done).is_ok();
+    frame.shut();
+    if accepted { Ok(steps) } else { Err(AllocError) }
+}

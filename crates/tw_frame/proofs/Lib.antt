@@ -1,0 +1,9 @@
+pub mod Weave
+pub mod Deep
+pub mod Quickly
+pub mod Running
+pub mod Lending
+pub mod Prefixes
+pub mod Starting
+pub mod Beginning
+pub mod Frames

@@ -1,0 +1,13 @@
+use Rattle.std.proofs.Common.{◌≡◌, ◌≤◌, Ok, length, map as each, take}
+use Rattle.tw_code.specs.machine.State.{values_in}
+use Rattle.tw_rights.specs.Bare.{bare_arg}
+use Rattle.tw_frame.specs.Drafts.{started}
+use Rattle.tw_frame.proofs.draft.fill.Given as goal
+
+abbrev pub invariant-loop-index : goal.invariant-loop-index
+invariant-loop-index l = record {
+  types : l.registers.types ≡ l.initial.registers.types;
+  filled : started (take l.index l.args) l.initial.registers.types ≡ Ok l.registers.values;
+  count : l.register ≡ length (values_in (each bare_arg (take l.index l.args)));
+  few : l.register ≤ l.index;
+}

@@ -1,0 +1,329 @@
+//! Frames: where a task stands, as the pool keeps it.
+
+ghost use Rattle.std.specs.Prelude.{◌≡◌, ◌<◌, ◌≤◌, ◌+◌, ◌^◌, ℤ, IsTrue, ◌↔◌, IfErr, IfOk, IsSome, OnErr, OnOk, Some, None, Ok, true, false, [], length, slice_get, slice_set, slice_index_or};
+ghost use Rattle.std.specs.Option.{option_map};
+ghost use Rattle.tw_types.specs.declared.value.Value.TheVariants as value;
+ghost use Rattle.tw_code.specs.machine.Position.{at_goal, at_next_place, with_value};
+ghost use Rattle.tw_rights.specs.Bundled.{bundled};
+ghost use Rattle.tw_rights.specs.Filed.{filed, rights_in};
+ghost use Rattle.tw_rights.specs.Kinds.{kind_at};
+ghost use Rattle.tw_rights.specs.declared.held.Held.TheVariants.{Read as ReadOf, Write as WriteOf};
+ghost use Rattle.tw_frame.specs.Drafts.{MaySet, StartsAsMachine};
+ghost use Rattle.tw_frame.specs.Jobs.{MayStand, bare_frame, job_of};
+
+use crate::draft::Draft;
+use crate::job::{After, Done, Job};
+use crate::loops::Loops;
+use crate::registers::Registers;
+use std::alloc::{AllocError, Global};
+use std::marker::Model;
+use tw_queue::Task;
+use tw_rights::{Bundle, Held, ReadRight, RightFile, WriteRight};
+use tw_types::{Actor, Param, TaskNo, Value};
+use tw_verify::Verified;
+
+/// A task that runs: where it stands, its rights, and how many instructions it has done. Its job is lent while it stands.
+pub struct Frame<'a> {
+    verified: &'a Verified,
+    task: TaskNo,
+    procedure: u8,
+    actor: Actor,
+    event_no: u64,
+    place: usize,
+    spent: u64,
+    loops: Loops,
+    registers: Registers<'a>,
+    /// Its right registers.
+    pub rights: RightFile,
+}
+
+impl<'a> Model for Frame<'a> {
+    ghost use Rattle.tw_frame.specs.Jobs.{AreOf, FrameView};
+    ghost use Rattle.tw_frame.specs.Standing.{standing};
+
+    ghost Value = { FrameView };
+
+    ghost view = { λ f. record { program = f.verified.now; task = f.task; procedure = f.procedure; actor = f.actor; event_no = f.event_no; position = standing f.place f.registers f.loops; held = f.rights; spent = f.spent } };
+
+    ghost invariant = { λ f. AreOf f.verified.now.program f.procedure f.registers.types };
+}
+
+impl<'a> Frame<'a> {
+    /// A task starts, with the values of the draft and the rights among its arguments: with the values with which it starts
+    /// it is the machine's frame.
+    pub fn start(task: Task, actor: Actor, verified: &'a Verified, draft: Draft<'a>) -> Frame<'a>
+        requires program { draft.program ≡ verified.now }
+        requires procedure { draft.procedure ≡ task.procedure }
+        ensures machine { StartsAsMachine verified.entry.now.program task.no task.procedure task.args draft.entry.values (bare_frame result) }
+        ensures is { result ≡ record {
+          program = verified.entry.now;
+          task = task.no;
+          procedure = task.procedure;
+          actor = actor;
+          event_no = 0;
+          position = record { place = 0; values = draft.entry.values; loops = [] };
+          held = filed (rights_in task.args);
+          spent = 0;
+        } }
+    {
+        let Task {
+            no,
+            procedure,
+            args,
+        } = task;
+        let Draft {
+            verified: _,
+            procedure: _,
+            registers,
+        } = draft;
+        Frame {
+            verified,
+            task: no,
+            procedure,
+            actor,
+            event_no: 0,
+            place: 0,
+            spent: 0,
+            loops: Loops::new(),
+            registers,
+            rights: args.into_file(),
+        }
+    }
+
+    /// Whether this is the job that was lent last. Numbers and place are compared first, then loops, then values.
+    pub fn has_lent(&self, job: &Job<'_>) -> bool
+        requires { job.now.program ≡ self.now.program }
+        ensures { IsTrue result ↔ (job.now ≡ job_of self.now) }
+    {
+        if self.event_no != job.event_no {
+            return false;
+        }
+        if self.task != job.task {
+            return false;
+        }
+        if self.procedure != job.procedure {
+            return false;
+        }
+        if self.actor != job.actor {
+            return false;
+        }
+        if self.place != job.place {
+            return false;
+        }
+        if !self.loops.same(&job.loops) {
+            return false;
+        }
+        self.registers.same(&job.registers)
+    }
+
+    /// Lends the task's work up to its next instruction that isn't local, by the number of its actor's events. The draft has
+    /// the frame's values.
+    pub fn lend(&mut self, event_no: u64, draft: Draft<'a>) -> Job<'a>
+        requires program { draft.program ≡ self.old.program }
+        requires procedure { draft.procedure ≡ self.old.procedure }
+        requires values { draft.values ≡ self.old.position.values }
+        requires stands { MayStand self.old.program.program self.old.procedure self.old.position }
+        ensures lent { result ≡ job_of self.new }
+        ensures kept { self.new ≡ record self.old { event_no = event_no } }
+    {
+        self.event_no = event_no;
+        Job {
+            verified: self.verified,
+            task: self.task,
+            procedure: self.procedure,
+            actor: self.actor,
+            event_no,
+            place: self.place,
+            registers: draft.registers,
+            loops: self.loops.copy(),
+        }
+    }
+
+    /// Takes what was done of the job that was lent last; another Done is handed back.
+    pub fn accept(&mut self, done: Done<'a>) -> Result<(), Done<'a>>
+        requires program { done.before.program ≡ self.old.program }
+        requires spent { self.old.spent < 2 ^ 63 }
+        ensures fits { OnOk result (done.entry.before ≡ job_of self.old) }
+        ensures taken { OnOk result (self.new ≡ record self.old { position = done.entry.after; spent = self.old.spent + done.entry.steps }) }
+        ensures kept { OnErr result (self.new ≡ self.old) }
+        ensures back { IfErr result (λ back. back ≡ done.entry) }
+        ensures foreign { OnErr result (done.entry.before ≡ job_of self.old → ⊥) }
+    {
+        if !self.has_lent(&done.before) {
+            return Err(done);
+        }
+        let steps = done.steps();
+        let Done {
+            before: _,
+            after,
+            steps: _,
+            short: _,
+        } = done;
+        self.spent += steps;
+        if let Some(after) = after {
+            let After {
+                place,
+                registers,
+                loops,
+            } = after;
+            self.place = place;
+            self.registers = registers;
+            self.loops = loops;
+        }
+        Ok(())
+    }
+
+    /// The program that it belongs to.
+    pub fn program(&self) -> &'a Verified
+        ensures { result.now ≡ self.now.program }
+    {
+        self.verified
+    }
+
+    /// The task's number.
+    pub fn task(&self) -> TaskNo
+        ensures { result ≡ self.now.task }
+    {
+        self.task
+    }
+
+    /// The task's procedure.
+    pub fn procedure(&self) -> u8
+        ensures { result ≡ self.now.procedure }
+    {
+        self.procedure
+    }
+
+    /// The place at which it stands.
+    pub fn place(&self) -> usize
+        ensures { result ≡ self.now.position.place }
+    {
+        self.place
+    }
+
+    /// A copy of the value of a register.
+    pub fn value(&self, alloc: Global, register: u8) -> Result<Value, AllocError>
+        requires { register < length self.now.position.values }
+        ensures { IfOk result (λ value. slice_get self.now.position.values register ≡ Some value) }
+    {
+        let _count = self.registers.count();
+        self.registers.copy_of(alloc, register)
+    }
+
+    /// The number in a register that has one.
+    pub fn int(&self, register: u8) -> i64
+        requires { (n : ℤ) × (slice_get self.now.position.values register ≡ Some (value.Int n)) }
+        ensures { slice_get self.now.position.values register ≡ Some (value.Int result) }
+    {
+        self.registers.number(register)
+    }
+
+    /// Gives a register a value of its type.
+    pub fn set(&mut self, register: u8, value: Value)
+        requires { MaySet self.old.position.values register value }
+        ensures { self.new ≡ record self.old { position = with_value self.old.position register value } }
+    {
+        self.registers.replace(register, value);
+    }
+
+    /// Goes to a place, by one instruction more.
+    pub fn go(&mut self, place: usize)
+        requires { self.old.spent < 2 ^ 63 }
+        ensures { self.new ≡ record self.old { position = record self.old.position { place = place }; spent = self.old.spent + 1 } }
+    {
+        self.place = place;
+        self.spent += 1;
+    }
+
+    /// Goes on to the next place.
+    pub fn go_on(&mut self)
+        requires place { self.old.position.place < 2 ^ 63 }
+        requires spent { self.old.spent < 2 ^ 63 }
+        ensures { self.new ≡ record self.old { position = at_next_place self.old.position; spent = self.old.spent + 1 } }
+    {
+        self.go(self.place + 1);
+    }
+
+    /// Is refused, and skips.
+    pub fn skip(&mut self, skip: u16)
+        requires place { self.old.position.place < 2 ^ 62 }
+        requires spent { self.old.spent < 2 ^ 63 }
+        ensures { self.new ≡ record self.old { position = at_goal self.old.position skip; spent = self.old.spent + 1 } }
+    {
+        self.go(self.place + 1 + usize::from(skip));
+    }
+
+    /// The read right of a register, which stays there.
+    pub fn peek_read(&self, register: u8) -> &ReadRight
+        requires { kind_at self.now.held register ≡ Some false }
+        ensures { slice_index_or self.now.held register None ≡ Some (ReadOf result.now) }
+    {
+        self.rights.peek_read(register)
+    }
+
+    /// The write right of a register, which stays there.
+    pub fn peek_write(&self, register: u8) -> &WriteRight
+        requires { kind_at self.now.held register ≡ Some true }
+        ensures { slice_index_or self.now.held register None ≡ Some (WriteOf result.now) }
+    {
+        self.rights.peek_write(register)
+    }
+
+    /// Takes the read right out of a register.
+    pub fn take_read(&mut self, register: u8) -> ReadRight
+        requires { kind_at self.old.held register ≡ Some false }
+        ensures taken { slice_index_or self.old.held register None ≡ Some (ReadOf result) }
+        ensures rest { self.new ≡ record self.old { held = slice_set self.old.held register None } }
+    {
+        self.rights.take_read(register)
+    }
+
+    /// Takes the write right out of a register.
+    pub fn take_write(&mut self, register: u8) -> WriteRight
+        requires { kind_at self.old.held register ≡ Some true }
+        ensures taken { slice_index_or self.old.held register None ≡ Some (WriteOf result) }
+        ensures rest { self.new ≡ record self.old { held = slice_set self.old.held register None } }
+    {
+        self.rights.take_write(register)
+    }
+
+    /// Fills an empty register.
+    pub fn fill(&mut self, register: u8, right: Held)
+        requires in_file { register < 16 }
+        requires empty { slice_index_or self.old.held register None ≡ None }
+        ensures { self.new ≡ record self.old { held = slice_set self.old.held register (Some right) } }
+    {
+        self.rights.place(register, right);
+    }
+
+    /// Hands over arguments, and goes on to the next place.
+    pub fn hand_over(&mut self, params: &[Param], args: &[u8], vals: Vec<Value>) -> Bundle
+        requires few { length params.now ≤ 8 }
+        requires fit { IsSome (bundled self.old.held params.now args.now vals.items) }
+        requires place { self.old.position.place < 2 ^ 63 }
+        requires spent { self.old.spent < 2 ^ 63 }
+        ensures handed { bundled self.old.held params.now args.now vals.items ≡ Some (record { args = result; file = self.new.held }) }
+        ensures rest { self.new ≡ record self.old { held = self.new.held; position = at_next_place self.old.position; spent = self.old.spent + 1 } }
+    {
+        let bundle = self.rights.bundle(params, args, vals);
+        self.go_on();
+        bundle
+    }
+
+    /// Spends every right.
+    pub fn shut(self) {
+        let Frame {
+            verified: _,
+            task: _,
+            procedure: _,
+            actor: _,
+            event_no: _,
+            place: _,
+            spent: _,
+            loops: _,
+            registers: _,
+            rights,
+        } = self;
+        rights.shut();
+    }
+}

@@ -1,0 +1,16 @@
+//! Frames, and the jobs that a task's local instructions are: where a task stands, as the pool keeps it, and its work up to
+//! its next instruction that isn't local, which runs on registers without tags.
+#![tactic(auto)]
+
+mod dispatch;
+mod draft;
+mod frame;
+mod job;
+mod loops;
+mod registers;
+mod run;
+mod step;
+
+pub use draft::Draft;
+pub use frame::Frame;
+pub use job::{Done, Job};

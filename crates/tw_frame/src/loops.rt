@@ -1,0 +1,119 @@
+//! The loops that a task has begun.
+
+ghost use Rattle.std.specs.Prelude.{◌≡◌, ◌<◌, ◌^◌, ◌∷◌, ◌+◌, [], length, Some, None, IsTrue, ◌↔◌};
+ghost use Rattle.std.specs.Option.{option_map};
+ghost use Rattle.tw_code.specs.machine.Position.{after_end};
+
+use std::marker::Model;
+
+/// A loop: its first place, and the turns that are left.
+#[derive(Clone, Copy)]
+struct Turns {
+    first: u32,
+    left: u32,
+}
+
+impl Model for Turns {
+    ghost use Rattle.tw_code.specs.machine.Position.{Loop as Meaning};
+
+    ghost Value = { Meaning };
+
+    ghost view = { λ l. record { first = l.first; left = l.left } };
+
+    ghost inverse = { λ l. record { first = l.first; left = l.left } };
+}
+
+fn same_turns(left: Turns, right: Turns) -> bool
+    ensures { IsTrue result ↔ (left ≡ right) }
+{
+    if left.first == right.first {
+        left.left == right.left
+    } else {
+        false
+    }
+}
+
+/// At most four loops in one another; the innermost is the last.
+#[derive(Drop)]
+pub(crate) struct Loops {
+    begun: [Turns; 4],
+    depth: usize,
+}
+
+impl Model for Loops {
+    ghost use Rattle.std.specs.Prelude.{◌≡◌, List, ◌≤◌, length, reverse, take};
+    ghost use Rattle.tw_code.specs.machine.Position.{Loop as Meaning};
+
+    ghost Value = { List Meaning };
+
+    ghost view = { λ l. reverse (take l.depth l.begun) };
+
+    ghost invariant = { λ l. (l.depth ≤ 4) × (length l.begun ≡ 4) };
+}
+
+impl Loops {
+    /// None is begun.
+    pub(crate) fn new() -> Loops
+        ensures { result ≡ [] }
+    {
+        Loops {
+            begun: [Turns { first: 0, left: 0 }; 4],
+            depth: 0,
+        }
+    }
+
+    /// Begins a loop inside the others.
+    #[inline(always)]
+    pub(crate) fn begin(&mut self, first: u32, turns: u16)
+        requires { length self.old < 4 }
+        ensures { self.new ≡ record { first = first; left = turns } ∷ self.old }
+    {
+        self.begun[self.depth] = Turns {
+            first,
+            left: u32::from(turns),
+        };
+        self.depth += 1;
+    }
+
+    /// Ends a turn of the innermost loop: where it goes on.
+    #[inline(always)]
+    pub(crate) fn end_turn(&mut self, place: usize) -> usize
+        requires begun { 0 < length self.old }
+        requires inside { place < 2 ^ 63 }
+        ensures { after_end place self.old ≡ Some (record { place = result; loops = self.new }) }
+    {
+        let inner = &mut self.begun[self.depth - 1];
+        if inner.left > 1 {
+            inner.left -= 1;
+            inner.first as usize
+        } else {
+            self.depth -= 1;
+            place + 1
+        }
+    }
+
+    /// Whether the same loops are begun, with the same turns left.
+    pub(crate) fn same(&self, other: &Loops) -> bool
+        ensures { IsTrue result ↔ (self.now ≡ other.now) }
+    {
+        if self.depth != other.depth {
+            return false;
+        }
+        for index in 0..self.depth {
+            if !same_turns(self.begun[index], other.begun[index]) {
+                return false;
+            }
+        }
+        true
+    }
+
+    /// These loops again.
+    pub(crate) fn copy(&self) -> Loops
+        ensures { result ≡ self.now }
+    {
+        Loops {
+            begun: self.begun,
+            depth: self.depth,
+        }
+    }
+}
