@@ -9,7 +9,7 @@ ghost use Rattle.tw_rights.specs.Filed.{filed, rights_in};
 ghost use Rattle.tw_rights.specs.Kinds.{kind_at};
 ghost use Rattle.tw_rights.specs.declared.held.Held.TheVariants.{Read as ReadOf, Write as WriteOf};
 ghost use Rattle.tw_frame.specs.Drafts.{MaySet, StartsAsMachine};
-ghost use Rattle.tw_frame.specs.Jobs.{MayStand, bare_frame, job_of};
+ghost use Rattle.tw_frame.specs.Jobs.{MayStand, bare_frame, draft_of, job_of};
 
 use crate::draft::Draft;
 use crate::job::{After, Done, Job};
@@ -139,6 +139,52 @@ impl<'a> Frame<'a> {
         }
     }
 
+    /// Takes what was done of the job that was lent last, and gives a draft of the values with which the frame goes on;
+    /// another Done is handed back.
+    pub fn exchange(&mut self, done: Done<'a>) -> Result<Draft<'a>, Done<'a>>
+        requires program { done.before.program ≡ self.old.program }
+        requires spent { self.old.spent < 2 ^ 63 }
+        ensures fits { OnOk result (done.entry.before ≡ job_of self.old) }
+        ensures taken { OnOk result (self.new ≡ record self.old { position = done.entry.after; spent = self.old.spent + done.entry.steps }) }
+        ensures draft { IfOk result (λ draft. draft ≡ draft_of self.new) }
+        ensures kept { OnErr result (self.new ≡ self.old) }
+        ensures back { IfErr result (λ back. back ≡ done.entry) }
+        ensures foreign { OnErr result (done.entry.before ≡ job_of self.old → ⊥) }
+    {
+        if !self.has_lent(&done.before) {
+            return Err(done);
+        }
+        let steps = done.steps();
+        let Done {
+            before,
+            after,
+            steps: _,
+            short: _,
+        } = done;
+        self.spent += steps;
+        let Some(after) = after else {
+            return Ok(Draft {
+                verified: self.verified,
+                procedure: self.procedure,
+                registers: before.registers,
+            });
+        };
+        let After {
+            place,
+            registers,
+            loops,
+            again,
+        } = after;
+        self.place = place;
+        self.registers = registers;
+        self.loops = loops;
+        Ok(Draft {
+            verified: self.verified,
+            procedure: self.procedure,
+            registers: again,
+        })
+    }
+
     /// Takes what was done of the job that was lent last; another Done is handed back.
     pub fn accept(&mut self, done: Done<'a>) -> Result<(), Done<'a>>
         requires program { done.before.program ≡ self.old.program }
@@ -149,28 +195,10 @@ impl<'a> Frame<'a> {
         ensures back { IfErr result (λ back. back ≡ done.entry) }
         ensures foreign { OnErr result (done.entry.before ≡ job_of self.old → ⊥) }
     {
-        if !self.has_lent(&done.before) {
-            return Err(done);
+        match self.exchange(done) {
+            Ok(_draft) => Ok(()),
+            Err(done) => Err(done),
         }
-        let steps = done.steps();
-        let Done {
-            before: _,
-            after,
-            steps: _,
-            short: _,
-        } = done;
-        self.spent += steps;
-        if let Some(after) = after {
-            let After {
-                place,
-                registers,
-                loops,
-            } = after;
-            self.place = place;
-            self.registers = registers;
-            self.loops = loops;
-        }
-        Ok(())
     }
 
     /// The program that it belongs to.

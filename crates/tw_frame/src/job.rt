@@ -41,13 +41,15 @@ pub(crate) struct After<'a> {
     pub(crate) place: usize,
     pub(crate) registers: Registers<'a>,
     pub(crate) loops: Loops,
+    /// The same values again, for the next job.
+    pub(crate) again: Registers<'a>,
 }
 
 /// What was done of a job. Only `run` makes one.
 #[derive(Drop)]
 pub struct Done<'a> {
     pub(crate) before: Job<'a>,
-    /// Nothing where no step was made for want of a copy, or because the first instruction isn't local.
+    /// Nothing where no step was made, since the first instruction isn't local or the values couldn't be copied twice.
     pub(crate) after: Option<After<'a>>,
     pub(crate) steps: u64,
     pub(crate) short: bool,
@@ -115,8 +117,9 @@ impl<'a> Job<'a> {
         self.event_no
     }
 
-    /// Runs it up to its next instruction that isn't local; or, short, up to a local one whose memory is refused. No copy is
-    /// made where the first instruction isn't local, and where none can be made there is no step.
+    /// Runs it up to its next instruction that isn't local; or, short, up to a local one whose memory is refused. The values
+    /// are copied twice, before and after, so that the next job takes no memory; no copy is made where the first
+    /// instruction isn't local. Where the values can't be copied there is no step.
     pub fn run(self, alloc: Global) -> Done<'a>
         ensures { result.before ≡ self.entry }
     {
@@ -152,12 +155,21 @@ impl<'a> Job<'a> {
             &mut loops,
             self.place,
         );
+        let Ok(again) = registers.try_clone(alloc) else {
+            return Done {
+                before: self,
+                after: None,
+                steps: 0,
+                short: true,
+            };
+        };
         Done {
             before: self,
             after: Some(After {
                 place: ran.place,
                 registers,
                 loops,
+                again,
             }),
             steps: ran.steps,
             short: ran.short,
