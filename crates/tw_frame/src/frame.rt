@@ -1,6 +1,6 @@
 //! Frames: where a task stands, as the pool keeps it.
 
-ghost use Rattle.std.specs.Prelude.{◌≡◌, ◌<◌, ◌≤◌, ◌+◌, ◌^◌, ℤ, IsTrue, ◌↔◌, IfErr, IfOk, IsSome, OnErr, OnOk, Some, None, Ok, true, false, [], length, slice_get, slice_set, slice_index_or};
+ghost use Rattle.std.specs.Prelude.{◌≡◌, ◌<◌, ◌≤◌, ◌+◌, ◌^◌, ℕ, ℤ, List, IsTrue, ◌↔◌, IfErr, IfOk, IsSome, OnErr, OnOk, Some, None, Ok, true, false, [], length, slice_get, slice_set, slice_index_or};
 ghost use Rattle.std.specs.Option.{option_map};
 ghost use Rattle.tw_types.specs.declared.value.Value.TheVariants as value;
 ghost use Rattle.tw_code.specs.machine.Position.{at_goal, at_next_place, with_value};
@@ -9,12 +9,14 @@ ghost use Rattle.tw_rights.specs.Filed.{filed, rights_in};
 ghost use Rattle.tw_rights.specs.Kinds.{kind_at};
 ghost use Rattle.tw_rights.specs.declared.held.Held.TheVariants.{Read as ReadOf, Write as WriteOf};
 ghost use Rattle.tw_frame.specs.Drafts.{MaySet, StartsAsMachine};
+ghost use Rattle.tw_frame.specs.Seen.{seen};
 ghost use Rattle.tw_frame.specs.Jobs.{MayStand, bare_frame, draft_of, job_of};
 
 use crate::draft::Draft;
 use crate::job::{After, Done, Job};
 use crate::loops::Loops;
 use crate::registers::Registers;
+use crate::value_ref::ValueRef;
 use std::alloc::{AllocError, Global};
 use std::marker::Model;
 use tw_queue::Task;
@@ -229,10 +231,20 @@ impl<'a> Frame<'a> {
         self.place
     }
 
-    /// A copy of the value of a register.
+    /// The value of a register, which stays there.
+    pub fn look(&self, register: u8) -> ValueRef<'_>
+        requires { register < length self.now.position.values }
+        ensures { slice_get self.now.position.values register ≡ Some (seen result) }
+    {
+        let _count = self.registers.count();
+        self.registers.at(register)
+    }
+
+    /// A copy of the value of a register. Only a text takes memory.
     pub fn value(&self, alloc: Global, register: u8) -> Result<Value, AllocError>
         requires { register < length self.now.position.values }
-        ensures { IfOk result (λ value. slice_get self.now.position.values register ≡ Some value) }
+        ensures copy { IfOk result (λ value. slice_get self.now.position.values register ≡ Some value) }
+        ensures text { OnErr result ((bytes : List ℕ) × (slice_get self.now.position.values register ≡ Some (value.Text bytes))) }
     {
         let _count = self.registers.count();
         self.registers.copy_of(alloc, register)

@@ -1,11 +1,14 @@
 //! Jobs.
 
-ghost use Rattle.std.specs.Prelude.{◌≡◌, ◌<◌, IfOk, Some, length, slice_get};
+ghost use Rattle.std.specs.Prelude.{◌≡◌, ◌<◌, ℕ, List, IfOk, OnErr, Some, length, slice_get};
+ghost use Rattle.tw_types.specs.declared.value.Value.TheVariants as value;
 ghost use Rattle.tw_frame.specs.Jobs.{IsDone};
+ghost use Rattle.tw_frame.specs.Seen.{seen};
 
 use crate::loops::Loops;
 use crate::registers::Registers;
 use crate::run::run_from;
+use crate::value_ref::ValueRef;
 use std::alloc::{AllocError, Global};
 use std::marker::Model;
 use tw_types::{Actor, TaskNo, Value};
@@ -94,10 +97,20 @@ impl<'a> Job<'a> {
         self.place
     }
 
+    /// The value of a register, which stays there.
+    pub fn look(&self, register: u8) -> ValueRef<'_>
+        requires { register < length self.now.position.values }
+        ensures { slice_get self.now.position.values register ≡ Some (seen result) }
+    {
+        let _count = self.registers.count();
+        self.registers.at(register)
+    }
+
     /// A copy of the value of a register, from which it goes on.
     pub fn value(&self, alloc: Global, register: u8) -> Result<Value, AllocError>
         requires { register < length self.now.position.values }
-        ensures { IfOk result (λ value. slice_get self.now.position.values register ≡ Some value) }
+        ensures copy { IfOk result (λ value. slice_get self.now.position.values register ≡ Some value) }
+        ensures text { OnErr result ((bytes : List ℕ) × (slice_get self.now.position.values register ≡ Some (value.Text bytes))) }
     {
         let _count = self.registers.count();
         self.registers.copy_of(alloc, register)
@@ -195,17 +208,41 @@ impl<'a> Done<'a> {
         }
     }
 
+    /// The value of a register, to which it came.
+    pub fn look(&self, register: u8) -> ValueRef<'_>
+        requires { register < length self.now.after.values }
+        ensures { slice_get self.now.after.values register ≡ Some (seen result) }
+    {
+        let registers = self.registers_after();
+        let _count = registers.count();
+        registers.at(register)
+    }
+
     /// A copy of the value of a register, to which it came.
     pub fn value(&self, alloc: Global, register: u8) -> Result<Value, AllocError>
         requires { register < length self.now.after.values }
-        ensures { IfOk result (λ value. slice_get self.now.after.values register ≡ Some value) }
+        ensures copy { IfOk result (λ value. slice_get self.now.after.values register ≡ Some value) }
+        ensures text { OnErr result ((bytes : List ℕ) × (slice_get self.now.after.values register ≡ Some (value.Text bytes))) }
     {
-        let registers = match &self.after {
-            Some(after) => &after.registers,
-            None => &self.before.registers,
-        };
+        let registers = self.registers_after();
         let _count = registers.count();
         registers.copy_of(alloc, register)
+    }
+
+    /// How many value registers there are.
+    pub fn count(&self) -> usize
+        ensures { result ≡ length self.now.after.values }
+    {
+        self.registers_after().count()
+    }
+
+    fn registers_after(&self) -> &Registers<'a>
+        ensures { result.now.values ≡ self.now.after.values }
+    {
+        match &self.after {
+            Some(after) => &after.registers,
+            None => &self.before.registers,
+        }
     }
 
     /// How many steps were made; the law of every Done.
