@@ -42,7 +42,11 @@ pub(crate) fn steps_alone(alloc: Global, verified: &Verified) -> Result<u64, All
 }
 
 /// Main's local instructions, so many times, each with a frame and a job of its own.
-pub(crate) fn rounds_alone(alloc: Global, verified: &Verified, count: u32) -> Result<u64, AllocError> {
+pub(crate) fn rounds_alone(
+    alloc: Global,
+    verified: &Verified,
+    count: u32,
+) -> Result<u64, AllocError> {
     let mut steps: u64 = 0;
     for _round in 0..count {
         steps = steps.wrapping_add(steps_alone(alloc, verified)?);
