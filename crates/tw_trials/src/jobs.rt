@@ -143,7 +143,7 @@ fn agrees_again(alloc: Global, bytes: &[u8], most: u64) -> Result<Option<bool>, 
 /// many steps. The first at which they differ, or at which memory ran out.
 pub fn first_stretch(alloc: Global, count: u64, most: u64) -> Option<(&'static str, u64)> {
     let mut seed = 29;
-    let mut agreeing = 0;
+    let mut agreeing: u64 = 0;
     for number in 0..100_000_u64 {
         if agreeing == count {
             return None;
@@ -153,7 +153,7 @@ pub fn first_stretch(alloc: Global, count: u64, most: u64) -> Option<(&'static s
         };
         match agrees_again(alloc, &bytes, most) {
             Ok(None) => {}
-            Ok(Some(true)) => agreeing += 1,
+            Ok(Some(true)) => agreeing = agreeing.wrapping_add(1),
             Ok(Some(false)) | Err(_) => return Some(("stretch", number)),
         }
     }

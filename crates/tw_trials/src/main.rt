@@ -106,6 +106,11 @@ fn main(rt: HostRuntime) -> io::Result<()> {
     }
     agreeing = told(&rt, agreeing, "a control that is to differ", whole(false))?;
     let short = jobs::first_stretch(rt.alloc(), 10, 5);
-    agreeing = told(&rt, agreeing, "jobs, a control of five steps that is to differ", short)?;
+    agreeing = told(
+        &rt,
+        agreeing,
+        "jobs, a control of five steps that is to differ",
+        short,
+    )?;
     println!(rt; "{agreeing} trials agree")
 }

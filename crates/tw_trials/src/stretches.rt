@@ -6,7 +6,9 @@ use crate::draw::draw;
 use std::alloc::{AllocError, Global};
 
 /// The magic bytes, the version, and one procedure: control, without parameters, with three ints and three texts.
-const HEAD: [u8; 14] = [0x54, 0x57, 0x42, 0x01, 0x01, 0x00, 0x00, 0x06, 1, 1, 1, 2, 2, 2];
+const HEAD: [u8; 14] = [
+    0x54, 0x57, 0x42, 0x01, 0x01, 0x00, 0x00, 0x06, 1, 1, 1, 2, 2, 2,
+];
 
 /// Numbers to begin with: small ones, and some at the ends of 64 bits.
 const NUMBERS: [[u8; 8]; 5] = [
@@ -61,7 +63,11 @@ fn add_text(code: &mut Code, seed: &mut u64, to: u8) -> Result<(), AllocError> {
 fn add_other(code: &mut Code, seed: &mut u64, behind: u8) -> Result<(), AllocError> {
     let skip = draw(seed, u64::from(behind).saturating_add(1));
     let (int, left, right) = (int_register(seed), int_register(seed), int_register(seed));
-    let (text, first, second) = (text_register(seed), text_register(seed), text_register(seed));
+    let (text, first, second) = (
+        text_register(seed),
+        text_register(seed),
+        text_register(seed),
+    );
     match draw(seed, 14) {
         0 => code.add(&[0x03, int, left]),
         1 => code.add(&[0x03, text, first]),
