@@ -4,6 +4,7 @@
 
 mod calls;
 mod draw;
+mod jobs;
 mod letters;
 mod lives;
 mod members;
@@ -12,9 +13,13 @@ mod puts;
 mod rules;
 mod search;
 mod stores;
+mod stretches;
 mod walks;
 
 use std::{env, io};
+
+/// More steps than a stretch has.
+const MOST: u64 = 1_000_000;
 
 /// What differs first, if something does, as a number of its kind.
 type Difference = Option<(&'static str, u64)>;
@@ -40,7 +45,9 @@ fn refusal_trials(rt: &HostRuntime, calls: u16) -> io::Result<u64> {
     let puts = puts::calls_are_the_searchs(alloc, calls);
     let agreeing = told(rt, agreeing, "puts and takes", puts)?;
     let rules = rules::calls_are_the_lists(alloc, calls);
-    told(rt, agreeing, "calls of the rules", rules)
+    let agreeing = told(rt, agreeing, "calls of the rules", rules)?;
+    let jobs = jobs::first_stretch(alloc, u64::from(calls / 10), MOST);
+    told(rt, agreeing, "jobs", jobs)
 }
 
 /// The trials of the host's parts in which all memory is had; how many agree, with those before.
@@ -49,7 +56,9 @@ fn whole_trials(rt: &HostRuntime, agreeing: u64) -> io::Result<u64> {
     let puts = puts::calls_are_the_searchs(alloc, 10_000);
     let agreeing = told(rt, agreeing, "10,000 puts and takes", puts)?;
     let rules = rules::calls_are_the_lists(alloc, 10_000);
-    let mut agreeing = told(rt, agreeing, "10,000 calls of the rules", rules)?;
+    let agreeing = told(rt, agreeing, "10,000 calls of the rules", rules)?;
+    let jobs = jobs::first_stretch(alloc, 10_000, MOST);
+    let mut agreeing = told(rt, agreeing, "10,000 jobs", jobs)?;
     for (name, agrees) in [
         (
             "a thousand members are found",
@@ -96,5 +105,12 @@ fn main(rt: HostRuntime) -> io::Result<()> {
         agreeing = verifier_trials(&rt, agreeing)?;
     }
     agreeing = told(&rt, agreeing, "a control that is to differ", whole(false))?;
+    let short = jobs::first_stretch(rt.alloc(), 10, 5);
+    agreeing = told(
+        &rt,
+        agreeing,
+        "jobs, a control of five steps that is to differ",
+        short,
+    )?;
     println!(rt; "{agreeing} trials agree")
 }

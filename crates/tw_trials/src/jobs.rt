@@ -1,0 +1,161 @@
+//! Jobs, compared with the reference machine's local steps.
+
+ghost use Rattle.std.specs.Prelude.{◌≡◌, ◌<◌, IfSome, length};
+ghost use Rattle.tw_frame.specs.Jobs.{job_of};
+
+use crate::stretches::{next_program, spelled};
+use std::alloc::{AllocError, Global};
+use tw_code::{Procedure, decode};
+use tw_frame::{Done, Draft, Frame, Job, ValueRef};
+use tw_instr::{Position, count_local};
+use tw_queue::Task;
+use tw_rights::Bundle;
+use tw_types::{Actor, TaskNo, Value};
+use tw_verify::{Verified, verify};
+
+/// What was done of main, in one job, or in two where the first was short.
+#[derive(Drop)]
+struct Stretch<'a> {
+    done: Done<'a>,
+    steps: u64,
+}
+
+/// Runs a job, and where it is short the next one.
+fn run_on<'a>(alloc: Global, frame: &mut Frame<'a>, job: Job<'a>) -> Option<Stretch<'a>>
+    requires lent { job ≡ job_of frame.old }
+    requires spent { frame.old.spent ≡ 0 }
+{
+    let done = job.run(alloc);
+    let steps = done.steps();
+    if !done.short() {
+        return Some(Stretch { done, steps });
+    }
+    let Ok(draft) = frame.exchange(done) else {
+        return None;
+    };
+    let done = frame.lend(1, draft).run(alloc);
+    if done.short() {
+        return None;
+    }
+    let steps = steps.saturating_add(done.steps());
+    Some(Stretch { done, steps })
+}
+
+/// Spends the task's rights.
+fn shut(task: Task) {
+    let Task {
+        no: _,
+        procedure: _,
+        args,
+    } = task;
+    args.shut();
+}
+
+/// Runs main from its first place on.
+fn stretch_of(alloc: Global, verified: &Verified) -> Result<Option<Stretch<'_>>, AllocError> {
+    let _procedures = verified.program().procedures();
+    let task = Task {
+        no: TaskNo::new(1),
+        procedure: 0,
+        args: Bundle::new(),
+    };
+    let Ok(first) = Draft::start(alloc, &task, verified) else {
+        shut(task);
+        return Err(AllocError);
+    };
+    let Ok(second) = first.try_clone(alloc) else {
+        shut(task);
+        return Err(AllocError);
+    };
+    let mut frame = Frame::start(task, Actor::Engine(0), verified, first);
+    let job = frame.lend(0, second);
+    let stretch = run_on(alloc, &mut frame, job);
+    frame.shut();
+    Ok(stretch)
+}
+
+fn is_same(value: &Value, other: ValueRef<'_>) -> bool {
+    match (value, other) {
+        (Value::Int(number), ValueRef::Int(other)) => *number == other,
+        (Value::Text(text), ValueRef::Text(other)) => text.as_str() == other.as_str(),
+        (Value::Int(_), ValueRef::Text(_)) | (Value::Text(_), ValueRef::Int(_)) => false,
+    }
+}
+
+/// Whether a Done came to a position.
+fn came_to(done: &Done<'_>, position: &Position) -> bool {
+    if done.after_place() != position.place() {
+        return false;
+    }
+    let count = done.count();
+    for register in 0..16_u8 {
+        if usize::from(register) < count {
+            let Some(value) = position.value(register) else {
+                return false;
+            };
+            if !is_same(value, done.look(register)) {
+                return false;
+            }
+        }
+    }
+    true
+}
+
+/// The position at the beginning of a procedure, all registers blank.
+fn beginning(alloc: Global, procedure: &Procedure) -> Result<Position, AllocError> {
+    let mut values = Vec::new(alloc);
+    for ty in procedure.registers.as_slice() {
+        values.push(Value::blank(alloc, *ty))?;
+    }
+    Ok(Position::first(alloc, values))
+}
+
+/// Whether the job of main, and at most so many steps of the reference machine, come to the same after as many steps.
+/// Nothing where the program is refused.
+fn agrees(alloc: Global, bytes: &[u8], most: u64) -> Result<Option<bool>, AllocError> {
+    let Ok(program) = decode(alloc, bytes) else {
+        return Ok(None);
+    };
+    let Ok(verified) = verify(alloc, program) else {
+        return Ok(None);
+    };
+    let procedures = verified.program().procedures();
+    let Some(main) = procedures.first() else {
+        return Ok(None);
+    };
+    let mut position = beginning(alloc, main)?;
+    let steps = count_local(alloc, main.code.as_slice(), &mut position, most)?;
+    let Some(stretch) = stretch_of(alloc, &verified)? else {
+        return Ok(Some(false));
+    };
+    Ok(Some(stretch.steps == steps && came_to(&stretch.done, &position)))
+}
+
+/// The same, once more where memory may have been refused.
+fn agrees_again(alloc: Global, bytes: &[u8], most: u64) -> Result<Option<bool>, AllocError> {
+    match agrees(alloc, bytes, most) {
+        Ok(Some(agrees)) => Ok(Some(agrees)),
+        Ok(None) | Err(_) => agrees(alloc, bytes, most),
+    }
+}
+
+/// Of so many programs by chance that are accepted, each job goes as the reference machine does, which makes at most so
+/// many steps. The first at which they differ, or at which memory ran out.
+pub fn first_stretch(alloc: Global, count: u64, most: u64) -> Option<(&'static str, u64)> {
+    let mut seed = 29;
+    let mut agreeing: u64 = 0;
+    for number in 0..100_000_u64 {
+        if agreeing == count {
+            return None;
+        }
+        let Ok(bytes) = next_program(alloc, &mut seed) else {
+            continue;
+        };
+        match agrees_again(alloc, &bytes, most) {
+            Ok(None) => {}
+            Ok(Some(true)) => agreeing = agreeing.wrapping_add(1),
+            Ok(Some(false)) | Err(_) => return Some(("stretch", number)),
+        }
+    }
+    Some(("number of programs that are accepted", agreeing))
+}

@@ -1,0 +1,144 @@
+//! Programs of local instructions, by chance.
+
+ghost use Rattle.std.specs.Prelude.{◌<◌};
+
+use crate::draw::draw;
+use std::alloc::{AllocError, Global};
+
+/// The magic bytes, the version, and one procedure: control, without parameters, with three ints and three texts.
+const HEAD: [u8; 14] = [
+    0x54, 0x57, 0x42, 0x01, 0x01, 0x00, 0x00, 0x06, 1, 1, 1, 2, 2, 2,
+];
+
+/// Numbers to begin with: small ones, and some at the ends of 64 bits.
+const NUMBERS: [[u8; 8]; 5] = [
+    [0, 0, 0, 0, 0, 0, 0, 2],
+    [0, 0, 0, 0, 0, 0, 0, 0],
+    [255, 255, 255, 255, 255, 255, 255, 253],
+    [127, 255, 255, 255, 255, 255, 255, 255],
+    [128, 0, 0, 0, 0, 0, 0, 0],
+];
+
+/// Texts to begin with: some are numbers in decimal, and some nearly.
+const TEXTS: [&str; 6] = ["", "7", "-12", "007", "\u{fc}b", "9223372036854775808"];
+
+/// Code that grows, by instructions.
+#[derive(Drop)]
+struct Code {
+    bytes: Vec<u8>,
+    count: u8,
+}
+
+impl Code {
+    fn add(&mut self, bytes: &[u8]) -> Result<(), AllocError> {
+        self.count = self.count.saturating_add(1);
+        self.bytes.extend_from_slice(bytes)
+    }
+}
+
+fn int_register(seed: &mut u64) -> u8 {
+    draw(seed, 3)
+}
+
+fn text_register(seed: &mut u64) -> u8 {
+    draw(seed, 3).saturating_add(3)
+}
+
+fn add_int(code: &mut Code, seed: &mut u64, to: u8) -> Result<(), AllocError> {
+    let mut bytes = [1, to, 0, 0, 0, 0, 0, 0, 0, 0];
+    let number = NUMBERS[usize::from(draw(seed, 5)) % 5];
+    for index in 0..8_usize {
+        bytes[index + 2] = number[index];
+    }
+    code.add(&bytes)
+}
+
+fn add_text(code: &mut Code, seed: &mut u64, to: u8) -> Result<(), AllocError> {
+    let text = TEXTS[usize::from(draw(seed, 6)) % 6];
+    code.add(&[2, to, 0, u8::try_from(text.len()).unwrap_or(0)])?;
+    code.bytes.extend_from_slice(text.as_bytes())
+}
+
+/// A local instruction with a skip, or COPY, LEN or SHOW; those behind it in its block are so many.
+fn add_other(code: &mut Code, seed: &mut u64, behind: u8) -> Result<(), AllocError> {
+    let skip = draw(seed, u64::from(behind).saturating_add(1));
+    let (int, left, right) = (int_register(seed), int_register(seed), int_register(seed));
+    let (text, first, second) = (
+        text_register(seed),
+        text_register(seed),
+        text_register(seed),
+    );
+    match draw(seed, 14) {
+        0 => code.add(&[0x03, int, left]),
+        1 => code.add(&[0x03, text, first]),
+        2 => code.add(&[0x10, int, left, right, 0, skip]),
+        3 => code.add(&[0x11, int, left, right, 0, skip]),
+        4 => code.add(&[0x12, int, left, right, 0, skip]),
+        5 => code.add(&[0x13, int, left, right, 0, skip]),
+        6 => code.add(&[0x14, int, left, right, 0, skip]),
+        7 => code.add(&[0x18, text, first, second, 0, skip]),
+        8 => code.add(&[0x19, int, text]),
+        9 => code.add(&[0x1a, text, int]),
+        10 => code.add(&[0x1b, int, text, 0, skip]),
+        11 => code.add(&[0x21, left, right, 0, skip]),
+        12 => code.add(&[0x21, first, second, 0, skip]),
+        _ => code.add(&[0x22, left, right, 0, skip]),
+    }
+}
+
+/// Fewer instructions than the bound, one after the other.
+fn add_block(code: &mut Code, seed: &mut u64, bound: u64) -> Result<(), AllocError>
+    requires { 0 < bound }
+{
+    let count = draw(seed, bound);
+    for index in 0..count {
+        let behind = count - index - 1;
+        let (int, text) = (int_register(seed), text_register(seed));
+        match draw(seed, 10) {
+            0 => add_int(code, seed, int)?,
+            1 => add_text(code, seed, text)?,
+            2 => code.add(&[0x20, 0, draw(seed, u64::from(behind).saturating_add(1)) / 3])?,
+            _ => add_other(code, seed, behind)?,
+        }
+    }
+    Ok(())
+}
+
+/// A loop in a loop, with instructions before, between and behind them, and RET.
+fn add_loops(code: &mut Code, seed: &mut u64) -> Result<(), AllocError> {
+    add_block(code, seed, 4)?;
+    code.add(&[0x23, 0, draw(seed, 3).saturating_add(1)])?;
+    add_block(code, seed, 4)?;
+    code.add(&[0x23, 0, draw(seed, 5).saturating_add(1)])?;
+    add_block(code, seed, 5)?;
+    code.add(&[0x24])?;
+    add_block(code, seed, 3)?;
+    code.add(&[0x24])?;
+    add_block(code, seed, 4)?;
+    code.add(&[0x42])
+}
+
+/// The bytes of a program of one procedure with this code, of so many instructions.
+pub fn spelled(alloc: Global, code: &[u8], count: u8) -> Result<Vec<u8>, AllocError> {
+    let mut bytes = Vec::new(alloc);
+    bytes.extend_from_slice(&HEAD)?;
+    bytes.extend_from_slice(&[0, count])?;
+    bytes.extend_from_slice(code)?;
+    Ok(bytes)
+}
+
+/// The bytes of the next program of the sequence.
+pub fn next_program(alloc: Global, seed: &mut u64) -> Result<Vec<u8>, AllocError> {
+    let mut code = Code {
+        bytes: Vec::new(alloc),
+        count: 0,
+    };
+    for register in 0..3 {
+        add_int(&mut code, seed, register)?;
+    }
+    for register in 3..6 {
+        add_text(&mut code, seed, register)?;
+    }
+    add_loops(&mut code, seed)?;
+    spelled(alloc, code.bytes.as_slice(), code.count)
+}
