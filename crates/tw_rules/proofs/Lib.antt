@@ -6,3 +6,4 @@ pub mod Changes
 pub mod Tables
 pub mod Heaps
 pub mod Rooms
+pub mod Fitting

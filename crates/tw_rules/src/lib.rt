@@ -1,7 +1,7 @@
 //! The rules that are pending, with what each engine asks for and releases next at hand.
 #![tactic(auto)]
 
-mod action;
+mod planned;
 mod agenda;
 mod asks;
 mod entries;
@@ -11,7 +11,7 @@ mod plain;
 mod releases;
 mod table;
 
-pub use action::Action;
+pub use planned::PlannedTask;
 pub use few::Few;
 pub use plain::{PlainArg, PlainRule};
 pub use table::RuleTable;
