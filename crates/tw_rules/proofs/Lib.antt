@@ -7,3 +7,4 @@ pub mod Tables
 pub mod Heaps
 pub mod Rooms
 pub mod Fitting
+pub mod Found
