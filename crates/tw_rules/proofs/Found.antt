@@ -1,6 +1,6 @@
 -- What an engine does next, as its caller wants it: the parameter is unasked, and the rule can be released.
 use Rattle.std.proofs.Common.{◌≡◌, inl, inr, ℕ, zero, suc, ◌+◌, ◌==◌, ◌&&◌, Bool, true, false, cond, List, [], ◌∷◌, refl, sym, ap, subst, ◌∙◌, arith}
-use Rattle.std.specs.Prelude.{Option, Some, None, slice_get, option_map}
+use Rattle.std.specs.Prelude.{Option, Some, None, IsSome, is_some, slice_get, option_map}
 use Rattle.std.specs.Option.{option_and_then}
 use Rattle.std.specs.Cmp.{nat_cmp_total}
 use Rattle.std.specs.FinMap.{entries, get}
@@ -89,3 +89,9 @@ release_may engine n rules h =
     let found = releases_in engine (entries rules) n h in
     let there : get rules n ≡ Some found.rule = get_entry nat_cmp nat_cmp_total rules (n, found.rule) found.there in
     ap (option_map is_releasable) there ∙ ap Some found.can
+
+pub release_there : (engine n : ℕ) (rules : Rules) → next_release engine rules ≡ Some n → IsSome (get rules n)
+unfolding next_release
+release_there engine n rules h =
+    let found = releases_in engine (entries rules) n h in
+    ap is_some (get_entry nat_cmp nat_cmp_total rules (n, found.rule) found.there)

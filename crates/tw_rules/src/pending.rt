@@ -5,9 +5,9 @@ ghost use Rattle.tw_types.specs.Rule.{first_stage, first_unasked, has_unasked, i
 ghost use Rattle.tw_rules.specs.Table.{plain_arg, told};
 ghost use Rattle.tw_rules.specs.Entries.{rule_in};
 
-use crate::planned::PlannedTask;
 use crate::few::Few;
 use crate::plain::{PlainArg, PlainRule};
+use crate::planned::PlannedTask;
 use tw_rights::{Arg, Bundle};
 use tw_types::{Param, RuleNo, Stage};
 

@@ -1,7 +1,7 @@
 //! Rules without rights.
 
-use crate::planned::PlannedTask;
 use crate::few::Few;
+use crate::planned::PlannedTask;
 use tw_types::{DatumId, RuleNo, Stage};
 
 /// An argument without its value or its right.

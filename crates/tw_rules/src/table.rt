@@ -9,11 +9,11 @@ ghost use Rattle.tw_types.specs.declared.stage.Stage.TheVariants.{Unasked, Waiti
 ghost use Rattle.tw_types.specs.Rule.{is_releasable, is_settled, is_unasked, next_ask, next_release};
 ghost use Rattle.tw_rules.specs.Table.{AreArgsOf, action_of, arg_at, new_rule, read_right, right_at, room_for, stage_at, staged, told};
 
-use crate::planned::PlannedTask;
 use crate::agenda::Agenda;
 use crate::entries::{find, first_number, pending, put, set_stage, take};
 use crate::pending::{Pending, first_stages};
 use crate::plain::PlainRule;
+use crate::planned::PlannedTask;
 use std::alloc::{AllocError, Global};
 use std::collections::HashMap;
 use std::marker::Model;

@@ -45,16 +45,16 @@ IsAsking engine store rules (Ok (Some ask)) store2 rules2 = (next_ask engine rul
 IsAsking engine store rules (Err _) store2 rules2 = IsUnchanged store store2 × (rules2 ≡ rules)
 
 -- the next rule that the engine can release is a task of this number and kind
-pub record IsReleased (number no : ℕ) (kind : Kind) (rules : Rules) (tasks : TasksOf Arg) (rules2 : Rules) (tasks2 : TasksOf Arg) : Type 0 where
+pub record IsReleased (number task : ℕ) (kind : Kind) (rules : Rules) (tasks : TasksOf Arg) (rules2 : Rules) (tasks2 : TasksOf Arg) : Type 0 where
   pub rule : RuleOf Arg
   pub there : map.get rules number ≡ Some rule
   pub gone : rules2 ≡ map.remove rules number
-  pub waits : tasks2 ≡ map.insert tasks no (task_from kind rule)
+  pub waits : tasks2 ≡ map.insert tasks task (task_from kind rule)
 
 abbrev pub IsReleasing : {E : Type 0} → ℕ → ℕ → Kind → Rules → TasksOf Arg → Result (Option ℕ) E → Rules → TasksOf Arg → Type 0
-IsReleasing engine no kind rules tasks (Ok None) rules2 tasks2 = (next_release engine rules ≡ None) × (rules2 ≡ rules) × (tasks2 ≡ tasks)
-IsReleasing engine no kind rules tasks (Ok (Some number)) rules2 tasks2 = (next_release engine rules ≡ Some number) × IsReleased number no kind rules tasks rules2 tasks2
-IsReleasing engine no kind rules tasks (Err _) rules2 tasks2 = (rules2 ≡ rules) × (tasks2 ≡ tasks)
+IsReleasing engine task kind rules tasks (Ok None) rules2 tasks2 = (next_release engine rules ≡ None) × (rules2 ≡ rules) × (tasks2 ≡ tasks)
+IsReleasing engine task kind rules tasks (Ok (Some number)) rules2 tasks2 = (next_release engine rules ≡ Some number) × IsReleased number task kind rules tasks rules2 tasks2
+IsReleasing engine task kind rules tasks (Err _) rules2 tasks2 = (rules2 ≡ rules) × (tasks2 ≡ tasks)
 
 -- arguments have left their registers, and a rule with them is the next one
 pub record IsAdded (engine : ℕ) (params : List Param) (registers : List ℕ) (values : List Value) (action : PlannedTask) (number : ℕ) (table : Table) (file : List (Option Held)) (table2 : Table) (file2 : List (Option Held)) : Type 0 where

@@ -44,11 +44,7 @@ pub fn ask(
 }
 
 /// A scalar is set and closed, and its subscribers are told.
-pub fn set(
-    store: &mut Store,
-    right: WriteRight,
-    value: Value,
-) -> Result<(), (WriteRight, Value)>
+pub fn set(store: &mut Store, right: WriteRight, value: Value) -> Result<(), (WriteRight, Value)>
     requires here { IsHere store.old right }
     requires allowed { may_store value (get store.old.store.live right.id) ≡ Ok tt }
     ensures stored { OnOk result (IsLeft store.old store.new right.id (set_to value)) }
@@ -58,10 +54,10 @@ pub fn set(
     let Ok(()) = store.reserve_notices(&right) else {
         return Err((right, value));
     };
-    let Ok(()) = store.store(right, value) else {
-        unreachable!();
-    };
-    Ok(())
+    match store.store(right, value) {
+        Ok(()) => Ok(()),
+        Err(_back) => unreachable!(),
+    }
 }
 
 /// A rule of an engine, whose arguments leave their registers.
@@ -86,10 +82,10 @@ pub fn add(
         return Err(vals);
     };
     let args = file.bundle(params, registers, vals);
-    let Ok(number) = rules.add(engine, params, action, args) else {
-        unreachable!();
-    };
-    Ok(number)
+    match rules.add(engine, params, action, args) {
+        Ok(number) => Ok(number),
+        Err(_args) => unreachable!(),
+    }
 }
 
 /// The next rule that the engine can release becomes a task of the number.
@@ -114,10 +110,10 @@ pub fn release(
         procedure: action.procedure,
         args: rules.release(rule),
     };
-    let Ok(()) = tasks.put(kind, action.priority, action.target, task) else {
-        unreachable!();
-    };
-    Ok(Some(rule))
+    match tasks.put(kind, action.priority, action.target, task) {
+        Ok(()) => Ok(Some(rule)),
+        Err(_task) => unreachable!(),
+    }
 }
 
 /// The actor's best task, whose procedure is known before it leaves the queues.
