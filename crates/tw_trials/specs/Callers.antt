@@ -1,13 +1,15 @@
 -- What is left of the host's parts when they are called as an event calls them.
-use Rattle.std.specs.Prelude.{◌≡◌, ◌+◌, ℕ, Bool, true, false, List, Option, Some, None}
+use Rattle.std.specs.Prelude.{◌≡◌, ◌+◌, ℕ, Bool, true, false, List, [], Option, Some, None, drop, length, option_map, slice_get, slice_index_or, slice_set}
 use Rattle.std.specs.FinMap as map
 use Rattle.std.specs.declared.result.Result.{Result}
 use Rattle.std.specs.declared.result.Result.TheVariants.{Ok, Err}
 use Rattle.tw_types.specs.declared.actor.Kind.{Kind}
+use Rattle.tw_types.specs.declared.notice.Notice.{Notice}
 use Rattle.tw_types.specs.declared.param.Param.{Param}
 use Rattle.tw_types.specs.declared.stage.Stage.TheVariants.{Ready, Waiting}
 use Rattle.tw_types.specs.declared.value.Value.{Value}
-use Rattle.tw_types.specs.Rule.{RuleOf, RulesOf, next_ask, next_release, task_from}
+use Rattle.tw_types.specs.Rule.{RuleOf, RulesOf, is_settled, next_ask, next_release, task_from}
+use Rattle.tw_types.specs.Store.{server_of}
 use Rattle.tw_types.specs.StoreCalls.{subscribed}
 use Rattle.tw_types.specs.Task.{TasksOf}
 use Rattle.tw_rights.specs.declared.arg.Arg.{Arg}
@@ -17,7 +19,7 @@ use Rattle.tw_rights.specs.Rights.{Right}
 use Rattle.tw_store.specs.Calls.{closed_by}
 use Rattle.tw_store.specs.Served.{IsHere, IsNow, IsUnchanged, Served}
 use Rattle.tw_rules.specs.declared.planned.PlannedTask.{PlannedTask}
-use Rattle.tw_rules.specs.Table.{Table, new_rule, right_at, staged}
+use Rattle.tw_rules.specs.Table.{Table, new_rule, right_at, stage_at, staged}
 
 abbrev pub Rules : Type 0
 Rules = RulesOf Arg
@@ -43,6 +45,23 @@ abbrev pub IsAsking : {E : Type 0} → ℕ → Served → Rules → Result (Opti
 IsAsking engine store rules (Ok None) store2 rules2 = (next_ask engine rules ≡ None) × IsUnchanged store store2 × (rules2 ≡ rules)
 IsAsking engine store rules (Ok (Some ask)) store2 rules2 = (next_ask engine rules ≡ Some ask) × IsAsked ask.0 ask.1 store rules store2 rules2
 IsAsking engine store rules (Err _) store2 rules2 = IsUnchanged store store2 × (rules2 ≡ rules)
+
+-- the parameter that the server's oldest notice names isn't settled
+abbrev pub MayDeliver : ℕ → List (List Notice) → Rules → Type 0
+MayDeliver server queues rules = (notice : Notice) → slice_get (slice_index_or queues server []) 0 ≡ Some notice
+    → option_map is_settled (stage_at rules notice.rule notice.parameter) ≡ Some false
+
+-- it has left its server's queue, and its parameter is ready
+pub record IsDelivered (server : ℕ) (notice : Notice) (store : Served) (rules : Rules) (store2 : Served) (rules2 : Rules) : Type 0 where
+  pub own : server_of (length store.queues) notice.datum ≡ server
+  pub data_is : store2.store ≡ store.store
+  pub queues : store2.queues ≡ slice_set store.queues server (drop 1 (slice_index_or store.queues server []))
+  pub rules_are : rules2 ≡ staged rules notice.rule notice.parameter Ready
+
+abbrev pub IsDelivering : ℕ → Served → Rules → Option Notice → Served → Rules → Type 0
+IsDelivering server store rules None store2 rules2 = (slice_get (slice_index_or store.queues server []) 0 ≡ None) × (store2.store ≡ store.store) × (rules2 ≡ rules)
+IsDelivering server store rules (Some notice) store2 rules2 =
+    (slice_get (slice_index_or store.queues server []) 0 ≡ Some notice) × IsDelivered server notice store rules store2 rules2
 
 -- the next rule that the engine can release is a task of this number and kind
 pub record IsReleased (number task : ℕ) (kind : Kind) (rules : Rules) (tasks : TasksOf Arg) (rules2 : Rules) (tasks2 : TasksOf Arg) : Type 0 where

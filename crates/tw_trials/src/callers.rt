@@ -14,14 +14,14 @@ ghost use Rattle.tw_rights.specs.Bundled.{bundled};
 ghost use Rattle.tw_store.specs.Served.{IsHere, IsLeft, IsUnchanged};
 ghost use Rattle.tw_rules.specs.Table.{new_rule};
 ghost use Rattle.tw_queue.specs.Queues.{IsTarget, handed_out, without};
-ghost use Rattle.tw_trials.specs.Callers.{AreHere, IsAdded, IsAsking, IsReleasing};
+ghost use Rattle.tw_trials.specs.Callers.{AreHere, IsAdded, IsAsking, IsDelivering, IsReleasing, MayDeliver};
 
 use std::alloc::AllocError;
 use tw_queue::{Task, TaskQueues};
 use tw_rights::{Bundle, RightFile, WriteRight};
 use tw_rules::{PlannedTask, RuleTable};
 use tw_store::{Asked, Store};
-use tw_types::{Actor, Kind, Param, RuleNo, TaskNo, Value};
+use tw_types::{Actor, Kind, Notice, Param, RuleNo, TaskNo, Value};
 
 /// The engine asks for its next parameter, if there is one.
 pub fn ask(
@@ -58,6 +58,17 @@ pub fn set(store: &mut Store, right: WriteRight, value: Value) -> Result<(), (Wr
         Ok(()) => Ok(()),
         Err(_back) => unreachable!(),
     }
+}
+
+/// The server's oldest notice makes its parameter ready.
+pub fn deliver(store: &mut Store, rules: &mut RuleTable, server: u8) -> Option<Notice>
+    requires server { server < length store.old.queues }
+    requires waits { MayDeliver server store.old.queues rules.old.rules }
+    ensures { IsDelivering server store.old rules.old.rules result store.new rules.new.rules }
+{
+    let notice = store.take_note(server)?;
+    rules.mark_ready(notice.rule, notice.parameter);
+    Some(notice)
 }
 
 /// A rule of an engine, whose arguments leave their registers.
