@@ -1,6 +1,6 @@
 -- Arguments that fit the stages of their rules.
-use Rattle.std.proofs.Common.{◌≡◌, inl, inr, ℕ, zero, suc, ◌+◌, Bool, true, false, cond, List, [], ◌∷◌, map, refl, sym, ap, subst, ◌∙◌, slice_set, arith}
-use Rattle.std.specs.Prelude.{Option, Some, None, IfSome, IsSome, slice_get, option_map}
+use Rattle.std.proofs.Common.{◌≡◌, inl, inr, ℕ, zero, suc, ◌+◌, Bool, true, false, cond, List, [], ◌∷◌, map, refl, sym, subst, ◌∙◌, slice_set, arith}
+use Rattle.std.specs.Prelude.{Option, Some, None, IsSome, slice_get, option_map}
 use Rattle.std.specs.Option.{option_and_then}
 use Rattle.std.specs.List.{AllZip}
 use Rattle.std.specs.FinMap.{get, insert, remove, empty, get-empty}
@@ -13,7 +13,6 @@ use Rattle.tw_types.specs.declared.stage.Stage.TheVariants.{Free, Unasked, Waiti
 use Rattle.tw_types.specs.declared.value.Value.{Value}
 use Rattle.tw_types.specs.Rule.{RuleOf, at_stage, first_stage, first_unasked, is_settled, is_unasked}
 use Rattle.tw_rights.specs.declared.arg.Arg.{Arg}
-use Rattle.tw_rights.specs.declared.arg.Arg.TheVariants as arg
 use Rattle.tw_rights.specs.declared.held.Held.{Held}
 use Rattle.tw_rights.specs.declared.held.Held.TheVariants as held
 use Rattle.tw_rights.specs.Bundled.{Bundled, BundledOne, bundled, bundled_one, read_left, value_left, with_arg, write_left}

@@ -1,11 +1,10 @@
 -- Members of a container that the store has shown, and where their data stand.
-use Rattle.std.proofs.Common.{◌≡◌, ◌≢◌, ℕ, ℤ, refl, sym, ap, subst, ◌∙◌, get_or, inl, inr, ◌⊎◌, IfSome, IfNone, Some, None, option_map, slice_get}
+use Rattle.std.proofs.Common.{◌≡◌, ◌≢◌, ℕ, ℤ, sym, ap, subst, ◌∙◌, get_or, inl, inr, ◌⊎◌, IfSome, IfNone, Some, None}
 use Rattle.std.specs.declared.option.Option.{Option}
 use Rattle.std.specs.Borrow.{Bor}
 use Rattle.std.specs.Option.{option_copied}
 use Rattle.std.specs.FinMap.{get}
 use Rattle.slab.specs.Slab.{Slab}
-use Rattle.tw_types.specs.Store.{Datum}
 use Rattle.tw_datum.specs.Kept.{datum_if}
 use Rattle.tw_store.specs.declared.member.Member.{Member}
 use Rattle.tw_store.specs.declared.slot.Slot.{Slot}
@@ -13,10 +12,8 @@ use Rattle.tw_store.specs.Placed.{PlacedDatum}
 use Rattle.tw_store.specs.Parts.{Queues, served_of}
 use Rattle.tw_store.specs.Served.{Served, KnowsPlaces}
 use Rattle.tw_store.specs.Slots.{AreSeated, IsSlotOf, datum_in, live_of, places_of}
-use Rattle.tw_store.proofs.Here.{Seat}
 use Rattle.tw_store.proofs.Remain.{live_at, of_some, place_at}
 use Rattle.tw_store.proofs.Shown.{StandsAt, StandsNowhere, get_nowhere, search_slots, seat_of}
-use Rattle.tw_rights.specs.Rights.{Right}
 
 module _ (slab : Slab Slot) (next : ℕ) (queues : Queues) (s : Served) (view : served_of slab next queues ≡ s) (seated : AreSeated slab.slots next) where
   slot_knows : (place : ℕ) (slot : Slot) → get_or slab.slots place None ≡ Some slot → KnowsPlaces s slot.datum

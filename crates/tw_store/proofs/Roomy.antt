@@ -1,15 +1,13 @@
 -- Room that was made is still there.
-use Rattle.std.proofs.Common.{◌≡◌, ◌≢◌, ◌<◌, ◌≤◌, ◌+◌, ◌-◌, ◌%◌, ℕ, zero, suc, Bool, true, cond, List, [], ◌∷◌, refl, sym, ap, subst, ◌∙◌, arith, get_or, set, length, is_some, count_by, inl, inr, OnOk, OnErr}
+use Rattle.std.proofs.Common.{◌≡◌, ◌≢◌, ◌<◌, ◌≤◌, ◌+◌, ℕ, zero, suc, true, cond, List, [], ◌∷◌, refl, sym, ap, subst, ◌∙◌, arith, get_or, set, length, is_some, count_by, inl, inr}
 use Rattle.std.specs.declared.option.Option.{Option}
 use Rattle.std.specs.declared.option.Option.TheVariants.{None, Some}
-use Rattle.std.specs.declared.result.Result.{Result}
-use Rattle.std.specs.declared.result.Result.TheVariants.{Ok, Err}
 use Rattle.std.specs.declared.collections.VecDeque.{VecDeque}
 use Rattle.std.specs.declared.alloc.Global.{Global}
 use Rattle.std.proofs.lemmas.Bool.Decides.{eqb_tells}
 use Rattle.std.proofs.lemmas.List.{map-set, get_or-map, length-map, get_or-set_same, get_or-set_other}
 use Rattle.std.proofs.lemmas.List.Sums.{sum_by-cons}
-use Rattle.slab.specs.Slab.{Slab, slab_len, with_value}
+use Rattle.slab.specs.Slab.{Slab, with_value}
 use Rattle.tw_types.specs.declared.notice.Notice.{Notice}
 use Rattle.tw_store.specs.declared.slot.Slot.{Slot}
 use Rattle.tw_store.specs.Parts.{HaveOtherRoom, HaveRoom, Queues, data_room_of, room_of, rooms_in, served_of}
