@@ -1,5 +1,6 @@
 -- The members of a container, where there are some and where there are none, and going through them.
-use Rattle.std.proofs.Common.{◌≡◌, ◌≢◌, nat_eq, false, ℕ, zero, suc, ℤ, List, [], ◌∷◌, Some, None, refl, sym, ap, ◌∙◌, map as each, length, slice_get, pos, negsuc, arith, ◌+◌, ◌≤◌, fold, drop, inl, inr, OnOk}
+use Rattle.std.proofs.Common.{◌≡◌, ◌≢◌, nat_eq, false, ℕ, zero, suc, ℤ, List, [], ◌∷◌, Some, None, IfSome, refl, sym, ap, ◌∙◌, map as each, length, slice_get, pos, negsuc, arith, ◌+◌, ◌≤◌, fold, drop, inl, inr, OnOk}
+use Rattle.std.specs.declared.option.Option.{Option}
 use Rattle.std.specs.declared.result.Result.{Result}
 use Rattle.std.specs.declared.result.Result.TheVariants.{Ok, Err}
 use Rattle.std.specs.Ordering.{int_cmp}
@@ -77,3 +78,7 @@ module _ {M : Type 0} where
   -- each entry is what the map has at its subscript
   pub nth_get : (ms : KeptMembers M) (i : ℕ) (e : ℤ × M) → slice_get (entries ms) i ≡ Some e → map.get ms e.0 ≡ Some e.1
   nth_get ms i e h = get_entry int_cmp int_cmp_total ms e (is_entry (entries ms) i e h)
+
+  pub nth_there : (ms : KeptMembers M) (i : ℕ) (r : Option (ℤ × M)) → r ≡ slice_get (entries ms) i → IfSome r (λ e. map.get ms e.0 ≡ Some e.1)
+  nth_there ms i None h = tt
+  nth_there ms i (Some e) h = nth_get ms i e (sym h)

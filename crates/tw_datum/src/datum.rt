@@ -1,6 +1,6 @@
 //! One datum.
 
-ghost use Rattle.std.specs.Prelude.{◌≡◌, ◌-◌, ◌<◌, ◌^◌, IfSome, OnOk, OnErr, slice_get, true, false, if◌then◌else◌, [], option_map};
+ghost use Rattle.std.specs.Prelude.{◌≡◌, ◌-◌, ◌<◌, ◌^◌, IfSome, OnOk, OnErr, Some, slice_get, true, false, if◌then◌else◌, [], option_map};
 ghost use Rattle.std.specs.FinMap as map;
 ghost use Rattle.std.specs.Option.{option_copied};
 ghost use Rattle.tw_types.specs.Store.{empty_content, is_closed, is_unheld, members_of, subscribers_cleared};
@@ -159,6 +159,17 @@ impl<M: Member> Datum<M> {
     {
         match self.members() {
             Some(members) => bare(members.nth(index)),
+            None => None,
+        }
+    }
+
+    /// The same member, as it is kept.
+    pub fn nth_kept(&self, index: usize) -> Option<(i64, M)>
+        ensures member { option_map (λ e. (e.0, M.id e.1)) result ≡ slice_get (map.entries (members_in self.now.datum.content)) index }
+        ensures kept { IfSome result (λ e. map.get self.now.members e.0 ≡ Some e.1) }
+    {
+        match self.members() {
+            Some(members) => members.nth(index),
             None => None,
         }
     }

@@ -6,3 +6,5 @@ pub mod Changes
 pub mod Tables
 pub mod Heaps
 pub mod Rooms
+pub mod Fitting
+pub mod Found

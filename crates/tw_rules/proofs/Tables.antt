@@ -11,7 +11,7 @@ use Rattle.tw_types.specs.declared.stage.Stage.{Stage}
 use Rattle.tw_types.specs.declared.param.Param.{Param}
 use Rattle.tw_types.specs.Rule.{RuleOf, at_stage, first_stage, first_unasked, has_unasked, is_releasable, is_settled, is_unasked, next_ask, next_release}
 use Rattle.tw_rights.specs.declared.arg.Arg.{Arg}
-use Rattle.tw_rules.specs.declared.action.Action.{Action}
+use Rattle.tw_rules.specs.declared.planned.PlannedTask.{PlannedTask}
 use Rattle.tw_rules.specs.declared.agenda.Agenda.{Agenda}
 use Rattle.tw_rules.specs.Numbers.{IsLeast, Rises, from_first}
 use Rattle.tw_rules.specs.Table.{new_rule, stage_at, staged}
@@ -146,7 +146,7 @@ module _ (rules : Rules) (next : ℕ) (agendas : List Agenda) (is : IsIndexed ru
       added_others added_known
 
 -- a new rule
-pub index_added : (rules : Rules) (next : ℕ) (agendas : List Agenda) → IsIndexed rules next agendas → (engine : ℕ) → engine < 4 → (params : List Param) (action : Action) (args : List Arg) (agenda after : Agenda)
+pub index_added : (rules : Rules) (next : ℕ) (agendas : List Agenda) → IsIndexed rules next agendas → (engine : ℕ) → engine < 4 → (params : List Param) (action : PlannedTask) (args : List Arg) (agenda after : Agenda)
     → slice_get agendas engine ≡ Some agenda → (can : Bool) → can ≡ is_releasable (new_rule engine params action args)
     → (can ≡ true → HasReleased next agenda after) → (can ≡ false → HasAsked next agenda after)
     → IsIndexed (insert rules next (new_rule engine params action args)) (next + 1) (slice_set agendas engine after)

@@ -10,6 +10,7 @@ use Rattle.tw_rules.specs.declared.pending.Pending.{Pending}
 use Rattle.tw_rules.specs.declared.plain.PlainRule.{PlainRule}
 use Rattle.tw_rules.specs.Entries.{rules_in}
 use Rattle.tw_rules.specs.Numbers.{IsLeast, Rises}
+use Rattle.tw_rules.specs.Table.{FitsStages}
 
 abbrev pub Rules : Type 0
 Rules = RulesOf Arg
@@ -88,7 +89,12 @@ has_place spare len capacity = nat_lt 0 spare && nat_lt len capacity
 
 -- ---- the table
 
+-- each rule has a stage for each argument, which suits it
+abbrev pub AreFitting : Rules → Type 0
+AreFitting rules = (number : ℕ) (rule : RuleOf Arg) → map.get rules number ≡ Some rule → FitsStages rule
+
 pub record IsTable (entries : List (ℕ × Pending)) (next : ℕ) (agendas : List Agenda) (told : List PlainRule) (capacity : ℕ) : Type 0 where
   pub index : IsIndexed (rules_in entries) next agendas
   pub blank : told ≡ []
   pub fits : length entries ≤ capacity
+  pub fitting : AreFitting (rules_in entries)

@@ -1,14 +1,18 @@
 -- What contracts see of the table of rules.
-use Rattle.std.specs.Prelude.{ℕ, Bool, false, List, map as each, Option, Some, None, slice_get, slice_index_or}
+use Rattle.std.specs.Prelude.{ℕ, Bool, false, List, map as each, Option, Some, None, IsSome, slice_get, slice_index_or}
+use Rattle.std.specs.List.{AllZip}
 use Rattle.std.specs.Option.{option_and_then}
 use Rattle.std.specs.FinMap as map
+use Rattle.tw_types.specs.declared.param.Mode.{Mode}
+use Rattle.tw_types.specs.declared.param.Mode.TheVariants as mode
 use Rattle.tw_types.specs.declared.param.Param.{Param}
 use Rattle.tw_types.specs.declared.stage.Stage.{Stage}
+use Rattle.tw_types.specs.declared.stage.Stage.TheVariants.{Free, Unasked, Waiting, Ready}
 use Rattle.tw_types.specs.Rule.{RuleOf, RulesOf, at_stage, first_stage}
 use Rattle.tw_rights.specs.declared.arg.Arg.{Arg}
 use Rattle.tw_rights.specs.declared.arg.Arg.TheVariants.{Val, Read, Write}
 use Rattle.tw_rights.specs.Rights.{Right}
-use Rattle.tw_rules.specs.declared.action.Action.{Action}
+use Rattle.tw_rules.specs.declared.planned.PlannedTask.{PlannedTask}
 use Rattle.tw_rules.specs.declared.plain.PlainArg.{PlainArg}
 use Rattle.tw_rules.specs.declared.plain.PlainArg.TheVariants as plain
 use Rattle.tw_rules.specs.declared.plain.PlainRule.{PlainRule}
@@ -27,7 +31,7 @@ room_for engine table = slice_index_or table.rooms engine false
 -- ---- one rule
 
 -- a rule of an engine for such a task, with every `closed` parameter unasked
-abbrev pub new_rule : ℕ → List Param → Action → List Arg → RuleOf Arg
+abbrev pub new_rule : ℕ → List Param → PlannedTask → List Arg → RuleOf Arg
 new_rule engine params action args = record {
   engine = engine;
   procedure = action.procedure;
@@ -37,7 +41,7 @@ new_rule engine params action args = record {
   stages = each (λ p. first_stage p.mode) params;
 }
 
-abbrev pub action_of : RuleOf Arg → Action
+abbrev pub action_of : RuleOf Arg → PlannedTask
 action_of rule = record { procedure = rule.procedure; priority = rule.priority; target = rule.target }
 
 -- the right of an argument, if it is one to read
@@ -45,6 +49,40 @@ abbrev pub read_right : Arg → Option Right
 read_right (Val value) = None
 read_right (Read right) = Some right
 read_right (Write right) = None
+
+-- ---- arguments that fit
+
+abbrev pub IsValue : Arg → Type 0
+IsValue (Val value) = Unit {0}
+IsValue (Read right) = ⊥
+IsValue (Write right) = ⊥
+
+abbrev pub IsWrite : Arg → Type 0
+IsWrite (Val value) = ⊥
+IsWrite (Read right) = ⊥
+IsWrite (Write right) = Unit {0}
+
+-- an argument such as a mode asks for
+abbrev pub SuitsMode : Mode → Arg → Type 0
+SuitsMode mode.Val arg = IsValue arg
+SuitsMode mode.Closed arg = IsSome (read_right arg)
+SuitsMode mode.Ref arg = IsSome (read_right arg)
+SuitsMode mode.Write arg = IsWrite arg
+
+-- an argument of its mode for each parameter
+abbrev pub AreArgsOf : List Param → List Arg → Type 0
+AreArgsOf params args = AllZip (λ p arg. SuitsMode p.mode arg) params args
+
+-- only of a right to read is there something to be known
+abbrev pub SuitsStage : Arg → Stage → Type 0
+SuitsStage arg Free = Unit {0}
+SuitsStage arg Unasked = IsSome (read_right arg)
+SuitsStage arg Waiting = IsSome (read_right arg)
+SuitsStage arg Ready = IsSome (read_right arg)
+
+-- a stage for each argument, which suits it
+abbrev pub FitsStages : RuleOf Arg → Type 0
+FitsStages rule = AllZip SuitsStage rule.args rule.stages
 
 -- ---- one of the rules
 

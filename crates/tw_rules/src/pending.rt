@@ -5,16 +5,16 @@ ghost use Rattle.tw_types.specs.Rule.{first_stage, first_unasked, has_unasked, i
 ghost use Rattle.tw_rules.specs.Table.{plain_arg, told};
 ghost use Rattle.tw_rules.specs.Entries.{rule_in};
 
-use crate::action::Action;
 use crate::few::Few;
 use crate::plain::{PlainArg, PlainRule};
+use crate::planned::PlannedTask;
 use tw_rights::{Arg, Bundle};
 use tw_types::{Param, RuleNo, Stage};
 
 /// A rule that is pending.
 pub struct Pending {
     pub engine: u8,
-    pub action: Action,
+    pub action: PlannedTask,
     pub args: Bundle,
     pub stages: Few<Stage>,
 }

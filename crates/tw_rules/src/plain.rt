@@ -1,7 +1,7 @@
 //! Rules without rights.
 
-use crate::action::Action;
 use crate::few::Few;
+use crate::planned::PlannedTask;
 use tw_types::{DatumId, RuleNo, Stage};
 
 /// An argument without its value or its right.
@@ -20,7 +20,7 @@ pub struct PlainRule {
     pub number: RuleNo,
     /// The number of the engine that held it.
     pub engine: u8,
-    pub action: Action,
+    pub action: PlannedTask,
     pub args: Few<PlainArg>,
     /// What was known of each parameter.
     pub stages: Few<Stage>,

@@ -1,19 +1,19 @@
 //! The table.
 
-ghost use Rattle.std.specs.Prelude.{◌≡◌, ◌<◌, ◌≤◌, ◌+◌, ◌^◌, ℕ, length, map as each, IfOk, IfErr, IsOk, IsSome, OnOk, OnErr, Some, true, false, option_map};
+ghost use Rattle.std.specs.Prelude.{◌≡◌, ◌<◌, ◌≤◌, ◌+◌, ◌^◌, ℕ, length, map as each, IfOk, IfErr, IfSome, IsOk, IsSome, OnOk, OnErr, Some, true, false, option_map};
 ghost use Rattle.std.specs.FinMap as map;
 ghost use Rattle.std.specs.FinMap.{get};
 ghost use Rattle.std.specs.List.Sorted.{IsPermutation};
 ghost use Rattle.std.specs.Option.{option_copied};
 ghost use Rattle.tw_types.specs.declared.stage.Stage.TheVariants.{Unasked, Waiting, Ready};
 ghost use Rattle.tw_types.specs.Rule.{is_releasable, is_settled, is_unasked, next_ask, next_release};
-ghost use Rattle.tw_rules.specs.Table.{action_of, arg_at, new_rule, read_right, right_at, room_for, stage_at, staged, told};
+ghost use Rattle.tw_rules.specs.Table.{AreArgsOf, action_of, arg_at, new_rule, read_right, right_at, room_for, stage_at, staged, told};
 
-use crate::action::Action;
 use crate::agenda::Agenda;
 use crate::entries::{find, first_number, pending, put, set_stage, take};
 use crate::pending::{Pending, first_stages};
 use crate::plain::PlainRule;
+use crate::planned::PlannedTask;
 use std::alloc::{AllocError, Global};
 use std::collections::HashMap;
 use std::marker::Model;
@@ -98,16 +98,18 @@ impl RuleTable {
         agenda.reserve()
     }
 
-    /// Adds a rule of an engine for a procedure of these parameters, or hands the arguments back where memory is refused.
+    /// Adds a rule of an engine for a procedure of these parameters, each with an argument of its mode, or hands the
+    /// arguments back where memory is refused.
     pub fn add(
         &mut self,
         engine: u8,
         params: &[Param],
-        action: Action,
+        action: PlannedTask,
         args: Bundle,
     ) -> Result<RuleNo, Bundle>
         requires engine { engine < 4 }
         requires few { length params.now ≤ 8 }
+        requires args { AreArgsOf params.now args }
         requires next { self.old.next < 2 ^ 63 }
         ensures added { OnOk result (self.new.rules ≡ map.insert self.old.rules self.old.next (new_rule engine params.now action args)) }
         ensures next { OnOk result (self.new.next ≡ self.old.next + 1) }
@@ -135,9 +137,10 @@ impl RuleTable {
     }
 
     /// The rule and the parameter that the engine asks for next: of its rules the least, and of that the least parameter
-    /// that is unasked.
+    /// that is unasked. Its argument is a right to read.
     pub fn next_ask(&self, engine: u8) -> Option<(RuleNo, u8)>
-        ensures { result ≡ next_ask engine self.now.rules }
+        ensures ask { result ≡ next_ask engine self.now.rules }
+        ensures right { IfSome result (λ ask. IsSome (right_at self.now.rules ask.0 ask.1)) }
     {
         let agenda = self.agendas.get(usize::from(engine))?;
         let number = agenda.asks.first()?;
@@ -224,7 +227,7 @@ impl RuleTable {
     }
 
     /// The task that a rule becomes.
-    pub fn action(&self, rule: RuleNo) -> Action
+    pub fn action(&self, rule: RuleNo) -> PlannedTask
         requires { IsSome (get self.now.rules rule) }
         ensures { option_map action_of (get self.now.rules rule) ≡ Some result }
     {

@@ -16,10 +16,11 @@ use Rattle.tw_store.specs.Calls.{HasMemberRoom}
 use Rattle.tw_store.specs.declared.member.Member.{Member}
 use Rattle.tw_store.specs.declared.slot.Slot.{Slot}
 use Rattle.tw_store.specs.Placed.{PlacedDatum}
-use Rattle.tw_store.specs.Parts.{Queues, served_of, notices_in, rooms_in}
-use Rattle.tw_store.specs.Served.{Served, IsHere, IsNow, IsLeft, IsUnchanged, KeepsPlaces, queued, waiting_for, HasNoticeRoom}
+use Rattle.tw_store.specs.Parts.{HaveOtherRoom, HaveRoom, Queues, data_room_of, served_of, notices_in, rooms_in}
+use Rattle.tw_store.specs.Served.{Served, IsHere, IsNow, IsLeft, IsUnchanged, KeepsOtherRooms, KeepsPlaces, queued, waiting_for, HasNoticeRoom}
 use Rattle.tw_store.specs.Slots.{Slots, StandsAs, AreSeated, live_of, places_of, datum_in, place_in, Remains, IsChanged, IsChangedAt, IsSettled}
 use Rattle.tw_store.proofs.Shown.{seat_of, search_slots, get_nowhere, StandsAt, StandsNowhere}
+use Rattle.tw_store.proofs.Roomy.{rooms_kept, rooms_left, same_room, same_rooms}
 use Rattle.tw_store.proofs.Remain.{live_at, place_at, some_is, of_some, place_stays, place_leaves, apart_left, seated_left}
 
 -- the slot of a right that is live here
@@ -66,13 +67,14 @@ module _ (slab : Slab Slot) (next : ℕ) (queues : Queues) (s : Served) (view : 
   }
 
   module _ (right : Right) (place : ℕ) (x : Seat slab.slots s right place) (f : Datum → Datum) where
-    pub now_is : (slab2 : Slab Slot) → IsChangedAt place f slab.slots slab2.slots → IsNow (changed s.store right.id f) s (served_of slab2 next queues)
-    now_is slab2 h =
+    pub now_is : (slab2 : Slab Slot) → IsChangedAt place f slab.slots slab2.slots → data_room_of slab ≤ data_room_of slab2 → IsNow (changed s.store right.id f) s (served_of slab2 next queues)
+    now_is slab2 h more =
         let ch : IsChanged next x.slot.id f slab.slots slab2.slots = h next x.slot seated x.there in
         record {
           store = ap (λ (y : Served). record { live = live_of slab2.slots; next = y.store.next }) view ∙ ch.live s.store (ap (λ (y : Served). y.store.live) (sym view)) ∙ ap (λ id. changed s.store id f) x.id_is;
           places = ch.places ∙ ap (λ (y : Served). y.places) view;
           queues = ap (λ (y : Served). y.queues) view;
+          rooms = rooms_kept slab next queues s view slab2 next queues more (same_room queues);
         }
 
     pub now_seated : (slab2 : Slab Slot) → IsChangedAt place f slab.slots slab2.slots → AreSeated slab2.slots next
@@ -80,23 +82,31 @@ module _ (slab : Slab Slot) (next : ℕ) (queues : Queues) (s : Served) (view : 
 
     -- the datum may be freed, and its subscribers hear of it
     pub left_is : (slab2 : Slab Slot) (queues2 : Queues) (notices : List Notice) → IfSome (get_or slab.slots place None) (λ e. IsSettled e.id f slab.slots slab2.slots)
-        → notices ≡ notices_after s.store right.id f → notices_in queues2 ≡ queued right.id notices (notices_in queues) → IsLeft s (served_of slab2 next queues2) right.id f
-    left_is slab2 queues2 notices h heard told =
+        → notices ≡ notices_after s.store right.id f → notices_in queues2 ≡ queued right.id notices (notices_in queues) → data_room_of slab ≤ data_room_of slab2
+        → (count : ℕ) → count ≡ length notices → HaveOtherRoom (right.id % length queues) count queues queues2 → IsLeft s (served_of slab2 next queues2) right.id f
+    left_is slab2 queues2 notices h heard told more count all have =
         let done : IsSettled x.slot.id f slab.slots slab2.slots = of_some (λ (e : Slot). IsSettled e.id f slab.slots slab2.slots) _ x.slot x.there h in
         record {
           store = ap (λ (y : Served). record { live = live_of slab2.slots; next = y.store.next }) view ∙ done.live s.store (ap (λ (y : Served). y.store.live) (sym view)) ∙ ap (λ id. store_after s.store id f) x.id_is;
           queues = told ∙ ap (λ ns. queued right.id ns (notices_in queues)) heard ∙ ap (λ (y : Served). queued right.id (notices_after s.store right.id f) y.queues) view;
           places = keeps slab2 next queues2 done.remains;
+          rooms = subst (λ n. KeepsOtherRooms (right.id % n) (length (notices_after s.store right.id f)) s (served_of slab2 next queues2)) servers
+              (subst (λ n. KeepsOtherRooms (right.id % length queues) n s (served_of slab2 next queues2)) (all ∙ ap length heard) (rooms_left slab next queues s view slab2 next queues2 more (right.id % length queues) count have));
         }
+      where
+        servers : length queues ≡ length s.queues
+        servers = sym (length-map queues (λ q. q.items)) ∙ ap (λ (y : Served). length y.queues) view
 
     pub left_seated : (slab2 : Slab Slot) → IfSome (get_or slab.slots place None) (λ e. IsSettled e.id f slab.slots slab2.slots) → AreSeated slab2.slots next
     left_seated slab2 h = seated_left slab.slots slab2.slots (of_some (λ (e : Slot). IsSettled e.id f slab.slots slab2.slots) _ x.slot x.there h).remains next seated
 
-  pub same_is : (slab2 : Slab Slot) (queues2 : Queues) → slab2.slots ≡ slab.slots → notices_in queues2 ≡ notices_in queues → IsUnchanged s (served_of slab2 next queues2)
-  same_is slab2 queues2 slots told = record {
+  pub same_is : (slab2 : Slab Slot) (queues2 : Queues) → slab2.slots ≡ slab.slots → notices_in queues2 ≡ notices_in queues → data_room_of slab ≤ data_room_of slab2 → HaveRoom queues queues2
+      → IsUnchanged s (served_of slab2 next queues2)
+  same_is slab2 queues2 slots told more have = record {
     store = ap (λ m. record { live = live_of m; next = next }) slots ∙ ap (λ (y : Served). y.store) view;
     places = ap places_of slots ∙ ap (λ (y : Served). y.places) view;
     queues = told ∙ ap (λ (y : Served). y.queues) view;
+    rooms = rooms_kept slab next queues s view slab2 next queues2 more have;
   }
 
   -- the notices of a datum fit in the queue of its server
@@ -181,7 +191,7 @@ if_ok P Q (Ok v) h f = f v h
 if_ok P Q (Err e) h f = h
 
 pub unchanged : (s : Served) → IsUnchanged s s
-unchanged s = record { store = refl; places = refl; queues = refl }
+unchanged s = record { store = refl; places = refl; queues = refl; rooms = same_rooms s }
 
 pub here_of : (slab : Slab Slot) (next : ℕ) (queues : Queues) (s : Served) (right : Right) (id place : ℕ) → served_of slab next queues ≡ s → IsHere s right → id ≡ right.id → place ≡ right.place → get (places_of slab.slots) id ≡ Some place
 here_of slab next queues s right id place view here is at = ap (get (places_of slab.slots)) is ∙ ap (λ (x : Served). get x.places right.id) view ∙ here ∙ ap Some (sym at)

@@ -6,7 +6,7 @@ use Rattle.tw_types.specs.Store.{Data, Datum, Store}
 use Rattle.tw_types.specs.StoreCalls.{changed, store_after}
 use Rattle.tw_store.specs.declared.member.Member.{Member}
 use Rattle.tw_store.specs.declared.slot.Slot.{Slot}
-use Rattle.tw_store.specs.Placed.{PlacedMembers}
+use Rattle.tw_store.specs.Placed.{PlacedDatum, PlacedMembers}
 
 abbrev pub Slots : Type 0
 Slots = List (Option Slot)
@@ -60,6 +60,10 @@ pub record StandsAs (slots : Slots) (id place : ℕ) : Type 0 where
   pub slot : Slot
   pub there : slot_at slots place ≡ Some slot
   pub id_is : slot.id ≡ id
+
+-- the datum of the member stands at its place
+pub record IsSlotOf (slots : Slots) (member : Member) (datum : PlacedDatum) : Type 0 where
+  pub there : slot_at slots member.place ≡ Some (record { id = member.id; datum = datum })
 
 -- ---- what a call does to them
 

@@ -1,10 +1,11 @@
 //! The calls that change one datum, over the slots.
 
-ghost use Rattle.std.specs.Prelude.{◌≡◌, ◌<◌, ◌^◌, ℕ, OnOk, OnErr, IfSome, IsSome, true, false};
+ghost use Rattle.std.specs.Prelude.{◌≡◌, ◌<◌, ◌≤◌, ◌^◌, ℕ, OnOk, OnErr, IfSome, IsSome, true, false};
 ghost use Rattle.std.specs.FinMap.{get, insert};
 ghost use Rattle.tw_types.specs.DataType.{is_scalar};
 ghost use Rattle.tw_types.specs.StoreCalls.{set_to, one_read_more, one_write_more, one_write_less, with_member, with_subscriber};
 ghost use Rattle.tw_store.specs.declared.slot.Slot.{Slot as Meaning};
+ghost use Rattle.tw_store.specs.Parts.{data_room_of};
 ghost use Rattle.tw_store.specs.Slots.{slot_at, places_of, AreSeated, IsChanged, IsChangedAt, IsSettled};
 
 use crate::freeing::settle;
@@ -20,7 +21,8 @@ pub fn set_at(slab: &mut Slab<Slot>, place: usize, value: Value)
     requires there { IsSome (slot_at slab.old.slots place) }
     requires scalar { IfSome (slot_at slab.old.slots place) (λ e. is_scalar e.datum.datum.ty ≡ true) }
     requires write { IfSome (slot_at slab.old.slots place) (λ e. 0 < e.datum.datum.writes) }
-    ensures { IfSome (slot_at slab.old.slots place) (λ e. IsSettled e.id (set_to value) slab.old.slots slab.new.slots) }
+    ensures settled { IfSome (slot_at slab.old.slots place) (λ e. IsSettled e.id (set_to value) slab.old.slots slab.new.slots) }
+    ensures room { data_room_of slab.old ≤ data_room_of slab.new }
 {
     let Some(slot) = slab.get_mut(place) else {
         unreachable!();
@@ -34,7 +36,8 @@ pub fn drop_write_at(slab: &mut Slab<Slot>, place: usize)
     requires seated { (next : ℕ) × AreSeated slab.old.slots next }
     requires there { IsSome (slot_at slab.old.slots place) }
     requires write { IfSome (slot_at slab.old.slots place) (λ e. 0 < e.datum.datum.writes) }
-    ensures { IfSome (slot_at slab.old.slots place) (λ e. IsSettled e.id one_write_less slab.old.slots slab.new.slots) }
+    ensures settled { IfSome (slot_at slab.old.slots place) (λ e. IsSettled e.id one_write_less slab.old.slots slab.new.slots) }
+    ensures room { data_room_of slab.old ≤ data_room_of slab.new }
 {
     let Some(slot) = slab.get_mut(place) else {
         unreachable!();
@@ -55,6 +58,7 @@ pub fn insert_at(
     requires member { get (places_of slab.old.slots) member.id ≡ Some member.place }
     ensures inserted { OnOk result (IsChangedAt place (with_member subscript member.id) slab.old.slots slab.new.slots) }
     ensures refused { OnErr result (slab.new.slots ≡ slab.old.slots) }
+    ensures room { data_room_of slab.old ≤ data_room_of slab.new }
 {
     let Some(slot) = slab.get_mut(place) else {
         unreachable!();
@@ -66,7 +70,8 @@ pub fn insert_at(
 pub fn add_read_at(slab: &mut Slab<Slot>, place: usize)
     requires there { IsSome (slot_at slab.old.slots place) }
     requires room { IfSome (slot_at slab.old.slots place) (λ e. e.datum.datum.reads < 2 ^ 63) }
-    ensures { IsChangedAt place one_read_more slab.old.slots slab.new.slots }
+    ensures changed { IsChangedAt place one_read_more slab.old.slots slab.new.slots }
+    ensures room { data_room_of slab.old ≤ data_room_of slab.new }
 {
     let Some(slot) = slab.get_mut(place) else {
         unreachable!();
@@ -78,7 +83,8 @@ pub fn add_read_at(slab: &mut Slab<Slot>, place: usize)
 pub fn add_write_at(slab: &mut Slab<Slot>, place: usize)
     requires there { IsSome (slot_at slab.old.slots place) }
     requires room { IfSome (slot_at slab.old.slots place) (λ e. e.datum.datum.writes < 2 ^ 63) }
-    ensures { IsChangedAt place one_write_more slab.old.slots slab.new.slots }
+    ensures changed { IsChangedAt place one_write_more slab.old.slots slab.new.slots }
+    ensures room { data_room_of slab.old ≤ data_room_of slab.new }
 {
     let Some(slot) = slab.get_mut(place) else {
         unreachable!();
@@ -95,6 +101,7 @@ pub fn subscribe_at(
     requires { IsSome (slot_at slab.old.slots place) }
     ensures noted { OnOk result (IsChangedAt place (with_subscriber subscriber) slab.old.slots slab.new.slots) }
     ensures refused { OnErr result (slab.new.slots ≡ slab.old.slots) }
+    ensures room { data_room_of slab.old ≤ data_room_of slab.new }
 {
     let Some(slot) = slab.get_mut(place) else {
         unreachable!();

@@ -21,3 +21,12 @@ impl tw_datum::Member for Member {
 
 /// A datum of the store.
 pub type Datum = tw_datum::Datum<Member>;
+
+/// A member of a container, as the store shows it.
+#[derive(Clone, Copy)]
+pub struct ShownMember<'a> {
+    pub subscript: i64,
+    pub id: DatumId,
+    /// Its datum, if that is live.
+    pub datum: Option<&'a Datum>,
+}

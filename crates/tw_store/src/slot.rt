@@ -2,9 +2,9 @@
 
 ghost use Rattle.std.specs.Prelude.{◌≡◌, ◌≢◌, ℕ, IfNone, IfSome, IsSome, Some};
 ghost use Rattle.tw_store.specs.declared.slot.Slot.{Slot as Meaning};
-ghost use Rattle.tw_store.specs.Slots.{slot_at, StandsAs};
+ghost use Rattle.tw_store.specs.Slots.{slot_at, IsSlotOf, StandsAs};
 
-use crate::member::Datum;
+use crate::member::{Datum, Member};
 use slab::Slab;
 use tw_types::DatumId;
 
@@ -24,6 +24,19 @@ pub fn datum_at(slab: &Slab<Slot>, place: usize) -> &Datum
         unreachable!();
     };
     &slot.datum
+}
+
+/// The datum of a member, if it is live.
+pub fn member_at(slab: &Slab<Slot>, member: Member) -> Option<&Datum>
+    ensures found { IfSome result (λ datum. IsSlotOf slab.now.slots member datum.now) }
+    ensures absent { IfNone result ((e : Meaning) → slot_at slab.now.slots member.place ≡ Some e → e.id ≢ member.id) }
+{
+    let slot = slab.get(member.place)?;
+    if slot.id.number() == member.id.number() {
+        Some(&slot.datum)
+    } else {
+        None
+    }
 }
 
 /// The place of the datum of an id.

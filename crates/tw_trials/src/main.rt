@@ -2,6 +2,7 @@
 //! behind the name only those run in which memory may be refused, which are the first, and they are short.
 #![tactic(auto)]
 
+mod callers;
 mod calls;
 mod draw;
 mod jobs;

@@ -1,9 +1,11 @@
 //! A container of a thousand members, and a thousand data one after the other.
 
+ghost use Rattle.tw_store.specs.Served.{KnowsPlaces};
+
 use crate::calls::{Answer, Call, Plain, answered};
 use std::alloc::Global;
 use tw_store::{Datum, Store};
-use tw_types::DatumId;
+use tw_types::{DatumId, Value};
 
 /// Whether a call answers this.
 fn answers(alloc: Global, store: &mut Store, call: Call, answer: Answer) -> bool {
@@ -46,13 +48,42 @@ fn is_at(container: &Datum, subscript: i64) -> bool {
     }
 }
 
-/// A thousand members, added in mixed order, are found at their indices and subscripts. Since 7 and 1,000 have no
-/// divisor in common, each subscript below 1,000 comes once.
+/// Whether the store shows the member at its index, with the datum that was set to the turn of its subscript.
+fn is_shown(store: &Store, container: &Datum, subscript: i64) -> bool
+    requires { KnowsPlaces store.now container.now }
+{
+    let index = usize::try_from(subscript).unwrap_or(1_000);
+    let Some(member) = store.member(container, index) else {
+        return false;
+    };
+    let Some(datum) = member.datum else {
+        return false;
+    };
+    match datum.value() {
+        Some(Value::Int(turn)) => {
+            member.subscript == subscript && turn.wrapping_mul(7) % 1_000 == subscript
+        }
+        _ => false,
+    }
+}
+
+/// Whether the store shows the members of its container.
+fn shows_thousand(store: &Store) -> bool {
+    let Some(container) = store.view(DatumId::new(1)) else {
+        return false;
+    };
+    let mut are_there = has_thousand(container) && store.member(container, 1_000).is_none();
+    for subscript in 0..1_000_i64 {
+        are_there = are_there && is_shown(store, container, subscript);
+    }
+    are_there
+}
+
+/// A thousand members, added in mixed order, are found at their indices and subscripts, and shown with their data. Since 7
+/// and 1,000 have no divisor in common, each subscript below 1,000 comes once.
 pub fn thousand_are_found(alloc: Global) -> bool {
     match Store::new(alloc, 1) {
-        Ok(mut store) => {
-            filled(alloc, &mut store, 7) && store.view(DatumId::new(1)).is_some_and(has_thousand)
-        }
+        Ok(mut store) => filled(alloc, &mut store, 7) && shows_thousand(&store),
         Err(_) => false,
     }
 }

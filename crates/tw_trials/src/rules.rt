@@ -1,11 +1,15 @@
 //! Rules: worked calls of their table, and calls by chance compared with a plain list that is searched whole. Where memory
 //! is refused the arguments come back, nothing has changed, and the call goes when it is made again.
 
+ghost use Rattle.std.specs.Prelude.{◌≡◌, ◌<◌, [], ◌∷◌, ◌++◌, length};
+ghost use Rattle.std.specs.List.{AllZip};
+ghost use Rattle.tw_rules.specs.Table.{SuitsMode};
+
 use crate::draw::draw;
 use crate::numbered::Put;
 use std::alloc::{AllocError, Global};
 use tw_rights::{Arg, Bundle, ReadRight, WriteRight};
-use tw_rules::{Action, PlainArg, PlainRule, RuleTable};
+use tw_rules::{PlainArg, PlainRule, PlannedTask, RuleTable};
 use tw_types::{DataType, DatumId, Mode, Param, RuleNo, Stage, Value};
 
 /// A rule in the plain list. All rules have three parameters.
@@ -93,7 +97,9 @@ fn datum_of(number: u64, parameter: u64) -> DatumId {
     DatumId::new(number.wrapping_mul(3).wrapping_add(parameter))
 }
 
-fn arg_of(mode: Mode, id: DatumId) -> Arg {
+fn arg_of(mode: Mode, id: DatumId) -> Arg
+    ensures { SuitsMode mode result }
+{
     match mode {
         Mode::Val => Arg::Val(Value::Int(7)),
         Mode::Closed | Mode::Ref => Arg::Read(ReadRight::of(id, 0)),
@@ -101,23 +107,29 @@ fn arg_of(mode: Mode, id: DatumId) -> Arg {
     }
 }
 
-fn push(args: &mut Bundle, arg: Arg) {
+fn push(args: &mut Bundle, arg: Arg)
+    requires { length args.old < 8 }
+    ensures { args.new ≡ args.old ++ arg ∷ [] }
+{
     match args.push(arg) {
         Ok(()) => {}
-        Err(arg) => arg.spend(),
+        Err(_arg) => unreachable!(),
     }
 }
 
-fn args_of(number: u64, modes: [Mode; 3]) -> Bundle {
+/// Three arguments of these modes.
+fn args_of(number: u64, first: Mode, second: Mode, third: Mode) -> Bundle
+    ensures { AllZip SuitsMode (first ∷ second ∷ third ∷ []) result }
+{
     let mut args = Bundle::new();
-    push(&mut args, arg_of(modes[0], datum_of(number, 0)));
-    push(&mut args, arg_of(modes[1], datum_of(number, 1)));
-    push(&mut args, arg_of(modes[2], datum_of(number, 2)));
+    push(&mut args, arg_of(first, datum_of(number, 0)));
+    push(&mut args, arg_of(second, datum_of(number, 1)));
+    push(&mut args, arg_of(third, datum_of(number, 2)));
     args
 }
 
-fn action_of(number: u64) -> Action {
-    Action {
+fn action_of(number: u64) -> PlannedTask {
+    PlannedTask {
         procedure: u8::try_from(number % 64).unwrap_or(0),
         priority: 9,
         target: u8::try_from(number % 4).ok(),
@@ -175,12 +187,14 @@ fn add(table: &mut RuleTable, engine: u8, modes: [Mode; 3]) -> Put {
         return Put::Strange;
     }
     let ty = DataType::int();
+    let [first, second, third] = modes;
     let params = [
-        Param { mode: modes[0], ty },
-        Param { mode: modes[1], ty },
-        Param { mode: modes[2], ty },
+        Param { mode: first, ty },
+        Param { mode: second, ty },
+        Param { mode: third, ty },
     ];
-    match table.add(engine, &params, action_of(number), args_of(number, modes)) {
+    let args = args_of(number, first, second, third);
+    match table.add(engine, &params, action_of(number), args) {
         Ok(added) => Put::Done(added.number()),
         Err(args) => come_back(args, number, modes),
     }

@@ -3,5 +3,5 @@ use Rattle.tw_types.specs.StoreCalls.{one_write_more}
 use Rattle.tw_store.proofs.Remain.{changed_at}
 use Rattle.tw_store.proofs.changes.add_write_at.Goals as goal
 
-pub returns : goal.returns
-returns c = changed_at c.args.slab.now.slots c.args.place c.in-Some.slot.now c.add_write.new.self one_write_more (sym c.in-Some.ensures.value) c.add_write.ensures
+pub returns-clause-changed : goal.returns-clause-changed
+returns-clause-changed c = changed_at c.args.slab.now.slots c.args.place c.in-Some.slot.now c.add_write.new.self one_write_more (sym c.in-Some.ensures.value) c.add_write.ensures

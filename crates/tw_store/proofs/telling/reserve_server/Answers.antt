@@ -1,4 +1,5 @@
 use Rattle.std.proofs.Common.{◌≡◌, ◌<◌, ◌%◌, length, ap, ◌∙◌, arith, rules}
+use Rattle.tw_store.proofs.Roomy.{have_room}
 use Rattle.tw_store.proofs.Queues.{same_is, room_is, fits}
 use Rattle.tw_store.proofs.telling.reserve_server.Goals as goal
 
@@ -24,3 +25,9 @@ returns-clause-reserved c =
     λ room.
     let fit = fits c.args.queues.now.items c.index_mut-queue.result.now c.reserve.new.self c.server_of-server.result inside c.index_mut-queue.ensures.value c.args.id c.args.count at room in
     search rules
+
+pub returns-clause-kept : goal.returns-clause-kept
+returns-clause-kept c =
+    let count : c.len.result ≡ length c.args.queues.now.items = search rules in
+    let inside : c.server_of-server.result < length c.args.queues.now.items = omega (arith, c.server_of-server.ensures.inside, count) in
+    have_room c.args.queues.now.items c.index_mut-queue.result.now c.reserve.new.self c.server_of-server.result inside c.index_mut-queue.ensures.value (omega (arith, c.reserve.ensures.len, c.reserve.ensures.capacity))

@@ -9,9 +9,10 @@ use Rattle.std.proofs.lemmas.Option.{slice_get-get_or}
 use Rattle.tw_types.specs.declared.stage.Stage.{Stage}
 use Rattle.tw_types.specs.Rule.{is_settled}
 use Rattle.tw_rules.specs.Entries.{rule_in, rules_in}
-use Rattle.tw_rules.specs.Indexed.{IsIndexed, has_place}
-use Rattle.tw_rules.specs.Table.{room_for}
+use Rattle.tw_rules.specs.Indexed.{AreFitting, IsIndexed, has_place}
+use Rattle.tw_rules.specs.Table.{new_rule, room_for}
 use Rattle.tw_rules.proofs.Rooms.{has_room, place_capacity}
+use Rattle.tw_rules.proofs.Fitting.{fitting_added, new_fits}
 use Rattle.tw_rules.proofs.Tables.{index_added}
 use Rattle.tw_rules.proofs.table.RuleTable.add.Goals as goal
 
@@ -36,4 +37,5 @@ invariant_of-self c =
           (subst (λ x. IsIndexed x (t.next + 1) (slice_set t.agendas c.args.engine c.add.new.self)) (sym put) index);
       blank = c.self.invariant.blank;
       fits = omega arith;
+      fitting = subst AreFitting (sym put) (fitting_added m t.next (new_rule c.args.engine c.args.params.now c.args.action c.args.args) c.self.invariant.fitting (new_fits c.args.params.now c.args.args c.requires.args));
     }

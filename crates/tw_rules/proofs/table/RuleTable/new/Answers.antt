@@ -1,6 +1,7 @@
 use Rattle.std.proofs.Common.{◌≡◌, [], ◌∷◌, length, sym, subst, arith}
 use Rattle.tw_rules.specs.Entries.{rules_in}
-use Rattle.tw_rules.specs.Indexed.{IsIndexed}
+use Rattle.tw_rules.specs.Indexed.{AreFitting, IsIndexed}
+use Rattle.tw_rules.proofs.Fitting.{fitting_empty}
 use Rattle.tw_rules.proofs.Tables.{empty_four}
 use Rattle.tw_rules.proofs.table.RuleTable.new.Goals as goal
 
@@ -16,4 +17,5 @@ invariant_of-result c =
           (empty_four c.new-2.result c.new-3.result c.new-4.result c.new-5.result (a.asks, a.releases, a.promised) (b.asks, b.releases, b.promised) (d.asks, d.releases, d.promised) (e.asks, e.releases, e.promised));
       blank = c.new-6.ensures.items;
       fits = omega arith;
+      fitting = subst (λ es. AreFitting (rules_in es)) (sym c.new.ensures.empty) fitting_empty;
     }

@@ -6,9 +6,10 @@ use Rattle.std.specs.Vec.{vec_capacity}
 use Rattle.std.proofs.lemmas.Option.{slice_get-get_or}
 use Rattle.tw_types.specs.Rule.{is_releasable}
 use Rattle.tw_rules.specs.Entries.{rule_in, rules_in}
-use Rattle.tw_rules.specs.Indexed.{IsIndexed, IsTrimmed, has_place}
+use Rattle.tw_rules.specs.Indexed.{AreFitting, IsIndexed, IsTrimmed, has_place}
 use Rattle.tw_rules.specs.Table.{room_for}
 use Rattle.tw_rules.proofs.Rooms.{place_kept, room_kept}
+use Rattle.tw_rules.proofs.Fitting.{fitting_gone}
 use Rattle.tw_rules.proofs.Tables.{can_be_released, gone_at, gone_engine}
 use Rattle.std.proofs.Common.{slice_set}
 use Rattle.tw_rules.proofs.table.RuleTable.release.Goals as goal
@@ -32,6 +33,7 @@ invariant_of-self c =
           (subst (λ x. IsTrimmed x was.releases.numbers after.releases.numbers) c.take-engine.ensures.rest c.trim_releases.ensures.releases) c.trim_releases.ensures.promised);
       blank = c.self.invariant.blank;
       fits = omega arith;
+      fitting = subst AreFitting (sym c.take-engine.ensures.rest) (fitting_gone m number rule c.take-engine.ensures.taken c.self.invariant.fitting);
     }
 
 pub returns-clause-room : goal.returns-clause-room

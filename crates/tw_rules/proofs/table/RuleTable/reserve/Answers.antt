@@ -3,7 +3,7 @@ use Rattle.std.specs.HashMap.{hash_map_len, spare}
 use Rattle.std.specs.Vec.{vec_capacity}
 use Rattle.std.proofs.lemmas.Option.{slice_get-get_or}
 use Rattle.tw_rules.specs.Entries.{rule_in, rules_in}
-use Rattle.tw_rules.specs.Indexed.{IsIndexed, has_place}
+use Rattle.tw_rules.specs.Indexed.{AreFitting, IsIndexed, has_place}
 use Rattle.tw_rules.specs.Table.{room_for}
 use Rattle.tw_rules.proofs.Rooms.{has_room, index_same, place_capacity, place_kept, place_spare, room_kept, room_same}
 use Rattle.tw_rules.proofs.Seen.{seen_same}
@@ -37,6 +37,7 @@ invariant_of-self-in_err-reserve-2 c =
       index = subst (λ m. IsIndexed m t.next t.agendas) (sym (seen_same rule_in t.rules.entries new.entries c.reserve.ensures.entries.2)) c.self.invariant.index;
       blank = c.reserve-2.ensures.items ∙ c.self.invariant.blank;
       fits = omega arith;
+      fitting = subst AreFitting (sym (seen_same rule_in t.rules.entries new.entries c.reserve.ensures.entries.2)) c.self.invariant.fitting;
     }
 
 pub returns-in_err-reserve-2-clause-rules : goal.returns-in_err-reserve-2-clause-rules
@@ -83,6 +84,7 @@ invariant_of-self-2 c =
           low (slice_get-get_or t.agendas c.from.result c.index-self-from.result inside) c.reserve-3.ensures.same;
       blank = c.reserve-2.ensures.items ∙ c.self.invariant.blank;
       fits = omega arith;
+      fitting = subst AreFitting (sym (seen_same rule_in t.rules.entries new.entries c.reserve.ensures.entries.2)) c.self.invariant.fitting;
     }
 
 pub returns-clause-rules : goal.returns-clause-rules

@@ -5,9 +5,10 @@ use Rattle.std.specs.Vec.{vec_capacity}
 use Rattle.std.proofs.lemmas.Option.{slice_get-get_or}
 use Rattle.tw_types.specs.Rule.{is_settled}
 use Rattle.tw_rules.specs.Entries.{rules_in}
-use Rattle.tw_rules.specs.Indexed.{has_place}
+use Rattle.tw_rules.specs.Indexed.{AreFitting, has_place}
 use Rattle.tw_rules.specs.Table.{room_for, stage_at}
 use Rattle.tw_rules.proofs.Rooms.{place_kept, room_kept}
+use Rattle.tw_rules.proofs.Fitting.{fitting_staged}
 use Rattle.tw_rules.proofs.Tables.{index_at, low_at, promised_at}
 use Rattle.tw_rules.proofs.table.RuleTable.set_stage.Goals as goal
 
@@ -62,6 +63,7 @@ invariant_of-self c =
           c.index-self-from.result c.advance.new.self c.advance.ensures.asks c.advance.ensures.moved c.advance.ensures.stays;
       blank = c.self.invariant.blank;
       fits = omega arith;
+      fitting = subst AreFitting (sym done.ensures.staged) (fitting_staged m number c.args.parameter c.args.stage unsettled c.self.invariant.fitting);
     }
 
 pub returns-clause-room : goal.returns-clause-room

@@ -19,9 +19,9 @@ add_read_at-requires-clause-room c =
 pub invariant_of-self : goal.invariant_of-self
 invariant_of-self c =
     let x = seat c.self.inside.slab c.self.inside.next c.self.inside.queues.items c.args.self.now c.args.right.now c.place.result c.self.view_is c.self.invariant.0 c.requires.here c.place.ensures in
-    (now_seated c.self.inside.slab c.self.inside.next c.self.inside.queues.items c.args.self.now c.self.view_is c.self.invariant.0 c.args.right.now c.place.result x one_read_more c.add_read_at.new.slab c.add_read_at.ensures, c.self.invariant.1)
+    (now_seated c.self.inside.slab c.self.inside.next c.self.inside.queues.items c.args.self.now c.self.view_is c.self.invariant.0 c.args.right.now c.place.result x one_read_more c.add_read_at.new.slab c.add_read_at.ensures.changed, c.self.invariant.1, c.self.invariant.2)
 
 pub returns-clause-counted : goal.returns-clause-counted
 returns-clause-counted c =
     let x = seat c.self.inside.slab c.self.inside.next c.self.inside.queues.items c.args.self.now c.args.right.now c.place.result c.self.view_is c.self.invariant.0 c.requires.here c.place.ensures in
-    now_is c.self.inside.slab c.self.inside.next c.self.inside.queues.items c.args.self.now c.self.view_is c.self.invariant.0 c.args.right.now c.place.result x one_read_more c.add_read_at.new.slab c.add_read_at.ensures
+    now_is c.self.inside.slab c.self.inside.next c.self.inside.queues.items c.args.self.now c.self.view_is c.self.invariant.0 c.args.right.now c.place.result x one_read_more c.add_read_at.new.slab c.add_read_at.ensures.changed c.add_read_at.ensures.room

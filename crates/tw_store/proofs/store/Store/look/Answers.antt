@@ -58,7 +58,7 @@ invariant_of-self c =
     let has : get c.datum_at.result.now.members c.args.subscript ≡ Some m = sym (c.kept_member.ensures.kept ∙ ap (get c.datum_at.result.now.members) key) ∙ c.in-Some.is in
     let kept = look_kept c.args.self.now.store c.args.right.now.id c.args.subscript m.id at c.requires.allowed in
     let y = member_seat c.self.inside.slab c.self.inside.next c.self.inside.queues.items c.args.self.now c.self.view_is c.self.invariant.0 c.args.right.now c.place.result x c.datum_at.result.now c.datum_at.ensures c.args.subscript m has kept in
-    (now_seated c.self.inside.slab c.self.inside.next c.self.inside.queues.items c.args.self.now c.self.view_is c.self.invariant.0 (right_on m) m.place y one_read_more c.add_read_at.new.slab c.add_read_at.ensures, c.self.invariant.1)
+    (now_seated c.self.inside.slab c.self.inside.next c.self.inside.queues.items c.args.self.now c.self.view_is c.self.invariant.0 (right_on m) m.place y one_read_more c.add_read_at.new.slab c.add_read_at.ensures.changed, c.self.invariant.1, c.self.invariant.2)
 
 pub returns : goal.returns
 returns c =
@@ -72,4 +72,4 @@ returns c =
     let y = member_seat c.self.inside.slab c.self.inside.next c.self.inside.queues.items c.args.self.now c.self.view_is c.self.invariant.0 c.args.right.now c.place.result x c.datum_at.result.now c.datum_at.ensures c.args.subscript m has kept in
     subst (λ (r : Right). (member_at c.args.self.now.store c.args.right.now.id c.args.subscript ≡ Some r.id) × IsHere c.args.self.now r × IsNow (read_copied c.args.self.now.store r.id) c.args.self.now (served_of c.add_read_at.new.slab c.self.inside.next c.self.inside.queues.items))
     (sym c.of.ensures)
-    (at, member_here c.self.inside.slab c.self.inside.next c.self.inside.queues.items c.args.self.now c.self.view_is c.self.invariant.0 c.args.right.now c.place.result x c.datum_at.result.now c.datum_at.ensures c.args.subscript m has kept, now_is c.self.inside.slab c.self.inside.next c.self.inside.queues.items c.args.self.now c.self.view_is c.self.invariant.0 (right_on m) m.place y one_read_more c.add_read_at.new.slab c.add_read_at.ensures)
+    (at, member_here c.self.inside.slab c.self.inside.next c.self.inside.queues.items c.args.self.now c.self.view_is c.self.invariant.0 c.args.right.now c.place.result x c.datum_at.result.now c.datum_at.ensures c.args.subscript m has kept, now_is c.self.inside.slab c.self.inside.next c.self.inside.queues.items c.args.self.now c.self.view_is c.self.invariant.0 (right_on m) m.place y one_read_more c.add_read_at.new.slab c.add_read_at.ensures.changed c.add_read_at.ensures.room)

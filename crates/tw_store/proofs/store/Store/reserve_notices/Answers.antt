@@ -1,16 +1,20 @@
-use Rattle.std.proofs.Common.{◌≤◌, ◌%◌, sym, ap, subst, length, get_or, List}
+use Rattle.std.proofs.Common.{◌<◌, ◌≤◌, ◌%◌, sym, ap, subst, length, get_or, List}
 use Rattle.std.specs.FinMap.{get}
 use Rattle.tw_types.specs.declared.notice.Subscriber.{Subscriber}
 use Rattle.tw_store.specs.Served.{waiting_for}
 use Rattle.tw_store.specs.Parts.{rooms_in}
 use Rattle.tw_store.proofs.Remain.{on_ok}
 use Rattle.tw_store.proofs.Here.{seat, is_there, read_is, room_is, set_count, notice_room}
+use Rattle.tw_store.proofs.Own.{own_same}
 use Rattle.tw_store.proofs.store.Store.reserve_notices.Goals as goal
 
 pub datum_at-requires : goal.datum_at-requires
 datum_at-requires c =
     let x = seat c.self.inside.slab c.self.inside.next c.self.inside.queues.items c.args.self.now c.args.right.now c.place.result c.self.view_is c.self.invariant.0 c.requires c.place.ensures in
     is_there _ _ _ _ x
+
+pub invariant_of-self : goal.invariant_of-self
+invariant_of-self c = (c.self.invariant.0, subst (λ n. 0 < n) (sym c.reserve_server.ensures.servers) c.self.invariant.1, own_same c.self.inside.queues.items c.reserve_server.new.queues.items c.reserve_server.ensures.same c.self.invariant.2)
 
 pub returns-clause-room : goal.returns-clause-room
 returns-clause-room c =

@@ -2,7 +2,7 @@
 
 /// The task that a rule becomes when it is released, without its arguments.
 #[derive(Clone, Copy, PartialEq, Eq)]
-pub struct Action {
+pub struct PlannedTask {
     pub procedure: u8,
     pub priority: i64,
     /// The number of the one actor that may take the task, if not any.

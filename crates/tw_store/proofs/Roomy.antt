@@ -1,0 +1,66 @@
+-- Room that was made is still there.
+use Rattle.std.proofs.Common.{◌≡◌, ◌≢◌, ◌<◌, ◌≤◌, ◌+◌, ℕ, zero, suc, true, cond, List, [], ◌∷◌, refl, sym, ap, subst, ◌∙◌, arith, get_or, set, length, is_some, count_by, inl, inr}
+use Rattle.std.specs.declared.option.Option.{Option}
+use Rattle.std.specs.declared.option.Option.TheVariants.{None, Some}
+use Rattle.std.specs.declared.collections.VecDeque.{VecDeque}
+use Rattle.std.specs.declared.alloc.Global.{Global}
+use Rattle.std.proofs.lemmas.Bool.Decides.{eqb_tells}
+use Rattle.std.proofs.lemmas.List.{map-set, get_or-map, length-map, get_or-set_same, get_or-set_other}
+use Rattle.std.proofs.lemmas.List.Sums.{sum_by-cons}
+use Rattle.slab.specs.Slab.{Slab, with_value}
+use Rattle.tw_types.specs.declared.notice.Notice.{Notice}
+use Rattle.tw_store.specs.declared.slot.Slot.{Slot}
+use Rattle.tw_store.specs.Parts.{HaveOtherRoom, HaveRoom, Queues, data_room_of, room_of, rooms_in, served_of}
+use Rattle.tw_store.specs.Served.{KeepsOtherRooms, KeepsRooms, Served}
+
+-- ---- data
+
+-- another datum in a slot that is taken
+count_set : (slots : List (Option Slot)) (p : ℕ) (e f : Slot) → get_or slots p None ≡ Some e → count_by is_some (set slots p (Some f)) ≡ count_by is_some slots
+count_set [] p e f h = refl
+count_set (x ∷ slots) zero e f h =
+    let one : is_some x ≡ true = ap is_some h in
+    sum_by-cons (λ o. cond (is_some o) 1 0) (Some f) slots ∙ ap (λ b. cond b 1 0 + count_by is_some slots) (sym one) ∙ sym (sum_by-cons (λ o. cond (is_some o) 1 0) x slots)
+count_set (x ∷ slots) (suc p) e f h = sum_by-cons (λ o. cond (is_some o) 1 0) x (set slots p (Some f)) ∙ ap (λ n. cond (is_some x) 1 0 + n) (count_set slots p e f h) ∙ sym (sum_by-cons (λ o. cond (is_some o) 1 0) x slots)
+
+pub room_set : (slab : Slab Slot) (p : ℕ) (e f : Slot) → get_or slab.slots p None ≡ Some e → data_room_of slab ≤ data_room_of (with_value slab p f)
+room_set slab p e f h = let same = count_set slab.slots p e f h in omega (arith, same)
+
+-- ---- notices
+
+module _ (qs : Queues) (q w : VecDeque Notice Global) (server : ℕ) (inside : server < length qs) (here : q ≡ get_or qs server q) where
+  room_was : get_or (rooms_in qs) server 0 ≡ room_of q
+  room_was = get_or-map room_of qs server q 0 inside ∙ ap room_of (sym here)
+
+  room_now : get_or (rooms_in (set qs server w)) server 0 ≡ room_of w
+  room_now = ap (λ rs. get_or rs server 0) (map-set room_of qs server w) ∙ get_or-set_same (rooms_in qs) server (room_of w) 0 (omega (arith, inside, length-map qs room_of))
+
+  room_other : (other : ℕ) → other ≢ server → get_or (rooms_in (set qs server w)) other 0 ≡ get_or (rooms_in qs) other 0
+  room_other other apart = ap (λ rs. get_or rs other 0) (map-set room_of qs server w) ∙ get_or-set_other (rooms_in qs) server other (room_of w) 0 apart
+
+  pub other_room : (count : ℕ) → room_of q ≤ room_of w + count → HaveOtherRoom server count qs (set qs server w)
+  other_room count less = record {
+    here = omega (arith, less, room_was, room_now);
+    others = λ other apart. let same = room_other other apart in omega (arith, same);
+  }
+
+  pub have_room : room_of q ≤ room_of w → HaveRoom qs (set qs server w)
+  have_room more other = elim (eqb_tells other server) as (λ _. get_or (rooms_in qs) other 0 ≤ get_or (rooms_in (set qs server w)) other 0) [
+    | inl same ↦ subst (λ k. get_or (rooms_in qs) k 0 ≤ get_or (rooms_in (set qs server w)) k 0) (sym same.1) (omega (arith, more, room_was, room_now))
+    | inr apart ↦ (let same = room_other other apart.1 in omega (arith, same))
+  ]
+
+-- ---- the store
+
+module _ (slab : Slab Slot) (next : ℕ) (queues : Queues) (s : Served) (view : served_of slab next queues ≡ s) (slab2 : Slab Slot) (next2 : ℕ) (queues2 : Queues) (more : data_room_of slab ≤ data_room_of slab2) where
+  pub rooms_kept : HaveRoom queues queues2 → KeepsRooms s (served_of slab2 next2 queues2)
+  rooms_kept have = subst (λ (y : Served). KeepsRooms y (served_of slab2 next2 queues2)) view (record { for_data = more; for_notices = have })
+
+  pub rooms_left : (server count : ℕ) → HaveOtherRoom server count queues queues2 → KeepsOtherRooms server count s (served_of slab2 next2 queues2)
+  rooms_left server count have = subst (λ (y : Served). KeepsOtherRooms server count y (served_of slab2 next2 queues2)) view (record { for_data = more; here = have.here; others = have.others })
+
+pub same_room : (queues : Queues) → HaveRoom queues queues
+same_room queues server = omega arith
+
+pub same_rooms : (s : Served) → KeepsRooms s s
+same_rooms s = record { for_data = omega arith; for_notices = λ server. omega arith }

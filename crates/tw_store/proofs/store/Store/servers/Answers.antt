@@ -1,0 +1,6 @@
+use Rattle.std.proofs.Common.{subst}
+use Rattle.tw_store.specs.Served.{AreOwn, Served}
+use Rattle.tw_store.proofs.store.Store.servers.Goals as goal
+
+pub returns-clause-own : goal.returns-clause-own
+returns-clause-own c = subst (λ (s : Served). AreOwn s.queues) c.self.view_is c.self.invariant.2
