@@ -8,7 +8,7 @@ ghost use Rattle.tw_code.specs.machine.Arguments.{all_pass, called, handed_over,
 ghost use Rattle.tw_code.specs.machine.Rights.{held};
 ghost use Rattle.tw_datum.specs.Kept.{datum_if};
 ghost use Rattle.tw_instr.specs.Arguments.{arg_of, test_of};
-ghost use Rattle.tw_instr.specs.Attempts.{Fails, Gives};
+ghost use Rattle.tw_instr.specs.Attempts.{MayFail, MayGive};
 ghost use Rattle.tw_instr.specs.Contexts.{context};
 
 use crate::code::procedure_of;
@@ -73,7 +73,7 @@ pub fn called<'a>(
     action: &Action,
 ) -> Result<Named<'a>, Failure>
     requires { IsProgram program.now }
-    ensures { (n : Notices) → Gives (called program.now kind (context store.now n frame.now) action.now) result }
+    ensures { (n : Notices) → MayGive (called program.now kind (context store.now n frame.now) action.now) result }
 {
     let procedure = procedure_of(program, action.procedure)?;
     let params = procedure.params.as_slice();
@@ -111,7 +111,7 @@ pub fn put_called<'a>(
     action: &Action,
 ) -> Result<Named<'a>, Failure>
     requires { IsProgram program.now }
-    ensures { (n : Notices) → Gives (put_called program.now kind (context store.now n frame.now) action.now) result }
+    ensures { (n : Notices) → MayGive (put_called program.now kind (context store.now n frame.now) action.now) result }
 {
     let named = called(alloc, program, kind, store, frame, action)?;
     must(
@@ -164,7 +164,7 @@ fn hand_over(
     params: &[Param],
     registers: &[u8],
 ) -> Result<Vec<Arg>, Failure>
-    ensures given { MatchResult result (λ args. handed_over position.now.values rights.old params.now registers.now ≡ Ok (record { args = map arg_of args.items; rights = rights.new })) (Fails (handed_over position.now.values rights.old params.now registers.now)) }
+    ensures given { MatchResult result (λ args. handed_over position.now.values rights.old params.now registers.now ≡ Ok (record { args = map arg_of args.items; rights = rights.new })) (MayFail (handed_over position.now.values rights.old params.now registers.now)) }
     ensures few { IfOk result (λ args. length args.items ≤ length params.now) }
 {
     let mut args = Vec::new(alloc);

@@ -42,7 +42,7 @@ pub use local::{count_local, local_steps};
 pub use notices::Notices;
 pub use on_data::data_instr;
 pub use position::Position;
-pub use stopped::Stopped;
+pub use stopped::{Barred, Stopped};
 pub use task::Task;
 pub use tw_datum::{Content, RankedMap};
 pub use value_registers::value_at;
