@@ -1,16 +1,20 @@
 //! The instructions that are neither local nor RET: those on data, RULE and PUT.
 
-ghost use Rattle.std.specs.Prelude.{◌≡◌, ◌<◌, ◌^◌, IfSome, List};
+ghost use Rattle.std.specs.Prelude.{◌≡◌, ◌<◌, ◌^◌, Err, IfSome, IsOk, List, Some, true};
 ghost use Rattle.std.specs.FinMap.{get};
 ghost use Rattle.tw_types.specs.declared.actor.Actor.{Actor as AnActor};
 ghost use Rattle.tw_code.specs.declared.instr.Instr.TheVariants.{Data as DATA, Put as PUT, Rule as RULE};
 ghost use Rattle.tw_code.specs.declared.procedure.Procedure.{Procedure as AProcedure};
 ghost use Rattle.tw_code.specs.format.Program.{IsProgram};
+ghost use Rattle.tw_code.specs.machine.Data.{data_instr};
 ghost use Rattle.tw_code.specs.machine.Machine.{call_event};
 ghost use Rattle.tw_code.specs.machine.State.{State as Meaning};
 ghost use Rattle.tw_instr.specs.Attempts.{Changes};
+ghost use Rattle.tw_instr.specs.Contexts.{context};
+ghost use Rattle.tw_instr.specs.Memory.{takes_memory};
 ghost use Rattle.tw_instr.specs.Room.{HasRoom};
 ghost use Rattle.tw_machine.specs.Events.{CallComes, HaveRoom, TablesCome, with_frames, with_tables};
+ghost use Rattle.tw_machine.specs.Memory.{MayWant};
 ghost use Rattle.tw_machine.specs.Parts.{frames_of};
 
 use crate::rule::Rule;
@@ -84,7 +88,8 @@ fn do_data(
     requires place { frame.old.position.place < 2 ^ 63 }
     requires spent { frame.old.spent < 2 ^ 63 }
     requires room { HasRoom tables.old.store }
-    ensures { (program : List AProcedure) (actor : AnActor) (procedure : AProcedure) → CallComes program actor procedure (DATA on_data) tables.old frame.old result tables.new frame.new }
+    ensures comes { (program : List AProcedure) (actor : AnActor) (procedure : AProcedure) → CallComes program actor procedure (DATA on_data) tables.old frame.old result tables.new frame.new }
+    ensures memory { result ≡ Err Stopped.NoMemory → (takes_memory on_data ≡ true) × IsOk (data_instr on_data (context tables.old.store tables.old.notices frame.old)) }
 {
     data_instr(
         alloc,
@@ -107,7 +112,8 @@ fn call_of(
     requires program { IsProgram program.now }
     requires spent { frame.old.spent < 2 ^ 63 }
     requires room { HaveRoom tables.old }
-    ensures { TablesCome (call_event program.now actor) actor tables.old frame.old result tables.new frame.new }
+    ensures comes { TablesCome (call_event program.now actor) actor tables.old frame.old result tables.new frame.new }
+    ensures memory { result ≡ Err Stopped.NoMemory → (s : Meaning) → get s.frames actor ≡ Some frame.old → MayWant program.now actor (with_tables s tables.old) }
 {
     let procedure = procedure_of(program, frame.procedure())?;
     match instr_at(procedure.code.as_slice(), frame.place())? {
@@ -145,7 +151,8 @@ pub fn call(
     requires program { IsProgram program.now }
     requires spent { IfSome (get (frames_of frames.old.entries) actor) (λ frame. frame.spent < 2 ^ 63) }
     requires room { HaveRoom tables.old }
-    ensures { (s : Meaning) → let old = with_frames (with_tables s tables.old) (frames_of frames.old.entries) in Changes (call_event program.now actor old) old result (with_frames (with_tables s tables.new) (frames_of frames.new.entries)) }
+    ensures comes { (s : Meaning) → let old = with_frames (with_tables s tables.old) (frames_of frames.old.entries) in Changes (call_event program.now actor old) old result (with_frames (with_tables s tables.new) (frames_of frames.new.entries)) }
+    ensures memory { result ≡ Err Stopped.NoMemory → (s : Meaning) → MayWant program.now actor (with_frames (with_tables s tables.old) (frames_of frames.old.entries)) }
 {
     let Some(frame) = frames.get_mut(&actor) else {
         return Err(Stopped::NotEnabled);
