@@ -16,14 +16,13 @@ use crate::data::Data;
 use crate::datum::Datum;
 use crate::failure::{Failure, must};
 use crate::frame::Frame;
-use crate::lists::keep;
 use crate::position::Position;
 use crate::task::Task;
 use crate::value_registers::copy_at;
 use std::alloc::{AllocError, Global};
 use std::marker::Model;
 use tw_code::{Action, Procedure};
-use tw_types::{Cause, DatumId, Kind, Mode, Param, Value};
+use tw_types::{Cause, DatumId, Kind, Mode, Param, Value, keep};
 
 /// An argument: a value, or a right on a datum.
 #[derive(Drop)]

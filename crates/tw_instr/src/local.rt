@@ -232,7 +232,7 @@ fn local_step(alloc: Global, code: &[Instr], position: &mut Position) -> Result<
     Ok(())
 }
 
-/// So many steps, one after the other. Where one is stopped the position is that of the steps before it.
+/// So many steps, one after the other. Where one is stopped, no clause says which position is left.
 pub fn local_steps(
     alloc: Global,
     code: &[Instr],

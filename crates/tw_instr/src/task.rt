@@ -13,11 +13,10 @@ use crate::arguments::Arg;
 use crate::code::procedure_of;
 use crate::failure::Failure;
 use crate::frame::Frame;
-use crate::lists::keep;
 use std::alloc::{AllocError, Global};
 use std::marker::Model;
 use tw_code::{Action, Procedure};
-use tw_types::{Actor, Cause, DatumId, Kind, Scalar, TaskNo, Value};
+use tw_types::{Actor, Cause, DatumId, Kind, Scalar, TaskNo, Value, keep};
 
 /// A task: its procedure with the kind of that, the target if it has one, and at most eight arguments.
 #[derive(Drop)]

@@ -152,7 +152,7 @@ impl State {
         self.tables.tasks.waiting()
     }
 
-    /// The notices that wait, in the order in which they came.
+    /// The notices that wait; the oldest first, which no clause says.
     pub fn notices(&self) -> &[Notice]
         ensures { from_list result.now ≡ self.now.notices }
     {

@@ -25,28 +25,41 @@ use tw_code::{Action, DataInstr, Instr, Procedure};
 use tw_instr::{Frame, Named, Stopped, called, data_instr, instr_at, procedure_of, put_called};
 use tw_types::{Actor, Kind};
 
+/// Who does an instruction: an actor, in a procedure of this kind of the program.
+#[derive(Clone, Copy)]
+struct Caller<'a> {
+    program: &'a [Procedure],
+    kind: Kind,
+    actor: Actor,
+}
+
 /// The frame's task does a RULE.
 fn make_rule(
     alloc: Global,
-    program: &[Procedure],
-    kind: Kind,
-    actor: Actor,
+    caller: Caller,
     tables: &mut Tables,
     frame: &mut Frame,
     action: &Action,
 ) -> Result<(), Stopped>
-    requires program { IsProgram program.now }
+    requires program { IsProgram caller.program.now }
     requires place { frame.old.position.place < 2 ^ 63 }
     requires spent { frame.old.spent < 2 ^ 63 }
     requires room { HaveRoom tables.old }
-    ensures { (procedure : AProcedure) → procedure.kind ≡ kind → CallComes program.now actor procedure (RULE action.now) tables.old frame.old result tables.new frame.new }
+    ensures { (procedure : AProcedure) → procedure.kind ≡ caller.kind → CallComes caller.program.now caller.actor procedure (RULE action.now) tables.old frame.old result tables.new frame.new }
 {
     let Named {
         task,
         params,
         rights,
-    } = called(alloc, program, kind, &tables.store, frame, action)?;
-    let rule = Rule::new(alloc, actor.number(), params, task)?;
+    } = called(
+        alloc,
+        caller.program,
+        caller.kind,
+        &tables.store,
+        frame,
+        action,
+    )?;
+    let rule = Rule::new(alloc, caller.actor.number(), params, task)?;
     tables.rules.add(rule)?;
     frame.go_behind(rights);
     Ok(())
@@ -55,24 +68,29 @@ fn make_rule(
 /// The frame's task does a PUT.
 fn put_task(
     alloc: Global,
-    program: &[Procedure],
-    kind: Kind,
-    actor: Actor,
+    caller: Caller,
     tables: &mut Tables,
     frame: &mut Frame,
     action: &Action,
 ) -> Result<(), Stopped>
-    requires program { IsProgram program.now }
+    requires program { IsProgram caller.program.now }
     requires place { frame.old.position.place < 2 ^ 63 }
     requires spent { frame.old.spent < 2 ^ 63 }
     requires room { HaveRoom tables.old }
-    ensures { (procedure : AProcedure) → procedure.kind ≡ kind → CallComes program.now actor procedure (PUT action.now) tables.old frame.old result tables.new frame.new }
+    ensures { (procedure : AProcedure) → procedure.kind ≡ caller.kind → CallComes caller.program.now caller.actor procedure (PUT action.now) tables.old frame.old result tables.new frame.new }
 {
     let Named {
         task,
         params: _,
         rights,
-    } = put_called(alloc, program, kind, &tables.store, frame, action)?;
+    } = put_called(
+        alloc,
+        caller.program,
+        caller.kind,
+        &tables.store,
+        frame,
+        action,
+    )?;
     tables.tasks.put(task)?;
     frame.go_behind(rights);
     Ok(())
@@ -116,26 +134,15 @@ fn call_of(
     ensures memory { result ≡ Err Stopped.NoMemory → (s : Meaning) → get s.frames actor ≡ Some frame.old → MayWant program.now actor (with_tables s tables.old) }
 {
     let procedure = procedure_of(program, frame.procedure())?;
+    let caller = Caller {
+        program,
+        kind: procedure.kind,
+        actor,
+    };
     match instr_at(procedure.code.as_slice(), frame.place())? {
         Instr::Data(on_data) => do_data(alloc, *on_data, tables, frame),
-        Instr::Rule(action) => make_rule(
-            alloc,
-            program,
-            procedure.kind,
-            actor,
-            tables,
-            frame,
-            action,
-        ),
-        Instr::Put(action) => put_task(
-            alloc,
-            program,
-            procedure.kind,
-            actor,
-            tables,
-            frame,
-            action,
-        ),
+        Instr::Rule(action) => make_rule(alloc, caller, tables, frame, action),
+        Instr::Put(action) => put_task(alloc, caller, tables, frame, action),
         Instr::Local(_) | Instr::Ret => Err(Stopped::NotEnabled),
     }
 }
