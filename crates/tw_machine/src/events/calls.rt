@@ -45,7 +45,7 @@ fn make_rule(
     requires place { frame.old.position.place < 2 ^ 63 }
     requires spent { frame.old.spent < 2 ^ 63 }
     requires room { HaveRoom tables.old }
-    ensures { (procedure : AProcedure) → procedure.kind ≡ caller.kind → CallComes caller.program.now caller.actor procedure (RULE action.now) tables.old frame.old result tables.new frame.new }
+    ensures { (procedure : AProcedure) → procedure.kind ≡ caller.entry.kind → CallComes caller.entry.program.now caller.entry.actor procedure (RULE action.now) tables.old frame.old result tables.new frame.new }
 {
     let Named {
         task,
@@ -77,7 +77,7 @@ fn put_task(
     requires place { frame.old.position.place < 2 ^ 63 }
     requires spent { frame.old.spent < 2 ^ 63 }
     requires room { HaveRoom tables.old }
-    ensures { (procedure : AProcedure) → procedure.kind ≡ caller.kind → CallComes caller.program.now caller.actor procedure (PUT action.now) tables.old frame.old result tables.new frame.new }
+    ensures { (procedure : AProcedure) → procedure.kind ≡ caller.entry.kind → CallComes caller.entry.program.now caller.entry.actor procedure (PUT action.now) tables.old frame.old result tables.new frame.new }
 {
     let Named {
         task,
