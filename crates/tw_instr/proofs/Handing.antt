@@ -12,10 +12,10 @@ use Rattle.tw_code.specs.machine.Arguments.{HandedOver, all_pass, handed_over, v
 use Rattle.tw_code.specs.machine.Rights.{Rights}
 use Rattle.tw_instr.specs.declared.failure.Failure.{Failure}
 use Rattle.tw_instr.specs.declared.failure.Failure.TheVariants as failure
-use Rattle.tw_instr.specs.Attempts.{Fails}
+use Rattle.tw_instr.specs.Attempts.{MayFail}
 
 -- what fails first
-pub fails_before : {A B : Type 0} (r : Result A Cause) (next : A → Result B Cause) (why : Failure) → Fails r why → Fails (r >>= next) why
+pub fails_before : {A B : Type 0} (r : Result A Cause) (next : A → Result B Cause) (why : Failure) → MayFail r why → MayFail (r >>= next) why
 fails_before r next (failure.Trap cause) h = ap (λ q. q >>= next) h
 fails_before r next failure.NoMemory h = tt
 

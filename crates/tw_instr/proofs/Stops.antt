@@ -7,7 +7,7 @@ use Rattle.tw_instr.specs.declared.failure.Failure.{Failure}
 use Rattle.tw_instr.specs.declared.failure.Failure.TheVariants as failure
 use Rattle.tw_instr.specs.declared.stopped.Stopped.{Stopped}
 use Rattle.tw_instr.specs.declared.stopped.Stopped.TheVariants as stopped
-use Rattle.tw_instr.specs.Attempts.{Fails, IsStopped, stopped_by}
+use Rattle.tw_instr.specs.Attempts.{MayFail, IsStopped, stopped_by}
 
 pub stopped_then : {A B : Type 0} (o : Outcome A) (next : A → Outcome B) (why : Stopped) → IsStopped o why → IsStopped (o >>= next) why
 stopped_then o next stopped.NotEnabled h = ap (λ p. p >>= next) h
@@ -18,6 +18,6 @@ pub stopped_is : {A : Type 0} (o p : Outcome A) (why : Stopped) → o ≡ p → 
 stopped_is o p why e h = subst (λ q. IsStopped q why) (sym e) h
 
 -- an instruction that fails, in an event
-pub fails_then : {A B : Type 0} (r : Result A Cause) (next : A → Outcome B) (why : Failure) → Fails r why → IsStopped (outcome_of r >>= next) (stopped_by why)
+pub fails_then : {A B : Type 0} (r : Result A Cause) (next : A → Outcome B) (why : Failure) → MayFail r why → IsStopped (outcome_of r >>= next) (stopped_by why)
 fails_then r next (failure.Trap cause) h = ap (λ q. outcome_of q >>= next) h
 fails_then r next failure.NoMemory h = tt

@@ -37,11 +37,7 @@ read_room r x e h = subst HasReadRoom e h
 pub write_room : (r : Option Datum) (x : Datum) → r ≡ Some x → HasWriteRoom r → x.writes < 9223372036854775808
 write_room r x e h = subst HasWriteRoom e h
 
--- what follows where it went, or where it was refused
-
-pub on_ok : {A E : Type 0} (r : Result A E) {P Q : Type 0} → OnOk r P → (P → Q) → OnOk r Q
-on_ok (Ok x) h f = f h
-on_ok (Err why) h f = tt
+-- what follows where it was refused
 
 pub on_err : {A E : Type 0} (r : Result A E) {P Q : Type 0} → OnErr r P → (P → Q) → OnErr r Q
 on_err (Ok x) h f = tt

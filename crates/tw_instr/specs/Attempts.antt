@@ -1,23 +1,39 @@
 -- Attempts at what instructions and events come to.
-use Rattle.std.specs.Prelude.{◌≡◌, Result, Ok, Err}
+use Rattle.std.specs.Prelude.{◌≡◌, Result, Ok, Err, IsOk}
 use Rattle.tw_types.specs.declared.cause.Cause.{Cause}
 use Rattle.tw_types.specs.Outcome.{Outcome, Went, NotEnabled, Trap}
 use Rattle.tw_instr.specs.declared.failure.Failure.{Failure}
+use Rattle.tw_instr.specs.declared.stopped.Barred.{Barred}
+use Rattle.tw_instr.specs.declared.stopped.Barred.TheVariants as barred
 use Rattle.tw_instr.specs.declared.failure.Failure.TheVariants as failure
 use Rattle.tw_instr.specs.declared.stopped.Stopped.{Stopped}
 use Rattle.tw_instr.specs.declared.stopped.Stopped.TheVariants as stopped
 
 -- ---- instructions
 
--- the cause is the machine's; want of memory says nothing of it
+-- the cause is the machine's, and want of memory is told only where the machine's goes
 abbrev pub Fails : {A : Type 0} → Result A Cause → Failure → Type 0
 Fails r (failure.Trap cause) = r ≡ Err cause
-Fails r failure.NoMemory = Unit {0}
+Fails r failure.NoMemory = IsOk r
+
+-- the same where memory is taken before all is asked: want of it says nothing
+abbrev pub MayFail : {A : Type 0} → Result A Cause → Failure → Type 0
+MayFail r (failure.Trap cause) = r ≡ Err cause
+MayFail r failure.NoMemory = Unit {0}
 
 -- an attempt at a value gives what the machine's comes to
 abbrev pub Gives : {A : Type 0} → Result A Cause → Result A Failure → Type 0
 Gives r (Ok x) = r ≡ Ok x
 Gives r (Err why) = Fails r why
+
+abbrev pub MayGive : {A : Type 0} → Result A Cause → Result A Failure → Type 0
+MayGive r (Ok x) = r ≡ Ok x
+MayGive r (Err why) = MayFail r why
+
+-- what takes no memory can fail only with a cause
+abbrev pub failing : {A : Type 0} → Result A Cause → Result A Failure
+failing (Ok x) = Ok x
+failing (Err cause) = Err (failure.Trap cause)
 
 -- an attempt at a change leaves what the machine's comes to, and one that fails leaves all as it was
 abbrev pub Leaves : {A : Type 0} → Result A Cause → A → Result (Unit {0}) Failure → A → Type 0
@@ -30,6 +46,15 @@ Leaves r old (Err why) new = Fails r why × (new ≡ old)
 abbrev pub stopped_by : Failure → Stopped
 stopped_by (failure.Trap cause) = stopped.Trap cause
 stopped_by failure.NoMemory = stopped.NoMemory
+
+-- what bars an event that takes no memory
+abbrev pub barred_by : Barred → Stopped
+barred_by barred.NotEnabled = stopped.NotEnabled
+barred_by (barred.Trap cause) = stopped.Trap cause
+
+abbrev pub unless_barred : {A : Type 0} → Result A Barred → Result A Stopped
+unless_barred (Ok x) = Ok x
+unless_barred (Err why) = Err (barred_by why)
 
 -- that it isn't enabled, or the cause, is the machine's; want of memory says nothing of it
 abbrev pub IsStopped : {A : Type 0} → Outcome A → Stopped → Type 0

@@ -8,7 +8,7 @@ ghost use Rattle.tw_code.specs.machine.Arguments.{all_pass, called, handed_over,
 ghost use Rattle.tw_code.specs.machine.Rights.{held};
 ghost use Rattle.tw_datum.specs.Kept.{datum_if};
 ghost use Rattle.tw_instr.specs.Arguments.{arg_of, test_of};
-ghost use Rattle.tw_instr.specs.Attempts.{Fails, Gives};
+ghost use Rattle.tw_instr.specs.Attempts.{MayFail, MayGive};
 ghost use Rattle.tw_instr.specs.Contexts.{context};
 
 use crate::code::procedure_of;
@@ -16,14 +16,13 @@ use crate::data::Data;
 use crate::datum::Datum;
 use crate::failure::{Failure, must};
 use crate::frame::Frame;
-use crate::lists::keep;
 use crate::position::Position;
 use crate::task::Task;
 use crate::value_registers::copy_at;
 use std::alloc::{AllocError, Global};
 use std::marker::Model;
 use tw_code::{Action, Procedure};
-use tw_types::{Cause, DatumId, Kind, Mode, Param, Value};
+use tw_types::{Cause, DatumId, Kind, Mode, Param, Value, keep};
 
 /// An argument: a value, or a right on a datum.
 #[derive(Drop)]
@@ -73,7 +72,7 @@ pub fn called<'a>(
     action: &Action,
 ) -> Result<Named<'a>, Failure>
     requires { IsProgram program.now }
-    ensures { (n : Notices) → Gives (called program.now kind (context store.now n frame.now) action.now) result }
+    ensures { (n : Notices) → MayGive (called program.now kind (context store.now n frame.now) action.now) result }
 {
     let procedure = procedure_of(program, action.procedure)?;
     let params = procedure.params.as_slice();
@@ -111,7 +110,7 @@ pub fn put_called<'a>(
     action: &Action,
 ) -> Result<Named<'a>, Failure>
     requires { IsProgram program.now }
-    ensures { (n : Notices) → Gives (put_called program.now kind (context store.now n frame.now) action.now) result }
+    ensures { (n : Notices) → MayGive (put_called program.now kind (context store.now n frame.now) action.now) result }
 {
     let named = called(alloc, program, kind, store, frame, action)?;
     must(
@@ -164,7 +163,7 @@ fn hand_over(
     params: &[Param],
     registers: &[u8],
 ) -> Result<Vec<Arg>, Failure>
-    ensures given { MatchResult result (λ args. handed_over position.now.values rights.old params.now registers.now ≡ Ok (record { args = map arg_of args.items; rights = rights.new })) (Fails (handed_over position.now.values rights.old params.now registers.now)) }
+    ensures given { MatchResult result (λ args. handed_over position.now.values rights.old params.now registers.now ≡ Ok (record { args = map arg_of args.items; rights = rights.new })) (MayFail (handed_over position.now.values rights.old params.now registers.now)) }
     ensures few { IfOk result (λ args. length args.items ≤ length params.now) }
 {
     let mut args = Vec::new(alloc);

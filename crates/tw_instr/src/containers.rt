@@ -2,6 +2,7 @@
 
 ghost use Rattle.std.specs.Prelude.{◌<◌, ◌^◌};
 ghost use Rattle.tw_code.specs.declared.instr.DataInstr.TheVariants.{Insert as INS, Look as LOOK, Size as SIZE, SubscriptAt as SUBAT};
+ghost use Rattle.tw_instr.specs.Attempts.{failing};
 ghost use Rattle.tw_instr.specs.Contexts.{DoesQuietly};
 ghost use Rattle.tw_instr.specs.Room.{HasRoom};
 
@@ -10,7 +11,7 @@ use crate::failure::Failure;
 use crate::frame::Frame;
 use crate::right_registers::{held, must_be_empty};
 use crate::value_registers::{int_at, must_have_type};
-use tw_types::{Scalar, Value};
+use tw_types::{Cause, Scalar, Value};
 
 pub fn insert(
     store: &mut Data,
@@ -44,10 +45,10 @@ pub fn look(
     container: u8,
     subscript: u8,
     skip: u16,
-) -> Result<(), Failure>
+) -> Result<(), Cause>
     requires place { frame.old.position.place < 2 ^ 63 }
     requires room { HasRoom store.old }
-    ensures { DoesQuietly (LOOK member container subscript skip) store.old frame.old result store.new frame.new }
+    ensures { DoesQuietly (LOOK member container subscript skip) store.old frame.old (failing result) store.new frame.new }
 {
     let at = int_at(frame.position(), subscript)?;
     must_be_empty(frame, member)?;
@@ -64,10 +65,10 @@ pub fn look(
     Ok(())
 }
 
-pub fn size(store: &Data, frame: &mut Frame, to: u8, container: u8) -> Result<(), Failure>
+pub fn size(store: &Data, frame: &mut Frame, to: u8, container: u8) -> Result<(), Cause>
     requires place { frame.old.position.place < 2 ^ 63 }
     requires room { HasRoom store.now }
-    ensures { DoesQuietly (SIZE to container) store.now frame.old result store.now frame.new }
+    ensures { DoesQuietly (SIZE to container) store.now frame.old (failing result) store.now frame.new }
 {
     must_have_type(frame.position(), to, Scalar::Int)?;
     let id = held(frame, container)?;
@@ -84,9 +85,9 @@ pub fn subscript_at(
     container: u8,
     index: u8,
     skip: u16,
-) -> Result<(), Failure>
+) -> Result<(), Cause>
     requires { frame.old.position.place < 2 ^ 63 }
-    ensures { DoesQuietly (SUBAT to container index skip) store.now frame.old result store.now frame.new }
+    ensures { DoesQuietly (SUBAT to container index skip) store.now frame.old (failing result) store.now frame.new }
 {
     must_have_type(frame.position(), to, Scalar::Int)?;
     let count = int_at(frame.position(), index)?;

@@ -7,7 +7,7 @@ ghost use Rattle.tw_code.specs.machine.Local.{local_instr, same_value};
 ghost use Rattle.tw_code.specs.machine.Machine.{local_step, local_steps};
 ghost use Rattle.tw_code.specs.machine.Position.{at_goal, at_next_place};
 ghost use Rattle.tw_code.specs.machine.Position.{Position as Where};
-ghost use Rattle.tw_instr.specs.Attempts.{Changes, IsStopped, Leaves};
+ghost use Rattle.tw_instr.specs.Attempts.{Changes, IsStopped, Leaves, failing};
 
 use crate::code::instr_at;
 use crate::failure::Failure;
@@ -32,9 +32,9 @@ fn same_value(left: &Value, right: &Value) -> Result<bool, Cause>
     }
 }
 
-fn int(position: &mut Position, to: u8, value: i64) -> Result<(), Failure>
+fn int(position: &mut Position, to: u8, value: i64) -> Result<(), Cause>
     requires { position.old.place < 2 ^ 63 }
-    ensures { Leaves (local_instr (INT to value) position.old) position.old result position.new }
+    ensures { Leaves (local_instr (INT to value) position.old) position.old (failing result) position.new }
 {
     must_have_type(position, to, Scalar::Int)?;
     position.put(to, Value::Int(value));
@@ -69,9 +69,9 @@ fn compute(
     left: u8,
     right: u8,
     skip: u16,
-) -> Result<(), Failure>
+) -> Result<(), Cause>
     requires { position.old.place < 2 ^ 63 }
-    ensures { Leaves (local_instr (COMPUTE operation to left right skip) position.old) position.old result position.new }
+    ensures { Leaves (local_instr (COMPUTE operation to left right skip) position.old) position.old (failing result) position.new }
 {
     must_have_type(position, to, Scalar::Int)?;
     let left = int_at(position, left)?;
@@ -103,9 +103,9 @@ fn concatenate(
     Ok(())
 }
 
-fn length(position: &mut Position, to: u8, from: u8) -> Result<(), Failure>
+fn length(position: &mut Position, to: u8, from: u8) -> Result<(), Cause>
     requires { position.old.place < 2 ^ 63 }
-    ensures { Leaves (local_instr (LEN to from) position.old) position.old result position.new }
+    ensures { Leaves (local_instr (LEN to from) position.old) position.old (failing result) position.new }
 {
     must_have_type(position, to, Scalar::Int)?;
     let length = text_at(position, from)?.as_str().len() as i64;
@@ -154,32 +154,32 @@ fn skip_if(position: &mut Position, condition: bool, skip: u16)
     }
 }
 
-fn jump_equal(position: &mut Position, left: u8, right: u8, skip: u16) -> Result<(), Failure>
+fn jump_equal(position: &mut Position, left: u8, right: u8, skip: u16) -> Result<(), Cause>
     requires { position.old.place < 2 ^ 63 }
-    ensures { Leaves (local_instr (JEQ left right skip) position.old) position.old result position.new }
+    ensures { Leaves (local_instr (JEQ left right skip) position.old) position.old (failing result) position.new }
 {
     let same = same_value(value_at(position, left)?, value_at(position, right)?)?;
     skip_if(position, same, skip);
     Ok(())
 }
 
-fn jump_less(position: &mut Position, left: u8, right: u8, skip: u16) -> Result<(), Failure>
+fn jump_less(position: &mut Position, left: u8, right: u8, skip: u16) -> Result<(), Cause>
     requires { position.old.place < 2 ^ 63 }
-    ensures { Leaves (local_instr (JLT left right skip) position.old) position.old result position.new }
+    ensures { Leaves (local_instr (JLT left right skip) position.old) position.old (failing result) position.new }
 {
     let less = int_at(position, left)? < int_at(position, right)?;
     skip_if(position, less, skip);
     Ok(())
 }
 
-fn end(position: &mut Position) -> Result<(), Failure>
+fn end(position: &mut Position) -> Result<(), Cause>
     requires { position.old.place < 2 ^ 63 }
-    ensures { Leaves (local_instr END position.old) position.old result position.new }
+    ensures { Leaves (local_instr END position.old) position.old (failing result) position.new }
 {
     if position.end_turn() {
         Ok(())
     } else {
-        Err(Failure::Trap(Cause::NoLoop))
+        Err(Cause::NoLoop)
     }
 }
 
@@ -188,7 +188,7 @@ fn local_instr(alloc: Global, instr: &LocalInstr, position: &mut Position) -> Re
     ensures { Leaves (local_instr instr.now position.old) position.old result position.new }
 {
     match instr {
-        LocalInstr::Int { to, value } => int(position, *to, *value),
+        LocalInstr::Int { to, value } => Ok(int(position, *to, *value)?),
         LocalInstr::Text { to, text } => self::text(alloc, position, *to, text),
         LocalInstr::Copy { to, from } => copy(alloc, position, *to, *from),
         LocalInstr::Compute {
@@ -197,24 +197,28 @@ fn local_instr(alloc: Global, instr: &LocalInstr, position: &mut Position) -> Re
             left,
             right,
             skip,
-        } => compute(position, *operation, *to, *left, *right, *skip),
+        } => Ok(compute(position, *operation, *to, *left, *right, *skip)?),
         LocalInstr::Concatenate {
             to,
             left,
             right,
             skip,
         } => concatenate(alloc, position, *to, *left, *right, *skip),
-        LocalInstr::Length { to, from } => length(position, *to, *from),
+        LocalInstr::Length { to, from } => Ok(length(position, *to, *from)?),
         LocalInstr::Show { to, from } => show(alloc, position, *to, *from),
         LocalInstr::ReadInt { to, from, skip } => read_int(alloc, position, *to, *from, *skip),
         LocalInstr::Jump { skip } => {
             position.skip(*skip);
             Ok(())
         }
-        LocalInstr::JumpEqual { left, right, skip } => jump_equal(position, *left, *right, *skip),
-        LocalInstr::JumpLess { left, right, skip } => jump_less(position, *left, *right, *skip),
+        LocalInstr::JumpEqual { left, right, skip } => {
+            Ok(jump_equal(position, *left, *right, *skip)?)
+        }
+        LocalInstr::JumpLess { left, right, skip } => {
+            Ok(jump_less(position, *left, *right, *skip)?)
+        }
         LocalInstr::Repeat { turns } => Ok(position.begin_loop(*turns)?),
-        LocalInstr::End => end(position),
+        LocalInstr::End => Ok(end(position)?),
     }
 }
 
@@ -228,7 +232,7 @@ fn local_step(alloc: Global, code: &[Instr], position: &mut Position) -> Result<
     Ok(())
 }
 
-/// So many steps, one after the other. Where one is stopped the position is that of the steps before it.
+/// So many steps, one after the other. Where one is stopped, no clause says which position is left.
 pub fn local_steps(
     alloc: Global,
     code: &[Instr],

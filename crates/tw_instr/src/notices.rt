@@ -44,7 +44,7 @@ impl Notices {
         self.list.is_empty()
     }
 
-    /// All of them, in the order in which they came.
+    /// All of them; the oldest first, which no clause says.
     pub fn as_slice(&self) -> &[Notice]
         ensures { from_list result.now ≡ self.now }
     {

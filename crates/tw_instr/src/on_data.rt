@@ -1,7 +1,8 @@
 //! The instructions on data.
 
-ghost use Rattle.std.specs.Prelude.{◌<◌, ◌^◌};
+ghost use Rattle.std.specs.Prelude.{◌≡◌, ◌<◌, ◌^◌, Err, true};
 ghost use Rattle.tw_instr.specs.Contexts.{Does};
+ghost use Rattle.tw_instr.specs.Memory.{takes_memory};
 ghost use Rattle.tw_instr.specs.Room.{HasRoom};
 
 use crate::data::Data;
@@ -22,7 +23,8 @@ pub fn data_instr(
 ) -> Result<(), Failure>
     requires place { frame.old.position.place < 2 ^ 63 }
     requires room { HasRoom store.old }
-    ensures { Does instr store.old notices.old frame.old result store.new notices.new frame.new }
+    ensures does { Does instr store.old notices.old frame.old result store.new notices.new frame.new }
+    ensures memory { result ≡ Err Failure.NoMemory → takes_memory instr ≡ true }
 {
     match instr {
         DataInstr::New { write, read, ty } => {
@@ -43,17 +45,17 @@ pub fn data_instr(
             container,
             subscript,
             skip,
-        } => containers::look(store, frame, member, container, subscript, skip),
-        DataInstr::Size { to, container } => { containers::size(store, frame, to, container) }
+        } => Ok(containers::look(store, frame, member, container, subscript, skip)?),
+        DataInstr::Size { to, container } => { Ok(containers::size(store, frame, to, container)?) }
         DataInstr::SubscriptAt {
             to,
             container,
             index,
             skip,
-        } => containers::subscript_at(store, frame, to, container, index, skip),
-        DataInstr::CopyRead { to, from } => rights::copy_read(store, frame, to, from),
-        DataInstr::CopyWrite { to, from } => rights::copy_write(store, frame, to, from),
-        DataInstr::DropRead { right } => rights::drop_read(store, frame, right),
+        } => Ok(containers::subscript_at(store, frame, to, container, index, skip)?),
+        DataInstr::CopyRead { to, from } => Ok(rights::copy_read(store, frame, to, from)?),
+        DataInstr::CopyWrite { to, from } => Ok(rights::copy_write(store, frame, to, from)?),
+        DataInstr::DropRead { right } => Ok(rights::drop_read(store, frame, right)?),
         DataInstr::DropWrite { right } => rights::drop_write(store, notices, frame, right),
     }
 }

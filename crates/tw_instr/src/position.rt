@@ -5,10 +5,9 @@ ghost use Rattle.std.specs.Option.{option_copied, option_map};
 ghost use Rattle.tw_code.specs.machine.Position.{at_next_place, at_goal, with_value};
 ghost use Rattle.tw_code.specs.machine.Position.{after_end};
 
-use crate::lists::keep;
 use std::alloc::{AllocError, Global};
 use std::marker::Model;
-use tw_types::Value;
+use tw_types::{Value, keep};
 
 /// A loop that is begun: its first place, and the turns that are left.
 #[derive(Clone, Copy)]

@@ -6,6 +6,7 @@ ghost use Rattle.tw_code.specs.declared.instr.DataInstr.TheVariants.{New as NEW,
 ghost use Rattle.tw_types.specs.Notices.{with_notices};
 ghost use Rattle.tw_types.specs.StoreCalls.{notices_of_write_dropped, write_dropped};
 ghost use Rattle.tw_types.specs.StoreChecks.{may_drop_write};
+ghost use Rattle.tw_instr.specs.Attempts.{failing};
 ghost use Rattle.tw_instr.specs.Contexts.{Does, DoesQuietly};
 ghost use Rattle.tw_instr.specs.Room.{HasRoom};
 
@@ -39,10 +40,10 @@ pub fn create(
     Ok(())
 }
 
-pub fn copy_read(store: &mut Data, frame: &mut Frame, to: u8, from: u8) -> Result<(), Failure>
+pub fn copy_read(store: &mut Data, frame: &mut Frame, to: u8, from: u8) -> Result<(), Cause>
     requires place { frame.old.position.place < 2 ^ 63 }
     requires room { HasRoom store.old }
-    ensures { DoesQuietly (DUPR to from) store.old frame.old result store.new frame.new }
+    ensures { DoesQuietly (DUPR to from) store.old frame.old (failing result) store.new frame.new }
 {
     must_be_empty(frame, to)?;
     let id = held(frame, from)?;
@@ -53,10 +54,10 @@ pub fn copy_read(store: &mut Data, frame: &mut Frame, to: u8, from: u8) -> Resul
     Ok(())
 }
 
-pub fn copy_write(store: &mut Data, frame: &mut Frame, to: u8, from: u8) -> Result<(), Failure>
+pub fn copy_write(store: &mut Data, frame: &mut Frame, to: u8, from: u8) -> Result<(), Cause>
     requires place { frame.old.position.place < 2 ^ 63 }
     requires room { HasRoom store.old }
-    ensures { DoesQuietly (DUPW to from) store.old frame.old result store.new frame.new }
+    ensures { DoesQuietly (DUPW to from) store.old frame.old (failing result) store.new frame.new }
 {
     must_be_empty(frame, to)?;
     let id = held(frame, from)?;
@@ -67,9 +68,9 @@ pub fn copy_write(store: &mut Data, frame: &mut Frame, to: u8, from: u8) -> Resu
     Ok(())
 }
 
-pub fn drop_read(store: &mut Data, frame: &mut Frame, right: u8) -> Result<(), Failure>
+pub fn drop_read(store: &mut Data, frame: &mut Frame, right: u8) -> Result<(), Cause>
     requires { frame.old.position.place < 2 ^ 63 }
-    ensures { DoesQuietly (DROPR right) store.old frame.old result store.new frame.new }
+    ensures { DoesQuietly (DROPR right) store.old frame.old (failing result) store.new frame.new }
 {
     let id = held(frame, right)?;
     store.may_drop_read(id)?;

@@ -15,6 +15,40 @@ pub enum Stopped {
     NoMemory,
 }
 
+/// Why an event that takes no memory isn't made.
+#[derive(Clone, Copy)]
+pub enum Barred {
+    /// It can't be made now.
+    NotEnabled,
+    /// The task breaks a rule of data or rights.
+    Trap(Cause),
+}
+
+impl From<Cause> for Barred {
+    ghost use Rattle.std.specs.Prelude.{◌≡◌};
+    ghost use Rattle.tw_instr.specs.declared.stopped.Barred.TheVariants.{Trap};
+
+    ghost from_gives = { λ cause barred. barred ≡ Trap cause };
+
+    fn from(cause: Cause) -> Barred {
+        Barred::Trap(cause)
+    }
+}
+
+impl From<Barred> for Stopped {
+    ghost use Rattle.std.specs.Prelude.{◌≡◌};
+    ghost use Rattle.tw_instr.specs.Attempts.{barred_by};
+
+    ghost from_gives = { λ barred stopped. stopped ≡ barred_by barred };
+
+    fn from(barred: Barred) -> Stopped {
+        match barred {
+            Barred::NotEnabled => Stopped::NotEnabled,
+            Barred::Trap(cause) => Stopped::Trap(cause),
+        }
+    }
+}
+
 impl From<Cause> for Stopped {
     ghost use Rattle.std.specs.Prelude.{◌≡◌};
     ghost use Rattle.tw_instr.specs.declared.stopped.Stopped.TheVariants.{Trap};

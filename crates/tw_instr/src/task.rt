@@ -6,18 +6,17 @@ ghost use Rattle.tw_code.specs.machine.State.{filled, frame_of, ids_in, values_i
 ghost use Rattle.tw_code.specs.machine.Rights.{first_rights};
 ghost use Rattle.tw_code.specs.machine.Opening.{main_task};
 ghost use Rattle.tw_types.specs.Value.{blank_of};
-ghost use Rattle.tw_instr.specs.Attempts.{Fails, Gives};
+ghost use Rattle.tw_instr.specs.Attempts.{MayFail, MayGive};
 ghost use Rattle.tw_instr.specs.Arguments.{arg_of};
 
 use crate::arguments::Arg;
 use crate::code::procedure_of;
 use crate::failure::Failure;
 use crate::frame::Frame;
-use crate::lists::keep;
 use std::alloc::{AllocError, Global};
 use std::marker::Model;
 use tw_code::{Action, Procedure};
-use tw_types::{Actor, Cause, DatumId, Kind, Scalar, TaskNo, Value};
+use tw_types::{Actor, Cause, DatumId, Kind, Scalar, TaskNo, Value, keep};
 
 /// A task: its procedure with the kind of that, the target if it has one, and at most eight arguments.
 #[derive(Drop)]
@@ -124,7 +123,7 @@ impl Task {
     /// The task of the number, at its start: its values in their order fill the first value registers, which must
     /// be of their types, and the others are blank; the ids of its rights fill the first right registers.
     pub fn begin(&self, alloc: Global, program: &[Procedure], number: u64) -> Result<Frame, Failure>
-        ensures { Gives (frame_of program.now number self.now) result }
+        ensures { MayGive (frame_of program.now number self.now) result }
     {
         let procedure = procedure_of(program, self.procedure)?;
         let values = filled(alloc, &self.args, procedure.registers.as_slice())?;
@@ -145,7 +144,7 @@ fn copies_of(alloc: Global, args: &[Arg]) -> Result<Vec<Arg>, AllocError>
 }
 
 fn filled(alloc: Global, args: &[Arg], registers: &[Scalar]) -> Result<Vec<Value>, Failure>
-    ensures { MatchResult result (λ values. filled (values_in (map arg_of args.now)) registers.now ≡ Ok values.items) (Fails (filled (values_in (map arg_of args.now)) registers.now)) }
+    ensures { MatchResult result (λ values. filled (values_in (map arg_of args.now)) registers.now ≡ Ok values.items) (MayFail (filled (values_in (map arg_of args.now)) registers.now)) }
 {
     let mut values = first_values(alloc, args, registers)?;
     let others = &registers[values.len()..];
@@ -154,7 +153,7 @@ fn filled(alloc: Global, args: &[Arg], registers: &[Scalar]) -> Result<Vec<Value
 }
 
 fn first_values(alloc: Global, args: &[Arg], registers: &[Scalar]) -> Result<Vec<Value>, Failure>
-    ensures filled { MatchResult result (λ values. filled (values_in (map arg_of args.now)) registers.now ≡ Ok (values.items ++ map blank_of (drop (length values.items) registers.now))) (Fails (filled (values_in (map arg_of args.now)) registers.now)) }
+    ensures filled { MatchResult result (λ values. filled (values_in (map arg_of args.now)) registers.now ≡ Ok (values.items ++ map blank_of (drop (length values.items) registers.now))) (MayFail (filled (values_in (map arg_of args.now)) registers.now)) }
     ensures short { IfOk result (λ values. length values.items ≤ length registers.now) }
 {
     let mut values = Vec::new(alloc);

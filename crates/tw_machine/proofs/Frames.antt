@@ -1,5 +1,6 @@
 -- From the event of one frame to all frames.
-use Rattle.std.proofs.Common.{◌≡◌, ◌<◌, ◌^◌, ℕ, Bool, true, false, nat_eq, List, refl, sym, ap, subst, ◌∙◌, IfSome}
+use Rattle.std.proofs.Common.{◌≡◌, ◌<◌, ◌^◌, ℕ, zero, suc, Bool, true, false, nat_eq, List, refl, sym, ap, subst, ◌∙◌, arith, IfSome}
+use Rattle.std.proofs.lemmas.Bool.Decides.{nat_tests}
 use Rattle.std.specs.declared.option.Option.{Option}
 use Rattle.std.specs.declared.option.Option.TheVariants.{None, Some}
 use Rattle.std.specs.Prelude.{Result, Ok, Err}
@@ -8,12 +9,16 @@ use Rattle.std.specs.BTreeMap.{BTreeMap, get_by, WritesThrough}
 use Rattle.tw_types.specs.declared.actor.Actor.{Actor}
 use Rattle.tw_types.specs.Actor.{actor_cmp}
 use Rattle.tw_types.specs.Outcome.{Outcome, Went, NotEnabled}
+use Rattle.tw_code.specs.declared.instr.Instr.{Instr}
 use Rattle.tw_code.specs.declared.procedure.Procedure.{Procedure}
 use Rattle.tw_code.specs.machine.Bounds.{AreBelow}
 use Rattle.tw_code.specs.machine.State.{Frame, State}
-use Rattle.tw_code.specs.machine.Machine.{call_event, end_event, local_event}
+use Rattle.tw_code.specs.machine.Arguments.{procedure_of}
+use Rattle.tw_code.specs.machine.Position.{Position}
+use Rattle.tw_code.specs.machine.Machine.{call_event, end_event, local_event, local_step, local_steps}
 use Rattle.tw_instr.specs.declared.stopped.Stopped.{Stopped}
-use Rattle.tw_instr.specs.Attempts.{Changes}
+use Rattle.tw_instr.specs.Attempts.{Changes, IsStopped}
+use Rattle.tw_instr.proofs.Stops.{stopped_then}
 use Rattle.tw_machine.specs.declared.tables.Tables.{Tables}
 use Rattle.tw_machine.specs.Events.{FrameComes, FramesCome, HaveRoom, TablesCome, with_frames, with_tables}
 use Rattle.tw_machine.specs.Parts.{frames_of}
@@ -52,6 +57,22 @@ module _ (program : List Procedure) (actor : Actor) (s : State) (free : get s.fr
 
   pub end_idle : end_event program actor s ≡ NotEnabled
   end_idle = rw free refl
+
+-- ---- local instructions of a frame
+
+some_steps : (n : ℕ) → (n ≡ 0 → ⊥) → nat_eq n 0 ≡ false
+some_steps n h = grind (arith, nat_tests)
+
+steps_stopped : (n : ℕ) (code : List Instr) (at : Position) (why : Stopped) → nat_eq n 0 ≡ false → IsStopped (local_step code at) why → IsStopped (local_steps n code at) why
+steps_stopped zero code at why some h = cc
+steps_stopped (suc n) code at why some h = stopped_then (local_step code at) (local_steps n code) why h
+
+pub local_stopped : (program : List Procedure) (f : Frame) (number : ℕ) (p : Procedure) (code : List Instr) (at : Position) (n : ℕ) (why : Stopped) → (n ≡ 0 → ⊥) → number ≡ f.procedure
+    → procedure_of program number ≡ Ok p → code ≡ p.code → at ≡ f.position → IsStopped (local_step code at) why → (s : State) (actor : Actor) → get s.frames actor ≡ Some f → IsStopped (local_event program actor n s) why
+local_stopped program f number p code at n why some same here is place h s actor there =
+    let found : procedure_of program f.procedure ≡ Ok p = ap (procedure_of program) (sym same) ∙ here in
+    let stop : IsStopped (local_steps n p.code f.position) why = subst (λ (x : Position). IsStopped (local_steps n p.code x) why) place (subst (λ (is : List Instr). IsStopped (local_steps n is at) why) is (steps_stopped n code at why (some_steps n some) h)) in
+    rw (some_steps n some, there, found) (stopped_then (local_steps n p.code f.position) _ why stop)
 
 -- ---- an actor with this frame
 

@@ -1,10 +1,11 @@
 -- What comes of a take.
 use Rattle.std.proofs.Common.{◌≡◌, ℕ, true, false, List, refl, sym, ap, subst, ◌∙◌, is_some}
-use Rattle.std.specs.Prelude.{Ok}
+use Rattle.std.specs.Prelude.{Result, Ok, Err}
 use Rattle.std.specs.declared.option.Option.{Option}
 use Rattle.std.specs.declared.option.Option.TheVariants.{None, Some}
 use Rattle.std.specs.FinMap.{get, remove}
 use Rattle.tw_types.specs.declared.actor.Actor.{Actor}
+use Rattle.tw_types.specs.declared.cause.Cause.{Cause}
 use Rattle.tw_types.specs.Actor.{is_in}
 use Rattle.tw_types.specs.Layout.{ActorCounts}
 use Rattle.tw_types.specs.Outcome.{Went, NotEnabled, ◌>>=◌, outcome_of}
@@ -13,8 +14,9 @@ use Rattle.tw_code.specs.declared.procedure.Procedure.{Procedure}
 use Rattle.tw_code.specs.machine.State.{Frame, State, frame_of, with_frame}
 use Rattle.tw_code.specs.machine.Machine.{take_event}
 use Rattle.tw_instr.specs.declared.failure.Failure.{Failure}
-use Rattle.tw_instr.specs.Attempts.{Fails, IsStopped, stopped_by}
+use Rattle.tw_instr.specs.Attempts.{MayFail, IsStopped, stopped_by}
 use Rattle.tw_instr.proofs.Stops.{fails_then}
+use Rattle.tw_machine.specs.Memory.{IsEnabled}
 
 -- the state without a task
 abbrev pub without : State → ℕ → State
@@ -49,8 +51,15 @@ module _ (program : List Procedure) (layout : ActorCounts) (actor : Actor) (s : 
           by None is b = rw (inside, is, empty) refl
           by (Some f) is b = cc
 
-      pub take_stopped : (e : ℕ × Task) (why : Failure) → best actor s.tasks ≡ Some e → Fails (frame_of program e.0 e.1) why → IsStopped (take_event program layout actor s) (stopped_by why)
+      pub take_stopped : (e : ℕ × Task) (why : Failure) → best actor s.tasks ≡ Some e → MayFail (frame_of program e.0 e.1) why → IsStopped (take_event program layout actor s) (stopped_by why)
       take_stopped e why first fails = subst (λ o. IsStopped o (stopped_by why)) (sym (begins e first)) (fails_then _ _ why fails)
+
+      pub take_enabled : (e : ℕ × Task) → best actor s.tasks ≡ Some e → IsEnabled (take_event program layout actor s)
+      take_enabled e first = by (frame_of program e.0 e.1) (begins e first)
+        where
+          by : (r : Result Frame Cause) → take_event program layout actor s ≡ (outcome_of r >>= λ frame. Went (with_frame (without s e.0) actor frame)) → IsEnabled (take_event program layout actor s)
+          by (Ok frame) is = rw is tt
+          by (Err cause) is = rw is tt
 
       pub take_goes : (e : ℕ × Task) (frame : Frame) → best actor s.tasks ≡ Some e → frame_of program e.0 e.1 ≡ Ok frame
           → take_event program layout actor s ≡ Went (with_frame (without s e.0) actor frame)

@@ -1,11 +1,13 @@
 -- Events, over the parts that they change, whatever else is in the state.
-use Rattle.std.specs.Prelude.{◌≡◌, ◌<◌, ◌^◌, List, Some, Result, Ok, Err}
+use Rattle.std.specs.Prelude.{◌≡◌, ◌<◌, ◌^◌, ℕ, List, Some, Result, Ok, Err}
 use Rattle.std.specs.FinMap.{get}
 use Rattle.tw_types.specs.declared.actor.Actor.{Actor}
 use Rattle.tw_types.specs.declared.cause.Cause.{Cause}
 use Rattle.tw_types.specs.Outcome.{Outcome, Went}
 use Rattle.tw_types.specs.Result.{◌>>=◌}
 use Rattle.tw_code.specs.declared.instr.Instr.{Instr}
+use Rattle.tw_code.specs.declared.instr.Instr.TheVariants.{Local as LOCAL}
+use Rattle.tw_code.specs.declared.instr.LocalInstr.{LocalInstr}
 use Rattle.tw_code.specs.declared.procedure.Procedure.{Procedure}
 use Rattle.tw_code.specs.machine.Arguments.{procedure_of}
 use Rattle.tw_code.specs.machine.Machine.{call_by, instr_at}
@@ -40,6 +42,10 @@ abbrev pub instr_of : List Procedure → Frame → Result Instr Cause
 instr_of program frame = do
   p ← procedure_of program frame.procedure
   instr_at p.code frame.position.place
+
+-- a local instruction stands at the place
+abbrev pub IsLocalAt : List Instr → ℕ → Type 0
+IsLocalAt code place = (i : LocalInstr) × (instr_at code place ≡ Ok (LOCAL i))
 
 -- what comes of it in each state where the actor has this frame: the state with the other frame, or what stops it
 -- and no change

@@ -1,11 +1,12 @@
 //! The plain machine.
 
-ghost use Rattle.std.specs.Prelude.{◌≡◌, ℕ, ◌<◌, ◌+◌, ◌^◌, IfErr, IfOk, MatchResult, None};
+ghost use Rattle.std.specs.Prelude.{◌≡◌, ℕ, ◌<◌, ◌+◌, ◌^◌, Err, IfErr, IfOk, MatchResult, None};
 ghost use Rattle.tw_code.specs.machine.Bounds.{AreBelow, opening_bound, size_of};
 ghost use Rattle.tw_code.specs.machine.Ending.{ending};
 ghost use Rattle.tw_code.specs.machine.Opening.{opening};
 ghost use Rattle.tw_code.specs.machine.Machine.{step};
 ghost use Rattle.tw_instr.specs.Attempts.{Changes};
+ghost use Rattle.tw_machine.specs.Memory.{TakesMemory};
 ghost use Rattle.tw_machine.specs.Opening.{IsTold, refusal_of};
 
 use crate::opening::refusal_of;
@@ -88,6 +89,7 @@ impl Plain {
         requires small { AreBelow (2 ^ 63) self.old.state }
         requires size { size_of event < 2 ^ 63 }
         ensures steps { Changes (step self.old.program self.old.layout event self.old.state) self.old.state result self.new.state }
+        ensures memory { result ≡ Err Stopped.NoMemory → TakesMemory self.old.program self.old.layout event self.old.state }
         ensures program { self.new.program ≡ self.old.program }
         ensures layout { self.new.layout ≡ self.old.layout }
         ensures below { (bound : ℕ) → AreBelow bound self.old.state → AreBelow (bound + size_of event) self.new.state }

@@ -1,6 +1,6 @@
 //! The state of the machine.
 
-ghost use Rattle.std.specs.Prelude.{◌≡◌, ◌<◌, ◌≤◌, ◌^◌, length, option_map, true, false, IfOk};
+ghost use Rattle.std.specs.Prelude.{◌≡◌, ◌<◌, ◌≤◌, ◌^◌, length, option_map, true, false, Err, IfOk};
 ghost use Rattle.std.specs.Option.{MatchOption, option_copied};
 ghost use Rattle.std.specs.FinMap.{get};
 ghost use Rattle.std.specs.FinSet.{from_list};
@@ -16,6 +16,7 @@ ghost use Rattle.tw_code.specs.machine.Opening.{opened, opening_of};
 ghost use Rattle.tw_instr.specs.Attempts.{Changes};
 ghost use Rattle.tw_machine.specs.Parts.{rules_of, tasks_of};
 ghost use Rattle.tw_machine.specs.Due.{is_due};
+ghost use Rattle.tw_machine.specs.Memory.{TakesMemory};
 ghost use Rattle.tw_machine.specs.Opening.{nothing_opened};
 ghost use Rattle.tw_machine.specs.Parts.{frames_of};
 
@@ -151,7 +152,7 @@ impl State {
         self.tables.tasks.waiting()
     }
 
-    /// The notices that wait, in the order in which they came.
+    /// The notices that wait; the oldest first, which no clause says.
     pub fn notices(&self) -> &[Notice]
         ensures { from_list result.now ≡ self.now.notices }
     {
@@ -224,7 +225,8 @@ impl State {
         requires program { IsProgram program.now }
         requires small { AreBelow (2 ^ 63) self.old }
         requires size { size_of event < 2 ^ 63 }
-        ensures { Changes (step program.now layout event self.old) self.old result self.new }
+        ensures steps { Changes (step program.now layout event self.old) self.old result self.new }
+        ensures memory { result ≡ Err Stopped.NoMemory → TakesMemory program.now layout event self.old }
     {
         match event {
             Event::Take(actor) => {
@@ -251,7 +253,7 @@ impl State {
                 &mut self.frames,
                 actor,
             ),
-            Event::End(actor) => tasks::end(program, &mut self.frames, actor),
+            Event::End(actor) => Ok(tasks::end(program, &mut self.frames, actor)?),
             Event::Ask(engine, rule, parameter) => {
                 rules::ask(&mut self.tables, &self.frames, engine, rule, parameter)
             }
@@ -261,7 +263,7 @@ impl State {
                     rule,
                     parameter,
                 };
-                rules::deliver(layout, &mut self.tables, server, &notice)
+                Ok(rules::deliver(layout, &mut self.tables, server, &notice)?)
             }
             Event::Release(engine, rule) => {
                 rules::release(alloc, program, &mut self.tables, &self.frames, engine, rule)

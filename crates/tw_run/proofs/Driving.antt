@@ -18,20 +18,11 @@ use Rattle.tw_code.specs.machine.Opening.{opening, reached}
 use Rattle.tw_code.specs.machine.State.{State}
 use Rattle.tw_code.proofs.Growth.{below_more}
 use Rattle.tw_code.proofs.Next.{idle_is_quiet}
+use Rattle.tw_code.proofs.Runs.{run_more}
 use Rattle.tw_run.specs.Run.{EndsSo, IsOpened, IsRun, Setup}
 use Rattle.tw_run.specs.driver.Driven.{IsDriven, end_of}
 use Rattle.tw_run.specs.driver.Turns.{IsFound, IsIdle, most_steps}
 use Rattle.tw_run.proofs.Going.{found_enabled}
-
-run_more : (program : List Procedure) (layout : ActorCounts) (history : List Event) (event : Event) (s t u : State)
-    → run program layout history s ≡ Went t → step program layout event t ≡ Went u → run program layout (history ++ event ∷ []) s ≡ Went u
-unfolding run
-run_more program layout [] event s t u e h =
-    let same : s ≡ t = cc in
-    ap (λ (o : Outcome State). o >>= run program layout []) (ap (step program layout event) same ∙ h)
-run_more program layout (first ∷ history) event s t u e h =
-    let one = went_first (step program layout first s) (run program layout history) t e in
-    ap (λ (o : Outcome State). o >>= run program layout (history ++ event ∷ [])) one.1 ∙ run_more program layout history event one.0 t u one.2 h
 
 -- ---- what was told of a machine that keeps its program and layout
 

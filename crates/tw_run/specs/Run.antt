@@ -20,7 +20,8 @@ pub record Setup : Type 0 where
   pub limit : ℕ
 
 -- what the end of a run says of its history and the state that this leaves: nothing is left to do, and no rule is
--- pending, or so many are; or it has all its events and something is left; or its next event traps
+-- pending, or so many are; or it has all its events and something is left; or some event traps there, and the number is
+-- that of an event behind the history
 abbrev pub EndsSo : List Procedure → Setup → List Event → State → RunEnd → Type 0
 EndsSo program setup history s run_end.Quiet = ending s ≡ Some Quiet
 EndsSo program setup history s (run_end.Stuck rules) = ending s ≡ Some (Stuck rules)

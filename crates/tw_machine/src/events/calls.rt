@@ -1,16 +1,20 @@
 //! The instructions that are neither local nor RET: those on data, RULE and PUT.
 
-ghost use Rattle.std.specs.Prelude.{◌≡◌, ◌<◌, ◌^◌, IfSome, List};
+ghost use Rattle.std.specs.Prelude.{◌≡◌, ◌<◌, ◌^◌, Err, IfSome, IsOk, List, Some, true};
 ghost use Rattle.std.specs.FinMap.{get};
 ghost use Rattle.tw_types.specs.declared.actor.Actor.{Actor as AnActor};
 ghost use Rattle.tw_code.specs.declared.instr.Instr.TheVariants.{Data as DATA, Put as PUT, Rule as RULE};
 ghost use Rattle.tw_code.specs.declared.procedure.Procedure.{Procedure as AProcedure};
 ghost use Rattle.tw_code.specs.format.Program.{IsProgram};
+ghost use Rattle.tw_code.specs.machine.Data.{data_instr};
 ghost use Rattle.tw_code.specs.machine.Machine.{call_event};
 ghost use Rattle.tw_code.specs.machine.State.{State as Meaning};
 ghost use Rattle.tw_instr.specs.Attempts.{Changes};
+ghost use Rattle.tw_instr.specs.Contexts.{context};
+ghost use Rattle.tw_instr.specs.Memory.{takes_memory};
 ghost use Rattle.tw_instr.specs.Room.{HasRoom};
 ghost use Rattle.tw_machine.specs.Events.{CallComes, HaveRoom, TablesCome, with_frames, with_tables};
+ghost use Rattle.tw_machine.specs.Memory.{MayWant};
 ghost use Rattle.tw_machine.specs.Parts.{frames_of};
 
 use crate::rule::Rule;
@@ -21,28 +25,41 @@ use tw_code::{Action, DataInstr, Instr, Procedure};
 use tw_instr::{Frame, Named, Stopped, called, data_instr, instr_at, procedure_of, put_called};
 use tw_types::{Actor, Kind};
 
+/// Who does an instruction: an actor, in a procedure of this kind of the program.
+#[derive(Clone, Copy)]
+struct Caller<'a> {
+    program: &'a [Procedure],
+    kind: Kind,
+    actor: Actor,
+}
+
 /// The frame's task does a RULE.
 fn make_rule(
     alloc: Global,
-    program: &[Procedure],
-    kind: Kind,
-    actor: Actor,
+    caller: Caller,
     tables: &mut Tables,
     frame: &mut Frame,
     action: &Action,
 ) -> Result<(), Stopped>
-    requires program { IsProgram program.now }
+    requires program { IsProgram caller.program.now }
     requires place { frame.old.position.place < 2 ^ 63 }
     requires spent { frame.old.spent < 2 ^ 63 }
     requires room { HaveRoom tables.old }
-    ensures { (procedure : AProcedure) → procedure.kind ≡ kind → CallComes program.now actor procedure (RULE action.now) tables.old frame.old result tables.new frame.new }
+    ensures { (procedure : AProcedure) → procedure.kind ≡ caller.entry.kind → CallComes caller.entry.program.now caller.entry.actor procedure (RULE action.now) tables.old frame.old result tables.new frame.new }
 {
     let Named {
         task,
         params,
         rights,
-    } = called(alloc, program, kind, &tables.store, frame, action)?;
-    let rule = Rule::new(alloc, actor.number(), params, task)?;
+    } = called(
+        alloc,
+        caller.program,
+        caller.kind,
+        &tables.store,
+        frame,
+        action,
+    )?;
+    let rule = Rule::new(alloc, caller.actor.number(), params, task)?;
     tables.rules.add(rule)?;
     frame.go_behind(rights);
     Ok(())
@@ -51,24 +68,29 @@ fn make_rule(
 /// The frame's task does a PUT.
 fn put_task(
     alloc: Global,
-    program: &[Procedure],
-    kind: Kind,
-    actor: Actor,
+    caller: Caller,
     tables: &mut Tables,
     frame: &mut Frame,
     action: &Action,
 ) -> Result<(), Stopped>
-    requires program { IsProgram program.now }
+    requires program { IsProgram caller.program.now }
     requires place { frame.old.position.place < 2 ^ 63 }
     requires spent { frame.old.spent < 2 ^ 63 }
     requires room { HaveRoom tables.old }
-    ensures { (procedure : AProcedure) → procedure.kind ≡ kind → CallComes program.now actor procedure (PUT action.now) tables.old frame.old result tables.new frame.new }
+    ensures { (procedure : AProcedure) → procedure.kind ≡ caller.entry.kind → CallComes caller.entry.program.now caller.entry.actor procedure (PUT action.now) tables.old frame.old result tables.new frame.new }
 {
     let Named {
         task,
         params: _,
         rights,
-    } = put_called(alloc, program, kind, &tables.store, frame, action)?;
+    } = put_called(
+        alloc,
+        caller.program,
+        caller.kind,
+        &tables.store,
+        frame,
+        action,
+    )?;
     tables.tasks.put(task)?;
     frame.go_behind(rights);
     Ok(())
@@ -84,7 +106,8 @@ fn do_data(
     requires place { frame.old.position.place < 2 ^ 63 }
     requires spent { frame.old.spent < 2 ^ 63 }
     requires room { HasRoom tables.old.store }
-    ensures { (program : List AProcedure) (actor : AnActor) (procedure : AProcedure) → CallComes program actor procedure (DATA on_data) tables.old frame.old result tables.new frame.new }
+    ensures comes { (program : List AProcedure) (actor : AnActor) (procedure : AProcedure) → CallComes program actor procedure (DATA on_data) tables.old frame.old result tables.new frame.new }
+    ensures memory { result ≡ Err Stopped.NoMemory → (takes_memory on_data ≡ true) × IsOk (data_instr on_data (context tables.old.store tables.old.notices frame.old)) }
 {
     data_instr(
         alloc,
@@ -107,29 +130,19 @@ fn call_of(
     requires program { IsProgram program.now }
     requires spent { frame.old.spent < 2 ^ 63 }
     requires room { HaveRoom tables.old }
-    ensures { TablesCome (call_event program.now actor) actor tables.old frame.old result tables.new frame.new }
+    ensures comes { TablesCome (call_event program.now actor) actor tables.old frame.old result tables.new frame.new }
+    ensures memory { result ≡ Err Stopped.NoMemory → (s : Meaning) → get s.frames actor ≡ Some frame.old → MayWant program.now actor (with_tables s tables.old) }
 {
     let procedure = procedure_of(program, frame.procedure())?;
+    let caller = Caller {
+        program,
+        kind: procedure.kind,
+        actor,
+    };
     match instr_at(procedure.code.as_slice(), frame.place())? {
         Instr::Data(on_data) => do_data(alloc, *on_data, tables, frame),
-        Instr::Rule(action) => make_rule(
-            alloc,
-            program,
-            procedure.kind,
-            actor,
-            tables,
-            frame,
-            action,
-        ),
-        Instr::Put(action) => put_task(
-            alloc,
-            program,
-            procedure.kind,
-            actor,
-            tables,
-            frame,
-            action,
-        ),
+        Instr::Rule(action) => make_rule(alloc, caller, tables, frame, action),
+        Instr::Put(action) => put_task(alloc, caller, tables, frame, action),
         Instr::Local(_) | Instr::Ret => Err(Stopped::NotEnabled),
     }
 }
@@ -145,7 +158,8 @@ pub fn call(
     requires program { IsProgram program.now }
     requires spent { IfSome (get (frames_of frames.old.entries) actor) (λ frame. frame.spent < 2 ^ 63) }
     requires room { HaveRoom tables.old }
-    ensures { (s : Meaning) → let old = with_frames (with_tables s tables.old) (frames_of frames.old.entries) in Changes (call_event program.now actor old) old result (with_frames (with_tables s tables.new) (frames_of frames.new.entries)) }
+    ensures comes { (s : Meaning) → let old = with_frames (with_tables s tables.old) (frames_of frames.old.entries) in Changes (call_event program.now actor old) old result (with_frames (with_tables s tables.new) (frames_of frames.new.entries)) }
+    ensures memory { result ≡ Err Stopped.NoMemory → (s : Meaning) → MayWant program.now actor (with_frames (with_tables s tables.old) (frames_of frames.old.entries)) }
 {
     let Some(frame) = frames.get_mut(&actor) else {
         return Err(Stopped::NotEnabled);

@@ -1,6 +1,6 @@
 //! The events of rules and notices.
 
-ghost use Rattle.std.specs.Prelude.{◌≡◌, ◌<◌, ◌^◌, ◌==◌, ◌&&◌, nat_lt, false, true};
+ghost use Rattle.std.specs.Prelude.{◌≡◌, ◌<◌, ◌^◌, ◌==◌, ◌&&◌, nat_lt, false, true, Err};
 ghost use Rattle.std.specs.FinSet.{from_list};
 ghost use Rattle.std.specs.Option.{MatchOption, option_copied};
 ghost use Rattle.tw_types.specs.declared.notice.Notice.{Notice as ANotice};
@@ -8,9 +8,10 @@ ghost use Rattle.tw_types.specs.Outcome.{enabled};
 ghost use Rattle.tw_types.specs.Store.{server_of};
 ghost use Rattle.tw_code.specs.machine.Machine.{ask_event, deliver_event, own_rule, release_event};
 ghost use Rattle.tw_code.specs.machine.State.{State as Meaning};
-ghost use Rattle.tw_instr.specs.Attempts.{Changes};
+ghost use Rattle.tw_instr.specs.Attempts.{Changes, unless_barred};
 ghost use Rattle.tw_machine.specs.Due.{is_due};
 ghost use Rattle.tw_machine.specs.Events.{TablesChange, with_frames, with_tables};
+ghost use Rattle.tw_machine.specs.Memory.{AsksOpen, Goes};
 ghost use Rattle.tw_machine.specs.Parts.{frames_of};
 
 use crate::rule::Rule;
@@ -18,7 +19,7 @@ use crate::tables::Tables;
 use std::alloc::Global;
 use std::collections::BTreeMap;
 use tw_code::Procedure;
-use tw_instr::{Frame, Notices, Stopped, procedure_of};
+use tw_instr::{Barred, Frame, Notices, Stopped, procedure_of};
 use tw_types::{Actor, Cause, DatumId, Layout, Notice, RuleNo, Stage, Subscriber};
 
 /// The rule of the number, if the engine holds it and runs no task.
@@ -50,7 +51,8 @@ pub fn ask(
     number: RuleNo,
     parameter: u8,
 ) -> Result<(), Stopped>
-    ensures { TablesChange (ask_event engine number parameter) (frames_of frames.now.entries) tables.old result tables.new }
+    ensures asks { TablesChange (ask_event engine number parameter) (frames_of frames.now.entries) tables.old result tables.new }
+    ensures memory { result ≡ Err Stopped.NoMemory → (s : Meaning) → AsksOpen engine number parameter (with_frames (with_tables s tables.old) (frames_of frames.now.entries)) }
 {
     let Some(rule) = own_rule(tables, frames, engine, number) else {
         return Err(Stopped::NotEnabled);
@@ -106,11 +108,11 @@ pub fn deliver(
     tables: &mut Tables,
     server: u8,
     notice: &Notice,
-) -> Result<(), Stopped>
-    ensures { (s : Meaning) → Changes (deliver_event layout server notice.now (with_tables s tables.old)) (with_tables s tables.old) result (with_tables s tables.new) }
+) -> Result<(), Barred>
+    ensures { (s : Meaning) → Changes (deliver_event layout server notice.now (with_tables s tables.old)) (with_tables s tables.old) (unless_barred result) (with_tables s tables.new) }
 {
     if !is_of_server(layout, server, notice.datum) || !tables.notices.contains(notice) {
-        return Err(Stopped::NotEnabled);
+        return Err(Barred::NotEnabled);
     }
     tables.notices.remove(notice);
     tables
@@ -129,7 +131,8 @@ pub fn release(
     number: RuleNo,
 ) -> Result<(), Stopped>
     requires { tables.old.tasks.next < 2 ^ 63 }
-    ensures { TablesChange (release_event program.now engine number) (frames_of frames.now.entries) tables.old result tables.new }
+    ensures releases { TablesChange (release_event program.now engine number) (frames_of frames.now.entries) tables.old result tables.new }
+    ensures memory { result ≡ Err Stopped.NoMemory → (s : Meaning) → Goes (release_event program.now engine number (with_frames (with_tables s tables.old) (frames_of frames.now.entries))) }
 {
     let Some(rule) = own_rule(tables, frames, engine, number) else {
         return Err(Stopped::NotEnabled);

@@ -4,17 +4,18 @@ ghost use Rattle.std.specs.Prelude.{◌≡◌, ◌<◌, ◌^◌, IfSome, MatchRe
 ghost use Rattle.std.specs.FinMap.{get, remove};
 ghost use Rattle.tw_types.specs.declared.actor.Actor.{Actor as AnActor};
 ghost use Rattle.tw_types.specs.Outcome.{Went};
-ghost use Rattle.tw_code.specs.machine.Machine.{end_event, local_event, take_event};
+ghost use Rattle.tw_code.specs.machine.Machine.{end_event, local_event, local_step, standing_of, take_event};
 ghost use Rattle.tw_code.specs.machine.State.{State as Meaning};
-ghost use Rattle.tw_instr.specs.Attempts.{Changes, IsStopped};
-ghost use Rattle.tw_machine.specs.Events.{FrameComes, FramesCome, instr_of, with_frames, with_tasks};
+ghost use Rattle.tw_instr.specs.Attempts.{Changes, IsStopped, barred_by, unless_barred};
+ghost use Rattle.tw_machine.specs.Events.{FrameComes, FramesCome, IsLocalAt, instr_of, with_frames, with_tasks};
+ghost use Rattle.tw_machine.specs.Memory.{HasCome, IsEnabled, IsLocal};
 ghost use Rattle.tw_machine.specs.Parts.{frames_of};
 
 use crate::tasks::Tasks;
 use std::alloc::Global;
 use std::collections::BTreeMap;
 use tw_code::{Instr, Procedure};
-use tw_instr::{Frame, Stopped, instr_at, local_steps, procedure_of};
+use tw_instr::{Barred, Frame, Position, Stopped, instr_at, local_steps, procedure_of};
 use tw_types::{Actor, Cause, Layout};
 
 /// The actor takes a task.
@@ -26,7 +27,8 @@ pub fn take(
     frames: &mut BTreeMap<Actor, Frame>,
     actor: Actor,
 ) -> Result<(), Stopped>
-    ensures { (s : Meaning) → let old = with_frames (with_tasks s tasks.old) (frames_of frames.old.entries) in Changes (take_event program.now layout actor old) old result (with_frames (with_tasks s tasks.new) (frames_of frames.new.entries)) }
+    ensures takes { (s : Meaning) → let old = with_frames (with_tasks s tasks.old) (frames_of frames.old.entries) in Changes (take_event program.now layout actor old) old result (with_frames (with_tasks s tasks.new) (frames_of frames.new.entries)) }
+    ensures memory { result ≡ Err Stopped.NoMemory → (s : Meaning) → IsEnabled (take_event program.now layout actor (with_frames (with_tasks s tasks.old) (frames_of frames.old.entries))) }
 {
     if !layout.has(actor) || frames.contains_key(&actor) {
         return Err(Stopped::NotEnabled);
@@ -50,7 +52,8 @@ pub fn local(
 ) -> Result<(), Stopped>
     requires steps { steps < 2 ^ 63 }
     requires spent { IfSome (get (frames_of frames.old.entries) actor) (λ frame. frame.spent < 2 ^ 63) }
-    ensures { FramesCome (local_event program.now actor steps) (frames_of frames.old.entries) result (frames_of frames.new.entries) }
+    ensures goes { FramesCome (local_event program.now actor steps) (frames_of frames.old.entries) result (frames_of frames.new.entries) }
+    ensures memory { result ≡ Err Stopped.NoMemory → (s : Meaning) → HasCome IsLocal (standing_of program.now actor (with_frames s (frames_of frames.old.entries))) }
 {
     let Some(frame) = frames.get_mut(&actor) else {
         return Err(Stopped::NotEnabled);
@@ -66,15 +69,28 @@ fn local_of(
 ) -> Result<(), Stopped>
     requires steps { steps < 2 ^ 63 }
     requires spent { frame.old.spent < 2 ^ 63 }
-    ensures { FrameComes (λ actor. local_event program.now actor steps) frame.old result frame.new }
+    ensures goes { FrameComes (λ actor. local_event program.now actor steps) frame.old result frame.new }
+    ensures memory { result ≡ Err Stopped.NoMemory → (s : Meaning) (actor : AnActor) → get s.frames actor ≡ Some frame.old → HasCome IsLocal (standing_of program.now actor s) }
 {
     if steps == 0 {
         return Err(Stopped::NotEnabled);
     }
     let procedure = procedure_of(program, frame.procedure())?;
+    let code = procedure.code.as_slice();
+    must_be_local(code, frame.position())?;
     let mut position = frame.position().try_clone(alloc)?;
-    local_steps(alloc, procedure.code.as_slice(), &mut position, steps)?;
+    local_steps(alloc, code, &mut position, steps)?;
     frame.move_to(position, steps);
+    Ok(())
+}
+
+/// Stopped where no local instruction stands at the place.
+fn must_be_local(code: &[Instr], position: &Position) -> Result<(), Barred>
+    ensures { MatchResult result (λ _. IsLocalAt code.now position.now.place) (λ why. IsStopped (local_step code.now position.now) (barred_by why)) }
+{
+    let Instr::Local(_) = instr_at(code, position.place())? else {
+        return Err(Barred::NotEnabled);
+    };
     Ok(())
 }
 
@@ -88,15 +104,15 @@ fn instr_of<'a>(program: &'a [Procedure], frame: &Frame) -> Result<&'a Instr, Ca
 }
 
 /// Stopped where the actor's task can't end.
-fn may_end(program: &[Procedure], frame: &Frame) -> Result<(), Stopped>
-    ensures { (s : Meaning) (actor : AnActor) → get s.frames actor ≡ Some frame.now → MatchResult result (λ _. end_event program.now actor s ≡ Went (with_frames s (remove s.frames actor))) (IsStopped (end_event program.now actor s)) }
+fn may_end(program: &[Procedure], frame: &Frame) -> Result<(), Barred>
+    ensures { (s : Meaning) (actor : AnActor) → get s.frames actor ≡ Some frame.now → MatchResult result (λ _. end_event program.now actor s ≡ Went (with_frames s (remove s.frames actor))) (λ why. IsStopped (end_event program.now actor s) (barred_by why)) }
 {
     let instr = instr_of(program, frame)?;
     let Instr::Ret = instr else {
-        return Err(Stopped::NotEnabled);
+        return Err(Barred::NotEnabled);
     };
     if !frame.is_clear() {
-        return Err(Stopped::Trap(Cause::RightLeft));
+        return Err(Barred::Trap(Cause::RightLeft));
     }
     Ok(())
 }
@@ -106,11 +122,11 @@ pub fn end(
     program: &[Procedure],
     frames: &mut BTreeMap<Actor, Frame>,
     actor: Actor,
-) -> Result<(), Stopped>
-    ensures { FramesCome (end_event program.now actor) (frames_of frames.old.entries) result (frames_of frames.new.entries) }
+) -> Result<(), Barred>
+    ensures { FramesCome (end_event program.now actor) (frames_of frames.old.entries) (unless_barred result) (frames_of frames.new.entries) }
 {
     let Some(frame) = frames.get(&actor) else {
-        return Err(Stopped::NotEnabled);
+        return Err(Barred::NotEnabled);
     };
     may_end(program, frame)?;
     let _frame = frames.remove(&actor);

@@ -3,7 +3,8 @@ use Rattle.tw_instr.specs.Parts.{bare, data_of}
 use Rattle.tw_instr.proofs.Live.{found, written, same}
 use Rattle.std.specs.FinMap.{insert}
 use Rattle.tw_types.specs.StoreCalls.{with_subscriber}
-use Rattle.tw_instr.proofs.Views.{changed_is, absent_is, on_ok, on_err}
+use Rattle.tw_datum.proofs.Members.{on_ok}
+use Rattle.tw_instr.proofs.Views.{changed_is, absent_is, on_err}
 use Rattle.tw_instr.proofs.changes.subscribe_in.Goals as goal
 
 pub returns-in_default-clause-noted : goal.returns-in_default-clause-noted

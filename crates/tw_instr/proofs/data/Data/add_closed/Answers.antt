@@ -2,7 +2,7 @@ use Rattle.std.proofs.Common.{ap, ◌∙◌}
 use Rattle.tw_types.specs.Store.{added}
 use Rattle.tw_datum.specs.Kept.{closed_datum}
 use Rattle.tw_instr.proofs.Live.{content_kept}
-use Rattle.tw_instr.proofs.Views.{on_ok}
+use Rattle.tw_datum.proofs.Members.{on_ok}
 use Rattle.tw_instr.proofs.data.Data.add_closed.Goals as goal
 
 pub returns-clause-made : goal.returns-clause-made

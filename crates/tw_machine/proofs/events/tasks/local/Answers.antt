@@ -8,8 +8,8 @@ use Rattle.tw_types.proofs.Maps.{found_view}
 use Rattle.tw_machine.proofs.Frames.{is_few, local_idle, frames_come}
 use Rattle.tw_machine.proofs.events.tasks.local.Goals as goal
 
-pub returns-in_default : goal.returns-in_default
-returns-in_default c = λ s.
+pub returns-in_default-clause-goes : goal.returns-in_default-clause-goes
+returns-in_default-clause-goes c = λ s.
     let free = found_view actor_cmp_total actor_cmp-IsAntisymmetric c.args.frames.now c.args.actor None c.in_default.ensures.value in (
       local_idle c.args.program.now c.args.actor (with_frames s (frames_of c.args.frames.now.entries)) free c.args.steps,
       ap (λ m. with_frames s (frames_of m.entries)) c.get_mut.follows.holds-at-none,
@@ -18,6 +18,11 @@ returns-in_default c = λ s.
 pub local_of-requires-clause-spent : goal.local_of-requires-clause-spent
 local_of-requires-clause-spent c = is_few _ _ _ (found_view actor_cmp_total actor_cmp-IsAntisymmetric c.args.frames.now c.args.actor (Some c.in-Some.frame.now) c.in-Some.ensures.value) c.requires.spent
 
-pub returns : goal.returns
-returns c = frames_come c.args.frames.now (c.get_mut.follows.lender c.local_of.new.frame) c.args.actor c.in-Some.frame.now c.local_of.new.frame c.in-Some.ensures.value (c.get_mut.follows.holds c.local_of.new.frame)
-    (λ actor. local_event c.args.program.now actor c.args.steps) c.local_of.result c.local_of.ensures
+pub returns-clause-goes : goal.returns-clause-goes
+returns-clause-goes c = frames_come c.args.frames.now (c.get_mut.follows.lender c.local_of.new.frame) c.args.actor c.in-Some.frame.now c.local_of.new.frame c.in-Some.ensures.value (c.get_mut.follows.holds c.local_of.new.frame)
+    (λ actor. local_event c.args.program.now actor c.args.steps) c.local_of.result c.local_of.ensures.goes
+
+pub returns-clause-memory : goal.returns-clause-memory
+returns-clause-memory c = λ is s.
+    c.local_of.ensures.memory is (with_frames s (frames_of c.args.frames.now.entries)) c.args.actor
+    (found_view actor_cmp_total actor_cmp-IsAntisymmetric c.args.frames.now c.args.actor (Some c.in-Some.frame.now) c.in-Some.ensures.value)

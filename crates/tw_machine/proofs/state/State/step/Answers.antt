@@ -1,4 +1,5 @@
 use Rattle.std.proofs.Common.{◌^◌, subst, sym}
+use Rattle.std.proofs.lemmas.Result.{err_from_is_err_and}
 use Rattle.tw_code.specs.machine.Bounds.{AreBelow}
 use Rattle.tw_code.specs.machine.State.{State}
 use Rattle.tw_code.specs.machine.Machine.{step}
@@ -15,30 +16,57 @@ call-requires-clause-spent c = few_at (2 ^ 63) (the_view c.self.inside) c.in-Cal
 pub call-requires-clause-room : goal.call-requires-clause-room
 call-requires-clause-room c = room_below (the_view c.self.inside) c.self.inside.tables (subst (λ (s : State). AreBelow (2 ^ 63) s) (sym c.self.view_is) c.requires.small)
 
-pub returns-in-Take : goal.returns-in-Take
+pub returns-in-Take-clause-steps : goal.returns-in-Take-clause-steps
 unfolding step
-returns-in-Take c = rw (c.in-Take.is, ← c.self.view_is) (c.take.ensures (the_view c.self.inside))
+returns-in-Take-clause-steps c = rw (c.in-Take.is, ← c.self.view_is) (c.take.ensures.takes (the_view c.self.inside))
 
-pub returns-in-Local : goal.returns-in-Local
+pub returns-in-Local-clause-steps : goal.returns-in-Local-clause-steps
 unfolding step
-returns-in-Local c = rw (c.in-Local.is, ← c.self.view_is) (c.local.ensures (the_view c.self.inside))
+returns-in-Local-clause-steps c = rw (c.in-Local.is, ← c.self.view_is) (c.local.ensures.goes (the_view c.self.inside))
 
-pub returns-in-Call : goal.returns-in-Call
+pub returns-in-Call-clause-steps : goal.returns-in-Call-clause-steps
 unfolding step
-returns-in-Call c = rw (c.in-Call.is, ← c.self.view_is) (c.call.ensures (the_view c.self.inside))
+returns-in-Call-clause-steps c = rw (c.in-Call.is, ← c.self.view_is) (c.call.ensures.comes (the_view c.self.inside))
 
-pub returns-in-End : goal.returns-in-End
+pub returns-in_ok-end-in-End-clause-steps : goal.returns-in_ok-end-in-End-clause-steps
 unfolding step
-returns-in-End c = rw (c.in-End.is, ← c.self.view_is) (c.end.ensures (the_view c.self.inside))
+returns-in_ok-end-in-End-clause-steps c = rw (c.in-End.is, ← c.self.view_is) (c.in_ok-end-in-End.ensures (the_view c.self.inside))
 
-pub returns-in-Ask : goal.returns-in-Ask
+pub returns-in_err-end-in-End-clause-steps : goal.returns-in_err-end-in-End-clause-steps
 unfolding step
-returns-in-Ask c = rw (c.in-Ask.is, ← c.self.view_is) (c.ask.ensures (the_view c.self.inside))
+returns-in_err-end-in-End-clause-steps c =
+    let p = err_from_is_err_and c.from_residual.result c.from_residual.ensures.1 in
+    rw (p.1, p.2, c.in-End.is, ← c.self.view_is) (c.in_err-end-in-End.ensures (the_view c.self.inside))
 
-pub returns-in-Deliver : goal.returns-in-Deliver
+pub returns-in-Ask-clause-steps : goal.returns-in-Ask-clause-steps
 unfolding step
-returns-in-Deliver c = rw (c.in-Deliver.is, ← c.self.view_is) (c.deliver.ensures (the_view c.self.inside))
+returns-in-Ask-clause-steps c = rw (c.in-Ask.is, ← c.self.view_is) (c.ask.ensures.asks (the_view c.self.inside))
 
-pub returns-in-Release : goal.returns-in-Release
+pub returns-in_ok-deliver-in-Deliver-clause-steps : goal.returns-in_ok-deliver-in-Deliver-clause-steps
 unfolding step
-returns-in-Release c = rw (c.in-Release.is, ← c.self.view_is) (c.release.ensures (the_view c.self.inside))
+returns-in_ok-deliver-in-Deliver-clause-steps c = rw (c.in-Deliver.is, ← c.self.view_is) (c.in_ok-deliver-in-Deliver.ensures (the_view c.self.inside))
+
+pub returns-in_err-deliver-in-Deliver-clause-steps : goal.returns-in_err-deliver-in-Deliver-clause-steps
+unfolding step
+returns-in_err-deliver-in-Deliver-clause-steps c =
+    let p = err_from_is_err_and c.from_residual-in_err-deliver-in-Deliver.result c.from_residual-in_err-deliver-in-Deliver.ensures.1 in
+    rw (p.1, p.2, c.in-Deliver.is, ← c.self.view_is) (c.in_err-deliver-in-Deliver.ensures (the_view c.self.inside))
+
+pub returns-in-Release-clause-steps : goal.returns-in-Release-clause-steps
+unfolding step
+returns-in-Release-clause-steps c = rw (c.in-Release.is, ← c.self.view_is) (c.release.ensures.releases (the_view c.self.inside))
+
+pub returns-in-Take-clause-memory : goal.returns-in-Take-clause-memory
+returns-in-Take-clause-memory c = rw (c.in-Take.is, ← c.self.view_is) (λ is. c.take.ensures.memory is (the_view c.self.inside))
+
+pub returns-in-Local-clause-memory : goal.returns-in-Local-clause-memory
+returns-in-Local-clause-memory c = rw (c.in-Local.is, ← c.self.view_is) (λ is. c.local.ensures.memory is (the_view c.self.inside))
+
+pub returns-in-Call-clause-memory : goal.returns-in-Call-clause-memory
+returns-in-Call-clause-memory c = rw (c.in-Call.is, ← c.self.view_is) (λ is. c.call.ensures.memory is (the_view c.self.inside))
+
+pub returns-in-Ask-clause-memory : goal.returns-in-Ask-clause-memory
+returns-in-Ask-clause-memory c = rw (c.in-Ask.is, ← c.self.view_is) (λ is. c.ask.ensures.memory is (the_view c.self.inside))
+
+pub returns-in-Release-clause-memory : goal.returns-in-Release-clause-memory
+returns-in-Release-clause-memory c = rw (c.in-Release.is, ← c.self.view_is) (λ is. c.release.ensures.memory is (the_view c.self.inside))

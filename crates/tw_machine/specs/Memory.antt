@@ -1,0 +1,72 @@
+-- Which events take memory, and when: want of memory is told of no other.
+use Rattle.std.specs.Prelude.{◌≡◌, ℕ, true, false, List}
+use Rattle.tw_types.specs.declared.actor.Actor.{Actor}
+use Rattle.tw_types.specs.declared.event.Event.{Event}
+use Rattle.tw_types.specs.declared.event.Event.TheVariants.{Take, Local, Call, End, Ask, Deliver, Release}
+use Rattle.tw_types.specs.Layout.{ActorCounts}
+use Rattle.tw_types.specs.Outcome.{Outcome, Went, NotEnabled, Trap}
+use Rattle.tw_types.specs.Rule.{Rule}
+use Rattle.tw_types.specs.Store.{Datum, is_closed}
+use Rattle.tw_code.specs.declared.instr.Instr.{Instr}
+use Rattle.tw_code.specs.declared.instr.Instr.TheVariants as instr
+use Rattle.tw_code.specs.declared.procedure.Procedure.{Procedure}
+use Rattle.tw_code.specs.machine.Machine.{Standing, ask_event, asked, call_event, release_event, standing_of, take_event}
+use Rattle.tw_code.specs.machine.State.{State}
+use Rattle.tw_instr.specs.Memory.{takes_memory}
+
+-- ---- what comes of an event
+
+abbrev pub Goes : {A : Type 0} → Outcome A → Type 0
+Goes (Went x) = Unit {0}
+Goes NotEnabled = ⊥
+Goes (Trap cause) = ⊥
+
+-- it goes or traps
+abbrev pub IsEnabled : {A : Type 0} → Outcome A → Type 0
+IsEnabled (Went x) = Unit {0}
+IsEnabled NotEnabled = ⊥
+IsEnabled (Trap cause) = Unit {0}
+
+-- ---- instructions
+
+abbrev pub IsLocal : Instr → Type 0
+IsLocal (instr.Local i) = Unit {0}
+IsLocal (instr.Data i) = ⊥
+IsLocal (instr.Rule action) = ⊥
+IsLocal (instr.Put action) = ⊥
+IsLocal instr.Ret = ⊥
+
+-- one on data takes memory behind all that it asks; RULE and PUT copy their arguments before
+abbrev pub CallTakesMemory : Outcome State → Instr → Type 0
+CallTakesMemory o (instr.Local i) = ⊥
+CallTakesMemory o (instr.Data i) = (takes_memory i ≡ true) × Goes o
+CallTakesMemory o (instr.Rule action) = Unit {0}
+CallTakesMemory o (instr.Put action) = Unit {0}
+CallTakesMemory o instr.Ret = ⊥
+
+-- a task runs there, and this holds of the instruction that it has come to
+abbrev pub HasCome : (Instr → Type 0) → Outcome Standing → Type 0
+HasCome P (Went at) = P at.instr
+HasCome P NotEnabled = ⊥
+HasCome P (Trap cause) = ⊥
+
+-- the actor's task has come to such an instruction
+abbrev pub MayWant : List Procedure → Actor → State → Type 0
+MayWant program actor s = HasCome (CallTakesMemory (call_event program actor s)) (standing_of program actor s)
+
+-- ---- events
+
+-- the engine asks for an open datum, which gets a subscriber
+abbrev pub AsksOpen : ℕ → ℕ → ℕ → State → Type 0
+AsksOpen engine number parameter s =
+    (rule : Rule) × (id : ℕ) × (x : Datum) × (ask_event engine number parameter s ≡ Went (asked s number rule parameter id x)) × (is_closed x ≡ false)
+
+-- A take copies values as it asks for their types, and local instructions change a copy of the position.
+abbrev pub TakesMemory : List Procedure → ActorCounts → Event → State → Type 0
+TakesMemory program layout (Take actor) s = IsEnabled (take_event program layout actor s)
+TakesMemory program layout (Local actor n) s = HasCome IsLocal (standing_of program actor s)
+TakesMemory program layout (Call actor) s = MayWant program actor s
+TakesMemory program layout (End actor) s = ⊥
+TakesMemory program layout (Ask engine number parameter) s = AsksOpen engine number parameter s
+TakesMemory program layout (Deliver server datum rule parameter) s = ⊥
+TakesMemory program layout (Release engine number) s = Goes (release_event program engine number s)
