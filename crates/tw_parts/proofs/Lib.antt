@@ -1,0 +1,9 @@
+pub mod DataNames
+pub mod Registers
+pub mod Left
+pub mod ValueRegisters
+pub mod Stores
+pub mod Gets
+pub mod News
+pub mod Copies
+pub mod Drops

@@ -1,0 +1,3 @@
+//! Instructions on data.
+
+mod scalars;
