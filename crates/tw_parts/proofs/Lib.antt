@@ -1,9 +1,12 @@
 pub mod DataNames
 pub mod Registers
-pub mod Left
 pub mod ValueRegisters
+pub mod Left
 pub mod Stores
 pub mod Gets
 pub mod News
 pub mod Copies
 pub mod Drops
+pub mod Inserts
+pub mod Looks
+pub mod Sizes

@@ -2,7 +2,7 @@
 use Rattle.tw_types.specs.declared.param.Mode.TheVariants as mode
 use Rattle.tw_rights.specs.declared.held.Held.TheVariants as held
 use Rattle.tw_store.specs.Slots.{Places}
-use Rattle.tw_parts.proofs.DataNames.{◌≡◌, ◌⊎◌, ◌∙◌, ℕ, zero, suc, Bool, true, false, ◌&&◌, List, [], ◌∷◌, Option, Some, None, refl, sym, ap, subst, slice_index_or, slice_set, option_map, inl, inr, is_none, same_Some, Mode, is_closed_mode, is_read, is_write, Held, bare_file, id_of, kind_at, kinds_of, writes, Right, passes, RightType, Typing, right_at, passed, FrameView, ArePlaced, IsAt, kinds_in, right_in, typed_writes}
+use Rattle.tw_parts.proofs.DataNames.{◌≡◌, ◌⊎◌, ◌∙◌, ◌<◌, ◌≤◌, arith, ℕ, zero, suc, Bool, true, false, ◌&&◌, List, [], ◌∷◌, Option, Some, None, refl, sym, ap, subst, slice_index_or, slice_set, option_map, inl, inr, is_none, same_Some, Mode, is_closed_mode, is_read, is_write, Held, bare_file, id_of, kind_at, kinds_of, writes, Right, passes, RightType, Typing, right_at, passed, FrameView, ArePlaced, IsAt, kinds_in, right_in, typed_writes}
 
 -- ---- by the typing
 
@@ -89,6 +89,11 @@ pub set_again : (xs : List (Option Held)) (r : ℕ) (o : Option Held) → slice_
 set_again [] r o e = refl
 set_again (x ∷ xs) zero o e = ap (λ y. y ∷ xs) (sym e)
 set_again (x ∷ xs) (suc r) o e = ap (λ ys. x ∷ ys) (set_again xs r o e)
+
+-- what has no room is more than nothing
+pub more_than : (n room : ℕ) → (n ≤ room → false ≡ true) → 0 < n
+more_than zero room full = let wrong : false ≡ true = full (omega arith) in cc
+more_than (suc n) room full = omega arith
 
 -- a right that is taken and put back leaves the task as it was
 pub put_back : (f taken g : FrameView) (r : ℕ) (h back : Held) → slice_index_or f.held r None ≡ Some h → taken ≡ record f { held = slice_set f.held r None } → back ≡ h

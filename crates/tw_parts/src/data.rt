@@ -1,3 +1,6 @@
 //! Instructions on data.
 
+mod containers;
+mod give;
+mod rights;
 mod scalars;

@@ -1,0 +1,109 @@
+//! Members of containers.
+
+ghost use Rattle.std.specs.Prelude.{◌≡◌, OnOk, OnErr};
+ghost use Rattle.tw_store.specs.Served.{IsUnchanged};
+ghost use Rattle.tw_code.specs.declared.instr.DataInstr.TheVariants as on_data;
+ghost use Rattle.tw_parts.specs.Data.{IsDone, IsLike, MayDo};
+
+use crate::data::give::give;
+use std::alloc::AllocError;
+use tw_frame::{Draft, Frame};
+use tw_rights::Held;
+use tw_store::{Inserted, Store};
+use tw_types::Value;
+
+/// INS: it is refused, and skips, where the subscript is there.
+pub(crate) fn insert_member(
+    store: &mut Store,
+    frame: &mut Frame<'_>,
+    container: u8,
+    subscript: u8,
+    member: u8,
+    skip: u16,
+) -> Result<(), AllocError>
+    requires { MayDo (on_data.Insert container subscript member skip) store.old frame.old }
+    ensures done { OnOk result (IsDone (on_data.Insert container subscript member skip) store.old store.new frame.old frame.new) }
+    ensures store { OnErr result (IsUnchanged store.old store.new) }
+    ensures frame { OnErr result (frame.new ≡ frame.old) }
+    ensures values { frame.new.position.values ≡ frame.old.position.values }
+{
+    let at = frame.int(subscript);
+    let right = frame.take_read(member);
+    match store.insert(frame.peek_write(container), at, right) {
+        Ok(Inserted::Done) => {
+            frame.go_on();
+            Ok(())
+        }
+        Ok(Inserted::Present(back)) => {
+            frame.fill(member, Held::Read(back));
+            frame.skip(skip);
+            Ok(())
+        }
+        Err(back) => {
+            frame.fill(member, Held::Read(back));
+            Err(AllocError)
+        }
+    }
+}
+
+/// LOOK: it is refused, and skips, where there is no member at the subscript.
+pub(crate) fn look_up(
+    store: &mut Store,
+    frame: &mut Frame<'_>,
+    member: u8,
+    container: u8,
+    subscript: u8,
+    skip: u16,
+)
+    requires { MayDo (on_data.Look member container subscript skip) store.old frame.old }
+    ensures done { IsDone (on_data.Look member container subscript skip) store.old store.new frame.old frame.new }
+    ensures values { frame.new.position.values ≡ frame.old.position.values }
+{
+    let at = frame.int(subscript);
+    match store.look(frame.peek_read(container), at) {
+        None => frame.skip(skip),
+        Some(right) => {
+            frame.fill(member, Held::Read(right));
+            frame.go_on();
+        }
+    }
+}
+
+/// SIZE.
+pub(crate) fn size(
+    store: &Store,
+    frame: &mut Frame<'_>,
+    draft: &mut Draft<'_>,
+    to: u8,
+    container: u8,
+)
+    requires may { MayDo (on_data.Size to container) store.now frame.old }
+    requires like { IsLike draft.old frame.old }
+    ensures done { IsDone (on_data.Size to container) store.now store.now frame.old frame.new }
+    ensures drafted { draft.new ≡ record draft.old { values = frame.new.position.values } }
+{
+    let size = store.size(frame.peek_read(container)) as i64;
+    give(frame, draft, to, Value::Int(size), Value::Int(size));
+}
+
+/// SUBAT: it is refused, and skips, where there are no more members than that.
+pub(crate) fn subscript_at(
+    store: &Store,
+    frame: &mut Frame<'_>,
+    draft: &mut Draft<'_>,
+    to: u8,
+    container: u8,
+    index: u8,
+    skip: u16,
+)
+    requires may { MayDo (on_data.SubscriptAt to container index skip) store.now frame.old }
+    requires like { IsLike draft.old frame.old }
+    ensures done { IsDone (on_data.SubscriptAt to container index skip) store.now store.now frame.old frame.new }
+    ensures drafted { draft.new ≡ record draft.old { values = frame.new.position.values } }
+{
+    let count = frame.int(index);
+    match store.subscript_at(frame.peek_read(container), count) {
+        Some(at) => give(frame, draft, to, Value::Int(at), Value::Int(at)),
+        None => frame.skip(skip),
+    }
+}
