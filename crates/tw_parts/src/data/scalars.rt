@@ -86,7 +86,9 @@ pub(crate) fn get_value(
     ensures drafted { draft.new ≡ record draft.old { values = frame.new.position.values } }
     ensures texts { OnErr result (IsTextAt frame.old.position.values to) }
 {
-    let copies = two_copies(store, alloc, frame.peek_read(datum))?;
+    let Ok(copies) = two_copies(store, alloc, frame.peek_read(datum)) else {
+        return Err(AllocError);
+    };
     let (value, copy) = copies;
     give(frame, draft, to, value, copy);
     Ok(())
