@@ -27,11 +27,11 @@ pub use Rattle.tw_code.specs.declared.flow.Way.TheVariants.{Completed, Skipped}
 pub use Rattle.tw_code.specs.declared.instr.DataInstr.{DataInstr}
 pub use Rattle.tw_code.specs.accepting.Flow.{data_flow, onward}
 pub use Rattle.tw_code.specs.accepting.Question.{passes}
-pub use Rattle.tw_code.specs.accepting.Typing.{after_data, asks_data}
+pub use Rattle.tw_code.specs.accepting.Typing.{after_data, asks_data, writes as typed_writes}
 pub use Rattle.tw_code.specs.machine.Data.{Context, data_instr, datum_at, datum_of, suits}
 pub use Rattle.tw_code.specs.machine.Position.{Position, at_goal, at_next_place, int_at, with_value}
 pub use Rattle.tw_code.specs.machine.Rights.{RightType, Typing, right_at}
 pub use Rattle.tw_no_trap.proofs.Values.{AllYes, passed}
-pub use Rattle.tw_frame.specs.Jobs.{DraftView, FrameView}
+pub use Rattle.tw_frame.specs.Jobs.{DoneView, DraftView, FrameView, draft_of}
 pub use Rattle.tw_parts.specs.Data.{IsDone, IsLive, IsTold, MayDo, sees}
-pub use Rattle.tw_parts.specs.Places.{ArePlaced, IsAt, kinds_in, right_in, typed_writes}
+pub use Rattle.tw_parts.specs.Fits.{ArePlaced, IsAt, kinds_in, right_in}

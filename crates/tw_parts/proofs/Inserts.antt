@@ -8,8 +8,9 @@ use Rattle.tw_code.specs.accepting.Typing.{reads_member_of, writes_container}
 use Rattle.tw_code.specs.machine.Data.{after_insert}
 use Rattle.tw_no_trap.proofs.Conditions.{insert_asks}
 use Rattle.tw_parts.proofs.DataNames.{◌≡◌, ◌∙◌, ◌+◌, ℕ, ℤ, zero, suc, true, false, not, List, [], ◌∷◌, None, Some, Option, IsSome, Ok, refl, sym, ap, inl, slice_get, slice_index_or, slice_set, same_Some, get, EmptyRegister, is_element_of, is_read, is_scalar, is_write, Notices, with_notices, ok_after, ok_first, there_then, Held, bare_file, kind_at, Right, Served, IsHere, IsNow, IsUnchanged, Completed, Skipped, Context, data_instr, at_goal, at_next_place, int_at, passes, passed, right_at, RightType, FrameView, IsDone, MayDo, sees, writes}
+use Rattle.tw_parts.specs.Data.{IsAbsent}
 use Rattle.tw_parts.proofs.Left.{emptied_done, moved_done, now_stays, same_ok}
-use Rattle.tw_parts.proofs.Registers.{and_first, its_id, kind_passed, placed_at, read_reads}
+use Rattle.tw_parts.proofs.Registers.{and_first, id_at, its_id, kind_passed, placed_at, read_reads}
 use Rattle.tw_parts.proofs.ValueRegisters.{int_is, int_same}
 
 -- ---- a write isn't where a read is
@@ -40,9 +41,9 @@ module _ (container subscript member skip : ℕ) (s : Served) (f : FrameView) (m
       kind_passed f.held m.typed.typing m.typed.kinds member false (reads_member_of box.0) (λ t e. read_reads t.mode (and_first (is_read t.mode) (is_element_of t.ty box.0.ty) e)) box.2
 
   -- the write right is there too when the member's is taken
-  pub insert_write : (taken : FrameView) → taken ≡ record f { held = slice_set f.held member None } → kind_at taken.held container ≡ Some true
+  pub insert_write : (taken : FrameView) → taken.held ≡ slice_set f.held member None → kind_at taken.held container ≡ Some true
   insert_write taken take =
-      ap (λ (n : FrameView). kind_at n.held container) take
+      ap (λ (file : List (Option Held)). kind_at file container) take
       ∙ still_writes f.held member container insert_read (kind_passed f.held m.typed.typing m.typed.kinds container true writes_container (λ t e. and_first (is_write t.mode) (not (is_scalar t.ty)) e) m.typed.asked.0)
 
   asks : (at : ℤ) × (id inner : ℕ) × (int_at f.position subscript ≡ Ok at) × (right_at (bare_file f.held) container ≡ Some id) × (right_at (bare_file f.held) member ≡ Some inner)
@@ -52,10 +53,10 @@ module _ (container subscript member skip : ℕ) (s : Served) (f : FrameView) (m
   pub insert_int : (n : ℤ) × (slice_get f.position.values subscript ≡ Some (value.Int n))
   insert_int = (asks.0, int_is f.position subscript asks.0 asks.3)
 
-  module _ (right : Right) (at : slice_index_or f.held member None ≡ Some (held.Read right)) (taken : FrameView) (take : taken ≡ record f { held = slice_set f.held member None })
+  module _ (right : Right) (at : slice_index_or f.held member None ≡ Some (held.Read right)) (taken : FrameView) (take : taken.held ≡ slice_set f.held member None)
       (box : Right) (box_at : slice_index_or taken.held container None ≡ Some (held.Write box)) (n : ℤ) (n_is : slice_get f.position.values subscript ≡ Some (value.Int n)) where
     box_was : slice_index_or f.held container None ≡ Some (held.Write box)
-    box_was = was_there f.held member container (held.Write box) (ap (λ (x : FrameView). slice_index_or x.held container None) (sym take) ∙ box_at)
+    box_was = was_there f.held member container (held.Write box) (ap (λ (file : List (Option Held)). slice_index_or file container None) (sym take) ∙ box_at)
 
     pub insert_here : IsHere s box
     insert_here = placed_at s.places f.held container (held.Write box) m.placed box_was
@@ -74,6 +75,9 @@ module _ (container subscript member skip : ℕ) (s : Served) (f : FrameView) (m
 
     pub insert_allowed : may_insert (get s.store.live box.id) (get s.store.live right.id) ≡ Ok tt
     insert_allowed = ap (λ id. may_insert (get s.store.live id) (get s.store.live right.id)) (sym (its_box asks.1 asks.4)) ∙ ap (λ id. may_insert (get s.store.live asks.1) (get s.store.live id)) (sym (its asks.2 asks.5)) ∙ asks.6
+
+    pub insert_absent : member_at s.store box.id n ≡ None → IsAbsent s f container subscript
+    insert_absent none = (box.id, n, id_at f.held container (held.Write box) box_was, n_is, none)
 
     comes : (ns : Notices) (k : Context) → data_instr (on_data.Insert container subscript member skip) (sees s ns f) ≡ Ok k → k ≡ after_insert (sees s ns f) box.id n right.id member skip (member_at s.store box.id n)
     comes ns k e =

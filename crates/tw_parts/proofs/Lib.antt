@@ -1,3 +1,17 @@
+mod Law
+mod Seating
+mod Notes
+mod Fitting
+mod Delivers
+mod Staging
+mod Releases
+mod Ends
+mod Goings
+mod Takes
+mod Copied
+mod Handing
+mod Kinding
+mod Naming
 pub mod DataNames
 pub mod Registers
 pub mod ValueRegisters

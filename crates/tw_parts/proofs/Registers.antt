@@ -95,6 +95,10 @@ pub more_than : (n room : ℕ) → (n ≤ room → false ≡ true) → 0 < n
 more_than zero room full = let wrong : false ≡ true = full (omega arith) in cc
 more_than (suc n) room full = omega arith
 
+pub nothing_left : (room : ℕ) → (0 < room → false ≡ true) → room ≡ 0
+nothing_left zero full = refl
+nothing_left (suc room) full = let wrong : false ≡ true = full (omega arith) in cc
+
 -- a right that is taken and put back leaves the task as it was
 pub put_back : (f taken g : FrameView) (r : ℕ) (h back : Held) → slice_index_or f.held r None ≡ Some h → taken ≡ record f { held = slice_set f.held r None } → back ≡ h
     → g ≡ record taken { held = slice_set taken.held r (Some back) } → g ≡ f

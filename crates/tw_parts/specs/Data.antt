@@ -1,6 +1,7 @@
 -- What an instruction on data asks of a store and of the task that does it, and what it leaves of them.
-use Rattle.std.specs.Prelude.{◌≡◌, ◌⊎◌, ◌<◌, ◌^◌, ◌+◌, ℕ, List, [], Option, Some, None, map as each, slice_get, slice_index_or}
-use Rattle.std.specs.declared.result.Result.TheVariants.{Ok}
+use Rattle.std.specs.Prelude.{◌≡◌, ◌⊎◌, ◌<◌, ◌^◌, ◌+◌, ℕ, ℤ, List, [], Option, Some, None, map as each, slice_get, slice_index_or}
+use Rattle.std.specs.declared.result.Result.{Result}
+use Rattle.std.specs.declared.result.Result.TheVariants.{Ok, Err}
 use Rattle.std.specs.FinMap.{get, len}
 use Rattle.tw_types.specs.declared.data_type.Scalar.{Scalar}
 use Rattle.tw_types.specs.declared.notice.Notice.{Notice}
@@ -8,12 +9,12 @@ use Rattle.tw_types.specs.declared.value.Value.{Value}
 use Rattle.tw_types.specs.declared.value.Value.TheVariants as value
 use Rattle.tw_types.specs.Notices.{Notices, with_notices}
 use Rattle.tw_types.specs.Store.{Datum, notice_to}
-use Rattle.tw_types.specs.StoreCalls.{members_in}
+use Rattle.tw_types.specs.StoreCalls.{member_at, members_in}
 use Rattle.tw_types.specs.TypedStore.{IsTypedStore}
 use Rattle.tw_rights.specs.declared.held.Held.{Held}
 use Rattle.tw_rights.specs.Bare.{bare_file}
 use Rattle.tw_rights.specs.Kinds.{kinds_of}
-use Rattle.tw_store.specs.Served.{Served, queued, waiting_for}
+use Rattle.tw_store.specs.Served.{IsUnchanged, Served, queued, waiting_for}
 use Rattle.tw_code.specs.declared.flow.Way.{Way}
 use Rattle.tw_code.specs.declared.instr.DataInstr.{DataInstr}
 use Rattle.tw_code.specs.declared.instr.DataInstr.TheVariants as on_data
@@ -23,8 +24,9 @@ use Rattle.tw_code.specs.format.Program.{IsDataInstr}
 use Rattle.tw_code.specs.machine.Data.{Context, data_instr}
 use Rattle.tw_code.specs.machine.Rights.{Typing, right_at}
 use Rattle.tw_no_trap.proofs.Values.{AllYes}
-use Rattle.tw_frame.specs.Jobs.{DraftView, FrameView}
-use Rattle.tw_parts.specs.Places.{ArePlaced, IsAt, kinds_in, right_in}
+use Rattle.tw_frame.specs.Jobs.{DoneView, DraftView, FrameView, draft_of}
+use Rattle.tw_parts.specs.Coming.{come}
+use Rattle.tw_parts.specs.Fits.{ArePlaced, IsAt, kinds_in, right_in}
 
 -- what it sees, where these are the notices
 abbrev pub sees : Served → Notices → FrameView → Context
@@ -62,10 +64,6 @@ pub record MayDo (d : DataInstr) (s : Served) (f : FrameView) : Type 0 where
   pub store : IsTypedStore s.store
   pub room : HasRoom s f
 
--- the draft has the values of the frame
-abbrev pub IsLike : DraftView → FrameView → Type 0
-IsLike draft f = draft.values ≡ f.position.values
-
 -- ---- after it
 
 -- nothing is told; or all that wait for one live datum are, by its server
@@ -99,12 +97,17 @@ IsTextAt values register = (text : List ℕ) × (slice_get values register ≡ S
 abbrev pub IsAwaited : Served → FrameView → ℕ → Type 0
 IsAwaited s f register = (id : ℕ) × (right_at (bare_file f.held) register ≡ Some id) × (0 < waiting_for (get s.store.live id))
 
--- where it takes memory: for one datum more, for copies of a value, for one member more, or for what is told
+-- the container has no member at the subscript
+abbrev pub IsAbsent : Served → FrameView → ℕ → ℕ → Type 0
+IsAbsent s f container subscript = (id : ℕ) × (n : ℤ) × (right_at (bare_file f.held) container ≡ Some id) × (slice_get f.position.values subscript ≡ Some (value.Int n))
+    × (member_at s.store id n ≡ None)
+
+-- where it takes memory: for one datum more, for copies of a text, for what is told, or for one member more
 abbrev pub TakesMemory : DataInstr → Served → FrameView → Type 0
 TakesMemory (on_data.New write read ty) s f = s.data_room ≡ 0
-TakesMemory (on_data.Store datum from) s f = Unit {0}
+TakesMemory (on_data.Store datum from) s f = IsTextAt f.position.values from ⊎ IsAwaited s f datum
 TakesMemory (on_data.Get to datum) s f = IsTextAt f.position.values to
-TakesMemory (on_data.Insert container subscript member skip) s f = Unit {0}
+TakesMemory (on_data.Insert container subscript member skip) s f = IsAbsent s f container subscript
 TakesMemory (on_data.Look member container subscript skip) s f = ⊥
 TakesMemory (on_data.Size to container) s f = ⊥
 TakesMemory (on_data.SubscriptAt to container index skip) s f = ⊥
@@ -112,3 +115,35 @@ TakesMemory (on_data.CopyRead to from) s f = ⊥
 TakesMemory (on_data.CopyWrite to from) s f = ⊥
 TakesMemory (on_data.DropRead right) s f = ⊥
 TakesMemory (on_data.DropWrite right) s f = IsAwaited s f right
+
+-- those that never do
+abbrev pub TakesNone : DataInstr → Type 0
+TakesNone (on_data.New write read ty) = ⊥
+TakesNone (on_data.Store datum from) = ⊥
+TakesNone (on_data.Get to datum) = ⊥
+TakesNone (on_data.Insert container subscript member skip) = ⊥
+TakesNone (on_data.Look member container subscript skip) = Unit {0}
+TakesNone (on_data.Size to container) = Unit {0}
+TakesNone (on_data.SubscriptAt to container index skip) = Unit {0}
+TakesNone (on_data.CopyRead to from) = Unit {0}
+TakesNone (on_data.CopyWrite to from) = Unit {0}
+TakesNone (on_data.DropRead right) = Unit {0}
+TakesNone (on_data.DropWrite right) = ⊥
+
+-- ---- behind a Done
+
+-- it was done behind the Done, and the draft is of the values then
+pub record IsDoneBehind (d : DataInstr) (old new : Served) (f g : FrameView) (done : DoneView) (draft : DraftView) : Type 0 where
+  pub is_done : IsDone d old new (come f done) g
+  pub is_draft : draft ≡ draft_of g
+
+-- memory was refused where it takes some, and all is as it was
+pub record IsRefused (d : DataInstr) (old new : Served) (f g : FrameView) (done back : DoneView) : Type 0 where
+  pub memory : TakesMemory d old (come f done)
+  pub store : IsUnchanged old new
+  pub frame : g ≡ f
+  pub is_back : back ≡ done
+
+abbrev pub IsAnswer : DataInstr → Served → Served → FrameView → FrameView → DoneView → Result DraftView DoneView → Type 0
+IsAnswer d old new f g done (Ok draft) = IsDoneBehind d old new f g done draft
+IsAnswer d old new f g done (Err back) = IsRefused d old new f g done back

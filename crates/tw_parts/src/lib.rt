@@ -1,4 +1,20 @@
-//! The parts of a pool, and an event each on them.
+//! The parts of a pool, and one function an event: what each makes of them is the machine's own step on the state that the
+//! parts stand for.
 #![tactic(auto)]
 
+mod advance;
+mod ask;
 mod data;
+mod deliver;
+mod end;
+mod in_seat;
+mod lend;
+mod outputs;
+mod parts;
+mod release;
+mod seats;
+mod take;
+
+pub use outputs::Outputs;
+pub use parts::Parts;
+pub use seats::Seats;

@@ -1,28 +1,54 @@
-//! A value for a register of a task, and for the draft of its next job.
+//! How a task goes on, and the draft of its next job with it.
 
-ghost use Rattle.std.specs.Prelude.{◌≡◌, ◌<◌, ◌^◌, ◌+◌};
+ghost use Rattle.std.specs.Prelude.{◌≡◌, ◌<◌, ◌^◌, ◌+◌, ℤ, Some, slice_get};
+ghost use Rattle.tw_types.specs.declared.value.Value.TheVariants as value;
 ghost use Rattle.tw_code.specs.machine.Position.{at_next_place, with_value};
 ghost use Rattle.tw_frame.specs.Drafts.{MaySet};
-ghost use Rattle.tw_parts.specs.Data.{IsLike};
+ghost use Rattle.tw_frame.specs.Jobs.{draft_of, job_of};
+ghost use Rattle.tw_parts.specs.Coming.{come};
 
-use tw_frame::{Draft, Frame};
+use tw_frame::{Done, Draft, Frame, ValueRef};
 use tw_types::Value;
 
+/// The number in a register that has one, as far as the Done came.
+pub(crate) fn number_at(done: &Done<'_>, register: u8) -> i64
+    requires { (n : ℤ) × (slice_get done.now.after.values register ≡ Some (value.Int n)) }
+    ensures { slice_get done.now.after.values register ≡ Some (value.Int result) }
+{
+    match done.look(register) {
+        ValueRef::Int(number) => number,
+        ValueRef::Text(_text) => unreachable!(),
+    }
+}
+
+/// The task comes as far as the Done says, which is of the job that was lent last. The draft is of the values there.
+pub(crate) fn arrive<'a>(frame: &mut Frame<'a>, done: Done<'a>) -> Draft<'a>
+    requires own { done.before ≡ job_of frame.old }
+    requires spent { frame.old.spent < 2 ^ 63 }
+    ensures come { frame.new ≡ come frame.old done.entry }
+    ensures draft { result ≡ draft_of frame.new }
+{
+    match frame.exchange(done) {
+        Ok(draft) => draft,
+        Err(_done) => unreachable!(),
+    }
+}
+
 /// Gives a register of the frame a value, and that of its draft a copy of it, and goes on.
-pub(crate) fn give(
-    frame: &mut Frame<'_>,
-    draft: &mut Draft<'_>,
+pub(crate) fn give<'a>(
+    frame: &mut Frame<'a>,
+    draft: &mut Draft<'a>,
     register: u8,
     value: Value,
     copy: Value,
 )
     requires fits { MaySet frame.old.position.values register value }
     requires same { copy ≡ value }
-    requires like { IsLike draft.old frame.old }
+    requires like { draft.old ≡ draft_of frame.old }
     requires place { frame.old.position.place < 2 ^ 63 }
     requires spent { frame.old.spent < 2 ^ 63 }
     ensures given { frame.new ≡ record frame.old { position = at_next_place (with_value frame.old.position register value); spent = frame.old.spent + 1 } }
-    ensures drafted { draft.new ≡ record draft.old { values = frame.new.position.values } }
+    ensures drafted { draft.new ≡ draft_of frame.new }
 {
     frame.set(register, value);
     draft.set(register, copy);

@@ -1,38 +1,41 @@
 //! Data are made, and rights on them copied and dropped.
 
-ghost use Rattle.std.specs.Prelude.{◌≡◌, OnOk, OnErr};
-ghost use Rattle.tw_store.specs.Served.{IsUnchanged};
+ghost use Rattle.std.specs.Prelude.{◌≡◌};
 ghost use Rattle.tw_code.specs.declared.instr.DataInstr.TheVariants as on_data;
-ghost use Rattle.tw_parts.specs.Data.{IsAwaited, IsDone, MayDo};
+ghost use Rattle.tw_frame.specs.Jobs.{job_of};
+ghost use Rattle.tw_parts.specs.Coming.{come};
+ghost use Rattle.tw_parts.specs.Data.{IsAnswer, IsDone, MayDo};
 
-use std::alloc::{AllocError, Global};
-use tw_frame::Frame;
+use crate::data::give::arrive;
+use std::alloc::Global;
+use tw_frame::{Done, Draft, Frame};
 use tw_rights::Held;
 use tw_store::Store;
 use tw_types::DataType;
 
 /// NEW.
-pub(crate) fn new_datum(
+pub(crate) fn new_datum<'a>(
     store: &mut Store,
-    frame: &mut Frame<'_>,
+    frame: &mut Frame<'a>,
     alloc: Global,
+    done: Done<'a>,
     write: u8,
     read: u8,
     ty: DataType,
-) -> Result<(), AllocError>
-    requires { MayDo (on_data.New write read ty) store.old frame.old }
-    ensures done { OnOk result (IsDone (on_data.New write read ty) store.old store.new frame.old frame.new) }
-    ensures store { OnErr result (IsUnchanged store.old store.new) }
-    ensures frame { OnErr result (frame.new ≡ frame.old) }
-    ensures values { frame.new.position.values ≡ frame.old.position.values }
-    ensures full { OnErr result (store.old.data_room ≡ 0) }
+) -> Result<Draft<'a>, Done<'a>>
+    requires own { done.before ≡ job_of frame.old }
+    requires may { MayDo (on_data.New write read ty) store.old (come frame.old done) }
+    ensures { IsAnswer (on_data.New write read ty) store.old store.new frame.old frame.new done.entry result }
 {
-    let rights = store.create(alloc, ty)?;
+    let Ok(rights) = store.create(alloc, ty) else {
+        return Err(done);
+    };
     let (writes, reads) = rights;
+    let draft = arrive(frame, done);
     frame.fill(write, Held::Write(writes));
     frame.fill(read, Held::Read(reads));
     frame.go_on();
-    Ok(())
+    Ok(draft)
 }
 
 /// DUPR.
@@ -69,27 +72,26 @@ pub(crate) fn drop_read(store: &mut Store, frame: &mut Frame<'_>, datum: u8)
 }
 
 /// DROPW: where the container closes, those are told that wait for it.
-pub(crate) fn drop_write(
+pub(crate) fn drop_write<'a>(
     store: &mut Store,
-    frame: &mut Frame<'_>,
+    frame: &mut Frame<'a>,
+    done: Done<'a>,
     datum: u8,
-) -> Result<(), AllocError>
-    requires { MayDo (on_data.DropWrite datum) store.old frame.old }
-    ensures done { OnOk result (IsDone (on_data.DropWrite datum) store.old store.new frame.old frame.new) }
-    ensures store { OnErr result (IsUnchanged store.old store.new) }
-    ensures frame { OnErr result (frame.new ≡ frame.old) }
-    ensures values { frame.new.position.values ≡ frame.old.position.values }
-    ensures awaited { OnErr result (IsAwaited store.old frame.old datum) }
+) -> Result<Draft<'a>, Done<'a>>
+    requires own { done.before ≡ job_of frame.old }
+    requires may { MayDo (on_data.DropWrite datum) store.old (come frame.old done) }
+    ensures { IsAnswer (on_data.DropWrite datum) store.old store.new frame.old frame.new done.entry result }
 {
     let right = frame.take_write(datum);
     match store.drop_write(right) {
         Ok(()) => {
+            let draft = arrive(frame, done);
             frame.go_on();
-            Ok(())
+            Ok(draft)
         }
         Err(right) => {
             frame.fill(datum, Held::Write(right));
-            Err(AllocError)
+            Err(done)
         }
     }
 }

@@ -1,46 +1,50 @@
 //! The value of a scalar is set, or read.
 
-ghost use Rattle.std.specs.Prelude.{◌≡◌, ℕ, List, Some, Ok, IfOk, OnOk, OnErr};
+ghost use Rattle.std.specs.Prelude.{◌≡◌, ℕ, List, Some, Ok, IfOk, OnErr};
 ghost use Rattle.std.specs.FinMap.{get};
 ghost use Rattle.tw_types.specs.StoreCalls.{value_at};
 ghost use Rattle.tw_types.specs.StoreChecks.{may_retrieve};
 ghost use Rattle.tw_types.specs.declared.value.Value.TheVariants as value;
-ghost use Rattle.tw_store.specs.Served.{IsHere, IsUnchanged};
+ghost use Rattle.tw_store.specs.Served.{IsHere};
 ghost use Rattle.tw_code.specs.declared.instr.DataInstr.TheVariants as on_data;
-ghost use Rattle.tw_parts.specs.Data.{IsDone, IsLike, IsTextAt, MayDo};
+ghost use Rattle.tw_frame.specs.Jobs.{job_of};
+ghost use Rattle.tw_parts.specs.Coming.{come};
+ghost use Rattle.tw_parts.specs.Data.{IsAnswer, MayDo};
 
-use crate::data::give::give;
+use crate::data::give::{arrive, give};
 use std::alloc::{AllocError, Global};
-use tw_frame::{Draft, Frame};
+use tw_frame::{Done, Draft, Frame};
 use tw_rights::{Held, ReadRight};
 use tw_store::Store;
 use tw_types::Value;
 
 /// STORE: those are told that wait for the datum.
-pub(crate) fn store_value(
+pub(crate) fn store_value<'a>(
     store: &mut Store,
-    frame: &mut Frame<'_>,
+    frame: &mut Frame<'a>,
     alloc: Global,
+    done: Done<'a>,
     datum: u8,
     from: u8,
-) -> Result<(), AllocError>
-    requires { MayDo (on_data.Store datum from) store.old frame.old }
-    ensures done { OnOk result (IsDone (on_data.Store datum from) store.old store.new frame.old frame.new) }
-    ensures store { OnErr result (IsUnchanged store.old store.new) }
-    ensures frame { OnErr result (frame.new ≡ frame.old) }
-    ensures values { frame.new.position.values ≡ frame.old.position.values }
+) -> Result<Draft<'a>, Done<'a>>
+    requires own { done.before ≡ job_of frame.old }
+    requires may { MayDo (on_data.Store datum from) store.old (come frame.old done) }
+    ensures { IsAnswer (on_data.Store datum from) store.old store.new frame.old frame.new done.entry result }
 {
-    let value = frame.value(alloc, from)?;
+    let Ok(value) = done.value(alloc, from) else {
+        return Err(done);
+    };
     let right = frame.take_write(datum);
     match store.store(right, value) {
         Ok(()) => {
+            let draft = arrive(frame, done);
             frame.go_on();
-            Ok(())
+            Ok(draft)
         }
         Err(back) => {
             let (right, _value) = back;
             frame.fill(datum, Held::Write(right));
-            Err(AllocError)
+            Err(done)
         }
     }
 }
@@ -71,25 +75,23 @@ fn two_copies(
 }
 
 /// GET: a register of the frame, and of its draft, has the value.
-pub(crate) fn get_value(
+pub(crate) fn get_value<'a>(
     store: &Store,
-    frame: &mut Frame<'_>,
-    draft: &mut Draft<'_>,
+    frame: &mut Frame<'a>,
     alloc: Global,
+    done: Done<'a>,
     to: u8,
     datum: u8,
-) -> Result<(), AllocError>
-    requires may { MayDo (on_data.Get to datum) store.now frame.old }
-    requires like { IsLike draft.old frame.old }
-    ensures done { OnOk result (IsDone (on_data.Get to datum) store.now store.now frame.old frame.new) }
-    ensures frame { OnErr result (frame.new ≡ frame.old) }
-    ensures drafted { draft.new ≡ record draft.old { values = frame.new.position.values } }
-    ensures texts { OnErr result (IsTextAt frame.old.position.values to) }
+) -> Result<Draft<'a>, Done<'a>>
+    requires own { done.before ≡ job_of frame.old }
+    requires may { MayDo (on_data.Get to datum) store.now (come frame.old done) }
+    ensures { IsAnswer (on_data.Get to datum) store.now store.now frame.old frame.new done.entry result }
 {
     let Ok(copies) = two_copies(store, alloc, frame.peek_read(datum)) else {
-        return Err(AllocError);
+        return Err(done);
     };
     let (value, copy) = copies;
-    give(frame, draft, to, value, copy);
-    Ok(())
+    let mut draft = arrive(frame, done);
+    give(frame, &mut draft, to, value, copy);
+    Ok(draft)
 }
