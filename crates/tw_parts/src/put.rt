@@ -1,32 +1,32 @@
 //! PUT.
 
-ghost use Rattle.std.specs.Prelude.{◌≡◌, IfErr, OnOk, OnErr};
+ghost use Rattle.std.specs.Prelude.{◌≡◌, IfErr, IfOk, OnOk, OnErr};
 ghost use Rattle.tw_types.specs.declared.event.Event.TheVariants as event;
 ghost use Rattle.tw_code.specs.declared.instr.Instr.TheVariants as instr;
-ghost use Rattle.tw_parts.specs.Events.{MakesBehind, RunsWith, StandsAt, Untouched};
+ghost use Rattle.tw_parts.specs.Events.{IsDrafted, MakesBehind, StandsAt, Untouched};
 
 use crate::copying::values_of;
 use crate::parts::Parts;
 use crate::release::procedure_at;
 use std::alloc::Global;
 use tw_code::Action;
-use tw_frame::Done;
+use tw_frame::{Done, Draft};
 use tw_queue::Task;
 use tw_types::{Actor, TaskNo};
 
 impl<'a> Parts<'a> {
-    /// The actor's task, which stands at this PUT behind the Done, comes there and puts the task. Where memory is refused the
-    /// Done comes back.
+    /// The actor's task, which stands at this PUT behind the Done, comes there and puts the task; a draft of its values.
+    /// Where memory is refused the Done comes back.
     pub fn put(
         &mut self,
         alloc: Global,
         actor: Actor,
         action: &Action,
         done: Done<'a>,
-    ) -> Result<(), Done<'a>>
+    ) -> Result<Draft<'a>, Done<'a>>
         requires stands { StandsAt self.old actor done (instr.Put action.now) }
         ensures put { OnOk result (MakesBehind (event.Call actor) self.old actor done.entry self.new) }
-        ensures runs { OnOk result (RunsWith self.new actor done.entry.before.procedure done.entry.after.values) }
+        ensures drafted { IfOk result (λ draft. IsDrafted self.new actor draft) }
         ensures refused { OnErr result (Untouched self.old self.new) }
         ensures back { IfErr result (λ back. back ≡ done.entry) }
     {
@@ -41,7 +41,8 @@ impl<'a> Parts<'a> {
         let Ok(()) = self.tasks.reserve(kind) else {
             return Err(done);
         };
-        let args = self.seats.hand_over(actor, done, params, registers, vals);
+        let over = self.seats.hand_over(actor, done, params, registers, vals);
+        let (args, draft) = over;
         let number = self.next_task;
         let task = Task {
             no: TaskNo::new(number),
@@ -53,6 +54,6 @@ impl<'a> Parts<'a> {
             Err(_task) => unreachable!(),
         }
         self.next_task = number + 1;
-        Ok(())
+        Ok(draft)
     }
 }

@@ -1,31 +1,31 @@
 //! RULE.
 
-ghost use Rattle.std.specs.Prelude.{◌≡◌, IfErr, OnOk, OnErr};
+ghost use Rattle.std.specs.Prelude.{◌≡◌, IfErr, IfOk, OnOk, OnErr};
 ghost use Rattle.tw_types.specs.declared.event.Event.TheVariants as event;
 ghost use Rattle.tw_code.specs.declared.instr.Instr.TheVariants as instr;
-ghost use Rattle.tw_parts.specs.Events.{MakesBehind, RunsWith, StandsAt, Untouched};
+ghost use Rattle.tw_parts.specs.Events.{IsDrafted, MakesBehind, StandsAt, Untouched};
 
 use crate::copying::values_of;
 use crate::parts::Parts;
 use crate::release::procedure_at;
 use std::alloc::Global;
 use tw_code::Action;
-use tw_frame::Done;
+use tw_frame::{Done, Draft};
 use tw_types::Actor;
 
 impl<'a> Parts<'a> {
-    /// The actor's task, which stands at this RULE behind the Done, comes there and makes the rule. Where memory is refused
-    /// the Done comes back.
+    /// The actor's task, which stands at this RULE behind the Done, comes there and makes the rule; a draft of its
+    /// values. Where memory is refused the Done comes back.
     pub fn rule(
         &mut self,
         alloc: Global,
         actor: Actor,
         action: &Action,
         done: Done<'a>,
-    ) -> Result<(), Done<'a>>
+    ) -> Result<Draft<'a>, Done<'a>>
         requires stands { StandsAt self.old actor done (instr.Rule action.now) }
         ensures rule { OnOk result (MakesBehind (event.Call actor) self.old actor done.entry self.new) }
-        ensures runs { OnOk result (RunsWith self.new actor done.entry.before.procedure done.entry.after.values) }
+        ensures drafted { IfOk result (λ draft. IsDrafted self.new actor draft) }
         ensures refused { OnErr result (Untouched self.old self.new) }
         ensures back { IfErr result (λ back. back ≡ done.entry) }
     {
@@ -40,14 +40,15 @@ impl<'a> Parts<'a> {
         let Ok(()) = self.rules.reserve(engine) else {
             return Err(done);
         };
-        let args = self.seats.hand_over(actor, done, params, registers, vals);
+        let over = self.seats.hand_over(actor, done, params, registers, vals);
+        let (args, draft) = over;
         let named = tw_rules::Action {
             procedure: action.procedure,
             priority: action.priority,
             target: action.target,
         };
         match self.rules.add(engine, params, named, args) {
-            Ok(_number) => Ok(()),
+            Ok(_number) => Ok(draft),
             Err(_args) => unreachable!(),
         }
     }
