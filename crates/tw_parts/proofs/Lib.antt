@@ -12,6 +12,10 @@ mod Copied
 mod Handing
 mod Kinding
 mod Naming
+mod Handovers
+mod Puts
+mod NewRules
+mod Quieting
 pub mod DataNames
 pub mod Registers
 pub mod ValueRegisters
@@ -24,3 +28,7 @@ pub mod Drops
 pub mod Inserts
 pub mod Looks
 pub mod Sizes
+pub mod Telling
+pub mod Keeping
+pub mod Calling
+pub mod Answering

@@ -55,6 +55,15 @@ placed_at places (None ∷ file) zero h all at = cc
 placed_at places (Some x ∷ file) zero h all at = subst (λ (y : Held). IsAt places (right_in y)) (same_Some x h at) all.0
 placed_at places (x ∷ file) (suc k) h all at = placed_at places file k h all.1 at
 
+pub placed_each : (places : Places) (file : List (Option Held)) → ((k : ℕ) (h : Held) → slice_index_or file k None ≡ Some h → IsAt places (right_in h)) → ArePlaced places file
+placed_each places [] each_is = tt
+placed_each places (None ∷ file) each_is = (tt, placed_each places file (λ k h at. each_is (suc k) h at))
+placed_each places (Some h ∷ file) each_is = (each_is 0 h refl, placed_each places file (λ k h at. each_is (suc k) h at))
+
+pub right_id : (h : Held) → (right_in h).id ≡ id_of h
+right_id (held.Read right) = refl
+right_id (held.Write right) = refl
+
 pub id_at : (file : List (Option Held)) (k : ℕ) (h : Held) → slice_index_or file k None ≡ Some h → right_at (bare_file file) k ≡ Some (id_of h)
 id_at [] k h at = cc
 id_at (x ∷ file) zero h at = ap (option_map id_of) at

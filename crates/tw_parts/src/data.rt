@@ -1,9 +1,12 @@
 //! Instructions on data.
 
-ghost use Rattle.std.specs.Prelude.{◌≡◌};
-ghost use Rattle.tw_frame.specs.Jobs.{draft_of, job_of};
+ghost use Rattle.std.specs.Prelude.{◌≡◌, ◌<◌, IfErr, IfOk, OnErr, OnOk, None, Some, length, slice_index_or, slice_set};
+ghost use Rattle.tw_types.specs.declared.event.Event.TheVariants as event;
+ghost use Rattle.tw_code.specs.declared.instr.Instr.TheVariants as instr_is;
+ghost use Rattle.tw_frame.specs.Jobs.{FrameView, draft_of, job_of};
 ghost use Rattle.tw_parts.specs.Coming.{come};
-ghost use Rattle.tw_parts.specs.Data.{IsAnswer, IsDone, MayDo, TakesNone};
+ghost use Rattle.tw_parts.specs.Data.{IsAnswer, IsDone, MayDo, TakesMemory, TakesNone};
+ghost use Rattle.tw_parts.specs.Events.{IsDrafted, IsOwed, MakesBehind, StandsAt, Untouched};
 
 mod containers;
 mod give;
@@ -11,13 +14,15 @@ mod rights;
 mod scalars;
 
 use crate::data::containers::{insert_member, look_up, size, subscript_at};
-use crate::data::give::arrive;
 use crate::data::rights::{copy_read, copy_write, drop_read, drop_write, new_datum};
 use crate::data::scalars::{get_value, store_value};
+use crate::in_seat::come;
+use crate::parts::Parts;
 use std::alloc::Global;
 use tw_code::DataInstr;
 use tw_frame::{Done, Draft, Frame};
 use tw_store::Store;
+use tw_types::Actor;
 
 /// An instruction that takes no memory.
 fn run_at_once<'a>(
@@ -81,9 +86,51 @@ pub(crate) fn run_data<'a>(
         } => insert_member(store, frame, done, *container, *subscript, *member, *skip),
         DataInstr::DropWrite { right } => drop_write(store, frame, done, *right),
         other => {
-            let mut draft = arrive(frame, done);
+            let mut draft = come(frame, done);
             run_at_once(store, frame, &mut draft, other);
             Ok(draft)
         }
+    }
+}
+
+/// The task in a seat does so.
+pub(crate) fn data_in<'a>(
+    seats: &mut Vec<Option<Frame<'a>>>,
+    seat: usize,
+    store: &mut Store,
+    alloc: Global,
+    done: Done<'a>,
+    instr: &DataInstr,
+) -> Result<Draft<'a>, Done<'a>>
+    requires inside { seat < length seats.old.items }
+    requires sits { (f : FrameView) × (slice_index_or seats.old.items seat None ≡ Some f) × (done.before ≡ job_of f) × MayDo instr.now store.old (come f done) }
+    ensures { (f : FrameView) → slice_index_or seats.old.items seat None ≡ Some f → (g : FrameView) × (seats.new.items ≡ slice_set seats.old.items seat (Some g))
+        × IsAnswer instr.now store.old store.new f g done.entry result }
+{
+    let place = &mut seats[seat];
+    match place {
+        Some(frame) => run_data(store, frame, alloc, done, instr),
+        None => unreachable!(),
+    }
+}
+
+impl<'a> Parts<'a> {
+    /// The actor's task, which stands at this instruction on data behind the Done, comes there and does it; a draft of its
+    /// values. Where memory is refused the Done comes back.
+    pub fn data(
+        &mut self,
+        alloc: Global,
+        actor: Actor,
+        instr: &DataInstr,
+        done: Done<'a>,
+    ) -> Result<Draft<'a>, Done<'a>>
+        requires stands { StandsAt self.old actor done (instr_is.Data instr.now) }
+        ensures called { OnOk result (MakesBehind (event.Call actor) self.old actor done.entry self.new) }
+        ensures drafted { IfOk result (λ draft. IsDrafted self.new actor draft) }
+        ensures refused { OnErr result (Untouched self.old self.new) }
+        ensures back { IfErr result (λ back. back ≡ done.entry) }
+        ensures memory { OnErr result ((f : FrameView) → IsOwed self.old actor f done.entry → TakesMemory instr.now self.old.store (come f done.entry)) }
+    {
+        self.seats.data(actor, &mut self.store, alloc, done, instr)
     }
 }

@@ -4,6 +4,7 @@
 
 mod advance;
 mod ask;
+mod copying;
 mod data;
 mod deliver;
 mod end;
@@ -11,10 +12,15 @@ mod in_seat;
 mod lend;
 mod outputs;
 mod parts;
+mod put;
+mod quiet;
 mod release;
+mod rule;
 mod seats;
+mod shut;
 mod take;
 
 pub use outputs::Outputs;
 pub use parts::Parts;
 pub use seats::Seats;
+pub use shut::Remains;

@@ -6,7 +6,8 @@ ghost use Rattle.tw_frame.specs.Jobs.{draft_of, job_of};
 ghost use Rattle.tw_parts.specs.Coming.{come};
 ghost use Rattle.tw_parts.specs.Data.{IsAnswer, IsDone, MayDo};
 
-use crate::data::give::{arrive, give, number_at};
+use crate::data::give::{give, number_at};
+use crate::in_seat::come;
 use tw_frame::{Done, Draft, Frame};
 use tw_rights::Held;
 use tw_store::{Inserted, Store};
@@ -30,13 +31,13 @@ pub(crate) fn insert_member<'a>(
     let right = frame.take_read(member);
     match store.insert(frame.peek_write(container), at, right) {
         Ok(Inserted::Done) => {
-            let draft = arrive(frame, done);
+            let draft = come(frame, done);
             frame.go_on();
             Ok(draft)
         }
         Ok(Inserted::Present(back)) => {
             frame.fill(member, Held::Read(back));
-            let draft = arrive(frame, done);
+            let draft = come(frame, done);
             frame.skip(skip);
             Ok(draft)
         }

@@ -1,11 +1,10 @@
-//! How a task goes on, and the draft of its next job with it.
+//! Values that an instruction reads of a Done, or gives to a task and to the draft of its next job.
 
 ghost use Rattle.std.specs.Prelude.{◌≡◌, ◌<◌, ◌^◌, ◌+◌, ℤ, Some, slice_get};
 ghost use Rattle.tw_types.specs.declared.value.Value.TheVariants as value;
 ghost use Rattle.tw_code.specs.machine.Position.{at_next_place, with_value};
 ghost use Rattle.tw_frame.specs.Drafts.{MaySet};
-ghost use Rattle.tw_frame.specs.Jobs.{draft_of, job_of};
-ghost use Rattle.tw_parts.specs.Coming.{come};
+ghost use Rattle.tw_frame.specs.Jobs.{draft_of};
 
 use tw_frame::{Done, Draft, Frame, ValueRef};
 use tw_types::Value;
@@ -18,19 +17,6 @@ pub(crate) fn number_at(done: &Done<'_>, register: u8) -> i64
     match done.look(register) {
         ValueRef::Int(number) => number,
         ValueRef::Text(_text) => unreachable!(),
-    }
-}
-
-/// The task comes as far as the Done says, which is of the job that was lent last. The draft is of the values there.
-pub(crate) fn arrive<'a>(frame: &mut Frame<'a>, done: Done<'a>) -> Draft<'a>
-    requires own { done.before ≡ job_of frame.old }
-    requires spent { frame.old.spent < 2 ^ 63 }
-    ensures come { frame.new ≡ come frame.old done.entry }
-    ensures draft { result ≡ draft_of frame.new }
-{
-    match frame.exchange(done) {
-        Ok(draft) => draft,
-        Err(_done) => unreachable!(),
     }
 }
 

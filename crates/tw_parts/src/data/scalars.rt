@@ -11,7 +11,8 @@ ghost use Rattle.tw_frame.specs.Jobs.{job_of};
 ghost use Rattle.tw_parts.specs.Coming.{come};
 ghost use Rattle.tw_parts.specs.Data.{IsAnswer, MayDo};
 
-use crate::data::give::{arrive, give};
+use crate::data::give::give;
+use crate::in_seat::come;
 use std::alloc::{AllocError, Global};
 use tw_frame::{Done, Draft, Frame};
 use tw_rights::{Held, ReadRight};
@@ -37,7 +38,7 @@ pub(crate) fn store_value<'a>(
     let right = frame.take_write(datum);
     match store.store(right, value) {
         Ok(()) => {
-            let draft = arrive(frame, done);
+            let draft = come(frame, done);
             frame.go_on();
             Ok(draft)
         }
@@ -91,7 +92,7 @@ pub(crate) fn get_value<'a>(
         return Err(done);
     };
     let (value, copy) = copies;
-    let mut draft = arrive(frame, done);
+    let mut draft = come(frame, done);
     give(frame, &mut draft, to, value, copy);
     Ok(draft)
 }
