@@ -5,6 +5,7 @@ use Rattle.tw_types.specs.declared.event.Event.TheVariants.{Call}
 use Rattle.tw_frame.specs.Jobs.{DraftView, FrameView}
 use Rattle.tw_parts.specs.Coming.{come}
 use Rattle.tw_parts.specs.Data.{TakesMemory}
+use Rattle.tw_parts.specs.declared.parts.Parts.{Parts}
 use Rattle.tw_parts.specs.Events.{IsDrafted, IsOwed, Makes, MakesBehind, Untouched, with_done}
 use Rattle.tw_parts.proofs.Answering.{when_back, when_done, when_drafted, when_refused}
 use Rattle.tw_parts.proofs.Calling.{called, may_do}
@@ -31,10 +32,11 @@ returns-clause-called c =
     let done = c.args.done in
     let old = c.args.self.now in
     let e = c.data.ensures s.f s.owed.sits in
-    when_done c.args.instr.now old.store c.data.new.store s.f e.0 done (MakesBehind (Call c.args.actor) old c.args.actor done _) c.data.result e.2 (λ o. λ layout f owed.
+    let new : Parts = record old { store = c.data.new.store; seats = c.data.new.self } in
+    when_done c.args.instr.now old.store c.data.new.store s.f e.0 done (MakesBehind (Call c.args.actor) old c.args.actor done new) c.data.result e.2 (λ o. λ layout f owed.
       let same : s.f ≡ f = same_Some s.f f (sym s.owed.sits ∙ owed.sits) in
-      subst (λ (x : FrameView). Makes done.before.program layout (Call c.args.actor) (with_done old c.args.actor x done) _) same (λ notices h.
-        called done.before.program layout (with_done old c.args.actor s.f done) notices h c.args.actor (come s.f done) s.q c.args.instr.now (get_own old.seats c.args.actor (come s.f done)) s.here s.behind _ e.0 o
+      subst (λ (x : FrameView). Makes done.before.program layout (Call c.args.actor) (with_done old c.args.actor x done) new) same (λ notices h.
+        called done.before.program layout (with_done old c.args.actor s.f done) notices h c.args.actor (come s.f done) s.q c.args.instr.now (get_own old.seats c.args.actor (come s.f done)) s.here s.behind new e.0 o
           (e.1 ∙ sym (again old.seats c.args.actor (come s.f done) e.0)) refl refl refl refl))
 
 pub returns-clause-drafted : goal.returns-clause-drafted
