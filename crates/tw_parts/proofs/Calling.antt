@@ -1,7 +1,7 @@
 -- An instruction on data is called: on the parts.
-use Rattle.std.proofs.Common.{map as each, ◌≡◌, ◌<◌, ◌^◌, ◌+◌, ℕ, zero, suc, List, [], ◌∷◌, Option, Some, None, refl, sym, ap, subst, ◌∙◌, slice_get, slice_index_or, length, option_map, arith, inl, inr}
+use Rattle.std.proofs.Common.{map as each, ◌≡◌, ◌<◌, ◌+◌, ℕ, List, Some, None, refl, sym, ap, subst, ◌∙◌, slice_get, slice_index_or, length, arith, inl, inr}
 use Rattle.std.proofs.lemmas.List.{length-set}
-use Rattle.std.proofs.lemmas.Option.{same_Some, slice_get_within}
+use Rattle.std.proofs.lemmas.Option.{slice_get_within}
 use Rattle.std.specs.Prelude.{Ok}
 use Rattle.std.specs.FinMap.{get, insert}
 use Rattle.tw_types.specs.declared.actor.Actor.{Actor}
@@ -19,7 +19,6 @@ use Rattle.tw_rights.specs.Bare.{bare_file, bare_rule, bare_task}
 use Rattle.tw_rights.specs.Held.{id_of}
 use Rattle.tw_rights.specs.Rights.{Right}
 use Rattle.tw_store.specs.Served.{queued}
-use Rattle.tw_store.specs.Slots.{Places}
 use Rattle.tw_code.specs.declared.instr.DataInstr.{DataInstr}
 use Rattle.tw_code.specs.declared.instr.Instr.TheVariants as instr
 use Rattle.tw_code.specs.declared.procedure.Procedure.{Procedure}
@@ -40,7 +39,7 @@ use Rattle.tw_verify.specs.Typed.{TypedProgram, typings_of}
 use Rattle.tw_frame.specs.Jobs.{FrameView, bare_frame}
 use Rattle.tw_parts.specs.Data.{IsDone, IsLive, MayDo, sees}
 use Rattle.tw_parts.specs.Events.{Goes, IsSmall}
-use Rattle.tw_parts.specs.Fits.{AreAt, ArePlaced, AreParts, ArgsStand, FrameFits, IsAt, Stand, kinds_in, right_in}
+use Rattle.tw_parts.specs.Fits.{AreAt, AreParts, FrameFits, IsAt, Stand, kinds_in, right_in}
 use Rattle.tw_parts.specs.Notes.{AreQueued}
 use Rattle.tw_parts.specs.Parts.{state_of}
 use Rattle.tw_parts.specs.declared.parts.Parts.{Parts}

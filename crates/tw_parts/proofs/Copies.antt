@@ -8,7 +8,7 @@ use Rattle.tw_code.specs.accepting.Typing.{reads, writes as writes_one}
 use Rattle.tw_code.specs.machine.Rights.{must_be_empty}
 use Rattle.tw_no_trap.proofs.Conditions.{copy_read_asks, copy_write_asks}
 use Rattle.tw_parts.specs.Data.{HasRoom}
-use Rattle.tw_parts.proofs.DataNames.{◌≡◌, ◌∙◌, ◌+◌, ◌<◌, ◌^◌, ℕ, Bool, true, false, [], None, Some, Option, Ok, refl, sym, ap, inl, arith, slice_index_or, slice_set, option_map, map-set, get, is_none, EmptyRegister, Notices, with_notices, Datum, ok_after, there_then, Held, bare_file, kind_at, kinds_of, Right, Served, IsHere, IsNow, Context, data_instr, at_next_place, passes, passed, right_at, RightType, Typing, FrameView, IsDone, MayDo, sees, kinds_in, typed_writes}
+use Rattle.tw_parts.proofs.DataNames.{◌≡◌, ◌∙◌, ◌+◌, ◌<◌, ◌^◌, ℕ, Bool, true, false, [], None, Some, Option, Ok, refl, sym, ap, inl, arith, slice_index_or, slice_set, option_map, map-set, get, is_none, EmptyRegister, Notices, with_notices, Datum, ok_after, there_then, bare_file, kind_at, Right, Served, IsHere, IsNow, Context, data_instr, at_next_place, passes, passed, right_at, RightType, Typing, FrameView, IsDone, MayDo, sees, kinds_in, typed_writes}
 use Rattle.tw_parts.proofs.Left.{filled_done, now_stays, same_ok}
 use Rattle.tw_parts.proofs.Registers.{empty_at, its_id, kind_passed, placed_at, read_reads}
 

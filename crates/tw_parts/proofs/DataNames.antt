@@ -1,6 +1,6 @@
 -- Names that the lemmas on instructions share, in one place.
-pub use Rattle.std.proofs.Common.{map as each, ◌≡◌, ◌⊎◌, ◌<◌, ◌≤◌, ◌+◌, ◌∙◌, ℕ, zero, suc, Bool, true, false, ◌&&◌, if◌then◌else◌, List, [], ◌∷◌, ◌++◌, Option, Some, None, refl, sym, ap, subst, slice_get, slice_index_or, slice_set, length, set, get_or, option_map, arith, inl, inr}
-pub use Rattle.std.specs.Prelude.{◌^◌, ◌==◌, not, ◌||◌, is_none, ℤ, pos, IsSome, Result, Ok, Err}
+pub use Rattle.std.proofs.Common.{map as each, ◌≡◌, ◌⊎◌, ◌<◌, ◌≤◌, ◌+◌, ◌∙◌, ℕ, zero, suc, Bool, true, false, ◌&&◌, if◌then◌else◌, List, [], ◌∷◌, ◌++◌, Option, Some, None, refl, sym, ap, subst, slice_get, slice_index_or, slice_set, length, set, option_map, arith, inl, inr}
+pub use Rattle.std.specs.Prelude.{◌^◌, ◌==◌, not, ◌||◌, is_none, ℤ, pos, IsSome, Result, Ok}
 pub use Rattle.std.proofs.lemmas.List.{map-set}
 pub use Rattle.std.proofs.lemmas.Option.{same_Some, slice_get_within}
 pub use Rattle.std.specs.FinMap.{get}
@@ -28,10 +28,10 @@ pub use Rattle.tw_code.specs.declared.instr.DataInstr.{DataInstr}
 pub use Rattle.tw_code.specs.accepting.Flow.{data_flow, onward}
 pub use Rattle.tw_code.specs.accepting.Question.{passes}
 pub use Rattle.tw_code.specs.accepting.Typing.{after_data, asks_data, writes as typed_writes}
-pub use Rattle.tw_code.specs.machine.Data.{Context, data_instr, datum_at, datum_of, suits}
+pub use Rattle.tw_code.specs.machine.Data.{Context, data_instr, datum_at, suits}
 pub use Rattle.tw_code.specs.machine.Position.{Position, at_goal, at_next_place, int_at, with_value}
 pub use Rattle.tw_code.specs.machine.Rights.{RightType, Typing, right_at}
 pub use Rattle.tw_no_trap.proofs.Values.{AllYes, passed}
-pub use Rattle.tw_frame.specs.Jobs.{DoneView, DraftView, FrameView, draft_of}
+pub use Rattle.tw_frame.specs.Jobs.{FrameView}
 pub use Rattle.tw_parts.specs.Data.{IsDone, IsLive, IsTold, MayDo, sees}
 pub use Rattle.tw_parts.specs.Fits.{ArePlaced, IsAt, kinds_in, right_in}

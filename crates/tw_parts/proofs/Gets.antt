@@ -7,7 +7,7 @@ use Rattle.tw_code.specs.declared.instr.DataInstr.TheVariants as on_data
 use Rattle.tw_code.specs.accepting.Typing.{reads_closed_scalar}
 use Rattle.tw_no_trap.proofs.Conditions.{get_asks}
 use Rattle.tw_frame.specs.Drafts.{MaySet}
-use Rattle.tw_parts.proofs.DataNames.{◌≡◌, ◌∙◌, ◌+◌, ℕ, true, false, [], None, Some, Ok, refl, sym, ap, inl, slice_get, slice_index_or, same_Some, get, EmptyRegister, WrongRegister, UnsetDatum, Value, is_closed_mode, is_scalar, Notices, with_notices, must_then, ok_after, there_then, bare_file, kind_at, Right, Served, IsHere, Completed, Context, data_instr, datum_at, suits, at_next_place, with_value, right_at, FrameView, IsDone, MayDo, sees}
+use Rattle.tw_parts.proofs.DataNames.{◌≡◌, ◌∙◌, ◌+◌, ℕ, false, [], None, Some, Ok, refl, sym, ap, inl, slice_get, slice_index_or, same_Some, get, EmptyRegister, WrongRegister, UnsetDatum, Value, is_closed_mode, is_scalar, Notices, with_notices, must_then, ok_after, there_then, bare_file, kind_at, Right, Served, IsHere, Completed, Context, data_instr, datum_at, suits, at_next_place, with_value, right_at, FrameView, IsDone, MayDo, sees}
 use Rattle.tw_parts.proofs.Left.{moved_done, now_stays, same_ok}
 use Rattle.tw_parts.proofs.Registers.{and_first, closed_reads, its_id, kind_passed, placed_at}
 use Rattle.tw_parts.proofs.ValueRegisters.{value_fits}

@@ -1,7 +1,7 @@
 -- What an instruction leaves, by what became of the right registers: one was emptied, one was filled, or none changed.
-use Rattle.tw_types.specs.StoreCalls.{notices_after, store_after}
+use Rattle.tw_types.specs.StoreCalls.{notices_after}
 use Rattle.tw_parts.proofs.Registers.{set_own}
-use Rattle.tw_parts.proofs.DataNames.{each, ◌≡◌, ◌⊎◌, ◌+◌, ◌∙◌, ℕ, zero, suc, Bool, true, false, if◌then◌else◌, List, [], ◌∷◌, ◌++◌, Option, Some, None, refl, sym, ap, subst, slice_index_or, slice_set, set, option_map, inl, inr, Result, Ok, map-set, same_Some, get, Cause, Scalar, Notice, Notices, with_notices, Datum, is_closed, notice_to, notices_of, Data, Held, bare_file, id_of, kinds_of, writes, Served, IsLeft, IsUnchanged, queued, Way, Completed, DataInstr, data_flow, onward, after_data, asks_data, Context, data_instr, Position, at_next_place, RightType, Typing, AllYes, FrameView, IsDone, IsLive, IsTold, sees, IsAt, kinds_in, right_in, typed_writes}
+use Rattle.tw_parts.proofs.DataNames.{each, ◌≡◌, ◌⊎◌, ◌+◌, ◌∙◌, ℕ, zero, suc, Bool, true, false, if◌then◌else◌, List, [], ◌∷◌, ◌++◌, Some, None, refl, sym, ap, subst, slice_index_or, slice_set, set, option_map, inl, inr, Result, Ok, map-set, same_Some, get, Cause, Scalar, Notice, Notices, with_notices, Datum, is_closed, notice_to, notices_of, Held, bare_file, id_of, kinds_of, writes, Served, IsLeft, queued, Way, Completed, DataInstr, data_flow, onward, after_data, asks_data, Context, data_instr, Position, at_next_place, Typing, AllYes, FrameView, IsDone, IsLive, IsTold, sees, IsAt, kinds_in, right_in, typed_writes}
 
 pub same_ok : (a b : Context) → ◌≡◌ {A = Result Context Cause} (Ok a) (Ok b) → a ≡ b
 same_ok a b e = cc

@@ -1,5 +1,5 @@
 -- LOOK: what is asked is met, and that it is done.
-use Rattle.tw_types.specs.StoreCalls.{member_at, read_copied}
+use Rattle.tw_types.specs.StoreCalls.{member_at}
 use Rattle.tw_types.specs.StoreChecks.{may_look}
 use Rattle.tw_rights.specs.declared.held.Held.TheVariants as held
 use Rattle.tw_types.specs.declared.value.Value.TheVariants as value
@@ -9,9 +9,8 @@ use Rattle.tw_code.specs.accepting.Typing.{a_member_read, reads_closed_container
 use Rattle.tw_code.specs.machine.Data.{after_look}
 use Rattle.tw_code.specs.machine.Rights.{must_be_empty}
 use Rattle.tw_no_trap.proofs.Conditions.{look_asks}
-use Rattle.tw_types.specs.Room.{HasReadRoom}
 use Rattle.tw_parts.proofs.Copies.{read_room}
-use Rattle.tw_parts.proofs.DataNames.{◌≡◌, ◌∙◌, ◌+◌, ◌==◌, ℕ, ℤ, zero, suc, Bool, true, false, not, [], None, Some, Option, Ok, refl, sym, ap, inl, slice_get, slice_index_or, slice_set, option_map, map-set, get, is_none, EmptyRegister, NestedScalar, element_of, is_scalar, is_closed_mode, Notices, with_notices, ok_after, ok_first, there_then, bare_file, kind_at, Right, Served, IsHere, Completed, Skipped, Context, data_instr, at_goal, at_next_place, int_at, passes, passed, right_at, RightType, FrameView, IsDone, MayDo, sees, kinds_in, typed_writes}
+use Rattle.tw_parts.proofs.DataNames.{◌≡◌, ◌∙◌, ◌+◌, ◌==◌, ℕ, ℤ, zero, suc, Bool, true, false, not, [], None, Some, Option, Ok, refl, sym, ap, inl, slice_get, slice_index_or, slice_set, option_map, map-set, get, is_none, EmptyRegister, NestedScalar, element_of, is_scalar, is_closed_mode, Notices, ok_after, ok_first, there_then, bare_file, kind_at, Right, Served, IsHere, Skipped, Context, data_instr, at_goal, at_next_place, int_at, passes, passed, right_at, RightType, FrameView, IsDone, MayDo, sees, kinds_in, typed_writes}
 use Rattle.tw_parts.proofs.Left.{filled_done, moved_done, now_stays, same_ok}
 use Rattle.tw_parts.proofs.Registers.{and_first, and_second, closed_reads, empty_at, its_id, kind_passed, placed_at}
 use Rattle.tw_parts.proofs.ValueRegisters.{int_is, int_same}

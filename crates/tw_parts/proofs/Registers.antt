@@ -2,7 +2,7 @@
 use Rattle.tw_types.specs.declared.param.Mode.TheVariants as mode
 use Rattle.tw_rights.specs.declared.held.Held.TheVariants as held
 use Rattle.tw_store.specs.Slots.{Places}
-use Rattle.tw_parts.proofs.DataNames.{◌≡◌, ◌⊎◌, ◌∙◌, ◌<◌, ◌≤◌, arith, ℕ, zero, suc, Bool, true, false, ◌&&◌, List, [], ◌∷◌, Option, Some, None, refl, sym, ap, subst, slice_index_or, slice_set, option_map, inl, inr, is_none, same_Some, Mode, is_closed_mode, is_read, is_write, Held, bare_file, id_of, kind_at, kinds_of, writes, Right, passes, RightType, Typing, right_at, passed, FrameView, ArePlaced, IsAt, kinds_in, right_in, typed_writes}
+use Rattle.tw_parts.proofs.DataNames.{◌≡◌, ◌⊎◌, ◌∙◌, ◌<◌, ◌≤◌, arith, ℕ, zero, suc, Bool, true, false, ◌&&◌, List, [], ◌∷◌, Option, Some, None, refl, sym, ap, subst, slice_index_or, slice_set, option_map, inl, inr, is_none, same_Some, Mode, is_closed_mode, is_read, is_write, Held, bare_file, id_of, kind_at, kinds_of, passes, RightType, Typing, right_at, passed, FrameView, ArePlaced, IsAt, kinds_in, right_in, typed_writes}
 
 -- ---- by the typing
 

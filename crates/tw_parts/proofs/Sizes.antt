@@ -2,7 +2,7 @@
 use Rattle.std.specs.FinMap as map
 use Rattle.tw_types.specs.declared.data_type.Scalar.TheVariants as scalar
 use Rattle.tw_types.specs.declared.value.Value.TheVariants as value
-use Rattle.tw_types.specs.StoreCalls.{members_at, members_in, subscript_after}
+use Rattle.tw_types.specs.StoreCalls.{members_at, subscript_after}
 use Rattle.tw_types.specs.StoreChecks.{may_read_members}
 use Rattle.tw_rights.specs.declared.held.Held.TheVariants as held
 use Rattle.tw_code.specs.declared.instr.DataInstr.TheVariants as on_data
@@ -10,8 +10,7 @@ use Rattle.tw_code.specs.accepting.Typing.{reads_closed_container}
 use Rattle.tw_code.specs.machine.Position.{must_have_type, with_result}
 use Rattle.tw_no_trap.proofs.Conditions.{size_asks, subscript_asks}
 use Rattle.tw_frame.specs.Drafts.{MaySet}
-use Rattle.tw_parts.specs.Data.{HasRoom}
-use Rattle.tw_parts.proofs.DataNames.{◌≡◌, ◌∙◌, ◌+◌, ◌<◌, ◌^◌, ℕ, ℤ, pos, Bool, true, false, not, [], None, Some, Option, Ok, refl, sym, ap, inl, arith, slice_get, slice_index_or, option_map, get, EmptyRegister, FreedDatum, is_closed_mode, is_scalar, Notices, with_notices, ok_after, ok_first, there_then, bare_file, kind_at, Right, Served, IsHere, Completed, Skipped, Context, data_instr, at_goal, at_next_place, int_at, Position, with_value, RightType, right_at, FrameView, IsDone, MayDo, sees, typed_writes}
+use Rattle.tw_parts.proofs.DataNames.{◌≡◌, ◌∙◌, ◌+◌, ◌<◌, ◌^◌, ℕ, ℤ, pos, true, false, not, [], None, Some, Option, Ok, refl, sym, ap, inl, slice_get, slice_index_or, option_map, get, EmptyRegister, FreedDatum, is_closed_mode, is_scalar, Notices, with_notices, ok_after, ok_first, there_then, bare_file, kind_at, Right, Served, IsHere, Completed, Skipped, Context, data_instr, at_goal, at_next_place, int_at, Position, with_value, RightType, right_at, FrameView, IsDone, MayDo, sees, typed_writes}
 use Rattle.tw_parts.proofs.Left.{moved_done, now_stays, same_ok}
 use Rattle.tw_parts.proofs.Registers.{and_first, closed_reads, its_id, kind_passed, placed_at}
 use Rattle.tw_parts.proofs.ValueRegisters.{int_is, int_same, may_set_int}

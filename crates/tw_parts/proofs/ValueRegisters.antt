@@ -1,5 +1,5 @@
 -- One value register: the number that is in it, and the values that it may be given.
-use Rattle.std.specs.Option.{ok_or, option_and_then}
+use Rattle.std.specs.Option.{option_and_then}
 use Rattle.tw_types.specs.declared.data_type.Scalar.TheVariants as scalar
 use Rattle.tw_types.specs.declared.value.Value.TheVariants as value
 use Rattle.tw_types.specs.DataType.{same_scalar}
@@ -12,8 +12,8 @@ use Rattle.tw_code.specs.machine.Position.{int_in, must_have_type}
 use Rattle.tw_frame.specs.Drafts.{MaySet}
 use Rattle.tw_no_trap.proofs.Scalars.{same_scalars}
 use Rattle.tw_parts.specs.Data.{IsTextAt}
-use Rattle.tw_parts.proofs.Registers.{and_first, and_second}
-use Rattle.tw_parts.proofs.DataNames.{◌≡◌, ◌∙◌, ℕ, ℤ, Bool, true, false, not, ◌||◌, List, Option, Some, None, Result, Ok, refl, sym, ap, option_map, slice_get, same_Some, get, Cause, FreedDatum, WrongRegister, Scalar, Value, is_scalar, NestedScalar, Datum, Data, must_ok, must_then, there_then, suits, Position, int_at}
+use Rattle.tw_parts.proofs.Registers.{and_second}
+use Rattle.tw_parts.proofs.DataNames.{◌≡◌, ◌∙◌, ℕ, ℤ, Bool, true, false, not, ◌||◌, List, Option, Some, None, Result, Ok, refl, sym, ap, option_map, slice_get, same_Some, get, Cause, FreedDatum, WrongRegister, Value, is_scalar, NestedScalar, Datum, Data, must_ok, must_then, there_then, suits, Position, int_at}
 
 -- ---- numbers
 

@@ -1,6 +1,6 @@
-use Rattle.std.proofs.Common.{◌≡◌, ◌∙◌, Some, None, sym, ap, subst}
+use Rattle.std.proofs.Common.{◌≡◌, ◌∙◌, None, sym, subst}
 use Rattle.std.proofs.lemmas.Option.{same_Some}
-use Rattle.tw_frame.specs.Jobs.{FrameView, job_of}
+use Rattle.tw_frame.specs.Jobs.{FrameView}
 use Rattle.tw_parts.specs.Coming.{come}
 use Rattle.tw_parts.specs.Data.{MayDo}
 use Rattle.tw_parts.proofs.Seating.{in_list}

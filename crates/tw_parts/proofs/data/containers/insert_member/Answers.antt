@@ -1,6 +1,5 @@
 use Rattle.std.proofs.Common.{◌≡◌, ◌∙◌, ◌+◌, ap, sym, refl, subst, arith, slice_set, Some, Ok, Err, to_z, of_z, w64}
 use Rattle.std.proofs.lemmas.Int.{to_z-of_z}
-use Rattle.tw_types.specs.StoreChecks.{may_insert}
 use Rattle.tw_rights.specs.declared.held.Held.TheVariants as held
 use Rattle.tw_store.specs.Calls.{IsInsertion}
 use Rattle.tw_store.specs.declared.calls.Inserted.{Inserted}

@@ -1,7 +1,7 @@
 use Rattle.std.proofs.Common.{◌≡◌, ◌∙◌, ◌+◌, ap, subst, arith, Some, None, to_z, of_z, w64}
 use Rattle.std.proofs.lemmas.Int.{to_z-of_z}
 use Rattle.tw_types.specs.StoreChecks.{may_look}
-use Rattle.tw_store.specs.Calls.{HasMemberRoom, IsLook}
+use Rattle.tw_store.specs.Calls.{IsLook}
 use Rattle.tw_code.specs.machine.Position.{at_next_place}
 use Rattle.tw_frame.specs.Jobs.{FrameView}
 use Rattle.tw_parts.proofs.Looks.{look_allowed, look_empty, look_here, look_int, look_right, look_room, looked_none, looked_some}

@@ -1,4 +1,4 @@
-use Rattle.std.proofs.Common.{◌≡◌, ◌∙◌, ◌<◌, ◌+◌, ◌^◌, ℤ, ap, arith, to_z, w64}
+use Rattle.std.proofs.Common.{◌∙◌, ◌<◌, ◌+◌, ◌^◌, ℤ, ap, arith, to_z, w64}
 use Rattle.std.proofs.lemmas.Int.{to_z_pos}
 use Rattle.tw_types.specs.declared.value.Value.TheVariants as value
 use Rattle.tw_code.specs.machine.Position.{at_next_place, with_value}

@@ -1,4 +1,4 @@
-use Rattle.std.proofs.Common.{◌≡◌, ◌∙◌, ◌+◌, ap, sym, refl, arith, slice_set, slice_index_or, Some, None}
+use Rattle.std.proofs.Common.{◌∙◌, ◌+◌, ap, sym, refl, slice_set, slice_index_or, Some, None}
 use Rattle.tw_rights.specs.declared.held.Held.TheVariants as held
 use Rattle.tw_code.specs.machine.Position.{at_next_place}
 use Rattle.tw_frame.specs.Jobs.{FrameView, draft_of}

@@ -1,8 +1,7 @@
-use Rattle.std.proofs.Common.{◌≡◌, ◌∙◌, ◌+◌, slice_get, ap, sym, refl}
-use Rattle.tw_types.specs.declared.value.Value.{Value}
+use Rattle.std.proofs.Common.{◌∙◌, ◌+◌, slice_get, ap, refl}
 use Rattle.tw_types.specs.declared.value.Value.TheVariants as value
 use Rattle.tw_code.specs.machine.Position.{at_next_place, with_value}
-use Rattle.tw_frame.specs.Jobs.{FrameView, draft_of}
+use Rattle.tw_frame.specs.Jobs.{FrameView}
 use Rattle.tw_parts.specs.Coming.{come}
 use Rattle.std.specs.Option.{option_map}
 use Rattle.tw_types.specs.Value.{scalar_of}

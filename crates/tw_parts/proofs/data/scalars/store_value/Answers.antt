@@ -1,4 +1,4 @@
-use Rattle.std.proofs.Common.{◌≡◌, ◌∙◌, ◌+◌, sym, ap, refl, inl, inr}
+use Rattle.std.proofs.Common.{◌∙◌, ◌+◌, sym, ap, refl, inl, inr}
 use Rattle.tw_types.specs.declared.value.Value.{Value}
 use Rattle.tw_rights.specs.Rights.{Right}
 use Rattle.tw_rights.specs.declared.held.Held.TheVariants as held
