@@ -64,7 +64,7 @@ module _ (verified : TypedProgram) (layout : ActorCounts) (old : Parts) (notices
   there : get (mapped bare_frame old.seats) actor ≡ Some (bare_frame f)
   there = seen bare_frame old.seats actor (Some f) runs
 
-  typing : Typing
+  abbrev typing : Typing
   typing = typing_at (typings_of verified) f.procedure f.position.place
 
   named : (waits : Bool) → AllYes (asks_callee waits p.registers (slice_get verified.program action.procedure) action.args typing) → (call : Called) → called verified.program p.kind context action ≡ Ok call → IsNamed verified.program p.kind context action f.held
@@ -84,7 +84,7 @@ module _ (verified : TypedProgram) (layout : ActorCounts) (old : Parts) (notices
         long = callee.long ∙ ap (λ (q : Procedure). length q.params) same;
         control = control.0;
         suits = subst (λ (q : Procedure). AreSuited f.held q.params action.args) same
-          (suited waits p.registers callee.procedure.params action.args f.held typing (h.stand.frames actor f runs).kinds callee.met);
+            (suited waits p.registers callee.procedure.params action.args f.held typing (h.stand.frames actor f runs).kinds callee.met);
         values = values.0;
         given = given.0;
         handed = given.1;
