@@ -1,0 +1,35 @@
+mod Law
+mod Seating
+mod Notes
+mod Fitting
+mod Delivers
+mod Staging
+mod Releases
+mod Ends
+mod Goings
+mod Takes
+mod Copied
+mod Handing
+mod Kinding
+mod Naming
+mod Handovers
+mod Behind
+mod Puts
+mod NewRules
+mod Quieting
+pub mod DataNames
+pub mod Registers
+pub mod ValueRegisters
+pub mod Left
+pub mod Stores
+pub mod Gets
+pub mod News
+pub mod Copies
+pub mod Drops
+pub mod Inserts
+pub mod Looks
+pub mod Sizes
+pub mod Telling
+pub mod Keeping
+pub mod Calling
+pub mod Answering

@@ -1,0 +1,104 @@
+-- What one event makes of the parts of a pool.
+use Rattle.std.specs.Prelude.{◌≡◌, ◌≢◌, ℕ, ◌^◌, Option, Some, None, IsSome, slice_get}
+use Rattle.std.specs.declared.result.Result.{Result}
+use Rattle.std.specs.declared.result.Result.TheVariants.{Ok, Err}
+use Rattle.std.specs.FinMap.{get, insert}
+use Rattle.tw_types.specs.declared.actor.Actor.{Actor}
+use Rattle.tw_types.specs.declared.event.Event.{Event}
+use Rattle.tw_types.specs.Layout.{ActorCounts}
+use Rattle.tw_types.specs.Notices.{Notices}
+use Rattle.tw_types.specs.Outcome.{Went}
+use Rattle.tw_store.specs.Served.{IsUnchanged}
+use Rattle.tw_code.specs.declared.instr.Instr.{Instr}
+use Rattle.tw_code.specs.declared.procedure.Procedure.{Procedure}
+use Rattle.tw_code.specs.machine.Bounds.{AreBelow}
+use Rattle.tw_code.specs.machine.History.{actor_of}
+use Rattle.tw_code.specs.machine.Machine.{step}
+use Rattle.tw_code.specs.machine.State.{State}
+use Rattle.tw_verify.specs.Typed.{TypedProgram}
+use Rattle.tw_frame.specs.Jobs.{DoneView, DraftView, FrameView, JobView, draft_of, job_of}
+use Rattle.tw_parts.specs.Coming.{come}
+use Rattle.tw_parts.specs.Fits.{AreParts}
+use Rattle.tw_parts.specs.Parts.{state_of}
+use Rattle.tw_parts.specs.declared.parts.Parts.{Parts}
+
+-- ---- an event
+
+-- the event goes, what it leaves are parts again, and nobody else's task has changed
+pub record Goes (verified : TypedProgram) (layout : ActorCounts) (event : Event) (old : Parts) (notices : Notices) (new : Parts) : Type 0 where
+  pub left : Notices
+  pub step_is : step verified.program layout event (state_of old notices) ≡ Went (state_of new left)
+  pub parts : AreParts verified layout new left
+  pub others : (actor : Actor) → actor ≢ actor_of event → get new.seats actor ≡ get old.seats actor
+
+-- so does it from whatever set of notices stands for the queues
+abbrev pub Makes : TypedProgram → ActorCounts → Event → Parts → Parts → Type 0
+Makes verified layout event old new = (notices : Notices) → AreParts verified layout old notices → Goes verified layout event old notices new
+
+-- nothing has changed but how much room there is
+pub record Untouched (old new : Parts) : Type 0 where
+  pub store : IsUnchanged old.store new.store
+  pub rules : new.rules.rules ≡ old.rules.rules
+  pub next_rule : new.rules.next ≡ old.rules.next
+  pub tasks : new.tasks.tasks ≡ old.tasks.tasks
+  pub next_task : new.next_task ≡ old.next_task
+  pub seats : new.seats ≡ old.seats
+  pub outputs : new.outputs ≡ old.outputs
+
+-- an event that is due goes, for what it is about; where none is due, or one is and memory is refused, nothing is touched
+abbrev pub IsTried : {A E : Type 0} → Option A → (A → Type 0) → Type 0 → Result (Option A) E → Type 0
+IsTried due Made Same (Ok None) = (due ≡ None) × Same
+IsTried due Made Same (Ok (Some x)) = (due ≡ Some x) × Made x
+IsTried due Made Same (Err e) = IsSome due × Same
+
+-- ---- a task that has done local steps meanwhile
+
+-- the parts then
+abbrev pub with_done : Parts → Actor → FrameView → DoneView → Parts
+with_done p actor f done = record p { seats = insert p.seats actor (come f done) }
+
+-- the Done is of the job that was lent last to the actor's task
+pub record IsOwed (p : Parts) (actor : Actor) (f : FrameView) (done : DoneView) : Type 0 where
+  pub sits : get p.seats actor ≡ Some f
+  pub own : done.before ≡ job_of f
+
+-- numbers, counts and what is spent are small
+abbrev pub IsSmall : State → Type 0
+IsSmall s = AreBelow (2 ^ 62) s
+
+-- the actor's task stands at this instruction then, in parts that are a pool's
+pub record StandsAt (p : Parts) (actor : Actor) (done : DoneView) (instr : Instr) : Type 0 where
+  pub layout : ActorCounts
+  pub notices : Notices
+  pub f : FrameView
+  pub owed : IsOwed p actor f done
+  pub parts : AreParts done.before.program layout (with_done p actor f done) notices
+  pub small : IsSmall (state_of (with_done p actor f done) notices)
+  pub q : Procedure
+  pub here : slice_get done.before.program.program f.procedure ≡ Some q
+  pub behind : slice_get q.code done.after.place ≡ Some instr
+
+-- the event goes from there
+abbrev pub MakesBehind : Event → Parts → Actor → DoneView → Parts → Type 0
+MakesBehind event old actor done new = (layout : ActorCounts) (f : FrameView) → IsOwed old actor f done → Makes done.before.program layout event (with_done old actor f done) new
+
+-- the draft has the values with which the actor's task runs
+pub record IsDrafted (p : Parts) (actor : Actor) (draft : DraftView) : Type 0 where
+  pub f : FrameView
+  pub sits : get p.seats actor ≡ Some f
+  pub is : draft ≡ draft_of f
+
+-- ---- jobs
+
+-- the actor's task is lent under this number, and nothing else has changed
+pub record IsLent (old : Parts) (actor : Actor) (event_no : ℕ) (job : JobView) (new : Parts) : Type 0 where
+  pub f : FrameView
+  pub sits : get old.seats actor ≡ Some f
+  pub job_is : job ≡ job_of (record f { event_no = event_no })
+  pub new_is : new ≡ record old { seats = insert old.seats actor (record f { event_no = event_no }) }
+
+-- what a Take answers: where a task waits for the actor, the best one starts, and is lent
+abbrev pub IsTaken : {A E : Type 0} → Option A → (A → JobView → Type 0) → Type 0 → Result (Option JobView) E → Type 0
+IsTaken due Made Same (Ok None) = (due ≡ None) × Same
+IsTaken {A = A} due Made Same (Ok (Some job)) = (x : A) × (due ≡ Some x) × Made x job
+IsTaken due Made Same (Err e) = IsSome due × Same

@@ -1,0 +1,26 @@
+//! The parts of a pool, and one function an event: what each makes of them is the machine's own step on the state that the
+//! parts stand for.
+#![tactic(auto)]
+
+mod advance;
+mod ask;
+mod copying;
+mod data;
+mod deliver;
+mod end;
+mod in_seat;
+mod lend;
+mod outputs;
+mod parts;
+mod put;
+mod quiet;
+mod release;
+mod rule;
+mod seats;
+mod shut;
+mod take;
+
+pub use outputs::Outputs;
+pub use parts::Parts;
+pub use seats::Seats;
+pub use shut::Remains;

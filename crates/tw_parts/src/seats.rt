@@ -1,0 +1,216 @@
+//! The tasks that run, by their actors.
+
+ghost use Rattle.std.specs.Prelude.{◌≡◌, ◌<◌, ◌≤◌, ◌+◌, ◌^◌, IfOk, List, Option, IsSome, None, Some, length, slice_index_or, slice_set};
+ghost use Rattle.std.specs.FinMap as map;
+ghost use Rattle.std.specs.FinMap.{get, insert, remove, len};
+ghost use Rattle.std.specs.Option.{option_copied};
+ghost use Rattle.tw_rights.specs.declared.held.Held.{Held};
+ghost use Rattle.tw_rights.specs.Bundled.{bundled};
+ghost use Rattle.tw_frame.specs.Jobs.{FrameView, draft_of, job_of};
+ghost use Rattle.tw_parts.specs.Seats.{HasSeat, seat_of};
+ghost use Rattle.tw_parts.specs.Coming.{MayLend, come, gone_on};
+ghost use Rattle.tw_parts.specs.Data.{IsAnswer, MayDo};
+
+use crate::data::data_in;
+use crate::in_seat::{advance_in, hand_over_in, lend_in};
+use std::alloc::{AllocError, Global};
+use std::marker::Model;
+use tw_code::DataInstr;
+use tw_frame::{Done, Draft, Frame, Job};
+use tw_rights::Bundle;
+use tw_store::Store;
+use tw_types::{Actor, Param, Value};
+
+/// A seat for each actor of the greatest layout: engines, servers, workers.
+pub struct Seats<'a> {
+    seats: Vec<Option<Frame<'a>>>,
+    taken: usize,
+}
+
+impl<'a> Model for Seats<'a> {
+    ghost use Rattle.std.specs.Coded.{codes};
+    ghost use Rattle.std.specs.FinMap.{code};
+    ghost use Rattle.tw_types.specs.Actor.{actor_cmp};
+    ghost use Rattle.tw_frame.specs.Jobs.{FrameView};
+    ghost use Rattle.tw_parts.specs.Seats.{Seated};
+
+    ghost Value = { Seated };
+
+    ghost coded = { Prim.hlevel (codes, code {X = FrameView} {R = actor_cmp} (Prim.hlevel codes) (Prim.hlevel codes)) };
+
+    ghost use Rattle.tw_parts.specs.Seats.{seated, AreSeats};
+
+    ghost view = { λ s. seated s.seats.items };
+
+    ghost invariant = { λ s. AreSeats s.seats.items s.taken };
+}
+
+fn seat_of(actor: Actor) -> usize
+    requires { HasSeat actor }
+    ensures { result ≡ seat_of actor }
+{
+    match actor {
+        Actor::Engine(number) => usize::from(number),
+        Actor::Server(number) => 4 + usize::from(number),
+        Actor::Worker(number) => 8 + usize::from(number),
+    }
+}
+
+/// Who sits there.
+fn sitting<'s, 'a>(seats: &'s [Option<Frame<'a>>], seat: usize) -> Option<&'s Frame<'a>>
+    requires { seat < length seats.now }
+    ensures { option_copied result ≡ slice_index_or seats.now seat None }
+{
+    seats[seat].as_ref()
+}
+
+/// Takes who sits there.
+fn unseat<'a>(seats: &mut Vec<Option<Frame<'a>>>, seat: usize) -> Option<Frame<'a>>
+    requires { seat < length seats.old.items }
+    ensures taken { result ≡ slice_index_or seats.old.items seat None }
+    ensures rest { seats.new.items ≡ slice_set seats.old.items seat None }
+{
+    let place = &mut seats[seat];
+    place.take()
+}
+
+/// Puts a task into an empty seat.
+fn seat<'a>(seats: &mut Vec<Option<Frame<'a>>>, seat: usize, frame: Frame<'a>)
+    requires inside { seat < length seats.old.items }
+    requires empty { slice_index_or seats.old.items seat None ≡ None }
+    ensures { seats.new.items ≡ slice_set seats.old.items seat (Some frame.entry) }
+{
+    let place = &mut seats[seat];
+    match std::mem::replace(place, Some(frame)) {
+        None => {}
+        Some(_frame) => unreachable!(),
+    }
+}
+
+/// Spends every right of those who sit there.
+fn shut_all<'a>(mut seats: Vec<Option<Frame<'a>>>) {
+    while let Some(seat) = seats.pop() {
+        if let Some(frame) = seat {
+            frame.shut();
+        }
+    }
+    seats.destroy_empty();
+}
+
+impl<'a> Seats<'a> {
+    /// How many seats there are.
+    pub const COUNT: usize = 24;
+
+    /// Empty seats.
+    pub fn new(alloc: Global) -> Result<Seats<'a>, AllocError>
+        ensures { IfOk result (λ seats. seats ≡ map.empty) }
+    {
+        let mut seats = Vec::with_capacity(alloc, Seats::COUNT)?;
+        for _index in 0..Seats::COUNT {
+            seats.push_reserved(None);
+        }
+        Ok(Seats { seats, taken: 0 })
+    }
+
+    /// Spends every right of every task.
+    pub fn shut(self) {
+        let Seats { seats, taken: _ } = self;
+        shut_all(seats);
+    }
+
+    /// The number of tasks that run.
+    pub fn running(&self) -> usize
+        ensures { result ≡ len self.now }
+    {
+        self.taken
+    }
+
+    /// The task of an actor, if it has one.
+    pub fn get(&self, actor: Actor) -> Option<&Frame<'a>>
+        requires { HasSeat actor }
+        ensures { option_copied result ≡ get self.now actor }
+    {
+        sitting(&self.seats, seat_of(actor))
+    }
+
+    /// Takes the task of an actor, if it has one.
+    pub(crate) fn take(&mut self, actor: Actor) -> Option<Frame<'a>>
+        requires { HasSeat actor }
+        ensures taken { result ≡ get self.old actor }
+        ensures rest { self.new ≡ remove self.old actor }
+    {
+        match unseat(&mut self.seats, seat_of(actor)) {
+            Some(frame) => {
+                self.taken -= 1;
+                Some(frame)
+            }
+            None => None,
+        }
+    }
+
+    /// Seats the task of an actor that has none.
+    pub(crate) fn put(&mut self, actor: Actor, frame: Frame<'a>)
+        requires seat { HasSeat actor }
+        requires empty { get self.old actor ≡ None }
+        ensures { self.new ≡ insert self.old actor frame.entry }
+    {
+        seat(&mut self.seats, seat_of(actor), frame);
+        self.taken += 1;
+    }
+
+    /// The actor's task comes as far as the Done says, which is of the job that was lent last; a draft of its values.
+    pub(crate) fn advance(&mut self, actor: Actor, done: Done<'a>) -> Draft<'a>
+        requires seat { HasSeat actor }
+        requires sits { (f : FrameView) × (get self.old actor ≡ Some f) × (done.before ≡ job_of f) × (f.spent < 2 ^ 63) }
+        ensures { (f : FrameView) → get self.old actor ≡ Some f → (self.new ≡ insert self.old actor (come f done.entry)) × (result ≡ draft_of (come f done.entry)) }
+    {
+        advance_in(&mut self.seats, seat_of(actor), done)
+    }
+
+    /// Then hands over arguments, and goes on to the next place.
+    pub(crate) fn hand_over(
+        &mut self,
+        actor: Actor,
+        done: Done<'a>,
+        params: &[Param],
+        args: &[u8],
+        vals: Vec<Value>,
+    ) -> (Bundle, Draft<'a>)
+        requires seat { HasSeat actor }
+        requires few { length params.now ≤ 8 }
+        requires sits { (f : FrameView) × (get self.old actor ≡ Some f) × (done.before ≡ job_of f) × (f.spent + done.steps < 2 ^ 63)
+            × (done.after.place < 2 ^ 63) × IsSome (bundled f.held params.now args.now vals.items) }
+        ensures { (f : FrameView) → get self.old actor ≡ Some f → (file : List (Option Held))
+            × (bundled f.held params.now args.now vals.items ≡ Some (record { args = result.0; file = file }))
+            × (self.new ≡ insert self.old actor (gone_on (come f done.entry) file)) × (result.1 ≡ draft_of (come f done.entry)) }
+    {
+        hand_over_in(&mut self.seats, seat_of(actor), done, params, args, vals)
+    }
+
+    /// Lends the actor's task by the number of its events. The draft has the task's values.
+    pub(crate) fn lend(&mut self, actor: Actor, event_no: u64, draft: Draft<'a>) -> Job<'a>
+        requires seat { HasSeat actor }
+        requires sits { (f : FrameView) × (get self.old actor ≡ Some f) × MayLend f draft }
+        ensures { (f : FrameView) → get self.old actor ≡ Some f
+            → (result ≡ job_of (record f { event_no = event_no })) × (self.new ≡ insert self.old actor (record f { event_no = event_no })) }
+    {
+        lend_in(&mut self.seats, seat_of(actor), event_no, draft)
+    }
+
+    /// The actor's task does an instruction on data behind the Done; a draft of its values, or the Done again.
+    pub(crate) fn data(
+        &mut self,
+        actor: Actor,
+        store: &mut Store,
+        alloc: Global,
+        done: Done<'a>,
+        instr: &DataInstr,
+    ) -> Result<Draft<'a>, Done<'a>>
+        requires seat { HasSeat actor }
+        requires sits { (f : FrameView) × (get self.old actor ≡ Some f) × (done.before ≡ job_of f) × MayDo instr.now store.old (come f done) }
+        ensures { (f : FrameView) → get self.old actor ≡ Some f → (g : FrameView) × (self.new ≡ insert self.old actor g)
+            × IsAnswer instr.now store.old store.new f g done.entry result }
+    {
+        data_in(&mut self.seats, seat_of(actor), store, alloc, done, instr)
+    }
+}
