@@ -1,82 +1,80 @@
 -- The word of an event that fits gives the event back.
-use Rattle.std.proofs.Common.{◌≡◌, ◌<◌, ◌+◌, ◌*◌, ◌-◌, ◌/◌, ◌%◌, ℕ, true, false, nat_lt, refl, ap, ◌∙◌, arith, List, [], ◌∷◌, ◌++◌}
+use Rattle.std.proofs.Common.{◌≡◌, ◌<◌, ◌+◌, ◌*◌, ◌-◌, ◌/◌, ◌%◌, ◌^◌, ℕ, true, false, nat_lt, refl, sym, ap, ◌∙◌, arith, List, [], ◌∷◌, ◌++◌}
 use Rattle.std.proofs.lemmas.Bool.Decides.{nat_tests}
 use Rattle.std.proofs.lemmas.List.{map-append}
 use Rattle.tw_types.specs.declared.actor.Actor.{Actor}
-use Rattle.tw_types.specs.declared.actor.Actor.TheVariants as actor
+use Rattle.tw_types.specs.declared.actor.Actor.TheVariants.{Engine, Server, Worker}
 use Rattle.tw_types.specs.declared.event.Event.{Event}
-use Rattle.tw_types.specs.declared.event.Event.TheVariants as event
-use Rattle.tw_pool.specs.Words.{HasPlace, FitsWord, place_of, actor_at, word_of, unpack, unpack_by, events_in}
+use Rattle.tw_types.specs.declared.event.Event.TheVariants.{Take, Local, Call, End, Ask, Deliver, Release}
+use Rattle.tw_types.specs.Actor.{number_in_kind}
+use Rattle.tw_code.specs.machine.History.{actor_of}
+use Rattle.tw_pool.specs.Actors.{HasPlace, place_of, actor_at}
+use Rattle.tw_pool.specs.Words.{FitsWord, NumbersFit, kind_of, numbers_of, word_of, unpack, unpack_by, events_in}
 
-place_low : (a : Actor) → HasPlace a → place_of a < 32
-place_low (actor.Engine k) h = omega arith
-place_low (actor.Server k) h = omega arith
-place_low (actor.Worker k) h = omega arith
+pub place_low : (a : Actor) → HasPlace a → place_of a < 24
+place_low (Engine k) h = omega arith
+place_low (Server k) h = omega arith
+place_low (Worker k) h = omega arith
 
 actor_back : (a : Actor) → HasPlace a → actor_at (place_of a) ≡ a
-actor_back (actor.Engine k) h = let t : nat_lt k 4 ≡ true = grind (arith, nat_tests) in rw t refl
-actor_back (actor.Server k) h =
+actor_back (Engine k) h = let t : nat_lt k 4 ≡ true = grind (arith, nat_tests) in rw t refl
+actor_back (Server k) h =
     let t : nat_lt (4 + k) 4 ≡ false = grind (arith, nat_tests) in
     let u : nat_lt (4 + k) 8 ≡ true = grind (arith, nat_tests) in
     let v : (4 + k) - 4 ≡ k = omega arith in
-    rw (t, u) (ap actor.Server v)
-actor_back (actor.Worker k) h =
+    rw (t, u) (ap Server v)
+actor_back (Worker k) h =
     let t : nat_lt (8 + k) 4 ≡ false = grind (arith, nat_tests) in
     let u : nat_lt (8 + k) 8 ≡ false = grind (arith, nat_tests) in
     let v : (8 + k) - 8 ≡ k = omega arith in
-    rw (t, u) (ap actor.Worker v)
+    rw (t, u) (ap Worker v)
 
-parts : (kind word rest : ℕ) → kind < 8 → word ≡ kind + 8 * rest → unpack word ≡ unpack_by kind rest
-unfolding unpack
-parts kind word rest low e =
-    let k : word % 8 ≡ kind = omega arith in
-    let q : word / 8 ≡ rest = omega arith in
-    ap (λ n. unpack_by n (word / 8)) k ∙ ap (unpack_by kind) q
+kind_low : (e : Event) → kind_of e < 8
+kind_low (Take a) = omega arith
+kind_low (Local a n) = omega arith
+kind_low (Call a) = omega arith
+kind_low (End a) = omega arith
+kind_low (Ask e r j) = omega arith
+kind_low (Deliver s d r j) = omega arith
+kind_low (Release e r) = omega arith
+
+again : (e : Event) → NumbersFit e → unpack_by (kind_of e) (actor_of e) (numbers_of e) ≡ e
+again (Take a) h = refl
+again (Local a n) h = refl
+again (Call a) h = refl
+again (End a) h = refl
+again (Ask e r j) h =
+    let few : j < 8 = h.1 in
+    let a : (j + 8 * r) / 8 ≡ r = omega arith in
+    let b : (j + 8 * r) % 8 ≡ j = omega arith in
+    ap (λ x. Ask e x ((j + 8 * r) % 8)) a ∙ ap (Ask e r) b
+again (Deliver s d r j) h =
+    let rule : r < 16777216 = h.1 in
+    let few : j < 8 = h.2 in
+    let all = j + 8 * (r + 16777216 * d) in
+    let up : (j + 8 * (r + 16777216 * d)) / 8 ≡ r + 16777216 * d = omega arith in
+    let a : (r + 16777216 * d) / 16777216 ≡ d = omega arith in
+    let b : (r + 16777216 * d) % 16777216 ≡ r = omega arith in
+    let c : (j + 8 * (r + 16777216 * d)) % 8 ≡ j = omega arith in
+    ap (λ x. Deliver s (x / 16777216) (x % 16777216) (all % 8)) up ∙ ap (λ x. Deliver s x ((r + 16777216 * d) % 16777216) (all % 8)) a ∙ ap (λ x. Deliver s d x (all % 8)) b ∙ ap (Deliver s d r) c
+again (Release e r) h = refl
+
+-- the place of who makes it can be read off
+pub maker_of : (e : Event) → HasPlace (actor_of e) → word_of e / 8 % 32 ≡ place_of (actor_of e)
+maker_of e h = let low = place_low (actor_of e) h in let kind = kind_low e in omega (arith, low, kind)
 
 pub round : (e : Event) → FitsWord e → unpack (word_of e) ≡ e
-round (event.Take a) h =
-    let m : place_of a % 32 ≡ place_of a = omega (arith, place_low a h) in
-    parts 0 _ (place_of a) (omega arith) (omega arith) ∙ ap (λ n. event.Take (actor_at n)) m ∙ ap event.Take (actor_back a h)
-round (event.Local a n) h =
-    let low : place_of a < 32 = place_low a h.0 in
-    let m : (place_of a + 32 * n) % 32 ≡ place_of a = omega arith in
-    let d : (place_of a + 32 * n) / 32 ≡ n = omega arith in
-    parts 1 _ (place_of a + 32 * n) (omega arith) refl ∙ ap (λ k. event.Local (actor_at k) ((place_of a + 32 * n) / 32)) m ∙ ap (event.Local (actor_at (place_of a))) d ∙ ap (λ b. event.Local b n) (actor_back a h.0)
-round (event.Call a) h =
-    let m : place_of a % 32 ≡ place_of a = omega (arith, place_low a h) in
-    parts 2 _ (place_of a) (omega arith) refl ∙ ap (λ n. event.Call (actor_at n)) m ∙ ap event.Call (actor_back a h)
-round (event.End a) h =
-    let m : place_of a % 32 ≡ place_of a = omega (arith, place_low a h) in
-    parts 3 _ (place_of a) (omega arith) refl ∙ ap (λ n. event.End (actor_at n)) m ∙ ap event.End (actor_back a h)
-round (event.Ask e r j) h =
-    let low : e < 4 = h.0 in
-    let few : j < 8 = h.2 in
-    let a : (e + 4 * (j + 8 * r)) % 4 ≡ e = omega arith in
-    let b : (e + 4 * (j + 8 * r)) / 32 ≡ r = omega arith in
-    let c : (e + 4 * (j + 8 * r)) / 4 % 8 ≡ j = omega arith in
-    parts 4 _ (e + 4 * (j + 8 * r)) (omega arith) refl
-    ∙ ap (λ x. event.Ask x ((e + 4 * (j + 8 * r)) / 32) ((e + 4 * (j + 8 * r)) / 4 % 8)) a ∙ ap (λ x. event.Ask e x ((e + 4 * (j + 8 * r)) / 4 % 8)) b ∙ ap (event.Ask e r) c
-round (event.Deliver s d r j) h =
-    let low : s < 4 = h.0 in
-    let rule : r < 16777216 = h.2 in
-    let few : j < 8 = h.3 in
-    let x = s + 4 * (j + 8 * (r + 16777216 * d)) in
-    let a : (s + 4 * (j + 8 * (r + 16777216 * d))) % 4 ≡ s = omega arith in
-    let up : (s + 4 * (j + 8 * (r + 16777216 * d))) / 32 ≡ r + 16777216 * d = omega arith in
-    let b : (r + 16777216 * d) / 16777216 ≡ d = omega arith in
-    let c : (r + 16777216 * d) % 16777216 ≡ r = omega arith in
-    let e : (s + 4 * (j + 8 * (r + 16777216 * d))) / 4 % 8 ≡ j = omega arith in
-    parts 5 _ (s + 4 * (j + 8 * (r + 16777216 * d))) (omega arith) refl
-    ∙ ap (λ y. event.Deliver y (x / 32 / 16777216) (x / 32 % 16777216) (x / 4 % 8)) a
-    ∙ ap (λ y. event.Deliver s (y / 16777216) (y % 16777216) (x / 4 % 8)) up
-    ∙ ap (λ y. event.Deliver s y ((r + 16777216 * d) % 16777216) (x / 4 % 8)) b
-    ∙ ap (λ y. event.Deliver s d y (x / 4 % 8)) c
-    ∙ ap (event.Deliver s d r) e
-round (event.Release e r) h =
-    let low : e < 4 = h.0 in
-    let a : (e + 4 * r) % 4 ≡ e = omega arith in
-    let b : (e + 4 * r) / 4 ≡ r = omega arith in
-    parts 6 _ (e + 4 * r) (omega arith) refl ∙ ap (λ x. event.Release x ((e + 4 * r) / 4)) a ∙ ap (event.Release e) b
+unfolding unpack
+round e h =
+    let low = place_low (actor_of e) h.0 in
+    let small = kind_low e in
+    let kind : word_of e % 8 ≡ kind_of e = omega (arith, low, small) in
+    let numbers : word_of e / 256 ≡ numbers_of e = omega (arith, low, small) in
+    ap (λ n. unpack_by n (actor_at (word_of e / 8 % 32)) (word_of e / 256)) kind
+    ∙ ap (λ n. unpack_by (kind_of e) (actor_at n) (word_of e / 256)) (maker_of e h.0)
+    ∙ ap (λ a. unpack_by (kind_of e) a (word_of e / 256)) (actor_back (actor_of e) h.0)
+    ∙ ap (unpack_by (kind_of e) (actor_of e)) numbers
+    ∙ again e h.1
 
 pub told : (words new : List ℕ) (word : ℕ) (e : Event) → FitsWord e → word ≡ word_of e → new ≡ words ++ word ∷ [] → events_in new ≡ events_in words ++ e ∷ []
 told words new word e h is more = ap events_in more ∙ map-append unpack words (word ∷ []) ∙ ap (λ x. events_in words ++ x ∷ []) (ap unpack is ∙ round e h)

@@ -1,22 +1,24 @@
 //! The events of a run, in order.
 
 ghost use Rattle.std.specs.Prelude.{◌≡◌, ◌<◌, ◌++◌, ◌∷◌, [], IfOk, Some, length, slice_get};
+ghost use Rattle.tw_pool.specs.Actors.{HasPlace, events_of};
 ghost use Rattle.tw_pool.specs.Words.{FitsWord};
 
-use crate::words::{pack, unpack};
+use crate::words::{maker, pack, place_of, unpack};
 use std::alloc::{AllocError, Global};
 use std::marker::Model;
-use tw_types::Event;
+use tw_types::{Actor, Event};
 
 /// Events in the order in which they were made, each kept in one word, with room for as many as there may be.
 #[derive(Drop)]
 pub struct History {
     words: Vec<u64>,
     limit: usize,
+    /// How many events each actor made, by its place.
+    counts: [u64; 24],
 }
 
 impl Model for History {
-    ghost use Rattle.std.specs.Prelude.{◌≤◌, vec_capacity};
     ghost use Rattle.tw_pool.specs.Words.{events_in};
     ghost use Rattle.tw_pool.specs.History.{HistoryView};
 
@@ -24,7 +26,10 @@ impl Model for History {
 
     ghost view = { λ h. record { events = events_in h.words.items; limit = h.limit } };
 
-    ghost invariant = { λ h. h.limit ≤ vec_capacity h.words };
+    ghost use Rattle.std.specs.Prelude.{◌≤◌, vec_capacity};
+    ghost use Rattle.tw_pool.specs.Actors.{AreCounts};
+
+    ghost invariant = { λ h. (h.limit ≤ vec_capacity h.words) × AreCounts h.counts (events_in h.words.items) };
 }
 
 impl History {
@@ -35,6 +40,7 @@ impl History {
         Ok(History {
             words: Vec::with_capacity(alloc, limit)?,
             limit,
+            counts: [0; 24],
         })
     }
 
@@ -43,6 +49,14 @@ impl History {
         ensures { result ≡ length self.now.events }
     {
         self.words.len()
+    }
+
+    /// How many events of an actor there are.
+    pub fn count(&self, actor: Actor) -> u64
+        requires { HasPlace actor }
+        ensures { result ≡ length (events_of actor self.now.events) }
+    {
+        self.counts[place_of(actor) as usize]
     }
 
     /// The event before which there are so many.
@@ -59,6 +73,8 @@ impl History {
         requires room { length self.old.events < self.old.limit }
         ensures { self.new ≡ record self.old { events = self.old.events ++ event ∷ [] } }
     {
-        self.words.push_reserved(pack(event));
+        let word = pack(event);
+        self.words.push_reserved(word);
+        self.counts[maker(word)] += 1;
     }
 }

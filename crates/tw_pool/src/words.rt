@@ -1,14 +1,17 @@
 //! An event in one word.
 
-ghost use Rattle.std.specs.Prelude.{◌≡◌, ◌<◌};
-ghost use Rattle.tw_pool.specs.Words.{FitsWord, HasPlace, actor_at, place_of, unpack, word_of};
+ghost use Rattle.std.specs.Prelude.{◌≡◌, ◌<◌, ◌+◌, ◌*◌, ◌%◌, ◌/◌, ◌^◌};
+ghost use Rattle.tw_code.specs.machine.History.{actor_of};
+ghost use Rattle.tw_pool.specs.Actors.{HasPlace, actor_at, place_of};
+ghost use Rattle.tw_pool.specs.Words.{FitsWord, unpack, word_of};
 
 use tw_types::{Actor, DatumId, Event, RuleNo};
 
 /// The actor's place among all that may be.
-fn place_of(actor: Actor) -> u64
+pub(crate) fn place_of(actor: Actor) -> u64
     requires { HasPlace actor }
-    ensures { result ≡ place_of actor }
+    ensures is { result ≡ place_of actor }
+    ensures low { result < 24 }
 {
     match actor {
         Actor::Engine(number) => u64::from(number),
@@ -31,24 +34,42 @@ fn actor_at(place: u64) -> Actor
     }
 }
 
+/// The place of who made the event of a word.
+pub(crate) fn maker(word: u64) -> usize
+    ensures { result ≡ word / 8 % 32 }
+{
+    (word / 8 % 32) as usize
+}
+
+/// A word with this kind, for an actor.
+fn word(kind: u64, actor: Actor, numbers: u64) -> u64
+    requires actor { HasPlace actor }
+    requires kind { kind < 8 }
+    requires numbers { numbers < 2 ^ 56 }
+    ensures { result ≡ kind + 8 * (place_of actor + 32 * numbers) }
+{
+    kind + 8 * (place_of(actor) + 32 * numbers)
+}
+
 /// The word of an event.
 pub(crate) fn pack(event: Event) -> u64
     requires { FitsWord event }
     ensures { result ≡ word_of event }
 {
     match event {
-        Event::Take(actor) => 8 * place_of(actor),
-        Event::Local(actor, steps) => 1 + 8 * (place_of(actor) + 32 * steps),
-        Event::Call(actor) => 2 + 8 * place_of(actor),
-        Event::End(actor) => 3 + 8 * place_of(actor),
+        Event::Take(actor) => word(0, actor, 0),
+        Event::Local(actor, steps) => word(1, actor, steps),
+        Event::Call(actor) => word(2, actor, 0),
+        Event::End(actor) => word(3, actor, 0),
         Event::Ask(engine, rule, parameter) => {
-            4 + 8 * (u64::from(engine) + 4 * (u64::from(parameter) + 8 * rule.number()))
+            let numbers = u64::from(parameter) + 8 * rule.number();
+            word(4, Actor::Engine(engine), numbers)
         }
         Event::Deliver(server, datum, rule, parameter) => {
-            let numbers = rule.number() + 16_777_216 * datum.number();
-            5 + 8 * (u64::from(server) + 4 * (u64::from(parameter) + 8 * numbers))
+            let data = rule.number() + 16_777_216 * datum.number();
+            word(5, Actor::Server(server), u64::from(parameter) + 8 * data)
         }
-        Event::Release(engine, rule) => 6 + 8 * (u64::from(engine) + 4 * rule.number()),
+        Event::Release(engine, rule) => word(6, Actor::Engine(engine), rule.number()),
     }
 }
 
@@ -57,21 +78,21 @@ pub(crate) fn pack(event: Event) -> u64
 pub(crate) fn unpack(word: u64) -> Event
     ensures { result ≡ unpack word }
 {
-    let rest = word / 8;
-    let number = (rest % 4) as u8;
-    let parameter = (rest / 4 % 8) as u8;
+    let actor = actor_at(word / 8 % 32);
+    let numbers = word / 256;
+    let parameter = (numbers % 8) as u8;
     match word % 8 {
-        0 => Event::Take(actor_at(rest % 32)),
-        1 => Event::Local(actor_at(rest % 32), rest / 32),
-        2 => Event::Call(actor_at(rest % 32)),
-        3 => Event::End(actor_at(rest % 32)),
-        4 => Event::Ask(number, RuleNo::new(rest / 32), parameter),
+        0 => Event::Take(actor),
+        1 => Event::Local(actor, numbers),
+        2 => Event::Call(actor),
+        3 => Event::End(actor),
+        4 => Event::Ask(actor.number(), RuleNo::new(numbers / 8), parameter),
         5 => Event::Deliver(
-            number,
-            DatumId::new(rest / 32 / 16_777_216),
-            RuleNo::new(rest / 32 % 16_777_216),
+            actor.number(),
+            DatumId::new(numbers / 8 / 16_777_216),
+            RuleNo::new(numbers / 8 % 16_777_216),
             parameter,
         ),
-        _ => Event::Release(number, RuleNo::new(rest / 4)),
+        _ => Event::Release(actor.number(), RuleNo::new(numbers)),
     }
 }
