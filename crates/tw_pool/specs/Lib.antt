@@ -1,4 +1,7 @@
--- What a reader must believe of the pool: which events a history can tell, and as what it is seen.
+-- What a reader must believe of the pool: who makes events (Actors), as what pool and history are seen (PoolView, History),
+-- and the table of turns (Turns). Words says how an event is kept.
 pub mod Actors
-pub mod Words
 pub mod History
+pub mod PoolView
+pub mod Turns
+pub mod Words

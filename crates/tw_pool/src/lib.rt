@@ -1,7 +1,9 @@
 //! A run under one lock: its parts, and the history of its events.
 #![tactic(auto)]
 
+mod answer;
 mod history;
 mod words;
 
+pub use answer::{Closing, Turn};
 pub use history::History;
