@@ -16,7 +16,7 @@ use Rattle.tw_pool.specs.Words.{FitsWord, word_of}
 pub few : (actor : Actor) (history : List Event) → length (events_of actor history) ≤ length history
 few actor history = rw (length-filter (λ (e : Event). same_actor (actor_of e) actor) history) (count_by-le-length (λ (e : Event). same_actor (actor_of e) actor) history)
 
-itself : (a : Actor) → same_actor a a ≡ true
+pub itself : (a : Actor) → same_actor a a ≡ true
 itself (Engine n) = eq-eqb n n refl
 itself (Server n) = eq-eqb n n refl
 itself (Worker n) = eq-eqb n n refl

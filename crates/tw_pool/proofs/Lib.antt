@@ -1,2 +1,3 @@
 mod Round
-mod Counting
+pub mod Counting
+pub mod Lines

@@ -4,4 +4,5 @@ pub mod Actors
 pub mod History
 pub mod PoolView
 pub mod Turns
+pub mod TurnLaws
 pub mod Words
