@@ -1,0 +1,66 @@
+-- What the laws of the machine say of the state for which parts stand.
+use Rattle.std.proofs.Common.{◌≡◌, ◌≢◌, ◌<◌, ◌∙◌, sym, ap, ℕ, ◌++◌, ◌∷◌, [], List, length, Some, true, nat_lt, arith}
+use Rattle.std.proofs.lemmas.Bool.{ltb-true}
+use Rattle.std.specs.FinMap.{get}
+use Rattle.tw_types.specs.declared.actor.Actor.{Actor}
+use Rattle.tw_types.specs.declared.actor.Actor.TheVariants.{Engine, Server, Worker}
+use Rattle.tw_types.specs.declared.event.Event.{Event}
+use Rattle.tw_types.specs.Actor.{is_in}
+use Rattle.tw_types.specs.Layout.{ActorCounts, IsLayout}
+use Rattle.tw_types.specs.Notices.{Notices}
+use Rattle.tw_types.specs.Outcome.{Went}
+use Rattle.tw_code.specs.machine.History.{actor_of}
+use Rattle.tw_code.specs.machine.Machine.{step}
+use Rattle.tw_code.specs.machine.Opening.{opening}
+use Rattle.tw_code.specs.machine.State.{State}
+use Rattle.tw_code.proofs.Placed.{IsPlaced, reached_placed}
+use Rattle.tw_code.proofs.Runs.{run_more}
+use Rattle.tw_no_trap.specs.Invariant.{IsHeld}
+use Rattle.tw_no_trap.proofs.Safe.{reached_is_held}
+use Rattle.tw_verify.specs.Typed.{TypedProgram, typings_of}
+use Rattle.tw_parts.specs.Events.{Goes}
+use Rattle.tw_parts.specs.Fits.{AreParts, IsReached, Stand}
+use Rattle.tw_parts.specs.Notes.{AreQueued}
+use Rattle.tw_parts.specs.Parts.{state_of}
+use Rattle.tw_parts.specs.Seats.{HasSeat}
+use Rattle.tw_parts.specs.declared.parts.Parts.{Parts}
+
+module _ (verified : TypedProgram) (layout : ActorCounts) (p : Parts) (notices : Notices) (h : AreParts verified layout p notices) where
+  pub held : IsHeld verified.program (typings_of verified) (state_of p notices)
+  held = reached_is_held verified.program (typings_of verified) h.runnable.is h.runnable.right h.law.inputs layout h.law.history (state_of p notices) h.law.given h.law.replays
+
+  pub in_layout : IsPlaced verified.program layout (state_of p notices)
+  in_layout = reached_placed verified.program h.law.inputs layout h.law.history h.runnable.targets (state_of p notices) h.law.replays
+
+  pub after : (event : Event) (next : State) → step verified.program layout event (state_of p notices) ≡ Went next → IsReached verified.program layout next
+  after event next e = record {
+    inputs = h.law.inputs;
+    given = h.law.given;
+    history = h.law.history ++ event ∷ [];
+    replays = run_more verified.program layout h.law.history event (opening verified.program h.law.inputs) (state_of p notices) next h.law.replays e;
+  }
+
+  -- an event, from what it leaves
+  pub goes_to : (event : Event) (new : Parts) (left : Notices) (next : State) → step verified.program layout event (state_of p notices) ≡ Went next → state_of new left ≡ next
+      → AreQueued new.store.queues left → length new.store.queues ≡ layout.servers → Stand verified new.store.places new.seats new.tasks.tasks new.rules.rules new.outputs
+      → ((actor : Actor) → actor ≢ actor_of event → get new.seats actor ≡ get p.seats actor) → Goes verified layout event p notices new
+  goes_to event new left next step_is same queued servers stand others =
+      let went : step verified.program layout event (state_of p notices) ≡ Went (state_of new left) = step_is ∙ ap Went (sym same) in
+      record {
+        left = left;
+        step_is = went;
+        parts = record {
+          runnable = h.runnable;
+          law = after event (state_of new left) went;
+          queued = queued;
+          servers = servers;
+          stand = stand;
+        };
+        others = others;
+      }
+
+-- an actor of the layout has a seat
+pub has_seat : (layout : ActorCounts) (actor : Actor) → IsLayout layout → is_in layout actor ≡ true → HasSeat actor
+has_seat layout (Engine number) counts there = let below = ltb-true number layout.engines there in omega (arith, below, counts.few_engines)
+has_seat layout (Server number) counts there = let below = ltb-true number layout.servers there in omega (arith, below, counts.few_servers)
+has_seat layout (Worker number) counts there = let below = ltb-true number layout.workers there in omega (arith, below, counts.few_workers)

@@ -1,0 +1,7 @@
+mod Law
+mod Seating
+mod Notes
+mod Fitting
+mod Delivers
+mod Staging
+mod Releases

@@ -1,0 +1,11 @@
+use Rattle.std.proofs.Common.{◌≡◌, ◌<◌, ◌∙◌, sym, ap, refl, Some, None, cond, is_some, length, set, get_or, arith}
+use Rattle.std.specs.FinMap.{get, insert, remove}
+use Rattle.tw_parts.specs.Seats.{seat_of, seated}
+use Rattle.tw_parts.proofs.Seating.{count_set, get_seated, low_seat, seated_put, seated_without}
+use Rattle.tw_parts.proofs.seats.Seats.get.Goals as goal
+
+pub sitting-requires : goal.sitting-requires
+sitting-requires c = omega (arith, c.seat_of.ensures, low_seat c.args.actor c.requires, c.self.invariant.many)
+
+pub returns : goal.returns
+returns c = c.sitting.ensures ∙ ap (λ xs. get_or xs c.seat_of.result None) c.deref.ensures.value ∙ ap (λ k. get_or c.self.inside.seats.items k None) c.seat_of.ensures ∙ sym (get_seated c.self.inside.seats.items c.args.actor c.requires) ∙ ap (λ m. get m c.args.actor) c.self.view_is

@@ -1,0 +1,40 @@
+//! An engine asks for a parameter of a rule.
+
+ghost use Rattle.std.specs.Prelude.{◌≡◌, ℕ, None};
+ghost use Rattle.std.specs.FinMap.{get};
+ghost use Rattle.tw_types.specs.declared.actor.Actor.TheVariants.{Engine};
+ghost use Rattle.tw_types.specs.declared.event.Event.TheVariants.{Ask};
+ghost use Rattle.tw_types.specs.Layout.{ActorCounts};
+ghost use Rattle.tw_types.specs.Notices.{Notices};
+ghost use Rattle.tw_types.specs.Rule.{next_ask};
+ghost use Rattle.tw_verify.specs.Typed.{TypedProgram};
+ghost use Rattle.tw_parts.specs.Events.{IsTried, Makes, Untouched};
+ghost use Rattle.tw_parts.specs.Fits.{AreParts};
+
+use crate::parts::Parts;
+use std::alloc::AllocError;
+use tw_store::Asked;
+use tw_types::RuleNo;
+
+impl<'a> Parts<'a> {
+    /// What an engine without a task asks for next, if there is something: the rule, and the parameter.
+    pub fn ask(&mut self, engine: u8) -> Result<Option<(RuleNo, u8)>, AllocError>
+        requires free { get self.old.seats (Engine engine) ≡ None }
+        requires parts { (verified : TypedProgram) × (layout : ActorCounts) × (notices : Notices) × AreParts verified layout self.old notices }
+        ensures { IsTried (next_ask engine self.old.rules.rules)
+            (λ (q : ℕ × ℕ). (verified : TypedProgram) (layout : ActorCounts) → Makes verified layout (Ask engine q.0 q.1) self.old self.new)
+            (Untouched self.old self.new) result }
+    {
+        let Some(next) = self.rules.next_ask(engine) else {
+            return Ok(None);
+        };
+        let (rule, parameter) = next;
+        let right = self.rules.asked_right(rule, parameter);
+        let asked = self.store.ask(right, rule, parameter)?;
+        match asked {
+            Asked::Closed => self.rules.mark_ready(rule, parameter),
+            Asked::Noted => self.rules.mark_asked(rule, parameter),
+        }
+        Ok(Some((rule, parameter)))
+    }
+}

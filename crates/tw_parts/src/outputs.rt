@@ -1,0 +1,45 @@
+//! The outputs of a run.
+
+ghost use Rattle.std.specs.Prelude.{◌≡◌, map as each};
+ghost use Rattle.tw_rights.specs.Rights.{Right};
+
+use std::marker::Model;
+use tw_rights::ReadRight;
+use tw_types::DatumId;
+
+/// The outputs, by the order of main's parameters: a right of the host's on each. Their ids are kept beside them, so that
+/// they are told at the end without memory.
+pub struct Outputs {
+    rights: Vec<ReadRight>,
+    ids: Vec<DatumId>,
+}
+
+impl Model for Outputs {
+    ghost use Rattle.std.specs.Prelude.{List, ◌≡◌, map as each};
+    ghost use Rattle.tw_rights.specs.Rights.{Right};
+
+    ghost Value = { List Right };
+
+    ghost view = { λ o. o.rights.items };
+
+    ghost invariant = { λ o. o.ids.items ≡ each (λ (r : Right). r.id) o.rights.items };
+}
+
+/// Spends the rights.
+fn spend_all(mut rights: Vec<ReadRight>) {
+    while let Some(right) = rights.pop() {
+        let _id = right.spend();
+    }
+    rights.destroy_empty();
+}
+
+impl Outputs {
+    /// Spends the rights, and tells the ids of their data.
+    pub fn shut(self) -> Vec<DatumId>
+        ensures { result.items ≡ each (λ (r : Right). r.id) self }
+    {
+        let Outputs { rights, ids } = self;
+        spend_all(rights);
+        ids
+    }
+}

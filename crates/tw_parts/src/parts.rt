@@ -1,0 +1,18 @@
+//! The parts of a pool.
+
+use crate::outputs::Outputs;
+use crate::seats::Seats;
+use tw_queue::TaskQueues;
+use tw_rules::RuleTable;
+use tw_store::Store;
+
+/// All that the machine's state is read off.
+pub struct Parts<'a> {
+    pub store: Store,
+    pub rules: RuleTable,
+    pub tasks: TaskQueues,
+    /// The number of the task that is put next.
+    pub next_task: u64,
+    pub seats: Seats<'a>,
+    pub outputs: Outputs,
+}

@@ -1,0 +1,137 @@
+//! The tasks that run, by their actors.
+
+ghost use Rattle.std.specs.Prelude.{◌≡◌, ◌<◌, IfOk, None, Some, length, slice_index_or, slice_set};
+ghost use Rattle.std.specs.FinMap as map;
+ghost use Rattle.std.specs.FinMap.{get, insert, remove, len};
+ghost use Rattle.std.specs.Option.{option_copied};
+ghost use Rattle.tw_frame.specs.Jobs.{FrameView};
+ghost use Rattle.tw_parts.specs.Seats.{HasSeat, seat_of};
+
+use std::alloc::{AllocError, Global};
+use std::marker::Model;
+use tw_frame::Frame;
+use tw_types::Actor;
+
+/// A seat for each actor of the greatest layout: engines, servers, workers.
+pub struct Seats<'a> {
+    seats: Vec<Option<Frame<'a>>>,
+    taken: usize,
+}
+
+impl<'a> Model for Seats<'a> {
+    ghost use Rattle.std.specs.Coded.{codes};
+    ghost use Rattle.std.specs.FinMap.{code};
+    ghost use Rattle.tw_types.specs.Actor.{actor_cmp};
+    ghost use Rattle.tw_frame.specs.Jobs.{FrameView};
+    ghost use Rattle.tw_parts.specs.Seats.{Seated};
+
+    ghost Value = { Seated };
+
+    ghost coded = { Prim.hlevel (codes, code {X = FrameView} {R = actor_cmp} (Prim.hlevel codes) (Prim.hlevel codes)) };
+
+    ghost use Rattle.tw_parts.specs.Seats.{seated, AreSeats};
+
+    ghost view = { λ s. seated s.seats.items };
+
+    ghost invariant = { λ s. AreSeats s.seats.items s.taken };
+}
+
+fn seat_of(actor: Actor) -> usize
+    requires { HasSeat actor }
+    ensures { result ≡ seat_of actor }
+{
+    match actor {
+        Actor::Engine(number) => usize::from(number),
+        Actor::Server(number) => 4 + usize::from(number),
+        Actor::Worker(number) => 8 + usize::from(number),
+    }
+}
+
+/// Who sits there.
+fn sitting<'s, 'a>(seats: &'s [Option<Frame<'a>>], seat: usize) -> Option<&'s Frame<'a>>
+    requires { seat < length seats.now }
+    ensures { option_copied result ≡ slice_index_or seats.now seat None }
+{
+    seats[seat].as_ref()
+}
+
+/// Takes who sits there.
+fn unseat<'a>(seats: &mut Vec<Option<Frame<'a>>>, seat: usize) -> Option<Frame<'a>>
+    requires { seat < length seats.old.items }
+    ensures taken { result ≡ slice_index_or seats.old.items seat None }
+    ensures rest { seats.new.items ≡ slice_set seats.old.items seat None }
+{
+    let place = &mut seats[seat];
+    place.take()
+}
+
+/// Puts a task into an empty seat.
+fn seat<'a>(seats: &mut Vec<Option<Frame<'a>>>, seat: usize, frame: Frame<'a>)
+    requires inside { seat < length seats.old.items }
+    requires empty { slice_index_or seats.old.items seat None ≡ None }
+    ensures { seats.new.items ≡ slice_set seats.old.items seat (Some frame.entry) }
+{
+    let place = &mut seats[seat];
+    match std::mem::replace(place, Some(frame)) {
+        None => {}
+        Some(_frame) => unreachable!(),
+    }
+}
+
+/// Spends every right of those who sit there.
+fn shut_all<'a>(mut seats: Vec<Option<Frame<'a>>>) {
+    while let Some(seat) = seats.pop() {
+        if let Some(frame) = seat {
+            frame.shut();
+        }
+    }
+    seats.destroy_empty();
+}
+
+impl<'a> Seats<'a> {
+    /// Spends every right of every task.
+    pub fn shut(self) {
+        let Seats { seats, taken: _ } = self;
+        shut_all(seats);
+    }
+
+    /// The number of tasks that run.
+    pub fn running(&self) -> usize
+        ensures { result ≡ len self.now }
+    {
+        self.taken
+    }
+
+    /// The task of an actor, if it has one.
+    pub fn get(&self, actor: Actor) -> Option<&Frame<'a>>
+        requires { HasSeat actor }
+        ensures { option_copied result ≡ get self.now actor }
+    {
+        sitting(&self.seats, seat_of(actor))
+    }
+
+    /// Takes the task of an actor, if it has one.
+    pub(crate) fn take(&mut self, actor: Actor) -> Option<Frame<'a>>
+        requires { HasSeat actor }
+        ensures taken { result ≡ get self.old actor }
+        ensures rest { self.new ≡ remove self.old actor }
+    {
+        match unseat(&mut self.seats, seat_of(actor)) {
+            Some(frame) => {
+                self.taken -= 1;
+                Some(frame)
+            }
+            None => None,
+        }
+    }
+
+    /// Seats the task of an actor that has none.
+    pub(crate) fn put(&mut self, actor: Actor, frame: Frame<'a>)
+        requires seat { HasSeat actor }
+        requires empty { get self.old actor ≡ None }
+        ensures { self.new ≡ insert self.old actor frame.entry }
+    {
+        seat(&mut self.seats, seat_of(actor), frame);
+        self.taken += 1;
+    }
+}
