@@ -1,10 +1,12 @@
 -- What the laws of the machine say of the state for which parts stand.
-use Rattle.std.proofs.Common.{◌≡◌, ◌≢◌, ◌<◌, ◌∙◌, sym, ap, ℕ, ◌++◌, ◌∷◌, [], List, length, Some, true, nat_lt, arith}
+use Rattle.std.proofs.Common.{◌≡◌, ◌≢◌, ◌<◌, ◌∙◌, sym, ap, ℕ, ◌++◌, ◌∷◌, [], List, length, Option, Some, None, ◌≤◌, true, nat_lt, arith}
 use Rattle.std.proofs.lemmas.Bool.{ltb-true}
 use Rattle.std.specs.FinMap.{get}
 use Rattle.tw_types.specs.declared.actor.Actor.{Actor}
 use Rattle.tw_types.specs.declared.actor.Actor.TheVariants.{Engine, Server, Worker}
 use Rattle.tw_types.specs.declared.event.Event.{Event}
+use Rattle.tw_types.specs.declared.actor.Kind.{Kind}
+use Rattle.tw_types.specs.declared.actor.Kind.TheVariants.{Control, Leaf}
 use Rattle.tw_types.specs.Actor.{is_in}
 use Rattle.tw_types.specs.Layout.{ActorCounts, IsLayout}
 use Rattle.tw_types.specs.Notices.{Notices}
@@ -13,10 +15,12 @@ use Rattle.tw_code.specs.machine.History.{actor_of}
 use Rattle.tw_code.specs.machine.Machine.{step}
 use Rattle.tw_code.specs.machine.Opening.{opening}
 use Rattle.tw_code.specs.machine.State.{State}
-use Rattle.tw_code.proofs.Placed.{IsPlaced, reached_placed}
+use Rattle.tw_code.specs.accepting.Needs.{up_to}
+use Rattle.tw_code.proofs.Placed.{IsPlaced, count_of, reached_placed}
 use Rattle.tw_code.proofs.Runs.{run_more}
 use Rattle.tw_no_trap.specs.Invariant.{IsHeld}
 use Rattle.tw_no_trap.proofs.Safe.{reached_is_held}
+use Rattle.tw_queue.specs.Queues.{IsTarget}
 use Rattle.tw_verify.specs.Typed.{TypedProgram, typings_of}
 use Rattle.tw_parts.specs.Events.{Goes}
 use Rattle.tw_parts.specs.Fits.{AreParts, IsReached, Stand}
@@ -64,3 +68,9 @@ pub has_seat : (layout : ActorCounts) (actor : Actor) → IsLayout layout → is
 has_seat layout (Engine number) counts there = let below = ltb-true number layout.engines there in omega (arith, below, counts.few_engines)
 has_seat layout (Server number) counts there = let below = ltb-true number layout.servers there in omega (arith, below, counts.few_servers)
 has_seat layout (Worker number) counts there = let below = ltb-true number layout.workers there in omega (arith, below, counts.few_workers)
+
+-- a target of the layout is one that the queues have
+pub target_below : (layout : ActorCounts) (kind : Kind) (target : Option ℕ) → IsLayout layout → up_to target ≤ count_of layout kind → IsTarget target
+target_below layout kind None counts low = tt
+target_below layout Control (Some number) counts low = omega (arith, low, counts.few_engines)
+target_below layout Leaf (Some number) counts low = omega (arith, low, counts.few_workers)

@@ -1,5 +1,5 @@
 -- An engine releases a rule: on the parts.
-use Rattle.std.proofs.Common.{map, ◌≡◌, ◌<◌, ◌+◌, ℕ, Bool, true, false, List, [], ◌∷◌, Option, Some, None, IsSome, refl, sym, ap, subst, ◌∙◌, slice_get, option_map, arith, nat_cmp}
+use Rattle.std.proofs.Common.{map, ◌≡◌, ◌<◌, ◌≤◌, ◌+◌, ℕ, Bool, true, false, List, [], ◌∷◌, Option, Some, None, IsSome, refl, sym, ap, subst, ◌∙◌, slice_get, option_map, arith, nat_cmp}
 use Rattle.std.proofs.lemmas.Option.{same_Some}
 use Rattle.std.specs.Cmp.{nat_cmp_total}
 use Rattle.std.specs.FinMap.{entries, get, insert, remove, nat_cmp-IsAntisymmetric}
@@ -17,6 +17,9 @@ use Rattle.tw_code.specs.declared.procedure.Procedure.{Procedure}
 use Rattle.tw_verify.specs.Typed.{TypedProgram, typings_of}
 use Rattle.tw_code.specs.machine.Machine.{step}
 use Rattle.tw_code.specs.machine.State.{State, with_task}
+use Rattle.tw_code.specs.accepting.Needs.{up_to}
+use Rattle.tw_code.proofs.Placed.{count_of}
+use Rattle.tw_queue.specs.Queues.{IsTarget}
 use Rattle.tw_code.proofs.Found.{IsOwn, MayBeReleased, release_found, own_rule_there}
 use Rattle.tw_no_trap.proofs.Safe.{kept_by}
 use Rattle.tw_parts.specs.Events.{Goes}
@@ -30,7 +33,7 @@ use Rattle.tw_parts.specs.declared.parts.Parts.{Parts}
 use Rattle.tw_parts.proofs.Fitting.{Behind, behind, seen, stand_released}
 use Rattle.tw_types.proofs.Mapped.{insert_mapped, remove_mapped, get_mapped}
 use Rattle.tw_types.proofs.Chosen.{next_release_mapped}
-use Rattle.tw_parts.proofs.Law.{goes_to, held}
+use Rattle.tw_parts.proofs.Law.{goes_to, held, in_layout, target_below}
 
 -- no task waits under the next number
 pub fresh : (verified : TypedProgram) (layout : ActorCounts) (old : Parts) (notices : Notices) → AreParts verified layout old notices → get old.tasks.tasks old.next_task ≡ None
@@ -58,6 +61,12 @@ module _ (verified : TypedProgram) (layout : ActorCounts) (old : Parts) (notices
   procedure =
       let p = (held verified layout old notices h).types.procedures.rules number found.rule pending in
       (p.0, ap (λ (r : Rule). slice_get verified.program r.procedure) its.is ∙ p.1)
+
+  pub target : IsTarget its.x.target
+  target =
+      let it = (in_layout verified layout old notices h).rules number found.rule pending in
+      target_below layout procedure.0.kind its.x.target h.runnable.counts
+        (subst (λ (r : Rule). up_to r.target ≤ count_of layout procedure.0.kind) (sym its.is) (it.target procedure.0 (ap (λ (r : Rule). slice_get verified.program r.procedure) (sym its.is) ∙ procedure.1)))
 
   module _ (free : get old.seats (Engine engine) ≡ None) where
     goes : step verified.program layout (Release engine number) (state_of old notices) ≡ Went (with_task (record (state_of old notices) { rules = remove (mapped bare_rule old.rules.rules) number }) (task_from procedure.0.kind found.rule))

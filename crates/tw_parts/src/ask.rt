@@ -32,9 +32,14 @@ impl<'a> Parts<'a> {
         let right = self.rules.asked_right(rule, parameter);
         let asked = self.store.ask(right, rule, parameter)?;
         match asked {
-            Asked::Closed => self.rules.mark_ready(rule, parameter),
-            Asked::Noted => self.rules.mark_asked(rule, parameter),
+            Asked::Closed => {
+                self.rules.mark_ready(rule, parameter);
+                Ok(Some((rule, parameter)))
+            }
+            Asked::Noted => {
+                self.rules.mark_asked(rule, parameter);
+                Ok(Some((rule, parameter)))
+            }
         }
-        Ok(Some((rule, parameter)))
     }
 }

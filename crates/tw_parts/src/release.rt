@@ -43,15 +43,17 @@ impl<'a> Parts<'a> {
             return Ok(None);
         };
         let action = self.rules.action(rule);
-        let kind = procedure_at(verified.program().procedures(), action.procedure).kind;
+        let callee = procedure_at(verified.program().procedures(), action.procedure);
+        let kind = callee.kind;
         let Ok(()) = self.tasks.reserve(kind) else {
             return Err(AllocError);
         };
+        let args = self.rules.release(rule);
         let number = self.next_task;
         let task = Task {
             no: TaskNo::new(number),
             procedure: action.procedure,
-            args: self.rules.release(rule),
+            args,
         };
         match self.tasks.put(kind, action.priority, action.target, task) {
             Ok(()) => {}
