@@ -1,3 +1,4 @@
 mod Round
 pub mod Counting
 pub mod Lines
+mod Fitting

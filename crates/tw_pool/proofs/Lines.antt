@@ -19,8 +19,7 @@ use Rattle.tw_pool.specs.declared.answer.Closing.{Closing}
 use Rattle.tw_pool.specs.declared.answer.Turn.{Turn}
 use Rattle.tw_pool.specs.Actors.{events_of, same_actor}
 use Rattle.tw_pool.specs.PoolView.{PoolView}
-use Rattle.tw_pool.specs.TurnLaws.{AreOwn}
-use Rattle.tw_pool.specs.Turns.{Answers, GoesFree, HandsIn, Makes, TakesBack, Turns, TurnsUnless, instr_behind, is_last, lent_to, steps_of}
+use Rattle.tw_pool.specs.Turns.{Answers, AreOwn, GoesFree, HandsIn, Makes, TakesBack, Turns, TurnsUnless, instr_behind, is_last, lent_to, steps_of}
 use Rattle.tw_pool.proofs.Counting.{itself}
 
 -- ---- events of one actor

@@ -1,5 +1,5 @@
 -- What a turn answers, and which events it appends: a table, of whose lines the first that fits is taken.
-use Rattle.std.specs.Prelude.{◌≡◌, ◌≢◌, ◌⊎◌, ℕ, ◌+◌, ◌==◌, Bool, true, false, not, ◌&&◌, if◌then◌else◌, List, [], ◌∷◌, ◌++◌, length, Option, Some, None, slice_get}
+use Rattle.std.specs.Prelude.{◌≡◌, ◌≢◌, ◌⊎◌, ℕ, ◌+◌, ◌≤◌, ◌==◌, Bool, true, false, not, ◌&&◌, if◌then◌else◌, List, [], ◌∷◌, ◌++◌, length, Option, Some, None, slice_get}
 use Rattle.std.specs.FinMap.{get}
 use Rattle.std.specs.Option.{option_and_then, option_map, option_or}
 use Rattle.tw_types.specs.declared.actor.Actor.{Actor}
@@ -112,10 +112,19 @@ abbrev pub TurnsUnless : Option Closing → PoolView → State → Actor → Opt
 TurnsUnless (Some closing) p s actor given = Answers (Over closing) []
 TurnsUnless None p s actor given = Turns p s actor (lent_to p s actor) given
 
--- one turn: a line of the table in the pool's state, and nothing but its events is new
-pub record IsTurn (old : PoolView) (actor : Actor) (given : Option DoneView) (answer : Turn) (new : PoolView) : Type 0 where
+-- a line in the pool's state, and nothing but its events is new
+pub record IsTurnBy (line : State → Line) (old : PoolView) (answer : Turn) (new : PoolView) : Type 0 where
   pub state : State
   pub has_state : HasState old state
   pub events : List Event
-  pub line : TurnsUnless (closing_at old state) old state actor given answer events
+  pub is : line state answer events
   pub appended : new ≡ with_events old events
+
+-- one turn of an actor, with a Done or none
+abbrev pub IsTurn : PoolView → Actor → Option DoneView → Turn → PoolView → Type 0
+IsTurn old actor given answer new = IsTurnBy (λ s. TurnsUnless (closing_at old s) old s actor given) old answer new
+
+-- what follows for every turn: one or two events at most, all of the actor
+pub record AreOwn (actor : Actor) (events : List Event) : Type 0 where
+  pub few : length events ≤ 2
+  pub own : events_of actor events ≡ events

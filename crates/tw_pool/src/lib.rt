@@ -3,7 +3,9 @@
 
 mod answer;
 mod history;
+mod pool;
 mod words;
 
 pub use answer::{Closing, Turn};
 pub use history::History;
+pub use pool::Pool;
