@@ -2,3 +2,4 @@ mod Round
 pub mod Counting
 pub mod Lines
 mod Fitting
+mod Keeping
