@@ -3,3 +3,4 @@ pub mod Counting
 pub mod Lines
 mod Fitting
 mod Keeping
+mod Freely

@@ -2,6 +2,7 @@
 #![tactic(auto)]
 
 mod answer;
+mod free;
 mod history;
 mod pool;
 mod words;
