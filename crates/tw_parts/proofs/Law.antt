@@ -27,7 +27,9 @@ use Rattle.tw_parts.specs.Fits.{AreParts, IsReached, Stand}
 use Rattle.tw_parts.specs.Notes.{AreQueued}
 use Rattle.tw_parts.specs.Parts.{state_of}
 use Rattle.tw_parts.specs.Seats.{HasSeat}
+use Rattle.tw_frame.specs.Jobs.{FrameView, bare_frame}
 use Rattle.tw_parts.specs.declared.parts.Parts.{Parts}
+use Rattle.tw_parts.proofs.Fitting.{seen}
 
 module _ (verified : TypedProgram) (layout : ActorCounts) (p : Parts) (notices : Notices) (h : AreParts verified layout p notices) where
   pub held : IsHeld verified.program (typings_of verified) (state_of p notices)
@@ -68,6 +70,11 @@ pub has_seat : (layout : ActorCounts) (actor : Actor) → IsLayout layout → is
 has_seat layout (Engine number) counts there = let below = ltb-true number layout.engines there in omega (arith, below, counts.few_engines)
 has_seat layout (Server number) counts there = let below = ltb-true number layout.servers there in omega (arith, below, counts.few_servers)
 has_seat layout (Worker number) counts there = let below = ltb-true number layout.workers there in omega (arith, below, counts.few_workers)
+
+-- who runs a task
+pub runner_has_seat : (verified : TypedProgram) (layout : ActorCounts) (p : Parts) (notices : Notices) → AreParts verified layout p notices → (actor : Actor) (f : FrameView) → get p.seats actor ≡ Some f → HasSeat actor
+runner_has_seat verified layout p notices h actor f sits =
+    has_seat layout actor h.runnable.counts ((in_layout verified layout p notices h).frames actor (bare_frame f) (seen bare_frame p.seats actor (Some f) sits)).there
 
 -- a target of the layout is one that the queues have
 pub target_below : (layout : ActorCounts) (kind : Kind) (target : Option ℕ) → IsLayout layout → up_to target ≤ count_of layout kind → IsTarget target

@@ -5,3 +5,10 @@ mod Fitting
 mod Delivers
 mod Staging
 mod Releases
+mod Ends
+mod Goings
+mod Takes
+mod Copied
+mod Handing
+mod Kinding
+mod Naming

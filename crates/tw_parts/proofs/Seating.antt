@@ -1,5 +1,5 @@
 -- The seats, seen as a finite map by actors.
-use Rattle.std.proofs.Common.{◌≡◌, ◌≢◌, ◌<◌, ◌≤◌, ◌+◌, ◌-◌, ℕ, zero, suc, Bool, true, false, cond, not, nat_lt, if◌then◌else◌, List, [], ◌∷◌, length, Option, Some, None, is_some, count_by, refl, sym, ap, subst, ◌∙◌, get_or, set, arith, inl, inr}
+use Rattle.std.proofs.Common.{◌≡◌, ◌≢◌, ◌<◌, ◌≤◌, ◌+◌, ◌-◌, ℕ, zero, suc, Bool, true, false, cond, not, nat_lt, if◌then◌else◌, List, [], ◌∷◌, length, Option, Some, None, is_some, count_by, length-set, refl, sym, ap, subst, ◌∙◌, get_or, set, arith, inl, inr}
 use Rattle.std.proofs.lemmas.Bool.{cases_eq}
 use Rattle.std.proofs.lemmas.Bool.Decides.{nat_tests}
 use Rattle.std.proofs.lemmas.List.{get_or-set_same, get_or-set_other}
@@ -12,7 +12,7 @@ use Rattle.tw_types.specs.declared.actor.Actor.TheVariants.{Engine, Server, Work
 use Rattle.tw_types.specs.Actor.{actor_cmp}
 use Rattle.tw_types.proofs.ActorOrder.{actor_cmp_total, actor_cmp-IsAntisymmetric}
 use Rattle.tw_frame.specs.Jobs.{FrameView}
-use Rattle.tw_parts.specs.Seats.{HasSeat, Seated, actor_of, seat_of, seated, who_sit}
+use Rattle.tw_parts.specs.Seats.{AreSeats, HasSeat, Seated, actor_of, seat_of, seated, who_sit}
 
 abbrev Seats : Type 0
 Seats = List (Option FrameView)
@@ -150,17 +150,30 @@ count_set (x ∷ seats) (suc k) o h =
     let rest = count_set seats k o (omega arith) in
     omega (arith, rest, sum_by-cons (λ o. cond (is_some o) 1 0) x (set seats k o), sum_by-cons (λ o. cond (is_some o) 1 0) x seats)
 
--- an actor that has left comes back
-pub back : (m : Seated) (a : Actor) (f : FrameView) → insert (remove m a) a f ≡ insert m a f
-back m a f = same_map actor_cmp_total actor_cmp-IsAntisymmetric _ _ (λ q. get-insert actor_cmp_total (remove m a) a f q ∙ ap (cond (eq_by_cmp actor_cmp q a) (Some f)) (get-remove actor_cmp_total m a q)
-    ∙ over (eq_by_cmp actor_cmp q a) (get m q) ∙ sym (get-insert actor_cmp_total m a f q))
-  where
-    over : (t : Bool) (y : Option FrameView) → cond t (Some f) (cond t None y) ≡ cond t (Some f) y
-    over true y = refl
-    over false y = refl
+-- what is read there, whatever the default
+pub in_list : {A : Type 0} (xs : List A) (k : ℕ) (d e : A) → k < length xs → get_or xs k d ≡ get_or xs k e
+in_list [] k d e l = absurd (omega (arith, l))
+in_list (x ∷ xs) zero d e l = refl
+in_list (x ∷ xs) (suc k) d e l = in_list xs k d e (omega (arith, l))
 
-pub left : (m : Seated) (a : Actor) → get (remove m a) a ≡ None
-left m a = get-remove actor_cmp_total m a a ∙ ap (λ t. cond t None (get m a)) (itself a)
+-- what the seats become when who sits in one changes
+module _ (seats : Seats) (taken : ℕ) (all : AreSeats seats taken) (m : Seated) (same : seated seats ≡ m) (a : Actor) (h : HasSeat a) (seat : ℕ) (here : seat ≡ seat_of a) where
+  inside : seat < length seats
+  inside = omega (arith, here, low_seat a h, all.many)
+
+  pub sits_there : (f : FrameView) → get m a ≡ Some f → get_or seats seat None ≡ Some f
+  sits_there f at = ap (λ k. get_or seats k None) here ∙ sym (get_seated seats a h) ∙ ap (λ x. get x a) same ∙ at
+
+  pub changed : (g : FrameView) (new : Seats) → new ≡ set seats seat (Some g) → seated new ≡ insert m a g
+  changed g new is = ap seated (is ∙ ap (λ k. set seats k (Some g)) here) ∙ seated_put seats a g h (subst (λ k. k < length seats) here inside) ∙ ap (λ x. insert x a g) same
+
+  pub still_seats : (f g : FrameView) → get m a ≡ Some f → (new : Seats) → new ≡ set seats seat (Some g) → AreSeats new taken
+  still_seats f g at new is =
+      let one : ◌≡◌ {A = ℕ} (cond (is_some (get_or seats seat None)) 1 0) 1 = ap (λ o. cond (is_some o) 1 0) (sits_there f at) in
+      record {
+        many = ap length is ∙ length-set seats seat (Some g) ∙ all.many;
+        counted = let e = count_set seats seat (Some g) inside in omega (arith, e, one, all.counted, ap (count_by is_some) is);
+      }
 
 -- the others' tasks are the same
 pub get_other : (m : Seated) (a : Actor) (f : FrameView) (q : Actor) → q ≢ a → get (insert m a f) q ≡ get m q
@@ -171,3 +184,20 @@ get_other_left m a q apart = get-remove actor_cmp_total m a q ∙ ap (λ t. cond
 
 pub get_own : (m : Seated) (a : Actor) (f : FrameView) → get (insert m a f) a ≡ Some f
 get_own m a f = get-insert actor_cmp_total m a f a ∙ ap (λ t. cond t (Some f) (get m a)) (itself a)
+
+-- who sits there again
+pub same_seat : (m : Seated) (a : Actor) (f : FrameView) → get m a ≡ Some f → insert m a f ≡ m
+same_seat m a f sits = same_map actor_cmp_total actor_cmp-IsAntisymmetric _ _ (λ q. get-insert actor_cmp_total m a f q ∙ by q (eq_by_cmp actor_cmp q a) refl)
+  where
+    by : (q : Actor) (t : Bool) → eq_by_cmp actor_cmp q a ≡ t → cond t (Some f) (get m q) ≡ get m q
+    by q true e = sym (ap (get m) (same_actor q a e) ∙ sits)
+    by q false e = refl
+
+-- another in the same seat
+pub again : (m : Seated) (a : Actor) (f g : FrameView) → insert (insert m a f) a g ≡ insert m a g
+again m a f g = same_map actor_cmp_total actor_cmp-IsAntisymmetric _ _ (λ q. get-insert actor_cmp_total (insert m a f) a g q ∙ ap (cond (eq_by_cmp actor_cmp q a) (Some g)) (get-insert actor_cmp_total m a f q)
+    ∙ over (eq_by_cmp actor_cmp q a) (get m q) ∙ sym (get-insert actor_cmp_total m a g q))
+  where
+    over : (t : Bool) (y : Option FrameView) → cond t (Some g) (cond t (Some f) y) ≡ cond t (Some g) y
+    over true y = refl
+    over false y = refl

@@ -1,11 +1,10 @@
 -- What one event makes of the parts of a pool.
-use Rattle.std.specs.Prelude.{◌≡◌, ◌≢◌, ◌+◌, ◌^◌, List, Option, Some, None, slice_get}
+use Rattle.std.specs.Prelude.{◌≡◌, ◌≢◌, ℕ, ◌^◌, List, Option, Some, None, slice_get}
 use Rattle.std.specs.declared.result.Result.{Result}
 use Rattle.std.specs.declared.result.Result.TheVariants.{Ok, Err}
 use Rattle.std.specs.FinMap.{get, insert}
 use Rattle.tw_types.specs.declared.actor.Actor.{Actor}
 use Rattle.tw_types.specs.declared.event.Event.{Event}
-use Rattle.tw_types.specs.declared.event.Event.TheVariants.{Call}
 use Rattle.tw_types.specs.declared.value.Value.{Value}
 use Rattle.tw_types.specs.Layout.{ActorCounts}
 use Rattle.tw_types.specs.Notices.{Notices}
@@ -18,7 +17,8 @@ use Rattle.tw_code.specs.machine.History.{actor_of}
 use Rattle.tw_code.specs.machine.Machine.{step}
 use Rattle.tw_code.specs.machine.State.{State}
 use Rattle.tw_verify.specs.Typed.{TypedProgram}
-use Rattle.tw_frame.specs.Jobs.{DoneView, FrameView, job_of}
+use Rattle.tw_frame.specs.Jobs.{DoneView, FrameView, JobView, job_of}
+use Rattle.tw_parts.specs.Coming.{come}
 use Rattle.tw_parts.specs.Fits.{AreParts}
 use Rattle.tw_parts.specs.Parts.{state_of}
 use Rattle.tw_parts.specs.declared.parts.Parts.{Parts}
@@ -54,10 +54,6 @@ IsTried due Made Same (Err e) = Same
 
 -- ---- a task that has done local steps meanwhile
 
--- the task, when it has come as far as the Done says
-abbrev pub come : FrameView → DoneView → FrameView
-come f done = record f { position = done.after; spent = f.spent + done.steps }
-
 -- the parts then
 abbrev pub with_done : Parts → Actor → FrameView → DoneView → Parts
 with_done p actor f done = record p { seats = insert p.seats actor (come f done) }
@@ -71,24 +67,40 @@ pub record IsOwed (p : Parts) (actor : Actor) (f : FrameView) (done : DoneView) 
 abbrev pub IsSmall : State → Type 0
 IsSmall s = AreBelow (2 ^ 62) s
 
--- after the Done the actor's task stands at this instruction, in parts that are a pool's
-pub record StandsAt (verified : TypedProgram) (p : Parts) (actor : Actor) (done : DoneView) (instr : Instr) : Type 0 where
+-- the actor's task stands at this instruction then, in parts that are a pool's
+pub record StandsAt (p : Parts) (actor : Actor) (done : DoneView) (instr : Instr) : Type 0 where
   pub layout : ActorCounts
   pub notices : Notices
   pub f : FrameView
   pub owed : IsOwed p actor f done
-  pub parts : AreParts verified layout (with_done p actor f done) notices
+  pub parts : AreParts done.before.program layout (with_done p actor f done) notices
   pub small : IsSmall (state_of (with_done p actor f done) notices)
   pub q : Procedure
-  pub here : slice_get verified.program f.procedure ≡ Some q
+  pub here : slice_get done.before.program.program f.procedure ≡ Some q
   pub behind : slice_get q.code done.after.place ≡ Some instr
 
--- the instruction was done behind the Done, and the actor's task runs on with these values
-pub record IsCalled (verified : TypedProgram) (old : Parts) (actor : Actor) (done : DoneView) (values : List Value) (new : Parts) : Type 0 where
+-- the event goes from there
+abbrev pub MakesBehind : Event → Parts → Actor → DoneView → Parts → Type 0
+MakesBehind event old actor done new = (layout : ActorCounts) (f : FrameView) → IsOwed old actor f done → Makes done.before.program layout event (with_done old actor f done) new
+
+-- the actor's task runs, with these values
+pub record RunsWith (p : Parts) (actor : Actor) (procedure : ℕ) (values : List Value) : Type 0 where
   pub f : FrameView
-  pub owed : IsOwed old actor f done
-  pub makes : (layout : ActorCounts) → Makes verified layout (Call actor) (with_done old actor f done) new
-  pub g : FrameView
-  pub sits : get new.seats actor ≡ Some g
-  pub same : g.procedure ≡ f.procedure
-  pub valued : g.position.values ≡ values
+  pub sits : get p.seats actor ≡ Some f
+  pub of : f.procedure ≡ procedure
+  pub valued : f.position.values ≡ values
+
+-- ---- jobs
+
+-- the actor's task is lent under this number, and nothing else has changed
+pub record IsLent (old : Parts) (actor : Actor) (event_no : ℕ) (job : JobView) (new : Parts) : Type 0 where
+  pub f : FrameView
+  pub sits : get old.seats actor ≡ Some f
+  pub job_is : job ≡ job_of (record f { event_no = event_no })
+  pub new_is : new ≡ record old { seats = insert old.seats actor (record f { event_no = event_no }) }
+
+-- what a Take answers: where a task waits for the actor, the best one starts, and is lent
+abbrev pub IsTaken : {A E : Type 0} → Option A → (A → JobView → Type 0) → Type 0 → Result (Option JobView) E → Type 0
+IsTaken due Made Same (Ok None) = (due ≡ None) × Same
+IsTaken {A = A} due Made Same (Ok (Some job)) = (x : A) × (due ≡ Some x) × Made x job
+IsTaken due Made Same (Err e) = Same

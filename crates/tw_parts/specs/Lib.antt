@@ -4,4 +4,6 @@ pub mod Seats
 pub mod Notes
 pub mod Parts
 pub mod Fits
+pub mod Coming
+pub mod Copies
 pub mod Events

@@ -2,12 +2,17 @@
 //! parts stand for.
 #![tactic(auto)]
 
+mod advance;
 mod ask;
 mod deliver;
+mod end;
+mod in_seat;
+mod lend;
 mod outputs;
 mod parts;
 mod release;
 mod seats;
+mod take;
 
 pub use outputs::Outputs;
 pub use parts::Parts;

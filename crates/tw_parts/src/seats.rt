@@ -1,16 +1,19 @@
 //! The tasks that run, by their actors.
 
-ghost use Rattle.std.specs.Prelude.{◌≡◌, ◌<◌, IfOk, None, Some, length, slice_index_or, slice_set};
-ghost use Rattle.std.specs.FinMap as map;
+ghost use Rattle.std.specs.Prelude.{◌≡◌, ◌<◌, ◌≤◌, ◌+◌, ◌^◌, List, Option, IsSome, None, Some, length, slice_index_or, slice_set};
 ghost use Rattle.std.specs.FinMap.{get, insert, remove, len};
 ghost use Rattle.std.specs.Option.{option_copied};
-ghost use Rattle.tw_frame.specs.Jobs.{FrameView};
+ghost use Rattle.tw_rights.specs.declared.held.Held.{Held};
+ghost use Rattle.tw_rights.specs.Bundled.{bundled};
+ghost use Rattle.tw_frame.specs.Jobs.{FrameView, job_of};
 ghost use Rattle.tw_parts.specs.Seats.{HasSeat, seat_of};
+ghost use Rattle.tw_parts.specs.Coming.{MayLend, come, gone_on};
 
-use std::alloc::{AllocError, Global};
+use crate::in_seat::{advance_in, hand_over_in, lend_in};
 use std::marker::Model;
-use tw_frame::Frame;
-use tw_types::Actor;
+use tw_frame::{Done, Draft, Frame, Job};
+use tw_rights::Bundle;
+use tw_types::{Actor, Param, Value};
 
 /// A seat for each actor of the greatest layout: engines, servers, workers.
 pub struct Seats<'a> {
@@ -133,5 +136,44 @@ impl<'a> Seats<'a> {
     {
         seat(&mut self.seats, seat_of(actor), frame);
         self.taken += 1;
+    }
+
+    /// The actor's task comes as far as the Done says, which is of the job that was lent last.
+    pub(crate) fn advance(&mut self, actor: Actor, done: Done<'a>)
+        requires seat { HasSeat actor }
+        requires sits { (f : FrameView) × (get self.old actor ≡ Some f) × (done.before ≡ job_of f) × (f.spent < 2 ^ 63) }
+        ensures { (f : FrameView) → get self.old actor ≡ Some f → self.new ≡ insert self.old actor (come f done.entry) }
+    {
+        advance_in(&mut self.seats, seat_of(actor), done);
+    }
+
+    /// Then hands over arguments, and goes on to the next place.
+    pub(crate) fn hand_over(
+        &mut self,
+        actor: Actor,
+        done: Done<'a>,
+        params: &[Param],
+        args: &[u8],
+        vals: Vec<Value>,
+    ) -> Bundle
+        requires seat { HasSeat actor }
+        requires few { length params.now ≤ 8 }
+        requires sits { (f : FrameView) × (get self.old actor ≡ Some f) × (done.before ≡ job_of f) × (f.spent + done.steps < 2 ^ 63)
+            × (done.after.place < 2 ^ 63) × IsSome (bundled f.held params.now args.now vals.items) }
+        ensures { (f : FrameView) → get self.old actor ≡ Some f → (file : List (Option Held))
+            × (bundled f.held params.now args.now vals.items ≡ Some (record { args = result; file = file }))
+            × (self.new ≡ insert self.old actor (gone_on (come f done.entry) file)) }
+    {
+        hand_over_in(&mut self.seats, seat_of(actor), done, params, args, vals)
+    }
+
+    /// Lends the actor's task by the number of its events. The draft has the task's values.
+    pub(crate) fn lend(&mut self, actor: Actor, event_no: u64, draft: Draft<'a>) -> Job<'a>
+        requires seat { HasSeat actor }
+        requires sits { (f : FrameView) × (get self.old actor ≡ Some f) × MayLend f draft }
+        ensures { (f : FrameView) → get self.old actor ≡ Some f
+            → (result ≡ job_of (record f { event_no = event_no })) × (self.new ≡ insert self.old actor (record f { event_no = event_no })) }
+    {
+        lend_in(&mut self.seats, seat_of(actor), event_no, draft)
     }
 }

@@ -1,0 +1,65 @@
+-- A task ends: on the parts.
+use Rattle.std.proofs.Common.{map, ◌≡◌, ◌≢◌, ◌∙◌, List, Some, true, refl, sym, ap, slice_get, is_none}
+use Rattle.std.specs.FinMap.{get, remove}
+use Rattle.std.specs.List.{list_all}
+use Rattle.tw_types.specs.declared.actor.Actor.{Actor}
+use Rattle.tw_types.specs.declared.event.Event.TheVariants.{End}
+use Rattle.tw_types.specs.Layout.{ActorCounts}
+use Rattle.tw_types.specs.Mapped.{mapped}
+use Rattle.tw_types.specs.Notices.{Notices}
+use Rattle.tw_types.specs.Outcome.{Went}
+use Rattle.tw_types.proofs.ActorOrder.{actor_cmp_total, actor_cmp-IsAntisymmetric}
+use Rattle.tw_types.proofs.Mapped.{remove_mapped}
+use Rattle.tw_rights.specs.Bare.{bare_rule, bare_task}
+use Rattle.tw_rights.specs.Rights.{Right}
+use Rattle.tw_code.specs.declared.instr.Instr.TheVariants.{Ret}
+use Rattle.tw_code.specs.declared.procedure.Procedure.{Procedure}
+use Rattle.tw_code.specs.machine.Holders.{typing_of}
+use Rattle.tw_code.specs.machine.Machine.{step}
+use Rattle.tw_code.specs.machine.State.{State}
+use Rattle.tw_no_trap.proofs.AllEvents.{all_empty}
+use Rattle.tw_no_trap.proofs.Running.{asked_at}
+use Rattle.tw_verify.specs.Typed.{TypedProgram, typings_of}
+use Rattle.tw_frame.specs.Jobs.{FrameView, bare_frame}
+use Rattle.tw_parts.specs.Events.{Goes}
+use Rattle.tw_parts.specs.Fits.{AreParts, Stand}
+use Rattle.tw_parts.specs.Parts.{state_of}
+use Rattle.tw_parts.specs.declared.parts.Parts.{Parts}
+use Rattle.tw_parts.proofs.Fitting.{seen, stand_ended}
+use Rattle.tw_parts.proofs.Law.{goes_to, held}
+use Rattle.tw_parts.proofs.Seating.{get_other_left}
+
+module _ (verified : TypedProgram) (layout : ActorCounts) (old : Parts) (notices : Notices) (h : AreParts verified layout old notices)
+    (actor : Actor) (f : FrameView) (p : Procedure) (runs : get old.seats actor ≡ Some f) (here : slice_get verified.program f.procedure ≡ Some p)
+    (at : slice_get p.code f.position.place ≡ Some Ret) where
+  there : get (mapped bare_frame old.seats) actor ≡ Some (bare_frame f)
+  there = seen bare_frame old.seats actor (Some f) runs
+
+  empty : list_all is_none (bare_frame f).rights ≡ true
+  empty =
+      let asked = asked_at verified.program (typings_of verified) h.runnable.is h.runnable.right f.procedure p here f.position.place Ret at in
+      all_empty old.store.store (typing_of (typings_of verified) (bare_frame f)) (bare_frame f).rights ((held verified layout old notices h).types.rights actor (bare_frame f) there) asked.0
+
+  goes : step verified.program layout (End actor) (state_of old notices) ≡ Went (record (state_of old notices) { frames = remove (mapped bare_frame old.seats) actor })
+  unfolding step
+  goes = let t = there in let e = empty in rw (t, here, at, e) refl
+
+  module _ (new : Parts) (seats : new.seats ≡ remove old.seats actor) (store : new.store ≡ old.store) (rules : new.rules ≡ old.rules) (tasks : new.tasks ≡ old.tasks) (next_task : new.next_task ≡ old.next_task) (outputs : new.outputs ≡ old.outputs) where
+    same_state : state_of new notices ≡ record (state_of old notices) { frames = remove (mapped bare_frame old.seats) actor }
+    same_state = λ i. record {
+      store = (store i).store;
+      rules = mapped bare_rule (rules i).rules;
+      next_rule = (rules i).next;
+      tasks = mapped bare_task (tasks i).tasks;
+      next_task = next_task i;
+      frames = (ap (mapped bare_frame) seats ∙ remove_mapped bare_frame actor_cmp_total actor_cmp-IsAntisymmetric old.seats actor) i;
+      notices = notices;
+      outputs = map (λ (right : Right). right.id) (outputs i);
+    }
+
+    pub ended : Goes verified layout (End actor) old notices new
+    ended = goes_to verified layout old notices h (End actor) new notices _ goes same_state (rw store h.queued) (rw store h.servers) stand_is
+        (λ other apart. ap (λ m. get m other) seats ∙ get_other_left old.seats actor other apart)
+      where
+        stand_is : Stand verified new.store.places new.seats new.tasks.tasks new.rules.rules new.outputs
+        stand_is = rw (store, seats, tasks, rules, outputs) (stand_ended verified old.store.places old.seats old.tasks.tasks old.rules.rules old.outputs h.stand actor)

@@ -1,0 +1,118 @@
+-- A task goes on by local steps, and is lent: on the parts.
+use Rattle.std.proofs.Common.{map, ◌≡◌, ◌≢◌, ◌<◌, ◌+◌, ◌∙◌, ℕ, Bool, true, false, List, Option, Some, refl, sym, ap, subst, slice_get, arith, nat_eq}
+use Rattle.std.proofs.lemmas.Bool.Decides.{nat_tests}
+use Rattle.std.proofs.lemmas.Option.{same_Some}
+use Rattle.std.specs.FinMap.{get, insert}
+use Rattle.tw_types.specs.declared.actor.Actor.{Actor}
+use Rattle.tw_types.specs.declared.event.Event.TheVariants.{Local}
+use Rattle.tw_types.specs.Layout.{ActorCounts}
+use Rattle.tw_types.specs.Mapped.{mapped}
+use Rattle.tw_types.specs.Notices.{Notices}
+use Rattle.tw_types.specs.Outcome.{Went}
+use Rattle.tw_types.proofs.ActorOrder.{actor_cmp_total, actor_cmp-IsAntisymmetric}
+use Rattle.tw_types.proofs.Mapped.{insert_mapped}
+use Rattle.tw_types.proofs.Outcomes.{same_went}
+use Rattle.tw_code.specs.declared.procedure.Procedure.{Procedure}
+use Rattle.tw_code.specs.machine.Machine.{step, local_steps}
+use Rattle.tw_code.specs.machine.Position.{Position}
+use Rattle.tw_code.specs.machine.State.{with_frame}
+use Rattle.tw_no_trap.proofs.Running.{stands_there, steps_leave}
+use Rattle.tw_verify.specs.Typed.{TypedProgram, typings_of}
+use Rattle.tw_frame.specs.Jobs.{DoneView, FrameView, IsDone, JobView, MayStand, bare_frame}
+use Rattle.tw_frame.proofs.Lending.{stands_fresh}
+use Rattle.tw_parts.specs.Coming.{come}
+use Rattle.tw_parts.specs.Events.{Goes, IsOwed, with_done}
+use Rattle.tw_parts.specs.Fits.{AreParts, FrameFits, Stand, kinds_in}
+use Rattle.tw_parts.specs.Parts.{state_of}
+use Rattle.tw_parts.specs.declared.parts.Parts.{Parts}
+use Rattle.tw_parts.proofs.Fitting.{seen, stand_seated}
+use Rattle.tw_parts.proofs.Law.{goes_to, held}
+use Rattle.tw_parts.proofs.Seating.{get_other, same_seat}
+
+-- where a Done of the frame's job leads
+pub record Leads (program : List Procedure) (f : FrameView) (done : DoneView) : Type 0 where
+  pub p : Procedure
+  pub here : slice_get program f.procedure ≡ Some p
+  pub steps : local_steps done.steps p.code f.position ≡ Went done.after
+
+pub leads : (old : Parts) (actor : Actor) (f : FrameView) (done : DoneView) → IsOwed old actor f done
+    → IsDone done.before.program.program done.before.procedure done.before.position done.after done.steps done.short → Leads done.before.program.program f done
+leads old actor f done owed law = record {
+  p = law.p;
+  here = ap (λ (j : JobView). slice_get done.before.program.program j.procedure) (sym owed.own) ∙ law.here;
+  steps = ap (λ (j : JobView). local_steps done.steps law.p.code j.position) (sym owed.own) ∙ law.reached.went;
+}
+
+-- ---- local steps
+
+module _ (verified : TypedProgram) (layout : ActorCounts) (old : Parts) (notices : Notices) (h : AreParts verified layout old notices)
+    (actor : Actor) (f : FrameView) (runs : get old.seats actor ≡ Some f) (done : DoneView) (way : Leads verified.program f done) where
+  there : get (mapped bare_frame old.seats) actor ≡ Some (bare_frame f)
+  there = seen bare_frame old.seats actor (Some f) runs
+
+  goes : 0 < done.steps → step verified.program layout (Local actor done.steps) (state_of old notices) ≡ Went (with_frame (state_of old notices) actor (bare_frame (come f done)))
+  unfolding step
+  goes some =
+      let t = there in let test : nat_eq done.steps 0 ≡ false = grind (arith, nat_tests) in
+      let here = way.here in let steps = way.steps in
+      rw (test, t, here, steps) refl
+
+  fits : FrameFits verified old.store.places actor (come f done)
+  fits =
+      let before = h.stand.frames actor f runs in
+      let same = steps_leave verified.program (typings_of verified) h.runnable.is h.runnable.right (state_of old notices) (held verified layout old notices h) actor (bare_frame f) there way.p way.here done.steps done.after way.steps in
+      record { program = before.program; own = before.own; placed = before.placed; kinds = before.kinds ∙ ap kinds_in (sym same) }
+
+  same_state : state_of (with_done old actor f done) notices ≡ with_frame (state_of old notices) actor (bare_frame (come f done))
+  same_state = ap (λ m. record (state_of old notices) { frames = m }) (insert_mapped bare_frame actor_cmp_total actor_cmp-IsAntisymmetric old.seats actor (come f done))
+
+  pub gone : 0 < done.steps → Goes verified layout (Local actor done.steps) old notices (with_done old actor f done)
+  gone some = goes_to verified layout old notices h (Local actor done.steps) (with_done old actor f done) notices _ (goes some) same_state h.queued h.servers
+      (stand_seated verified old.store.places old.seats old.tasks.tasks old.rules.rules old.outputs h.stand actor (come f done) fits)
+      (get_other old.seats actor (come f done))
+
+-- where no step was made it stands as before
+pub stayed : (program : List Procedure) (old : Parts) (actor : Actor) (f : FrameView) → get old.seats actor ≡ Some f → (done : DoneView) → Leads program f done → done.steps ≡ 0 → with_done old actor f done ≡ old
+stayed program old actor f runs done way none =
+    let at : f.position ≡ done.after = same_went f.position done.after (ap (λ n. local_steps n way.p.code f.position) (sym none) ∙ way.steps) in
+    let spent : f.spent + done.steps ≡ f.spent = omega (arith, none) in
+    let same : come f done ≡ f = λ i. record f { position = sym at i; spent = spent i } in
+    ap (λ m. record old { seats = m }) (ap (insert old.seats actor) same ∙ same_seat old.seats actor f runs)
+
+-- ---- lending
+
+module _ (verified : TypedProgram) (layout : ActorCounts) (old : Parts) (notices : Notices) (h : AreParts verified layout old notices)
+    (actor : Actor) (f : FrameView) (runs : get old.seats actor ≡ Some f) where
+  in_frames : get (mapped bare_frame old.seats) actor ≡ Some (bare_frame f)
+  in_frames = seen bare_frame old.seats actor (Some f) runs
+
+  -- it may stand there
+  pub may_stand : MayStand f.program.program f.procedure f.position
+  may_stand p here =
+      let fits = h.stand.frames actor f runs in
+      stands_fresh p f.spent f.position
+        (stands_there verified.program (typings_of verified) h.runnable.is h.runnable.right (state_of old notices) (held verified layout old notices h) actor (bare_frame f) in_frames p
+          (ap (λ (v : TypedProgram). slice_get v.program f.procedure) (sym fits.program) ∙ here))
+
+-- the number under which it was lent isn't the machine's
+module _ (old : Parts) (actor : Actor) (f : FrameView) (runs : get old.seats actor ≡ Some f) (event_no : ℕ) where
+  abbrev pub lent : Parts
+  lent = record old { seats = insert old.seats actor (record f { event_no = event_no }) }
+
+  pub lent_state : (notices : Notices) → state_of lent notices ≡ state_of old notices
+  lent_state notices = ap (λ m. record (state_of old notices) { frames = m })
+      (insert_mapped bare_frame actor_cmp_total actor_cmp-IsAntisymmetric old.seats actor (record f { event_no = event_no })
+      ∙ sym (insert_mapped bare_frame actor_cmp_total actor_cmp-IsAntisymmetric old.seats actor f)
+      ∙ ap (mapped bare_frame) (same_seat old.seats actor f runs))
+
+  pub lent_parts : (verified : TypedProgram) (layout : ActorCounts) (notices : Notices) → AreParts verified layout old notices → AreParts verified layout lent notices
+  lent_parts verified layout notices h = record {
+    runnable = h.runnable;
+    law = rw (lent_state notices) h.law;
+    queued = h.queued;
+    servers = h.servers;
+    stand = stand_seated verified old.store.places old.seats old.tasks.tasks old.rules.rules old.outputs h.stand actor (record f { event_no = event_no }) (record { program = before.program; own = before.own; placed = before.placed; kinds = before.kinds });
+  }
+    where
+      before : FrameFits verified old.store.places actor f
+      before = h.stand.frames actor f runs

@@ -1,0 +1,131 @@
+-- RULE and PUT: what the law says of them, where a task stands at one.
+use Rattle.std.proofs.Common.{◌≡◌, ℕ, ◌==◌, Bool, true, false, List, Some, Result, Ok, Err, refl, sym, ap, subst, ◌∙◌, length, slice_get}
+use Rattle.std.proofs.lemmas.Option.{same_Some}
+use Rattle.std.specs.FinMap.{get}
+use Rattle.tw_types.specs.declared.actor.Actor.{Actor}
+use Rattle.tw_types.specs.declared.actor.Kind.{Kind}
+use Rattle.tw_types.specs.declared.cause.Cause.{Cause}
+use Rattle.tw_types.specs.declared.cause.Cause.TheVariants.{ArgumentNotClosed, FreedDatum, WrongCall, WrongRegister, WrongType}
+use Rattle.tw_types.specs.declared.event.Event.TheVariants.{Call}
+use Rattle.tw_types.specs.Actor.{is_control}
+use Rattle.tw_types.specs.Layout.{ActorCounts}
+use Rattle.tw_types.specs.Mapped.{mapped}
+use Rattle.tw_types.specs.Notices.{Notices}
+use Rattle.tw_types.specs.Outcome.{Trap}
+use Rattle.tw_types.specs.Result.{must}
+use Rattle.tw_types.proofs.Results.{must_then, ok_first, there_then}
+use Rattle.tw_rights.specs.declared.held.Held.{Held}
+use Rattle.std.specs.declared.option.Option.{Option}
+use Rattle.tw_code.specs.accepting.Typing.{asks_callee}
+use Rattle.tw_code.specs.declared.instr.Action.{Action}
+use Rattle.tw_code.specs.declared.instr.Instr.TheVariants as instr
+use Rattle.tw_code.specs.declared.procedure.Procedure.{Procedure}
+use Rattle.tw_code.specs.machine.Arguments.{Called, HandedOver, all_pass, called, handed_over, is_closed_if_asked, is_live, is_of_type, put_called, values_suit}
+use Rattle.tw_code.specs.machine.Data.{Context}
+use Rattle.tw_code.specs.machine.Holders.{typing_at}
+use Rattle.tw_code.specs.machine.Machine.{step}
+use Rattle.tw_code.specs.machine.Rights.{Typing}
+use Rattle.tw_code.specs.machine.State.{context_of}
+use Rattle.tw_no_trap.proofs.Called.{callee_met}
+use Rattle.tw_no_trap.proofs.Running.{asked_at}
+use Rattle.tw_no_trap.proofs.Safe.{safe}
+use Rattle.tw_no_trap.proofs.Values.{AllYes}
+use Rattle.tw_verify.specs.Typed.{TypedProgram, typings_of}
+use Rattle.tw_frame.specs.Jobs.{FrameView, bare_frame}
+use Rattle.tw_parts.specs.Fits.{AreParts}
+use Rattle.tw_parts.specs.Parts.{state_of}
+use Rattle.tw_parts.specs.declared.parts.Parts.{Parts}
+use Rattle.tw_parts.proofs.Fitting.{seen}
+use Rattle.tw_parts.proofs.Handing.{AreSuited}
+use Rattle.tw_parts.proofs.Kinding.{suited}
+use Rattle.tw_parts.proofs.Law.{held}
+
+-- what the action names, and that it is handed over
+pub record IsNamed (program : List Procedure) (kind : Kind) (c : Context) (action : Action) (file : List (Option Held)) : Type 0 where
+  pub procedure : Procedure
+  pub is : slice_get program action.procedure ≡ Some procedure
+  pub long : length action.args ≡ length procedure.params
+  pub control : is_control kind ≡ true
+  pub suits : AreSuited file procedure.params action.args
+  pub values : values_suit c.position.values procedure.params action.args ≡ true
+  pub given : HandedOver
+  pub handed : handed_over c.position.values c.rights procedure.params action.args ≡ Ok given
+  pub goes : called program kind c action ≡ Ok (record {
+    task = record { kind = procedure.kind; procedure = action.procedure; priority = action.priority; target = action.target; args = given.args };
+    params = procedure.params;
+    rights = given.rights;
+  })
+
+module _ (verified : TypedProgram) (layout : ActorCounts) (old : Parts) (notices : Notices) (h : AreParts verified layout old notices)
+    (actor : Actor) (f : FrameView) (p : Procedure) (action : Action) (runs : get old.seats actor ≡ Some f) (here : slice_get verified.program f.procedure ≡ Some p) where
+  abbrev pub context : Context
+  context = context_of (state_of old notices) (bare_frame f)
+
+  there : get (mapped bare_frame old.seats) actor ≡ Some (bare_frame f)
+  there = seen bare_frame old.seats actor (Some f) runs
+
+  typing : Typing
+  typing = typing_at (typings_of verified) f.procedure f.position.place
+
+  named : (waits : Bool) → AllYes (asks_callee waits p.registers (slice_get verified.program action.procedure) action.args typing) → (call : Called) → called verified.program p.kind context action ≡ Ok call → IsNamed verified.program p.kind context action f.held
+  named waits met call ok =
+      let callee = callee_met waits p.registers (slice_get verified.program action.procedure) action.args typing met in
+      let known = there_then (slice_get verified.program action.procedure) WrongCall _ call ok in
+      let count = must_then (length action.args == length known.0.params) WrongCall _ call known.2 in
+      let control = must_then (is_control p.kind) WrongCall _ call count.1 in
+      let values = must_then (values_suit f.position.values known.0.params action.args) WrongRegister _ call control.1 in
+      let given = ok_first (handed_over f.position.values context.rights known.0.params action.args) _ call values.1 in
+      let live = must_then (all_pass is_live old.store.store.live known.0.params given.0.args) FreedDatum _ call given.2 in
+      let typed = must_then (all_pass is_of_type old.store.store.live known.0.params given.0.args) WrongType _ call live.1 in
+      let same : callee.procedure ≡ known.0 = same_Some callee.procedure known.0 (sym callee.is ∙ known.1) in
+      record {
+        procedure = known.0;
+        is = known.1;
+        long = callee.long ∙ ap (λ (q : Procedure). length q.params) same;
+        control = control.0;
+        suits = subst (λ (q : Procedure). AreSuited f.held q.params action.args) same
+          (suited waits p.registers callee.procedure.params action.args f.held typing (h.stand.frames actor f runs).kinds callee.met);
+        values = values.0;
+        given = given.0;
+        handed = given.1;
+        goes = ok ∙ sym typed.1;
+      }
+
+  -- ---- RULE
+
+  module _ (at : slice_get p.code f.position.place ≡ Some (instr.Rule action)) where
+    rule_trapped : (why : Cause) → called verified.program p.kind context action ≡ Err why → step verified.program layout (Call actor) (state_of old notices) ≡ Trap why
+    unfolding step
+    rule_trapped why err = let t = there in rw (t, here, at, err) refl
+
+    pub rules : IsNamed verified.program p.kind context action f.held
+    rules = by (called verified.program p.kind context action) refl
+      where
+        by : (o : Result Called Cause) → called verified.program p.kind context action ≡ o → IsNamed verified.program p.kind context action f.held
+        by (Ok call) ok = named true (asked_at verified.program (typings_of verified) h.runnable.is h.runnable.right f.procedure p here f.position.place (instr.Rule action) at).1 call ok
+        by (Err why) err = absurd ((safe verified.program (typings_of verified) h.runnable.is h.runnable.right layout (state_of old notices) (held verified layout old notices h)).no_trap (Call actor) why (rule_trapped why err))
+
+  -- ---- PUT
+
+  module _ (at : slice_get p.code f.position.place ≡ Some (instr.Put action)) where
+    put_trapped : (why : Cause) → put_called verified.program p.kind context action ≡ Err why → step verified.program layout (Call actor) (state_of old notices) ≡ Trap why
+    unfolding step
+    put_trapped why err = let t = there in rw (t, here, at, err) refl
+
+    -- what stands for `closed` parameters is closed besides
+    pub record IsPut : Type 0 where
+      pub is_named : IsNamed verified.program p.kind context action f.held
+      pub is_closed : put_called verified.program p.kind context action ≡ called verified.program p.kind context action
+
+    pub puts : IsPut
+    puts = by (put_called verified.program p.kind context action) refl
+      where
+        by : (o : Result Called Cause) → put_called verified.program p.kind context action ≡ o → IsPut
+        by (Ok call) ok =
+            let outer = ok_first (called verified.program p.kind context action) _ call ok in
+            let closed = must_then (all_pass is_closed_if_asked old.store.store.live outer.0.params outer.0.task.args) ArgumentNotClosed _ call outer.2 in
+            record {
+              is_named = named false (asked_at verified.program (typings_of verified) h.runnable.is h.runnable.right f.procedure p here f.position.place (instr.Put action) at).1 outer.0 outer.1;
+              is_closed = ok ∙ sym closed.1 ∙ sym outer.1;
+            }
+        by (Err why) err = absurd ((safe verified.program (typings_of verified) h.runnable.is h.runnable.right layout (state_of old notices) (held verified layout old notices h)).no_trap (Call actor) why (put_trapped why err))

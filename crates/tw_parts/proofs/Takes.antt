@@ -1,0 +1,201 @@
+-- An actor takes a task: on the parts.
+use Rattle.std.proofs.Common.{map as each, ◌≡◌, ◌-◌, ℕ, zero, suc, Bool, true, false, ◌&&◌, List, [], ◌∷◌, ◌++◌, Option, Some, None, Result, Ok, Err, refl, sym, ap, subst, ◌∙◌, slice_get, option_map, is_none, length, replicate, option_to_list, nat_cmp, arith}
+use Rattle.std.proofs.lemmas.Option.{same_Some}
+use Rattle.std.proofs.lemmas.List.{length-map}
+use Rattle.std.specs.Cmp.{nat_cmp_total}
+use Rattle.std.specs.FinMap.{get, insert, remove, nat_cmp-IsAntisymmetric}
+use Rattle.tw_types.specs.declared.actor.Actor.{Actor}
+use Rattle.tw_types.specs.declared.cause.Cause.{Cause}
+use Rattle.tw_types.specs.declared.event.Event.TheVariants.{Take}
+use Rattle.tw_types.specs.declared.param.Param.{Param}
+use Rattle.tw_types.specs.declared.value.Value.{Value}
+use Rattle.tw_types.specs.Actor.{actor_cmp, is_in}
+use Rattle.tw_types.specs.Layout.{ActorCounts}
+use Rattle.tw_types.specs.Mode.{is_write}
+use Rattle.tw_types.specs.Notices.{Notices}
+use Rattle.tw_types.specs.Outcome.{Went, Trap}
+use Rattle.tw_types.specs.Task.{TaskOf, best}
+use Rattle.tw_types.proofs.ActorOrder.{actor_cmp_total, actor_cmp-IsAntisymmetric}
+use Rattle.tw_types.proofs.Best.{best_waits}
+use Rattle.tw_rights.specs.declared.arg.Arg.{Arg}
+use Rattle.tw_rights.specs.declared.arg.Arg.TheVariants.{Val, Read, Write}
+use Rattle.tw_rights.specs.declared.held.Held.{Held}
+use Rattle.tw_rights.specs.Held.{id_of}
+use Rattle.tw_rights.specs.Rights.{Right}
+use Rattle.tw_store.specs.Slots.{Places}
+use Rattle.tw_queue.specs.Queues.{without}
+use Rattle.tw_code.specs.accepting.Typing.{rights_given, start_typing}
+use Rattle.tw_code.specs.declared.procedure.Procedure.{Procedure}
+use Rattle.tw_code.specs.machine.Arguments.{params_in, params_of}
+use Rattle.tw_code.specs.machine.Holders.{typing_at}
+use Rattle.tw_verify.specs.Typed.{TypedProgram, typings_of}
+use Rattle.tw_code.specs.machine.Machine.{step}
+use Rattle.tw_code.specs.machine.Position.{Position}
+use Rattle.tw_code.specs.machine.Rights.{RightType, first_rights, right_of}
+use Rattle.tw_code.specs.machine.State.{State, frame_of, ids_in, with_frame}
+use Rattle.tw_no_trap.proofs.Running.{typed_at_start}
+use Rattle.tw_no_trap.proofs.Safe.{kept_by, safe}
+use Rattle.tw_parts.specs.Events.{Goes}
+use Rattle.tw_parts.specs.Fits.{AreParts, ArePlaced, ArgStands, ArgsStand, FrameFits, Stand, kinds_in}
+use Rattle.tw_frame.specs.Jobs.{FrameView, MayStand, bare_frame}
+use Rattle.tw_rights.specs.Bare.{bare_file}
+use Rattle.tw_rights.specs.Filed.{filed, rights_in}
+use Rattle.tw_rights.specs.Kinds.{kinds_of, writes}
+use Rattle.tw_frame.specs.Drafts.{MayStart, StartsAsMachine, started}
+use Rattle.tw_types.specs.Mapped.{entry_by, mapped}
+use Rattle.tw_rights.specs.Bare.{bare_arg, bare_rule, bare_task}
+use Rattle.tw_parts.specs.Parts.{state_of}
+use Rattle.tw_parts.specs.declared.parts.Parts.{Parts}
+use Rattle.tw_parts.proofs.Fitting.{seen, stand_seated, stand_without}
+use Rattle.tw_types.proofs.Mapped.{insert_mapped, remove_mapped}
+use Rattle.tw_types.proofs.Chosen.{best_mapped}
+use Rattle.tw_parts.proofs.Law.{goes_to, held}
+use Rattle.tw_parts.proofs.Goings.{may_stand}
+use Rattle.tw_parts.proofs.Seating.{get_other, get_own}
+use Rattle.tw_no_trap.specs.Invariant.{IsHeld}
+
+-- ---- the first registers
+
+each_none : {A B : Type 0} (f : A → B) (n : ℕ) → each (option_map f) (replicate n None) ≡ replicate n None
+each_none f zero = refl
+each_none f (suc n) = ap (λ xs. None ∷ xs) (each_none f n)
+
+each_first : {A B : Type 0} (f : A → B) (given : List A) (n : ℕ) → each (option_map f) (each Some given ++ replicate n None) ≡ each Some (each f given) ++ replicate n None
+each_first f [] n = each_none f n
+each_first f (x ∷ given) n = ap (λ xs. Some (f x) ∷ xs) (each_first f given n)
+
+pub first_each : {A B : Type 0} (f : A → B) (given : List A) → each (option_map f) (first_rights given) ≡ first_rights (each f given)
+first_each f given = each_first f given (16 - length given) ∙ ap (λ n. each Some (each f given) ++ replicate (16 - n) None) (sym (length-map given f))
+
+ids_given : (args : List Arg) → each id_of (rights_in args) ≡ ids_in (each bare_arg args)
+ids_given [] = refl
+ids_given (Val x ∷ args) = ids_given args
+ids_given (Read right ∷ args) = ap (λ xs. right.id ∷ xs) (ids_given args)
+ids_given (Write right ∷ args) = ap (λ xs. right.id ∷ xs) (ids_given args)
+
+typed_writes : RightType → Bool
+typed_writes t = is_write t.mode
+
+kinds_given : (places : Places) (params : List Param) (args : List Arg) → ArgsStand places params args → each writes (rights_in args) ≡ each (λ (t : RightType). is_write t.mode) (rights_given params)
+kinds_given places [] [] h = refl
+kinds_given places [] (arg ∷ args) h = absurd h
+kinds_given places (p ∷ params) [] h = absurd h
+kinds_given places (p ∷ params) (arg ∷ args) h = by (right_of p) arg h.0 (kinds_given places params args h.1)
+  where
+    by : (o : Option RightType) (arg : Arg) → ArgStands places o arg → each writes (rights_in args) ≡ each (λ (t : RightType). is_write t.mode) (rights_given params)
+        → each writes (rights_in (arg ∷ args)) ≡ each (λ (t : RightType). is_write t.mode) (option_to_list o ++ rights_given params)
+    by None (Val x) s rest = rest
+    by None (Read right) s rest = absurd s
+    by None (Write right) s rest = absurd s
+    by (Some t) (Val x) s rest = absurd s
+    by (Some t) (Read right) s rest = ap (λ b. b ∷ each writes (rights_in args)) (sym s.0) ∙ ap (λ xs. is_write t.mode ∷ xs) rest
+    by (Some t) (Write right) s rest = ap (λ b. b ∷ each writes (rights_in args)) (sym s.0) ∙ ap (λ xs. is_write t.mode ∷ xs) rest
+
+none_placed : (places : Places) (n : ℕ) → ArePlaced places (replicate n None)
+none_placed places zero = tt
+none_placed places (suc n) = (tt, none_placed places n)
+
+placed_given : (places : Places) (params : List Param) (args : List Arg) (n : ℕ) → ArgsStand places params args → ArePlaced places (each Some (rights_in args) ++ replicate n None)
+placed_given places [] [] n h = none_placed places n
+placed_given places [] (arg ∷ args) n h = absurd h
+placed_given places (p ∷ params) [] n h = absurd h
+placed_given places (p ∷ params) (arg ∷ args) n h = by (right_of p) arg h.0 (placed_given places params args n h.1)
+  where
+    by : (o : Option RightType) (arg : Arg) → ArgStands places o arg → ArePlaced places (each Some (rights_in args) ++ replicate n None) → ArePlaced places (each Some (rights_in (arg ∷ args)) ++ replicate n None)
+    by None (Val x) s rest = rest
+    by None (Read right) s rest = absurd s
+    by None (Write right) s rest = absurd s
+    by (Some t) (Val x) s rest = absurd s
+    by (Some t) (Read right) s rest = (s.1, rest)
+    by (Some t) (Write right) s rest = (s.1, rest)
+
+-- ---- the task that is taken
+
+module _ (verified : TypedProgram) (layout : ActorCounts) (old : Parts) (notices : Notices) (h : AreParts verified layout old notices)
+    (actor : Actor) (there : is_in layout actor ≡ true) (free : get old.seats actor ≡ None) (e : ℕ × TaskOf Arg) (due : best actor old.tasks.tasks ≡ Some e) where
+  law : IsHeld verified.program (typings_of verified) (state_of old notices)
+  law = held verified layout old notices h
+
+  waits : get old.tasks.tasks e.0 ≡ Some e.1
+  waits = best_waits actor old.tasks.tasks e due
+
+  bare_waits : get (mapped bare_task old.tasks.tasks) e.0 ≡ Some (bare_task e.1)
+  bare_waits = seen bare_task old.tasks.tasks e.0 (Some e.1) waits
+
+  bare_due : best actor (mapped bare_task old.tasks.tasks) ≡ Some (entry_by bare_task e)
+  bare_due = best_mapped bare_arg actor old.tasks.tasks ∙ ap (option_map (entry_by bare_task)) due
+
+  none : get (mapped bare_frame old.seats) actor ≡ None
+  none = seen bare_frame old.seats actor None free
+
+  pub procedure : (p : Procedure) × (slice_get verified.program e.1.procedure ≡ Some p)
+  procedure = law.types.procedures.tasks e.0 (bare_task e.1) bare_waits
+
+  trapped : (why : Cause) → started e.1.args procedure.0.registers ≡ Err why → step verified.program layout (Take actor) (state_of old notices) ≡ Trap why
+  unfolding step
+  trapped why err = let n = none in let d = bare_due in let p = procedure.1 in rw (there, n, d, p, err) refl
+
+  values : (xs : List Value) × (started e.1.args procedure.0.registers ≡ Ok xs)
+  values = by (started e.1.args procedure.0.registers) refl
+    where
+      by : (o : Result (List Value) Cause) → started e.1.args procedure.0.registers ≡ o → (xs : List Value) × (started e.1.args procedure.0.registers ≡ Ok xs)
+      by (Ok xs) ok = (xs, ok)
+      by (Err why) err = absurd ((safe verified.program (typings_of verified) h.runnable.is h.runnable.right layout (state_of old notices) law).no_trap (Take actor) why (trapped why err))
+
+  pub may_start : MayStart verified.program e.1.procedure e.1.args
+  may_start = record { p = procedure.0; here = procedure.1; values = values.0; starts = values.1 }
+
+  module _ (own : List Value) (starts : (p : Procedure) → slice_get verified.program e.1.procedure ≡ Some p → started e.1.args p.registers ≡ Ok own)
+      (machine : StartsAsMachine verified.program e.0 e.1.procedure e.1.args own (record { task = e.0; procedure = e.1.procedure; position = record { place = 0; values = own; loops = [] }; rights = bare_file (filed (rights_in e.1.args)); spent = 0 })) where
+    abbrev pub begun : FrameView
+    begun = record { program = verified; task = e.0; procedure = e.1.procedure; actor = actor; event_no = 0; position = record { place = 0; values = own; loops = [] }; held = filed (rights_in e.1.args); spent = 0 }
+
+    begins : frame_of verified.program e.0 (bare_task e.1) ≡ Ok (bare_frame begun)
+    begins = machine (bare_task e.1) procedure.0 refl refl procedure.1 (starts procedure.0 procedure.1)
+
+    goes : step verified.program layout (Take actor) (state_of old notices) ≡ Went (with_frame (record (state_of old notices) { tasks = remove (mapped bare_task old.tasks.tasks) e.0 }) actor (bare_frame begun))
+    unfolding step
+    goes = let n = none in let d = bare_due in let b = begins in rw (there, n, d, b) refl
+
+    stands : ArgsStand old.store.places procedure.0.params e.1.args
+    stands = subst (λ ps. ArgsStand old.store.places ps e.1.args) (ap params_in procedure.1) (h.stand.tasks e.0 e.1 waits)
+
+    fits : (event_no : ℕ) → FrameFits verified old.store.places actor (record begun { event_no = event_no })
+    fits event_no = record {
+      program = refl;
+      own = refl;
+      placed = placed_given old.store.places procedure.0.params e.1.args (16 - length (rights_in e.1.args)) stands;
+      kinds = first_each writes (rights_in e.1.args) ∙ ap first_rights (kinds_given old.store.places procedure.0.params e.1.args stands)
+          ∙ sym (first_each (λ (t : RightType). is_write t.mode) (rights_given procedure.0.params))
+          ∙ ap kinds_in (sym (typed_at_start verified.program (typings_of verified) h.runnable.is h.runnable.right e.1.procedure procedure.0 procedure.1));
+    }
+
+    module _ (event_no : ℕ) (new : Parts) (tasks : new.tasks.tasks ≡ remove old.tasks.tasks e.0) (seats : new.seats ≡ insert old.seats actor (record begun { event_no = event_no })) (store : new.store ≡ old.store) (rules : new.rules ≡ old.rules) (next_task : new.next_task ≡ old.next_task) (outputs : new.outputs ≡ old.outputs) where
+      same_state : state_of new notices ≡ with_frame (record (state_of old notices) { tasks = remove (mapped bare_task old.tasks.tasks) e.0 }) actor (bare_frame begun)
+      same_state = λ i. record {
+        store = (store i).store;
+        rules = mapped bare_rule (rules i).rules;
+        next_rule = (rules i).next;
+        tasks = (ap (mapped bare_task) tasks ∙ remove_mapped bare_task nat_cmp_total nat_cmp-IsAntisymmetric old.tasks.tasks e.0) i;
+        next_task = next_task i;
+        frames = (ap (mapped bare_frame) seats ∙ insert_mapped bare_frame actor_cmp_total actor_cmp-IsAntisymmetric old.seats actor (record begun { event_no = event_no })) i;
+        notices = notices;
+        outputs = each (λ (right : Right). right.id) (outputs i);
+      }
+
+      pub takes : Goes verified layout (Take actor) old notices new
+      takes = goes_to verified layout old notices h (Take actor) new notices _ goes same_state (rw store h.queued) (rw store h.servers) stand_is
+          (λ other apart. ap (λ m. get m other) seats ∙ get_other old.seats actor (record begun { event_no = event_no }) other apart)
+        where
+          without_it : Stand verified old.store.places old.seats (remove old.tasks.tasks e.0) old.rules.rules old.outputs
+          without_it = stand_without verified old.store.places old.seats old.tasks.tasks old.rules.rules old.outputs h.stand e.0
+
+          stand_is : Stand verified new.store.places new.seats new.tasks.tasks new.rules.rules new.outputs
+          stand_is = rw (store, seats, tasks, rules, outputs) (stand_seated verified old.store.places old.seats (remove old.tasks.tasks e.0) old.rules.rules old.outputs without_it actor (record begun { event_no = event_no }) (fits event_no))
+
+    -- it may stand there
+    pub begun_stands : MayStand verified.program e.1.procedure begun.position
+    begun_stands = let g = takes 0 next refl refl refl refl refl refl in may_stand verified layout next g.left g.parts actor begun (get_own old.seats actor begun)
+      where
+        next : Parts
+        next = record old { tasks = record old.tasks { tasks = remove old.tasks.tasks e.0 }; seats = insert old.seats actor begun }

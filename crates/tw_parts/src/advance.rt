@@ -1,0 +1,41 @@
+//! A task goes on by the local steps of its job.
+
+ghost use Rattle.std.specs.Prelude.{◌≡◌, MatchOption};
+ghost use Rattle.tw_types.specs.declared.event.Event.TheVariants as event;
+ghost use Rattle.tw_types.specs.Layout.{ActorCounts};
+ghost use Rattle.tw_types.specs.Notices.{Notices};
+ghost use Rattle.tw_frame.specs.Jobs.{FrameView};
+ghost use Rattle.tw_parts.specs.Events.{IsOwed, IsSmall, Makes, with_done};
+ghost use Rattle.tw_parts.specs.Fits.{AreParts};
+ghost use Rattle.tw_parts.specs.Parts.{state_of};
+
+use crate::parts::Parts;
+use tw_frame::Done;
+use tw_types::{Actor, Event};
+
+impl<'a> Parts<'a> {
+    /// The event that the steps of a Done are, if there are any, which is of the job that was lent last to the actor's task.
+    pub fn event_of(&self, actor: Actor, done: &Done<'a>) -> Option<Event>
+        requires owed { (f : FrameView) × IsOwed self.now actor f done.now }
+        ensures { MatchOption result
+            ((f : FrameView) → IsOwed self.now actor f done.now → with_done self.now actor f done.now ≡ self.now)
+            (λ e. (e ≡ event.Local actor done.now.steps) × ((layout : ActorCounts) (f : FrameView) → IsOwed self.now actor f done.now
+                → Makes done.now.before.program layout e self.now (with_done self.now actor f done.now))) }
+    {
+        let steps = done.steps();
+        if steps == 0 {
+            None
+        } else {
+            Some(Event::Local(actor, steps))
+        }
+    }
+
+    /// The actor's task comes as far as the Done says.
+    pub fn advance(&mut self, actor: Actor, done: Done<'a>)
+        requires stands { (layout : ActorCounts) × (notices : Notices) × (f : FrameView) × AreParts done.before.program layout self.old notices
+            × IsSmall (state_of self.old notices) × IsOwed self.old actor f done }
+        ensures { (f : FrameView) → IsOwed self.old actor f done.entry → self.new ≡ with_done self.old actor f done.entry }
+    {
+        self.seats.advance(actor, done);
+    }
+}

@@ -1,0 +1,51 @@
+//! An actor takes a task.
+
+ghost use Rattle.std.specs.Prelude.{◌≡◌, ℕ, None, Some, true};
+ghost use Rattle.std.specs.FinMap.{get};
+ghost use Rattle.tw_types.specs.Actor.{is_in};
+ghost use Rattle.tw_types.specs.declared.event.Event.TheVariants as event;
+ghost use Rattle.tw_types.specs.Layout.{ActorCounts};
+ghost use Rattle.tw_types.specs.Notices.{Notices};
+ghost use Rattle.tw_types.specs.Task.{TaskOf, best};
+ghost use Rattle.tw_rights.specs.declared.arg.Arg.{Arg};
+ghost use Rattle.tw_frame.specs.Jobs.{FrameView, JobView, job_of};
+ghost use Rattle.tw_parts.specs.Events.{IsTaken, Makes, Untouched};
+ghost use Rattle.tw_parts.specs.Fits.{AreParts};
+
+use crate::parts::Parts;
+use std::alloc::{AllocError, Global};
+use tw_frame::{Draft, Frame, Job};
+use tw_types::Actor;
+use tw_verify::Verified;
+
+impl<'a> Parts<'a> {
+    /// The best task of an actor without one starts, if there is one, and its job is lent, by the number of its actor's
+    /// events.
+    pub fn take(
+        &mut self,
+        verified: &'a Verified,
+        alloc: Global,
+        actor: Actor,
+        event_no: u64,
+    ) -> Result<Option<Job<'a>>, AllocError>
+        requires free { get self.old.seats actor ≡ None }
+        requires parts { (layout : ActorCounts) × (notices : Notices) × AreParts verified.now layout self.old notices × (is_in layout actor ≡ true) }
+        ensures { IsTaken (best actor self.old.tasks.tasks)
+            (λ (e : ℕ × TaskOf Arg) (job : JobView). ((f : FrameView) × (get self.new.seats actor ≡ Some f) × (f.event_no ≡ event_no) × (job ≡ job_of f))
+                × ((layout : ActorCounts) → is_in layout actor ≡ true → Makes verified.now layout (event.Take actor) self.old self.new))
+            (Untouched self.old self.new) result }
+    {
+        let Some(best) = self.tasks.best(actor) else {
+            return Ok(None);
+        };
+        let first = Draft::start(alloc, best, verified)?;
+        let lent = first.try_clone(alloc)?;
+        let Some(task) = self.tasks.take(actor) else {
+            unreachable!();
+        };
+        let mut frame = Frame::start(task, actor, verified, first);
+        let job = frame.lend(event_no, lent);
+        self.seats.put(actor, frame);
+        Ok(Some(job))
+    }
+}
