@@ -1,5 +1,5 @@
 -- What one event makes of the parts of a pool.
-use Rattle.std.specs.Prelude.{◌≡◌, ◌≢◌, ℕ, ◌^◌, List, Option, Some, None, slice_get}
+use Rattle.std.specs.Prelude.{◌≡◌, ◌≢◌, ℕ, ◌^◌, List, Option, Some, None, IsSome, slice_get}
 use Rattle.std.specs.declared.result.Result.{Result}
 use Rattle.std.specs.declared.result.Result.TheVariants.{Ok, Err}
 use Rattle.std.specs.FinMap.{get, insert}
@@ -46,11 +46,11 @@ pub record Untouched (old new : Parts) : Type 0 where
   pub seats : new.seats ≡ old.seats
   pub outputs : new.outputs ≡ old.outputs
 
--- an event that is due goes, for what it is about; where none is due, or memory is refused, nothing is touched
+-- an event that is due goes, for what it is about; where none is due, or one is and memory is refused, nothing is touched
 abbrev pub IsTried : {A E : Type 0} → Option A → (A → Type 0) → Type 0 → Result (Option A) E → Type 0
 IsTried due Made Same (Ok None) = (due ≡ None) × Same
 IsTried due Made Same (Ok (Some x)) = (due ≡ Some x) × Made x
-IsTried due Made Same (Err e) = Same
+IsTried due Made Same (Err e) = IsSome due × Same
 
 -- ---- a task that has done local steps meanwhile
 
@@ -103,4 +103,4 @@ pub record IsLent (old : Parts) (actor : Actor) (event_no : ℕ) (job : JobView)
 abbrev pub IsTaken : {A E : Type 0} → Option A → (A → JobView → Type 0) → Type 0 → Result (Option JobView) E → Type 0
 IsTaken due Made Same (Ok None) = (due ≡ None) × Same
 IsTaken {A = A} due Made Same (Ok (Some job)) = (x : A) × (due ≡ Some x) × Made x job
-IsTaken due Made Same (Err e) = Same
+IsTaken due Made Same (Err e) = IsSome due × Same
