@@ -1,6 +1,9 @@
 -- What an actor without a task does: the lines of the table, from the events of the parts.
-use Rattle.std.proofs.Common.{◌≡◌, ◌≢◌, ◌<◌, ◌≤◌, ◌+◌, ◌^◌, ◌==◌, nat_lt, ◌&&◌, ℕ, Bool, true, false, List, [], ◌∷◌, ◌++◌, length, Option, Some, None, refl, sym, ap, subst, ◌∙◌, arith, inl, inr, option_map}
+use Rattle.std.proofs.Common.{IsSome, ◌≡◌, ◌≢◌, ◌<◌, ◌≤◌, ◌+◌, ◌^◌, ◌==◌, nat_lt, ◌&&◌, ℕ, Bool, true, false, List, [], ◌∷◌, ◌++◌, length, Option, Some, None, refl, sym, ap, subst, ◌∙◌, arith, inl, inr, option_map}
 use Rattle.std.proofs.lemmas.Bool.{and_parts, eqb-true}
+use Rattle.std.proofs.lemmas.Option.{same_Some}
+use Rattle.std.specs.declared.alloc.AllocError.{AllocError}
+use Rattle.std.specs.declared.result.Result.TheVariants.{Ok}
 use Rattle.std.specs.FinMap.{get}
 use Rattle.std.specs.FinSet as set
 use Rattle.std.specs.Option.{option_or}
@@ -11,41 +14,60 @@ use Rattle.tw_types.specs.declared.event.Event.TheVariants.{Take, Ask, Deliver, 
 use Rattle.tw_types.specs.declared.input.Input.{Input}
 use Rattle.tw_types.specs.declared.notice.Notice.{Notice}
 use Rattle.tw_types.specs.Layout.{ActorCounts}
-use Rattle.tw_types.specs.Mapped.{mapped}
+use Rattle.tw_types.specs.Actor.{is_in}
+use Rattle.tw_types.specs.Mapped.{entry_by, mapped}
 use Rattle.tw_types.specs.Outcome.{Went, only_if}
 use Rattle.tw_types.specs.Rule.{next_ask, next_release}
 use Rattle.tw_types.specs.Store.{server_of}
-use Rattle.tw_types.specs.Task.{Task, best}
-use Rattle.tw_types.proofs.Chosen.{next_ask_mapped, next_release_mapped}
+use Rattle.tw_types.specs.Task.{Task, TaskOf, best}
+use Rattle.tw_types.proofs.Chosen.{best_mapped, next_ask_mapped, next_release_mapped}
+use Rattle.tw_types.proofs.Mapped.{get_mapped}
 use Rattle.tw_types.proofs.Outcomes.{same_went, went_after, went_only}
-use Rattle.tw_rights.specs.Bare.{bare_arg, bare_rule}
+use Rattle.tw_rights.specs.Bare.{bare_arg, bare_rule, bare_task}
+use Rattle.tw_rights.specs.declared.arg.Arg.{Arg}
 use Rattle.tw_code.specs.declared.procedure.Procedure.{Procedure}
 use Rattle.tw_code.specs.machine.Due.{IsDelivery, IsDueFree, first_of, take_of}
 use Rattle.tw_code.specs.machine.History.{actor_of}
 use Rattle.tw_code.specs.machine.Machine.{step}
-use Rattle.tw_code.specs.machine.State.{State}
+use Rattle.tw_code.specs.machine.State.{Frame, State}
 use Rattle.tw_code.proofs.Found.{ask_found, own_rule_there, release_found}
 use Rattle.tw_no_trap.specs.Invariant.{IsHeld}
 use Rattle.tw_no_trap.proofs.Asked.{Noted, noted}
 use Rattle.tw_no_trap.proofs.Safe.{reached_is_held}
 use Rattle.tw_verify.specs.Typed.{TypedProgram, typings_of}
-use Rattle.tw_parts.specs.Events.{Goes, Makes, Untouched}
+use Rattle.tw_frame.specs.Jobs.{FrameView, JobView, bare_frame, job_of}
+use Rattle.tw_parts.specs.Events.{Goes, IsTaken, IsTried, Makes, Untouched}
+use Rattle.tw_parts.specs.Fits.{FrameFits}
 use Rattle.tw_parts.specs.Notes.{AreQueued, is_among, queue_at}
 use Rattle.tw_parts.specs.Parts.{state_of}
 use Rattle.tw_parts.specs.declared.parts.Parts.{Parts}
 use Rattle.tw_pool.specs.declared.answer.Turn.{Turn}
-use Rattle.tw_pool.specs.declared.answer.Turn.TheVariants.{Idle, NoMemory, Went as Made}
+use Rattle.tw_pool.specs.declared.answer.Turn.TheVariants.{Idle, NoMemory, Run, Went as Made}
+use Rattle.tw_pool.specs.Actors.{HasPlace, events_of}
 use Rattle.tw_pool.specs.History.{HistoryView}
-use Rattle.tw_pool.specs.Kept.{AsksNone, IsFree, IsKept, ReleasesNone}
+use Rattle.tw_pool.specs.Kept.{AsksNone, IsFree, IsKept, MayTakeNow, ReleasesNone}
 use Rattle.tw_pool.specs.PoolView.{PoolView, HasState, with_events}
-use Rattle.tw_pool.specs.Turns.{GoesFree, IsTurnBy, Line}
+use Rattle.tw_pool.specs.Turns.{GoesFree, IsTurnBy, Lends, Line, lent_to}
 use Rattle.tw_pool.specs.Words.{FitsWord}
 use Rattle.tw_pool.proofs.Fitting.{few_parameters, low_datum, small_numbers}
-use Rattle.tw_pool.proofs.Keeping.{ask_frames, deliver_frames, made_free, no_task, release_frames, still}
+use Rattle.tw_pool.proofs.Keeping.{ask_frames, deliver_frames, has_place, made_free, made_lent, no_task, own_count, release_frames, still}
 
 -- as what a pool is seen
 abbrev pub viewed : TypedProgram → List Input → ActorCounts → Bool → HistoryView → PoolView
 viewed verified inputs layout stopped told = record { program = verified; inputs = inputs; layout = layout; limit = told.limit; stopped = stopped; history = told.events }
+
+-- what is tried, by whether it was due
+pub tried_none : {A : Type 0} (due : Option A) (Done : A → Type 0) (Same : Type 0) (o : Option A) → o ≡ None → IsTried {E = AllocError} due Done Same (Ok o) → (due ≡ None) × Same
+tried_none due Done Same o is h = subst (λ x. IsTried {E = AllocError} due Done Same (Ok x)) is h
+
+pub tried_some : {A : Type 0} (due : Option A) (Done : A → Type 0) (Same : Type 0) (o : Option A) (x : A) → o ≡ Some x → IsTried {E = AllocError} due Done Same (Ok o) → (due ≡ Some x) × Done x
+tried_some due Done Same o x is h = subst (λ y. IsTried {E = AllocError} due Done Same (Ok y)) is h
+
+pub taken_none : {A : Type 0} (due : Option A) (Done : A → JobView → Type 0) (Same : Type 0) (o : Option JobView) → o ≡ None → IsTaken {E = AllocError} due Done Same (Ok o) → (due ≡ None) × Same
+taken_none due Done Same o is h = subst (λ x. IsTaken {E = AllocError} due Done Same (Ok x)) is h
+
+pub taken_some : {A : Type 0} (due : Option A) (Done : A → JobView → Type 0) (Same : Type 0) (o : Option JobView) (job : JobView) → o ≡ Some job → IsTaken {E = AllocError} due Done Same (Ok o) → (x : A) × (due ≡ Some x) × Done x job
+taken_some due Done Same o job is h = subst (λ y. IsTaken {E = AllocError} due Done Same (Ok y)) is h
 
 -- the notice that goes waits for this server
 delivery : (program : List Procedure) (layout : ActorCounts) (server : ℕ) (n : Notice) (s t : State) → step program layout (Deliver server n.datum n.rule n.parameter) s ≡ Went t → (set.contains s.notices n ≡ true) × (server_of layout.servers n.datum ≡ server)
@@ -169,7 +191,7 @@ module _ (verified : TypedProgram) (inputs : List Input) (layout : ActorCounts) 
       ask_due : IsDueFree w.layout (Engine engine) state (Ask engine rule parameter)
       ask_due = ap (λ o. first_of engine o (next_release engine state.rules) (best (Engine engine) state.tasks)) asked
 
-      pub ask_refused : GoesFree w state (Engine engine) (NoMemory None) []
+      ask_refused : GoesFree w state (Engine engine) (NoMemory None) []
       ask_refused = inl (Ask engine rule parameter, ask_due, inr (refl, refl))
 
       module _ (new : Parts) (makes : Makes verified layout (Ask engine rule parameter) old new) where
@@ -192,6 +214,13 @@ module _ (verified : TypedProgram) (inputs : List Input) (layout : ActorCounts) 
         pub ask_line : GoesFree w state (Engine engine) Made (Ask engine rule parameter ∷ [])
         ask_line = inl (Ask engine rule parameter, ask_due, inl (refl, refl))
 
+    pub ask_refused_for : IsSome (next_ask engine old.rules.rules) → GoesFree w state (Engine engine) (NoMemory None) []
+    ask_refused_for some = by (next_ask engine old.rules.rules) refl some
+      where
+        by : (o : Option (ℕ × ℕ)) → next_ask engine old.rules.rules ≡ o → IsSome o → GoesFree w state (Engine engine) (NoMemory None) []
+        by None e is = cc
+        by (Some q) e is = ask_refused q.0 q.1 e
+
     module _ (none : AsksNone w engine) (rule : ℕ) (due : next_release engine old.rules.rules ≡ Some rule) where
       released : next_release engine state.rules ≡ Some rule
       released = next_release_mapped bare_arg engine old.rules.rules ∙ due
@@ -199,7 +228,7 @@ module _ (verified : TypedProgram) (inputs : List Input) (layout : ActorCounts) 
       release_due : IsDueFree w.layout (Engine engine) state (Release engine rule)
       release_due = ap (λ o. first_of engine o (next_release engine state.rules) (best (Engine engine) state.tasks)) (none state has_state) ∙ ap (λ o. first_of engine None o (best (Engine engine) state.tasks)) released
 
-      pub release_refused : GoesFree w state (Engine engine) (NoMemory None) []
+      release_refused : GoesFree w state (Engine engine) (NoMemory None) []
       release_refused = inl (Release engine rule, release_due, inr (refl, refl))
 
       module _ (new : Parts) (makes : Makes verified layout (Release engine rule) old new) where
@@ -220,3 +249,88 @@ module _ (verified : TypedProgram) (inputs : List Input) (layout : ActorCounts) 
 
         pub release_line : GoesFree w state (Engine engine) Made (Release engine rule ∷ [])
         release_line = inl (Release engine rule, release_due, inl (refl, refl))
+
+    pub release_refused_for : AsksNone w engine → IsSome (next_release engine old.rules.rules) → GoesFree w state (Engine engine) (NoMemory None) []
+    release_refused_for none some = by (next_release engine old.rules.rules) refl some
+      where
+        by : (o : Option ℕ) → next_release engine old.rules.rules ≡ o → IsSome o → GoesFree w state (Engine engine) (NoMemory None) []
+        by None e is = cc
+        by (Some rule) e is = release_refused none rule e
+
+  -- ---- a job that is lent
+
+  -- with these events told, and a task of the actor's that is lent by its number
+  module _ (actor : Actor) (es : List Event) (new : Parts) (kept : IsKept verified inputs layout told.limit (told.events ++ es) new) (f : FrameView) (sits : get new.seats actor ≡ Some f)
+      (by_number : f.event_no ≡ length (events_of actor (told.events ++ es))) where
+    abbrev after : State
+    after = state_of new kept.notices
+
+    after_here : HasState (with_events w es) after
+    after_here = subst (λ (x : PoolView). HasState (with_events x es) after) seen kept.replays
+
+    fits : FrameFits verified new.store.places actor f
+    fits = kept.parts.stand.frames actor f sits
+
+    is_lent : lent_to (with_events w es) after actor ≡ Some (job_of f)
+    is_lent =
+        let runs : get after.frames actor ≡ Some (bare_frame f) = get_mapped bare_frame new.seats actor ∙ ap (option_map bare_frame) sits in
+        subst (λ (x : PoolView). lent_to (with_events x es) after actor ≡ Some (job_of f)) seen
+        (ap (option_map (λ (g : Frame). record { program = verified; task = g.task; procedure = g.procedure; actor = actor; event_no = length (events_of actor (told.events ++ es)); position = g.position })) runs
+        ∙ ap Some (λ i. record { program = sym fits.program i; task = f.task; procedure = f.procedure; actor = sym fits.own i; event_no = sym by_number i; position = f.position }))
+
+    pub lends : Lends w actor es (Run (job_of f)) es
+    lends = (after, after_here, job_of f, is_lent, (refl, refl))
+
+  -- ---- a task is taken
+
+  module _ (actor : Actor) (there : is_in w.layout actor ≡ true) (room : length w.history < w.limit) (free : IsFree w actor) (first : MayTakeNow w actor) where
+    pub there_here : is_in layout actor ≡ true
+    there_here = subst (λ (x : PoolView). is_in x.layout actor ≡ true) (sym seen) there
+
+    pub seat_here : HasPlace actor
+    seat_here = has_place layout actor h.parts.runnable.counts there_here
+
+    pub taker_free : get old.seats actor ≡ None
+    taker_free = no_task old h.notices actor (free_here actor free)
+
+    due_is : (a : Actor) → MayTakeNow w a → (o : Option (ℕ × Task)) → best a state.tasks ≡ o → (due : Event) → IsDueFree w.layout a state due → take_of a o ≡ Some due
+    due_is (Engine engine) none o is due h =
+        sym (ap (λ x. first_of engine x (next_release engine state.rules) (best (Engine engine) state.tasks)) (none.0 state has_state) ∙ ap (λ x. first_of engine None x (best (Engine engine) state.tasks)) (none.1 state has_state)
+        ∙ ap (take_of (Engine engine)) is) ∙ h
+    due_is (Server server) none o is due h = elim none [ ]
+    due_is (Worker worker) none o is due h = sym (ap (take_of (Worker worker)) is) ∙ h
+
+    is_due : (a : Actor) → MayTakeNow w a → (e : ℕ × Task) → best a state.tasks ≡ Some e → IsDueFree w.layout a state (Take a)
+    is_due (Engine engine) none e is =
+        ap (λ x. first_of engine x (next_release engine state.rules) (best (Engine engine) state.tasks)) (none.0 state has_state) ∙ ap (λ x. first_of engine None x (best (Engine engine) state.tasks)) (none.1 state has_state)
+        ∙ ap (take_of (Engine engine)) is
+    is_due (Server server) none e is = elim none [ ]
+    is_due (Worker worker) none e is = ap (take_of (Worker worker)) is
+
+    best_is : best actor state.tasks ≡ option_map (entry_by bare_task) (best actor old.tasks.tasks)
+    best_is = best_mapped bare_arg actor old.tasks.tasks
+
+    pub take_idle : best actor old.tasks.tasks ≡ None → GoesFree w state actor Idle []
+    take_idle none = inr ((λ due d. let no : None ≡ Some due = due_is actor first None (best_is ∙ ap (option_map (entry_by bare_task)) none) due d in cc), (refl, refl))
+
+    pub take_refused : IsSome (best actor old.tasks.tasks) → GoesFree w state actor (NoMemory None) []
+    take_refused some = by (best actor old.tasks.tasks) refl some
+      where
+        by : (o : Option (ℕ × TaskOf Arg)) → best actor old.tasks.tasks ≡ o → IsSome o → GoesFree w state actor (NoMemory None) []
+        by None e is = cc
+        by (Some t) e is = inl (Take actor, is_due actor first (entry_by bare_task t) (best_is ∙ ap (option_map (entry_by bare_task)) e), inr (refl, refl))
+
+    module _ (t : ℕ × TaskOf Arg) (is : best actor old.tasks.tasks ≡ Some t) (new : Parts) (makes : Makes verified layout (Take actor) old new) (f : FrameView) (sits : get new.seats actor ≡ Some f)
+        (number : f.event_no ≡ length (events_of actor told.events) + 1) where
+      take_goes : Goes verified layout (Take actor) old h.notices new
+      take_goes = makes h.notices h.parts
+
+      by_number : f.event_no ≡ length (events_of actor (told.events ++ Take actor ∷ []))
+      by_number = number ∙ sym (own_count actor told.events (Take actor) refl)
+
+      pub take_kept : IsKept verified inputs layout told.limit (told.events ++ Take actor ∷ []) new
+      take_kept = made_lent verified inputs layout told.limit told.events old h (Take actor) new take_goes (room_here room)
+          (λ g at. ap (λ (x : FrameView). x.event_no) (same_Some g f (sym at ∙ sits)) ∙ by_number)
+
+      pub take_line : GoesFree w state actor (Run (job_of f)) (Take actor ∷ [])
+      take_line = inl (Take actor, is_due actor first (entry_by bare_task t) (best_is ∙ ap (option_map (entry_by bare_task)) is), inl (lends actor (Take actor ∷ []) new take_kept f sits by_number))

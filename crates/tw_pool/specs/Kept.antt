@@ -2,6 +2,7 @@
 use Rattle.std.specs.Prelude.{◌≡◌, ◌≤◌, ◌<◌, ℕ, List, Some, None, length}
 use Rattle.std.specs.FinMap.{get}
 use Rattle.tw_types.specs.declared.actor.Actor.{Actor}
+use Rattle.tw_types.specs.declared.actor.Actor.TheVariants.{Engine, Server, Worker}
 use Rattle.tw_types.specs.declared.event.Event.{Event}
 use Rattle.tw_types.specs.declared.input.Input.{Input}
 use Rattle.tw_types.specs.Layout.{ActorCounts}
@@ -47,3 +48,9 @@ AsksNone p engine = InState p (λ s. next_ask engine s.rules ≡ None)
 
 abbrev pub ReleasesNone : PoolView → ℕ → Type 0
 ReleasesNone p engine = InState p (λ s. next_release engine s.rules ≡ None)
+
+-- nothing goes before its taking of a task
+abbrev pub MayTakeNow : PoolView → Actor → Type 0
+MayTakeNow p (Engine engine) = AsksNone p engine × ReleasesNone p engine
+MayTakeNow p (Server server) = ⊥
+MayTakeNow p (Worker worker) = Unit {0}

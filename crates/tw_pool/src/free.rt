@@ -1,13 +1,15 @@
 //! What an actor without a task does.
 
-ghost use Rattle.std.specs.Prelude.{◌≡◌, ◌<◌, MatchOption, length};
+ghost use Rattle.std.specs.Prelude.{◌≡◌, ◌<◌, MatchOption, length, true};
+ghost use Rattle.tw_types.specs.Actor.{is_in};
 ghost use Rattle.tw_types.specs.declared.actor.Actor.TheVariants.{Engine, Server};
-ghost use Rattle.tw_pool.specs.Kept.{AsksNone, IsFree, ReleasesNone};
+ghost use Rattle.tw_pool.specs.Kept.{AsksNone, IsFree, MayTakeNow, ReleasesNone};
 ghost use Rattle.tw_pool.specs.Turns.{GoesFree, IsTurnBy};
 
 use crate::answer::Turn;
 use crate::pool::Pool;
-use tw_types::Event;
+use std::alloc::Global;
+use tw_types::{Actor, Event};
 
 impl<'a> Pool<'a> {
     /// A server delivers its oldest notice, if it has one.
@@ -35,7 +37,10 @@ impl<'a> Pool<'a> {
         let Ok(asked) = self.parts.ask(engine) else {
             return Some(Turn::NoMemory(None));
         };
-        let (rule, parameter) = asked?;
+        let Some(next) = asked else {
+            return None;
+        };
+        let (rule, parameter) = next;
         self.history.push(Event::Ask(engine, rule, parameter));
         Some(Turn::Went)
     }
@@ -51,8 +56,51 @@ impl<'a> Pool<'a> {
         let Ok(released) = self.parts.release(self.verified, engine) else {
             return Some(Turn::NoMemory(None));
         };
-        let rule = released?;
+        let Some(rule) = released else {
+            return None;
+        };
         self.history.push(Event::Release(engine, rule));
         Some(Turn::Went)
+    }
+
+    /// An engine that has nothing to do with its rules, or a worker, takes its best task, if there is one.
+    pub(crate) fn take(&mut self, alloc: Global, actor: Actor) -> Turn<'a>
+        requires actor { is_in self.old.layout actor ≡ true }
+        requires room { length self.old.history < self.old.limit }
+        requires free { IsFree self.old actor }
+        requires first { MayTakeNow self.old actor }
+        ensures { IsTurnBy (λ s. GoesFree self.old s actor) self.old result self.new }
+    {
+        let event_no = self.history.count(actor) + 1;
+        let Ok(taken) = self.parts.take(self.verified, alloc, actor, event_no) else {
+            return Turn::NoMemory(None);
+        };
+        let Some(job) = taken else {
+            return Turn::Idle;
+        };
+        self.history.push(Event::Take(actor));
+        Turn::Run(job)
+    }
+
+    /// One turn of an actor without a task and without a Done.
+    pub(crate) fn go_free(&mut self, alloc: Global, actor: Actor) -> Turn<'a>
+        requires actor { is_in self.old.layout actor ≡ true }
+        requires room { length self.old.history < self.old.limit }
+        requires free { IsFree self.old actor }
+        ensures { IsTurnBy (λ s. GoesFree self.old s actor) self.old result self.new }
+    {
+        match actor {
+            Actor::Engine(engine) => {
+                if let Some(answer) = self.ask(engine) {
+                    return answer;
+                }
+                if let Some(answer) = self.release(engine) {
+                    return answer;
+                }
+                self.take(alloc, actor)
+            }
+            Actor::Server(server) => self.deliver(server),
+            Actor::Worker(_) => self.take(alloc, actor),
+        }
     }
 }
