@@ -1,4 +1,4 @@
-//! Main by itself.
+//! Main by itself, once or again and again.
 
 use std::alloc::{AllocError, Global};
 use tw_frame::{Draft, Frame};
@@ -39,4 +39,13 @@ pub(crate) fn steps_alone(alloc: Global, verified: &Verified) -> Result<u64, All
     let accepted = frame.accept(done).is_ok();
     frame.shut();
     if accepted { Ok(steps) } else { Err(AllocError) }
+}
+
+/// Main's local instructions, so many times, each with a frame and a job of its own.
+pub(crate) fn rounds_alone(alloc: Global, verified: &Verified, count: u32) -> Result<u64, AllocError> {
+    let mut steps: u64 = 0;
+    for _round in 0..count {
+        steps = steps.wrapping_add(steps_alone(alloc, verified)?);
+    }
+    Ok(steps)
 }

@@ -3,6 +3,7 @@
 pub mod Jobs
 pub mod Ready
 pub mod Drafts
+pub mod Seen
 -- What only private functions speak of.
 pub mod Banks
 pub mod Standing

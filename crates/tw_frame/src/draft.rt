@@ -1,11 +1,12 @@
 //! Values for a task's registers, made beforehand.
 
-ghost use Rattle.std.specs.Prelude.{◌≡◌, IfOk, OnOk, List, Some, Ok, slice_get, slice_set, map as each};
+ghost use Rattle.std.specs.Prelude.{◌≡◌, IfOk, OnOk, OnErr, List, Some, Ok, slice_get, slice_set, map as each};
 ghost use Rattle.std.specs.Option.{option_copied};
 ghost use Rattle.tw_types.specs.Value.{blank_of};
 ghost use Rattle.tw_types.specs.declared.value.Value.{Value as Content};
 ghost use Rattle.tw_code.specs.declared.procedure.Procedure.{Procedure};
-ghost use Rattle.tw_frame.specs.Drafts.{MaySet, MayStart, started, value_in};
+ghost use Rattle.tw_frame.specs.Banks.{HasText};
+ghost use Rattle.tw_frame.specs.Drafts.{HasTexts, MaySet, MayStart, started, value_in};
 
 use crate::job::Done;
 use crate::registers::Registers;
@@ -52,20 +53,22 @@ fn fill(alloc: Global, registers: &mut Registers<'_>, args: &Bundle) -> Result<(
     requires blank { registers.old.values ≡ each blank_of registers.old.types }
     ensures types { registers.new.types ≡ registers.old.types }
     ensures filled { OnOk result (started args.now registers.old.types ≡ Ok registers.new.values) }
+    ensures texts { OnErr result (HasText registers.old.types) }
 {
     let mut register = 0;
     for index in 0..args.len() {
         let Some(value) = value_at(args, index) else {
             continue;
         };
-        registers.set(register, value.try_clone(alloc)?);
+        registers.set_copy(alloc, register, value)?;
         register += 1;
     }
     Ok(())
 }
 
 impl<'a> Draft<'a> {
-    /// The values with which the task starts: those among its arguments in the first registers, the others blank.
+    /// The values with which the task starts: those among its arguments in the first registers, the others blank. Where
+    /// no register is a text no memory is taken.
     pub fn start(
         alloc: Global,
         task: &Task,
@@ -76,6 +79,7 @@ impl<'a> Draft<'a> {
         ensures procedure { IfOk result (λ draft. draft.procedure ≡ task.now.procedure) }
         ensures started { IfOk result (λ draft. (p : Procedure) → slice_get verified.now.program task.now.procedure ≡ Some p
             → started task.now.args p.registers ≡ Ok draft.values) }
+        ensures texts { OnErr result (HasTexts verified.now.program task.now.procedure) }
     {
         let procedures = verified.program().procedures();
         let p = &procedures[usize::from(task.procedure)];
@@ -93,6 +97,7 @@ impl<'a> Draft<'a> {
         ensures program { IfOk result (λ draft. draft.program ≡ done.now.before.program) }
         ensures procedure { IfOk result (λ draft. draft.procedure ≡ done.now.before.procedure) }
         ensures values { IfOk result (λ draft. draft.values ≡ done.now.after.values) }
+        ensures texts { OnErr result (HasTexts done.now.before.program.program done.now.before.procedure) }
     {
         let registers = match &done.after {
             Some(after) => after.registers.try_clone(alloc)?,
@@ -107,7 +112,8 @@ impl<'a> Draft<'a> {
 
     /// The same values again.
     pub fn try_clone(&self, alloc: Global) -> Result<Draft<'a>, AllocError>
-        ensures { IfOk result (λ copy. copy ≡ self.now) }
+        ensures copy { IfOk result (λ copy. copy ≡ self.now) }
+        ensures texts { OnErr result (HasTexts self.now.program.program self.now.procedure) }
     {
         let registers = self.registers.try_clone(alloc)?;
         Ok(Draft {

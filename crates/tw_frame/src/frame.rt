@@ -1,6 +1,6 @@
 //! Frames: where a task stands, as the pool keeps it.
 
-ghost use Rattle.std.specs.Prelude.{◌≡◌, ◌<◌, ◌≤◌, ◌+◌, ◌^◌, ℤ, IsTrue, ◌↔◌, IfErr, IfOk, IsSome, OnErr, OnOk, Some, None, Ok, true, false, [], length, slice_get, slice_set, slice_index_or};
+ghost use Rattle.std.specs.Prelude.{◌≡◌, ◌<◌, ◌≤◌, ◌+◌, ◌^◌, ℕ, ℤ, List, IsTrue, ◌↔◌, IfErr, IfOk, IsSome, OnErr, OnOk, Some, None, Ok, true, false, [], length, slice_get, slice_set, slice_index_or};
 ghost use Rattle.std.specs.Option.{option_map};
 ghost use Rattle.tw_types.specs.declared.value.Value.TheVariants as value;
 ghost use Rattle.tw_code.specs.machine.Position.{at_goal, at_next_place, with_value};
@@ -9,12 +9,14 @@ ghost use Rattle.tw_rights.specs.Filed.{filed, rights_in};
 ghost use Rattle.tw_rights.specs.Kinds.{kind_at};
 ghost use Rattle.tw_rights.specs.declared.held.Held.TheVariants.{Read as ReadOf, Write as WriteOf};
 ghost use Rattle.tw_frame.specs.Drafts.{MaySet, StartsAsMachine};
-ghost use Rattle.tw_frame.specs.Jobs.{MayStand, bare_frame, job_of};
+ghost use Rattle.tw_frame.specs.Seen.{seen};
+ghost use Rattle.tw_frame.specs.Jobs.{MayStand, bare_frame, draft_of, job_of};
 
 use crate::draft::Draft;
 use crate::job::{After, Done, Job};
 use crate::loops::Loops;
 use crate::registers::Registers;
+use crate::value_ref::ValueRef;
 use std::alloc::{AllocError, Global};
 use std::marker::Model;
 use tw_queue::Task;
@@ -139,6 +141,52 @@ impl<'a> Frame<'a> {
         }
     }
 
+    /// Takes what was done of the job that was lent last, and gives a draft of the values with which the frame goes on;
+    /// another Done is handed back.
+    pub fn exchange(&mut self, done: Done<'a>) -> Result<Draft<'a>, Done<'a>>
+        requires program { done.before.program ≡ self.old.program }
+        requires spent { self.old.spent < 2 ^ 63 }
+        ensures fits { OnOk result (done.entry.before ≡ job_of self.old) }
+        ensures taken { OnOk result (self.new ≡ record self.old { position = done.entry.after; spent = self.old.spent + done.entry.steps }) }
+        ensures draft { IfOk result (λ draft. draft ≡ draft_of self.new) }
+        ensures kept { OnErr result (self.new ≡ self.old) }
+        ensures back { IfErr result (λ back. back ≡ done.entry) }
+        ensures foreign { OnErr result (done.entry.before ≡ job_of self.old → ⊥) }
+    {
+        if !self.has_lent(&done.before) {
+            return Err(done);
+        }
+        let steps = done.steps();
+        let Done {
+            before,
+            after,
+            steps: _,
+            short: _,
+        } = done;
+        self.spent += steps;
+        let Some(after) = after else {
+            return Ok(Draft {
+                verified: self.verified,
+                procedure: self.procedure,
+                registers: before.registers,
+            });
+        };
+        let After {
+            place,
+            registers,
+            loops,
+            again,
+        } = after;
+        self.place = place;
+        self.registers = registers;
+        self.loops = loops;
+        Ok(Draft {
+            verified: self.verified,
+            procedure: self.procedure,
+            registers: again,
+        })
+    }
+
     /// Takes what was done of the job that was lent last; another Done is handed back.
     pub fn accept(&mut self, done: Done<'a>) -> Result<(), Done<'a>>
         requires program { done.before.program ≡ self.old.program }
@@ -149,28 +197,10 @@ impl<'a> Frame<'a> {
         ensures back { IfErr result (λ back. back ≡ done.entry) }
         ensures foreign { OnErr result (done.entry.before ≡ job_of self.old → ⊥) }
     {
-        if !self.has_lent(&done.before) {
-            return Err(done);
+        match self.exchange(done) {
+            Ok(_draft) => Ok(()),
+            Err(done) => Err(done),
         }
-        let steps = done.steps();
-        let Done {
-            before: _,
-            after,
-            steps: _,
-            short: _,
-        } = done;
-        self.spent += steps;
-        if let Some(after) = after {
-            let After {
-                place,
-                registers,
-                loops,
-            } = after;
-            self.place = place;
-            self.registers = registers;
-            self.loops = loops;
-        }
-        Ok(())
     }
 
     /// The program that it belongs to.
@@ -201,10 +231,20 @@ impl<'a> Frame<'a> {
         self.place
     }
 
-    /// A copy of the value of a register.
+    /// The value of a register, which stays there.
+    pub fn look(&self, register: u8) -> ValueRef<'_>
+        requires { register < length self.now.position.values }
+        ensures { slice_get self.now.position.values register ≡ Some (seen result) }
+    {
+        let _count = self.registers.count();
+        self.registers.at(register)
+    }
+
+    /// A copy of the value of a register. Only a text takes memory.
     pub fn value(&self, alloc: Global, register: u8) -> Result<Value, AllocError>
         requires { register < length self.now.position.values }
-        ensures { IfOk result (λ value. slice_get self.now.position.values register ≡ Some value) }
+        ensures copy { IfOk result (λ value. slice_get self.now.position.values register ≡ Some value) }
+        ensures text { OnErr result ((bytes : List ℕ) × (slice_get self.now.position.values register ≡ Some (value.Text bytes))) }
     {
         let _count = self.registers.count();
         self.registers.copy_of(alloc, register)

@@ -1,11 +1,14 @@
 //! Jobs.
 
-ghost use Rattle.std.specs.Prelude.{◌≡◌, ◌<◌, IfOk, Some, length, slice_get};
+ghost use Rattle.std.specs.Prelude.{◌≡◌, ◌<◌, ℕ, List, IfOk, OnErr, Some, length, slice_get};
+ghost use Rattle.tw_types.specs.declared.value.Value.TheVariants as value;
 ghost use Rattle.tw_frame.specs.Jobs.{IsDone};
+ghost use Rattle.tw_frame.specs.Seen.{seen};
 
 use crate::loops::Loops;
 use crate::registers::Registers;
 use crate::run::run_from;
+use crate::value_ref::ValueRef;
 use std::alloc::{AllocError, Global};
 use std::marker::Model;
 use tw_types::{Actor, TaskNo, Value};
@@ -41,13 +44,15 @@ pub(crate) struct After<'a> {
     pub(crate) place: usize,
     pub(crate) registers: Registers<'a>,
     pub(crate) loops: Loops,
+    /// The same values again, for the next job.
+    pub(crate) again: Registers<'a>,
 }
 
 /// What was done of a job. Only `run` makes one.
 #[derive(Drop)]
 pub struct Done<'a> {
     pub(crate) before: Job<'a>,
-    /// Nothing where no step was made for want of a copy, or because the first instruction isn't local.
+    /// Nothing where no step was made, since the first instruction isn't local or the values couldn't be copied twice.
     pub(crate) after: Option<After<'a>>,
     pub(crate) steps: u64,
     pub(crate) short: bool,
@@ -92,10 +97,20 @@ impl<'a> Job<'a> {
         self.place
     }
 
+    /// The value of a register, which stays there.
+    pub fn look(&self, register: u8) -> ValueRef<'_>
+        requires { register < length self.now.position.values }
+        ensures { slice_get self.now.position.values register ≡ Some (seen result) }
+    {
+        let _count = self.registers.count();
+        self.registers.at(register)
+    }
+
     /// A copy of the value of a register, from which it goes on.
     pub fn value(&self, alloc: Global, register: u8) -> Result<Value, AllocError>
         requires { register < length self.now.position.values }
-        ensures { IfOk result (λ value. slice_get self.now.position.values register ≡ Some value) }
+        ensures copy { IfOk result (λ value. slice_get self.now.position.values register ≡ Some value) }
+        ensures text { OnErr result ((bytes : List ℕ) × (slice_get self.now.position.values register ≡ Some (value.Text bytes))) }
     {
         let _count = self.registers.count();
         self.registers.copy_of(alloc, register)
@@ -115,8 +130,9 @@ impl<'a> Job<'a> {
         self.event_no
     }
 
-    /// Runs it up to its next instruction that isn't local; or, short, up to a local one whose memory is refused. No copy is
-    /// made where the first instruction isn't local, and where none can be made there is no step.
+    /// Runs it up to its next instruction that isn't local; or, short, up to a local one whose memory is refused. The values
+    /// are copied twice, before and after, so that the next job takes no memory; no copy is made where the first
+    /// instruction isn't local. Where the values can't be copied there is no step.
     pub fn run(self, alloc: Global) -> Done<'a>
         ensures { result.before ≡ self.entry }
     {
@@ -152,12 +168,21 @@ impl<'a> Job<'a> {
             &mut loops,
             self.place,
         );
+        let Ok(again) = registers.try_clone(alloc) else {
+            return Done {
+                before: self,
+                after: None,
+                steps: 0,
+                short: true,
+            };
+        };
         Done {
             before: self,
             after: Some(After {
                 place: ran.place,
                 registers,
                 loops,
+                again,
             }),
             steps: ran.steps,
             short: ran.short,
@@ -183,17 +208,41 @@ impl<'a> Done<'a> {
         }
     }
 
+    /// The value of a register, to which it came.
+    pub fn look(&self, register: u8) -> ValueRef<'_>
+        requires { register < length self.now.after.values }
+        ensures { slice_get self.now.after.values register ≡ Some (seen result) }
+    {
+        let registers = self.registers_after();
+        let _count = registers.count();
+        registers.at(register)
+    }
+
     /// A copy of the value of a register, to which it came.
     pub fn value(&self, alloc: Global, register: u8) -> Result<Value, AllocError>
         requires { register < length self.now.after.values }
-        ensures { IfOk result (λ value. slice_get self.now.after.values register ≡ Some value) }
+        ensures copy { IfOk result (λ value. slice_get self.now.after.values register ≡ Some value) }
+        ensures text { OnErr result ((bytes : List ℕ) × (slice_get self.now.after.values register ≡ Some (value.Text bytes))) }
     {
-        let registers = match &self.after {
-            Some(after) => &after.registers,
-            None => &self.before.registers,
-        };
+        let registers = self.registers_after();
         let _count = registers.count();
         registers.copy_of(alloc, register)
+    }
+
+    /// How many value registers there are.
+    pub fn count(&self) -> usize
+        ensures { result ≡ length self.now.after.values }
+    {
+        self.registers_after().count()
+    }
+
+    fn registers_after(&self) -> &Registers<'a>
+        ensures { result.now.values ≡ self.now.after.values }
+    {
+        match &self.after {
+            Some(after) => &after.registers,
+            None => &self.before.registers,
+        }
     }
 
     /// How many steps were made; the law of every Done.

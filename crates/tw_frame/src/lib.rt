@@ -10,7 +10,9 @@ mod loops;
 mod registers;
 mod run;
 mod step;
+mod value_ref;
 
 pub use draft::Draft;
 pub use frame::Frame;
 pub use job::{Done, Job};
+pub use value_ref::ValueRef;

@@ -27,11 +27,11 @@ use Rattle.tw_code.specs.machine.Rights.{RightType, Typing, right_of}
 use Rattle.tw_code.specs.machine.State.{Frame, State, context_of}
 use Rattle.tw_budget.proofs.FrameLaws.{starts_within}
 use Rattle.tw_no_trap.specs.Invariant.{IsHeld}
+use Rattle.tw_no_trap.specs.Standing.{Accepts, Stands}
 use Rattle.tw_no_trap.proofs.AllEvents.{Accepted, Known}
 use Rattle.tw_no_trap.proofs.DataLeaves.{data_leaves}
-use Rattle.tw_no_trap.proofs.Framed.{Stands}
 use Rattle.tw_no_trap.proofs.Long.{typings_long}
-use Rattle.tw_no_trap.proofs.Moving.{Accepts, asked, inside, instr_there, stands_on, steps_keep, typing_on}
+use Rattle.tw_no_trap.proofs.Moving.{asked, inside, instr_there, stands_on, steps_keep, typing_on}
 use Rattle.tw_no_trap.proofs.Registers.{Settles}
 use Rattle.tw_no_trap.proofs.Steps.{Goes, keeps_mapped, goes_mapped}
 use Rattle.tw_no_trap.proofs.TaskEvents.{Starts, fits_of, other_reads, other_writes}

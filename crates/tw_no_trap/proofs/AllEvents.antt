@@ -21,7 +21,8 @@ use Rattle.tw_code.specs.machine.Machine.{local_event, call_event, end_event, st
 use Rattle.tw_code.specs.machine.Position.{Position}
 use Rattle.tw_code.specs.machine.Holders.{over, read_by, write_by, Typings, typing_at, typing_of, frame_reads, frame_writes}
 use Rattle.tw_no_trap.specs.Invariant.{RightsFit, IsHeld}
-use Rattle.tw_no_trap.proofs.Framed.{Stands, types_framed, budgets_framed}
+use Rattle.tw_no_trap.specs.Standing.{Stands}
+use Rattle.tw_no_trap.proofs.Framed.{types_framed, budgets_framed}
 use Rattle.tw_types.proofs.Freeing.{balanced_same}
 use Rattle.tw_types.proofs.Parts.{before_removal}
 use Rattle.tw_no_trap.proofs.RuleEvents.{ask_keeps, deliver_keeps, release_keeps}

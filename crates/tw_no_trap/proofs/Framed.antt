@@ -11,20 +11,14 @@ use Rattle.tw_types.specs.Task.{Task}
 use Rattle.tw_code.specs.declared.procedure.Procedure.{Procedure}
 use Rattle.tw_code.specs.accepting.Flow.{flows}
 use Rattle.tw_code.specs.machine.State.{State, Frame, with_frame, with_task, with_rule}
-use Rattle.tw_code.specs.machine.Position.{Position}
 use Rattle.tw_code.specs.accepting.Walk.{IsBudget}
 use Rattle.tw_budget.specs.Frames.{IsWithinBudget}
 use Rattle.tw_code.specs.machine.Holders.{Typings, typing_of, rule_reads, rule_writes, task_reads, task_writes, frame_reads, frame_writes}
 use Rattle.tw_no_trap.specs.Invariant.{RightsFit, ValuesFit, ArgsFit, RuleArgsFit, AreBegun, NumbersHeld, TypesHeld, CountsHeld, BudgetsHeld}
+use Rattle.tw_no_trap.specs.Standing.{Stands}
 use Rattle.tw_types.proofs.Freeing.{balanced_same}
 use Rattle.tw_types.proofs.Parts.{put_or_before, before_removal}
 use Rattle.tw_no_trap.proofs.Sums.{sum_apart, sum_new, sum_replaced}
-
--- a task stands in its procedure
-pub record Stands (p : Procedure) (spent : ℕ) (at : Position) : Type 0 where
-  pub values : ValuesFit p.registers at.values
-  pub begun : AreBegun (flows p.code) at.loops
-  pub within : (budget : ℕ) → IsBudget (flows p.code) budget → IsWithinBudget (flows p.code) budget spent at.place at.loops
 
 module _ (program : List Procedure) (typings : Typings) where
   -- ---- a task, and a rule

@@ -21,15 +21,13 @@ use Rattle.tw_code.specs.machine.Machine.{local_of, local_step, local_steps}
 use Rattle.tw_code.specs.accepting.Structure.{end_of}
 use Rattle.tw_code.specs.machine.Rights.{Typing}
 use Rattle.tw_code.specs.accepting.Typing.{asks, asks_at, asks_params, after}
-use Rattle.tw_code.specs.accepting.Walk.{moved, IsBudget}
-use Rattle.tw_code.specs.accepting.WellTyped.{IsWellTyped, IsEndOf}
+use Rattle.tw_code.specs.accepting.Walk.{moved}
+use Rattle.tw_code.specs.accepting.WellTyped.{IsEndOf}
 use Rattle.tw_budget.specs.Frames.{LoopsFit}
 use Rattle.tw_budget.proofs.FrameLaws.{stays_within, end_goes_on}
 use Rattle.tw_budget.proofs.Places.{close_end}
-use Rattle.tw_budget.specs.Sound.{IsSound}
-use Rattle.tw_code.specs.format.Program.{IsProcedure}
 use Rattle.tw_no_trap.specs.Invariant.{AreBegun}
-use Rattle.tw_no_trap.proofs.Framed.{Stands}
+use Rattle.tw_no_trap.specs.Standing.{Accepts, Stands}
 use Rattle.tw_no_trap.proofs.Steps.{Happens, Keeps, goes_happens, happens_keeps, keeps_more, waits_keeps}
 use Rattle.tw_no_trap.proofs.Values.{AllYes, HasLoop, Moves, all_yes, local_moves, yes_behind}
 
@@ -107,12 +105,6 @@ close_same program (instr.Put action) way typing e = cc
 close_same program instr.Ret way typing e = cc
 
 -- ---- a procedure of an accepted program
-
-pub record Accepts (program : List Procedure) (typings : List Typing) (p : Procedure) : Type 0 where
-  pub typed : IsWellTyped program p typings (length p.code)
-  pub sound : IsSound (flows p.code)
-  pub budget : (n : ℕ) × IsBudget (flows p.code) n
-  pub limits : IsProcedure p
 
 module _ (program : List Procedure) (typings : List Typing) (p : Procedure) (accepts : Accepts program typings p) where
   flow_there : (place : ℕ) (i : Instr) → slice_get p.code place ≡ Some i → slice_get (flows p.code) place ≡ Some (flow_of i)

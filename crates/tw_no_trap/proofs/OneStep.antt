@@ -25,10 +25,11 @@ use Rattle.tw_code.specs.machine.State.{Frame, State, after_context, context_of,
 use Rattle.tw_budget.proofs.FrameLaws.{below_budget}
 use Rattle.tw_no_trap.specs.Invariant.{IsHeld}
 use Rattle.tw_no_trap.specs.NoTrap.{ExactlyOne, GivesState, HasOneStep, IsBelowBudget}
+use Rattle.tw_no_trap.specs.Standing.{Accepts}
 use Rattle.tw_no_trap.proofs.Accepted.{known, stands}
 use Rattle.tw_no_trap.proofs.AllEvents.{Known, all_empty}
 use Rattle.tw_no_trap.proofs.Called.{called_goes, put_goes}
-use Rattle.tw_no_trap.proofs.Moving.{Accepts, at_other, step_goes}
+use Rattle.tw_no_trap.proofs.Moving.{at_other, step_goes}
 use Rattle.tw_no_trap.proofs.Steps.{Goes, Happens}
 use Rattle.tw_no_trap.proofs.Values.{AllYes}
 use Rattle.tw_no_trap.proofs.TaskEvents.{fits_of, other_reads, other_writes}

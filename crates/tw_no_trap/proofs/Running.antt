@@ -27,10 +27,10 @@ use Rattle.tw_budget.proofs.Places.{end_within, no_refusals, not_last, stays}
 use Rattle.tw_budget.specs.Sound.{IsSound}
 use Rattle.tw_no_trap.specs.Invariant.{IsHeld, RightsFit}
 use Rattle.tw_no_trap.specs.NoTrap.{AreRight}
+use Rattle.tw_no_trap.specs.Standing.{Accepts, Stands}
 use Rattle.tw_no_trap.proofs.Accepted as acceptance
-use Rattle.tw_no_trap.proofs.Framed.{Stands}
 use Rattle.tw_no_trap.proofs.Live.{typed_where_held}
-use Rattle.tw_no_trap.proofs.Moving.{Accepts, IsLeftBy, asked, inside, instr_there, steps_keep}
+use Rattle.tw_no_trap.proofs.Moving.{IsLeftBy, asked, inside, instr_there, steps_keep}
 use Rattle.tw_no_trap.proofs.Registers.{at_right}
 use Rattle.tw_no_trap.proofs.Safe.{accepts}
 use Rattle.tw_no_trap.proofs.Steps.{keeps_went}

@@ -14,9 +14,9 @@ use Rattle.tw_code.specs.machine.State.{State}
 use Rattle.tw_budget.proofs.Sound.{sound_flows}
 use Rattle.tw_no_trap.specs.Invariant.{IsHeld}
 use Rattle.tw_no_trap.specs.NoTrap.{AreRight, IsSafe, NoTrap}
+use Rattle.tw_no_trap.specs.Standing.{Accepts}
 use Rattle.tw_no_trap.proofs.Accepted.{accepted, all_found}
 use Rattle.tw_no_trap.proofs.AllEvents.{run_keeps, step_keeps}
-use Rattle.tw_no_trap.proofs.Moving.{Accepts}
 use Rattle.tw_no_trap.proofs.OneStep.{below, one_step}
 use Rattle.tw_no_trap.proofs.Opening.{opening_held}
 use Rattle.tw_no_trap.proofs.Steps.{Keeps, keeps_no_trap, keeps_went}

@@ -26,10 +26,11 @@ use Rattle.tw_types.specs.Counts.{count_of}
 use Rattle.tw_code.specs.machine.Holders.{read_by, write_by, over, Typings, typing_at, typing_of, task_reads, task_writes, rule_reads, rule_writes, frame_reads, frame_writes}
 use Rattle.tw_no_trap.proofs.Over.{over_params}
 use Rattle.tw_no_trap.specs.Invariant.{RightsFit, RuleArgsFit, IsHeld}
+use Rattle.tw_no_trap.specs.Standing.{Stands}
 use Rattle.tw_code.proofs.Staged.{first_waits}
 use Rattle.tw_no_trap.proofs.Asked.{named_new}
 use Rattle.tw_no_trap.proofs.Called.{CalledSo, called_goes, put_goes}
-use Rattle.tw_no_trap.proofs.Framed.{Stands, types_tasked, numbers_tasked, types_ruled, numbers_ruled, types_untasked, numbers_untasked, types_framed, budgets_framed, counts_put, counts_rule, counts_took}
+use Rattle.tw_no_trap.proofs.Framed.{types_tasked, numbers_tasked, types_ruled, numbers_ruled, types_untasked, numbers_untasked, types_framed, budgets_framed, counts_put, counts_rule, counts_took}
 use Rattle.tw_types.proofs.Freeing.{balanced_same}
 use Rattle.tw_no_trap.proofs.Given.{put_fit, rule_fit}
 use Rattle.tw_no_trap.proofs.Values.{AllYes}

@@ -28,8 +28,9 @@ use Rattle.tw_code.specs.accepting.Typing.{writes, asks, asks_data, without_args
 use Rattle.tw_code.specs.machine.Arguments.{params_of}
 use Rattle.tw_code.specs.machine.Holders.{Typings, typing_at, typing_of, frame_reads, frame_writes}
 use Rattle.tw_no_trap.specs.Invariant.{TypesHeld, CountsHeld, IsHeld}
+use Rattle.tw_no_trap.specs.Standing.{Stands}
 use Rattle.tw_no_trap.proofs.DataNamed.{HasWriter, data_named}
-use Rattle.tw_no_trap.proofs.Framed.{Stands, types_framed, budgets_framed}
+use Rattle.tw_no_trap.proofs.Framed.{types_framed, budgets_framed}
 use Rattle.tw_types.proofs.Freeing.{balanced_same}
 use Rattle.tw_no_trap.proofs.Values.{AllYes, passed}
 use Rattle.tw_no_trap.proofs.Wanted.{wanted_is_there}

@@ -7,3 +7,4 @@ pub mod EndsWell
 -- proved, and nothing of it need be believed.
 pub mod Noticed
 pub mod Invariant
+pub mod Standing

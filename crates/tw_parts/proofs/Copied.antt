@@ -36,10 +36,10 @@ are_vals values (p ∷ params) (register ∷ registers) (x ∷ vals) e = by (is_
         → ValOr b (slice_get values register) (Some x) (AreVals values params registers vals) (AreVals values params registers (x ∷ vals))
     by true e = (sym (same_first e), are_vals values params registers vals (same_rest e))
       where
-        same_first : {A : Type 0} {a b : A} {as bs : List A} → (a ∷ as) ≡ (b ∷ bs) → a ≡ b
+        same_first : {A : Type 0} {a b : A} {xs ys : List A} → (a ∷ xs) ≡ (b ∷ ys) → a ≡ b
         same_first e = cc
 
-        same_rest : {A : Type 0} {a b : A} {as bs : List A} → (a ∷ as) ≡ (b ∷ bs) → as ≡ bs
+        same_rest : {A : Type 0} {a b : A} {xs ys : List A} → (a ∷ xs) ≡ (b ∷ ys) → xs ≡ ys
         same_rest e = cc
     by false e = are_vals values params registers (x ∷ vals) e
 

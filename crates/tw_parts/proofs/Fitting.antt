@@ -77,6 +77,18 @@ module _ (verified : TypedProgram) (places : Places) (seats : Seated) (tasks : T
     outputs = h.outputs;
   }
 
+  -- a rule is made
+  pub stand_ruled : (next : ℕ) (r : RuleOf Arg) → ArgsStand places (params_of verified.program r.procedure) r.args → Stand verified places seats tasks (insert rules next r) outputs
+  stand_ruled next r args = record {
+    frames = h.frames;
+    tasks = h.tasks;
+    rules = λ n x there. elim (put_or_before nat_cmp_total nat_cmp-IsAntisymmetric rules next r n x there) as (λ _. ArgsStand places (params_of verified.program x.procedure) x.args) [
+      | inl same ↦ subst (λ (y : RuleOf Arg). ArgsStand places (params_of verified.program y.procedure) y.args) same.1 args
+      | inr before ↦ h.rules n x before
+    ];
+    outputs = h.outputs;
+  }
+
   -- a task is taken
   pub stand_without : (number : ℕ) → Stand verified places seats (remove tasks number) rules outputs
   stand_without number = record {

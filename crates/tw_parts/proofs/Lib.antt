@@ -12,3 +12,7 @@ mod Copied
 mod Handing
 mod Kinding
 mod Naming
+mod Handovers
+mod Puts
+mod NewRules
+mod Quieting

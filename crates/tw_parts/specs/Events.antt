@@ -1,11 +1,10 @@
 -- What one event makes of the parts of a pool.
-use Rattle.std.specs.Prelude.{◌≡◌, ◌≢◌, ℕ, ◌^◌, List, Option, Some, None, IsSome, slice_get}
+use Rattle.std.specs.Prelude.{◌≡◌, ◌≢◌, ℕ, ◌^◌, Option, Some, None, IsSome, slice_get}
 use Rattle.std.specs.declared.result.Result.{Result}
 use Rattle.std.specs.declared.result.Result.TheVariants.{Ok, Err}
 use Rattle.std.specs.FinMap.{get, insert}
 use Rattle.tw_types.specs.declared.actor.Actor.{Actor}
 use Rattle.tw_types.specs.declared.event.Event.{Event}
-use Rattle.tw_types.specs.declared.value.Value.{Value}
 use Rattle.tw_types.specs.Layout.{ActorCounts}
 use Rattle.tw_types.specs.Notices.{Notices}
 use Rattle.tw_types.specs.Outcome.{Went}
@@ -17,7 +16,7 @@ use Rattle.tw_code.specs.machine.History.{actor_of}
 use Rattle.tw_code.specs.machine.Machine.{step}
 use Rattle.tw_code.specs.machine.State.{State}
 use Rattle.tw_verify.specs.Typed.{TypedProgram}
-use Rattle.tw_frame.specs.Jobs.{DoneView, FrameView, JobView, job_of}
+use Rattle.tw_frame.specs.Jobs.{DoneView, DraftView, FrameView, JobView, draft_of, job_of}
 use Rattle.tw_parts.specs.Coming.{come}
 use Rattle.tw_parts.specs.Fits.{AreParts}
 use Rattle.tw_parts.specs.Parts.{state_of}
@@ -83,12 +82,11 @@ pub record StandsAt (p : Parts) (actor : Actor) (done : DoneView) (instr : Instr
 abbrev pub MakesBehind : Event → Parts → Actor → DoneView → Parts → Type 0
 MakesBehind event old actor done new = (layout : ActorCounts) (f : FrameView) → IsOwed old actor f done → Makes done.before.program layout event (with_done old actor f done) new
 
--- the actor's task runs, with these values
-pub record RunsWith (p : Parts) (actor : Actor) (procedure : ℕ) (values : List Value) : Type 0 where
+-- the draft has the values with which the actor's task runs
+pub record IsDrafted (p : Parts) (actor : Actor) (draft : DraftView) : Type 0 where
   pub f : FrameView
   pub sits : get p.seats actor ≡ Some f
-  pub of : f.procedure ≡ procedure
-  pub valued : f.position.values ≡ values
+  pub is : draft ≡ draft_of f
 
 -- ---- jobs
 

@@ -5,12 +5,12 @@ ghost use Rattle.tw_types.specs.declared.event.Event.TheVariants as event;
 ghost use Rattle.tw_types.specs.Layout.{ActorCounts};
 ghost use Rattle.tw_types.specs.Notices.{Notices};
 ghost use Rattle.tw_frame.specs.Jobs.{FrameView};
-ghost use Rattle.tw_parts.specs.Events.{IsOwed, IsSmall, Makes, with_done};
+ghost use Rattle.tw_parts.specs.Events.{IsDrafted, IsOwed, IsSmall, Makes, with_done};
 ghost use Rattle.tw_parts.specs.Fits.{AreParts};
 ghost use Rattle.tw_parts.specs.Parts.{state_of};
 
 use crate::parts::Parts;
-use tw_frame::Done;
+use tw_frame::{Done, Draft};
 use tw_types::{Actor, Event};
 
 impl<'a> Parts<'a> {
@@ -30,12 +30,13 @@ impl<'a> Parts<'a> {
         }
     }
 
-    /// The actor's task comes as far as the Done says.
-    pub fn advance(&mut self, actor: Actor, done: Done<'a>)
+    /// The actor's task comes as far as the Done says; a draft of its values.
+    pub fn advance(&mut self, actor: Actor, done: Done<'a>) -> Draft<'a>
         requires stands { (layout : ActorCounts) × (notices : Notices) × (f : FrameView) × AreParts done.before.program layout self.old notices
             × IsSmall (state_of self.old notices) × IsOwed self.old actor f done }
-        ensures { (f : FrameView) → IsOwed self.old actor f done.entry → self.new ≡ with_done self.old actor f done.entry }
+        ensures came { (f : FrameView) → IsOwed self.old actor f done.entry → self.new ≡ with_done self.old actor f done.entry }
+        ensures drafted { IsDrafted self.new actor result }
     {
-        self.seats.advance(actor, done);
+        self.seats.advance(actor, done)
     }
 }

@@ -5,7 +5,7 @@ ghost use Rattle.std.specs.FinMap.{get};
 ghost use Rattle.tw_types.specs.Layout.{ActorCounts};
 ghost use Rattle.tw_types.specs.Notices.{Notices};
 ghost use Rattle.tw_verify.specs.Typed.{TypedProgram};
-ghost use Rattle.tw_parts.specs.Events.{IsLent, RunsWith};
+ghost use Rattle.tw_parts.specs.Events.{IsDrafted, IsLent};
 ghost use Rattle.tw_parts.specs.Fits.{AreParts};
 ghost use Rattle.tw_parts.specs.Parts.{state_of};
 
@@ -18,7 +18,7 @@ impl<'a> Parts<'a> {
     /// is the same.
     pub fn lend(&mut self, actor: Actor, event_no: u64, draft: Draft<'a>) -> Job<'a>
         requires parts { (layout : ActorCounts) × (notices : Notices) × AreParts draft.program layout self.old notices }
-        requires runs { RunsWith self.old actor draft.procedure draft.values }
+        requires drafted { IsDrafted self.old actor draft }
         ensures lent { IsLent self.old actor event_no result self.new }
         ensures same { (notices : Notices) → state_of self.new notices ≡ state_of self.old notices }
         ensures still { (verified : TypedProgram) (layout : ActorCounts) (notices : Notices) → AreParts verified layout self.old notices → AreParts verified layout self.new notices }

@@ -4,16 +4,22 @@
 
 mod advance;
 mod ask;
+mod copying;
 mod deliver;
 mod end;
 mod in_seat;
 mod lend;
 mod outputs;
 mod parts;
+mod put;
+mod quiet;
 mod release;
+mod rule;
 mod seats;
+mod shut;
 mod take;
 
 pub use outputs::Outputs;
 pub use parts::Parts;
 pub use seats::Seats;
+pub use shut::Remains;

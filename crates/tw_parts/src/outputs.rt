@@ -34,6 +34,14 @@ fn spend_all(mut rights: Vec<ReadRight>) {
 }
 
 impl Outputs {
+    /// Outputs of these rights, with the ids of their data.
+    pub fn new(rights: Vec<ReadRight>, ids: Vec<DatumId>) -> Outputs
+        requires { ids.items ≡ each (λ (r : Right). r.id) rights.items }
+        ensures { result ≡ rights.items }
+    {
+        Outputs { rights, ids }
+    }
+
     /// Spends the rights, and tells the ids of their data.
     pub fn shut(self) -> Vec<DatumId>
         ensures { result.items ≡ each (λ (r : Right). r.id) self }

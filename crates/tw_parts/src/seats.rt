@@ -1,15 +1,17 @@
 //! The tasks that run, by their actors.
 
-ghost use Rattle.std.specs.Prelude.{◌≡◌, ◌<◌, ◌≤◌, ◌+◌, ◌^◌, List, Option, IsSome, None, Some, length, slice_index_or, slice_set};
+ghost use Rattle.std.specs.Prelude.{◌≡◌, ◌<◌, ◌≤◌, ◌+◌, ◌^◌, IfOk, List, Option, IsSome, None, Some, length, slice_index_or, slice_set};
+ghost use Rattle.std.specs.FinMap as map;
 ghost use Rattle.std.specs.FinMap.{get, insert, remove, len};
 ghost use Rattle.std.specs.Option.{option_copied};
 ghost use Rattle.tw_rights.specs.declared.held.Held.{Held};
 ghost use Rattle.tw_rights.specs.Bundled.{bundled};
-ghost use Rattle.tw_frame.specs.Jobs.{FrameView, job_of};
+ghost use Rattle.tw_frame.specs.Jobs.{FrameView, draft_of, job_of};
 ghost use Rattle.tw_parts.specs.Seats.{HasSeat, seat_of};
 ghost use Rattle.tw_parts.specs.Coming.{MayLend, come, gone_on};
 
 use crate::in_seat::{advance_in, hand_over_in, lend_in};
+use std::alloc::{AllocError, Global};
 use std::marker::Model;
 use tw_frame::{Done, Draft, Frame, Job};
 use tw_rights::Bundle;
@@ -92,6 +94,20 @@ fn shut_all<'a>(mut seats: Vec<Option<Frame<'a>>>) {
 }
 
 impl<'a> Seats<'a> {
+    /// How many seats there are.
+    pub const COUNT: usize = 24;
+
+    /// Empty seats.
+    pub fn new(alloc: Global) -> Result<Seats<'a>, AllocError>
+        ensures { IfOk result (λ seats. seats ≡ map.empty) }
+    {
+        let mut seats = Vec::with_capacity(alloc, Seats::COUNT)?;
+        for _index in 0..Seats::COUNT {
+            seats.push_reserved(None);
+        }
+        Ok(Seats { seats, taken: 0 })
+    }
+
     /// Spends every right of every task.
     pub fn shut(self) {
         let Seats { seats, taken: _ } = self;
@@ -138,13 +154,13 @@ impl<'a> Seats<'a> {
         self.taken += 1;
     }
 
-    /// The actor's task comes as far as the Done says, which is of the job that was lent last.
-    pub(crate) fn advance(&mut self, actor: Actor, done: Done<'a>)
+    /// The actor's task comes as far as the Done says, which is of the job that was lent last; a draft of its values.
+    pub(crate) fn advance(&mut self, actor: Actor, done: Done<'a>) -> Draft<'a>
         requires seat { HasSeat actor }
         requires sits { (f : FrameView) × (get self.old actor ≡ Some f) × (done.before ≡ job_of f) × (f.spent < 2 ^ 63) }
-        ensures { (f : FrameView) → get self.old actor ≡ Some f → self.new ≡ insert self.old actor (come f done.entry) }
+        ensures { (f : FrameView) → get self.old actor ≡ Some f → (self.new ≡ insert self.old actor (come f done.entry)) × (result ≡ draft_of (come f done.entry)) }
     {
-        advance_in(&mut self.seats, seat_of(actor), done);
+        advance_in(&mut self.seats, seat_of(actor), done)
     }
 
     /// Then hands over arguments, and goes on to the next place.
@@ -155,14 +171,14 @@ impl<'a> Seats<'a> {
         params: &[Param],
         args: &[u8],
         vals: Vec<Value>,
-    ) -> Bundle
+    ) -> (Bundle, Draft<'a>)
         requires seat { HasSeat actor }
         requires few { length params.now ≤ 8 }
         requires sits { (f : FrameView) × (get self.old actor ≡ Some f) × (done.before ≡ job_of f) × (f.spent + done.steps < 2 ^ 63)
             × (done.after.place < 2 ^ 63) × IsSome (bundled f.held params.now args.now vals.items) }
         ensures { (f : FrameView) → get self.old actor ≡ Some f → (file : List (Option Held))
-            × (bundled f.held params.now args.now vals.items ≡ Some (record { args = result; file = file }))
-            × (self.new ≡ insert self.old actor (gone_on (come f done.entry) file)) }
+            × (bundled f.held params.now args.now vals.items ≡ Some (record { args = result.0; file = file }))
+            × (self.new ≡ insert self.old actor (gone_on (come f done.entry) file)) × (result.1 ≡ draft_of (come f done.entry)) }
     {
         hand_over_in(&mut self.seats, seat_of(actor), done, params, args, vals)
     }

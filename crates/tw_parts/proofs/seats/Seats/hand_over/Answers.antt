@@ -16,4 +16,4 @@ invariant_of-self c =
 pub returns : goal.returns
 returns c = λ f at.
     let over = c.hand_over_in.ensures f (sits_there c.self.inside.seats.items c.self.inside.taken c.self.invariant c.args.self.now c.self.view_is c.args.actor c.requires.seat c.seat_of.result c.seat_of.ensures f at) in
-    (over.0, over.1, changed c.self.inside.seats.items c.self.inside.taken c.self.invariant c.args.self.now c.self.view_is c.args.actor c.requires.seat c.seat_of.result c.seat_of.ensures (gone_on (come f c.args.done) over.0) c.hand_over_in.new.seats.items over.2)
+    (over.0, over.1, changed c.self.inside.seats.items c.self.inside.taken c.self.invariant c.args.self.now c.self.view_is c.args.actor c.requires.seat c.seat_of.result c.seat_of.ensures (gone_on (come f c.args.done) over.0) c.hand_over_in.new.seats.items over.2, over.3)

@@ -1,0 +1,29 @@
+//! What RULE and PUT have in common.
+
+ghost use Rattle.std.specs.Prelude.{◌≡◌, IfOk, Some, true, length, map as each};
+ghost use Rattle.tw_code.specs.machine.Arguments.{values_suit};
+ghost use Rattle.tw_parts.specs.Copies.{named_values};
+
+use std::alloc::{AllocError, Global};
+use tw_frame::Done;
+use tw_types::{Param, Value};
+
+/// Copies of the values in the registers that are named for value parameters, as they are where the Done came to.
+pub(crate) fn values_of(
+    alloc: Global,
+    done: &Done<'_>,
+    params: &[Param],
+    args: &[u8],
+) -> Result<Vec<Value>, AllocError>
+    requires long { length args.now ≡ length params.now }
+    requires suit { values_suit done.now.after.values params.now args.now ≡ true }
+    ensures { IfOk result (λ vals. each Some vals.items ≡ named_values done.now.after.values params.now args.now) }
+{
+    let mut vals = Vec::new(alloc);
+    for index in 0..params.len() {
+        if params[index].mode.is_val() {
+            vals.push(done.value(alloc, args[index])?)?;
+        }
+    }
+    Ok(vals)
+}

@@ -1,0 +1,59 @@
+//! PUT.
+
+ghost use Rattle.std.specs.Prelude.{◌≡◌, IfErr, IfOk, OnOk, OnErr};
+ghost use Rattle.tw_types.specs.declared.event.Event.TheVariants as event;
+ghost use Rattle.tw_code.specs.declared.instr.Instr.TheVariants as instr;
+ghost use Rattle.tw_parts.specs.Events.{IsDrafted, MakesBehind, StandsAt, Untouched};
+
+use crate::copying::values_of;
+use crate::parts::Parts;
+use crate::release::procedure_at;
+use std::alloc::Global;
+use tw_code::Action;
+use tw_frame::{Done, Draft};
+use tw_queue::Task;
+use tw_types::{Actor, TaskNo};
+
+impl<'a> Parts<'a> {
+    /// The actor's task, which stands at this PUT behind the Done, comes there and puts the task; a draft of its values.
+    /// Where memory is refused the Done comes back.
+    pub fn put(
+        &mut self,
+        alloc: Global,
+        actor: Actor,
+        action: &Action,
+        done: Done<'a>,
+    ) -> Result<Draft<'a>, Done<'a>>
+        requires stands { StandsAt self.old actor done (instr.Put action.now) }
+        ensures put { OnOk result (MakesBehind (event.Call actor) self.old actor done.entry self.new) }
+        ensures drafted { IfOk result (λ draft. IsDrafted self.new actor draft) }
+        ensures refused { OnErr result (Untouched self.old self.new) }
+        ensures back { IfErr result (λ back. back ≡ done.entry) }
+    {
+        let program = done.before().program().program();
+        let callee = procedure_at(program.procedures(), action.procedure);
+        let params = callee.params.as_slice();
+        let registers = action.args.as_slice();
+        let kind = callee.kind;
+        let Ok(vals) = values_of(alloc, &done, params, registers) else {
+            return Err(done);
+        };
+        let Ok(()) = self.tasks.reserve(kind) else {
+            return Err(done);
+        };
+        let over = self.seats.hand_over(actor, done, params, registers, vals);
+        let (args, draft) = over;
+        let number = self.next_task;
+        let task = Task {
+            no: TaskNo::new(number),
+            procedure: action.procedure,
+            args,
+        };
+        match self.tasks.put(kind, action.priority, action.target, task) {
+            Ok(()) => {}
+            Err(_task) => unreachable!(),
+        }
+        self.next_task = number + 1;
+        Ok(draft)
+    }
+}

@@ -1,0 +1,45 @@
+//! What is left when a run is shut.
+
+ghost use Rattle.std.specs.Prelude.{◌≡◌, map as each};
+ghost use Rattle.std.specs.FinMap.{entries};
+ghost use Rattle.std.specs.List.Sorted.{IsPermutation};
+ghost use Rattle.tw_rights.specs.Rights.{Right};
+ghost use Rattle.tw_rules.specs.Table.{told};
+
+use crate::parts::Parts;
+use tw_rules::PlainRule;
+use tw_store::Store;
+use tw_types::DatumId;
+
+/// What is left of parts for reading, without rights: the data, the outputs by the order of main's parameters, and the rules
+/// that were pending, in no order.
+pub struct Remains {
+    pub store: Store,
+    pub outputs: Vec<DatumId>,
+    pub pending: Vec<PlainRule>,
+}
+
+impl<'a> Parts<'a> {
+    /// Spends every right. No memory is taken.
+    pub fn shut(self) -> Remains
+        ensures store { result.store ≡ self.store }
+        ensures outputs { result.outputs.items ≡ each (λ (r : Right). r.id) self.outputs }
+        ensures pending { IsPermutation (each told (entries self.rules.rules)) result.pending.items }
+    {
+        let Parts {
+            store,
+            rules,
+            tasks,
+            next_task: _,
+            seats,
+            outputs,
+        } = self;
+        tasks.shut();
+        seats.shut();
+        Remains {
+            store,
+            outputs: outputs.shut(),
+            pending: rules.shut(),
+        }
+    }
+}
