@@ -1,6 +1,7 @@
 -- RULE and PUT: the values that are copied.
-use Rattle.std.proofs.Common.{map as each, map-append, length, arith, ◌≡◌, ◌≢◌, ◌<◌, ◌≤◌, ℕ, zero, suc, Bool, true, false, not, ◌||◌, ◌&&◌, if◌then◌else◌, List, [], ◌∷◌, ◌++◌, take, Option, Some, None, refl, sym, ap, subst, ◌∙◌, slice_get}
+use Rattle.std.proofs.Common.{map as each, length, arith, ◌≡◌, ◌≢◌, ◌<◌, ◌≤◌, ℕ, zero, suc, Bool, true, false, not, ◌||◌, ◌&&◌, if◌then◌else◌, List, [], ◌∷◌, ◌++◌, take, Option, Some, None, refl, sym, ap, subst, ◌∙◌, slice_get}
 use Rattle.std.proofs.lemmas.Bool.{and_parts}
+use Rattle.std.proofs.lemmas.List.{append-nil, map-append}
 use Rattle.std.proofs.lemmas.Option.{same_Some}
 use Rattle.tw_types.specs.declared.param.Mode.{Mode}
 use Rattle.tw_types.specs.declared.param.Mode.TheVariants as mode
@@ -22,26 +23,28 @@ AreVals values (p ∷ params) [] vals = Unit {0}
 AreVals values (p ∷ params) (register ∷ registers) [] = (is_val p.mode ≡ false) × AreVals values params registers []
 AreVals values (p ∷ params) (register ∷ registers) (x ∷ vals) = ValOr (is_val p.mode) (slice_get values register) (Some x) (AreVals values params registers vals) (AreVals values params registers (x ∷ vals))
 
+same_first : {A : Type 0} {a b : A} {xs ys : List A} → (a ∷ xs) ≡ (b ∷ ys) → a ≡ b
+same_first e = cc
+
+same_rest : {A : Type 0} {a b : A} {xs ys : List A} → (a ∷ xs) ≡ (b ∷ ys) → xs ≡ ys
+same_rest e = cc
+
 pub are_vals : (values : List Value) (params : List Param) (registers : List ℕ) (vals : List Value) → each Some vals ≡ named_values values params registers → AreVals values params registers vals
 are_vals values [] registers vals e = tt
 are_vals values (p ∷ params) [] vals e = tt
-are_vals values (p ∷ params) (register ∷ registers) [] e = by (is_val p.mode) refl e
+are_vals values (p ∷ params) (register ∷ registers) [] e = by (is_val p.mode) refl e (are_vals values params registers [])
   where
-    by : (b : Bool) → is_val p.mode ≡ b → [] ≡ (if b then slice_get values register ∷ named_values values params registers else named_values values params registers) → (is_val p.mode ≡ false) × AreVals values params registers []
-    by true is e = cc
-    by false is e = (is, are_vals values params registers [] e)
-are_vals values (p ∷ params) (register ∷ registers) (x ∷ vals) e = by (is_val p.mode) e
+    by : (b : Bool) → is_val p.mode ≡ b → [] ≡ (if b then slice_get values register ∷ named_values values params registers else named_values values params registers)
+        → ([] ≡ named_values values params registers → AreVals values params registers []) → (is_val p.mode ≡ false) × AreVals values params registers []
+    by true is e rest = cc
+    by false is e rest = (is, rest e)
+are_vals values (p ∷ params) (register ∷ registers) (x ∷ vals) e = by (is_val p.mode) e (are_vals values params registers vals) (are_vals values params registers (x ∷ vals))
   where
     by : (b : Bool) → (Some x ∷ each Some vals) ≡ (if b then slice_get values register ∷ named_values values params registers else named_values values params registers)
+        → (each Some vals ≡ named_values values params registers → AreVals values params registers vals) → ((Some x ∷ each Some vals) ≡ named_values values params registers → AreVals values params registers (x ∷ vals))
         → ValOr b (slice_get values register) (Some x) (AreVals values params registers vals) (AreVals values params registers (x ∷ vals))
-    by true e = (sym (same_first e), are_vals values params registers vals (same_rest e))
-      where
-        same_first : {A : Type 0} {a b : A} {xs ys : List A} → (a ∷ xs) ≡ (b ∷ ys) → a ≡ b
-        same_first e = cc
-
-        same_rest : {A : Type 0} {a b : A} {xs ys : List A} → (a ∷ xs) ≡ (b ∷ ys) → xs ≡ ys
-        same_rest e = cc
-    by false e = are_vals values params registers (x ∷ vals) e
+    by true e rest same = (sym (same_first e), rest (same_rest e))
+    by false e rest same = same e
 
 -- ---- one more of them
 
@@ -89,3 +92,17 @@ is_declared values (q ∷ params) (r ∷ registers) zero p register suit at name
     within (x ∷ xs) (suc n) some = let rest = within xs n some in omega (arith, rest)
 is_declared values (q ∷ params) (r ∷ registers) (suc k) p register suit at named val =
     is_declared values params registers k p register (and_parts (not (is_val q.mode) || has_type (slice_get values r) q) (values_suit values params registers) suit).1 at named val
+
+-- the values so far, with one more parameter
+module _ (values : List Value) (params : List Param) (registers : List ℕ) (k : ℕ) (p : Param) (register : ℕ) (at : slice_get params k ≡ Some p) (named : slice_get registers k ≡ Some register)
+    (vals : List Value) (so_far : each Some vals ≡ named_values values (take k params) (take k registers)) where
+  pub past : is_val p.mode ≡ false → each Some vals ≡ named_values values (take (suc k) params) (take (suc k) registers)
+  past val = so_far ∙ sym (append-nil (named_values values (take k params) (take k registers)))
+      ∙ ap (λ b. named_values values (take k params) (take k registers) ++ (if b then slice_get values register ∷ [] else [])) (sym val)
+      ∙ sym (named_more values params registers k p register at named)
+
+  pub with_value : is_val p.mode ≡ true → (x : Value) → slice_get values register ≡ Some x → (new : List Value) → new ≡ vals ++ x ∷ [] → each Some new ≡ named_values values (take (suc k) params) (take (suc k) registers)
+  with_value val x there new is = ap (each Some) is ∙ map-append Some vals (x ∷ []) ∙ ap (λ xs. xs ++ Some x ∷ []) so_far
+      ∙ ap (λ o. named_values values (take k params) (take k registers) ++ o ∷ []) (sym there)
+      ∙ ap (λ b. named_values values (take k params) (take k registers) ++ (if b then slice_get values register ∷ [] else [])) (sym val)
+      ∙ sym (named_more values params registers k p register at named)

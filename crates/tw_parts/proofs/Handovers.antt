@@ -1,6 +1,6 @@
 -- RULE and PUT: what leaves the frame, and what is left of it.
-use Rattle.std.proofs.Common.{map as each, ◌≡◌, ◌+◌, ◌<◌, ◌≤◌, ◌∙◌, ℕ, List, Option, Some, IsSome, refl, sym, ap, subst, slice_get, slice_get_within, length, arith}
-use Rattle.std.proofs.lemmas.Option.{same_Some}
+use Rattle.std.proofs.Common.{map as each, ◌≡◌, ◌+◌, ◌<◌, ◌≤◌, ◌∙◌, ℕ, List, Option, Some, IsSome, refl, sym, ap, subst, slice_get, length, arith}
+use Rattle.std.proofs.lemmas.Option.{same_Some, slice_get_within}
 use Rattle.std.specs.FinMap.{get}
 use Rattle.tw_types.specs.declared.actor.Actor.{Actor}
 use Rattle.tw_types.specs.declared.value.Value.{Value}
@@ -51,7 +51,7 @@ module _ (verified : TypedProgram) (layout : ActorCounts) (old : Parts) (notices
   fits : FrameFits verified old.store.places actor f
   fits = h.stand.frames actor f runs
 
-  typing : Typing
+  abbrev pub typing : Typing
   typing = typing_at (typings_of verified) f.procedure f.position.place
 
   all_handed : Handed old.store.places u.procedure.params action.args f.held vals u.given

@@ -1,5 +1,5 @@
 -- What the laws of the machine say of the state for which parts stand.
-use Rattle.std.proofs.Common.{◌≡◌, ◌≢◌, ◌<◌, ◌∙◌, sym, ap, ℕ, ◌++◌, ◌∷◌, [], List, length, Option, Some, None, ◌≤◌, true, nat_lt, arith}
+use Rattle.std.proofs.Common.{◌≡◌, ◌≢◌, ◌<◌, ◌∙◌, sym, ap, ℕ, ◌++◌, ◌∷◌, [], List, length, slice_get, Option, Some, None, ◌≤◌, true, nat_lt, arith}
 use Rattle.std.proofs.lemmas.Bool.{ltb-true}
 use Rattle.std.specs.FinMap.{get}
 use Rattle.tw_types.specs.declared.actor.Actor.{Actor}
@@ -7,16 +7,17 @@ use Rattle.tw_types.specs.declared.actor.Actor.TheVariants.{Engine, Server, Work
 use Rattle.tw_types.specs.declared.event.Event.{Event}
 use Rattle.tw_types.specs.declared.actor.Kind.{Kind}
 use Rattle.tw_types.specs.declared.actor.Kind.TheVariants.{Control, Leaf}
-use Rattle.tw_types.specs.Actor.{is_in}
+use Rattle.tw_types.specs.Actor.{is_control, is_in, number_in_kind}
 use Rattle.tw_types.specs.Layout.{ActorCounts, IsLayout}
 use Rattle.tw_types.specs.Notices.{Notices}
 use Rattle.tw_types.specs.Outcome.{Went}
+use Rattle.tw_code.specs.declared.procedure.Procedure.{Procedure}
 use Rattle.tw_code.specs.machine.History.{actor_of}
 use Rattle.tw_code.specs.machine.Machine.{step}
 use Rattle.tw_code.specs.machine.Opening.{opening}
 use Rattle.tw_code.specs.machine.State.{State}
 use Rattle.tw_code.specs.accepting.Needs.{up_to}
-use Rattle.tw_code.proofs.Placed.{IsPlaced, count_of, reached_placed}
+use Rattle.tw_code.proofs.Placed.{IsPlaced, count_of, engine_below, reached_placed}
 use Rattle.tw_code.proofs.Runs.{run_more}
 use Rattle.tw_no_trap.specs.Invariant.{IsHeld}
 use Rattle.tw_no_trap.proofs.Safe.{reached_is_held}
@@ -75,6 +76,13 @@ has_seat layout (Worker number) counts there = let below = ltb-true number layou
 pub runner_has_seat : (verified : TypedProgram) (layout : ActorCounts) (p : Parts) (notices : Notices) → AreParts verified layout p notices → (actor : Actor) (f : FrameView) → get p.seats actor ≡ Some f → HasSeat actor
 runner_has_seat verified layout p notices h actor f sits =
     has_seat layout actor h.runnable.counts ((in_layout verified layout p notices h).frames actor (bare_frame f) (seen bare_frame p.seats actor (Some f) sits)).there
+
+-- who runs a control task is an engine that rules may have
+pub engine_low : (verified : TypedProgram) (layout : ActorCounts) (p : Parts) (notices : Notices) → AreParts verified layout p notices → (actor : Actor) (f : FrameView) (q : Procedure) → get p.seats actor ≡ Some f
+    → slice_get verified.program f.procedure ≡ Some q → is_control q.kind ≡ true → (engine : ℕ) → engine ≡ number_in_kind actor → engine < 4
+engine_low verified layout p notices h actor f q sits here control engine is =
+    let low = engine_below verified.program layout (state_of p notices) (in_layout verified layout p notices h) actor (bare_frame f) q (seen bare_frame p.seats actor (Some f) sits) here control in
+    omega (arith, low, is, h.runnable.counts.few_engines)
 
 -- a target of the layout is one that the queues have
 pub target_below : (layout : ActorCounts) (kind : Kind) (target : Option ℕ) → IsLayout layout → up_to target ≤ count_of layout kind → IsTarget target

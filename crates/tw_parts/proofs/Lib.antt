@@ -13,6 +13,7 @@ mod Handing
 mod Kinding
 mod Naming
 mod Handovers
+mod Behind
 mod Puts
 mod NewRules
 mod Quieting

@@ -64,7 +64,7 @@ module _ (verified : TypedProgram) (layout : ActorCounts) (old : Parts) (notices
   there : get (mapped bare_frame old.seats) actor ≡ Some (bare_frame f)
   there = seen bare_frame old.seats actor (Some f) runs
 
-  typing : Typing
+  abbrev typing : Typing
   typing = typing_at (typings_of verified) f.procedure f.position.place
 
   named : (waits : Bool) → AllYes (asks_callee waits p.registers (slice_get verified.program action.procedure) action.args typing) → (call : Called) → called verified.program p.kind context action ≡ Ok call → IsNamed verified.program p.kind context action f.held

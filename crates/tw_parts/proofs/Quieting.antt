@@ -1,6 +1,6 @@
 -- Whether a run is quiet, by what the parts tell at once: how many run, how many wait, the firsts of queues and agendas.
 use Rattle.std.proofs.Common.{map as each, ◌≡◌, ◌<◌, inl, inr, ◌⊎◌, ℕ, zero, suc, slice_get, ◌==◌, Bool, true, false, not, ◌&&◌, List, [], ◌∷◌, Option, Some, None, refl, sym, ap, subst, ◌∙◌, length, is_some, arith, nat_cmp, nat_eq}
-use Rattle.std.proofs.lemmas.Bool.{eq-eqb, or_left, or_right}
+use Rattle.std.proofs.lemmas.Bool.{eq-eqb, eqb-true, or_left, or_right}
 use Rattle.std.proofs.lemmas.Bool.Decides.{nat_tests}
 use Rattle.std.proofs.lemmas.Option.{same_Some}
 use Rattle.tw_types.specs.declared.stage.Stage.{Stage}
@@ -11,6 +11,8 @@ use Rattle.std.specs.FinMap as map
 use Rattle.std.specs.FinMap.{entries, get}
 use Rattle.std.specs.FinSet as set_of
 use Rattle.std.specs.List.{list_any}
+use Rattle.std.specs.Prelude.{MatchBool}
+use Rattle.tw_types.specs.declared.ending.Ending.TheVariants.{Quiet, Stuck}
 use Rattle.tw_types.specs.declared.notice.Notice.{Notice}
 use Rattle.tw_types.specs.Notices.{Notices, notice_cmp}
 use Rattle.tw_types.specs.Rule.{Rule, RuleOf, RulesOf, has_unasked, is_unasked, is_releasable, next_ask, next_release}
@@ -18,7 +20,7 @@ use Rattle.tw_types.specs.Store.{server_of}
 use Rattle.tw_types.proofs.NoticeOrder.{notice_cmp_total, notice_cmp-IsAntisymmetric}
 use Rattle.tw_types.proofs.Totals.{IsEntry, get_entry}
 use Rattle.tw_rights.specs.declared.arg.Arg.{Arg}
-use Rattle.tw_code.specs.machine.Ending.{has_idle_rules, is_quiet}
+use Rattle.tw_code.specs.machine.Ending.{ending, has_idle_rules, is_quiet}
 use Rattle.tw_code.proofs.Found.{any_entry, ask_found, ask_there, release_found, release_there}
 use Rattle.tw_frame.specs.Jobs.{bare_frame}
 use Rattle.tw_types.specs.Mapped.{mapped}
@@ -29,7 +31,7 @@ use Rattle.tw_parts.specs.declared.parts.Parts.{Parts}
 use Rattle.tw_parts.proofs.Fitting.{behind}
 use Rattle.tw_types.proofs.Mapped.{len_mapped}
 use Rattle.tw_types.proofs.Chosen.{next_ask_mapped, next_release_mapped}
-use Rattle.tw_parts.proofs.Notes.{first_of, has}
+use Rattle.tw_parts.proofs.Notes.{first_of, has, none_of}
 
 -- ---- notices
 
@@ -120,12 +122,12 @@ quiet_by p notices engines q some below frames tasks queues asks releases =
 -- ---- what isn't quiet
 
 module _ (p : Parts) (notices : Notices) where
-  pub running : (map.len p.seats ≡ 0 → ⊥) → is_quiet (state_of p notices) ≡ false
-  running some = let f : (map.len (mapped bare_frame p.seats) == 0) ≡ false = grind (arith, nat_tests, some, len_mapped bare_frame p.seats) in rw f refl
+  pub running : (map.len p.seats == 0) ≡ false → is_quiet (state_of p notices) ≡ false
+  running some = let f : (map.len (mapped bare_frame p.seats) == 0) ≡ false = ap (λ n. n == 0) (len_mapped bare_frame p.seats) ∙ some in rw f refl
 
-  pub waiting : (map.len p.tasks.tasks ≡ 0 → ⊥) → is_quiet (state_of p notices) ≡ false
+  pub waiting : (map.len p.tasks.tasks == 0) ≡ false → is_quiet (state_of p notices) ≡ false
   waiting some =
-      let t : (map.len (mapped bare_task p.tasks.tasks) == 0) ≡ false = grind (arith, nat_tests, some, len_mapped bare_task p.tasks.tasks) in
+      let t : (map.len (mapped bare_task p.tasks.tasks) == 0) ≡ false = ap (λ n. n == 0) (len_mapped bare_task p.tasks.tasks) ∙ some in
       by (map.len (mapped bare_frame p.seats) == 0) t
     where
       by : (b : Bool) → (map.len (mapped bare_task p.tasks.tasks) == 0) ≡ false
@@ -134,8 +136,12 @@ module _ (p : Parts) (notices : Notices) where
       by false t = refl
 
   told_so : (n : ℕ) → (n ≡ 0 → ⊥) → (a b c : Bool) → (a && (b && ((n == 0) && c))) ≡ false
-  told_so n some a b c = let no : (n == 0) ≡ false = grind (arith, nat_tests, some) in rw no (by a b)
+  told_so n some a b c = let no : (n == 0) ≡ false = test (n == 0) refl in rw no (by a b)
     where
+      test : (t : Bool) → (n == 0) ≡ t → t ≡ false
+      test true e = absurd (some (eqb-true n 0 e))
+      test false e = refl
+
       by : (a b : Bool) → (a && (b && false)) ≡ false
       by true true = refl
       by true false = refl
@@ -170,3 +176,27 @@ module _ (p : Parts) (notices : Notices) where
       by true true false i = refl
       by true false c i = refl
       by false b c i = refl
+
+-- what is left to be known, by what the rules have to do
+pub quiet_or : (p : Parts) (notices : Notices) (engines : ℕ) → AreQueued p.store.queues notices → 0 < length p.store.queues → AreOfEngines engines p.rules.rules
+    → map.len p.seats ≡ 0 → map.len p.tasks.tasks ≡ 0 → ((server : ℕ) → server < length p.store.queues → slice_get (queue_at p.store.queues server) 0 ≡ None)
+    → (b : Bool) → MatchBool b ((engine : ℕ) × ((is_some (next_ask engine p.rules.rules) ≡ true) ⊎ (is_some (next_release engine p.rules.rules) ≡ true)))
+        ((engine : ℕ) → engine < engines → (next_ask engine p.rules.rules ≡ None) × (next_release engine p.rules.rules ≡ None))
+    → not b ≡ is_quiet (state_of p notices)
+quiet_or p notices engines q some below frames tasks queues true work = sym (working p notices work.0 work.1)
+quiet_or p notices engines q some below frames tasks queues false work =
+    sym (quiet_by p notices engines q some below frames tasks (λ server low. none_of (queue_at p.store.queues server) (queues server low)) (λ engine low. (work engine low).0) (λ engine low. (work engine low).1))
+
+-- ---- the end
+
+module _ (p : Parts) (notices : Notices) where
+  pub not_ended : is_quiet (state_of p notices) ≡ false → None ≡ ending (state_of p notices)
+  not_ended loud = rw loud refl
+
+  pub ended_quiet : is_quiet (state_of p notices) ≡ true → (map.len p.rules.rules == 0) ≡ true → Some Quiet ≡ ending (state_of p notices)
+  ended_quiet quiet none = let n : (map.len (mapped bare_rule p.rules.rules) == 0) ≡ true = ap (λ k. k == 0) (len_mapped bare_rule p.rules.rules) ∙ none in rw (quiet, n) refl
+
+  pub ended_stuck : is_quiet (state_of p notices) ≡ true → (pending : ℕ) → pending ≡ map.len p.rules.rules → (pending == 0) ≡ false → Some (Stuck pending) ≡ ending (state_of p notices)
+  ended_stuck quiet pending is some =
+      let same : map.len (mapped bare_rule p.rules.rules) ≡ pending = len_mapped bare_rule p.rules.rules ∙ sym is in
+      rw (quiet, same, some) refl

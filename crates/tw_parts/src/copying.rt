@@ -21,9 +21,10 @@ pub(crate) fn values_of(
 {
     let mut vals = Vec::new(alloc);
     for index in 0..params.len() {
-        if params[index].mode.is_val() {
-            vals.push(done.value(alloc, args[index])?)?;
+        if !params[index].mode.is_val() {
+            continue;
         }
+        vals.push(done.value(alloc, args[index])?)?;
     }
     Ok(vals)
 }

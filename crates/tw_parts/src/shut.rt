@@ -22,9 +22,9 @@ pub struct Remains {
 impl<'a> Parts<'a> {
     /// Spends every right. No memory is taken.
     pub fn shut(self) -> Remains
-        ensures store { result.store ≡ self.store }
-        ensures outputs { result.outputs.items ≡ each (λ (r : Right). r.id) self.outputs }
-        ensures pending { IsPermutation (each told (entries self.rules.rules)) result.pending.items }
+        ensures store { result.store ≡ self.entry.store }
+        ensures outputs { result.outputs.items ≡ each (λ (r : Right). r.id) self.entry.outputs }
+        ensures pending { IsPermutation (each told (entries self.entry.rules.rules)) result.pending.items }
     {
         let Parts {
             store,

@@ -1,4 +1,7 @@
-use Rattle.std.proofs.Common.{◌≡◌, ◌<◌, ◌^◌, ap, Some, arith}
+use Rattle.std.proofs.Common.{◌≡◌, ◌<◌, ◌^◌, ◌∙◌, ap, Some, arith}
+use Rattle.std.specs.FinMap.{get}
+use Rattle.tw_parts.specs.Coming.{come}
+use Rattle.tw_parts.proofs.Seating.{get_own}
 use Rattle.tw_frame.specs.Jobs.{bare_frame}
 use Rattle.tw_parts.proofs.Fitting.{seen}
 use Rattle.tw_parts.proofs.Law.{runner_has_seat}
@@ -12,3 +15,9 @@ advance-requires-clause-sits c =
     let s = c.requires.stands in
     let few = s.4.spent c.args.actor (bare_frame s.2) (seen bare_frame c.args.self.now.seats c.args.actor (Some s.2) s.5.sits) in
     (s.2, s.5.sits, s.5.own, omega (arith, few))
+
+pub returns-clause-drafted : goal.returns-clause-drafted
+returns-clause-drafted c =
+    let s = c.requires.stands in
+    let came = c.advance.ensures s.2 s.5.sits in
+    record { f = come s.2 c.args.done; sits = ap (λ m. get m c.args.actor) came.0 ∙ get_own c.args.self.now.seats c.args.actor (come s.2 c.args.done); is = came.1 }

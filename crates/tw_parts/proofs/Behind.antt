@@ -1,0 +1,107 @@
+-- RULE and PUT: what is asked of their parts, where a task stands at one behind a Done.
+use Rattle.std.proofs.Common.{map as each, ◌≡◌, ◌≤◌, ◌<◌, ◌+◌, ◌^◌, ◌∙◌, ℕ, List, Option, Some, None, IsSome, true, refl, sym, ap, subst, length, slice_get, arith}
+use Rattle.std.proofs.lemmas.Option.{same_Some}
+use Rattle.std.specs.FinMap.{get}
+use Rattle.tw_types.specs.declared.actor.Actor.{Actor}
+use Rattle.tw_types.specs.declared.param.Param.{Param}
+use Rattle.tw_types.specs.declared.value.Value.{Value}
+use Rattle.tw_rights.specs.declared.held.Held.{Held}
+use Rattle.tw_rights.specs.Bundled.{Bundled, bundled}
+use Rattle.tw_queue.specs.Queues as queues
+use Rattle.tw_code.specs.declared.instr.Action.{Action}
+use Rattle.tw_code.specs.declared.instr.Instr.{Instr}
+use Rattle.tw_code.specs.declared.procedure.Procedure.{Procedure}
+use Rattle.tw_code.specs.format.Program as format
+use Rattle.tw_code.specs.format.Program.{IsInstr, IsProcedure, IsProgram}
+use Rattle.tw_code.specs.machine.Arguments.{values_suit}
+use Rattle.tw_no_trap.proofs.Accepted.{all_found}
+use Rattle.tw_code.specs.machine.State.{context_of}
+use Rattle.tw_frame.specs.Jobs.{DoneView, FrameView, bare_frame, job_of}
+use Rattle.tw_parts.specs.Coming.{come}
+use Rattle.tw_parts.specs.Copies.{named_values}
+use Rattle.tw_parts.specs.Events.{IsOwed, StandsAt, with_done}
+use Rattle.tw_parts.specs.Parts.{state_of}
+use Rattle.tw_parts.specs.Seats.{HasSeat}
+use Rattle.tw_parts.specs.declared.parts.Parts.{Parts}
+use Rattle.tw_parts.proofs.Fitting.{seen}
+use Rattle.tw_parts.proofs.Handovers.{few_params, low_place, may_bundle}
+use Rattle.tw_parts.proofs.Law.{runner_has_seat}
+use Rattle.tw_parts.proofs.Naming.{IsNamed}
+use Rattle.tw_parts.proofs.Seating.{get_own}
+
+module _ (old : Parts) (actor : Actor) (done : DoneView) (instr : Instr) (s : StandsAt old actor done instr) where
+  abbrev pub there : Parts
+  there = with_done old actor s.f done
+
+  pub runs_there : get there.seats actor ≡ Some (come s.f done)
+  runs_there = get_own old.seats actor (come s.f done)
+
+  pub seat_there : HasSeat actor
+  seat_there = runner_has_seat done.before.program s.layout there s.notices s.parts actor (come s.f done) runs_there
+
+  spent_there : s.f.spent + done.steps < 2 ^ 63
+  spent_there = let few = s.small.spent actor (bare_frame (come s.f done)) (seen bare_frame there.seats actor (Some (come s.f done)) runs_there) in omega (arith, few)
+
+  place_there : done.after.place < 2 ^ 63
+  place_there = let low = low_place done.before.program.program s.parts.runnable.is s.f.procedure s.q s.here done.after.place instr s.behind in omega (arith, low)
+
+  module _ (action : Action) (u : IsNamed done.before.program.program s.q.kind (context_of (state_of there s.notices) (bare_frame (come s.f done))) action s.f.held)
+      (params : List Param) (params_is : params ≡ u.procedure.params) (registers : List ℕ) (registers_is : registers ≡ action.args) where
+    pub long : length registers ≡ length params
+    long = ap length registers_is ∙ u.long ∙ ap length (sym params_is)
+
+    pub suit : values_suit done.after.values params registers ≡ true
+    suit = ap (λ ps. values_suit done.after.values ps registers) params_is ∙ ap (values_suit done.after.values u.procedure.params) registers_is ∙ u.values
+
+    pub few : length params ≤ 8
+    few = let low = few_params done.before.program.program s.parts.runnable.is action.procedure u.procedure u.is in omega (arith, low, ap length params_is)
+
+    pub so_named : (vals : List Value) → each Some vals ≡ named_values done.after.values params registers → each Some vals ≡ named_values done.after.values u.procedure.params action.args
+    so_named vals are = are ∙ ap (λ ps. named_values done.after.values ps registers) params_is ∙ ap (named_values done.after.values u.procedure.params) registers_is
+
+    pub sits_ready : (vals : List Value) → each Some vals ≡ named_values done.after.values params registers
+        → (x : FrameView) × (get old.seats actor ≡ Some x) × (done.before ≡ job_of x) × (x.spent + done.steps < 2 ^ 63) × (done.after.place < 2 ^ 63) × IsSome (bundled x.held params registers vals)
+    sits_ready vals are =
+        (s.f, s.owed.sits, s.owed.own, spent_there, place_there,
+         subst (λ ps. IsSome (bundled s.f.held ps registers vals)) (sym params_is) (subst (λ rs. IsSome (bundled s.f.held u.procedure.params rs vals)) (sym registers_is)
+           (may_bundle done.before.program s.layout there s.notices s.parts actor (come s.f done) s.q action runs_there u vals (so_named vals are))))
+
+-- ---- when it was done
+
+-- what was handed over behind the Done, in the words of another who owes it
+module _ (old : Parts) (actor : Actor) (done : DoneView) (instr : Instr) (s : StandsAt old actor done instr) (f : FrameView) (owed : IsOwed old actor f done) where
+  same_frame : s.f ≡ f
+  same_frame = same_Some s.f f (sym s.owed.sits ∙ owed.sits)
+
+  pub here_too : slice_get done.before.program.program f.procedure ≡ Some s.q
+  here_too = ap (λ (g : FrameView). slice_get done.before.program.program g.procedure) (sym same_frame) ∙ s.here
+
+  pub runs_too : get (with_done old actor f done).seats actor ≡ Some (come f done)
+  runs_too = get_own old.seats actor (come f done)
+
+module _ (program : List Procedure) (procedures : List Procedure) (procedures_are : procedures ≡ program) (number : ℕ) (callee : Procedure) (found : slice_get procedures number ≡ Some callee)
+    (procedure : Procedure) (is : slice_get program number ≡ Some procedure) where
+  pub same_callee : callee ≡ procedure
+  same_callee = same_Some callee procedure (sym found ∙ ap (λ ps. slice_get ps number) procedures_are ∙ is)
+
+  pub params_of_callee : (params : List Param) → params ≡ callee.params → params ≡ procedure.params
+  params_of_callee params are = are ∙ ap (λ (p : Procedure). p.params) same_callee
+
+  pub kind_of_callee : callee.kind ≡ procedure.kind
+  kind_of_callee = ap (λ (p : Procedure). p.kind) same_callee
+
+-- the words of the registers are those of the action
+pub so_bundled : (held : List (Option Held)) (params wanted : List Param) → params ≡ wanted → (registers named : List ℕ) → registers ≡ named → (vals : List Value) (o : Option Bundled) → bundled held params registers vals ≡ o → bundled held wanted named vals ≡ o
+so_bundled held params wanted p registers named r vals o is = ap (λ ps. bundled held ps named vals) (sym p) ∙ ap (λ rs. bundled held params rs vals) (sym r) ∙ is
+
+pub so_valued : (values : List Value) (params wanted : List Param) → params ≡ wanted → (registers named : List ℕ) → registers ≡ named → (vals : List Value) → each Some vals ≡ named_values values params registers → each Some vals ≡ named_values values wanted named
+so_valued values params wanted p registers named r vals is = is ∙ ap (λ ps. named_values values ps registers) p ∙ ap (named_values values wanted) r
+
+-- the target of an action is one that the queues have
+pub in_queue : (o : Option ℕ) → format.IsTarget o → queues.IsTarget o
+in_queue None h = tt
+in_queue (Some n) h = omega (arith, h.1)
+
+-- the operands of the instruction at which a task stands
+pub operands : (program : List Procedure) → IsProgram program → (k : ℕ) (p : Procedure) → slice_get program k ≡ Some p → (place : ℕ) (i : Instr) → slice_get p.code place ≡ Some i → IsInstr i
+operands program is k p here place i at = all_found IsInstr p.code place i (all_found IsProcedure program k p is.1 here).code.1 at

@@ -1,0 +1,99 @@
+use Rattle.std.proofs.Common.{◌≡◌, ◌∙◌, ◌<◌, ◌≤◌, ◌+◌, ℕ, List, Some, IsSome, refl, sym, ap, subst, slice_get, to_z, of_z, w64, arith}
+use Rattle.std.proofs.lemmas.Int.{to_z-of_z}
+use Rattle.std.specs.FinMap.{get, insert}
+use Rattle.tw_types.specs.declared.actor.Actor.{Actor}
+use Rattle.tw_rights.specs.declared.arg.Arg.{Arg}
+use Rattle.tw_rights.specs.declared.held.Held.{Held}
+use Rattle.tw_code.specs.declared.instr.Instr.TheVariants as instr
+use Rattle.tw_verify.specs.Typed.{TypedProgram}
+use Rattle.tw_frame.specs.Jobs.{JobView}
+use Rattle.tw_parts.specs.Coming.{come, gone_on}
+use Rattle.tw_parts.specs.Events.{with_done}
+use Rattle.tw_parts.proofs.Behind.{few, here_too, in_queue, kind_of_callee, long, operands, params_of_callee, runs_there, runs_too, seat_there, sits_ready, so_bundled, so_valued, suit, there}
+use Rattle.tw_parts.proofs.Puts.{put_goes, put_named}
+use Rattle.tw_parts.proofs.Releases.{fresh}
+use Rattle.tw_parts.proofs.Seating.{again, get_own}
+use Rattle.tw_parts.proofs.parts.Parts.put.Goals as goal
+
+pub procedure_at-callee-requires : goal.procedure_at-callee-requires
+procedure_at-callee-requires c =
+    let s = c.requires.stands in
+    let u = put_named c.args.done.before.program s.layout (there c.args.self.now c.args.actor c.args.done (instr.Put c.args.action.now) c.requires.stands) s.notices s.parts c.args.actor (come s.f c.args.done) s.q c.args.action.now (runs_there c.args.self.now c.args.actor c.args.done (instr.Put c.args.action.now) c.requires.stands) s.here s.behind in
+    let procedures : c.procedures.result.now ≡ c.args.done.before.program.program = c.procedures.ensures.is ∙ c.program-program.ensures.is ∙ ap (λ (v : TypedProgram). v.program) (c.program.ensures ∙ ap (λ (j : JobView). j.program) c.before-2.ensures) in
+    subst IsSome (sym (ap (λ ps. slice_get ps c.args.action.now.procedure) procedures ∙ u.is)) refl
+
+pub values_of-requires-clause-long : goal.values_of-requires-clause-long
+values_of-requires-clause-long c =
+    let s = c.requires.stands in
+    let u = put_named c.args.done.before.program s.layout (there c.args.self.now c.args.actor c.args.done (instr.Put c.args.action.now) c.requires.stands) s.notices s.parts c.args.actor (come s.f c.args.done) s.q c.args.action.now (runs_there c.args.self.now c.args.actor c.args.done (instr.Put c.args.action.now) c.requires.stands) s.here s.behind in
+    let procedures : c.procedures.result.now ≡ c.args.done.before.program.program = c.procedures.ensures.is ∙ c.program-program.ensures.is ∙ ap (λ (v : TypedProgram). v.program) (c.program.ensures ∙ ap (λ (j : JobView). j.program) c.before-2.ensures) in
+    let params = params_of_callee c.args.done.before.program.program c.procedures.result.now procedures c.args.action.now.procedure c.procedure_at-callee.result.now c.procedure_at-callee.ensures u.procedure u.is c.as_slice-params.result.now c.as_slice-params.ensures in
+    long c.args.self.now c.args.actor c.args.done (instr.Put c.args.action.now) c.requires.stands c.args.action.now u c.as_slice-params.result.now params c.as_slice-registers.result.now c.as_slice-registers.ensures
+
+pub values_of-requires-clause-suit : goal.values_of-requires-clause-suit
+values_of-requires-clause-suit c =
+    let s = c.requires.stands in
+    let u = put_named c.args.done.before.program s.layout (there c.args.self.now c.args.actor c.args.done (instr.Put c.args.action.now) c.requires.stands) s.notices s.parts c.args.actor (come s.f c.args.done) s.q c.args.action.now (runs_there c.args.self.now c.args.actor c.args.done (instr.Put c.args.action.now) c.requires.stands) s.here s.behind in
+    let procedures : c.procedures.result.now ≡ c.args.done.before.program.program = c.procedures.ensures.is ∙ c.program-program.ensures.is ∙ ap (λ (v : TypedProgram). v.program) (c.program.ensures ∙ ap (λ (j : JobView). j.program) c.before-2.ensures) in
+    let params = params_of_callee c.args.done.before.program.program c.procedures.result.now procedures c.args.action.now.procedure c.procedure_at-callee.result.now c.procedure_at-callee.ensures u.procedure u.is c.as_slice-params.result.now c.as_slice-params.ensures in
+    suit c.args.self.now c.args.actor c.args.done (instr.Put c.args.action.now) c.requires.stands c.args.action.now u c.as_slice-params.result.now params c.as_slice-registers.result.now c.as_slice-registers.ensures
+
+pub hand_over-over-requires-clause-seat : goal.hand_over-over-requires-clause-seat
+hand_over-over-requires-clause-seat c = seat_there c.args.self.now c.args.actor c.args.done (instr.Put c.args.action.now) c.requires.stands
+
+pub hand_over-over-requires-clause-few : goal.hand_over-over-requires-clause-few
+hand_over-over-requires-clause-few c =
+    let s = c.requires.stands in
+    let u = put_named c.args.done.before.program s.layout (there c.args.self.now c.args.actor c.args.done (instr.Put c.args.action.now) c.requires.stands) s.notices s.parts c.args.actor (come s.f c.args.done) s.q c.args.action.now (runs_there c.args.self.now c.args.actor c.args.done (instr.Put c.args.action.now) c.requires.stands) s.here s.behind in
+    let procedures : c.procedures.result.now ≡ c.args.done.before.program.program = c.procedures.ensures.is ∙ c.program-program.ensures.is ∙ ap (λ (v : TypedProgram). v.program) (c.program.ensures ∙ ap (λ (j : JobView). j.program) c.before-2.ensures) in
+    let params = params_of_callee c.args.done.before.program.program c.procedures.result.now procedures c.args.action.now.procedure c.procedure_at-callee.result.now c.procedure_at-callee.ensures u.procedure u.is c.as_slice-params.result.now c.as_slice-params.ensures in
+    few c.args.self.now c.args.actor c.args.done (instr.Put c.args.action.now) c.requires.stands c.args.action.now u c.as_slice-params.result.now params c.as_slice-registers.result.now c.as_slice-registers.ensures
+
+pub hand_over-over-requires-clause-sits : goal.hand_over-over-requires-clause-sits
+hand_over-over-requires-clause-sits c =
+    let s = c.requires.stands in
+    let u = put_named c.args.done.before.program s.layout (there c.args.self.now c.args.actor c.args.done (instr.Put c.args.action.now) c.requires.stands) s.notices s.parts c.args.actor (come s.f c.args.done) s.q c.args.action.now (runs_there c.args.self.now c.args.actor c.args.done (instr.Put c.args.action.now) c.requires.stands) s.here s.behind in
+    let procedures : c.procedures.result.now ≡ c.args.done.before.program.program = c.procedures.ensures.is ∙ c.program-program.ensures.is ∙ ap (λ (v : TypedProgram). v.program) (c.program.ensures ∙ ap (λ (j : JobView). j.program) c.before-2.ensures) in
+    let params = params_of_callee c.args.done.before.program.program c.procedures.result.now procedures c.args.action.now.procedure c.procedure_at-callee.result.now c.procedure_at-callee.ensures u.procedure u.is c.as_slice-params.result.now c.as_slice-params.ensures in
+    sits_ready c.args.self.now c.args.actor c.args.done (instr.Put c.args.action.now) c.requires.stands c.args.action.now u c.as_slice-params.result.now params c.as_slice-registers.result.now c.as_slice-registers.ensures c.in-Ok.vals.items c.in-Ok.ensures
+
+pub put-requires-clause-new : goal.put-requires-clause-new
+put-requires-clause-new c =
+    let s = c.requires.stands in
+    ap (λ ts. get ts c.new.result) c.in-Ok-reserve.ensures.same ∙ ap (get c.args.self.now.tasks.tasks) c.new.ensures ∙ fresh c.args.done.before.program s.layout (there c.args.self.now c.args.actor c.args.done (instr.Put c.args.action.now) c.requires.stands) s.notices s.parts
+
+pub put-requires-clause-target : goal.put-requires-clause-target
+put-requires-clause-target c =
+    let s = c.requires.stands in
+    in_queue c.args.action.now.target (operands c.args.done.before.program.program s.parts.runnable.is s.f.procedure s.q s.here c.args.done.after.place (instr.Put c.args.action.now) s.behind).target
+
+pub returns-clause-put : goal.returns-clause-put
+returns-clause-put c = λ layout f owed notices h.
+    let old = c.args.self.now in
+    let s = c.requires.stands in
+    let program = c.args.done.before.program in
+    let action = c.args.action.now in
+    let here = here_too c.args.self.now c.args.actor c.args.done (instr.Put c.args.action.now) c.requires.stands f owed in
+    let runs = runs_too c.args.self.now c.args.actor c.args.done (instr.Put c.args.action.now) c.requires.stands f owed in
+    let u = put_named program layout (with_done old c.args.actor f c.args.done) notices h c.args.actor (come f c.args.done) s.q action runs here s.behind in
+    let procedures : c.procedures.result.now ≡ c.args.done.before.program.program = c.procedures.ensures.is ∙ c.program-program.ensures.is ∙ ap (λ (v : TypedProgram). v.program) (c.program.ensures ∙ ap (λ (j : JobView). j.program) c.before-2.ensures) in
+    let params = params_of_callee c.args.done.before.program.program c.procedures.result.now procedures c.args.action.now.procedure c.procedure_at-callee.result.now c.procedure_at-callee.ensures u.procedure u.is c.as_slice-params.result.now c.as_slice-params.ensures in
+    let over = c.hand_over-over.ensures f owed.sits in
+    let vals = so_valued c.args.done.after.values c.as_slice-params.result.now u.procedure.params params c.as_slice-registers.result.now action.args c.as_slice-registers.ensures c.in-Ok.vals.items c.in-Ok.ensures in
+    let bundle = so_bundled f.held c.as_slice-params.result.now u.procedure.params params c.as_slice-registers.result.now action.args c.as_slice-registers.ensures c.in-Ok.vals.items (Some (record { args = c.hand_over-over.result.0; file = over.0 })) over.1 in
+    let seats = over.2 ∙ sym (again old.seats c.args.actor (come f c.args.done) (gone_on (come f c.args.done) over.0)) in
+    let key : to_z w64 (of_z w64 action.priority) ≡ action.priority = to_z-of_z w64 action.priority (operands program.program h.runnable.is f.procedure s.q here c.args.done.after.place (instr.Put c.args.action.now) s.behind).priority in
+    let kind = kind_of_callee c.args.done.before.program.program c.procedures.result.now procedures c.args.action.now.procedure c.procedure_at-callee.result.now c.procedure_at-callee.ensures u.procedure u.is in
+    put_goes program layout (with_done old c.args.actor f c.args.done) notices h c.args.actor (come f c.args.done) s.q action runs here s.behind c.in-Ok.vals.items vals c.hand_over-over.result.0 over.0 bundle _
+      (c.in-Ok-put.ensures.put
+      ∙ ap (λ z. insert c.reserve.new.self.tasks c.new.result (record { kind = c.procedure_at-callee.result.now.kind; procedure = action.procedure; priority = z; target = action.target; args = c.hand_over-over.result.0 })) key
+      ∙ ap (λ k. insert c.reserve.new.self.tasks c.new.result (record { kind = k; procedure = action.procedure; priority = action.priority; target = action.target; args = c.hand_over-over.result.0 })) kind
+      ∙ ap (λ ts. insert ts c.new.result (record { kind = u.procedure.kind; procedure = action.procedure; priority = action.priority; target = action.target; args = c.hand_over-over.result.0 })) c.in-Ok-reserve.ensures.same
+      ∙ ap (λ n. insert old.tasks.tasks n (record { kind = u.procedure.kind; procedure = action.procedure; priority = action.priority; target = action.target; args = c.hand_over-over.result.0 })) c.new.ensures)
+      refl seats refl refl refl
+
+pub returns-clause-drafted : goal.returns-clause-drafted
+returns-clause-drafted c =
+    let s = c.requires.stands in
+    let over = c.hand_over-over.ensures s.f s.owed.sits in
+    record { f = gone_on (come s.f c.args.done) over.0; sits = ap (λ m. get m c.args.actor) over.2 ∙ get_own c.args.self.now.seats c.args.actor (gone_on (come s.f c.args.done) over.0); is = over.3 }
