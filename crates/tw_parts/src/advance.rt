@@ -1,6 +1,6 @@
 //! A task goes on by the local steps of its job.
 
-ghost use Rattle.std.specs.Prelude.{◌≡◌, MatchOption};
+ghost use Rattle.std.specs.Prelude.{◌≡◌, ◌<◌, MatchOption};
 ghost use Rattle.tw_types.specs.declared.event.Event.TheVariants as event;
 ghost use Rattle.tw_types.specs.Layout.{ActorCounts};
 ghost use Rattle.tw_types.specs.Notices.{Notices};
@@ -18,8 +18,8 @@ impl<'a> Parts<'a> {
     pub fn event_of(&self, actor: Actor, done: &Done<'a>) -> Option<Event>
         requires owed { (f : FrameView) × IsOwed self.now actor f done.now }
         ensures { MatchOption result
-            ((f : FrameView) → IsOwed self.now actor f done.now → with_done self.now actor f done.now ≡ self.now)
-            (λ e. (e ≡ event.Local actor done.now.steps) × ((layout : ActorCounts) (f : FrameView) → IsOwed self.now actor f done.now
+            ((done.now.steps ≡ 0) × ((f : FrameView) → IsOwed self.now actor f done.now → with_done self.now actor f done.now ≡ self.now))
+            (λ e. (0 < done.now.steps) × (e ≡ event.Local actor done.now.steps) × ((layout : ActorCounts) (f : FrameView) → IsOwed self.now actor f done.now
                 → Makes done.now.before.program layout e self.now (with_done self.now actor f done.now))) }
     {
         let steps = done.steps();
