@@ -4,3 +4,4 @@ pub mod Lines
 mod Fitting
 mod Keeping
 mod Freely
+mod Handing

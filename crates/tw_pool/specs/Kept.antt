@@ -13,13 +13,14 @@ use Rattle.tw_code.specs.machine.Inputs.{AreInputsOf}
 use Rattle.tw_code.specs.machine.Opening.{reached}
 use Rattle.tw_code.specs.machine.State.{State}
 use Rattle.tw_verify.specs.Typed.{TypedProgram}
-use Rattle.tw_frame.specs.Jobs.{FrameView}
+use Rattle.tw_frame.specs.Jobs.{DoneView, FrameView}
 use Rattle.tw_parts.specs.Fits.{AreParts}
 use Rattle.tw_parts.specs.Parts.{state_of}
 use Rattle.tw_parts.specs.Seats.{Seated}
 use Rattle.tw_parts.specs.declared.parts.Parts.{Parts}
 use Rattle.tw_pool.specs.Actors.{events_of}
 use Rattle.tw_pool.specs.PoolView.{PoolView, HasState}
+use Rattle.tw_pool.specs.Turns.{lent_to}
 
 -- each task was lent last by the number of its actor's events
 abbrev pub AreLent : List Event → Seated → Type 0
@@ -54,3 +55,7 @@ abbrev pub MayTakeNow : PoolView → Actor → Type 0
 MayTakeNow p (Engine engine) = AsksNone p engine × ReleasesNone p engine
 MayTakeNow p (Server server) = ⊥
 MayTakeNow p (Worker worker) = Unit {0}
+
+-- the Done is of the job that is lent to the actor
+abbrev pub IsOwedBy : PoolView → Actor → DoneView → Type 0
+IsOwedBy p actor done = InState p (λ s. lent_to p s actor ≡ Some done.before)

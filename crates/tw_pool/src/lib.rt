@@ -3,6 +3,7 @@
 
 mod answer;
 mod free;
+mod hand_in;
 mod history;
 mod pool;
 mod words;
