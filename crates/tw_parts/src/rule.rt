@@ -11,6 +11,7 @@ use crate::release::procedure_at;
 use std::alloc::Global;
 use tw_code::Action;
 use tw_frame::{Done, Draft};
+use tw_rules::PlannedTask;
 use tw_types::Actor;
 
 impl<'a> Parts<'a> {
@@ -42,12 +43,12 @@ impl<'a> Parts<'a> {
         };
         let over = self.seats.hand_over(actor, done, params, registers, vals);
         let (args, draft) = over;
-        let named = tw_rules::Action {
+        let planned = PlannedTask {
             procedure: action.procedure,
             priority: action.priority,
             target: action.target,
         };
-        match self.rules.add(engine, params, named, args) {
+        match self.rules.add(engine, params, planned, args) {
             Ok(_number) => Ok(draft),
             Err(_args) => unreachable!(),
         }

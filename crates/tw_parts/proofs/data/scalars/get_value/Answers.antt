@@ -7,6 +7,7 @@ use Rattle.std.specs.Option.{option_map}
 use Rattle.tw_types.specs.Value.{scalar_of}
 use Rattle.tw_parts.proofs.Gets.{get_allowed, get_fits, get_here, get_right, got_done}
 use Rattle.tw_parts.proofs.ValueRegisters.{text_there}
+use Rattle.tw_store.proofs.Here.{unchanged}
 use Rattle.tw_parts.proofs.data.scalars.get_value.Goals as goal
 
 pub peek_read-requires : goal.peek_read-requires
@@ -24,7 +25,7 @@ returns-in_default c =
     record {
       memory = text_there c.args.done.after.values c.args.to text.0
           (get_fits c.args.to c.args.datum c.args.store.now (come c.args.frame.now c.args.done) c.requires.may c.peek_read.result.now c.peek_read.ensures (value.Text text.0) text.1);
-      store = record { store = refl; places = refl; queues = refl };
+      store = unchanged _;
       frame = refl;
       is_back = refl;
     }

@@ -7,13 +7,14 @@ use Rattle.tw_frame.specs.Jobs.{FrameView, draft_of, job_of}
 use Rattle.tw_parts.specs.Coming.{come}
 use Rattle.tw_parts.proofs.Registers.{id_at, more_than, put_back}
 use Rattle.tw_parts.proofs.Stores.{store_allowed, store_declared, store_here, store_right, stored_done}
+use Rattle.tw_store.proofs.Here.{unchanged}
 use Rattle.tw_parts.proofs.data.scalars.store_value.Goals as goal
 
 pub value-requires : goal.value-requires
 value-requires c = store_declared c.args.datum c.args.from c.args.store.now (come c.args.frame.now c.args.done) c.requires.may
 
 pub returns-in_default : goal.returns-in_default
-returns-in_default c = record { memory = inl c.in_default.ensures.text; store = record { store = refl; places = refl; queues = refl }; frame = refl; is_back = refl }
+returns-in_default c = record { memory = inl c.in_default.ensures.text; store = unchanged _; frame = refl; is_back = refl }
 
 pub take_write-right-requires : goal.take_write-right-requires
 take_write-right-requires c = store_right c.args.datum c.args.from c.args.store.now (come c.args.frame.now c.args.done) c.requires.may

@@ -6,7 +6,7 @@ use Rattle.tw_types.specs.declared.actor.Kind.{Kind}
 use Rattle.tw_types.specs.Rule.{RuleOf, task_from}
 use Rattle.tw_types.specs.Task.{TaskOf}
 use Rattle.tw_rights.specs.declared.arg.Arg.{Arg}
-use Rattle.tw_rules.specs.declared.action.Action.{Action}
+use Rattle.tw_rules.specs.declared.planned.PlannedTask.{PlannedTask}
 use Rattle.tw_rules.specs.Table.{action_of}
 use Rattle.tw_queue.specs.Queues.{IsTarget, waiting}
 use Rattle.tw_code.specs.declared.procedure.Procedure.{Procedure}
@@ -15,15 +15,15 @@ use Rattle.tw_parts.proofs.Releases.{its, fresh, releasable, procedure, releases
 use Rattle.tw_parts.proofs.parts.Parts.release.Goals as goal
 
 -- the action of the rule that is there
-its_action : (o : Option (RuleOf Arg)) (r : RuleOf Arg) (a : Action) → o ≡ Some r → option_map action_of o ≡ Some a → action_of r ≡ a
+its_action : (o : Option (RuleOf Arg)) (r : RuleOf Arg) (a : PlannedTask) → o ≡ Some r → option_map action_of o ≡ Some a → action_of r ≡ a
 its_action o r a at e = same_Some (action_of r) a (sym (ap (option_map action_of) at) ∙ e)
 
 its_args : (o : Option (RuleOf Arg)) (r : RuleOf Arg) (args : List Arg) → o ≡ Some r → option_map (λ (r : RuleOf Arg). r.args) o ≡ Some args → r.args ≡ args
 its_args o r args at e = same_Some r.args args (sym (ap (option_map (λ (r : RuleOf Arg). r.args)) at) ∙ e)
 
 -- its procedure, looked up by that action
-callee_is : (procedures program : List Procedure) (r : RuleOf Arg) (a : Action) (p : Procedure) → procedures ≡ program → action_of r ≡ a → slice_get program r.procedure ≡ Some p → slice_get procedures a.procedure ≡ Some p
-callee_is procedures program r a p same is here = ap (λ ps. slice_get ps a.procedure) same ∙ ap (λ (x : Action). slice_get program x.procedure) (sym is) ∙ here
+callee_is : (procedures program : List Procedure) (r : RuleOf Arg) (a : PlannedTask) (p : Procedure) → procedures ≡ program → action_of r ≡ a → slice_get program r.procedure ≡ Some p → slice_get procedures a.procedure ≡ Some p
+callee_is procedures program r a p same is here = ap (λ ps. slice_get ps a.procedure) same ∙ ap (λ (x : PlannedTask). slice_get program x.procedure) (sym is) ∙ here
 
 pub action-action-requires : goal.action-action-requires
 action-action-requires c =
@@ -54,7 +54,7 @@ put-requires-clause-target c =
     let p = c.requires.parts in
     let it = its c.args.verified.now p.0 c.args.self.now p.1 p.2 c.args.engine c.in-Some.rule (sym c.in-Some.ensures) in
     let a = its_action _ it.x c.action-action.result it.there c.action-action.ensures in
-    subst (λ (x : Action). IsTarget x.target) a (target c.args.verified.now p.0 c.args.self.now p.1 p.2 c.args.engine c.in-Some.rule (sym c.in-Some.ensures))
+    subst (λ (x : PlannedTask). IsTarget x.target) a (target c.args.verified.now p.0 c.args.self.now p.1 p.2 c.args.engine c.in-Some.rule (sym c.in-Some.ensures))
 
 pub returns : goal.returns
 returns c = (

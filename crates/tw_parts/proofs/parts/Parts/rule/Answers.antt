@@ -7,6 +7,7 @@ use Rattle.tw_rights.specs.declared.arg.Arg.{Arg}
 use Rattle.tw_rights.specs.declared.held.Held.{Held}
 use Rattle.tw_code.specs.declared.instr.Instr.TheVariants as instr
 use Rattle.tw_rules.specs.Table.{new_rule}
+use Rattle.tw_rules.proofs.Fitting.{bundled_suit}
 use Rattle.tw_verify.specs.Typed.{TypedProgram}
 use Rattle.tw_frame.specs.Jobs.{JobView}
 use Rattle.tw_parts.specs.Coming.{come, gone_on}
@@ -78,6 +79,12 @@ add-requires-clause-few c =
     let procedures : c.procedures.result.now ≡ c.args.done.before.program.program = c.procedures.ensures.is ∙ c.program-program.ensures.is ∙ ap (λ (v : TypedProgram). v.program) (c.program.ensures ∙ ap (λ (j : JobView). j.program) c.before-2.ensures) in
     let params = params_of_callee c.args.done.before.program.program c.procedures.result.now procedures c.args.action.now.procedure c.procedure_at-callee.result.now c.procedure_at-callee.ensures u.procedure u.is c.as_slice-params.result.now c.as_slice-params.ensures in
     few c.args.self.now c.args.actor c.args.done (instr.Rule c.args.action.now) c.requires.stands c.args.action.now u c.as_slice-params.result.now params c.as_slice-registers.result.now c.as_slice-registers.ensures
+
+pub add-requires-clause-args : goal.add-requires-clause-args
+add-requires-clause-args c =
+    let s = c.requires.stands in
+    let over = c.hand_over-over.ensures s.f s.owed.sits in
+    bundled_suit s.f.held c.as_slice-params.result.now c.as_slice-registers.result.now c.in-Ok.vals.items _ over.1
 
 pub returns-clause-rule : goal.returns-clause-rule
 returns-clause-rule c = λ layout f owed notices h.
