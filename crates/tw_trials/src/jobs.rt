@@ -77,7 +77,7 @@ fn stretch_of(alloc: Global, verified: &Verified) -> Result<Option<Stretch<'_>>,
 fn is_same(value: &Value, other: ValueRef<'_>) -> bool {
     match (value, other) {
         (Value::Int(number), ValueRef::Int(other)) => *number == other,
-        (Value::Text(text), ValueRef::Text(other)) => text.as_str() == other.as_str(),
+        (Value::Text(text), ValueRef::Text(other)) => text.as_str() == other,
         (Value::Int(_), ValueRef::Text(_)) | (Value::Text(_), ValueRef::Int(_)) => false,
     }
 }
