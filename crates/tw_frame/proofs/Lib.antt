@@ -7,3 +7,4 @@ pub mod Prefixes
 pub mod Starting
 pub mod Beginning
 pub mod Frames
+pub mod Piecing

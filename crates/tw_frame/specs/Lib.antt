@@ -6,5 +6,6 @@ pub mod Drafts
 pub mod Seen
 -- What only private functions speak of.
 pub mod Banks
+pub mod Pieces
 pub mod Standing
 pub mod Asked

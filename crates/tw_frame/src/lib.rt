@@ -10,6 +10,7 @@ mod loops;
 mod registers;
 mod run;
 mod step;
+mod texts;
 mod value_ref;
 
 pub use draft::Draft;

@@ -1,10 +1,8 @@
 //! Values that stay where they stand.
 
-use tw_types::Text;
-
 /// The value of a register, which stays there.
 #[derive(Clone, Copy)]
 pub enum ValueRef<'a> {
     Int(i64),
-    Text(&'a Text),
+    Text(&'a str),
 }

@@ -3,7 +3,7 @@
 ghost use Rattle.std.specs.Prelude.{◌≡◌, ◌<◌, IfSome, length};
 ghost use Rattle.tw_frame.specs.Jobs.{job_of};
 
-use crate::stretches::{next_program, spelled};
+use crate::stretches::next_program;
 use std::alloc::{AllocError, Global};
 use tw_code::{Procedure, decode};
 use tw_frame::{Done, Draft, Frame, Job, ValueRef};
@@ -15,9 +15,9 @@ use tw_verify::{Verified, verify};
 
 /// What was done of main, in one job, or in two where the first was short.
 #[derive(Drop)]
-struct Stretch<'a> {
-    done: Done<'a>,
-    steps: u64,
+pub(crate) struct Stretch<'a> {
+    pub(crate) done: Done<'a>,
+    pub(crate) steps: u64,
 }
 
 /// Runs a job, and where it is short the next one.
@@ -52,7 +52,10 @@ fn shut(task: Task) {
 }
 
 /// Runs main from its first place on.
-fn stretch_of(alloc: Global, verified: &Verified) -> Result<Option<Stretch<'_>>, AllocError> {
+pub(crate) fn stretch_of(
+    alloc: Global,
+    verified: &Verified,
+) -> Result<Option<Stretch<'_>>, AllocError> {
     let _procedures = verified.program().procedures();
     let task = Task {
         no: TaskNo::new(1),
@@ -77,7 +80,7 @@ fn stretch_of(alloc: Global, verified: &Verified) -> Result<Option<Stretch<'_>>,
 fn is_same(value: &Value, other: ValueRef<'_>) -> bool {
     match (value, other) {
         (Value::Int(number), ValueRef::Int(other)) => *number == other,
-        (Value::Text(text), ValueRef::Text(other)) => text.as_str() == other.as_str(),
+        (Value::Text(text), ValueRef::Text(other)) => text.as_str() == other,
         (Value::Int(_), ValueRef::Text(_)) | (Value::Text(_), ValueRef::Int(_)) => false,
     }
 }

@@ -16,6 +16,7 @@ mod search;
 mod stores;
 mod stretches;
 mod walks;
+mod worked;
 
 use std::{env, io};
 
@@ -58,6 +59,12 @@ fn whole_trials(rt: &HostRuntime, agreeing: u64) -> io::Result<u64> {
     let agreeing = told(rt, agreeing, "10,000 puts and takes", puts)?;
     let rules = rules::calls_are_the_lists(alloc, 10_000);
     let agreeing = told(rt, agreeing, "10,000 calls of the rules", rules)?;
+    let agreeing = told(
+        rt,
+        agreeing,
+        "worked rows of jobs",
+        worked::first_row(alloc),
+    )?;
     let jobs = jobs::first_stretch(alloc, 10_000, MOST);
     let mut agreeing = told(rt, agreeing, "10,000 jobs", jobs)?;
     for (name, agrees) in [
