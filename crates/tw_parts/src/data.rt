@@ -117,7 +117,7 @@ pub(crate) fn data_in<'a>(
 impl<'a> Parts<'a> {
     /// The actor's task, which stands at this instruction on data behind the Done, comes there and does it; a draft of its
     /// values. Where memory is refused the Done comes back.
-    pub fn data(
+    pub fn call_data(
         &mut self,
         alloc: Global,
         actor: Actor,
