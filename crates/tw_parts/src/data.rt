@@ -5,7 +5,8 @@ ghost use Rattle.tw_types.specs.declared.event.Event.TheVariants as event;
 ghost use Rattle.tw_code.specs.declared.instr.Instr.TheVariants as instr_is;
 ghost use Rattle.tw_frame.specs.Jobs.{FrameView, draft_of, job_of};
 ghost use Rattle.tw_parts.specs.Coming.{come};
-ghost use Rattle.tw_parts.specs.Data.{IsAnswer, IsDone, MayDo, TakesMemory, TakesNone};
+ghost use Rattle.tw_parts.specs.Data.{IsAnswer, IsDone, MayDo, TakesNone};
+ghost use Rattle.tw_parts.specs.Memory.{TakesMemory};
 ghost use Rattle.tw_parts.specs.Events.{IsDrafted, IsOwed, MakesBehind, StandsAt, Untouched};
 
 mod containers;

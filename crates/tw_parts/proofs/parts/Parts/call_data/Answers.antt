@@ -4,7 +4,7 @@ use Rattle.std.specs.FinMap.{get, insert}
 use Rattle.tw_types.specs.declared.event.Event.TheVariants.{Call}
 use Rattle.tw_frame.specs.Jobs.{DraftView, FrameView}
 use Rattle.tw_parts.specs.Coming.{come}
-use Rattle.tw_parts.specs.Data.{TakesMemory}
+use Rattle.tw_parts.specs.Memory.{TakesMemory}
 use Rattle.tw_parts.specs.declared.parts.Parts.{Parts}
 use Rattle.tw_parts.specs.Events.{IsDrafted, IsOwed, Makes, MakesBehind, Untouched, with_done}
 use Rattle.tw_parts.proofs.Answering.{when_back, when_done, when_drafted, when_refused}
