@@ -129,9 +129,10 @@ module _ (verified : TypedProgram) (layout : ActorCounts) (old : Parts) (notices
       | inr all ↦
           let id = all.0 in let x = all.1 in
           let q : AreQueued (queued id (each (notice_to id) x.subscribers) old.store.queues) (with_notices notices (each (notice_to id) x.subscribers)) =
-              told old.store.store.live notices (mapped bare_rule old.rules.rules) law.notices id x all.2 old.store.queues h.queued some (inside id) in
-          (subst (λ qs. AreQueued qs left) (sym all.4) (subst (λ more. AreQueued (queued id more old.store.queues) (with_notices notices more)) (sym all.3) q),
-           ap length all.4 ∙ length-set old.store.queues (server_of (length old.store.queues) id) _)
+          told old.store.store.live notices (mapped bare_rule old.rules.rules) law.notices id x all.2 old.store.queues h.queued some (inside id) in (
+            subst (λ qs. AreQueued qs left) (sym all.4) (subst (λ more. AreQueued (queued id more old.store.queues) (with_notices notices more)) (sym all.3) q),
+            ap length all.4 ∙ length-set old.store.queues (server_of (length old.store.queues) id) _,
+          )
     ]
       where
         inside : (id : ℕ) → server_of (length old.store.queues) id < length old.store.queues
@@ -175,27 +176,27 @@ module _ (verified : TypedProgram) (layout : ActorCounts) (old : Parts) (notices
       frames = λ a x is. elim (put_or_before actor_cmp_total actor_cmp-IsAntisymmetric old.seats actor g a x (ap (λ m. get m a) (sym seats) ∙ is)) as (λ _. FrameFits verified new.store.places a x) [
         | inl same ↦ subst (λ b. FrameFits verified new.store.places b x) (sym same.0) (subst (FrameFits verified new.store.places actor) same.1 own)
         | inr before ↦ record {
-            program = (h.stand.frames a x before).program;
-            own = (h.stand.frames a x before).own;
-            placed = file_kept old.store.places new.store.places Both kept x.held (λ k id in_it. (
-              register_is_live verified.program (typings_of verified) (state_of old notices) law a (bare_frame x) k id (seen bare_frame old.seats a (Some x) before) in_it,
-              register_is_live verified.program (typings_of verified) (state_of new left) law_new a (bare_frame x) k id (seen bare_frame new.seats a (Some x) is) in_it,
-            )) (h.stand.frames a x before).placed;
-            kinds = (h.stand.frames a x before).kinds;
-          }
+          program = (h.stand.frames a x before).program;
+          own = (h.stand.frames a x before).own;
+          placed = file_kept old.store.places new.store.places Both kept x.held (λ k id in_it. (
+            register_is_live verified.program (typings_of verified) (state_of old notices) law a (bare_frame x) k id (seen bare_frame old.seats a (Some x) before) in_it,
+            register_is_live verified.program (typings_of verified) (state_of new left) law_new a (bare_frame x) k id (seen bare_frame new.seats a (Some x) is) in_it,
+          )) (h.stand.frames a x before).placed;
+          kinds = (h.stand.frames a x before).kinds;
+        }
       ];
       tasks = λ n t is.
-        let before = ap (λ (ts : _). get ts.tasks n) (sym tasks) ∙ is in
-        args_kept old.store.places new.store.places Both kept (params_of verified.program t.procedure) t.args (λ k id in_it. (
-          task_is_live verified.program (typings_of verified) (state_of old notices) law n (bare_task t) k id (seen bare_task old.tasks.tasks n (Some t) before) in_it,
-          task_is_live verified.program (typings_of verified) (state_of new left) law_new n (bare_task t) k id (seen bare_task new.tasks.tasks n (Some t) is) in_it,
-        )) (h.stand.tasks n t before);
+          let before = ap (λ (ts : _). get ts.tasks n) (sym tasks) ∙ is in
+          args_kept old.store.places new.store.places Both kept (params_of verified.program t.procedure) t.args (λ k id in_it. (
+            task_is_live verified.program (typings_of verified) (state_of old notices) law n (bare_task t) k id (seen bare_task old.tasks.tasks n (Some t) before) in_it,
+            task_is_live verified.program (typings_of verified) (state_of new left) law_new n (bare_task t) k id (seen bare_task new.tasks.tasks n (Some t) is) in_it,
+          )) (h.stand.tasks n t before);
       rules = λ n r is.
-        let before = ap (λ (rs : _). get rs.rules n) (sym rules) ∙ is in
-        args_kept old.store.places new.store.places Both kept (params_of verified.program r.procedure) r.args (λ k id in_it. (
-          rule_is_live verified.program (typings_of verified) (state_of old notices) law n (bare_rule r) k id (seen bare_rule old.rules.rules n (Some r) before) in_it,
-          rule_is_live verified.program (typings_of verified) (state_of new left) law_new n (bare_rule r) k id (seen bare_rule new.rules.rules n (Some r) is) in_it,
-        )) (h.stand.rules n r before);
+          let before = ap (λ (rs : _). get rs.rules n) (sym rules) ∙ is in
+          args_kept old.store.places new.store.places Both kept (params_of verified.program r.procedure) r.args (λ k id in_it. (
+            rule_is_live verified.program (typings_of verified) (state_of old notices) law n (bare_rule r) k id (seen bare_rule old.rules.rules n (Some r) before) in_it,
+            rule_is_live verified.program (typings_of verified) (state_of new left) law_new n (bare_rule r) k id (seen bare_rule new.rules.rules n (Some r) is) in_it,
+          )) (h.stand.rules n r before);
       outputs = subst (λ rs. AreAt new.store.places rs) (sym outputs) (all_kept old.store.places new.store.places Both kept old.outputs (λ k id in_it. (
         output_is_live verified.program (typings_of verified) (state_of old notices) law k id in_it,
         output_is_live verified.program (typings_of verified) (state_of new left) law_new k id (ap (λ (rs : List Right). slice_get (each (λ (right : Right). right.id) rs) k) outputs ∙ in_it),

@@ -8,7 +8,7 @@ use Rattle.tw_code.specs.accepting.Typing.{reads_member_of, writes_container}
 use Rattle.tw_code.specs.machine.Data.{after_insert}
 use Rattle.tw_no_trap.proofs.Conditions.{insert_asks}
 use Rattle.tw_parts.proofs.DataNames.{◌≡◌, ◌∙◌, ◌+◌, ℕ, ℤ, zero, suc, true, false, not, List, [], ◌∷◌, None, Some, Option, IsSome, Ok, refl, sym, ap, inl, slice_get, slice_index_or, slice_set, get, EmptyRegister, is_element_of, is_read, is_scalar, is_write, Notices, ok_after, ok_first, there_then, Held, bare_file, kind_at, Right, Served, IsHere, IsNow, IsUnchanged, Skipped, Context, data_instr, at_goal, at_next_place, int_at, passes, passed, right_at, RightType, FrameView, IsDone, MayDo, sees}
-use Rattle.tw_parts.specs.Data.{IsAbsent}
+use Rattle.tw_parts.specs.Memory.{IsAbsent}
 use Rattle.tw_parts.proofs.Left.{emptied_done, moved_done, now_stays, same_ok}
 use Rattle.tw_parts.proofs.Registers.{and_first, id_at, its_id, kind_passed, placed_at, read_reads}
 use Rattle.tw_parts.proofs.ValueRegisters.{int_is, int_same}

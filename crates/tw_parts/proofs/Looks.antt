@@ -82,4 +82,4 @@ module _ (member container subscript skip : ℕ) (s : Served) (f : FrameView) (m
           (λ ns k e. comes ns k e ∙ ap (after_look (sees s ns f) member skip) l.0 ∙ (λ i. record { store = sym l.2.store i; notices = ns; rights = slice_set (bare_file f.held) member (Some found.id); position = at_next_place f.position }))
           refl
           (λ registers typing kinds asked. map-set (option_map typed_writes) typing member (a_member_read (right_at typing container))
-              ∙ ap (λ (o : Option Bool). slice_set (kinds_in typing) member o) (reads_member (right_at typing container) asked.1.0))
+          ∙ ap (λ (o : Option Bool). slice_set (kinds_in typing) member o) (reads_member (right_at typing container) asked.1.0))

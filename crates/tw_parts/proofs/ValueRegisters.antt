@@ -11,7 +11,7 @@ use Rattle.tw_types.specs.Value.{is_of, scalar_of}
 use Rattle.tw_code.specs.machine.Position.{int_in, must_have_type}
 use Rattle.tw_frame.specs.Drafts.{MaySet}
 use Rattle.tw_no_trap.proofs.Scalars.{same_scalars}
-use Rattle.tw_parts.specs.Data.{IsTextAt}
+use Rattle.tw_parts.specs.Memory.{IsTextAt}
 use Rattle.tw_parts.proofs.Registers.{and_second}
 use Rattle.tw_parts.proofs.DataNames.{◌≡◌, ◌∙◌, ℕ, ℤ, Bool, true, false, not, ◌||◌, List, Option, Some, None, Result, Ok, refl, sym, ap, option_map, slice_get, same_Some, get, Cause, FreedDatum, WrongRegister, Value, is_scalar, NestedScalar, Datum, Data, must_ok, must_then, there_then, suits, Position, int_at}
 

@@ -1,20 +1,19 @@
--- What an instruction on data asks of a store and of the task that does it, and what it leaves of them.
-use Rattle.std.specs.Prelude.{◌≡◌, ◌⊎◌, ◌<◌, ◌^◌, ◌+◌, ℕ, ℤ, List, [], Some, None, map as each, slice_get, slice_index_or}
+-- What an instruction on data asks of a store and of the task that does it, and what it leaves of them. The event on the parts says
+-- it by the machine's step; this is for the functions below it.
+use Rattle.std.specs.Prelude.{◌≡◌, ◌⊎◌, ◌<◌, ◌^◌, ◌+◌, ℕ, List, [], Some, None, map as each, slice_index_or}
 use Rattle.std.specs.declared.result.Result.{Result}
 use Rattle.std.specs.declared.result.Result.TheVariants.{Ok, Err}
 use Rattle.std.specs.FinMap.{get, len}
 use Rattle.tw_types.specs.declared.data_type.Scalar.{Scalar}
 use Rattle.tw_types.specs.declared.notice.Notice.{Notice}
-use Rattle.tw_types.specs.declared.value.Value.{Value}
-use Rattle.tw_types.specs.declared.value.Value.TheVariants as value
 use Rattle.tw_types.specs.Notices.{Notices, with_notices}
 use Rattle.tw_types.specs.Store.{Datum, notice_to}
-use Rattle.tw_types.specs.StoreCalls.{member_at, members_in}
+use Rattle.tw_types.specs.StoreCalls.{members_in}
 use Rattle.tw_types.specs.TypedStore.{IsTypedStore}
 use Rattle.tw_rights.specs.declared.held.Held.{Held}
 use Rattle.tw_rights.specs.Bare.{bare_file}
 use Rattle.tw_rights.specs.Kinds.{kinds_of}
-use Rattle.tw_store.specs.Served.{IsUnchanged, Served, queued, waiting_for}
+use Rattle.tw_store.specs.Served.{IsUnchanged, Served, queued}
 use Rattle.tw_code.specs.declared.flow.Way.{Way}
 use Rattle.tw_code.specs.declared.instr.DataInstr.{DataInstr}
 use Rattle.tw_code.specs.declared.instr.DataInstr.TheVariants as on_data
@@ -22,11 +21,12 @@ use Rattle.tw_code.specs.accepting.Flow.{data_flow, onward}
 use Rattle.tw_code.specs.accepting.Typing.{after_data, asks_data}
 use Rattle.tw_code.specs.format.Program.{IsDataInstr}
 use Rattle.tw_code.specs.machine.Data.{Context, data_instr}
-use Rattle.tw_code.specs.machine.Rights.{Typing, right_at}
+use Rattle.tw_code.specs.machine.Rights.{Typing}
 use Rattle.tw_no_trap.proofs.Values.{AllYes}
 use Rattle.tw_frame.specs.Jobs.{DoneView, DraftView, FrameView, draft_of}
 use Rattle.tw_parts.specs.Coming.{come}
 use Rattle.tw_parts.specs.Fits.{ArePlaced, IsAt, kinds_in, right_in}
+use Rattle.tw_parts.specs.Memory.{TakesMemory}
 
 -- what it sees, where these are the notices
 abbrev pub sees : Served → Notices → FrameView → Context
@@ -37,7 +37,7 @@ IsLive s id = (x : Datum) × (get s.store.live id ≡ Some x)
 
 -- ---- before it
 
--- each number and count can be one larger
+-- there is room for each number and count to grow
 pub record HasRoom (s : Served) (f : FrameView) : Type 0 where
   pub next : s.store.next < 2 ^ 62
   pub reads : (id : ℕ) (x : Datum) → get s.store.live id ≡ Some x → x.reads < 2 ^ 62
@@ -53,7 +53,7 @@ pub record IsTypedFor (d : DataInstr) (f : FrameView) : Type 0 where
   pub kinds : kinds_of f.held ≡ kinds_in typing
   pub asked : AllYes (asks_data registers d typing)
 
--- the task may do it: it goes by the definition, whatever is waiting to be told
+-- the task may do it: by the definition it goes, where some notices wait
 pub record MayDo (d : DataInstr) (s : Served) (f : FrameView) : Type 0 where
   pub ns : Notices
   pub left : Context
@@ -87,36 +87,9 @@ pub record IsDone (d : DataInstr) (old new : Served) (f g : FrameView) : Type 0 
   -- and one instruction more is spent
   pub rest : g ≡ record f { position = g.position; held = g.held; spent = f.spent + 1 }
 
--- ---- memory
+-- ---- without memory
 
--- the register has a text
-abbrev pub IsTextAt : List Value → ℕ → Type 0
-IsTextAt values register = (text : List ℕ) × (slice_get values register ≡ Some (value.Text text))
-
--- a rule waits for the datum of the right
-abbrev pub IsAwaited : Served → FrameView → ℕ → Type 0
-IsAwaited s f register = (id : ℕ) × (right_at (bare_file f.held) register ≡ Some id) × (0 < waiting_for (get s.store.live id))
-
--- the container has no member at the subscript
-abbrev pub IsAbsent : Served → FrameView → ℕ → ℕ → Type 0
-IsAbsent s f container subscript = (id : ℕ) × (n : ℤ) × (right_at (bare_file f.held) container ≡ Some id) × (slice_get f.position.values subscript ≡ Some (value.Int n))
-    × (member_at s.store id n ≡ None)
-
--- where it takes memory: for one datum more, for copies of a text, for what is told, or for one member more
-abbrev pub TakesMemory : DataInstr → Served → FrameView → Type 0
-TakesMemory (on_data.New write read ty) s f = s.data_room ≡ 0
-TakesMemory (on_data.Store datum from) s f = IsTextAt f.position.values from ⊎ IsAwaited s f datum
-TakesMemory (on_data.Get to datum) s f = IsTextAt f.position.values to
-TakesMemory (on_data.Insert container subscript member skip) s f = IsAbsent s f container subscript
-TakesMemory (on_data.Look member container subscript skip) s f = ⊥
-TakesMemory (on_data.Size to container) s f = ⊥
-TakesMemory (on_data.SubscriptAt to container index skip) s f = ⊥
-TakesMemory (on_data.CopyRead to from) s f = ⊥
-TakesMemory (on_data.CopyWrite to from) s f = ⊥
-TakesMemory (on_data.DropRead right) s f = ⊥
-TakesMemory (on_data.DropWrite right) s f = IsAwaited s f right
-
--- those that never do
+-- the instructions that take none
 abbrev pub TakesNone : DataInstr → Type 0
 TakesNone (on_data.New write read ty) = ⊥
 TakesNone (on_data.Store datum from) = ⊥

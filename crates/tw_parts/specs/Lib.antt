@@ -7,4 +7,6 @@ pub mod Fits
 pub mod Coming
 pub mod Copies
 pub mod Events
+pub mod Memory
+-- What only private functions speak of.
 pub mod Data

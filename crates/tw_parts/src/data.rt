@@ -5,7 +5,8 @@ ghost use Rattle.tw_types.specs.declared.event.Event.TheVariants as event;
 ghost use Rattle.tw_code.specs.declared.instr.Instr.TheVariants as instr_is;
 ghost use Rattle.tw_frame.specs.Jobs.{FrameView, draft_of, job_of};
 ghost use Rattle.tw_parts.specs.Coming.{come};
-ghost use Rattle.tw_parts.specs.Data.{IsAnswer, IsDone, MayDo, TakesMemory, TakesNone};
+ghost use Rattle.tw_parts.specs.Data.{IsAnswer, IsDone, MayDo, TakesNone};
+ghost use Rattle.tw_parts.specs.Memory.{TakesMemory};
 ghost use Rattle.tw_parts.specs.Events.{IsDrafted, IsOwed, MakesBehind, StandsAt, Untouched};
 
 mod containers;
@@ -117,7 +118,7 @@ pub(crate) fn data_in<'a>(
 impl<'a> Parts<'a> {
     /// The actor's task, which stands at this instruction on data behind the Done, comes there and does it; a draft of its
     /// values. Where memory is refused the Done comes back.
-    pub fn data(
+    pub fn call_data(
         &mut self,
         alloc: Global,
         actor: Actor,

@@ -51,11 +51,7 @@ pub(crate) fn store_value<'a>(
 }
 
 /// Two copies of the value of a scalar that is set; only a text's take memory.
-fn two_copies(
-    store: &Store,
-    alloc: Global,
-    right: &ReadRight,
-) -> Result<(Value, Value), AllocError>
+fn two_copies(store: &Store, alloc: Global, right: &ReadRight) -> Result<(Value, Value), AllocError>
     requires here { IsHere store.now right.now }
     requires allowed { may_retrieve (get store.now.store.live right.now.id) ≡ Ok tt }
     ensures first { IfOk result (λ copies. value_at store.now.store right.now.id ≡ Some copies.0) }

@@ -36,7 +36,7 @@ pub returns-in-Ok-Done : goal.returns-in-Ok-Done
 returns-in-Ok-Done c =
     let key : to_z w64 (of_z w64 c.number_at-at.result) ≡ c.number_at-at.result = grind (arith, to_z-of_z) in
     let e = subst (λ k. IsInsertion c.args.store.now c.peek_write.result.now.id k c.take_read-right.result (Ok Done) c.insert.new.self) key
-      (subst (λ (a : Inserted). IsInsertion c.args.store.now c.peek_write.result.now.id (to_z w64 (of_z w64 c.number_at-at.result)) c.take_read-right.result (Ok a) c.insert.new.self) c.in-Ok-Done.field-0-is c.in-Ok-Done.ensures) in
+    (subst (λ (a : Inserted). IsInsertion c.args.store.now c.peek_write.result.now.id (to_z w64 (of_z w64 c.number_at-at.result)) c.take_read-right.result (Ok a) c.insert.new.self) c.in-Ok-Done.field-0-is c.in-Ok-Done.ensures) in
     let came = c.come-draft.ensures.came ∙ ap (λ (n : FrameView). come n c.args.done) c.take_read-right.ensures.rest in
     let is = c.go_on.ensures ∙ ap (λ (n : FrameView). record n { position = at_next_place n.position; spent = n.spent + 1 }) came in
     record {
@@ -51,7 +51,7 @@ pub returns-in-Ok-Present : goal.returns-in-Ok-Present
 returns-in-Ok-Present c =
     let key : to_z w64 (of_z w64 c.number_at-at.result) ≡ c.number_at-at.result = grind (arith, to_z-of_z) in
     let e = subst (λ k. IsInsertion c.args.store.now c.peek_write.result.now.id k c.take_read-right.result (Ok (Present c.in-Ok-Present.back)) c.insert.new.self) key
-      (subst (λ (a : Inserted). IsInsertion c.args.store.now c.peek_write.result.now.id (to_z w64 (of_z w64 c.number_at-at.result)) c.take_read-right.result (Ok a) c.insert.new.self) c.in-Ok-Present.field-0-is c.in-Ok-Present.ensures) in
+    (subst (λ (a : Inserted). IsInsertion c.args.store.now c.peek_write.result.now.id (to_z w64 (of_z w64 c.number_at-at.result)) c.take_read-right.result (Ok a) c.insert.new.self) c.in-Ok-Present.field-0-is c.in-Ok-Present.ensures) in
     let same = put_back c.args.frame.now c.take_read-right.new.self c.fill.new.self c.args.member (held.Read c.take_read-right.result) (held.Read c.in-Ok-Present.back) c.take_read-right.ensures.taken c.take_read-right.ensures.rest (ap held.Read e.1) c.fill.ensures in
     let came = c.come-draft-in-Ok-Present.ensures.came ∙ ap (λ (n : FrameView). come n c.args.done) same in
     let is = c.skip.ensures ∙ ap (λ (n : FrameView). record n { position = at_goal n.position c.args.skip; spent = n.spent + 1 }) came in

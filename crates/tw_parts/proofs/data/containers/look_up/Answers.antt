@@ -33,11 +33,11 @@ pub returns-in-None-clause-done : goal.returns-in-None-clause-done
 returns-in-None-clause-done c =
     let key : to_z w64 (of_z w64 c.int-at.result) ≡ c.int-at.result = grind (arith, to_z-of_z) in
     looked_none c.args.member c.args.container c.args.subscript c.args.skip c.args.store.now c.args.frame.now c.requires c.peek_read.result.now c.peek_read.ensures c.int-at.result c.int-at.ensures c.look.new.self
-      (subst (λ k. IsLook c.args.store.now c.peek_read.result.now.id k None c.look.new.self) key c.in-None.ensures) c.skip.new.self c.skip.ensures
+    (subst (λ k. IsLook c.args.store.now c.peek_read.result.now.id k None c.look.new.self) key c.in-None.ensures) c.skip.new.self c.skip.ensures
 
 pub returns-in-Some-clause-done : goal.returns-in-Some-clause-done
 returns-in-Some-clause-done c =
     let key : to_z w64 (of_z w64 c.int-at.result) ≡ c.int-at.result = grind (arith, to_z-of_z) in
     looked_some c.args.member c.args.container c.args.subscript c.args.skip c.args.store.now c.args.frame.now c.requires c.peek_read.result.now c.peek_read.ensures c.int-at.result c.int-at.ensures c.look.new.self c.in-Some.right
-      (subst (λ k. IsLook c.args.store.now c.peek_read.result.now.id k (Some c.in-Some.right) c.look.new.self) key c.in-Some.ensures)
-      c.go_on.new.self (c.go_on.ensures ∙ ap (λ (n : FrameView). record n { position = at_next_place n.position; spent = n.spent + 1 }) c.fill.ensures)
+    (subst (λ k. IsLook c.args.store.now c.peek_read.result.now.id k (Some c.in-Some.right) c.look.new.self) key c.in-Some.ensures)
+    c.go_on.new.self (c.go_on.ensures ∙ ap (λ (n : FrameView). record n { position = at_next_place n.position; spent = n.spent + 1 }) c.fill.ensures)

@@ -27,4 +27,4 @@ returns-clause-done c =
     let few = size_few c.args.to c.args.container c.args.store.now c.args.frame.now c.requires.may c.peek_read.result.now c.peek_read.ensures in
     let low : c.size-size.result < 2 ^ 63 = omega (arith, few, c.size-size.ensures) in
     size_done c.args.to c.args.container c.args.store.now c.args.frame.now c.requires.may c.peek_read.result.now c.peek_read.ensures c.size-size.result c.size-size.ensures c.give.new.frame
-      (c.give.ensures.given ∙ ap (λ (n : ℤ). record c.args.frame.now { position = at_next_place (with_value c.args.frame.now.position c.args.to (value.Int n)); spent = c.args.frame.now.spent + 1 }) (to_z_pos w64 c.size-size.result low))
+    (c.give.ensures.given ∙ ap (λ (n : ℤ). record c.args.frame.now { position = at_next_place (with_value c.args.frame.now.position c.args.to (value.Int n)); spent = c.args.frame.now.spent + 1 }) (to_z_pos w64 c.size-size.result low))

@@ -24,7 +24,7 @@ returns-in-Some-clause-done c =
     let key : to_z w64 (of_z w64 c.int-count.result) ≡ c.int-count.result = grind (arith, to_z-of_z) in
     let found : to_z w64 (of_z w64 c.in-Some.at) ≡ c.in-Some.at = grind (arith, to_z-of_z) in
     subscript_some c.args.to c.args.container c.args.index c.args.skip c.args.store.now c.args.frame.now c.requires.may c.peek_read.result.now c.peek_read.ensures c.int-count.result c.int-count.ensures c.in-Some.at (ap (λ k. subscript_after k (keys (members_at c.args.store.now.store c.peek_read.result.now.id))) (sym key) ∙ sym c.in-Some.ensures) c.give.new.frame
-      (c.give.ensures.given ∙ ap (λ (n : ℤ). record c.args.frame.now { position = at_next_place (with_value c.args.frame.now.position c.args.to (value.Int n)); spent = c.args.frame.now.spent + 1 }) found)
+    (c.give.ensures.given ∙ ap (λ (n : ℤ). record c.args.frame.now { position = at_next_place (with_value c.args.frame.now.position c.args.to (value.Int n)); spent = c.args.frame.now.spent + 1 }) found)
 
 pub returns-in-None-clause-done : goal.returns-in-None-clause-done
 returns-in-None-clause-done c =

@@ -19,4 +19,4 @@ fill-requires-clause-empty c = copy_read_empty c.args.to c.args.from c.args.stor
 pub returns-clause-done : goal.returns-clause-done
 returns-clause-done c =
     read_copied_done c.args.to c.args.from c.args.store.now c.args.frame.now c.requires c.peek_read.result.now c.peek_read.ensures c.copy_read-right.new.self c.copy_read-right.result c.copy_read-right.ensures.right c.copy_read-right.ensures.counted
-      c.go_on.new.self (c.go_on.ensures ∙ ap (λ (n : FrameView). record n { position = at_next_place n.position; spent = n.spent + 1 }) c.fill.ensures)
+    c.go_on.new.self (c.go_on.ensures ∙ ap (λ (n : FrameView). record n { position = at_next_place n.position; spent = n.spent + 1 }) c.fill.ensures)

@@ -19,7 +19,7 @@ fill-requires-clause-empty c = copy_write_empty c.args.to c.args.from c.args.sto
 pub returns-clause-done : goal.returns-clause-done
 returns-clause-done c =
     write_copied_done c.args.to c.args.from c.args.store.now c.args.frame.now c.requires c.peek_write.result.now c.peek_write.ensures c.copy_write-right.new.self c.copy_write-right.result c.copy_write-right.ensures.right c.copy_write-right.ensures.counted
-      c.go_on.new.self (c.go_on.ensures ∙ ap (λ (n : FrameView). record n { position = at_next_place n.position; spent = n.spent + 1 }) c.fill.ensures)
+    c.go_on.new.self (c.go_on.ensures ∙ ap (λ (n : FrameView). record n { position = at_next_place n.position; spent = n.spent + 1 }) c.fill.ensures)
 
 pub copy_write-right-requires-clause-allowed : goal.copy_write-right-requires-clause-allowed
 copy_write-right-requires-clause-allowed c = copy_write_allowed c.args.to c.args.from c.args.store.now c.args.frame.now c.requires c.peek_write.result.now c.peek_write.ensures

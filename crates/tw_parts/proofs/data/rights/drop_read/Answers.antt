@@ -16,4 +16,4 @@ drop_read-requires-clause-allowed c = drop_read_allowed c.args.datum c.args.stor
 pub returns-clause-done : goal.returns-clause-done
 returns-clause-done c =
     read_dropped_done c.args.datum c.args.store.now c.args.frame.now c.requires c.take_read-right.result c.take_read-right.ensures.taken c.drop_read.new.self c.drop_read.ensures.dropped c.drop_read.ensures.places c.drop_read.ensures.quiet
-      c.go_on.new.self (c.go_on.ensures ∙ ap (λ (n : FrameView). record n { position = at_next_place n.position; spent = n.spent + 1 }) c.take_read-right.ensures.rest)
+    c.go_on.new.self (c.go_on.ensures ∙ ap (λ (n : FrameView). record n { position = at_next_place n.position; spent = n.spent + 1 }) c.take_read-right.ensures.rest)

@@ -22,8 +22,8 @@ pub returns : goal.returns
 returns c =
     let e = c.in-Ok.ensures in
     let is = c.go_on.ensures ∙ ap (λ (n : FrameView). record n { position = at_next_place n.position; spent = n.spent + 1 })
-        (c.fill-2.ensures ∙ ap (λ (n : FrameView). record n { held = slice_set n.held c.args.read (Some (held.Read c.in-Ok.rights.1)) })
-          (c.fill.ensures ∙ ap (λ (n : FrameView). record n { held = slice_set n.held c.args.write (Some (held.Write c.in-Ok.rights.0)) }) c.come-draft.ensures.came)) in
+    (c.fill-2.ensures ∙ ap (λ (n : FrameView). record n { held = slice_set n.held c.args.read (Some (held.Read c.in-Ok.rights.1)) })
+    (c.fill.ensures ∙ ap (λ (n : FrameView). record n { held = slice_set n.held c.args.write (Some (held.Write c.in-Ok.rights.0)) }) c.come-draft.ensures.came)) in
     record {
       is_done = made_done c.args.write c.args.read c.args.ty c.args.store.now (come c.args.frame.now c.args.done) c.requires.may c.create.new.self c.in-Ok.rights.0 c.in-Ok.rights.1 e.write e.read e.made e.places e.here e.quiet c.go_on.new.self is;
       is_draft = c.come-draft.ensures.draft ∙ ap draft_of c.come-draft.ensures.came ∙ sym (ap draft_of is);

@@ -4,14 +4,14 @@ use Rattle.std.specs.FinMap.{get, insert}
 use Rattle.tw_types.specs.declared.event.Event.TheVariants.{Call}
 use Rattle.tw_frame.specs.Jobs.{DraftView, FrameView}
 use Rattle.tw_parts.specs.Coming.{come}
-use Rattle.tw_parts.specs.Data.{TakesMemory}
+use Rattle.tw_parts.specs.Memory.{TakesMemory}
 use Rattle.tw_parts.specs.declared.parts.Parts.{Parts}
 use Rattle.tw_parts.specs.Events.{IsDrafted, IsOwed, Makes, MakesBehind, Untouched, with_done}
 use Rattle.tw_parts.proofs.Answering.{when_back, when_done, when_drafted, when_refused}
 use Rattle.tw_parts.proofs.Calling.{called, may_do}
 use Rattle.tw_parts.proofs.Law.{runner_has_seat}
 use Rattle.tw_parts.proofs.Seating.{again, get_own, same_seat}
-use Rattle.tw_parts.proofs.parts.Parts.data.Goals as goal
+use Rattle.tw_parts.proofs.parts.Parts.call_data.Goals as goal
 
 pub data-requires-clause-seat : goal.data-requires-clause-seat
 data-requires-clause-seat c =
@@ -22,9 +22,12 @@ data-requires-clause-seat c =
 pub data-requires-clause-sits : goal.data-requires-clause-sits
 data-requires-clause-sits c =
     let s = c.requires.stands in
-    let done = c.args.done in
-    (s.f, s.owed.sits, s.owed.own,
-     may_do done.before.program s.layout (with_done c.args.self.now c.args.actor s.f done) s.notices s.parts c.args.actor (come s.f done) s.q c.args.instr.now (get_own c.args.self.now.seats c.args.actor (come s.f done)) s.here s.behind s.small)
+    let done = c.args.done in (
+      s.f,
+      s.owed.sits,
+      s.owed.own,
+      may_do done.before.program s.layout (with_done c.args.self.now c.args.actor s.f done) s.notices s.parts c.args.actor (come s.f done) s.q c.args.instr.now (get_own c.args.self.now.seats c.args.actor (come s.f done)) s.here s.behind s.small,
+    )
 
 pub returns-clause-called : goal.returns-clause-called
 returns-clause-called c =
@@ -34,10 +37,10 @@ returns-clause-called c =
     let e = c.data.ensures s.f s.owed.sits in
     let new : Parts = record old { store = c.data.new.store; seats = c.data.new.self } in
     when_done c.args.instr.now old.store c.data.new.store s.f e.0 done (MakesBehind (Call c.args.actor) old c.args.actor done new) c.data.result e.2 (λ o. λ layout f owed.
-      let same : s.f ≡ f = same_Some s.f f (sym s.owed.sits ∙ owed.sits) in
-      subst (λ (x : FrameView). Makes done.before.program layout (Call c.args.actor) (with_done old c.args.actor x done) new) same (λ notices h.
-        called done.before.program layout (with_done old c.args.actor s.f done) notices h c.args.actor (come s.f done) s.q c.args.instr.now (get_own old.seats c.args.actor (come s.f done)) s.here s.behind new e.0 o
-          (e.1 ∙ sym (again old.seats c.args.actor (come s.f done) e.0)) refl refl refl refl))
+    let same : s.f ≡ f = same_Some s.f f (sym s.owed.sits ∙ owed.sits) in
+    subst (λ (x : FrameView). Makes done.before.program layout (Call c.args.actor) (with_done old c.args.actor x done) new) same (λ notices h.
+    called done.before.program layout (with_done old c.args.actor s.f done) notices h c.args.actor (come s.f done) s.q c.args.instr.now (get_own old.seats c.args.actor (come s.f done)) s.here s.behind new e.0 o
+    (e.1 ∙ sym (again old.seats c.args.actor (come s.f done) e.0)) refl refl refl refl))
 
 pub returns-clause-drafted : goal.returns-clause-drafted
 returns-clause-drafted c =
@@ -74,4 +77,4 @@ returns-clause-memory c =
     let s = c.requires.stands in
     let e = c.data.ensures s.f s.owed.sits in
     when_refused c.args.instr.now c.args.self.now.store c.data.new.store s.f e.0 c.args.done ((f : FrameView) → IsOwed c.args.self.now c.args.actor f c.args.done → TakesMemory c.args.instr.now c.args.self.now.store (come f c.args.done)) c.data.result e.2 (λ back r. λ f owed.
-      subst (λ (x : FrameView). TakesMemory c.args.instr.now c.args.self.now.store (come x c.args.done)) (same_Some s.f f (sym s.owed.sits ∙ owed.sits)) r.memory)
+    subst (λ (x : FrameView). TakesMemory c.args.instr.now c.args.self.now.store (come x c.args.done)) (same_Some s.f f (sym s.owed.sits ∙ owed.sits)) r.memory)
