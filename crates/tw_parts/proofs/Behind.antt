@@ -61,10 +61,15 @@ module _ (old : Parts) (actor : Actor) (done : DoneView) (instr : Instr) (s : St
 
     pub sits_ready : (vals : List Value) → each Some vals ≡ named_values done.after.values params registers
         → (x : FrameView) × (get old.seats actor ≡ Some x) × (done.before ≡ job_of x) × (x.spent + done.steps < 2 ^ 63) × (done.after.place < 2 ^ 63) × IsSome (bundled x.held params registers vals)
-    sits_ready vals are =
-        (s.f, s.owed.sits, s.owed.own, spent_there, place_there,
-         subst (λ ps. IsSome (bundled s.f.held ps registers vals)) (sym params_is) (subst (λ rs. IsSome (bundled s.f.held u.procedure.params rs vals)) (sym registers_is)
-           (may_bundle done.before.program s.layout there s.notices s.parts actor (come s.f done) s.q action runs_there u vals (so_named vals are))))
+    sits_ready vals are = (
+      s.f,
+      s.owed.sits,
+      s.owed.own,
+      spent_there,
+      place_there,
+      subst (λ ps. IsSome (bundled s.f.held ps registers vals)) (sym params_is) (subst (λ rs. IsSome (bundled s.f.held u.procedure.params rs vals)) (sym registers_is)
+          (may_bundle done.before.program s.layout there s.notices s.parts actor (come s.f done) s.q action runs_there u vals (so_named vals are))),
+    )
 
 -- ---- when it was done
 

@@ -1,5 +1,5 @@
 -- RULE and PUT: the values that are copied.
-use Rattle.std.proofs.Common.{map as each, length, arith, ◌≡◌, ◌≢◌, ◌<◌, ◌≤◌, ℕ, zero, suc, Bool, true, false, not, ◌||◌, ◌&&◌, if◌then◌else◌, List, [], ◌∷◌, ◌++◌, take, Option, Some, None, refl, sym, ap, subst, ◌∙◌, slice_get}
+use Rattle.std.proofs.Common.{map as each, length, arith, ◌≡◌, ◌≢◌, ◌<◌, ◌≤◌, ◌+◌, ℕ, zero, suc, Bool, true, false, not, ◌||◌, ◌&&◌, if◌then◌else◌, List, [], ◌∷◌, ◌++◌, take, Option, Some, None, refl, sym, ap, subst, ◌∙◌, slice_get}
 use Rattle.std.proofs.lemmas.Bool.{and_parts}
 use Rattle.std.proofs.lemmas.List.{append-nil, map-append}
 use Rattle.std.proofs.lemmas.Option.{same_Some}
@@ -66,7 +66,7 @@ named_more values (q ∷ params) (r ∷ registers) (suc k) p register at named =
   where
     by : (b : Bool) → named_values values (take (suc k) params) (take (suc k) registers) ≡ named_values values (take k params) (take k registers) ++ one_value values p register
         → (if b then slice_get values r ∷ named_values values (take (suc k) params) (take (suc k) registers) else named_values values (take (suc k) params) (take (suc k) registers))
-            ≡ (if b then slice_get values r ∷ named_values values (take k params) (take k registers) else named_values values (take k params) (take k registers)) ++ one_value values p register
+        ≡ (if b then slice_get values r ∷ named_values values (take k params) (take k registers) else named_values values (take k params) (take k registers)) ++ one_value values p register
     by true e = ap (λ xs. slice_get values r ∷ xs) e
     by false e = e
 
@@ -96,13 +96,16 @@ is_declared values (q ∷ params) (r ∷ registers) (suc k) p register suit at n
 -- the values so far, with one more parameter
 module _ (values : List Value) (params : List Param) (registers : List ℕ) (k : ℕ) (p : Param) (register : ℕ) (at : slice_get params k ≡ Some p) (named : slice_get registers k ≡ Some register)
     (vals : List Value) (so_far : each Some vals ≡ named_values values (take k params) (take k registers)) where
-  pub past : is_val p.mode ≡ false → each Some vals ≡ named_values values (take (suc k) params) (take (suc k) registers)
+  next : suc k ≡ k + 1
+  next = omega arith
+
+  pub past : is_val p.mode ≡ false → each Some vals ≡ named_values values (take (k + 1) params) (take (k + 1) registers)
   past val = so_far ∙ sym (append-nil (named_values values (take k params) (take k registers)))
       ∙ ap (λ b. named_values values (take k params) (take k registers) ++ (if b then slice_get values register ∷ [] else [])) (sym val)
-      ∙ sym (named_more values params registers k p register at named)
+      ∙ sym (named_more values params registers k p register at named) ∙ ap (λ n. named_values values (take n params) (take n registers)) next
 
-  pub with_value : is_val p.mode ≡ true → (x : Value) → slice_get values register ≡ Some x → (new : List Value) → new ≡ vals ++ x ∷ [] → each Some new ≡ named_values values (take (suc k) params) (take (suc k) registers)
+  pub with_value : is_val p.mode ≡ true → (x : Value) → slice_get values register ≡ Some x → (new : List Value) → new ≡ vals ++ x ∷ [] → each Some new ≡ named_values values (take (k + 1) params) (take (k + 1) registers)
   with_value val x there new is = ap (each Some) is ∙ map-append Some vals (x ∷ []) ∙ ap (λ xs. xs ++ Some x ∷ []) so_far
       ∙ ap (λ o. named_values values (take k params) (take k registers) ++ o ∷ []) (sym there)
       ∙ ap (λ b. named_values values (take k params) (take k registers) ++ (if b then slice_get values register ∷ [] else [])) (sym val)
-      ∙ sym (named_more values params registers k p register at named)
+      ∙ sym (named_more values params registers k p register at named) ∙ ap (λ n. named_values values (take n params) (take n registers)) next

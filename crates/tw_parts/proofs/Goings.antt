@@ -91,8 +91,8 @@ module _ (verified : TypedProgram) (layout : ActorCounts) (old : Parts) (notices
   may_stand p here =
       let fits = h.stand.frames actor f runs in
       stands_fresh p f.spent f.position
-        (stands_there verified.program (typings_of verified) h.runnable.is h.runnable.right (state_of old notices) (held verified layout old notices h) actor (bare_frame f) in_frames p
-          (ap (λ (v : TypedProgram). slice_get v.program f.procedure) (sym fits.program) ∙ here))
+      (stands_there verified.program (typings_of verified) h.runnable.is h.runnable.right (state_of old notices) (held verified layout old notices h) actor (bare_frame f) in_frames p
+      (ap (λ (v : TypedProgram). slice_get v.program f.procedure) (sym fits.program) ∙ here))
 
 -- the number under which it was lent isn't the machine's
 module _ (old : Parts) (actor : Actor) (f : FrameView) (runs : get old.seats actor ≡ Some f) (event_no : ℕ) where

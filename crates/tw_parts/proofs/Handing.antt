@@ -174,15 +174,15 @@ module _ (places : Places) (values : List Value) (p : Param) (params : List Para
       → as_right (option_flatten (slice_get (bare_file held) register)) (bare.handed_over values (slice_set (bare_file held) register None) params registers) ≡ Ok given → Handed places (p ∷ params) (register ∷ registers) held vals given
   right_case vals is suits placed rest e =
       by (slice_index_or held register None) refl suits
-        (subst (λ o. as_right o (bare.handed_over values (bare_file (set held register None)) params registers) ≡ Ok given) (seen_at held register)
-          (subst (λ rs. as_right (option_flatten (slice_get (bare_file held) register)) (bare.handed_over values rs params registers) ≡ Ok given) (sym (map-set (option_map id_of) held register None)) e))
+      (subst (λ o. as_right o (bare.handed_over values (bare_file (set held register None)) params registers) ≡ Ok given) (seen_at held register)
+      (subst (λ rs. as_right (option_flatten (slice_get (bare_file held) register)) (bare.handed_over values rs params registers) ≡ Ok given) (sym (map-set (option_map id_of) held register None)) e))
     where
       by_rest : (h : Held) → slice_index_or held register None ≡ Some h → Suits p.mode (Some h) → (r : Result bare.HandedOver Cause) → bare.handed_over values (bare_file (set held register None)) params registers ≡ r
           → as_right (Some (id_of h)) (bare.handed_over values (bare_file (set held register None)) params registers) ≡ Ok given → Handed places (p ∷ params) (register ∷ registers) held vals given
       by_rest h at s (Ok others) r e =
           let same = ok_is (bare.with_arg (RightArg (id_of h)) others) given (sym (ap (as_right (Some (id_of h))) r) ∙ e) in
           subst (Handed places (p ∷ params) (register ∷ registers) held vals) same
-            (by_right places p params register registers held vals h is (leaves places p register held vals h is at s (placed_at places held register h placed at)) others (rest others r))
+          (by_right places p params register registers held vals h is (leaves places p register held vals h is at s (placed_at places held register h placed at)) others (rest others r))
       by_rest h at s (Err why) r e = let no : ◌≡◌ {A = Result bare.HandedOver Cause} (Err why) (Ok given) = sym (ap (as_right (Some (id_of h))) r) ∙ e in cc
 
       by : (o : Option Held) → slice_index_or held register None ≡ o → Suits p.mode o → as_right (option_map id_of (slice_index_or held register None)) (bare.handed_over values (bare_file (set held register None)) params registers) ≡ Ok given
@@ -213,6 +213,6 @@ handed places values held [] registers vals given long e suits are placed =
 handed places values held (p ∷ params) [] vals given long e suits are placed = absurd (omega arith)
 handed places values held (p ∷ params) (register ∷ registers) vals given long e suits are placed =
     either places values p params register registers held given (is_val p.mode) refl vals suits are placed
-      (λ v s a others q. handed places values held params registers v others (omega (arith, long)) q s a placed)
-      (λ s a others q. handed places values (set held register None) params registers vals others (omega (arith, long)) q s a (placed_without places held register placed))
-      e
+    (λ v s a others q. handed places values held params registers v others (omega (arith, long)) q s a placed)
+    (λ s a others q. handed places values (set held register None) params registers vals others (omega (arith, long)) q s a (placed_without places held register placed))
+    e

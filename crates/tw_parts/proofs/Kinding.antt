@@ -75,7 +75,7 @@ module _ (waits : Bool) (declared : List Scalar) where
   suited (p ∷ params) [] held typing e met = tt
   suited (p ∷ params) (register ∷ registers) held typing e met = by (is_val p.mode) met (suited params registers held typing e)
       (λ m. suited params registers (set held register None) (slice_set typing register None)
-        (map-set (option_map writes) held register None ∙ ap (λ ks. set ks register None) e ∙ sym (map-set (option_map (λ (t : RightType). is_write t.mode)) typing register None)) m)
+      (map-set (option_map writes) held register None ∙ ap (λ ks. set ks register None) e ∙ sym (map-set (option_map (λ (t : RightType). is_write t.mode)) typing register None)) m)
     where
       by : (b : Bool)
           → AllYes (if b then asks_value declared register p.ty.scalar ++ asks_args waits declared params registers typing else (4, passes (may_stand_for waits p) (right_at typing register)) ∷ asks_args waits declared params registers (slice_set typing register None))
@@ -91,7 +91,7 @@ kinds_left [] registers held typing e = e
 kinds_left (p ∷ params) [] held typing e = e
 kinds_left (p ∷ params) (register ∷ registers) held typing e = by (is_val p.mode) (kinds_left params registers held typing e)
     (kinds_left params registers (set held register None) (slice_set typing register None)
-      (map-set (option_map writes) held register None ∙ ap (λ ks. set ks register None) e ∙ sym (map-set (option_map (λ (t : RightType). is_write t.mode)) typing register None)))
+    (map-set (option_map writes) held register None ∙ ap (λ ks. set ks register None) e ∙ sym (map-set (option_map (λ (t : RightType). is_write t.mode)) typing register None)))
   where
     by : (b : Bool) → kinds_of (without_held held params registers) ≡ kinds_in (without_args params registers typing)
         → kinds_of (without_held (set held register None) params registers) ≡ kinds_in (without_args params registers (slice_set typing register None))

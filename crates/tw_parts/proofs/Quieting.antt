@@ -153,7 +153,7 @@ module _ (p : Parts) (notices : Notices) where
       let inside = within p.store.queues server n first in
       let there = has p.store.queues notices q server inside n is.rest is.is in
       told_so (set_of.len notices) (λ none. let no : false ≡ true = sym (ap (λ (s : Notices). set_of.contains s n) (set_of.empty_of_len notices none) ∙ set_of.contains-empty notice_cmp n) ∙ there in cc)
-        (map.len (mapped bare_frame p.seats) == 0) (map.len (mapped bare_task p.tasks.tasks) == 0) (has_idle_rules (state_of p notices))
+      (map.len (mapped bare_frame p.seats) == 0) (map.len (mapped bare_task p.tasks.tasks) == 0) (has_idle_rules (state_of p notices))
     where
       within : (queues : List (List Notice)) (k : ℕ) (n : Notice) → slice_get (queue_at queues k) 0 ≡ Some n → k < length queues
       within [] k n e = cc
@@ -181,7 +181,7 @@ module _ (p : Parts) (notices : Notices) where
 pub quiet_or : (p : Parts) (notices : Notices) (engines : ℕ) → AreQueued p.store.queues notices → 0 < length p.store.queues → AreOfEngines engines p.rules.rules
     → map.len p.seats ≡ 0 → map.len p.tasks.tasks ≡ 0 → ((server : ℕ) → server < length p.store.queues → slice_get (queue_at p.store.queues server) 0 ≡ None)
     → (b : Bool) → MatchBool b ((engine : ℕ) × ((is_some (next_ask engine p.rules.rules) ≡ true) ⊎ (is_some (next_release engine p.rules.rules) ≡ true)))
-        ((engine : ℕ) → engine < engines → (next_ask engine p.rules.rules ≡ None) × (next_release engine p.rules.rules ≡ None))
+    ((engine : ℕ) → engine < engines → (next_ask engine p.rules.rules ≡ None) × (next_release engine p.rules.rules ≡ None))
     → not b ≡ is_quiet (state_of p notices)
 quiet_or p notices engines q some below frames tasks queues true work = sym (working p notices work.0 work.1)
 quiet_or p notices engines q some below frames tasks queues false work =

@@ -66,7 +66,7 @@ module _ (verified : TypedProgram) (layout : ActorCounts) (old : Parts) (notices
   target =
       let it = (in_layout verified layout old notices h).rules number found.rule pending in
       target_below layout procedure.0.kind its.x.target h.runnable.counts
-        (subst (λ (r : Rule). up_to r.target ≤ count_of layout procedure.0.kind) (sym its.is) (it.target procedure.0 (ap (λ (r : Rule). slice_get verified.program r.procedure) (sym its.is) ∙ procedure.1)))
+      (subst (λ (r : Rule). up_to r.target ≤ count_of layout procedure.0.kind) (sym its.is) (it.target procedure.0 (ap (λ (r : Rule). slice_get verified.program r.procedure) (sym its.is) ∙ procedure.1)))
 
   module _ (free : get old.seats (Engine engine) ≡ None) where
     goes : step verified.program layout (Release engine number) (state_of old notices) ≡ Went (with_task (record (state_of old notices) { rules = remove (mapped bare_rule old.rules.rules) number }) (task_from procedure.0.kind found.rule))

@@ -78,7 +78,7 @@ found_at a n (suc j) (None ∷ seats) is = let next : n + suc j ≡ suc n + j = 
 found_at a n (suc j) (Some f ∷ seats) is =
     let next : n + suc j ≡ suc n + j = omega arith in
     ap (λ b. cond b (Some f) (find actor_cmp a (who_sit (suc n) seats)))
-        (other_actor a (actor_of n) (λ same. let e : n + suc j ≡ n = sym (seat_is (n + suc j)) ∙ ap seat_of (sym is ∙ same) ∙ seat_is n in omega arith))
+    (other_actor a (actor_of n) (λ same. let e : n + suc j ≡ n = sym (seat_is (n + suc j)) ∙ ap seat_of (sym is ∙ same) ∙ seat_is n in omega arith))
     ∙ found_at a (suc n) j seats (is ∙ ap actor_of next)
 
 none_more : (n : ℕ) → n ≡ 0 + n

@@ -107,9 +107,9 @@ module _ (verified : TypedProgram) (layout : ActorCounts) (old : Parts) (notices
       let same_procedure : its.x.procedure ≡ found.rule.procedure = ap (λ (r : Rule). r.procedure) its.is in
       let params : params_of verified.program its.x.procedure ≡ p.0.params = ap (params_of verified.program) same_procedure ∙ ap params_in p.1 in
       asked_reads old.store.store old.store.places p.0.params its.x.stages its.x.args parameter
-        (subst (λ (r : Rule). RuleArgsFit old.store.store p.0.params r.stages r.args) (sym its.is) fit)
-        (subst (λ ps. ArgsStand old.store.places ps its.x.args) params (h.stand.rules number its.x its.there))
-        stage_there
+      (subst (λ (r : Rule). RuleArgsFit old.store.store p.0.params r.stages r.args) (sym its.is) fit)
+      (subst (λ ps. ArgsStand old.store.places ps its.x.args) params (h.stand.rules number its.x its.there))
+      stage_there
 
   pub right_is : right_at old.rules.rules number parameter ≡ Some reads.right
   right_is = let e = reads.there in rw (its.there, e) refl

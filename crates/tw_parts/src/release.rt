@@ -27,11 +27,7 @@ pub(crate) fn procedure_at(procedures: &[Procedure], number: u8) -> &Procedure
 
 impl<'a> Parts<'a> {
     /// The rule that an engine without a task releases next, if there is one.
-    pub fn release(
-        &mut self,
-        verified: &Verified,
-        engine: u8,
-    ) -> Result<Option<RuleNo>, AllocError>
+    pub fn release(&mut self, verified: &Verified, engine: u8) -> Result<Option<RuleNo>, AllocError>
         requires free { get self.old.seats (Engine engine) ≡ None }
         requires number { self.old.next_task < 2 ^ 63 }
         requires parts { (layout : ActorCounts) × (notices : Notices) × AreParts verified.now layout self.old notices }

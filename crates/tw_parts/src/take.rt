@@ -32,7 +32,7 @@ impl<'a> Parts<'a> {
         requires parts { (layout : ActorCounts) × (notices : Notices) × AreParts verified.now layout self.old notices × (is_in layout actor ≡ true) }
         ensures { IsTaken (best actor self.old.tasks.tasks)
             (λ (e : ℕ × TaskOf Arg) (job : JobView). ((f : FrameView) × (get self.new.seats actor ≡ Some f) × (f.event_no ≡ event_no) × (job ≡ job_of f))
-                × ((layout : ActorCounts) → is_in layout actor ≡ true → Makes verified.now layout (event.Take actor) self.old self.new))
+            × ((layout : ActorCounts) → is_in layout actor ≡ true → Makes verified.now layout (event.Take actor) self.old self.new))
             (Untouched self.old self.new) result }
     {
         let Some(best) = self.tasks.best(actor) else {

@@ -32,23 +32,29 @@ mark_asked-requires c =
     stage_is p.0 p.1 c.args.self.now p.2 p.3 c.args.engine c.in-Some.next.0 c.in-Some.next.1 (sym c.in-Some.ensures)
 
 pub returns-in-Closed : goal.returns-in-Closed
-returns-in-Closed c = (sym c.in-Some.ensures, λ verified layout notices h.
-    let old = c.args.self.now in
-    let told = subst (λ a. IsAsking {E = AllocError} old.store c.asked_right-right.result.now.id (record { rule = c.in-Some.next.0; parameter = c.in-Some.next.1 }) (Ok a) c.ask.new.self) c.in-Closed.is c.in_ok-asked.ensures in
-    let same : (reads verified layout old notices h c.args.engine c.in-Some.next.0 c.in-Some.next.1 (sym c.in-Some.ensures)).right ≡ c.asked_right-right.result.now = same_Some _ _ (sym (right_is verified layout old notices h c.args.engine c.in-Some.next.0 c.in-Some.next.1 (sym c.in-Some.ensures)) ∙ c.asked_right-right.ensures) in
-    let same_id = ap (λ (r : Right). r.id) same in
-    asks verified layout old notices h c.args.engine c.in-Some.next.0 c.in-Some.next.1 (sym c.in-Some.ensures) c.requires.free _ Ready old.store.store
+returns-in-Closed c = (
+  sym c.in-Some.ensures,
+  λ verified layout notices h.
+      let old = c.args.self.now in
+      let told = subst (λ a. IsAsking {E = AllocError} old.store c.asked_right-right.result.now.id (record { rule = c.in-Some.next.0; parameter = c.in-Some.next.1 }) (Ok a) c.ask.new.self) c.in-Closed.is c.in_ok-asked.ensures in
+      let same : (reads verified layout old notices h c.args.engine c.in-Some.next.0 c.in-Some.next.1 (sym c.in-Some.ensures)).right ≡ c.asked_right-right.result.now = same_Some _ _ (sym (right_is verified layout old notices h c.args.engine c.in-Some.next.0 c.in-Some.next.1 (sym c.in-Some.ensures)) ∙ c.asked_right-right.ensures) in
+      let same_id = ap (λ (r : Right). r.id) same in
+      asks verified layout old notices h c.args.engine c.in-Some.next.0 c.in-Some.next.1 (sym c.in-Some.ensures) c.requires.free _ Ready old.store.store
       (closed_leads verified layout old notices h c.args.engine c.in-Some.next.0 c.in-Some.next.1 (sym c.in-Some.ensures) c.requires.free (rw same_id told.0))
       told.1.store told.1.places told.1.queues
-      c.mark_ready.ensures.rules c.mark_ready.ensures.next refl refl refl refl)
+      c.mark_ready.ensures.rules c.mark_ready.ensures.next refl refl refl refl,
+)
 
 pub returns-in-Noted : goal.returns-in-Noted
-returns-in-Noted c = (sym c.in-Some.ensures, λ verified layout notices h.
-    let old = c.args.self.now in
-    let told = subst (λ a. IsAsking {E = AllocError} old.store c.asked_right-right.result.now.id (record { rule = c.in-Some.next.0; parameter = c.in-Some.next.1 }) (Ok a) c.ask.new.self) c.in-Noted.is c.in_ok-asked.ensures in
-    let same : (reads verified layout old notices h c.args.engine c.in-Some.next.0 c.in-Some.next.1 (sym c.in-Some.ensures)).right ≡ c.asked_right-right.result.now = same_Some _ _ (sym (right_is verified layout old notices h c.args.engine c.in-Some.next.0 c.in-Some.next.1 (sym c.in-Some.ensures)) ∙ c.asked_right-right.ensures) in
-    let same_id = ap (λ (r : Right). r.id) same in
-    asks verified layout old notices h c.args.engine c.in-Some.next.0 c.in-Some.next.1 (sym c.in-Some.ensures) c.requires.free _ Waiting _
+returns-in-Noted c = (
+  sym c.in-Some.ensures,
+  λ verified layout notices h.
+      let old = c.args.self.now in
+      let told = subst (λ a. IsAsking {E = AllocError} old.store c.asked_right-right.result.now.id (record { rule = c.in-Some.next.0; parameter = c.in-Some.next.1 }) (Ok a) c.ask.new.self) c.in-Noted.is c.in_ok-asked.ensures in
+      let same : (reads verified layout old notices h c.args.engine c.in-Some.next.0 c.in-Some.next.1 (sym c.in-Some.ensures)).right ≡ c.asked_right-right.result.now = same_Some _ _ (sym (right_is verified layout old notices h c.args.engine c.in-Some.next.0 c.in-Some.next.1 (sym c.in-Some.ensures)) ∙ c.asked_right-right.ensures) in
+      let same_id = ap (λ (r : Right). r.id) same in
+      asks verified layout old notices h c.args.engine c.in-Some.next.0 c.in-Some.next.1 (sym c.in-Some.ensures) c.requires.free _ Waiting _
       (open_leads verified layout old notices h c.args.engine c.in-Some.next.0 c.in-Some.next.1 (sym c.in-Some.ensures) c.requires.free (rw same_id told.0))
       (rw same_id told.1.store) told.1.places told.1.queues
-      c.mark_asked.ensures.rules c.mark_asked.ensures.next refl refl refl refl)
+      c.mark_asked.ensures.rules c.mark_asked.ensures.next refl refl refl refl,
+)

@@ -29,8 +29,8 @@ returns c = λ verified notices h.
     let frames : map.len c.args.self.now.seats ≡ 0 = grind (arith, nat_tests, c.running.ensures, c.if-running-ne0.false) in
     let tasks : map.len c.args.self.now.tasks.tasks ≡ 0 = grind (arith, nat_tests, c.len.ensures, c.if-len-ne0.false) in
     quiet_or c.args.self.now notices c.args.layout.engines h.queued (omega (arith, h.servers, h.runnable.counts.some_server))
-      (λ number r there. ((in_layout verified c.args.layout c.args.self.now notices h).rules number (bare_rule r) (seen bare_rule c.args.self.now.rules.rules number (Some r) there)).engine)
-      frames tasks (λ server low. c.if-has_notice.ensures server (omega (arith, low, h.servers, c.servers.ensures)))
-      c.has_work.result 
-      (subst (λ n. MatchBool c.has_work.result ((engine : ℕ) × ((is_some (next_ask engine c.args.self.now.rules.rules) ≡ true) ⊎ (is_some (next_release engine c.args.self.now.rules.rules) ≡ true)))
-        ((engine : ℕ) → engine < n → (next_ask engine c.args.self.now.rules.rules ≡ None) × (next_release engine c.args.self.now.rules.rules ≡ None))) c.engines.ensures c.has_work.ensures)
+    (λ number r there. ((in_layout verified c.args.layout c.args.self.now notices h).rules number (bare_rule r) (seen bare_rule c.args.self.now.rules.rules number (Some r) there)).engine)
+    frames tasks (λ server low. c.if-has_notice.ensures server (omega (arith, low, h.servers, c.servers.ensures)))
+    c.has_work.result
+    (subst (λ n. MatchBool c.has_work.result ((engine : ℕ) × ((is_some (next_ask engine c.args.self.now.rules.rules) ≡ true) ⊎ (is_some (next_release engine c.args.self.now.rules.rules) ≡ true)))
+    ((engine : ℕ) → engine < n → (next_ask engine c.args.self.now.rules.rules ≡ None) × (next_release engine c.args.self.now.rules.rules ≡ None))) c.engines.ensures c.has_work.ensures)

@@ -16,13 +16,16 @@ lend-requires-clause-seat c = let p = c.requires.parts in runner_has_seat c.args
 pub lend-requires-clause-sits : goal.lend-requires-clause-sits
 lend-requires-clause-sits c =
     let p = c.requires.parts in
-    let r = c.requires.drafted in
-    (r.f, r.sits, record {
-      program = ap (λ (d : DraftView). d.program) r.is;
-      procedure = ap (λ (d : DraftView). d.procedure) r.is;
-      values = ap (λ (d : DraftView). d.values) r.is;
-      stands = may_stand c.args.draft.program p.0 c.args.self.now p.1 p.2 c.args.actor r.f r.sits;
-    })
+    let r = c.requires.drafted in (
+      r.f,
+      r.sits,
+      record {
+        program = ap (λ (d : DraftView). d.program) r.is;
+        procedure = ap (λ (d : DraftView). d.procedure) r.is;
+        values = ap (λ (d : DraftView). d.values) r.is;
+        stands = may_stand c.args.draft.program p.0 c.args.self.now p.1 p.2 c.args.actor r.f r.sits;
+      },
+    )
 
 pub returns-clause-lent : goal.returns-clause-lent
 returns-clause-lent c =

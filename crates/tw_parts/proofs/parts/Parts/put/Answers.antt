@@ -85,12 +85,12 @@ returns-clause-put c = λ layout f owed notices h.
     let key : to_z w64 (of_z w64 action.priority) ≡ action.priority = to_z-of_z w64 action.priority (operands program.program h.runnable.is f.procedure s.q here c.args.done.after.place (instr.Put c.args.action.now) s.behind).priority in
     let kind = kind_of_callee c.args.done.before.program.program c.procedures.result.now procedures c.args.action.now.procedure c.procedure_at-callee.result.now c.procedure_at-callee.ensures u.procedure u.is in
     put_goes program layout (with_done old c.args.actor f c.args.done) notices h c.args.actor (come f c.args.done) s.q action runs here s.behind c.in-Ok.vals.items vals c.hand_over-over.result.0 over.0 bundle _
-      (c.in-Ok-put.ensures.put
-      ∙ ap (λ z. insert c.reserve.new.self.tasks c.new.result (record { kind = c.procedure_at-callee.result.now.kind; procedure = action.procedure; priority = z; target = action.target; args = c.hand_over-over.result.0 })) key
-      ∙ ap (λ k. insert c.reserve.new.self.tasks c.new.result (record { kind = k; procedure = action.procedure; priority = action.priority; target = action.target; args = c.hand_over-over.result.0 })) kind
-      ∙ ap (λ ts. insert ts c.new.result (record { kind = u.procedure.kind; procedure = action.procedure; priority = action.priority; target = action.target; args = c.hand_over-over.result.0 })) c.in-Ok-reserve.ensures.same
-      ∙ ap (λ n. insert old.tasks.tasks n (record { kind = u.procedure.kind; procedure = action.procedure; priority = action.priority; target = action.target; args = c.hand_over-over.result.0 })) c.new.ensures)
-      refl seats refl refl refl
+    (c.in-Ok-put.ensures.put
+    ∙ ap (λ z. insert c.reserve.new.self.tasks c.new.result (record { kind = c.procedure_at-callee.result.now.kind; procedure = action.procedure; priority = z; target = action.target; args = c.hand_over-over.result.0 })) key
+    ∙ ap (λ k. insert c.reserve.new.self.tasks c.new.result (record { kind = k; procedure = action.procedure; priority = action.priority; target = action.target; args = c.hand_over-over.result.0 })) kind
+    ∙ ap (λ ts. insert ts c.new.result (record { kind = u.procedure.kind; procedure = action.procedure; priority = action.priority; target = action.target; args = c.hand_over-over.result.0 })) c.in-Ok-reserve.ensures.same
+    ∙ ap (λ n. insert old.tasks.tasks n (record { kind = u.procedure.kind; procedure = action.procedure; priority = action.priority; target = action.target; args = c.hand_over-over.result.0 })) c.new.ensures)
+    refl seats refl refl refl
 
 pub returns-clause-drafted : goal.returns-clause-drafted
 returns-clause-drafted c =

@@ -57,22 +57,25 @@ put-requires-clause-target c =
     subst (λ (x : Action). IsTarget x.target) a (target c.args.verified.now p.0 c.args.self.now p.1 p.2 c.args.engine c.in-Some.rule (sym c.in-Some.ensures))
 
 pub returns : goal.returns
-returns c = (sym c.in-Some.ensures, λ layout notices h.
-    let old = c.args.self.now in
-    let verified = c.args.verified.now in
-    let it = its verified layout old notices h c.args.engine c.in-Some.rule (sym c.in-Some.ensures) in
-    let q = procedure verified layout old notices h c.args.engine c.in-Some.rule (sym c.in-Some.ensures) in
-    let a = its_action _ it.x c.action-action.result it.there c.action-action.ensures in
-    let args = its_args _ it.x c.release-args.result it.there c.release-args.ensures.args in
-    let callee = same_Some q.0 c.procedure_at-callee.result.now (sym (callee_is c.procedures.result.now verified.program it.x c.action-action.result q.0 (c.procedures.ensures.is ∙ c.program.ensures.is) a q.1) ∙ c.procedure_at-callee.ensures) in
-    let kind = c.procedure_at-callee.result.now.kind in
-    let task : waiting kind c.action-action.result.priority c.action-action.result.target (record { no = c.new.result; procedure = c.action-action.result.procedure; args = c.release-args.result }) ≡ task_from kind it.x =
-    λ i. record { kind = kind; procedure = (sym a i).procedure; priority = (sym a i).priority; target = (sym a i).target; args = sym args i } in
-    let key : to_z w64 (of_z w64 c.action-action.result.priority) ≡ c.action-action.result.priority = grind (arith, to_z-of_z) in
-    releases verified layout old notices h c.args.engine c.in-Some.rule (sym c.in-Some.ensures) c.requires.free _ kind (ap (λ (p : Procedure). p.kind) callee)
+returns c = (
+  sym c.in-Some.ensures,
+  λ layout notices h.
+      let old = c.args.self.now in
+      let verified = c.args.verified.now in
+      let it = its verified layout old notices h c.args.engine c.in-Some.rule (sym c.in-Some.ensures) in
+      let q = procedure verified layout old notices h c.args.engine c.in-Some.rule (sym c.in-Some.ensures) in
+      let a = its_action _ it.x c.action-action.result it.there c.action-action.ensures in
+      let args = its_args _ it.x c.release-args.result it.there c.release-args.ensures.args in
+      let callee = same_Some q.0 c.procedure_at-callee.result.now (sym (callee_is c.procedures.result.now verified.program it.x c.action-action.result q.0 (c.procedures.ensures.is ∙ c.program.ensures.is) a q.1) ∙ c.procedure_at-callee.ensures) in
+      let kind = c.procedure_at-callee.result.now.kind in
+      let task : waiting kind c.action-action.result.priority c.action-action.result.target (record { no = c.new.result; procedure = c.action-action.result.procedure; args = c.release-args.result }) ≡ task_from kind it.x =
+      λ i. record { kind = kind; procedure = (sym a i).procedure; priority = (sym a i).priority; target = (sym a i).target; args = sym args i } in
+      let key : to_z w64 (of_z w64 c.action-action.result.priority) ≡ c.action-action.result.priority = grind (arith, to_z-of_z) in
+      releases verified layout old notices h c.args.engine c.in-Some.rule (sym c.in-Some.ensures) c.requires.free _ kind (ap (λ (p : Procedure). p.kind) callee)
       refl c.release-args.ensures.rules c.release-args.ensures.next
       (c.in-Ok-put.ensures.put ∙ ap (λ z. insert c.reserve.new.self.tasks c.new.result (waiting kind z c.action-action.result.target (record { no = c.new.result; procedure = c.action-action.result.procedure; args = c.release-args.result }))) key
       ∙ ap (insert c.reserve.new.self.tasks c.new.result) task
       ∙ ap (λ ts. insert ts c.new.result (task_from kind it.x)) c.in-Ok.ensures.same
       ∙ ap (λ n. insert old.tasks.tasks n (task_from kind it.x)) c.new.ensures)
-      refl refl refl)
+      refl refl refl,
+)

@@ -96,14 +96,14 @@ returns-clause-rule c = λ layout f owed notices h.
     let seats = over.2 ∙ sym (again old.seats c.args.actor (come f c.args.done) (gone_on (come f c.args.done) over.0)) in
     let key : to_z w64 (of_z w64 action.priority) ≡ action.priority = to_z-of_z w64 action.priority (operands program.program h.runnable.is f.procedure s.q here c.args.done.after.place (instr.Rule c.args.action.now) s.behind).priority in
     let made : c.add.new.self.rules ≡ insert old.rules.rules old.rules.next (rule program layout (with_done old c.args.actor f c.args.done) notices h c.args.actor (come f c.args.done) s.q action runs here s.behind c.in-Ok.vals.items vals c.hand_over-over.result.0 over.0 bundle) =
-        c.in-Ok-add.ensures.added
-        ∙ ap (λ z. insert c.reserve.new.self.rules c.reserve.new.self.next (new_rule c.number-engine.result c.as_slice-params.result.now (record { procedure = action.procedure; priority = z; target = action.target }) c.hand_over-over.result.0)) key
-        ∙ ap (λ e. insert c.reserve.new.self.rules c.reserve.new.self.next (new_rule e c.as_slice-params.result.now (record { procedure = action.procedure; priority = action.priority; target = action.target }) c.hand_over-over.result.0)) c.number-engine.ensures
-        ∙ ap (λ ps. insert c.reserve.new.self.rules c.reserve.new.self.next (new_rule (number_in_kind c.args.actor) ps (record { procedure = action.procedure; priority = action.priority; target = action.target }) c.hand_over-over.result.0)) params
-        ∙ ap (λ rs. insert rs c.reserve.new.self.next (new_rule (number_in_kind c.args.actor) u.procedure.params (record { procedure = action.procedure; priority = action.priority; target = action.target }) c.hand_over-over.result.0)) c.in-Ok-reserve.ensures.rules
-        ∙ ap (λ n. insert old.rules.rules n (new_rule (number_in_kind c.args.actor) u.procedure.params (record { procedure = action.procedure; priority = action.priority; target = action.target }) c.hand_over-over.result.0)) c.in-Ok-reserve.ensures.next in
+    c.in-Ok-add.ensures.added
+    ∙ ap (λ z. insert c.reserve.new.self.rules c.reserve.new.self.next (new_rule c.number-engine.result c.as_slice-params.result.now (record { procedure = action.procedure; priority = z; target = action.target }) c.hand_over-over.result.0)) key
+    ∙ ap (λ e. insert c.reserve.new.self.rules c.reserve.new.self.next (new_rule e c.as_slice-params.result.now (record { procedure = action.procedure; priority = action.priority; target = action.target }) c.hand_over-over.result.0)) c.number-engine.ensures
+    ∙ ap (λ ps. insert c.reserve.new.self.rules c.reserve.new.self.next (new_rule (number_in_kind c.args.actor) ps (record { procedure = action.procedure; priority = action.priority; target = action.target }) c.hand_over-over.result.0)) params
+    ∙ ap (λ rs. insert rs c.reserve.new.self.next (new_rule (number_in_kind c.args.actor) u.procedure.params (record { procedure = action.procedure; priority = action.priority; target = action.target }) c.hand_over-over.result.0)) c.in-Ok-reserve.ensures.rules
+    ∙ ap (λ n. insert old.rules.rules n (new_rule (number_in_kind c.args.actor) u.procedure.params (record { procedure = action.procedure; priority = action.priority; target = action.target }) c.hand_over-over.result.0)) c.in-Ok-reserve.ensures.next in
     rule_goes program layout (with_done old c.args.actor f c.args.done) notices h c.args.actor (come f c.args.done) s.q action runs here s.behind c.in-Ok.vals.items vals c.hand_over-over.result.0 over.0 bundle _
-      made (c.in-Ok-add.ensures.next ∙ ap (λ n. n + 1) c.in-Ok-reserve.ensures.next) seats refl refl refl refl
+    made (c.in-Ok-add.ensures.next ∙ ap (λ n. n + 1) c.in-Ok-reserve.ensures.next) seats refl refl refl refl
 
 pub returns-clause-drafted : goal.returns-clause-drafted
 returns-clause-drafted c =

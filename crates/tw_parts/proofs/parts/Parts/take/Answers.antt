@@ -44,10 +44,10 @@ lend-job-requires-clause-stands c =
     let same : handed_out e.0 ≡ c.in-Some-take.task = same_Some (handed_out e.0) c.in-Some-take.task (sym (ap (option_map handed_out) e.1) ∙ sym c.take.ensures.taken ∙ c.in-Some-take.is) in
     let own = c.in_ok-first.first.values in
     let stands = begun_stands c.args.verified.now p.0 c.args.self.now p.1 p.2 c.args.actor p.3 c.requires.free e.0 e.1 own (starts_so c.args.verified.now.program e.0 c.in-Some.best.now own e.2 c.in_ok-first.ensures.started)
-        (subst (λ (t : Task). StartsAsMachine c.args.verified.now.program t.no t.procedure t.args own (bare_frame (begun_so c.args.verified.now t c.args.actor own))) (sym same)
-          (subst (λ (f : FrameView). StartsAsMachine c.args.verified.now.program c.in-Some-take.task.no c.in-Some-take.task.procedure c.in-Some-take.task.args own (bare_frame f)) c.start-frame.ensures.is c.start-frame.ensures.machine)) in
+    (subst (λ (t : Task). StartsAsMachine c.args.verified.now.program t.no t.procedure t.args own (bare_frame (begun_so c.args.verified.now t c.args.actor own))) (sym same)
+    (subst (λ (f : FrameView). StartsAsMachine c.args.verified.now.program c.in-Some-take.task.no c.in-Some-take.task.procedure c.in-Some-take.task.args own (bare_frame f)) c.start-frame.ensures.is c.start-frame.ensures.machine)) in
     subst (λ (f : FrameView). MayStand f.program.program f.procedure f.position) (sym c.start-frame.ensures.is)
-      (subst (λ (t : Task). MayStand c.args.verified.now.program t.procedure (record { place = 0; values = own; loops = [] })) same stands)
+    (subst (λ (t : Task). MayStand c.args.verified.now.program t.procedure (record { place = 0; values = own; loops = [] })) same stands)
 
 pub returns : goal.returns
 returns c =
@@ -55,12 +55,16 @@ returns c =
     let same : handed_out e.0 ≡ c.in-Some-take.task = same_Some (handed_out e.0) c.in-Some-take.task (sym (ap (option_map handed_out) e.1) ∙ sym c.take.ensures.taken ∙ c.in-Some-take.is) in
     let own = c.in_ok-first.first.values in
     let machine = subst (λ (t : Task). StartsAsMachine c.args.verified.now.program t.no t.procedure t.args own (bare_frame (begun_so c.args.verified.now t c.args.actor own))) (sym same)
-        (subst (λ (f : FrameView). StartsAsMachine c.args.verified.now.program c.in-Some-take.task.no c.in-Some-take.task.procedure c.in-Some-take.task.args own (bare_frame f)) c.start-frame.ensures.is c.start-frame.ensures.machine) in
+    (subst (λ (f : FrameView). StartsAsMachine c.args.verified.now.program c.in-Some-take.task.no c.in-Some-take.task.procedure c.in-Some-take.task.args own (bare_frame f)) c.start-frame.ensures.is c.start-frame.ensures.machine) in
     let sits : c.put.new.self ≡ insert c.args.self.now.seats c.args.actor (record (begun_so c.args.verified.now (handed_out e.0) c.args.actor own) { event_no = c.args.event_no }) = c.put.ensures
-        ∙ ap (insert c.args.self.now.seats c.args.actor) (c.lend-job.ensures.kept
-        ∙ ap (λ (f : FrameView). record f { event_no = c.args.event_no }) (c.start-frame.ensures.is ∙ ap (λ (t : Task). begun_so c.args.verified.now t c.args.actor own) (sym same))) in
-    (e.0, e.1,
-     ((c.lend-job.new.self, ap (λ m. get m c.args.actor) c.put.ensures ∙ get_own c.args.self.now.seats c.args.actor c.lend-job.new.self, ap (λ (f : FrameView). f.event_no) c.lend-job.ensures.kept, c.lend-job.ensures.lent),
-     λ layout there notices h.
-        takes c.args.verified.now layout c.args.self.now notices h c.args.actor there c.requires.free e.0 e.1 own (starts_so c.args.verified.now.program e.0 c.in-Some.best.now own e.2 c.in_ok-first.ensures.started) machine c.args.event_no _
-          (c.take.ensures.rest ∙ ap (λ o. without o c.args.self.now.tasks.tasks) e.1) sits refl refl refl refl))
+    ∙ ap (insert c.args.self.now.seats c.args.actor) (c.lend-job.ensures.kept
+    ∙ ap (λ (f : FrameView). record f { event_no = c.args.event_no }) (c.start-frame.ensures.is ∙ ap (λ (t : Task). begun_so c.args.verified.now t c.args.actor own) (sym same))) in (
+      e.0,
+      e.1,
+      (
+        (c.lend-job.new.self, ap (λ m. get m c.args.actor) c.put.ensures ∙ get_own c.args.self.now.seats c.args.actor c.lend-job.new.self, ap (λ (f : FrameView). f.event_no) c.lend-job.ensures.kept, c.lend-job.ensures.lent),
+        λ layout there notices h.
+            takes c.args.verified.now layout c.args.self.now notices h c.args.actor there c.requires.free e.0 e.1 own (starts_so c.args.verified.now.program e.0 c.in-Some.best.now own e.2 c.in_ok-first.ensures.started) machine c.args.event_no _
+            (c.take.ensures.rest ∙ ap (λ o. without o c.args.self.now.tasks.tasks) e.1) sits refl refl refl refl,
+      ),
+    )
