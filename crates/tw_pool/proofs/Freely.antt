@@ -102,6 +102,9 @@ module _ (verified : TypedProgram) (inputs : List Input) (layout : ActorCounts) 
       → IsKept verified inputs layout now.limit now.events new
   kept_told event now new pushed kept = subst (λ (t : HistoryView). IsKept verified inputs layout t.limit t.events new) (sym pushed) kept
 
+  pub kept_as : (es : List Event) (now : HistoryView) (new : Parts) → now ≡ record { events = told.events ++ es; limit = told.limit } → IsKept verified inputs layout told.limit (told.events ++ es) new → IsKept verified inputs layout now.limit now.events new
+  kept_as es now new pushed kept = subst (λ (t : HistoryView). IsKept verified inputs layout t.limit t.events new) (sym pushed) kept
+
   pub line_told : (line : State → Line) (answer : Turn) (es : List Event) (now : HistoryView) → now ≡ record { events = told.events ++ es; limit = told.limit } → line state answer es → IsTurnBy line w answer (viewed verified inputs layout stopped now)
   line_told line answer es now pushed is = record { state = state; has_state = has_state; events = es; is = is; appended = appended es now pushed }
 

@@ -1,6 +1,7 @@
 -- What comes of a Done: the lines of the table, from the events of the parts.
 use Rattle.std.proofs.Common.{IsSome, ◌≡◌, ◌≢◌, ◌<◌, ◌≤◌, ◌+◌, ◌*◌, ◌^◌, ◌==◌, not, ◌&&◌, ℕ, zero, suc, Bool, true, false, cond, if◌then◌else◌, List, [], ◌∷◌, ◌++◌, length, length-append, Option, Some, None, refl, sym, ap, subst, ◌∙◌, arith, inl, inr, option_map, filter, slice_get}
 use Rattle.std.specs.Prelude.{IfSome, MatchOption, option_to_list}
+use Rattle.std.proofs.lemmas.Bool.{and_parts, eqb-true}
 use Rattle.std.proofs.lemmas.Bool.Decides.{nat_tests}
 use Rattle.std.proofs.lemmas.List.Elements.{filter-append}
 use Rattle.std.proofs.lemmas.Option.{same_Some}
@@ -42,15 +43,16 @@ use Rattle.tw_parts.specs.Fits.{AreParts, FrameFits}
 use Rattle.tw_parts.specs.Parts.{state_of}
 use Rattle.tw_parts.specs.Seats.{Seated}
 use Rattle.tw_parts.specs.declared.parts.Parts.{Parts}
+use Rattle.tw_pool.specs.declared.answer.Turn.{Turn}
 use Rattle.tw_pool.specs.declared.answer.Turn.TheVariants.{Run}
 use Rattle.tw_pool.specs.Actors.{HasPlace, events_of, same_actor}
 use Rattle.tw_pool.specs.History.{HistoryView}
 use Rattle.tw_pool.specs.Kept.{AreLent, IsKept, IsOwedBy}
 use Rattle.tw_pool.specs.PoolView.{PoolView, HasState, with_events}
-use Rattle.tw_pool.specs.Turns.{Lends, is_last, instr_behind, lent_to, steps_of}
+use Rattle.tw_pool.specs.Turns.{IsTurnBy, Lends, Line, OrNoMemory, is_last, instr_behind, lent_to, steps_of}
 use Rattle.tw_pool.specs.Words.{FitsWord}
 use Rattle.tw_pool.proofs.Counting.{itself, the_same}
-use Rattle.tw_pool.proofs.Freely.{has_state, lends, room_here, state, viewed}
+use Rattle.tw_pool.proofs.Freely.{has_state, lends, line_told, room_here, state, viewed}
 use Rattle.tw_pool.proofs.Keeping.{has_place, no_task}
 
 -- ---- lists of one actor's events
@@ -78,7 +80,7 @@ others_same a actor h history es by =
     let long = length-append (events_of a history) [] in
     omega (arith, split, long)
 
-steps_by : (actor : Actor) (done : DoneView) → AreBy actor (steps_of actor done)
+pub steps_by : (actor : Actor) (done : DoneView) → AreBy actor (steps_of actor done)
 steps_by actor done = by (done.steps == 0) refl
   where
     by : (b : Bool) → (done.steps == 0) ≡ b → AreBy actor (steps_of actor done)
@@ -177,11 +179,11 @@ module _ (verified : TypedProgram) (inputs : List Input) (layout : ActorCounts) 
   pub owed_now : IsOwed old actor its.0 done
   owed_now = record { sits = its.1.sits; own = its.1.own }
 
-  pub small_at : (es : List Event) (p : Parts) (at : AreAt verified inputs layout (told.events ++ es) p) → length (told.events ++ es) ≤ told.limit → IsSmall (state_of p at.notices)
-  small_at es p at within =
-      let below = small_along verified.program (typings_of verified) h.parts.runnable.is h.parts.runnable.right layout (told.events ++ es) opening_bound (opening verified.program inputs) (state_of p at.notices)
+  small_of : (es : List Event) (p : Parts) (at : AreAt verified inputs layout es p) → length es ≤ told.limit → IsSmall (state_of p at.notices)
+  small_of es p at within =
+      let below = small_along verified.program (typings_of verified) h.parts.runnable.is h.parts.runnable.right layout es opening_bound (opening verified.program inputs) (state_of p at.notices)
       (opened_held verified.program (typings_of verified) h.parts.runnable.is h.parts.runnable.right inputs h.given) (opening_is_small verified.program inputs h.parts.runnable.is h.given) at.replays in
-      below_more (opening_bound + length (told.events ++ es) * greatest_budget) (2 ^ 62) (state_of p at.notices) (omega (arith, within, h.few)) below
+      below_more (opening_bound + length es * greatest_budget) (2 ^ 62) (state_of p at.notices) (omega (arith, within, h.few)) below
 
   abbrev pub Local_is : Option Event → Type 0
   Local_is o = MatchOption o
@@ -217,8 +219,151 @@ module _ (verified : TypedProgram) (inputs : List Input) (layout : ActorCounts) 
         fits = subst FitsWord (sym l.1) (has_seat, omega (arith, few));
       }
 
-  others_come : (a : Actor) → a ≢ actor → get came.seats a ≡ get old.seats a
+  pub owed_some : (f : FrameView) × IsOwed old actor f done
+  owed_some = (its.0, owed_now)
+
+  pub may_advance : (l : ActorCounts) × (notices : Notices) × (f : FrameView) × AreParts done.before.program l old notices × IsSmall (state_of old notices) × IsOwed old actor f done
+  may_advance = (layout, h.notices, its.0, subst (λ (v : TypedProgram). AreParts v layout old h.notices) (sym its.1.program) h.parts, small_of told.events old at_old h.within, owed_now)
+
+  one_at_most : (o : Option Event) → length (option_to_list o) ≤ 1
+  one_at_most None = omega arith
+  one_at_most (Some e) = omega arith
+
+  pub within_one : (o : Option Event) → length (told.events ++ option_to_list o) ≤ told.limit
+  within_one o = let long = length-append told.events (option_to_list o) in let few = one_at_most o in omega (arith, long, few, room_now)
+
+  module _ (last : is_last w done ≡ false) where
+    last_now : (not (done.steps == 0) && (length told.events + 1 == told.limit)) ≡ false
+    last_now = subst (λ (x : PoolView). (not (done.steps == 0) && (length x.history + 1 == x.limit)) ≡ false) (sym seen) last
+
+    pub room_two : (o : Option Event) → Local_is o → length (told.events ++ option_to_list o) < told.limit
+    room_two None l = let long = length-append told.events [] in omega (arith, long, room_now)
+    room_two (Some e) l =
+        let some : (done.steps == 0) ≡ false = grind (arith, nat_tests, l.0) in
+        let full : (length told.events + 1 == told.limit) ≡ false = sym (ap (λ b. not b && (length told.events + 1 == told.limit)) some) ∙ last_now in
+        let long = length-append told.events (e ∷ []) in
+        grind (arith, nat_tests, full, long, room_now)
+
+  -- the instruction behind the steps
+  record IsBehind (i : Instr) : Type 0 where
+    q : Procedure
+    there_is : slice_get verified.program done.before.procedure ≡ Some q
+    is : slice_get q.code done.after.place ≡ Some i
+
+  is_behind : (i : Instr) → instr_behind w.program.program done ≡ Some i → IsBehind i
+  is_behind i e = by (slice_get verified.program done.before.procedure) refl
+    where
+      e_now : option_and_then (λ (p : Procedure). slice_get p.code done.after.place) (slice_get verified.program done.before.procedure) ≡ Some i
+      e_now = subst (λ (x : PoolView). instr_behind x.program.program done ≡ Some i) (sym seen) e
+
+      by : (o : Option Procedure) → slice_get verified.program done.before.procedure ≡ o → IsBehind i
+      by None at = let no : None ≡ Some i = sym (ap (option_and_then (λ (p : Procedure). slice_get p.code done.after.place)) at) ∙ e_now in cc
+      by (Some q) at = record { q = q; there_is = at; is = sym (ap (option_and_then (λ (p : Procedure). slice_get p.code done.after.place)) at) ∙ e_now }
+
+  pub stands : (o : Option Event) → HasCome o → (i : Instr) → instr_behind w.program.program done ≡ Some i → StandsAt old actor done i
+  stands o c i e =
+      let it = is_behind i e in
+      record {
+        layout = layout;
+        notices = c.at.notices;
+        f = its.0;
+        owed = owed_now;
+        parts = subst (λ (v : TypedProgram). AreParts v layout came c.at.notices) (sym its.1.program) c.at.parts;
+        small = small_of (told.events ++ option_to_list o) came c.at (within_one o);
+        q = it.q;
+        here = ap (λ (v : TypedProgram). slice_get v.program its.0.procedure) its.1.program ∙ ap (λ (j : JobView). slice_get verified.program j.procedure) (sym its.1.own) ∙ it.there_is;
+        behind = it.is;
+      }
+
+  pub others_come : (a : Actor) → a ≢ actor → get came.seats a ≡ get old.seats a
   others_come a h = get_other (come its.0 done) old.seats actor a h
+
+  -- ---- with the steps alone
+
+  pub told_one : (o : Option Event) (c : HasCome o) (t : HistoryView) → t ≡ record told { events = told.events ++ option_to_list o } → t ≡ record { events = told.events ++ steps_of actor done; limit = told.limit }
+  told_one o c t is = is ∙ ap (λ es. record { events = told.events ++ es; limit = told.limit }) c.is
+
+  pub at_steps : (o : Option Event) (c : HasCome o) → AreAt verified inputs layout (told.events ++ steps_of actor done) came
+  at_steps o c = subst (λ es. AreAt verified inputs layout (told.events ++ es) came) c.is c.at
+
+  pub within_steps : (o : Option Event) (c : HasCome o) → length (told.events ++ steps_of actor done) ≤ told.limit
+  within_steps o c = subst (λ es. length (told.events ++ es) ≤ told.limit) c.is (within_one o)
+
+  -- the history is full
+  pub kept_full : (last : is_last w done ≡ true) (o : Option Event) (c : HasCome o) (new : Parts) → new ≡ came → IsKept verified inputs layout told.limit (told.events ++ steps_of actor done) new
+  kept_full last o c new is = record {
+    given = h.given;
+    few = h.few;
+    within = within_steps o c;
+    notices = (at_steps o c).notices;
+    replays = (at_steps o c).replays ∙ ap (λ p. Went (state_of p (at_steps o c).notices)) (sym is);
+    parts = subst (λ p. AreParts verified layout p (at_steps o c).notices) (sym is) (at_steps o c).parts;
+    lent = λ less. absurd (not_full less);
+  }
+    where
+      both : (not (done.steps == 0) ≡ true) × ((length told.events + 1 == told.limit) ≡ true)
+      both = and_parts (not (done.steps == 0)) (length told.events + 1 == told.limit) (subst (λ (x : PoolView). (not (done.steps == 0) && (length x.history + 1 == x.limit)) ≡ true) (sym seen) last)
+
+      not_full : length (told.events ++ steps_of actor done) < told.limit → ⊥
+      not_full less =
+          let some : (done.steps == 0) ≡ false = flip (done.steps == 0) both.0 in
+          let one : length (steps_of actor done) ≡ 1 = rw some refl in
+          let long = length-append told.events (steps_of actor done) in
+          let full = eqb-true (length told.events + 1) told.limit both.1 in
+          omega (arith, long, one, full, less)
+        where
+          flip : (b : Bool) → not b ≡ true → b ≡ false
+          flip true e = cc
+          flip false e = refl
+
+  -- ---- with one event more behind them
+
+  module _ (e : Event) (is_own : actor_of e ≡ actor) (o : Option Event) (c : HasCome o) (new : Parts) (makes : MakesBehind e old actor done new) where
+    goes : Goes verified layout e came c.at.notices new
+    goes = subst (λ (v : TypedProgram). Makes v layout e came new) its.1.program (makes layout its.0 owed_now) c.at.notices c.at.parts
+
+    both_are : (told.events ++ option_to_list o) ++ e ∷ [] ≡ told.events ++ steps_of actor done ++ e ∷ []
+    both_are = assoc told.events (option_to_list o) (e ∷ []) ∙ ap (λ es. told.events ++ es ++ e ∷ []) c.is
+
+    pub told_two : (t p : HistoryView) → t ≡ record told { events = told.events ++ option_to_list o } → p ≡ record t { events = t.events ++ e ∷ [] } → p ≡ record { events = told.events ++ steps_of actor done ++ e ∷ []; limit = told.limit }
+    told_two t p one two = two ∙ ap (λ (x : HistoryView). record { events = x.events ++ e ∷ []; limit = x.limit }) one ∙ ap (λ es. record { events = es; limit = told.limit }) both_are
+
+    pub at_two : AreAt verified inputs layout (told.events ++ steps_of actor done ++ e ∷ []) new
+    at_two = subst (λ es. AreAt verified inputs layout es new) both_are (then_at verified inputs layout (told.events ++ option_to_list o) came new c.at e goes)
+
+    pub others_two : (a : Actor) → a ≢ actor → get new.seats a ≡ get old.seats a
+    others_two a h = goes.others a (λ is. h (is ∙ is_own)) ∙ get_other (come its.0 done) old.seats actor a h
+
+    pub within_two : length (told.events ++ option_to_list o) < told.limit → length (told.events ++ steps_of actor done ++ e ∷ []) ≤ told.limit
+    within_two less = let long = ap (λ es. length es) (sym both_are) ∙ length-append (told.events ++ option_to_list o) (e ∷ []) in omega (arith, long, less)
+
+    pub by_two : AreBy actor (steps_of actor done ++ e ∷ [])
+    by_two = then_by actor (steps_of actor done) e (steps_by actor done) is_own
+
+  -- the task has ended
+  pub kept_ended : (o : Option Event) (c : HasCome o) (new : Parts) (makes : MakesBehind (End actor) old actor done new) → length (told.events ++ option_to_list o) < told.limit
+      → IsKept verified inputs layout told.limit (told.events ++ steps_of actor done ++ End actor ∷ []) new
+  kept_ended o c new makes less = record {
+    given = h.given;
+    few = h.few;
+    within = within_two (End actor) refl o c new makes less;
+    notices = (at_two (End actor) refl o c new makes).notices;
+    replays = (at_two (End actor) refl o c new makes).replays;
+    parts = (at_two (End actor) refl o c new makes).parts;
+    lent = λ _. lent_others;
+  }
+    where
+      gone : get new.seats actor ≡ None
+      gone = no_task new (goes (End actor) refl o c new makes).left actor (end_frames verified.program layout actor (state_of came c.at.notices) (state_of new (goes (End actor) refl o c new makes).left) (goes (End actor) refl o c new makes).step_is)
+
+      lent_others : AreLent (told.events ++ steps_of actor done ++ End actor ∷ []) new.seats
+      lent_others a f sits = by (same_actor a actor) refl
+        where
+          by : (b : Bool) → same_actor a actor ≡ b → f.event_no ≡ length (events_of a (told.events ++ steps_of actor done ++ End actor ∷ []))
+          by true is = let no : None ≡ Some f = sym gone ∙ ap (get new.seats) (sym (the_same a actor is)) ∙ sits in cc
+          by false is =
+              let other : a ≢ actor = λ e. let yes : true ≡ false = sym (itself actor) ∙ ap (λ x. same_actor x actor) (sym e) ∙ is in cc in
+              h.lent room_now a f (sym (others_two (End actor) refl o c new makes a other) ∙ sits) ∙ sym (others_same a actor other told.events (steps_of actor done ++ End actor ∷ []) (by_two (End actor) refl o c new makes))
 
   -- ---- lending again
 
@@ -263,3 +408,29 @@ module _ (verified : TypedProgram) (inputs : List Input) (layout : ActorCounts) 
 
       pub line_lent : Lends w actor es (Run job) es
       line_lent = subst (λ j. Lends w actor es (Run j) es) (sym lent.job_is) (lends verified inputs layout stopped told old h w seen actor es new kept_lent g sits_new number)
+
+    module _ (t : HistoryView) (t_is : t ≡ record { events = told.events ++ es; limit = told.limit }) (event_no : ℕ) (counted : event_no ≡ length (events_of actor t.events)) (job : JobView) (new : Parts) (lent : IsLent p actor event_no job new)
+        (same : (notices : Notices) → state_of new notices ≡ state_of p notices) (still : (v : TypedProgram) (l : ActorCounts) (notices : Notices) → AreParts v l p notices → AreParts v l new notices) where
+      number_is : event_no ≡ length (events_of actor (told.events ++ es))
+      number_is = counted ∙ ap (λ (x : HistoryView). length (events_of actor x.events)) t_is
+
+      pub kept_again : IsKept verified inputs layout t.limit t.events new
+      kept_again = subst (λ (x : HistoryView). IsKept verified inputs layout x.limit x.events new) (sym t_is) (kept_lent event_no number_is job new lent same still)
+
+      pub line_again : IsTurnBy (λ s. Lends w actor es) w (Run job) (viewed verified inputs layout stopped t)
+      line_again = line_told verified inputs layout stopped told old h w seen (λ s. Lends w actor es) (Run job) es t t_is (line_lent event_no number_is job new lent same still)
+
+  -- the parts to which a task has come
+  module _ (o : Option Event) (c : HasCome o) (new : Parts) (is : (f : FrameView) → IsOwed old actor f done → new ≡ with_done old actor f done) where
+    pub at_come : AreAt verified inputs layout (told.events ++ steps_of actor done) new
+    at_come = subst (AreAt verified inputs layout (told.events ++ steps_of actor done)) (sym (is its.0 owed_now)) (at_steps o c)
+
+    pub others_at : (a : Actor) → a ≢ actor → get new.seats a ≡ get old.seats a
+    others_at a h = ap (λ (p : Parts). get p.seats a) (is its.0 owed_now) ∙ others_come a h
+
+    pub full_at : is_last w done ≡ true → (t : HistoryView) → t ≡ record { events = told.events ++ steps_of actor done; limit = told.limit } → IsKept verified inputs layout t.limit t.events new
+    full_at last t t_is = subst (λ (x : HistoryView). IsKept verified inputs layout x.limit x.events new) (sym t_is) (kept_full last o c new (is its.0 owed_now))
+
+-- a line, or want of memory
+pub or_memory : (line : Line) (given : Option DoneView) (w v : PoolView) (a : Turn) → IsTurnBy (λ s. line) w a v → IsTurnBy (λ s. OrNoMemory given line) w a v
+or_memory line given w v a l = record { state = l.state; has_state = l.has_state; events = l.events; is = inl l.is; appended = l.appended }

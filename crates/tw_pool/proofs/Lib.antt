@@ -5,3 +5,4 @@ mod Fitting
 mod Keeping
 mod Freely
 mod Handing
+mod Turning

@@ -95,8 +95,7 @@ module _ (p : PoolView) (s : State) (actor : Actor) (answer : Turn) (events : Li
   none_then is = subst (AreOwn actor) (sym is) (none actor)
 
   taken_back : (short last : Bool) (done : DoneView) → TakesBack short last p actor done answer events → AreOwn actor events
-  taken_back true last done (inl l) = subst (AreOwn actor) (sym l.4.1) (steps_own actor done)
-  taken_back true last done (inr l) = none_then l.1
+  taken_back true last done l = subst (AreOwn actor) (sym l.4.1) (steps_own actor done)
   taken_back false true done l = subst (AreOwn actor) (sym l.1) (steps_own actor done)
   taken_back false false done l = by (made p actor (Some done) (steps_of actor done) (event_of actor (instr_behind p.program.program done)) answer events l)
     where

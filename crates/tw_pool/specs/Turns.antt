@@ -80,9 +80,10 @@ instr_behind program done = option_and_then (λ (p : Procedure). slice_get p.cod
 abbrev pub is_last : PoolView → DoneView → Bool
 is_last p done = not (done.steps == 0) && (length p.history + 1 == p.limit)
 
--- The job goes on where it is short. Else the instruction behind the steps is done, if there is room for both.
+-- The job goes on where it is short: its Done has the values of the next one, so that no memory is taken. Else the
+-- instruction behind the steps is done, if there is room for both.
 abbrev pub TakesBack : Bool → Bool → PoolView → Actor → DoneView → Line
-TakesBack true last p actor done = OrNoMemory (Some done) (Lends p actor (steps_of actor done))
+TakesBack true last p actor done = Lends p actor (steps_of actor done)
 TakesBack false true p actor done = Answers (Over Limit) (steps_of actor done)
 TakesBack false false p actor done = Makes p actor (Some done) (steps_of actor done) (event_of actor (instr_behind p.program.program done))
 

@@ -1,6 +1,6 @@
 //! The events of a run, in order.
 
-ghost use Rattle.std.specs.Prelude.{◌≡◌, ◌<◌, ◌++◌, ◌∷◌, [], IfOk, Some, length, slice_get};
+ghost use Rattle.std.specs.Prelude.{◌≡◌, ◌<◌, ◌++◌, ◌∷◌, ◌+◌, ◌==◌, [], IfOk, Some, length, slice_get};
 ghost use Rattle.tw_pool.specs.Actors.{HasPlace, events_of};
 ghost use Rattle.tw_pool.specs.Words.{FitsWord};
 
@@ -49,6 +49,21 @@ impl History {
         ensures { result ≡ length self.now.events }
     {
         self.words.len()
+    }
+
+    /// Whether there are as many events as there may be.
+    pub fn is_full(&self) -> bool
+        ensures { result ≡ (length self.now.events == self.now.limit) }
+    {
+        self.words.len() == self.limit
+    }
+
+    /// Whether there may be just one event more.
+    pub(crate) fn has_room_for_one(&self) -> bool
+        requires { length self.now.events < self.now.limit }
+        ensures { result ≡ (length self.now.events + 1 == self.now.limit) }
+    {
+        self.words.len() + 1 == self.limit
     }
 
     /// How many events of an actor there are.

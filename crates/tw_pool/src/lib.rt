@@ -6,6 +6,7 @@ mod free;
 mod hand_in;
 mod history;
 mod pool;
+mod turn;
 mod words;
 
 pub use answer::{Closing, Turn};
