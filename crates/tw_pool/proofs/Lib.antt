@@ -1,8 +1,0 @@
-mod Round
-pub mod Counting
-pub mod Lines
-mod Fitting
-mod Keeping
-mod Freely
-mod Handing
-mod Turning
