@@ -1,4 +1,4 @@
--- The lines that a session writes, without regard to where they come from.
+-- The lines that are written, without regard to where they come from.
 use Rattle.std.specs.Prelude.{◌+◌, ◌/◌, ◌%◌, ℕ, List, [], ◌∷◌, ◌++◌, codes, decimal}
 use Rattle.std.specs.Fmt.{signed_decimal}
 use Rattle.tw_types.specs.declared.value.Value.{Value}
@@ -32,13 +32,16 @@ verify_line number procedure place = codes "refused V" ++ (two_digits number ++ 
 abbrev pub opening_line : ℕ → List ℕ
 opening_line number = codes "refused O" ++ (two_digits number ++ codes "\n")
 
--- the last line of a report, with the number of pending rules
-abbrev pub stuck_line : ℕ → List ℕ
-stuck_line rules = codes "stuck " ++ (decimal rules ++ codes "\n")
+-- a line of a history that is no event; lines count from 1, behind `events`
+abbrev pub history_line : ℕ → List ℕ
+history_line line = codes "refused E01 at line " ++ (decimal line ++ codes "\n")
 
 -- events count from 1
 abbrev pub trap_line : ℕ → ℕ → List ℕ
 trap_line number event = codes "trap C" ++ (decimal number ++ (codes " at event " ++ (decimal event ++ codes "\n")))
+
+abbrev pub not_enabled_line : ℕ → List ℕ
+not_enabled_line event = codes "not enabled at event " ++ (decimal event ++ codes "\n")
 
 -- words count from 1
 abbrev pub input_word_line : ℕ → List ℕ

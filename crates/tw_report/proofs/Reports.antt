@@ -5,7 +5,7 @@ use Rattle.std.proofs.lemmas.List.{append-nil, flat_map_more, length-take, take_
 use Rattle.std.proofs.lemmas.Option.{slice_get-get_or, slice_get_within}
 use Rattle.std.specs.FinMap as fin
 use Rattle.tw_types.specs.Store.{Data, Members}
-use Rattle.tw_session.specs.Report.{member_line, member_lines, output_text, output_texts}
+use Rattle.tw_report.specs.Report.{member_line, member_lines, output_text, output_texts}
 
 -- ---- outputs
 

@@ -1,15 +1,16 @@
-//! The report of a state.
+//! Reports.
 
 ghost use Rattle.std.specs.Prelude.{◌≡◌, ◌++◌, OnOk, option_map};
 ghost use Rattle.std.specs.Option.{option_copied};
 ghost use Rattle.std.specs.FinMap.{entries, get};
 ghost use Rattle.tw_types.specs.StoreCalls.{members_in};
-ghost use Rattle.tw_session.specs.Report.{closed_text, container_head, datum_text, member_line, member_lines};
-ghost use Rattle.tw_session.specs.Report.{output_line, output_text, report, scalar_text};
+ghost use Rattle.tw_report.specs.Report.{closed_text, container_head, datum_text, member_line, member_lines};
+ghost use Rattle.tw_report.specs.Report.{output_line, output_text, report, scalar_text};
 
 use crate::lines::{put, put_decimal, put_numbered, put_signed, put_value};
+use crate::told::Told;
 use std::alloc::{AllocError, Global};
-use tw_machine::{Datum, State};
+use tw_datum::{Datum, Member};
 use tw_types::{DatumId, Scalar};
 
 fn scalar_text(scalar: Scalar) -> &'static str
@@ -28,7 +29,7 @@ fn closed_text(closed: bool) -> &'static str
 }
 
 /// Adds what a container holds, and whether it is closed.
-fn put_container_head(out: &mut Vec<u8>, datum: &Datum) -> Result<(), AllocError>
+fn put_container_head<M: Member>(out: &mut Vec<u8>, datum: &Datum<M>) -> Result<(), AllocError>
     ensures { OnOk result (out.new.items ≡ out.old.items ++ container_head datum.now.datum) }
 {
     put(out, "cont ")?;
@@ -37,7 +38,11 @@ fn put_container_head(out: &mut Vec<u8>, datum: &Datum) -> Result<(), AllocError
 }
 
 /// Adds what is in a datum, or that it was freed.
-fn put_datum(alloc: Global, out: &mut Vec<u8>, datum: Option<&Datum>) -> Result<(), AllocError>
+fn put_datum<M: Member>(
+    alloc: Global,
+    out: &mut Vec<u8>,
+    datum: Option<&Datum<M>>,
+) -> Result<(), AllocError>
     ensures { OnOk result (out.new.items ≡ out.old.items ++ datum_text (option_map (λ d. d.datum) (option_copied datum.entry))) }
 {
     let Some(datum) = datum else {
@@ -54,11 +59,11 @@ fn put_datum(alloc: Global, out: &mut Vec<u8>, datum: Option<&Datum>) -> Result<
 }
 
 /// Adds the line of an output.
-fn put_output_line(
+fn put_output_line<M: Member>(
     alloc: Global,
     out: &mut Vec<u8>,
     number: usize,
-    datum: Option<&Datum>,
+    datum: Option<&Datum<M>>,
 ) -> Result<(), AllocError>
     ensures { OnOk result (out.new.items ≡ out.old.items ++ output_line number (option_map (λ d. d.datum) (option_copied datum.entry))) }
 {
@@ -69,70 +74,70 @@ fn put_output_line(
 }
 
 /// Adds the line of a container's member, which stands at a subscript.
-fn put_member_line(
+fn put_member_line<T: Told>(
     alloc: Global,
     out: &mut Vec<u8>,
-    state: &State,
+    told: &T,
     member: (i64, DatumId),
 ) -> Result<(), AllocError>
-    ensures { OnOk result (out.new.items ≡ out.old.items ++ member_line member.0 (get state.now.store.live member.1)) }
+    ensures { OnOk result (out.new.items ≡ out.old.items ++ member_line member.0 (get (T.live told.now) member.1)) }
 {
     put(out, "  at ")?;
     put_signed(alloc, out, member.0)?;
     put(out, " ")?;
-    put_datum(alloc, out, state.datum(member.1))?;
+    put_datum(alloc, out, told.datum(member.1))?;
     put(out, "\n")
 }
 
 /// Adds the lines of a container's members, by rising subscripts.
-fn put_member_lines(
+fn put_member_lines<T: Told>(
     alloc: Global,
     out: &mut Vec<u8>,
-    state: &State,
-    container: &Datum,
+    told: &T,
+    container: &Datum<T::Kept>,
 ) -> Result<(), AllocError>
     ensures { OnOk result (out.new.items ≡ out.old.items
-        ++ member_lines state.now.store.live (entries (members_in container.now.datum.content))) }
+        ++ member_lines (T.live told.now) (entries (members_in container.now.datum.content))) }
 {
     for index in 0..container.len() {
         let Some(member) = container.member(index) else {
             unreachable!();
         };
-        put_member_line(alloc, out, state, member)?;
+        put_member_line(alloc, out, told, member)?;
     }
     Ok(())
 }
 
 /// Adds the line of an output, and those of its members.
-fn put_output(
+fn put_output<T: Told>(
     alloc: Global,
     out: &mut Vec<u8>,
-    state: &State,
+    told: &T,
     number: usize,
     id: DatumId,
 ) -> Result<(), AllocError>
     ensures { OnOk result (out.new.items ≡ out.old.items
-        ++ output_text state.now.store.live number (get state.now.store.live id)) }
+        ++ output_text (T.live told.now) number (get (T.live told.now) id)) }
 {
-    let datum = state.datum(id);
+    let datum = told.datum(id);
     put_output_line(alloc, out, number, datum)?;
     match datum {
-        Some(datum) => put_member_lines(alloc, out, state, datum),
+        Some(datum) => put_member_lines(alloc, out, told, datum),
         None => Ok(()),
     }
 }
 
-/// Adds the report of a state: its outputs, and the closing line.
-pub fn put_report(
+/// Adds the report of what is told: the outputs, and the text that closes it.
+pub fn put_report<T: Told>(
     alloc: Global,
     out: &mut Vec<u8>,
-    state: &State,
-    closing: &str,
+    told: &T,
+    closing: &[u8],
 ) -> Result<(), AllocError>
-    ensures { OnOk result (out.new.items ≡ out.old.items ++ report state.now closing.now) }
+    ensures { OnOk result (out.new.items ≡ out.old.items ++ report (T.live told.now) (T.ids told.now) closing.now) }
 {
-    for (number, id) in state.outputs().iter().enumerate() {
-        put_output(alloc, out, state, number, *id)?;
+    for (number, id) in told.outputs().iter().enumerate() {
+        put_output(alloc, out, told, number, *id)?;
     }
-    put(out, closing)
+    out.extend_from_slice(closing)
 }

@@ -8,8 +8,14 @@ use Rattle.tw_types.specs.declared.data_type.Scalar.{Scalar}
 use Rattle.tw_types.specs.declared.data_type.Scalar.TheVariants as scalar
 use Rattle.tw_types.specs.Store.{Content, Unset, Set, Contains, Datum, Data, is_closed}
 use Rattle.tw_types.specs.StoreCalls.{members_in}
+use Rattle.tw_types.specs.declared.ending.Ending.{Ending}
+use Rattle.tw_types.specs.declared.ending.Ending.TheVariants.{Quiet, Stuck}
+use Rattle.tw_types.specs.declared.pending.Link.{Link}
+use Rattle.tw_code.specs.declared.procedure.Procedure.{Procedure}
+use Rattle.tw_code.specs.machine.Ending.{ending}
+use Rattle.tw_code.specs.machine.Pending.{circle}
 use Rattle.tw_code.specs.machine.State.{State}
-use Rattle.tw_session.specs.Lines.{value_text}
+use Rattle.tw_report.specs.Lines.{value_text}
 
 abbrev pub scalar_text : Scalar → List ℕ
 scalar_text scalar.Int = codes "int"
@@ -57,6 +63,33 @@ abbrev pub output_texts : Data → ℕ → List ℕ → List ℕ
 output_texts live k [] = []
 output_texts live k (id ∷ ids) = output_text live k (fin.get live id) ++ output_texts live (suc k) ids
 
--- the outputs from 0, and the closing line
-abbrev pub report : State → List ℕ → List ℕ
-report s closing = output_texts s.store.live 0 s.outputs ++ closing
+-- of the live data and the outputs' ids: the outputs from 0, and the text that closes it
+abbrev pub report : Data → List ℕ → List ℕ → List ℕ
+report live outputs closing = output_texts live 0 outputs ++ closing
+
+-- ---- how it closes
+
+-- a rule, a datum that it waits for, and a rule that may write that
+abbrev pub link_line : Link → List ℕ
+link_line l = codes "waits " ++ (decimal l.rule ++ (codes " " ++ (decimal l.datum ++ (codes " " ++ (decimal l.next ++ codes "\n")))))
+
+abbrev pub link_lines : List Link → List ℕ
+link_lines links = flat_map link_line links
+
+-- a circle among them, if there is one
+abbrev pub circle_lines : Option (List Link) → List ℕ
+circle_lines None = []
+circle_lines (Some links) = link_lines links
+
+-- so many rules are pending
+abbrev pub stuck_lines : ℕ → Option (List Link) → List ℕ
+stuck_lines rules found = codes "stuck " ++ (decimal rules ++ (codes "\n" ++ circle_lines found))
+
+-- how a run has ended in this state, or that it is still running
+abbrev pub ending_lines : Option Ending → Option (List Link) → List ℕ
+ending_lines (Some Quiet) found = codes "quiet\n"
+ending_lines (Some (Stuck rules)) found = stuck_lines rules found
+ending_lines None found = codes "running\n"
+
+abbrev pub state_report : List Procedure → State → List ℕ
+state_report program s = report s.store.live s.outputs (ending_lines (ending s) (circle program s))
