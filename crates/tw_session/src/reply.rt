@@ -33,6 +33,9 @@ use tw_machine::{OpenRefusal, Plain, State};
 use tw_run::{RunEnd, run};
 use tw_verify::{Verified, VerifyRefusal, verify};
 
+/// O03, which no opening answers: the layout lacks an actor that the program names as a target.
+const MISSING_TARGET: u8 = 3;
+
 /// What a session writes, and how it ends.
 #[derive(Drop)]
 pub struct Reply {
@@ -105,7 +108,7 @@ fn opened_reply(
 {
     let layout = plain.layout();
     if layout.engines() < needs.0 || layout.workers() < needs.1 {
-        return opening_reply(alloc, 3);
+        return opening_reply(alloc, MISSING_TARGET);
     }
     let end = run(alloc, &mut plain, limit.events())?;
     run_reply(alloc, plain.state(), end)
