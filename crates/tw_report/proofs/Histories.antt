@@ -1,9 +1,11 @@
 -- Histories, line by line; and that no lines tell two.
-use Rattle.std.proofs.Common.{◌≡◌, ◌⊎◌, ◌==◌, ◌+◌, ℕ, suc, Bool, true, false, List, [], ◌∷◌, ◌++◌, codes, Option, Some, None, Result, Ok, Err, inl, inr, refl, sym, ap, subst, ◌∙◌, append_assoc, arith}
-use Rattle.std.proofs.lemmas.List.{append-nil}
+use Rattle.std.proofs.Common.{◌≡◌, ◌⊎◌, ◌==◌, ◌+◌, ◌≤◌, ℕ, suc, Bool, true, false, List, [], ◌∷◌, ◌++◌, length, codes, Option, Some, None, Result, Ok, Err, inl, inr, refl, sym, ap, subst, ◌∙◌, append_assoc, arith}
+use Rattle.std.specs.List.{AllByRecursion}
+use Rattle.std.proofs.lemmas.List.Splits.{length-slice_split}
+use Rattle.std.proofs.lemmas.List.Sums.{count_by-le-length}
 use Rattle.tw_types.specs.declared.event.Event.{Event}
 use Rattle.tw_types.specs.declared.event.Event.TheVariants.{Take, Local, Call, End, Ask, Deliver, Release}
-use Rattle.tw_report.specs.Events.{SpellParts, SpellsEvent, event_parts, words_in}
+use Rattle.tw_report.specs.Events.{IsEvent, SpellParts, SpellsEvent, event_parts, words_in}
 use Rattle.tw_report.specs.History.{IsBlank, IsEnd, IsUnknown, OneHistory, Tell, behind_blank, behind_event, lines_in}
 use Rattle.tw_report.proofs.Written.{one_event}
 
@@ -63,3 +65,28 @@ one_history (line ∷ others) r q (inr (inr (inr (un, e)))) (inl (b, (y, u, f)))
 one_history (line ∷ others) r q (inr (inr (inr (un, e)))) (inr (inl (end, f))) = absurd (un.1 end)
 one_history (line ∷ others) r q (inr (inr (inr (un, e)))) (inr (inr (inl (event, spells, y)))) = absurd (un.2 event spells)
 one_history (line ∷ others) r q (inr (inr (inr (un, e)))) (inr (inr (inr (un', f)))) = e ∙ sym f
+
+-- ---- the events
+
+some_told : (events es : List Event) → ◌≡◌ {A = Result (List Event) ℕ} (Ok events) (Ok es) → es ≡ events
+some_told events es e = cc
+
+-- each is one of a line
+pub told_events : (lines : List (List ℕ)) (events : List Event) → Tell lines (Ok events) → AllByRecursion IsEvent events × (length events ≤ length lines)
+told_events [] events t = subst (λ (es : List Event). AllByRecursion IsEvent es × (length es ≤ 0)) (some_told events [] t) (tt, omega arith)
+told_events (line ∷ others) events (inl (blank, (Ok es, t, e))) =
+    let more = told_events others es t in
+    subst (λ (vs : List Event). AllByRecursion IsEvent vs × (length vs ≤ length (line ∷ others))) (some_told events es e) (more.0, omega (arith, more.1))
+told_events (line ∷ others) events (inl (blank, (Err n, t, e))) = cc
+told_events (line ∷ others) events (inr (inl (end, e))) = subst (λ (es : List Event). AllByRecursion IsEvent es × (length es ≤ length (line ∷ others))) (some_told events [] e) (tt, omega arith)
+told_events (line ∷ others) events (inr (inr (inl (event, spells, (Ok es, t, e))))) =
+    let more = told_events others es t in
+    subst (λ (vs : List Event). AllByRecursion IsEvent vs × (length vs ≤ length (line ∷ others))) (some_told events (event ∷ es) e) ((spells.limits, more.0), omega (arith, more.1))
+told_events (line ∷ others) events (inr (inr (inl (event, spells, (Err n, t, e))))) = cc
+told_events (line ∷ others) events (inr (inr (inr (un, e)))) = cc
+
+pub few_lines : (text : List ℕ) → length (lines_in text) ≤ length text + 1
+few_lines text = omega (arith, length-slice_split (λ b. b == 10) text, count_by-le-length (λ b. b == 10) text)
+
+pub few_events : (text : List ℕ) (events : List Event) → Tell (lines_in text) (Ok events) → length events ≤ length text + 1
+few_events text events t = omega (arith, few_lines text, (told_events (lines_in text) events t).1)

@@ -166,3 +166,13 @@ cut_none text rest line count cut first not =
 
 pub cut_within : (text rest : List ℕ) (count : ℕ) → CutTo text count rest → count + length rest ≡ length text
 cut_within text rest count cut = let all : length text ≡ length (text_of cut.lines) + length rest = ap length cut.parts ∙ length-append (text_of cut.lines) rest in omega (arith, all, cut.count_is)
+
+pub parts_short : (text before after : List ℕ) → AreParts text before after → length after ≤ length text
+parts_short text before after (inl c) = by c.parts
+  where
+    by : (text ≡ before ++ (c.line ++ 10 ∷ after)) ⊎ ((text ≡ before ++ c.line) × (after ≡ [])) → length after ≤ length text
+    by (inl e) =
+        let all : length text ≡ length before + (length c.line + suc (length after)) = ap length e ∙ length-append before (c.line ++ 10 ∷ after) ∙ ap (λ (n : ℕ). length before + n) (length-append c.line (10 ∷ after)) in
+        omega (arith, all)
+    by (inr e) = subst (λ (t : List ℕ). length t ≤ length text) (sym e.1) (omega arith)
+parts_short text before after (inr (none, same, e)) = subst (λ (t : List ℕ). length t ≤ length text) (sym e) (omega arith)

@@ -1,5 +1,5 @@
 -- Rules that are pending, one by one; and when there may be a circle.
-use Rattle.std.proofs.Common.{◌≡◌, ◌==◌, ◌+◌, ◌<◌, ℕ, Bool, true, false, cond, List, [], ◌∷◌, ◌++◌, length, map, get_or, drop, Option, Some, None, refl, sym, ap, ◌∙◌, append_assoc, add-one, drop-cons}
+use Rattle.std.proofs.Common.{◌≡◌, ◌==◌, ◌+◌, ◌<◌, ℕ, Bool, true, false, cond, arith, List, [], ◌∷◌, ◌++◌, length, map, get_or, drop, Option, Some, None, refl, sym, ap, ◌∙◌, append_assoc, add-one, drop-cons}
 use Rattle.std.proofs.lemmas.List.{append-nil}
 use Rattle.std.specs.Cmp.{nat_cmp_total}
 use Rattle.std.specs.FinMap.{entries, len}
@@ -80,9 +80,9 @@ waited_step stages i stage rest others arg ids new whole inside is made before =
     ∙ append_assoc ids (waited_for (one ∷ []) (arg_of arg ∷ [])) (waited_for (drop (i + 1) stages) (map arg_of others))
     ∙ ap (λ (t : List ℕ). ids ++ t) (sym (waited_more one (arg_of arg) (drop (i + 1) stages) (map arg_of others)))
     ∙ ap (λ (ss : List Stage). ids ++ waited_for ss (map arg_of (arg ∷ others))) (sym next)
-    ∙ ap (λ (as : List code.Arg). ids ++ waited_for (drop i stages) (map arg_of as)) (sym is)
+    ∙ ap (λ (given : List code.Arg). ids ++ waited_for (drop i stages) (map arg_of given)) (sym is)
     ∙ before
 
-pub waited_end : (stages : List Stage) (rest : List code.Arg) (ids whole : List ℕ) → rest ≡ [] → ids ++ waited_for stages (map arg_of rest) ≡ whole → ids ≡ whole
-waited_end stages rest ids whole none before =
-    sym (append-nil ids) ∙ ap (λ (t : List ℕ). ids ++ t) (sym (waited_none stages)) ∙ ap (λ (as : List code.Arg). ids ++ waited_for stages (map arg_of as)) (sym none) ∙ before
+pub waited_end : (stages : List Stage) (rest : List code.Arg) (ids whole : List ℕ) → length rest ≡ 0 → ids ++ waited_for stages (map arg_of rest) ≡ whole → ids ≡ whole
+waited_end stages [] ids whole none before = sym (append-nil ids) ∙ ap (λ (t : List ℕ). ids ++ t) (sym (waited_none stages)) ∙ before
+waited_end stages (arg ∷ rest) ids whole none before = absurd (omega (arith, none))

@@ -1,7 +1,9 @@
 //! The events that a text tells.
 
-ghost use Rattle.std.specs.Prelude.{◌≡◌, ◌↔◌, ◌<◌, IsTrue, MatchResult, Ok, length};
+ghost use Rattle.std.specs.Prelude.{◌≡◌, ◌↔◌, ◌+◌, ◌<◌, ◌≤◌, IfOk, IsTrue, MatchResult, Ok, length};
 ghost use Rattle.std.specs.Option.{option_map};
+ghost use Rattle.std.specs.List.{AllByRecursion};
+ghost use Rattle.tw_report.specs.Events.{IsEvent};
 ghost use Rattle.tw_report.specs.History.{AreParts, IsNoHistory, IsWord, Tell, lines_in};
 ghost use Rattle.tw_report.specs.reading.History.{IsFirstLine, Takes};
 
@@ -68,7 +70,9 @@ fn take_line(
 ///
 /// Blank lines are skipped, and counted. What stands behind `end` isn't looked at.
 pub fn read_history(alloc: Global, text: &[u8]) -> Result<Vec<Event>, HistoryFault>
-    ensures { MatchResult result (λ events. Tell (lines_in text.now) (Ok events.items)) (λ fault. IsNoHistory (lines_in text.now) fault) }
+    ensures told { MatchResult result (λ events. Tell (lines_in text.now) (Ok events.items)) (λ fault. IsNoHistory (lines_in text.now) fault) }
+    ensures sizes { IfOk result (λ events. AllByRecursion IsEvent events.items) }
+    ensures few { IfOk result (λ events. length events.items ≤ length text.now + 1) }
 {
     let mut events = Vec::new(alloc);
     let mut rest = text;

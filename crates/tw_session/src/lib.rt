@@ -5,12 +5,12 @@
 
 mod check;
 mod input;
-mod lines;
+mod replay;
 mod reply;
-mod report;
 mod shell;
 mod status;
 
+pub use replay::replay_reply;
 pub use reply::{Reply, reply_to};
 pub use shell::{session, without_words};
 pub use status::{Close, Status};
