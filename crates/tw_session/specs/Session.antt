@@ -13,7 +13,7 @@ use Rattle.tw_code.specs.machine.Inputs.{has_input_count, has_fitting_inputs}
 use Rattle.tw_code.specs.accepting.Needs.{HasTargets}
 use Rattle.tw_code.specs.accepting.WellTyped.{IsAccepted, IsFirstRefusal}
 use Rattle.tw_command.specs.declared.command.Order.{Order}
-use Rattle.tw_command.specs.declared.command.Order.TheVariants.{Assemble, Program}
+use Rattle.tw_command.specs.declared.command.Order.TheVariants.{Assemble, Program, Replay}
 use Rattle.tw_command.specs.declared.command.ProgramOrder.{ProgramOrder}
 use Rattle.tw_command.specs.declared.command.ProgramOrder.TheVariants.{Disassemble, Verified}
 use Rattle.tw_command.specs.declared.command.VerifiedOrder.{VerifiedOrder}
@@ -39,6 +39,7 @@ use Rattle.tw_report.specs.Lines.{asm_line, fault_line, input_word_line, verify_
 use Rattle.tw_report.specs.Report.{report, stuck_lines}
 use Rattle.tw_session.specs.Reply.{Reply, reply}
 use Rattle.tw_session.specs.Check.{IsCheckText}
+use Rattle.tw_session.specs.Replay.{RepliesByReplay}
 
 -- ---- a run
 
@@ -115,11 +116,12 @@ RepliesByAssembly text r =
 
 -- ---- an order
 
--- what is read is assembly text, or the hex text of a program
+-- what is read is assembly text, or the hex text of a program, with a history behind it where that is replayed
 abbrev pub RepliesByInput : Order → List ℕ → Reply → Type 0
 RepliesByInput Assemble input r =
     (IsUtf8 input × RepliesByAssembly input r) ⊎ ((IsUtf8 input → ⊥) × (r ≡ reply (codes "refused H03\n") Refused))
 RepliesByInput (Program order) input r = RepliesByText order (decode_of (digits_in input)) r
+RepliesByInput (Replay order) input r = RepliesByReplay order.layout order.inputs input r
 
 -- what a session may answer to an order and the bytes that it reads: too much input is refused before it is looked at
 abbrev pub MayReply : Order → List ℕ → Reply → Type 0

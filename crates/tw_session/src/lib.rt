@@ -10,7 +10,6 @@ mod reply;
 mod shell;
 mod status;
 
-pub use replay::replay_reply;
 pub use reply::{Reply, reply_to};
 pub use shell::{session, without_words};
 pub use status::{Close, Status};

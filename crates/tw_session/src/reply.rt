@@ -20,6 +20,7 @@ ghost use Rattle.hex.specs.Hex.{decode_of, encode_lower};
 
 use crate::check::check_text;
 use crate::input::{MOST_BYTES, digits};
+use crate::replay::replay_reply;
 use crate::status::Close;
 use hex::FromHexError;
 use std::alloc::{AllocError, Global};
@@ -292,5 +293,8 @@ pub fn reply_to(alloc: Global, order: &Order, input: Vec<u8>) -> Result<Reply, A
     match order {
         Order::Assemble => assembled_reply(alloc, input),
         Order::Program(order) => text_reply(alloc, order, input),
+        Order::Replay(order) => {
+            replay_reply(alloc, order.layout, order.inputs.as_slice(), &input)
+        }
     }
 }

@@ -1,0 +1,16 @@
+use Rattle.std.proofs.Common.{◌∙◌}
+use Rattle.std.proofs.lemmas.Result.{IfOk-weaker}
+use Rattle.tw_machine.specs.Opening.{refusal_of}
+use Rattle.tw_session.specs.Replay.{played, replayed}
+use Rattle.tw_code.specs.machine.Opening.{opening}
+use Rattle.tw_session.specs.declared.reply.Reply.{Reply}
+use Rattle.tw_session.proofs.Playing.{refused_played}
+use Rattle.tw_session.proofs.replay.events_reply.Goals as goal
+
+pub returns : goal.returns
+returns c =
+    let program = c.args.program in
+    let inputs = c.args.inputs.now in
+    IfOk-weaker _ _ _
+    (λ (r : Reply) h. h ∙ refused_played (refusal_of program inputs) c.in-Err.refused.no c.number.result (played program c.args.layout 1 c.args.events.now (opening program inputs)) c.in-Err.ensures.asked c.in_default.not-NoMemory
+    c.number.ensures) c.opening_reply.ensures
