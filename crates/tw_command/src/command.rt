@@ -36,7 +36,8 @@ The report has a line for each output, with a line for each member behind a cont
 Exit status: 0 quiet, 1 refused, 2 command line or input word refused, 3 stuck, 4 event limit, 5 memory ran out,
 6 trap, 7 a read or write failed.";
 
-const REPLAY_ABOUT: &str = "Makes the events of a history on the reference machine and reports the state that they leave.
+const REPLAY_ABOUT: &str =
+    "Makes the events of a history on the reference machine and reports the state that they leave.
 
 What is read from standard input is a program as hex text, a line `events`, a line for each event, and a line `end` or
 the end. Without a line `events` there are no events; what stands behind `end` isn't looked at. A history is what

@@ -180,10 +180,14 @@ deliver_told event words e =
     let datum = plain_spelled 0 0xFFFFFFFFFFFFFFFF t.a t.word t.says in
     let rule = plain_spelled 0 0xFFFFFFFFFFFFFFFF u.a u.word u.says in
     let parameter = plain_spelled 0 255 v.a v.word v.says in
-    told (codes "deliver") (Deliver s.a t.a u.a v.a) event words last.1
-    ((server.0, datum.0, rule.0, parameter.0),
-    (refl, one_more (actor_part (Server s.a)) (Number [] t.a ∷ Number [] u.a ∷ Number [] v.a ∷ []) words s.word s.rest s.is server.1 (one_more (Number [] t.a) (Number [] u.a ∷ Number [] v.a ∷ []) s.rest t.word t.rest t.is datum.1
-    (one_more (Number [] u.a) (Number [] v.a ∷ []) t.rest u.word u.rest u.is rule.1 (one_more (Number [] v.a) [] u.rest v.word v.rest v.is parameter.1 (no_more v.rest last.0))))))
+    told (codes "deliver") (Deliver s.a t.a u.a v.a) event words last.1 (
+      (server.0, datum.0, rule.0, parameter.0),
+      (
+        refl,
+        one_more (actor_part (Server s.a)) (Number [] t.a ∷ Number [] u.a ∷ Number [] v.a ∷ []) words s.word s.rest s.is server.1 (one_more (Number [] t.a) (Number [] u.a ∷ Number [] v.a ∷ []) s.rest t.word t.rest t.is datum.1
+            (one_more (Number [] u.a) (Number [] v.a ∷ []) t.rest u.word u.rest u.is rule.1 (one_more (Number [] v.a) [] u.rest v.word v.rest v.is parameter.1 (no_more v.rest last.0)))),
+      ),
+    )
 
 release_told : (event : Event) (words : List (List ℕ)) → release_in words ≡ Some event → Told (codes "release") event words
 release_told event words e =

@@ -8,12 +8,7 @@ use std::alloc::{AllocError, Global};
 use tw_types::{Actor, Event};
 
 /// Adds a name, and the actor behind it.
-fn put_actor(
-    alloc: Global,
-    out: &mut Vec<u8>,
-    name: &str,
-    actor: Actor,
-) -> Result<(), AllocError>
+fn put_actor(alloc: Global, out: &mut Vec<u8>, name: &str, actor: Actor) -> Result<(), AllocError>
     ensures { OnOk result (out.new.items ≡ out.old.items ++ (name.now ++ (codes " " ++ part_text (actor_part actor)))) }
 {
     put(out, name)?;

@@ -44,11 +44,7 @@ fn first_line(text: &[u8]) -> (&[u8], Option<&[u8]>)
 }
 
 /// Adds the event of a line, if it has one; `false` where the line is `end`.
-fn take_line(
-    events: &mut Vec<Event>,
-    line: &[u8],
-    number: usize,
-) -> Result<bool, HistoryFault>
+fn take_line(events: &mut Vec<Event>, line: &[u8], number: usize) -> Result<bool, HistoryFault>
     ensures { Takes events.old.items line.now number result events.new.items }
 {
     if is_blank(line) {

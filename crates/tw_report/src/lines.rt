@@ -166,11 +166,7 @@ pub fn put_trap_line(
 }
 
 /// Adds the line of a history whose line of this number is no event; lines count from 1, behind `events`.
-pub fn put_history_line(
-    alloc: Global,
-    out: &mut Vec<u8>,
-    line: usize,
-) -> Result<(), AllocError>
+pub fn put_history_line(alloc: Global, out: &mut Vec<u8>, line: usize) -> Result<(), AllocError>
     ensures { OnOk result (out.new.items ≡ out.old.items ++ history_line line) }
 {
     put_numbered(alloc, out, "refused E01 at line ", line)?;

@@ -25,11 +25,7 @@ fn put_waited(ids: &mut Vec<DatumId>, stage: Stage, arg: &Arg) -> Result<(), All
 }
 
 /// The data for which parameters wait.
-fn waited_for(
-    alloc: Global,
-    stages: &[Stage],
-    args: &[Arg],
-) -> Result<Vec<DatumId>, AllocError>
+fn waited_for(alloc: Global, stages: &[Stage], args: &[Arg]) -> Result<Vec<DatumId>, AllocError>
     ensures { IfOk result (λ ids. ids.items ≡ waited_for stages.now (map arg_of args.now)) }
 {
     let mut ids = Vec::new(alloc);
@@ -60,11 +56,7 @@ fn put_written(ids: &mut Vec<DatumId>, param: Param, arg: &Arg) -> Result<(), Al
 }
 
 /// The data of `write` arguments.
-fn written_by(
-    alloc: Global,
-    params: &[Param],
-    args: &[Arg],
-) -> Result<Vec<DatumId>, AllocError>
+fn written_by(alloc: Global, params: &[Param], args: &[Arg]) -> Result<Vec<DatumId>, AllocError>
     ensures { IfOk result (λ ids. ids.items ≡ written_by params.now (map arg_of args.now)) }
 {
     let mut ids = Vec::new(alloc);
