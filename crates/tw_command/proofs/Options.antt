@@ -1,5 +1,5 @@
 -- The number of an option, by what the reader of digits answers.
-use Rattle.std.proofs.Common.{arith, ◌≡◌, ◌<◌, ◌∙◌, ◌&&◌, ℕ, Bool, true, false, List, [], ◌∷◌, get_or, inl, refl, sym, ap, cond, subst, Option, Some, None}
+use Rattle.std.proofs.Common.{arith, ◌≡◌, ◌<◌, ◌∙◌, ◌&&◌, ℕ, Bool, true, false, List, [], ◌∷◌, length, get_or, inl, refl, sym, ap, cond, subst, Option, Some, None}
 use Rattle.std.specs.Prelude.{nat_le, nat_lt, is_some, Result, Ok, Err}
 use Rattle.std.specs.Char.{digit_value}
 use Rattle.std.specs.Int.{IsInRange}
@@ -18,7 +18,7 @@ use Rattle.tw_words.specs.Number.{IsRead, SpellsDigits}
 use Rattle.tw_words.specs.declared.numbers.Flaw.{Flaw}
 use Rattle.tw_words.specs.declared.numbers.Flaw.TheVariants.{Form, Limit}
 use Rattle.tw_types.specs.Layout.{ActorCounts}
-use Rattle.tw_command.specs.Options.{HasActors, NumberOption, actors_told, engines, limit, number_in, number_of, number_options, option_faults}
+use Rattle.tw_command.specs.Options.{HasActors, NumberOption, actor_options, actors_told, engines, limit, number_in, number_of, number_options, option_faults, servers, workers}
 use Rattle.tw_command.specs.Order.{HasReason}
 use Rattle.tw_command.specs.CommandLine.{Asked}
 use Rattle.tw_command.specs.declared.command.NoOrder.TheVariants.{Refused}
@@ -82,11 +82,21 @@ not_given f o e = ap (λ (t : Option Text). option_map_or (number_in o.most) t (
 -- ---- all options
 
 -- an option without a number is a fault
-pub one_refused : (rows : List Row) (i : ℕ) → i < 4 → number_of (get_or number_options i engines) rows ≡ None → option_faults rows ≡ ValueValidation ∷ []
-one_refused rows i lt e = ap (λ (b : Bool). cond b [] (ValueValidation ∷ [])) (list_all_at (λ o. is_some (number_of o rows)) number_options i engines lt (ap is_some e))
+pub one_refused : (options : List NumberOption) (rows : List Row) (i : ℕ) → i < length options → number_of (get_or options i engines) rows ≡ None → option_faults options rows ≡ ValueValidation ∷ []
+one_refused options rows i lt e = ap (λ (b : Bool). cond b [] (ValueValidation ∷ [])) (list_all_at (λ o. is_some (number_of o rows)) options i engines lt (ap is_some e))
 
-pub limit_refused : (rows : List Row) → None ≡ number_of limit rows → option_faults rows ≡ ValueValidation ∷ []
-limit_refused rows e = one_refused rows 3 (omega arith) (sym e)
+pub limit_refused : (rows : List Row) → None ≡ number_of limit rows → option_faults number_options rows ≡ ValueValidation ∷ []
+limit_refused rows e = one_refused number_options rows 3 (omega arith) (sym e)
+
+-- what is wrong with an actor's number is wrong with `run` too
+pub actors_refused : (rows : List Row) → option_faults actor_options rows ≡ ValueValidation ∷ [] → option_faults number_options rows ≡ ValueValidation ∷ []
+actors_refused rows e = by (is_some (number_of engines rows)) (is_some (number_of servers rows)) (is_some (number_of workers rows)) (is_some (number_of limit rows)) e
+  where
+    by : (e s w l : Bool) → cond (e && (s && (w && true))) [] (ValueValidation ∷ []) ≡ ValueValidation ∷ [] → cond (e && (s && (w && (l && true)))) [] (ValueValidation ∷ []) ≡ ValueValidation ∷ []
+    by true true true l e = cc
+    by true true false l e = refl
+    by true false w l e = refl
+    by false s w l e = refl
 
 pub has_fault : (kinds : Kinds) (asked : Asked) → kinds ≡ ValueValidation ∷ [] → HasReason kinds asked Refused
 has_fault kinds asked e = subst (λ (k : Kinds). HasReason k asked Refused) (sym e) (ValueValidation, inl refl, no_help)
@@ -95,8 +105,11 @@ has_fault kinds asked e = subst (λ (k : Kinds). HasReason k asked Refused) (sym
     no_help e = cc
 
 -- where each has one, they are those that are told
-pub all_taken : (rows : List Row) (layout : ActorCounts) (n : ℕ) → HasActors rows layout → number_of limit rows ≡ Some n → option_faults rows ≡ []
+pub all_taken : (rows : List Row) (layout : ActorCounts) (n : ℕ) → HasActors rows layout → number_of limit rows ≡ Some n → option_faults number_options rows ≡ []
 all_taken rows layout n h e = rw (h.0, h.1, h.2, e) refl
+
+pub actors_taken : (rows : List Row) (layout : ActorCounts) → HasActors rows layout → option_faults actor_options rows ≡ []
+actors_taken rows layout h = rw (h.0, h.1, h.2) refl
 
 pub actors_are : (rows : List Row) (layout : ActorCounts) → HasActors rows layout → layout ≡ actors_told rows
 actors_are rows layout h = rw (h.0, h.1, h.2) refl

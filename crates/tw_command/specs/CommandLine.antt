@@ -5,24 +5,31 @@ use Rattle.clap.specs.Lexer.{usize_max}
 use Rattle.clap.specs.Words.{App, Kinds, Row, Rule, Text, all_of, fault_of, new_app, new_rule, subcommand_of, with_rule, with_subcommand}
 use Rattle.tw_types.specs.Layout.{ActorCounts}
 use Rattle.tw_command.specs.InputWords.{AreSpelled, IsRefusedWord}
-use Rattle.tw_command.specs.Options.{actors_told, limit, number_options, option_faults, option_rule, told}
+use Rattle.tw_command.specs.Options.{NumberOption, actor_options, actors_told, limit, number_options, option_faults, option_rule, told}
 use Rattle.tw_command.specs.declared.command.Order.{Order}
-use Rattle.tw_command.specs.declared.command.Order.TheVariants.{Assemble, Program}
+use Rattle.tw_command.specs.declared.command.Order.TheVariants.{Assemble, Program, Replay}
 use Rattle.tw_command.specs.declared.command.ProgramOrder.TheVariants.{Disassemble, Verified}
 use Rattle.tw_command.specs.declared.command.VerifiedOrder.TheVariants.{Check, Run}
+use Rattle.tw_command.specs.declared.command.ReplayOrder.{ReplayOrder}
 use Rattle.tw_command.specs.declared.command.RunOrder.{RunOrder}
 
 -- a command without options
 abbrev pub plain_line : Text → App
 plain_line name = new_app name
 
--- the words behind `run`, however many
+-- the words behind `run` or `replay`, however many
 abbrev pub input_rule : Rule
 input_rule = record (new_rule (codes "input")) { range = Some (record { start_inclusive = 0; end_inclusive = usize_max }) }
 
--- `run`, with its options and input words
+-- a command with these options, and input words
+abbrev pub options_line : Text → List NumberOption → App
+options_line name options = with_rule (fold with_rule (new_app name) (map (λ o. option_rule o.name) options)) input_rule
+
 abbrev pub run_line : App
-run_line = with_rule (fold with_rule (new_app (codes "run")) (map (λ o. option_rule o.name) number_options)) input_rule
+run_line = options_line (codes "run") number_options
+
+abbrev pub replay_line : App
+replay_line = options_line (codes "replay") actor_options
 
 -- the words come without the program's own name, and a command must be among them
 abbrev pub bare_line : App
@@ -36,8 +43,8 @@ bare_line = record (new_app (codes "tw")) {
 
 -- the whole command line
 unfoldable pub command_line : App
-command_line = with_subcommand (with_subcommand (with_subcommand (with_subcommand bare_line
-    (plain_line (codes "asm")).top) (plain_line (codes "disasm")).top) (plain_line (codes "check")).top) run_line.top
+command_line = with_subcommand (with_subcommand (with_subcommand (with_subcommand (with_subcommand bare_line
+    (plain_line (codes "asm")).top) (plain_line (codes "disasm")).top) (plain_line (codes "check")).top) run_line.top) replay_line.top
 
 -- ---- what the words ask for
 
@@ -45,21 +52,28 @@ command_line = with_subcommand (with_subcommand (with_subcommand (with_subcomman
 abbrev pub given_words : List Row → List Text
 given_words rows = unwrap_or (all_of (codes "input") rows) []
 
--- the command that was named; `run` with its actors, the most events of the run, and the input words
+-- the command that was named; `run` with its actors, the most events of the run, and the input words; `replay` with its actors
+-- and the input words
 pub data Asked : Type 0 where
   Assembles : Asked
   Disassembles : Asked
   Checks : Asked
   Runs : ActorCounts → ℕ → List Text → Asked
+  Replays : ActorCounts → List Text → Asked
 
 -- `run`, by what clap found behind it
 abbrev pub run_asked : List Row → Asked
 run_asked rows = Runs (actors_told rows) (told limit rows) (given_words rows)
 
+-- `replay`, by what clap found behind it
+abbrev pub replay_asked : List Row → Asked
+replay_asked rows = Replays (actors_told rows) (given_words rows)
+
 abbrev pub asked_of : Option (Text × List Row) → Asked
 asked_of None = Checks
 asked_of (Some named) =
     if bytes_eq named.0 (codes "run") then run_asked named.1 else
+    if bytes_eq named.0 (codes "replay") then replay_asked named.1 else
     if bytes_eq named.0 (codes "asm") then Assembles else
     if bytes_eq named.0 (codes "disasm") then Disassembles else
     Checks
@@ -75,6 +89,8 @@ IsAsked Disassembles order = order ≡ Program Disassemble
 IsAsked Checks order = order ≡ Program (Verified Check)
 IsAsked (Runs layout most words) order =
     (run : RunOrder) × (order ≡ Program (Verified (Run run))) × (run.layout ≡ layout) × (run.limit ≡ most) × AreSpelled run.inputs words
+IsAsked (Replays layout words) order =
+    (replay : ReplayOrder) × (order ≡ Replay replay) × (replay.layout ≡ layout) × AreSpelled replay.inputs words
 
 -- or the word of this number, counted from 1, is the first that spells no input
 abbrev pub IsRefusedInput : Asked → ℕ → Type 0
@@ -82,13 +98,17 @@ IsRefusedInput Assembles number = ⊥
 IsRefusedInput Disassembles number = ⊥
 IsRefusedInput Checks number = ⊥
 IsRefusedInput (Runs layout most words) number = IsRefusedWord words number
+IsRefusedInput (Replays layout words) number = IsRefusedWord words number
 
 -- ---- what refuses the words
 
 -- of the options
 abbrev pub faults_behind : Option (Text × List Row) → Kinds
 faults_behind None = []
-faults_behind (Some named) = if bytes_eq named.0 (codes "run") then option_faults named.1 else []
+faults_behind (Some named) =
+    if bytes_eq named.0 (codes "run") then option_faults number_options named.1 else
+    if bytes_eq named.0 (codes "replay") then option_faults actor_options named.1 else
+    []
 
 -- nothing where they are taken; the faults that clap finds go before an option's
 abbrev pub word_faults : List Text → Kinds

@@ -1,4 +1,4 @@
--- The options of `run`. Each takes a number.
+-- The options of `run` and `replay`. Each takes a number.
 use Rattle.std.specs.Prelude.{◌≡◌, ◌&&◌, ℕ, List, [], ◌∷◌, Option, Some, None, codes, if◌then◌else◌, is_some, nat_le, unwrap_or}
 use Rattle.std.specs.List.{list_all}
 use Rattle.std.specs.Option.{option_map_or}
@@ -26,6 +26,11 @@ workers = record { name = codes "workers"; most = 16; default = 1 }
 abbrev pub limit : NumberOption
 limit = record { name = codes "limit"; most = 1000000; default = 10000 }
 
+-- those of `replay`
+abbrev pub actor_options : List NumberOption
+actor_options = engines ∷ servers ∷ workers ∷ []
+
+-- those of `run`
 abbrev pub number_options : List NumberOption
 number_options = engines ∷ servers ∷ workers ∷ limit ∷ []
 
@@ -43,9 +48,9 @@ number_in most text =
 abbrev pub number_of : NumberOption → List Row → Option ℕ
 number_of o rows = option_map_or (number_in o.most) (first_of o.name rows) (Some o.default)
 
--- the fault where an option has none
-abbrev pub option_faults : List Row → Kinds
-option_faults rows = if list_all (λ o. is_some (number_of o rows)) number_options then [] else ValueValidation ∷ []
+-- the fault where one of these options has none
+abbrev pub option_faults : List NumberOption → List Row → Kinds
+option_faults options rows = if list_all (λ o. is_some (number_of o rows)) options then [] else ValueValidation ∷ []
 
 -- else the numbers of the options
 abbrev pub told : NumberOption → List Row → ℕ

@@ -5,12 +5,12 @@ ghost use Rattle.clap.specs.Words.{app_of, found_of, kind_of, rows_of, rule_of, 
 ghost use Rattle.clap.specs.declared.Command.TheViews.{out-Command};
 ghost use Rattle.clap.specs.declared.error.ErrorKind.TheVariants.{ValueValidation};
 ghost use Rattle.tw_command.specs.CommandLine.{IsAsked, asked_by_words, asked_of, faults_behind, given_words};
-ghost use Rattle.tw_command.specs.CommandLine.{bare_line, command_line, input_rule, plain_line, run_asked, run_line, word_faults};
-ghost use Rattle.tw_command.specs.declared.command.Order.TheVariants.{Program};
+ghost use Rattle.tw_command.specs.CommandLine.{bare_line, command_line, input_rule, plain_line, replay_asked, replay_line, run_asked, run_line, word_faults};
+ghost use Rattle.tw_command.specs.declared.command.Order.TheVariants.{Program, Replay};
 ghost use Rattle.tw_command.specs.declared.command.ProgramOrder.TheVariants.{Verified};
 ghost use Rattle.tw_command.specs.declared.command.VerifiedOrder.TheVariants.{Run};
 ghost use Rattle.tw_command.specs.InputWords.{AreSpelled};
-ghost use Rattle.tw_command.specs.Options.{HasActors, limit, number_of, option_faults, option_rule};
+ghost use Rattle.tw_command.specs.Options.{HasActors, actor_options, limit, number_of, number_options, option_faults, option_rule};
 ghost use Rattle.std.specs.Int.{IsInRange};
 ghost use Rattle.tw_command.specs.Order.{HasReason, IsInputReason, IsReason};
 ghost use Rattle.tw_command.specs.declared.command.NoOrder.TheVariants.{NoMemory};
@@ -35,6 +35,17 @@ Options take a number in decimal digits, and stand before, behind or between the
 The report has a line for each output, with a line for each member behind a container's, and then how the run ended.
 Exit status: 0 quiet, 1 refused, 2 command line or input word refused, 3 stuck, 4 event limit, 5 memory ran out,
 6 trap, 7 a read or write failed.";
+
+const REPLAY_ABOUT: &str =
+    "Makes the events of a history on the reference machine and reports the state that they leave.
+
+What is read from standard input is a program as hex text, a line `events`, a line for each event, and a line `end` or
+the end. Without a line `events` there are no events; what stands behind `end` isn't looked at. A history is what
+`tw run --trace` writes, or any other: take w0, local w0 3, call w0, end w0, ask e0 1 0, deliver s0 2 1 0, release e0 1.
+The program isn't verified first. Its inputs are words behind the command, as those of `tw run`.
+The report ends with a line that tells how the run ended, or with `running`.
+Exit status: 0 quiet or still running, 1 refused or an event that isn't enabled, 2 command line or input word refused,
+3 stuck, 5 memory ran out, 6 trap, 7 a read or write failed.";
 
 const ENGINES_HELP: &str = "How many engines: 1 to 4 (default: 1)";
 
@@ -94,6 +105,15 @@ pub enum ProgramOrder {
     Verified(VerifiedOrder),
 }
 
+/// How a history is replayed.
+#[derive(Drop)]
+pub struct ReplayOrder {
+    /// The actors.
+    pub layout: Layout,
+    /// Main's inputs, one for each input word, in their order.
+    pub inputs: Items<Input>,
+}
+
 /// What the words ask for.
 #[derive(Drop)]
 pub enum Order {
@@ -101,6 +121,8 @@ pub enum Order {
     Assemble,
     /// Do this with the program whose hex text is read.
     Program(ProgramOrder),
+    /// Replay the history that is read behind a program's hex text.
+    Replay(ReplayOrder),
 }
 
 /// Why the words give no order.
@@ -167,6 +189,18 @@ fn run_command<'a>(alloc: Global) -> Result<Command<'a>, AllocError>
     Ok(whole)
 }
 
+fn replay_command<'a>(alloc: Global) -> Result<Command<'a>, AllocError>
+    ensures app { IfOk result (λ c. app_of c ≡ replay_line) }
+    ensures local { IfOk result (λ c. (out-Command c).has_globals ≡ false) }
+{
+    let bare = Command::new(alloc, "replay").about(REPLAY_ABOUT);
+    let engines = bare.arg(option_arg(alloc, "engines", ENGINES_HELP))?;
+    let servers = engines.arg(option_arg(alloc, "servers", SERVERS_HELP))?;
+    let workers = servers.arg(option_arg(alloc, "workers", WORKERS_HELP))?;
+    let whole = workers.arg(input_arg(alloc))?;
+    Ok(whole)
+}
+
 /// The program without its commands.
 fn bare_command<'a>(alloc: Global) -> Result<Command<'a>, AllocError>
     ensures { IfOk result (λ c. app_of c ≡ bare_line) }
@@ -188,7 +222,9 @@ fn command<'a>(alloc: Global) -> Result<Command<'a>, AllocError>
     let both = assembling.subcommand(plain_command(alloc, "disasm", DISASM_ABOUT))?;
     let checking = both.subcommand(plain_command(alloc, "check", CHECK_ABOUT))?;
     let running = run_command(alloc)?;
-    let whole = checking.subcommand(running)?;
+    let four = checking.subcommand(running)?;
+    let replaying = replay_command(alloc)?;
+    let whole = four.subcommand(replaying)?;
     Ok(whole)
 }
 
@@ -221,7 +257,7 @@ fn number_given(matches: &ArgMatches<'_>, name: &str, most: u64, default: u64) -
 /// The actors that the options tell.
 fn layout_given(matches: &ArgMatches<'_>) -> Option<Layout>
     ensures { MatchOption result
-        (option_faults (rows_of (found_of matches.now)) ≡ ValueValidation ∷ [])
+        (option_faults actor_options (rows_of (found_of matches.now)) ≡ ValueValidation ∷ [])
         (HasActors (rows_of (found_of matches.now))) }
 {
     let engines = number_given(matches, "engines", u64::from(Layout::MAX_ENGINES), 1)?;
@@ -253,7 +289,7 @@ fn inputs_of(alloc: Global, words: &[&str]) -> Result<Items<Input>, NoOrder>
     Ok(Items::from(inputs))
 }
 
-/// The inputs that the words behind `run` spell.
+/// The inputs that the words behind `run` or `replay` spell.
 fn inputs_given(alloc: Global, matches: &ArgMatches<'_>) -> Result<Items<Input>, NoOrder>
     ensures spelled { IfOk result (λ inputs. AreSpelled inputs (given_words (rows_of (found_of matches.now)))) }
     ensures refused { IfErr result (IsInputReason (given_words (rows_of (found_of matches.now)))) }
@@ -266,10 +302,10 @@ fn inputs_given(alloc: Global, matches: &ArgMatches<'_>) -> Result<Items<Input>,
 
 /// The order to run, by what was found behind `run`.
 fn run_order(alloc: Global, matches: &ArgMatches<'_>) -> Result<RunOrder, NoOrder>
-    ensures taken { IfOk result (λ order. (option_faults (rows_of (found_of matches.now)) ≡ [])
+    ensures taken { IfOk result (λ order. (option_faults number_options (rows_of (found_of matches.now)) ≡ [])
         × IsAsked (run_asked (rows_of (found_of matches.now))) (Program (Verified (Run order)))) }
     ensures refused { IfErr result
-        (HasReason (option_faults (rows_of (found_of matches.now))) (run_asked (rows_of (found_of matches.now)))) }
+        (HasReason (option_faults number_options (rows_of (found_of matches.now))) (run_asked (rows_of (found_of matches.now)))) }
 {
     let Some(layout) = layout_given(matches) else {
         return Err(NoOrder::Refused);
@@ -283,6 +319,20 @@ fn run_order(alloc: Global, matches: &ArgMatches<'_>) -> Result<RunOrder, NoOrde
         limit,
         inputs,
     })
+}
+
+/// The order to replay, by what was found behind `replay`.
+fn replay_order(alloc: Global, matches: &ArgMatches<'_>) -> Result<ReplayOrder, NoOrder>
+    ensures taken { IfOk result (λ order. (option_faults actor_options (rows_of (found_of matches.now)) ≡ [])
+        × IsAsked (replay_asked (rows_of (found_of matches.now))) (Replay order)) }
+    ensures refused { IfErr result
+        (HasReason (option_faults actor_options (rows_of (found_of matches.now))) (replay_asked (rows_of (found_of matches.now)))) }
+{
+    let Some(layout) = layout_given(matches) else {
+        return Err(NoOrder::Refused);
+    };
+    let inputs = inputs_given(alloc, matches)?;
+    Ok(ReplayOrder { layout, inputs })
 }
 
 fn verified_order(order: VerifiedOrder) -> Order
@@ -302,6 +352,7 @@ fn order_of(alloc: Global, matches: &ArgMatches<'_>) -> Result<Order, NoOrder>
             let order = run_order(alloc, given)?;
             Ok(verified_order(VerifiedOrder::Run(order)))
         }
+        Some(("replay", given)) => Ok(Order::Replay(replay_order(alloc, given)?)),
         Some(("asm", _)) => Ok(Order::Assemble),
         Some(("disasm", _)) => Ok(Order::Program(ProgramOrder::Disassemble)),
         _ => Ok(verified_order(VerifiedOrder::Check)),

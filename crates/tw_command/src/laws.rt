@@ -3,11 +3,11 @@
 ghost use Rattle.std.specs.Prelude.{◌≡◌, ℕ, List, [], ◌∷◌, codes};
 ghost use Rattle.clap.specs.declared.error.ErrorKind.TheVariants.{ArgumentConflict, DisplayHelp, InvalidSubcommand};
 ghost use Rattle.clap.specs.declared.error.ErrorKind.TheVariants.{InvalidValue, UnknownArgument, ValueValidation};
-ghost use Rattle.tw_command.specs.CommandLine.{Assembles, Checks, Disassembles, Runs, asked_by_words, word_faults};
+ghost use Rattle.tw_command.specs.CommandLine.{Assembles, Checks, Disassembles, Replays, Runs, asked_by_words, word_faults};
 ghost use Rattle.tw_command.specs.Options.{actors};
 ghost use Rattle.tw_command.specs.InputWords.{OneInput, OneRefusedWord};
 
-/// Each command is taken, and asks for what its name says, with the options and words behind `run`.
+/// Each command is taken, and asks for what its name says, with the options and words behind `run` and `replay`.
 pub fn commands_are_taken()
     ensures asm { (word_faults (codes "asm" ∷ []) ≡ []) × (asked_by_words (codes "asm" ∷ []) ≡ Assembles) }
     ensures disasm { (word_faults (codes "disasm" ∷ []) ≡ []) × (asked_by_words (codes "disasm" ∷ []) ≡ Disassembles) }
@@ -29,6 +29,9 @@ pub fn commands_are_taken()
         ≡ [])
         × (asked_by_words (codes "run" ∷ codes "int:7" ∷ codes "--limit" ∷ codes "9" ∷ codes "--engines=2" ∷ [])
         ≡ Runs (actors 2 1 1) 9 (codes "int:7" ∷ [])) }
+    ensures replay { (word_faults (codes "replay" ∷ codes "--workers" ∷ codes "2" ∷ codes "int:7" ∷ []) ≡ [])
+        × (asked_by_words (codes "replay" ∷ codes "--workers" ∷ codes "2" ∷ codes "int:7" ∷ [])
+        ≡ Replays (actors 1 1 2) (codes "int:7" ∷ [])) }
 {}
 
 /// Words are refused that name no command, or come after `check`; so is an option that isn't known, comes twice, or has
@@ -43,6 +46,7 @@ pub fn strangers_are_refused()
     ensures bare { word_faults (codes "run" ∷ codes "--limit" ∷ []) ≡ InvalidValue ∷ [] }
     ensures none { word_faults (codes "run" ∷ codes "--workers" ∷ codes "0" ∷ []) ≡ ValueValidation ∷ [] }
     ensures past { word_faults (codes "run" ∷ codes "--workers" ∷ codes "17" ∷ codes "7" ∷ []) ≡ ValueValidation ∷ [] }
+    ensures limit { word_faults (codes "replay" ∷ codes "--limit" ∷ codes "9" ∷ []) ≡ UnknownArgument ∷ [] }
     ensures word { word_faults (codes "run" ∷ codes "--engines" ∷ codes "+1" ∷ []) ≡ ValueValidation ∷ [] }
 {}
 

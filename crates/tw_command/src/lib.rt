@@ -8,7 +8,7 @@ mod input_words;
 mod laws;
 mod limit;
 
-pub use command::{NoOrder, Order, ProgramOrder, RunOrder, VerifiedOrder, read_order};
+pub use command::{NoOrder, Order, ProgramOrder, ReplayOrder, RunOrder, VerifiedOrder, read_order};
 pub use input_words::input_of;
 pub use laws::{commands_are_taken, strangers_are_refused, words_spell_one_input};
 pub use limit::EventLimit;

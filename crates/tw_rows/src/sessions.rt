@@ -54,10 +54,13 @@ fn lacks_text(alloc: Global, code: u8, text: &str, phrases: &str) -> Result<Stri
     Ok(told)
 }
 
-/// Text as it stands, text so many times, or the digits of bytes.
+/// Text as it stands, text so many times, or the digits of bytes, with a history behind them or without.
 fn read_input(alloc: Global, book: &Book, text: &str) -> Result<Vec<u8>, Complaint> {
     if let Some(bytes) = text.strip_prefix("hex ") {
-        return digits_of(alloc, read_bytes(alloc, book, bytes)?.as_slice());
+        return match bytes.split_once(" events ") {
+            Some((bytes, lines)) => with_history(alloc, book, bytes, lines),
+            None => digits_of(alloc, read_bytes(alloc, book, bytes)?.as_slice()),
+        };
     }
     match text.split_once(" times ") {
         Some((times, text)) => repeated(alloc, times.parse::<usize>()?, text),
@@ -67,6 +70,19 @@ fn read_input(alloc: Global, book: &Book, text: &str) -> Result<Vec<u8>, Complai
 
 fn digits_of(alloc: Global, bytes: &[u8]) -> Result<Vec<u8>, Complaint> {
     Ok(hex::encode(alloc, bytes)?.into_bytes())
+}
+
+/// The digits of bytes, a line `events`, and lines that commas part.
+fn with_history(
+    alloc: Global,
+    book: &Book,
+    bytes: &str,
+    lines: &str,
+) -> Result<Vec<u8>, Complaint> {
+    let mut input = digits_of(alloc, read_bytes(alloc, book, bytes)?.as_slice())?;
+    input.extend_from_slice(b"\nevents\n")?;
+    input.extend_from_slice(lines.replace(alloc, ",", "\n")?.as_bytes())?;
+    Ok(input)
 }
 
 fn repeated(alloc: Global, times: usize, text: &str) -> Result<Vec<u8>, Complaint> {

@@ -1,4 +1,4 @@
-pub mod Reports
 pub mod Openings
 pub mod Checks
 pub mod Replies
+pub mod Playing

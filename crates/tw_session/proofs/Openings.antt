@@ -12,8 +12,9 @@ use Rattle.tw_machine.specs.declared.refusal.OpenRefusal.TheVariants.{InputCount
 use Rattle.tw_machine.specs.Opening.{IsTold, open_refusal_number, refusal_of}
 use Rattle.tw_command.specs.declared.command.RunOrder.{RunOrder}
 use Rattle.tw_session.specs.declared.status.Close.TheVariants.{Refused}
-use Rattle.tw_session.specs.Lines.{opening_line}
-use Rattle.tw_session.specs.Session.{Reply, reply, RepliesByLayout, RepliesByOpening}
+use Rattle.tw_report.specs.Lines.{opening_line}
+use Rattle.tw_session.specs.Session.{RepliesByLayout, RepliesByOpening}
+use Rattle.tw_session.specs.Reply.{Reply, reply}
 
 told_by : (shape count fit : Bool) → Option OpenRefusal
 told_by shape count fit = cond (not shape) (Some MainShape) (cond (not count) (Some InputCount) (cond (not fit) (Some InputType) None))

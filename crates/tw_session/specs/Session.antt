@@ -13,13 +13,12 @@ use Rattle.tw_code.specs.machine.Inputs.{has_input_count, has_fitting_inputs}
 use Rattle.tw_code.specs.accepting.Needs.{HasTargets}
 use Rattle.tw_code.specs.accepting.WellTyped.{IsAccepted, IsFirstRefusal}
 use Rattle.tw_command.specs.declared.command.Order.{Order}
-use Rattle.tw_command.specs.declared.command.Order.TheVariants.{Assemble, Program}
+use Rattle.tw_command.specs.declared.command.Order.TheVariants.{Assemble, Program, Replay}
 use Rattle.tw_command.specs.declared.command.ProgramOrder.{ProgramOrder}
 use Rattle.tw_command.specs.declared.command.ProgramOrder.TheVariants.{Disassemble, Verified}
 use Rattle.tw_command.specs.declared.command.VerifiedOrder.{VerifiedOrder}
 use Rattle.tw_command.specs.declared.command.VerifiedOrder.TheVariants.{Check, Run}
 use Rattle.tw_command.specs.declared.command.RunOrder.{RunOrder}
-use Rattle.tw_session.specs.declared.status.Close.{Close}
 use Rattle.tw_session.specs.declared.status.Close.TheVariants.{Success, Refused, CommandLine, Stuck, Limit, Trapped}
 use Rattle.tw_session.specs.declared.status.Status.{Status}
 use Rattle.tw_session.specs.declared.status.Status.TheVariants.{Ended, NoMemory, ReadFailed, WriteFailed}
@@ -34,32 +33,31 @@ use Rattle.tw_run.specs.declared.run_end.RunEnd.TheVariants as run_end
 use Rattle.tw_run.specs.Run.{IsRun, Setup}
 use Rattle.tw_session.specs.Input.{most_bytes, digits_in}
 use Rattle.tw_command.specs.CommandLine.{Asked, IsAsked, IsRefusedInput}
-use Rattle.tw_session.specs.Lines.{asm_line, fault_line, input_word_line, verify_line, opening_line, stuck_line, trap_line}
-use Rattle.tw_session.specs.Report.{report}
+use Rattle.tw_code.specs.machine.Pending.{circle}
+use Rattle.tw_report.specs.Lines.{asm_line, fault_line, input_word_line, verify_line, opening_line, trap_line}
+use Rattle.tw_report.specs.Report.{report, stuck_lines}
+use Rattle.tw_session.specs.Reply.{Reply, reply}
 use Rattle.tw_session.specs.Check.{IsCheckText}
-
--- the text that is written, and how the session ends
-pub record Reply : Type 0 where
-  pub text : List ℕ
-  pub close : Close
-
-abbrev pub reply : List ℕ → Close → Reply
-reply text close = record { text = text; close = close }
+use Rattle.tw_session.specs.Replay.{RepliesByReplay}
 
 -- ---- a run
 
-abbrev pub run_reply : State → RunEnd → Reply
-run_reply s run_end.Quiet = reply (report s (codes "quiet\n")) Success
-run_reply s (run_end.Stuck rules) = reply (report s (stuck_line rules)) Stuck
-run_reply s run_end.Limit = reply (report s (codes "limit\n")) Limit
-run_reply s (run_end.Trapped cause event) = reply (trap_line (cause_number cause) event) Trapped
+-- the report, with this closing
+abbrev pub report_of : State → List ℕ → List ℕ
+report_of s closing = report s.store.live s.outputs closing
+
+abbrev pub run_reply : List Procedure → State → RunEnd → Reply
+run_reply program s run_end.Quiet = reply (report_of s (codes "quiet\n")) Success
+run_reply program s (run_end.Stuck rules) = reply (report_of s (stuck_lines rules (circle program s))) Stuck
+run_reply program s run_end.Limit = reply (report_of s (codes "limit\n")) Limit
+run_reply program s (run_end.Trapped cause event) = reply (trap_line (cause_number cause) event) Trapped
 
 abbrev pub setup_of : RunOrder → Setup
 setup_of order = record { layout = order.layout; inputs = order.inputs; limit = order.limit }
 
 -- the reply is that of a run of the program as it is ordered
 abbrev pub RepliesByRun : List Procedure → RunOrder → Reply → Type 0
-RepliesByRun program order r = (s : State) × (end : RunEnd) × IsRun program (setup_of order) s end × (r ≡ run_reply s end)
+RepliesByRun program order r = (s : State) × (end : RunEnd) × IsRun program (setup_of order) s end × (r ≡ run_reply program s end)
 
 -- ---- a program
 
@@ -117,11 +115,12 @@ RepliesByAssembly text r =
 
 -- ---- an order
 
--- what is read is assembly text, or the hex text of a program
+-- what is read is assembly text, or the hex text of a program, with a history behind it where that is replayed
 abbrev pub RepliesByInput : Order → List ℕ → Reply → Type 0
 RepliesByInput Assemble input r =
     (IsUtf8 input × RepliesByAssembly input r) ⊎ ((IsUtf8 input → ⊥) × (r ≡ reply (codes "refused H03\n") Refused))
 RepliesByInput (Program order) input r = RepliesByText order (decode_of (digits_in input)) r
+RepliesByInput (Replay order) input r = RepliesByReplay order.layout order.inputs input r
 
 -- what a session may answer to an order and the bytes that it reads: too much input is refused before it is looked at
 abbrev pub MayReply : Order → List ℕ → Reply → Type 0

@@ -5,9 +5,8 @@
 
 mod check;
 mod input;
-mod lines;
+mod replay;
 mod reply;
-mod report;
 mod shell;
 mod status;
 

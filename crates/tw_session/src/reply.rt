@@ -3,9 +3,10 @@
 ghost use Rattle.std.specs.Prelude.{◌≡◌, ◌<◌, ◌++◌, List, IfOk, codes};
 ghost use Rattle.tw_command.specs.declared.command.Order.TheVariants.{Assemble};
 ghost use Rattle.tw_session.specs.Session.{MayReply, RepliesByAccepted, RepliesByAssembly, RepliesByBytes, RepliesByInput};
-ghost use Rattle.tw_session.specs.Session.{RepliesByLayout, RepliesByOpening, RepliesByProgram, RepliesByText, RepliesByVerified, reply, run_reply};
+ghost use Rattle.tw_session.specs.Session.{RepliesByLayout, RepliesByOpening, RepliesByProgram, RepliesByText, RepliesByVerified, run_reply};
+ghost use Rattle.tw_session.specs.Reply.{reply};
 ghost use Rattle.tw_session.specs.Input.{digits_in};
-ghost use Rattle.tw_session.specs.Lines.{opening_line, verify_line};
+ghost use Rattle.tw_report.specs.Lines.{opening_line, verify_line};
 ghost use Rattle.tw_types.specs.declared.input.Input.{Input as AnInput};
 ghost use Rattle.tw_types.specs.declared.actor.Kind.TheVariants.{Control, Leaf};
 ghost use Rattle.tw_code.specs.format.Reading.{program_of};
@@ -19,17 +20,18 @@ ghost use Rattle.hex.specs.Hex.{decode_of, encode_lower};
 
 use crate::check::check_text;
 use crate::input::{MOST_BYTES, digits};
-use crate::lines::{
-    put, put_asm_line, put_fault_line, put_opening_line, put_trap_line, put_verify_line,
-};
-use crate::report::put_report;
+use crate::replay::replay_reply;
 use crate::status::Close;
 use hex::FromHexError;
 use std::alloc::{AllocError, Global};
 use tw_asm::{assemble, disassemble};
 use tw_code::{FaultNo, Program, decode, encode};
 use tw_command::{EventLimit, Order, ProgramOrder, RunOrder, VerifiedOrder};
-use tw_machine::{OpenRefusal, Plain, State};
+use tw_machine::{OpenRefusal, Plain};
+use tw_report::{
+    put, put_asm_line, put_fault_line, put_opening_line, put_report, put_trap_line,
+    put_verify_line, stuck_text,
+};
 use tw_run::{RunEnd, run};
 use tw_verify::{Verified, VerifyRefusal, verify};
 
@@ -43,7 +45,7 @@ pub struct Reply {
     pub close: Close,
 }
 
-fn fixed_reply(alloc: Global, line: &str, close: Close) -> Result<Reply, AllocError>
+pub fn fixed_reply(alloc: Global, line: &str, close: Close) -> Result<Reply, AllocError>
     ensures { IfOk result (λ r. reply r.text.items r.close ≡ reply line.now close) }
 {
     let mut text = Vec::new(alloc);
@@ -51,23 +53,24 @@ fn fixed_reply(alloc: Global, line: &str, close: Close) -> Result<Reply, AllocEr
     Ok(Reply { text, close })
 }
 
-/// The reply of a run that ended so in this state.
-fn run_reply(alloc: Global, state: &State, end: RunEnd) -> Result<Reply, AllocError>
-    ensures { IfOk result (λ r. reply r.text.items r.close ≡ run_reply state.now end) }
+/// The reply of a run that ended so.
+fn run_reply(alloc: Global, plain: &Plain, end: RunEnd) -> Result<Reply, AllocError>
+    ensures { IfOk result (λ r. reply r.text.items r.close ≡ run_reply plain.now.program plain.now.state end) }
 {
+    let state = plain.state();
     let mut text = Vec::new(alloc);
     let close = match end {
         RunEnd::Quiet => {
-            put_report(alloc, &mut text, state, "quiet\n")?;
+            put_report(alloc, &mut text, state, b"quiet\n")?;
             Close::Success
         }
         RunEnd::Stuck(rules) => {
-            let line = format!(in alloc; "stuck {rules}\n")?;
-            put_report(alloc, &mut text, state, &line)?;
+            let closing = stuck_text(alloc, rules, plain)?;
+            put_report(alloc, &mut text, state, &closing)?;
             Close::Stuck
         }
         RunEnd::Limit => {
-            put_report(alloc, &mut text, state, "limit\n")?;
+            put_report(alloc, &mut text, state, b"limit\n")?;
             Close::Limit
         }
         RunEnd::Trapped(cause, event) => {
@@ -79,7 +82,7 @@ fn run_reply(alloc: Global, state: &State, end: RunEnd) -> Result<Reply, AllocEr
 }
 
 /// The reply where a program isn't opened, or its targets aren't in the layout.
-fn opening_reply(alloc: Global, number: u8) -> Result<Reply, AllocError>
+pub fn opening_reply(alloc: Global, number: u8) -> Result<Reply, AllocError>
     requires { number < 100 }
     ensures { IfOk result (λ r. reply r.text.items r.close ≡ reply (opening_line number) Close.Refused) }
 {
@@ -111,7 +114,7 @@ fn opened_reply(
         return opening_reply(alloc, MISSING_TARGET);
     }
     let end = run(alloc, &mut plain, limit.events())?;
-    run_reply(alloc, plain.state(), end)
+    run_reply(alloc, &plain, end)
 }
 
 /// Opens and runs an accepted program.
@@ -290,5 +293,8 @@ pub fn reply_to(alloc: Global, order: &Order, input: Vec<u8>) -> Result<Reply, A
     match order {
         Order::Assemble => assembled_reply(alloc, input),
         Order::Program(order) => text_reply(alloc, order, input),
+        Order::Replay(order) => {
+            replay_reply(alloc, order.layout, order.inputs.as_slice(), &input)
+        }
     }
 }

@@ -7,12 +7,12 @@ ghost use Rattle.tw_session.specs.Session.{ComesOf};
 ghost use Rattle.tw_session.specs.Status.{ComesOfFaults, ComesOfRefusedInput};
 
 use crate::input::{NoInput, read_input};
-use crate::lines::put_input_word_line;
 use crate::reply::reply_to;
 use crate::status::{Close, Status};
 use std::alloc::Global;
 use std::io::{ErrorKind, Read, Write};
 use tw_command::{NoOrder, Order, read_order};
+use tw_report::put_input_word_line;
 
 /// Writes the whole text, once.
 fn write_text<W: Write>(writer: &mut W, text: &[u8], status: Status) -> Status

@@ -1,7 +1,7 @@
 use Rattle.std.proofs.Common.{rules, ◌≡◌, ◌∙◌, ap, ap₂}
 use Rattle.std.specs.Prelude.{codes}
 use Rattle.clap.specs.Words.{App, app_of, with_subcommand}
-use Rattle.tw_command.specs.CommandLine.{bare_line, command_line, plain_line, run_line}
+use Rattle.tw_command.specs.CommandLine.{bare_line, command_line, plain_line, replay_line, run_line}
 use Rattle.tw_command.proofs.command.command.Goals as goal
 
 abbrev with_asm : App
@@ -21,4 +21,6 @@ returns c =
     let assembling : app_of c.in_ok-assembling.assembling ≡ with_asm = c.in_ok-assembling.ensures.shape (search rules) ∙ ap₂ with_subcommand bare (ap (λ (a : App). a.top) asm) in
     let both : app_of c.in_ok-both.both ≡ with_both = c.in_ok-both.ensures.shape (search rules) ∙ ap₂ with_subcommand assembling (ap (λ (a : App). a.top) disasm) in
     let checking : app_of c.in_ok-checking.checking ≡ with_subcommand with_both (plain_line (codes "check")).top = c.in_ok-checking.ensures.shape (search rules) ∙ ap₂ with_subcommand both (ap (λ (a : App). a.top) check) in
-    c.in_ok-whole.ensures.shape (search rules) ∙ ap₂ with_subcommand checking (ap (λ (a : App). a.top) run)
+    let four = c.in_ok-four.ensures.shape (search rules) ∙ ap₂ with_subcommand checking (ap (λ (a : App). a.top) run) in
+    let replay : app_of c.in_ok-replaying.replaying ≡ replay_line = c.in_ok-replaying.ensures.app in
+    c.in_ok-whole.ensures.shape (search rules) ∙ ap₂ with_subcommand four (ap (λ (a : App). a.top) replay)

@@ -1,6 +1,7 @@
 use Rattle.std.proofs.Common.{subst, sym}
 use Rattle.std.proofs.lemmas.Result.{IfOk-weaker}
-use Rattle.tw_session.specs.Session.{RepliesByAccepted, reply}
+use Rattle.tw_session.specs.Session.{RepliesByAccepted}
+use Rattle.tw_session.specs.Reply.{reply}
 use Rattle.tw_command.specs.declared.command.VerifiedOrder.{VerifiedOrder}
 use Rattle.tw_session.specs.declared.reply.Reply.{Reply}
 use Rattle.tw_session.proofs.reply.accepted_reply.Goals as goal

@@ -1,6 +1,7 @@
 use Rattle.std.proofs.Common.{◌≡◌, ◌∙◌, IsUtf8, true, false, List, ℕ, ap, inl, inr, subst}
 use Rattle.std.proofs.lemmas.Result.{IfOk-weaker}
-use Rattle.tw_session.specs.Session.{RepliesByAssembly, reply}
+use Rattle.tw_session.specs.Session.{RepliesByAssembly}
+use Rattle.tw_session.specs.Reply.{reply}
 use Rattle.tw_session.specs.declared.reply.Reply.{Reply}
 use Rattle.tw_session.proofs.reply.assembled_reply.Goals as goal
 

@@ -1,8 +1,8 @@
 use Rattle.std.proofs.Common.{◌≡◌, ◌∙◌, ◌++◌, ℕ, List, ap, inr}
 use Rattle.tw_asm.specs.Answers.{HasFault}
 use Rattle.tw_asm.specs.Fault.{fault_number}
-use Rattle.tw_session.specs.Lines.{asm_line}
-use Rattle.tw_session.specs.Session.{reply}
+use Rattle.tw_report.specs.Lines.{asm_line}
+use Rattle.tw_session.specs.Reply.{reply}
 use Rattle.tw_session.specs.declared.status.Close.TheVariants.{Refused}
 use Rattle.tw_session.proofs.Replies.{fault_has}
 use Rattle.tw_session.proofs.reply.assembly_reply.Goals as goal

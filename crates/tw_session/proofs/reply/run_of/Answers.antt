@@ -3,7 +3,7 @@ use Rattle.std.proofs.lemmas.Result.{IfOk-weaker}
 use Rattle.tw_code.specs.declared.procedure.Procedure.{Procedure}
 use Rattle.tw_code.specs.machine.Opening.{opening}
 use Rattle.tw_machine.specs.PlainView.{PlainView}
-use Rattle.tw_session.specs.Session.{reply}
+use Rattle.tw_session.specs.Reply.{reply}
 use Rattle.tw_session.specs.declared.reply.Reply.{Reply}
 use Rattle.tw_session.proofs.Openings.{refused_given, replies_given}
 use Rattle.tw_session.proofs.reply.run_of.Goals as goal

@@ -1,7 +1,8 @@
 use Rattle.std.proofs.Common.{List, inl, subst}
 use Rattle.std.proofs.lemmas.Result.{IfOk-weaker}
 use Rattle.tw_code.specs.declared.procedure.Procedure.{Procedure}
-use Rattle.tw_session.specs.Session.{RepliesByAccepted, reply}
+use Rattle.tw_session.specs.Session.{RepliesByAccepted}
+use Rattle.tw_session.specs.Reply.{reply}
 use Rattle.tw_session.proofs.reply.verified_reply.Goals as goal
 
 pub returns-in-Ok : goal.returns-in-Ok

@@ -1,0 +1,92 @@
+-- Histories, line by line; and that no lines tell two.
+use Rattle.std.proofs.Common.{◌≡◌, ◌⊎◌, ◌==◌, ◌+◌, ◌≤◌, ℕ, suc, Bool, true, false, List, [], ◌∷◌, ◌++◌, length, codes, Option, Some, None, Result, Ok, Err, inl, inr, refl, sym, ap, subst, ◌∙◌, append_assoc, arith}
+use Rattle.std.specs.List.{AllByRecursion}
+use Rattle.std.proofs.lemmas.List.Splits.{length-slice_split}
+use Rattle.std.proofs.lemmas.List.Sums.{count_by-le-length}
+use Rattle.tw_types.specs.declared.event.Event.{Event}
+use Rattle.tw_types.specs.declared.event.Event.TheVariants.{Take, Local, Call, End, Ask, Deliver, Release}
+use Rattle.tw_report.specs.Events.{IsEvent, SpellParts, SpellsEvent, event_parts, words_in}
+use Rattle.tw_report.specs.History.{IsBlank, IsEnd, IsUnknown, OneHistory, Tell, behind_blank, behind_event, lines_in}
+use Rattle.tw_report.proofs.Written.{one_event}
+
+-- ---- one history
+
+-- an event has two words at least
+two_words : (event : Event) (words : List (List ℕ)) (word : List ℕ) → SpellParts (event_parts event) words → (words ≡ []) ⊎ (words ≡ word ∷ []) → ⊥
+two_words event words word spells (inl is) = by event (subst (SpellParts (event_parts event)) is spells)
+  where
+    by : (event : Event) → SpellParts (event_parts event) [] → ⊥
+    by (Take a) s = s
+    by (Local a n) s = s
+    by (Call a) s = s
+    by (End a) s = s
+    by (Ask e r j) s = s
+    by (Deliver s d r j) p = p
+    by (Release e r) s = s
+two_words event words word spells (inr is) = by event (subst (SpellParts (event_parts event)) is spells)
+  where
+    by : (event : Event) → SpellParts (event_parts event) (word ∷ []) → ⊥
+    by (Take a) s = s.1
+    by (Local a n) s = s.1
+    by (Call a) s = s.1
+    by (End a) s = s.1
+    by (Ask e r j) s = s.1
+    by (Deliver s d r j) p = p.1
+    by (Release e r) s = s.1
+
+blank_no_end : (line : List ℕ) → IsBlank line → IsEnd line → ⊥
+blank_no_end line blank end = no (sym blank ∙ end)
+  where
+    no : [] ≡ codes "end" ∷ [] → ⊥
+    no e = cc
+
+blank_no_event : (line : List ℕ) (event : Event) → IsBlank line → SpellsEvent event line → ⊥
+blank_no_event line event blank spells = two_words event (words_in line) [] spells.parts (inl blank)
+
+end_no_event : (line : List ℕ) (event : Event) → IsEnd line → SpellsEvent event line → ⊥
+end_no_event line event end spells = two_words event (words_in line) (codes "end") spells.parts (inr end)
+
+pub one_history : OneHistory
+one_history [] r q t u = t ∙ sym u
+one_history (line ∷ others) r q (inl (b, (x, t, e))) (inl (b', (y, u, f))) = e ∙ ap behind_blank (one_history others x y t u) ∙ sym f
+one_history (line ∷ others) r q (inl (b, (x, t, e))) (inr (inl (end, f))) = absurd (blank_no_end line b end)
+one_history (line ∷ others) r q (inl (b, (x, t, e))) (inr (inr (inl (event, spells, y)))) = absurd (blank_no_event line event b spells)
+one_history (line ∷ others) r q (inl (b, (x, t, e))) (inr (inr (inr (un, f)))) = absurd (un.0 b)
+one_history (line ∷ others) r q (inr (inl (end, e))) (inl (b, (y, u, f))) = absurd (blank_no_end line b end)
+one_history (line ∷ others) r q (inr (inl (end, e))) (inr (inl (end', f))) = e ∙ sym f
+one_history (line ∷ others) r q (inr (inl (end, e))) (inr (inr (inl (event, spells, y)))) = absurd (end_no_event line event end spells)
+one_history (line ∷ others) r q (inr (inl (end, e))) (inr (inr (inr (un, f)))) = absurd (un.1 end)
+one_history (line ∷ others) r q (inr (inr (inl (event, spells, x)))) (inl (b, (y, u, f))) = absurd (blank_no_event line event b spells)
+one_history (line ∷ others) r q (inr (inr (inl (event, spells, x)))) (inr (inl (end, f))) = absurd (end_no_event line event end spells)
+one_history (line ∷ others) r q (inr (inr (inl (event, spells, (x, t, e))))) (inr (inr (inl (other, also, (y, u, f))))) =
+    e ∙ ap (behind_event event) (one_history others x y t u) ∙ ap (λ (v : Event). behind_event v y) (sym (one_event line event other spells also)) ∙ sym f
+one_history (line ∷ others) r q (inr (inr (inl (event, spells, x)))) (inr (inr (inr (un, f)))) = absurd (un.2 event spells)
+one_history (line ∷ others) r q (inr (inr (inr (un, e)))) (inl (b, (y, u, f))) = absurd (un.0 b)
+one_history (line ∷ others) r q (inr (inr (inr (un, e)))) (inr (inl (end, f))) = absurd (un.1 end)
+one_history (line ∷ others) r q (inr (inr (inr (un, e)))) (inr (inr (inl (event, spells, y)))) = absurd (un.2 event spells)
+one_history (line ∷ others) r q (inr (inr (inr (un, e)))) (inr (inr (inr (un', f)))) = e ∙ sym f
+
+-- ---- the events
+
+some_told : (events es : List Event) → ◌≡◌ {A = Result (List Event) ℕ} (Ok events) (Ok es) → es ≡ events
+some_told events es e = cc
+
+-- each is one of a line
+pub told_events : (lines : List (List ℕ)) (events : List Event) → Tell lines (Ok events) → AllByRecursion IsEvent events × (length events ≤ length lines)
+told_events [] events t = subst (λ (es : List Event). AllByRecursion IsEvent es × (length es ≤ 0)) (some_told events [] t) (tt, omega arith)
+told_events (line ∷ others) events (inl (blank, (Ok es, t, e))) =
+    let more = told_events others es t in
+    subst (λ (vs : List Event). AllByRecursion IsEvent vs × (length vs ≤ length (line ∷ others))) (some_told events es e) (more.0, omega (arith, more.1))
+told_events (line ∷ others) events (inl (blank, (Err n, t, e))) = cc
+told_events (line ∷ others) events (inr (inl (end, e))) = subst (λ (es : List Event). AllByRecursion IsEvent es × (length es ≤ length (line ∷ others))) (some_told events [] e) (tt, omega arith)
+told_events (line ∷ others) events (inr (inr (inl (event, spells, (Ok es, t, e))))) =
+    let more = told_events others es t in
+    subst (λ (vs : List Event). AllByRecursion IsEvent vs × (length vs ≤ length (line ∷ others))) (some_told events (event ∷ es) e) ((spells.limits, more.0), omega (arith, more.1))
+told_events (line ∷ others) events (inr (inr (inl (event, spells, (Err n, t, e))))) = cc
+told_events (line ∷ others) events (inr (inr (inr (un, e)))) = cc
+
+pub few_lines : (text : List ℕ) → length (lines_in text) ≤ length text + 1
+few_lines text = omega (arith, length-slice_split (λ b. b == 10) text, count_by-le-length (λ b. b == 10) text)
+
+pub few_events : (text : List ℕ) (events : List Event) → Tell (lines_in text) (Ok events) → length events ≤ length text + 1
+few_events text events t = omega (arith, few_lines text, (told_events (lines_in text) events t).1)

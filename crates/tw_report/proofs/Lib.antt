@@ -1,0 +1,9 @@
+pub mod LineWords
+pub mod Readings
+pub mod EventReading
+pub mod Written
+pub mod Histories
+pub mod HistoryReading
+pub mod Reports
+pub mod Walks
+pub mod PendingRules

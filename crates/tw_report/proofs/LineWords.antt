@@ -1,0 +1,84 @@
+-- A line's words, from left to right.
+use Rattle.std.proofs.Common.{◌≡◌, ◌==◌, ◌≤◌, ◌<◌, ◌-◌, ℕ, suc, Bool, true, false, cond, not, List, [], ◌∷◌, ◌++◌, length, get_or, take, drop, refl, sym, ap, subst, ◌∙◌, arith}
+use Rattle.std.specs.List.{filter, onto_first, slice_split}
+use Rattle.std.proofs.lemmas.List.Splits.{slice_split-cons_no, slice_split-cons_yes}
+use Rattle.tw_words.specs.Words.{is_parting}
+use Rattle.tw_words.proofs.Texts.{slice_tail}
+use Rattle.tw_report.specs.Events.{has_bytes, words_in}
+use Rattle.tw_report.specs.reading.Words.{IsAtWord, with_word, word_length}
+
+-- ---- the gap
+
+gap_first : (b : ℕ) (rest : List ℕ) → is_parting b ≡ true → words_in (b ∷ rest) ≡ words_in rest
+gap_first b rest p = ap (filter has_bytes) (slice_split-cons_yes is_parting b rest p)
+
+-- without its first byte
+pub gap_shorter : (bytes rest : List ℕ) → 1 ≤ length rest → is_parting (get_or rest 0 0) ≡ true → words_in rest ≡ words_in bytes → words_in (take (length rest - 1) (drop 1 rest)) ≡ words_in bytes
+gap_shorter bytes [] l p e = absurd (omega (arith, l))
+gap_shorter bytes (b ∷ rest) l p e = ap words_in (slice_tail b rest) ∙ sym (gap_first b rest p) ∙ e
+
+pub at_word : (bytes : List ℕ) → is_parting (get_or bytes 0 0) ≡ false → IsAtWord bytes
+at_word [] p = tt
+at_word (b ∷ rest) p = p
+
+pub at_end : (bytes : List ℕ) → length bytes < 1 → IsAtWord bytes
+at_end [] l = tt
+at_end (b ∷ rest) l = absurd (omega (arith, l))
+
+-- ---- the word
+
+-- the first piece ends at the first gap, and what follows it has the other words
+record Cut (bytes : List ℕ) : Type 0 where
+  others : List (List ℕ)
+  pieces : slice_split is_parting bytes ≡ take (word_length bytes) bytes ∷ others
+  words : filter has_bytes others ≡ words_in (drop (word_length bytes) bytes)
+
+cut : (bytes : List ℕ) → Cut bytes
+cut [] = record { others = []; pieces = refl; words = refl }
+cut (b ∷ rest) = by (is_parting b) refl (cut rest)
+  where
+    by : (p : Bool) → is_parting b ≡ p → Cut rest → Cut (b ∷ rest)
+    by true p c = record {
+      others = slice_split is_parting rest;
+      pieces = rw p refl;
+      words = rw p (sym (gap_first b rest p));
+    }
+    by false p c = record {
+      others = c.others;
+      pieces = rw p (ap (onto_first b) c.pieces);
+      words = rw p c.words;
+    }
+
+pub length_short : (bytes : List ℕ) → word_length bytes ≤ length bytes
+length_short [] = omega arith
+length_short (b ∷ rest) = short (is_parting b) (length_short rest)
+  where
+    short : (p : Bool) → word_length rest ≤ length rest → cond p 0 (suc (word_length rest)) ≤ suc (length rest)
+    short true h = omega arith
+    short false h = omega (arith, h)
+
+word_some : (b : ℕ) (rest : List ℕ) → is_parting b ≡ false → words_in (b ∷ rest) ≡ (b ∷ take (word_length rest) rest) ∷ words_in (drop (word_length rest) rest)
+word_some b rest at = let c = cut rest in ap (filter has_bytes) (slice_split-cons_no is_parting b rest at ∙ ap (onto_first b) c.pieces) ∙ ap (λ (ws : List (List ℕ)). (b ∷ take (word_length rest) rest) ∷ ws) c.words
+
+pub word_first : (bytes : List ℕ) → IsAtWord bytes → words_in bytes ≡ with_word (take (word_length bytes) bytes) (words_in (drop (word_length bytes) bytes))
+word_first [] at = refl
+word_first (b ∷ rest) at = word_some b rest at ∙ rw at refl
+
+-- ---- no word
+
+pub blank_words : (line rest : List ℕ) → words_in rest ≡ words_in line → length rest ≡ 0 → words_in line ≡ []
+blank_words line [] e l = sym e
+blank_words line (b ∷ rest) e l = absurd (omega (arith, l))
+
+pub words_blank : (line rest : List ℕ) → words_in rest ≡ words_in line → IsAtWord rest → words_in line ≡ [] → length rest ≡ 0
+words_blank line [] e at none = refl
+words_blank line (b ∷ rest) e at none = absurd (some (sym (word_some b rest at) ∙ e ∙ none))
+  where
+    some : {w : List ℕ} {ws : List (List ℕ)} → w ∷ ws ≡ [] → ⊥
+    some e = cc
+
+-- ---- as the code cuts
+
+pub word_cut : (line rest front back : List ℕ) (n : ℕ) → words_in rest ≡ words_in line → IsAtWord rest → n ≡ word_length rest → front ≡ take n rest → back ≡ drop n rest → words_in line ≡ with_word front (words_in back)
+word_cut line rest front back n same at is f b =
+    sym same ∙ word_first rest at ∙ sym (ap (λ (w : List ℕ). with_word w (words_in back)) (f ∙ ap (λ (k : ℕ). take k rest) is) ∙ ap (λ (t : List ℕ). with_word (take (word_length rest) rest) (words_in t)) (b ∙ ap (λ (k : ℕ). drop k rest) is))

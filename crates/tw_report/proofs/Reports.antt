@@ -1,0 +1,65 @@
+-- One output more, and one member more.
+use Rattle.std.proofs.Common.{◌≡◌, ◌<◌, ◌+◌, ℕ, ℤ, suc, List, [], ◌∷◌, ◌++◌, length, take, get_or, sym, ap, ◌∙◌, arith, append_assoc, Option, Some, None, ◌≤◌}
+use Rattle.std.specs.Prelude.{slice_get}
+use Rattle.std.proofs.lemmas.List.{append-nil, flat_map_more, length-take, take_all, take_more}
+use Rattle.std.proofs.lemmas.Option.{slice_get-get_or, slice_get_within}
+use Rattle.std.specs.FinMap as fin
+use Rattle.tw_types.specs.Store.{Data, Members}
+use Rattle.tw_report.specs.Report.{member_line, member_lines, output_text, output_texts}
+
+-- ---- outputs
+
+append_text : (live : Data) (k : ℕ) (ids : List ℕ) (id : ℕ) → output_texts live k (ids ++ id ∷ []) ≡ output_texts live k ids ++ output_text live (k + length ids) (fin.get live id)
+append_text live k [] id =
+    let same : k ≡ k + 0 = omega arith in
+    append-nil (output_text live k (fin.get live id)) ∙ ap (λ (n : ℕ). output_text live n (fin.get live id)) same
+append_text live k (x ∷ ids) id =
+    let same : suc k + length ids ≡ k + suc (length ids) = omega arith in
+    ap (λ (t : List ℕ). output_text live k (fin.get live x) ++ t) (append_text live (suc k) ids id)
+    ∙ sym (append_assoc (output_text live k (fin.get live x)) (output_texts live (suc k) ids) (output_text live (suc k + length ids) (fin.get live id)))
+    ∙ ap (λ (n : ℕ). (output_text live k (fin.get live x) ++ output_texts live (suc k) ids) ++ output_text live n (fin.get live id)) same
+
+-- the text with output n added, where the outputs before it stand
+pub one_output_more : (live : Data) (ids : List ℕ) (n id : ℕ) (old out new : List ℕ) → n < length ids → id ≡ get_or ids n id
+    → out ≡ old ++ output_texts live 0 (take n ids) → new ≡ out ++ output_text live n (fin.get live id) → new ≡ old ++ output_texts live 0 (take (n + 1) ids)
+one_output_more live ids n id old out new lt is before made =
+    let len : 0 + length (take n ids) ≡ n = omega (arith, length-take n ids) in
+    let one : take (n + 1) ids ≡ take n ids ++ id ∷ [] = take_more ids n id lt ∙ ap (λ (k : ℕ). take n ids ++ k ∷ []) (sym is) in
+    let texts : output_texts live 0 (take (n + 1) ids) ≡ output_texts live 0 (take n ids) ++ output_text live n (fin.get live id) =
+    ap (output_texts live 0) one ∙ append_text live 0 (take n ids) id ∙ ap (λ (k : ℕ). output_texts live 0 (take n ids) ++ output_text live k (fin.get live id)) len in
+    made
+    ∙ ap (λ (t : List ℕ). t ++ output_text live n (fin.get live id)) before
+    ∙ append_assoc old (output_texts live 0 (take n ids)) (output_text live n (fin.get live id))
+    ∙ ap (λ (t : List ℕ). old ++ t) (sym texts)
+
+-- ---- members
+
+some_entry : (x y : ℤ × ℕ) → ◌≡◌ {A = Option (ℤ × ℕ)} (Some x) (Some y) → x ≡ y
+some_entry x y e = cc
+
+-- the text with the line of member i added, where the lines before it stand
+pub one_member_more : (live : Data) (es : List (ℤ × ℕ)) (i : ℕ) (e : ℤ × ℕ) (old out new : List ℕ) → Some e ≡ slice_get es i → out ≡ old ++ member_lines live (take i es)
+    → new ≡ out ++ member_line e.0 (fin.get live e.1) → new ≡ old ++ member_lines live (take (i + 1) es)
+one_member_more live es i e old out new at before made =
+    let lt : i < length es = slice_get_within es i e (sym at) in
+    let is : get_or es i e ≡ e = some_entry _ _ (sym (slice_get-get_or es i e lt) ∙ sym at) in
+    let one : take (i + 1) es ≡ take i es ++ e ∷ [] = take_more es i e lt ∙ ap (λ (x : ℤ × ℕ). take i es ++ x ∷ []) is in
+    made
+    ∙ ap (λ (t : List ℕ). t ++ member_line e.0 (fin.get live e.1)) before
+    ∙ flat_map_more (λ (x : ℤ × ℕ). member_line x.0 (fin.get live x.1)) old (take i es) e
+    ∙ ap (λ (ms : List (ℤ × ℕ)). old ++ member_lines live ms) (sym one)
+
+never_none : (x : ℤ × ℕ) → ◌≡◌ {A = Option (ℤ × ℕ)} None (Some x) → ⊥
+never_none x e = cc
+
+-- a member stands at each index below their number
+pub is_there : (members : Members) (i count : ℕ) → count ≡ fin.len members → i < count → None ≡ slice_get (fin.entries members) i → ⊥
+is_there members i count all lt none = by (fin.entries members) (omega (arith, lt, all, fin.len-entries members)) none
+  where
+    by : (es : List (ℤ × ℕ)) → i < length es → None ≡ slice_get es i → ⊥
+    by [] inside none = absurd (omega (arith, inside))
+    by (e ∷ es) inside none = never_none (get_or (e ∷ es) i e) (none ∙ slice_get-get_or (e ∷ es) i e inside)
+
+-- all have been added
+pub all_members : (live : Data) (members : Members) (i count : ℕ) (old out : List ℕ) → count ≡ fin.len members → count ≤ i → out ≡ old ++ member_lines live (take i (fin.entries members)) → out ≡ old ++ member_lines live (fin.entries members)
+all_members live members i count old out all le before = before ∙ ap (λ (ms : List (ℤ × ℕ)). old ++ member_lines live ms) (take_all i (fin.entries members) (omega (arith, all, le, fin.len-entries members)))

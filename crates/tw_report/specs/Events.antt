@@ -1,0 +1,102 @@
+-- The lines of events: which text is which event, and the line that is written of one.
+use Rattle.std.specs.Prelude.{◌≡◌, ℕ, Bool, true, false, List, [], ◌∷◌, ◌++◌, codes, decimal, map, filter}
+use Rattle.std.specs.Int.{IsInRange}
+use Rattle.std.specs.List.{join_with_byte, slice_split}
+use Rattle.tw_types.specs.declared.actor.Actor.{Actor}
+use Rattle.tw_types.specs.declared.actor.Actor.TheVariants.{Engine, Server, Worker}
+use Rattle.tw_types.specs.declared.event.Event.{Event}
+use Rattle.tw_types.specs.declared.event.Event.TheVariants.{Take, Local, Call, End, Ask, Deliver, Release}
+use Rattle.tw_types.specs.Actor.{number_in_kind}
+use Rattle.tw_words.specs.Number.{SpellsDigits}
+use Rattle.tw_words.specs.Words.{is_parting}
+
+-- ---- words
+
+abbrev pub has_bytes : List ℕ → Bool
+has_bytes [] = false
+has_bytes (b ∷ bytes) = true
+
+-- what stands between spaces, tabs and carriage returns
+abbrev pub words_in : List ℕ → List (List ℕ)
+words_in line = filter has_bytes (slice_split is_parting line)
+
+-- ---- the words of an event
+
+-- what one word says
+pub data Part : Type 0 where
+  Name : List ℕ → Part
+  -- a number, behind the letter of an actor's kind or behind nothing
+  Number : List ℕ → ℕ → Part
+
+abbrev pub actor_part : Actor → Part
+actor_part (Engine number) = Number (codes "e") number
+actor_part (Server number) = Number (codes "s") number
+actor_part (Worker number) = Number (codes "w") number
+
+abbrev pub event_parts : Event → List Part
+event_parts (Take actor) = Name (codes "take") ∷ actor_part actor ∷ []
+event_parts (Local actor n) = Name (codes "local") ∷ actor_part actor ∷ Number [] n ∷ []
+event_parts (Call actor) = Name (codes "call") ∷ actor_part actor ∷ []
+event_parts (End actor) = Name (codes "end") ∷ actor_part actor ∷ []
+event_parts (Ask engine rule parameter) = Name (codes "ask") ∷ actor_part (Engine engine) ∷ Number [] rule ∷ Number [] parameter ∷ []
+event_parts (Deliver server datum rule parameter) = Name (codes "deliver") ∷ actor_part (Server server) ∷ Number [] datum ∷ Number [] rule ∷ Number [] parameter ∷ []
+event_parts (Release engine rule) = Name (codes "release") ∷ actor_part (Engine engine) ∷ Number [] rule ∷ []
+
+-- ---- limits
+
+abbrev pub IsByte : ℕ → Type 0
+IsByte n = IsInRange 0 255 n
+
+abbrev pub IsWord : ℕ → Type 0
+IsWord n = IsInRange 0 0xFFFFFFFFFFFFFFFF n
+
+-- numbers of actors and parameters fit a byte, others 64 bits; at least one local instruction is done, and no more than a
+-- task may do in all
+abbrev pub IsEvent : Event → Type 0
+IsEvent (Take actor) = IsByte (number_in_kind actor)
+IsEvent (Local actor n) = IsByte (number_in_kind actor) × IsInRange 1 1000000000 n
+IsEvent (Call actor) = IsByte (number_in_kind actor)
+IsEvent (End actor) = IsByte (number_in_kind actor)
+IsEvent (Ask engine rule parameter) = IsByte engine × IsWord rule × IsByte parameter
+IsEvent (Deliver server datum rule parameter) = IsByte server × IsWord datum × IsWord rule × IsByte parameter
+IsEvent (Release engine rule) = IsByte engine × IsWord rule
+
+-- ---- which text is which event
+
+abbrev pub SpellsPart : Part → List ℕ → Type 0
+SpellsPart (Name name) word = word ≡ name
+SpellsPart (Number front number) word = (digits : List ℕ) × SpellsDigits number digits × (word ≡ front ++ digits)
+
+-- a word each
+abbrev pub SpellParts : List Part → List (List ℕ) → Type 0
+SpellParts [] [] = Unit {0}
+SpellParts [] (word ∷ words) = ⊥
+SpellParts (part ∷ parts) [] = ⊥
+SpellParts (part ∷ parts) (word ∷ words) = SpellsPart part word × SpellParts parts words
+
+pub record SpellsEvent (event : Event) (line : List ℕ) : Type 0 where
+  pub limits : IsEvent event
+  pub parts : SpellParts (event_parts event) (words_in line)
+
+-- ---- what is written
+
+abbrev pub part_text : Part → List ℕ
+part_text (Name name) = name
+part_text (Number front number) = front ++ decimal number
+
+-- the words, with one space between two
+abbrev pub event_text : Event → List ℕ
+event_text event = join_with_byte 32 (map part_text (event_parts event))
+
+abbrev pub event_line : Event → List ℕ
+event_line event = event_text event ++ codes "\n"
+
+-- ---- the laws
+
+-- no line is two events
+abbrev pub OneEvent : Type 0
+OneEvent = (line : List ℕ) (event other : Event) → SpellsEvent event line → SpellsEvent other line → other ≡ event
+
+-- what is written of an event is this event
+abbrev pub EventsAreReadBack : Type 0
+EventsAreReadBack = (event : Event) → IsEvent event → SpellsEvent event (event_text event)

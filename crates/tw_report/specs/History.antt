@@ -1,0 +1,85 @@
+-- The text of a history: a line an event.
+use Rattle.std.specs.Prelude.{◌≡◌, ◌⊎◌, ◌==◌, false, ℕ, suc, List, [], ◌∷◌, ◌++◌, codes, Result, Ok, Err}
+use Rattle.std.specs.List.{AllByRecursion, flat_map, slice_split}
+use Rattle.tw_types.specs.declared.event.Event.{Event}
+use Rattle.tw_report.specs.declared.history.HistoryFault.{HistoryFault}
+use Rattle.tw_report.specs.declared.history.HistoryFault.TheVariants.{UnknownLine, NoMemory}
+use Rattle.tw_report.specs.Events.{SpellsEvent, words_in}
+
+-- ---- lines
+
+abbrev pub lines_in : List ℕ → List (List ℕ)
+lines_in text = slice_split (λ b. b == 10) text
+
+abbrev pub HasNoLineFeed : List ℕ → Type 0
+HasNoLineFeed line = AllByRecursion (λ b. (b == 10) ≡ false) line
+
+abbrev pub IsBlank : List ℕ → Type 0
+IsBlank line = words_in line ≡ []
+
+-- this word alone
+abbrev pub IsWord : List ℕ → List ℕ → Type 0
+IsWord word line = words_in line ≡ word ∷ []
+
+abbrev pub IsEnd : List ℕ → Type 0
+IsEnd line = IsWord (codes "end") line
+
+-- neither blank, nor `end`, nor an event
+abbrev pub IsUnknown : List ℕ → Type 0
+IsUnknown line = (IsBlank line → ⊥) × (IsEnd line → ⊥) × ((event : Event) → SpellsEvent event line → ⊥)
+
+-- ---- histories
+
+-- behind a line that is no event
+abbrev pub behind_blank : Result (List Event) ℕ → Result (List Event) ℕ
+behind_blank (Ok events) = Ok events
+behind_blank (Err line) = Err (suc line)
+
+abbrev pub behind_event : Event → Result (List Event) ℕ → Result (List Event) ℕ
+behind_event event (Ok events) = Ok (event ∷ events)
+behind_event event (Err line) = Err (suc line)
+
+-- What lines tell, up to `end` or all of them: events in their order; or the number, from 1, of the first line that isn't
+-- known.
+abbrev pub Tell : List (List ℕ) → Result (List Event) ℕ → Type 0
+Tell [] r = r ≡ Ok []
+Tell (line ∷ others) r =
+    (IsBlank line × ((q : Result (List Event) ℕ) × Tell others q × (r ≡ behind_blank q)))
+    ⊎ ((IsEnd line × (r ≡ Ok []))
+    ⊎ (((event : Event) × SpellsEvent event line × ((q : Result (List Event) ℕ) × Tell others q × (r ≡ behind_event event q)))
+    ⊎ (IsUnknown line × (r ≡ Err 1))))
+
+-- what a refusal says of lines
+abbrev pub IsNoHistory : List (List ℕ) → HistoryFault → Type 0
+IsNoHistory lines (UnknownLine line) = Tell lines (Err line)
+IsNoHistory lines NoMemory = Unit {0}
+
+-- ---- the part behind `events`
+
+-- lines, each with a line feed
+abbrev pub text_of : List (List ℕ) → List ℕ
+text_of lines = flat_map (λ l. l ++ 10 ∷ []) lines
+
+-- The text is cut at its first line that is `events`: what stands before that line, and what follows it.
+pub record IsCut (text before after : List ℕ) : Type 0 where
+  pub lines : List (List ℕ)
+  pub line : List ℕ
+  pub front : before ≡ text_of lines
+  pub whole : AllByRecursion HasNoLineFeed (line ∷ lines)
+  pub is : IsWord (codes "events") line
+  pub first : AllByRecursion (λ l. IsWord (codes "events") l → ⊥) lines
+  pub parts : (text ≡ before ++ (line ++ 10 ∷ after)) ⊎ ((text ≡ before ++ line) × (after ≡ []))
+
+-- or it has no such line
+abbrev pub HasNoHistory : List ℕ → Type 0
+HasNoHistory text = AllByRecursion (λ l. IsWord (codes "events") l → ⊥) (lines_in text)
+
+-- the program's text and the history's
+abbrev pub AreParts : List ℕ → List ℕ → List ℕ → Type 0
+AreParts text before after = IsCut text before after ⊎ (HasNoHistory text × (before ≡ text) × (after ≡ []))
+
+-- ---- the law
+
+-- no lines tell two histories
+abbrev pub OneHistory : Type 0
+OneHistory = (lines : List (List ℕ)) (r q : Result (List Event) ℕ) → Tell lines r → Tell lines q → r ≡ q

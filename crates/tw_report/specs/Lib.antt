@@ -1,0 +1,7 @@
+-- Which text is which event, and which a history: Events and History. What is written: Lines and Report. What the readers
+-- keep is in reading.
+pub mod Events
+pub mod History
+pub mod Lines
+pub mod Report
+pub mod reading

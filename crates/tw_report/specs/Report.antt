@@ -1,0 +1,95 @@
+-- The report of a state: a line for each output, with lines for the members of a container behind it, and a line that says
+-- how the run ended.
+use Rattle.std.specs.Prelude.{ℕ, ℤ, suc, Bool, true, false, List, [], ◌∷◌, ◌++◌, codes, decimal, Option, Some, None}
+use Rattle.std.specs.FinMap as fin
+use Rattle.std.specs.Fmt.{signed_decimal}
+use Rattle.std.specs.List.{flat_map}
+use Rattle.tw_types.specs.declared.data_type.Scalar.{Scalar}
+use Rattle.tw_types.specs.declared.data_type.Scalar.TheVariants as scalar
+use Rattle.tw_types.specs.Store.{Content, Unset, Set, Contains, Datum, Data, is_closed}
+use Rattle.tw_types.specs.StoreCalls.{members_in}
+use Rattle.tw_types.specs.declared.ending.Ending.{Ending}
+use Rattle.tw_types.specs.declared.ending.Ending.TheVariants.{Quiet, Stuck}
+use Rattle.tw_types.specs.declared.pending.Link.{Link}
+use Rattle.tw_code.specs.declared.procedure.Procedure.{Procedure}
+use Rattle.tw_code.specs.machine.Ending.{ending}
+use Rattle.tw_code.specs.machine.Pending.{circle}
+use Rattle.tw_code.specs.machine.State.{State}
+use Rattle.tw_report.specs.Lines.{value_text}
+
+abbrev pub scalar_text : Scalar → List ℕ
+scalar_text scalar.Int = codes "int"
+scalar_text scalar.Text = codes "text"
+
+abbrev pub closed_text : Bool → List ℕ
+closed_text true = codes " closed "
+closed_text false = codes " open "
+
+-- a container of scalars, and whether it is closed
+abbrev pub container_head : Datum → List ℕ
+container_head x = codes "cont " ++ (scalar_text x.ty.scalar ++ closed_text (is_closed x))
+
+abbrev pub content_text : Datum → Content → List ℕ
+content_text x Unset = codes "unset"
+content_text x (Set value) = value_text value
+content_text x (Contains members) = container_head x ++ decimal (fin.len members)
+
+-- what is in a datum, or that it was freed
+abbrev pub datum_text : Option Datum → List ℕ
+datum_text None = codes "gone"
+datum_text (Some x) = content_text x x.content
+
+abbrev pub output_line : ℕ → Option Datum → List ℕ
+output_line k x = codes "out " ++ (decimal k ++ (codes " " ++ (datum_text x ++ codes "\n")))
+
+-- a member of a container; it is a scalar, since main's containers are containers of scalars
+abbrev pub member_line : ℤ → Option Datum → List ℕ
+member_line subscript x = codes "  at " ++ (signed_decimal subscript ++ (codes " " ++ (datum_text x ++ codes "\n")))
+
+abbrev pub member_lines : Data → List (ℤ × ℕ) → List ℕ
+member_lines live members = flat_map (λ e. member_line e.0 (fin.get live e.1)) members
+
+-- what stands in a datum, by rising subscripts
+abbrev pub entries_in : Option Datum → List (ℤ × ℕ)
+entries_in None = []
+entries_in (Some x) = fin.entries (members_in x.content)
+
+-- the line of an output, and those of its members
+abbrev pub output_text : Data → ℕ → Option Datum → List ℕ
+output_text live k x = output_line k x ++ member_lines live (entries_in x)
+
+-- the outputs from number k on
+abbrev pub output_texts : Data → ℕ → List ℕ → List ℕ
+output_texts live k [] = []
+output_texts live k (id ∷ ids) = output_text live k (fin.get live id) ++ output_texts live (suc k) ids
+
+-- of the live data and the outputs' ids: the outputs from 0, and the text that closes it
+abbrev pub report : Data → List ℕ → List ℕ → List ℕ
+report live outputs closing = output_texts live 0 outputs ++ closing
+
+-- ---- how it closes
+
+-- a rule, a datum that it waits for, and a rule that may write that
+abbrev pub link_line : Link → List ℕ
+link_line l = codes "waits " ++ (decimal l.rule ++ (codes " " ++ (decimal l.datum ++ (codes " " ++ (decimal l.next ++ codes "\n")))))
+
+abbrev pub link_lines : List Link → List ℕ
+link_lines links = flat_map link_line links
+
+-- a circle among them, if there is one
+abbrev pub circle_lines : Option (List Link) → List ℕ
+circle_lines None = []
+circle_lines (Some links) = link_lines links
+
+-- so many rules are pending
+abbrev pub stuck_lines : ℕ → Option (List Link) → List ℕ
+stuck_lines rules found = codes "stuck " ++ (decimal rules ++ (codes "\n" ++ circle_lines found))
+
+-- how a run has ended in this state, or that it is still running
+abbrev pub ending_lines : Option Ending → Option (List Link) → List ℕ
+ending_lines (Some Quiet) found = codes "quiet\n"
+ending_lines (Some (Stuck rules)) found = stuck_lines rules found
+ending_lines None found = codes "running\n"
+
+abbrev pub state_report : List Procedure → State → List ℕ
+state_report program s = report s.store.live s.outputs (ending_lines (ending s) (circle program s))

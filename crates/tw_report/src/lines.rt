@@ -1,0 +1,198 @@
+//! The lines that are written, added to the end of a text.
+
+ghost use Rattle.std.specs.Prelude.{◌≡◌, ◌++◌, ◌<◌, ◌+◌, ◌^◌, ◌∷◌, [], OnOk, codes, decimal, length, take};
+ghost use Rattle.std.specs.Fmt.{signed_decimal};
+ghost use Rattle.tw_report.specs.Lines.{asm_line, fault_line, history_line, input_word_line, not_enabled_line, opening_line, place_text};
+ghost use Rattle.tw_report.specs.Lines.{trap_line, two_digits, value_text, verify_line};
+
+use std::alloc::{AllocError, Global};
+use tw_types::Value;
+use tw_words::put_quoted;
+
+/// Adds bytes as they stand.
+pub fn put(out: &mut Vec<u8>, text: &str) -> Result<(), AllocError>
+    ensures { OnOk result (out.new.items ≡ out.old.items ++ text.now) }
+{
+    out.extend_from_slice(text.as_bytes())
+}
+
+/// Adds a number in decimal digits.
+pub fn put_decimal(alloc: Global, out: &mut Vec<u8>, n: usize) -> Result<(), AllocError>
+    ensures { OnOk result (out.new.items ≡ out.old.items ++ decimal n) }
+{
+    let text = format!(in alloc; "{n}")?;
+    put(out, &text)
+}
+
+/// Adds words, and a number after them.
+pub fn put_numbered(
+    alloc: Global,
+    out: &mut Vec<u8>,
+    words: &str,
+    n: usize,
+) -> Result<(), AllocError>
+    ensures { OnOk result (out.new.items ≡ out.old.items ++ (words.now ++ decimal n)) }
+{
+    put(out, words)?;
+    put_decimal(alloc, out, n)
+}
+
+/// Adds an integer as it is shown.
+pub fn put_signed(alloc: Global, out: &mut Vec<u8>, n: i64) -> Result<(), AllocError>
+    ensures { OnOk result (out.new.items ≡ out.old.items ++ signed_decimal n) }
+{
+    let text = format!(in alloc; "{n}")?;
+    put(out, &text)
+}
+
+fn put_two_digits(out: &mut Vec<u8>, n: u8) -> Result<(), AllocError>
+    requires { n < 100 }
+    ensures { OnOk result (out.new.items ≡ out.old.items ++ two_digits n) }
+{
+    out.extend_from_slice(&[b'0' + n / 10, b'0' + n % 10])
+}
+
+/// Adds a value with its type.
+pub fn put_value(alloc: Global, out: &mut Vec<u8>, value: &Value) -> Result<(), AllocError>
+    ensures { OnOk result (out.new.items ≡ out.old.items ++ value_text value.now) }
+{
+    match value {
+        Value::Int(n) => {
+            put(out, "int ")?;
+            put_signed(alloc, out, *n)
+        }
+        Value::Text(text) => {
+            put(out, "text ")?;
+            put_quoted(out, text.as_str())
+        }
+    }
+}
+
+/// Adds the line of a refusal: its number in two digits, and where it was met.
+fn put_refused(
+    alloc: Global,
+    out: &mut Vec<u8>,
+    head: &str,
+    number: u8,
+    at: &str,
+    count: usize,
+) -> Result<(), AllocError>
+    requires { number < 100 }
+    ensures { OnOk result (out.new.items ≡ out.old.items ++ (head.now ++ (two_digits number ++ (at.now ++ (decimal count ++ codes "\n"))))) }
+{
+    put(out, head)?;
+    put_two_digits(out, number)?;
+    put_numbered(alloc, out, at, count)?;
+    put(out, "\n")
+}
+
+/// Adds the line of bytes that are no program.
+pub fn put_fault_line(
+    alloc: Global,
+    out: &mut Vec<u8>,
+    number: u8,
+    offset: usize,
+) -> Result<(), AllocError>
+    requires { number < 100 }
+    ensures { OnOk result (out.new.items ≡ out.old.items ++ fault_line number offset) }
+{
+    put_refused(alloc, out, "refused F", number, " at byte ", offset)
+}
+
+/// Adds the line of an assembly text that spells no program.
+pub fn put_asm_line(
+    alloc: Global,
+    out: &mut Vec<u8>,
+    number: u8,
+    line: usize,
+) -> Result<(), AllocError>
+    requires { number < 100 }
+    ensures { OnOk result (out.new.items ≡ out.old.items ++ asm_line number line) }
+{
+    put_refused(alloc, out, "refused A", number, " at line ", line)
+}
+
+fn put_place(
+    alloc: Global,
+    out: &mut Vec<u8>,
+    procedure: usize,
+    place: usize,
+) -> Result<(), AllocError>
+    ensures { OnOk result (out.new.items ≡ out.old.items ++ place_text procedure place) }
+{
+    put_numbered(alloc, out, " in procedure ", procedure)?;
+    put_numbered(alloc, out, " at place ", place)?;
+    put(out, "\n")
+}
+
+/// Adds the line of a program that isn't accepted.
+pub fn put_verify_line(
+    alloc: Global,
+    out: &mut Vec<u8>,
+    number: u8,
+    procedure: usize,
+    place: usize,
+) -> Result<(), AllocError>
+    requires { number < 100 }
+    ensures { OnOk result (out.new.items ≡ out.old.items ++ verify_line number procedure place) }
+{
+    put(out, "refused V")?;
+    put_two_digits(out, number)?;
+    put_place(alloc, out, procedure, place)
+}
+
+/// Adds the line of a program that isn't opened.
+pub fn put_opening_line(out: &mut Vec<u8>, number: u8) -> Result<(), AllocError>
+    requires { number < 100 }
+    ensures { OnOk result (out.new.items ≡ out.old.items ++ opening_line number) }
+{
+    put(out, "refused O")?;
+    put_two_digits(out, number)?;
+    put(out, "\n")
+}
+
+/// Adds the line of a run that met a trap at an event, counted from 1.
+pub fn put_trap_line(
+    alloc: Global,
+    out: &mut Vec<u8>,
+    number: u8,
+    event: usize,
+) -> Result<(), AllocError>
+    ensures { OnOk result (out.new.items ≡ out.old.items ++ trap_line number event) }
+{
+    put_numbered(alloc, out, "trap C", usize::from(number))?;
+    put_numbered(alloc, out, " at event ", event)?;
+    put(out, "\n")
+}
+
+/// Adds the line of a history whose line of this number is no event; lines count from 1, behind `events`.
+pub fn put_history_line(alloc: Global, out: &mut Vec<u8>, line: usize) -> Result<(), AllocError>
+    ensures { OnOk result (out.new.items ≡ out.old.items ++ history_line line) }
+{
+    put_numbered(alloc, out, "refused E01 at line ", line)?;
+    put(out, "\n")
+}
+
+/// Adds the line of a history whose event of this number isn't enabled; events count from 1.
+pub fn put_not_enabled_line(
+    alloc: Global,
+    out: &mut Vec<u8>,
+    event: usize,
+) -> Result<(), AllocError>
+    ensures { OnOk result (out.new.items ≡ out.old.items ++ not_enabled_line event) }
+{
+    put_numbered(alloc, out, "not enabled at event ", event)?;
+    put(out, "\n")
+}
+
+/// Adds the line of an input word that spells no input; the words count from 1.
+pub fn put_input_word_line(
+    alloc: Global,
+    out: &mut Vec<u8>,
+    number: usize,
+) -> Result<(), AllocError>
+    ensures { OnOk result (out.new.items ≡ out.old.items ++ input_word_line number) }
+{
+    put_numbered(alloc, out, "input word ", number)?;
+    put(out, " refused\n")
+}

@@ -1,0 +1,189 @@
+//! Events that lines tell.
+
+ghost use Rattle.std.specs.Prelude.{◌≡◌, ◌≤◌, IfSome, MatchOption};
+ghost use Rattle.std.specs.Option.{option_map};
+ghost use Rattle.tw_types.specs.declared.event.Event.{Event as AnEvent};
+ghost use Rattle.tw_types.specs.declared.event.Event.TheVariants.{Take, Call, End};
+ghost use Rattle.tw_report.specs.Events.{SpellsEvent, words_in};
+ghost use Rattle.tw_report.specs.reading.Event.{actor_in, alone, ask_in, behind, deliver_in, event_in, first, for_actor, local_in, named, number_in, release_in};
+
+use crate::words::{first_word, is_blank};
+use tw_types::{Actor, DatumId, Event, RuleNo};
+use tw_words::digits;
+
+fn number_in(word: &[u8], low: u64, high: u64) -> Option<u64>
+    ensures is { result ≡ number_in low high word.now }
+    ensures within { IfSome result (λ n. n ≤ high) }
+{
+    match digits(word, low, high) {
+        Ok(number) => Some(number),
+        Err(_) => None,
+    }
+}
+
+fn byte_in(word: &[u8]) -> Option<u8>
+    ensures { result ≡ number_in 0 255 word.now }
+{
+    let number = number_in(word, 0, 255)?;
+    Some(number as u8)
+}
+
+/// The number behind a letter.
+#[tactic(auto, unfolding(crate::specs::reading::Event::behind))]
+fn behind(letter: u8, word: &[u8]) -> Option<u8>
+    ensures { result ≡ behind letter word.now }
+{
+    match word {
+        [first, rest @ ..] if *first == letter => byte_in(rest),
+        _ => None,
+    }
+}
+
+#[tactic(auto, unfolding(crate::specs::reading::Event::actor_in))]
+fn actor_in(word: &[u8]) -> Option<Actor>
+    ensures { result ≡ actor_in word.now }
+{
+    if let Some(number) = behind(b'e', word) {
+        return Some(Actor::Engine(number));
+    }
+    if let Some(number) = behind(b's', word) {
+        return Some(Actor::Server(number));
+    }
+    match behind(b'w', word) {
+        Some(number) => Some(Actor::Worker(number)),
+        None => None,
+    }
+}
+
+fn first_number(line: &[u8], low: u64, high: u64) -> Option<(u64, &[u8])>
+    ensures { option_map (λ f. (f.0, words_in f.1.now)) result ≡ first (number_in low high) (words_in line.now) }
+{
+    let (word, rest) = first_word(line);
+    let number = number_in(word, low, high)?;
+    Some((number, rest))
+}
+
+fn first_byte(line: &[u8]) -> Option<(u8, &[u8])>
+    ensures { option_map (λ f. (f.0, words_in f.1.now)) result ≡ first (number_in 0 255) (words_in line.now) }
+{
+    let (word, rest) = first_word(line);
+    let number = byte_in(word)?;
+    Some((number, rest))
+}
+
+fn first_behind(letter: u8, line: &[u8]) -> Option<(u8, &[u8])>
+    ensures { option_map (λ f. (f.0, words_in f.1.now)) result ≡ first (behind letter) (words_in line.now) }
+{
+    let (word, rest) = first_word(line);
+    let number = behind(letter, word)?;
+    Some((number, rest))
+}
+
+fn first_actor(line: &[u8]) -> Option<(Actor, &[u8])>
+    ensures { option_map (λ f. (f.0, words_in f.1.now)) result ≡ first actor_in (words_in line.now) }
+{
+    let (word, rest) = first_word(line);
+    let actor = actor_in(word)?;
+    Some((actor, rest))
+}
+
+/// The event, where no word is left.
+fn alone(event: Event, line: &[u8]) -> Option<Event>
+    ensures { result ≡ alone event (words_in line.now) }
+{
+    if is_blank(line) { Some(event) } else { None }
+}
+
+fn take_in(line: &[u8]) -> Option<Event>
+    ensures { result ≡ for_actor Take (words_in line.now) }
+{
+    let (actor, rest) = first_actor(line)?;
+    alone(Event::Take(actor), rest)
+}
+
+fn local_in(line: &[u8]) -> Option<Event>
+    ensures { result ≡ local_in (words_in line.now) }
+{
+    let (actor, rest) = first_actor(line)?;
+    let (steps, rest) = first_number(rest, 1, 1_000_000_000)?;
+    alone(Event::Local(actor, steps), rest)
+}
+
+fn call_in(line: &[u8]) -> Option<Event>
+    ensures { result ≡ for_actor Call (words_in line.now) }
+{
+    let (actor, rest) = first_actor(line)?;
+    alone(Event::Call(actor), rest)
+}
+
+fn end_in(line: &[u8]) -> Option<Event>
+    ensures { result ≡ for_actor End (words_in line.now) }
+{
+    let (actor, rest) = first_actor(line)?;
+    alone(Event::End(actor), rest)
+}
+
+fn ask_in(line: &[u8]) -> Option<Event>
+    ensures { result ≡ ask_in (words_in line.now) }
+{
+    let (engine, rest) = first_behind(b'e', line)?;
+    let (rule, rest) = first_number(rest, 0, u64::MAX)?;
+    let (parameter, rest) = first_byte(rest)?;
+    alone(Event::Ask(engine, RuleNo::new(rule), parameter), rest)
+}
+
+fn deliver_in(line: &[u8]) -> Option<Event>
+    ensures { result ≡ deliver_in (words_in line.now) }
+{
+    let (server, rest) = first_behind(b's', line)?;
+    let (datum, rest) = first_number(rest, 0, u64::MAX)?;
+    let (rule, rest) = first_number(rest, 0, u64::MAX)?;
+    let (parameter, rest) = first_byte(rest)?;
+    alone(
+        Event::Deliver(server, DatumId::new(datum), RuleNo::new(rule), parameter),
+        rest,
+    )
+}
+
+fn release_in(line: &[u8]) -> Option<Event>
+    ensures { result ≡ release_in (words_in line.now) }
+{
+    let (engine, rest) = first_behind(b'e', line)?;
+    let (rule, rest) = first_number(rest, 0, u64::MAX)?;
+    alone(Event::Release(engine, RuleNo::new(rule)), rest)
+}
+
+/// The event of this name that the words behind it make whole.
+#[tactic(auto, unfolding(crate::specs::reading::Event::named))]
+fn named(name: &[u8], rest: &[u8]) -> Option<Event>
+    ensures { result ≡ named name.now (words_in rest.now) }
+{
+    if name == b"take".as_slice() {
+        take_in(rest)
+    } else if name == b"local".as_slice() {
+        local_in(rest)
+    } else if name == b"call".as_slice() {
+        call_in(rest)
+    } else if name == b"end".as_slice() {
+        end_in(rest)
+    } else if name == b"ask".as_slice() {
+        ask_in(rest)
+    } else if name == b"deliver".as_slice() {
+        deliver_in(rest)
+    } else if name == b"release".as_slice() {
+        release_in(rest)
+    } else {
+        None
+    }
+}
+
+/// The event that a line tells, if it tells one.
+///
+/// A line is the event's name, its actor and its numbers, parted by spaces, tabs and carriage returns. Numbers are decimal
+/// digits, in which zeros may stand first.
+pub fn event_of(line: &[u8]) -> Option<Event>
+    ensures { MatchOption result ((event : AnEvent) → SpellsEvent event line.now → ⊥) (λ event. SpellsEvent event line.now) }
+{
+    let (name, rest) = first_word(line);
+    named(name, rest)
+}

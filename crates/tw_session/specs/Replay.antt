@@ -1,0 +1,86 @@
+-- What `replay` answers: the events of a history, one after the other, on the reference machine.
+use Rattle.std.specs.Prelude.{◌≡◌, ◌⊎◌, ℕ, suc, List, [], ◌∷◌, codes, IsUtf8, Option, Some, None, Result, Ok, Err}
+use Rattle.hex.specs.Hex.{decode_of}
+use Rattle.hex.specs.declared.FromHexError.{FromHexError}
+use Rattle.tw_types.specs.declared.ending.Ending.{Ending}
+use Rattle.tw_types.specs.declared.ending.Ending.TheVariants as ending
+use Rattle.tw_types.specs.declared.event.Event.{Event}
+use Rattle.tw_types.specs.declared.input.Input.{Input}
+use Rattle.tw_types.specs.Cause.{cause_number}
+use Rattle.tw_types.specs.Layout.{ActorCounts}
+use Rattle.tw_types.specs.Outcome.{Outcome, Went, NotEnabled, Trap}
+use Rattle.tw_code.specs.declared.fault.Fault.{Fault}
+use Rattle.tw_code.specs.declared.procedure.Procedure.{Procedure}
+use Rattle.tw_code.specs.format.Fault as fault
+use Rattle.tw_code.specs.format.Reading.{program_of}
+use Rattle.tw_code.specs.machine.Ending as machine
+use Rattle.tw_code.specs.machine.Machine.{step}
+use Rattle.tw_code.specs.machine.Opening.{opening}
+use Rattle.tw_code.specs.machine.State.{State}
+use Rattle.tw_machine.specs.declared.refusal.OpenRefusal.{OpenRefusal}
+use Rattle.tw_machine.specs.Opening.{open_refusal_number, refusal_of}
+use Rattle.tw_report.specs.History.{AreParts, Tell, lines_in}
+use Rattle.tw_report.specs.Lines.{fault_line, history_line, not_enabled_line, opening_line, trap_line}
+use Rattle.tw_report.specs.Report.{state_report}
+use Rattle.tw_session.specs.Input.{digits_in}
+use Rattle.tw_session.specs.Reply.{Reply, reply}
+use Rattle.tw_session.specs.declared.status.Close.{Close}
+use Rattle.tw_session.specs.declared.status.Close.TheVariants.{Success, Refused, Stuck, Trapped}
+
+-- ---- the events
+
+-- a state that is still running is no failure
+abbrev pub close_of : Option Ending → Close
+close_of None = Success
+close_of (Some ending.Quiet) = Success
+close_of (Some (ending.Stuck rules)) = Stuck
+
+-- the report of the state that was reached
+abbrev pub state_reply : List Procedure → State → Reply
+state_reply program s = reply (state_report program s) (close_of (machine.ending s))
+
+-- what follows an event of this number: its own reply where it didn't go
+abbrev pub after_event : ℕ → Outcome State → (State → Reply) → Reply
+after_event number (Went s) next = next s
+after_event number NotEnabled next = reply (not_enabled_line number) Refused
+after_event number (Trap cause) next = reply (trap_line (cause_number cause) number) Trapped
+
+-- the events from this number on, up to the first that doesn't go
+unfoldable pub played : List Procedure → ActorCounts → ℕ → List Event → State → Reply
+played program layout number [] s = state_reply program s
+played program layout number (event ∷ events) s = after_event number (step program layout event s) (λ next. played program layout (suc number) events next)
+
+-- ---- the program and its inputs
+
+abbrev pub opened_or : Option OpenRefusal → Reply → Reply
+opened_or None r = r
+opened_or (Some why) r = reply (opening_line (open_refusal_number why)) Refused
+
+-- from the opening, if the program is opened
+abbrev pub replayed : List Procedure → ActorCounts → List Input → List Event → Reply
+replayed program layout inputs events = opened_or (refusal_of program inputs) (played program layout 1 events (opening program inputs))
+
+-- ---- what is read
+
+-- the lines tell a history, or have a first line that isn't known
+abbrev pub RepliesByLines : ActorCounts → List Input → List (List ℕ) → List Procedure → Reply → Type 0
+RepliesByLines layout inputs lines program r =
+    ((events : List Event) × Tell lines (Ok events) × (r ≡ replayed program layout inputs events))
+    ⊎ ((line : ℕ) × Tell lines (Err line) × (r ≡ reply (history_line line) Refused))
+
+-- the bytes spell a program, or have a first fault
+abbrev pub RepliesByCode : ActorCounts → List Input → List (List ℕ) → Result (List Procedure) Fault → Reply → Type 0
+RepliesByCode layout inputs lines (Ok program) r = RepliesByLines layout inputs lines program r
+RepliesByCode layout inputs lines (Err f) r = r ≡ reply (fault_line (fault.fault_number f.no) f.offset) Refused
+
+-- the text is hex digits, two a byte, or isn't
+abbrev pub RepliesByDigits : ActorCounts → List Input → List (List ℕ) → Result (List ℕ) FromHexError → Reply → Type 0
+RepliesByDigits layout inputs lines (Ok bytes) r = RepliesByCode layout inputs lines (program_of bytes) r
+RepliesByDigits layout inputs lines (Err e) r = r ≡ reply (codes "refused H01\n") Refused
+
+-- The part behind the line `events` must be UTF-8; it is looked at behind the program.
+abbrev pub RepliesByReplay : ActorCounts → List Input → List ℕ → Reply → Type 0
+RepliesByReplay layout inputs input r =
+    (before : List ℕ) × (after : List ℕ) × AreParts input before after
+    × ((IsUtf8 after × RepliesByDigits layout inputs (lines_in after) (decode_of (digits_in before)) r)
+    ⊎ ((IsUtf8 after → ⊥) × (r ≡ reply (codes "refused H03\n") Refused)))
