@@ -20,7 +20,7 @@ impl<'a> Parts<'a> {
         ensures { MatchOption result
             ((done.now.steps ≡ 0) × ((f : FrameView) → IsOwed self.now actor f done.now → with_done self.now actor f done.now ≡ self.now))
             (λ e. (0 < done.now.steps) × (e ≡ event.Local actor done.now.steps) × ((layout : ActorCounts) (f : FrameView) → IsOwed self.now actor f done.now
-                → Makes done.now.before.program layout e self.now (with_done self.now actor f done.now))) }
+            → Makes done.now.before.program layout e self.now (with_done self.now actor f done.now))) }
     {
         let steps = done.steps();
         if steps == 0 {
