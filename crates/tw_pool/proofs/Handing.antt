@@ -91,7 +91,7 @@ then_by : (actor : Actor) (es : List Event) (e : Event) → AreBy actor es → a
 then_by actor [] e all is = (is, tt)
 then_by actor (d ∷ es) e all is = (all.0, then_by actor es e all.1 is)
 
-pub assoc : (xs ys zs : List Event) → (xs ++ ys) ++ zs ≡ xs ++ ys ++ zs
+pub assoc : (xs ys zs : List Event) → (xs ++ ys) ++ zs ≡ xs ++ (ys ++ zs)
 assoc [] ys zs = refl
 assoc (x ∷ xs) ys zs = ap (λ es. x ∷ es) (assoc xs ys zs)
 
@@ -322,19 +322,19 @@ module _ (verified : TypedProgram) (inputs : List Input) (layout : ActorCounts) 
     goes : Goes verified layout e came c.at.notices new
     goes = subst (λ (v : TypedProgram). Makes v layout e came new) its.1.program (makes layout its.0 owed_now) c.at.notices c.at.parts
 
-    both_are : (told.events ++ option_to_list o) ++ e ∷ [] ≡ told.events ++ steps_of actor done ++ e ∷ []
-    both_are = assoc told.events (option_to_list o) (e ∷ []) ∙ ap (λ es. told.events ++ es ++ e ∷ []) c.is
+    both_are : (told.events ++ option_to_list o) ++ e ∷ [] ≡ told.events ++ (steps_of actor done ++ e ∷ [])
+    both_are = assoc told.events (option_to_list o) (e ∷ []) ∙ ap (λ es. told.events ++ (es ++ e ∷ [])) c.is
 
-    pub told_two : (t p : HistoryView) → t ≡ record told { events = told.events ++ option_to_list o } → p ≡ record t { events = t.events ++ e ∷ [] } → p ≡ record { events = told.events ++ steps_of actor done ++ e ∷ []; limit = told.limit }
+    pub told_two : (t p : HistoryView) → t ≡ record told { events = told.events ++ option_to_list o } → p ≡ record t { events = t.events ++ e ∷ [] } → p ≡ record { events = told.events ++ (steps_of actor done ++ e ∷ []); limit = told.limit }
     told_two t p one two = two ∙ ap (λ (x : HistoryView). record { events = x.events ++ e ∷ []; limit = x.limit }) one ∙ ap (λ es. record { events = es; limit = told.limit }) both_are
 
-    pub at_two : AreAt verified inputs layout (told.events ++ steps_of actor done ++ e ∷ []) new
+    pub at_two : AreAt verified inputs layout (told.events ++ (steps_of actor done ++ e ∷ [])) new
     at_two = subst (λ es. AreAt verified inputs layout es new) both_are (then_at verified inputs layout (told.events ++ option_to_list o) came new c.at e goes)
 
     pub others_two : (a : Actor) → a ≢ actor → get new.seats a ≡ get old.seats a
     others_two a h = goes.others a (λ is. h (is ∙ is_own)) ∙ get_other (come its.0 done) old.seats actor a h
 
-    pub within_two : length (told.events ++ option_to_list o) < told.limit → length (told.events ++ steps_of actor done ++ e ∷ []) ≤ told.limit
+    pub within_two : length (told.events ++ option_to_list o) < told.limit → length (told.events ++ (steps_of actor done ++ e ∷ [])) ≤ told.limit
     within_two less = let long = ap (λ es. length es) (sym both_are) ∙ length-append (told.events ++ option_to_list o) (e ∷ []) in omega (arith, long, less)
 
     pub by_two : AreBy actor (steps_of actor done ++ e ∷ [])
@@ -342,7 +342,7 @@ module _ (verified : TypedProgram) (inputs : List Input) (layout : ActorCounts) 
 
   -- the task has ended
   pub kept_ended : (o : Option Event) (c : HasCome o) (new : Parts) (makes : MakesBehind (End actor) old actor done new) → length (told.events ++ option_to_list o) < told.limit
-      → IsKept verified inputs layout told.limit (told.events ++ steps_of actor done ++ End actor ∷ []) new
+      → IsKept verified inputs layout told.limit (told.events ++ (steps_of actor done ++ End actor ∷ [])) new
   kept_ended o c new makes less = record {
     given = h.given;
     few = h.few;
@@ -356,10 +356,10 @@ module _ (verified : TypedProgram) (inputs : List Input) (layout : ActorCounts) 
       gone : get new.seats actor ≡ None
       gone = no_task new (goes (End actor) refl o c new makes).left actor (end_frames verified.program layout actor (state_of came c.at.notices) (state_of new (goes (End actor) refl o c new makes).left) (goes (End actor) refl o c new makes).step_is)
 
-      lent_others : AreLent (told.events ++ steps_of actor done ++ End actor ∷ []) new.seats
+      lent_others : AreLent (told.events ++ (steps_of actor done ++ End actor ∷ [])) new.seats
       lent_others a f sits = by (same_actor a actor) refl
         where
-          by : (b : Bool) → same_actor a actor ≡ b → f.event_no ≡ length (events_of a (told.events ++ steps_of actor done ++ End actor ∷ []))
+          by : (b : Bool) → same_actor a actor ≡ b → f.event_no ≡ length (events_of a (told.events ++ (steps_of actor done ++ End actor ∷ [])))
           by true is = let no : None ≡ Some f = sym gone ∙ ap (get new.seats) (sym (the_same a actor is)) ∙ sits in cc
           by false is =
               let other : a ≢ actor = λ e. let yes : true ≡ false = sym (itself actor) ∙ ap (λ x. same_actor x actor) (sym e) ∙ is in cc in

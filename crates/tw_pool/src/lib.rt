@@ -2,6 +2,7 @@
 #![tactic(auto)]
 
 mod answer;
+mod ends;
 mod free;
 mod hand_in;
 mod history;
@@ -10,5 +11,6 @@ mod turn;
 mod words;
 
 pub use answer::{Closing, Turn};
+pub use ends::Final;
 pub use history::History;
 pub use pool::Pool;

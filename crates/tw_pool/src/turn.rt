@@ -1,6 +1,6 @@
 //! Turns.
 
-ghost use Rattle.std.specs.Prelude.{◌≡◌, ◌<◌, IfSome, IsSome, IsTrue, ◌↔◌, Some, None, true, false, length, slice_get, ℕ};
+ghost use Rattle.std.specs.Prelude.{◌≡◌, ◌<◌, IfSome, MatchBool, IsSome, IsTrue, ◌↔◌, Some, None, true, false, length, slice_get, ℕ};
 ghost use Rattle.std.specs.FinMap.{get};
 ghost use Rattle.std.specs.Option.{option_and_then};
 ghost use Rattle.tw_types.specs.Actor.{is_in};
@@ -10,7 +10,7 @@ ghost use Rattle.tw_code.specs.machine.Due.{event_of};
 ghost use Rattle.tw_code.specs.machine.Ending.{ending};
 ghost use Rattle.tw_code.specs.machine.Machine.{is_ret};
 ghost use Rattle.tw_code.specs.machine.State.{State};
-ghost use Rattle.tw_pool.specs.Kept.{HasTask, IsOwedBy};
+ghost use Rattle.tw_pool.specs.Kept.{HasTask, IsFree, IsOwedBy};
 ghost use Rattle.tw_pool.specs.PoolView.{HasState};
 ghost use Rattle.tw_pool.specs.Turns.{IsTurn, IsTurnBy, Makes, TakesBack, Turns, closing_at, closing_of, instr_behind, is_last, lent_to, steps_of};
 
@@ -92,6 +92,28 @@ impl<'a> Pool<'a> {
         }
     }
 
+    /// Whether two events are wanted, and there is room for one.
+    fn is_last(&self, done: &Done<'a>) -> bool
+        requires { length self.now.history < self.now.limit }
+        ensures { result ≡ is_last self.now done.now }
+    {
+        if done.steps() == 0 {
+            return false;
+        }
+        self.history.has_room_for_one()
+    }
+
+    /// Whether the actor has a task.
+    fn has_task(&self, actor: Actor) -> bool
+        requires { is_in self.now.layout actor ≡ true }
+        ensures { MatchBool result (HasTask self.now actor) (IsFree self.now actor) }
+    {
+        match self.parts.seats.get(actor) {
+            Some(_frame) => true,
+            None => false,
+        }
+    }
+
     /// What comes of a Done of the job that is lent to the actor.
     fn take_back(&mut self, alloc: Global, actor: Actor, done: Done<'a>) -> Turn<'a>
         requires actor { is_in self.old.layout actor ≡ true }
@@ -103,7 +125,7 @@ impl<'a> Pool<'a> {
         if done.short() {
             return self.go_on(actor, done);
         }
-        if done.steps() != 0 && self.history.has_room_for_one() {
+        if self.is_last(&done) {
             return self.fill_up(actor, done);
         }
         self.go_past(alloc, actor, done)
@@ -136,7 +158,7 @@ impl<'a> Pool<'a> {
         if let Some(closing) = self.closing() {
             return Turn::Over(closing);
         }
-        let runs = self.parts.seats.get(actor).is_some();
+        let runs = self.has_task(actor);
         match given {
             None => {
                 if runs {
