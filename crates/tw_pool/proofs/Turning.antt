@@ -171,7 +171,7 @@ module _ (verified : TypedProgram) (inputs : List Input) (layout : ActorCounts) 
       room_told : length told.events < told.limit
       room_told = subst (λ (x : PoolView). length x.history < x.limit) (sym seen) room
 
-      job_by : Frame → JobView
+      abbrev job_by : Frame → JobView
       job_by g = record { program = verified; task = g.task; procedure = g.procedure; actor = actor; event_no = length (events_of actor told.events); position = g.position }
 
       -- the job that is lent
@@ -197,9 +197,23 @@ module _ (verified : TypedProgram) (inputs : List Input) (layout : ActorCounts) 
       foreign_line done other = unchanged (λ s. Turns w s actor (lent_to w s actor) (Some done)) (Foreign done)
           (subst (λ j. Turns w here actor j (Some done) (Foreign done) []) (sym lent_is) (inr (other, (refl, refl))))
 
+    pub has_if : IsSome (get old.seats actor) → HasTask w actor
+    has_if some = by (get old.seats actor) refl some
+      where
+        by : (o : Option FrameView) → get old.seats actor ≡ o → IsSome o → HasTask w actor
+        by None none is = cc
+        by (Some f) sits is = has_task f sits
+
+    pub owed_if : length w.history < w.limit → IsSome (get old.seats actor) → IsTurnBy (λ s. Turns w s actor (lent_to w s actor) None) w Owed w
+    owed_if room some = by (get old.seats actor) refl some
+      where
+        by : (o : Option FrameView) → get old.seats actor ≡ o → IsSome o → IsTurnBy (λ s. Turns w s actor (lent_to w s actor) None) w Owed w
+        by None none is = cc
+        by (Some f) sits is = owed_line room f sits
+
     -- a Done, and no task
-    pub stray_line : (done : DoneView) → get old.seats actor ≡ None → IsTurnBy (λ s. Turns w s actor (lent_to w s actor) (Some done)) w (Foreign done) w
-    stray_line done none =
-        let no_job : lent_to w here actor ≡ None = ap (option_map (λ (f : Frame). record { program = w.program; task = f.task; procedure = f.procedure; actor = actor; event_no = length (events_of actor w.history); position = f.position })) (is_free none here at_here) in
+    pub stray_line : (done : DoneView) → IsFree w actor → IsTurnBy (λ s. Turns w s actor (lent_to w s actor) (Some done)) w (Foreign done) w
+    stray_line done free =
+        let no_job : lent_to w here actor ≡ None = ap (option_map (λ (f : Frame). record { program = w.program; task = f.task; procedure = f.procedure; actor = actor; event_no = length (events_of actor w.history); position = f.position })) (free here at_here) in
         unchanged (λ s. Turns w s actor (lent_to w s actor) (Some done)) (Foreign done)
         (subst (λ j. Turns w here actor j (Some done) (Foreign done) []) (sym no_job) (refl, refl))

@@ -24,7 +24,14 @@ pub struct Final {
 impl Model for Final {
     ghost use Rattle.tw_pool.specs.Ends.{FinalView};
 
+    ghost use Rattle.tw_types.specs.Store.{Datum as DatumMeaning};
+    ghost use Rattle.std.specs.FinMap.{code};
+    ghost use Rattle.std.specs.Ordering.{nat_cmp, int_cmp};
+    ghost use Rattle.std.specs.Coded.{codes, coded_ℕ, coded_ℤ};
+
     ghost Value = { FinalView };
+
+    ghost coded = { Prim.hlevel (codes, code {X = DatumMeaning} {R = nat_cmp} coded_ℕ (Prim.hlevel (codes, code {R = int_cmp} coded_ℤ coded_ℕ))) };
 
     ghost view = { λ f. record {
       store = f.remains.store.store;

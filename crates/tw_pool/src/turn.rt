@@ -10,7 +10,8 @@ ghost use Rattle.tw_code.specs.machine.Due.{event_of};
 ghost use Rattle.tw_code.specs.machine.Ending.{ending};
 ghost use Rattle.tw_code.specs.machine.Machine.{is_ret};
 ghost use Rattle.tw_code.specs.machine.State.{State};
-ghost use Rattle.tw_pool.specs.Kept.{HasTask, IsFree, IsOwedBy};
+ghost use Rattle.tw_parts.specs.Seats.{HasSeat};
+ghost use Rattle.tw_pool.specs.Kept.{HasTask, IsOwedBy};
 ghost use Rattle.tw_pool.specs.PoolView.{HasState};
 ghost use Rattle.tw_pool.specs.Turns.{IsTurn, IsTurnBy, Makes, TakesBack, Turns, closing_at, closing_of, instr_behind, is_last, lent_to, steps_of};
 
@@ -19,6 +20,7 @@ use crate::pool::Pool;
 use std::alloc::Global;
 use tw_code::Instr;
 use tw_frame::Done;
+use tw_parts::Parts;
 use tw_types::{Actor, Ending};
 use tw_verify::Verified;
 
@@ -37,6 +39,17 @@ fn is_ret(instr: &Instr) -> bool
     match instr {
         Instr::Ret => true,
         Instr::Local(_) | Instr::Data(_) | Instr::Rule(_) | Instr::Put(_) => false,
+    }
+}
+
+/// Whether the actor has a task.
+fn has_task(parts: &Parts<'_>, actor: Actor) -> bool
+    requires { HasSeat actor }
+    ensures { MatchBool result (IsSome (get parts.now.seats actor)) (get parts.now.seats actor ≡ None) }
+{
+    match parts.seats.get(actor) {
+        Some(_frame) => true,
+        None => false,
     }
 }
 
@@ -103,17 +116,6 @@ impl<'a> Pool<'a> {
         self.history.has_room_for_one()
     }
 
-    /// Whether the actor has a task.
-    fn has_task(&self, actor: Actor) -> bool
-        requires { is_in self.now.layout actor ≡ true }
-        ensures { MatchBool result (HasTask self.now actor) (IsFree self.now actor) }
-    {
-        match self.parts.seats.get(actor) {
-            Some(_frame) => true,
-            None => false,
-        }
-    }
-
     /// What comes of a Done of the job that is lent to the actor.
     fn take_back(&mut self, alloc: Global, actor: Actor, done: Done<'a>) -> Turn<'a>
         requires actor { is_in self.old.layout actor ≡ true }
@@ -158,7 +160,7 @@ impl<'a> Pool<'a> {
         if let Some(closing) = self.closing() {
             return Turn::Over(closing);
         }
-        let runs = self.has_task(actor);
+        let runs = has_task(&self.parts, actor);
         match given {
             None => {
                 if runs {
