@@ -147,6 +147,9 @@ module _ (verified : TypedProgram) (inputs : List Input) (layout : ActorCounts) 
   pub within_here : length w.history ≤ w.limit
   within_here = subst (λ (x : PoolView). length x.history ≤ x.limit) seen h.within
 
+  pub room_if : ((s : State) → HasState w s → None ≡ closing_at w s) → length w.history < w.limit
+  room_if goes_on = room_left w here within_here (goes_on here at_here)
+
   pub ending_here : (o : Option Ending) → o ≡ ending here → (s : State) → HasState w s → o ≡ ending s
   ending_here o is s at = is ∙ ap ending (sym (only_here s at))
 

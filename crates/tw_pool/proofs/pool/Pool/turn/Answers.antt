@@ -9,13 +9,13 @@ pub returns-in-Some : goal.returns-in-Some
 returns-in-Some c = turning.over _ _ _ c.self.inside.stopped c.self.inside.history c.self.inside.parts c.self.invariant c.args.self.now c.self.view_is c.args.actor c.args.given c.in-Some.closing (λ s at. sym c.in-Some.is ∙ c.closing.ensures s at)
 
 pub go_free-requires-clause-room : goal.go_free-requires-clause-room
-go_free-requires-clause-room c = (turning.room_left c.args.self.now _ (turning.within_here _ _ _ c.self.inside.stopped c.self.inside.history c.self.inside.parts c.self.invariant c.args.self.now c.self.view_is) (sym c.in_default.is ∙ c.closing.ensures _ (turning.at_here _ _ _ c.self.inside.stopped c.self.inside.history c.self.inside.parts c.self.invariant c.args.self.now c.self.view_is)))
+go_free-requires-clause-room c = (turning.room_if _ _ _ c.self.inside.stopped c.self.inside.history c.self.inside.parts c.self.invariant c.args.self.now c.self.view_is (λ s at. sym c.in_default.is ∙ c.closing.ensures s at))
 
 pub go_free-requires-clause-free : goal.go_free-requires-clause-free
 go_free-requires-clause-free c = turning.is_free _ _ _ c.self.inside.stopped c.self.inside.history c.self.inside.parts c.self.invariant c.args.self.now c.self.view_is c.args.actor c.if-runs.ensures
 
 pub hand_in-requires-clause-room : goal.hand_in-requires-clause-room
-hand_in-requires-clause-room c = (turning.room_left c.args.self.now _ (turning.within_here _ _ _ c.self.inside.stopped c.self.inside.history c.self.inside.parts c.self.invariant c.args.self.now c.self.view_is) (sym c.in_default.is ∙ c.closing.ensures _ (turning.at_here _ _ _ c.self.inside.stopped c.self.inside.history c.self.inside.parts c.self.invariant c.args.self.now c.self.view_is)))
+hand_in-requires-clause-room c = (turning.room_if _ _ _ c.self.inside.stopped c.self.inside.history c.self.inside.parts c.self.invariant c.args.self.now c.self.view_is (λ s at. sym c.in_default.is ∙ c.closing.ensures s at))
 
 pub hand_in-requires-clause-runs : goal.hand_in-requires-clause-runs
 hand_in-requires-clause-runs c = turning.has_if _ _ _ c.self.inside.stopped c.self.inside.history c.self.inside.parts c.self.invariant c.args.self.now c.self.view_is c.args.actor c.if-runs-2.ensures
@@ -23,7 +23,7 @@ hand_in-requires-clause-runs c = turning.has_if _ _ _ c.self.inside.stopped c.se
 pub returns-then-runs : goal.returns-then-runs
 returns-then-runs c =
     subst (λ (g : Option DoneView). IsTurn c.args.self.now c.args.actor g Owed c.args.self.now) (sym c.in-None.is)
-    (turning.unless c.args.self.now c.args.self.now c.args.actor None Owed (λ s at. sym c.in_default.is ∙ c.closing.ensures s at) (turning.owed_if _ _ _ c.self.inside.stopped c.self.inside.history c.self.inside.parts c.self.invariant c.args.self.now c.self.view_is c.args.actor (turning.room_left c.args.self.now _ (turning.within_here _ _ _ c.self.inside.stopped c.self.inside.history c.self.inside.parts c.self.invariant c.args.self.now c.self.view_is) (sym c.in_default.is ∙ c.closing.ensures _ (turning.at_here _ _ _ c.self.inside.stopped c.self.inside.history c.self.inside.parts c.self.invariant c.args.self.now c.self.view_is))) c.if-runs.ensures))
+    (turning.unless c.args.self.now c.args.self.now c.args.actor None Owed (λ s at. sym c.in_default.is ∙ c.closing.ensures s at) (turning.owed_if _ _ _ c.self.inside.stopped c.self.inside.history c.self.inside.parts c.self.invariant c.args.self.now c.self.view_is c.args.actor (turning.room_if _ _ _ c.self.inside.stopped c.self.inside.history c.self.inside.parts c.self.invariant c.args.self.now c.self.view_is (λ s at. sym c.in_default.is ∙ c.closing.ensures s at)) c.if-runs.ensures))
 
 pub returns-else-runs : goal.returns-else-runs
 returns-else-runs c =
