@@ -1,5 +1,5 @@
 -- RULE and PUT: what is asked of their parts, where a task stands at one behind a Done.
-use Rattle.std.proofs.Common.{map as each, ◌≡◌, ◌≤◌, ◌<◌, ◌+◌, ◌^◌, ◌∙◌, ℕ, List, Option, Some, None, IsSome, true, refl, sym, ap, subst, length, slice_get, arith}
+use Rattle.std.proofs.Common.{map as each, ◌≡◌, ◌≤◌, ◌<◌, ◌+◌, ◌^◌, ◌∙◌, ℕ, List, Option, Some, None, IsSome, true, sym, ap, subst, length, slice_get, arith}
 use Rattle.std.proofs.lemmas.Option.{same_Some}
 use Rattle.std.specs.FinMap.{get}
 use Rattle.tw_types.specs.declared.actor.Actor.{Actor}

@@ -1,7 +1,6 @@
 -- A server delivers: on the parts.
-use Rattle.std.proofs.Common.{map, ◌≡◌, ◌<◌, ◌==◌, ℕ, Bool, true, false, ◌&&◌, nat_lt, nat_eq, List, [], ◌∷◌, Option, Some, None, refl, sym, ap, subst, ◌∙◌, length, set, slice_get, option_map, is_some, arith, nat_cmp}
+use Rattle.std.proofs.Common.{map, ◌≡◌, ◌<◌, ℕ, true, false, nat_lt, nat_eq, List, ◌∷◌, Some, refl, sym, ap, subst, ◌∙◌, length, set, slice_get, option_map, arith}
 use Rattle.std.proofs.lemmas.Bool.Decides.{nat_tests}
-use Rattle.std.proofs.lemmas.Option.{same_Some}
 use Rattle.std.proofs.lemmas.List.{length-set}
 use Rattle.std.specs.Cmp.{nat_cmp_total}
 use Rattle.std.specs.FinMap.{get, insert, nat_cmp-IsAntisymmetric}
@@ -18,12 +17,10 @@ use Rattle.tw_types.specs.Store.{server_of}
 use Rattle.tw_rights.specs.declared.arg.Arg.{Arg}
 use Rattle.tw_rules.specs.Table.{stage_at, staged}
 use Rattle.tw_code.specs.declared.procedure.Procedure.{Procedure}
-use Rattle.tw_verify.specs.Typed.{TypedProgram, typings_of}
+use Rattle.tw_verify.specs.Typed.{TypedProgram}
 use Rattle.tw_code.specs.machine.Machine.{step}
 use Rattle.tw_code.specs.machine.State.{State, with_stage}
-use Rattle.tw_no_trap.specs.Invariant.{IsHeld}
 use Rattle.tw_no_trap.proofs.Asked.{Noted, noted}
-use Rattle.tw_no_trap.proofs.Safe.{kept_by}
 use Rattle.tw_parts.specs.Events.{Goes}
 use Rattle.tw_parts.specs.Fits.{AreParts, Stand}
 use Rattle.tw_types.specs.Mapped.{mapped}
@@ -34,7 +31,7 @@ use Rattle.tw_frame.specs.Jobs.{bare_frame}
 use Rattle.tw_rights.specs.Rights.{Right}
 use Rattle.tw_parts.specs.declared.parts.Parts.{Parts}
 use Rattle.tw_parts.proofs.Law.{goes_to, held}
-use Rattle.tw_parts.proofs.Fitting.{Behind, behind, seen, stand_staged}
+use Rattle.tw_parts.proofs.Fitting.{Behind, behind, stand_staged}
 use Rattle.tw_types.proofs.Mapped.{insert_mapped}
 use Rattle.tw_parts.proofs.Notes as notes
 use Rattle.tw_parts.proofs.Notes.{IsFirst}

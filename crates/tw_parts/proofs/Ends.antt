@@ -1,5 +1,5 @@
 -- A task ends: on the parts.
-use Rattle.std.proofs.Common.{map, ◌≡◌, ◌≢◌, ◌∙◌, List, Some, true, refl, sym, ap, slice_get, is_none}
+use Rattle.std.proofs.Common.{map, ◌≡◌, ◌∙◌, Some, true, refl, ap, slice_get, is_none}
 use Rattle.std.specs.FinMap.{get, remove}
 use Rattle.std.specs.List.{list_all}
 use Rattle.tw_types.specs.declared.actor.Actor.{Actor}
@@ -16,7 +16,6 @@ use Rattle.tw_code.specs.declared.instr.Instr.TheVariants.{Ret}
 use Rattle.tw_code.specs.declared.procedure.Procedure.{Procedure}
 use Rattle.tw_code.specs.machine.Holders.{typing_of}
 use Rattle.tw_code.specs.machine.Machine.{step}
-use Rattle.tw_code.specs.machine.State.{State}
 use Rattle.tw_no_trap.proofs.AllEvents.{all_empty}
 use Rattle.tw_no_trap.proofs.Running.{asked_at}
 use Rattle.tw_verify.specs.Typed.{TypedProgram, typings_of}

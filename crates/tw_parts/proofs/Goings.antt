@@ -1,7 +1,6 @@
 -- A task goes on by local steps, and is lent: on the parts.
-use Rattle.std.proofs.Common.{map, ◌≡◌, ◌≢◌, ◌<◌, ◌+◌, ◌∙◌, ℕ, Bool, true, false, List, Option, Some, refl, sym, ap, subst, slice_get, arith, nat_eq}
+use Rattle.std.proofs.Common.{◌≡◌, ◌<◌, ◌+◌, ◌∙◌, ℕ, false, List, Some, refl, sym, ap, slice_get, arith, nat_eq}
 use Rattle.std.proofs.lemmas.Bool.Decides.{nat_tests}
-use Rattle.std.proofs.lemmas.Option.{same_Some}
 use Rattle.std.specs.FinMap.{get, insert}
 use Rattle.tw_types.specs.declared.actor.Actor.{Actor}
 use Rattle.tw_types.specs.declared.event.Event.TheVariants.{Local}
@@ -14,7 +13,6 @@ use Rattle.tw_types.proofs.Mapped.{insert_mapped}
 use Rattle.tw_types.proofs.Outcomes.{same_went}
 use Rattle.tw_code.specs.declared.procedure.Procedure.{Procedure}
 use Rattle.tw_code.specs.machine.Machine.{step, local_steps}
-use Rattle.tw_code.specs.machine.Position.{Position}
 use Rattle.tw_code.specs.machine.State.{with_frame}
 use Rattle.tw_no_trap.proofs.Running.{stands_there, steps_leave}
 use Rattle.tw_verify.specs.Typed.{TypedProgram, typings_of}
@@ -22,7 +20,7 @@ use Rattle.tw_frame.specs.Jobs.{DoneView, FrameView, IsDone, JobView, MayStand, 
 use Rattle.tw_frame.proofs.Lending.{stands_fresh}
 use Rattle.tw_parts.specs.Coming.{come}
 use Rattle.tw_parts.specs.Events.{Goes, IsOwed, with_done}
-use Rattle.tw_parts.specs.Fits.{AreParts, FrameFits, Stand, kinds_in}
+use Rattle.tw_parts.specs.Fits.{AreParts, FrameFits, kinds_in}
 use Rattle.tw_parts.specs.Parts.{state_of}
 use Rattle.tw_parts.specs.declared.parts.Parts.{Parts}
 use Rattle.tw_parts.proofs.Fitting.{seen, stand_seated}

@@ -1,7 +1,6 @@
 -- RULE and PUT: what leaves the registers as the definition says leaves the file, with its rights.
-use Rattle.std.proofs.Common.{map as each, length, arith, ◌≡◌, ℕ, zero, suc, Bool, true, false, not, ◌||◌, ◌&&◌, if◌then◌else◌, List, [], ◌∷◌, ◌++◌, Option, Some, None, Result, Ok, Err, refl, sym, ap, subst, ◌∙◌, slice_get, slice_set, slice_index_or, option_map, is_some, set, get_or}
+use Rattle.std.proofs.Common.{map as each, length, arith, ◌≡◌, ℕ, zero, suc, Bool, true, false, if◌then◌else◌, List, [], ◌∷◌, Option, Some, None, Result, Ok, Err, refl, sym, ap, subst, ◌∙◌, slice_get, slice_set, slice_index_or, option_map, set}
 use Rattle.std.proofs.lemmas.List.{map-set}
-use Rattle.std.proofs.lemmas.Option.{same_Some}
 use Rattle.std.specs.Option.{ok_or, option_and_then, option_flatten}
 use Rattle.tw_types.specs.Result.{◌>>=◌}
 use Rattle.tw_types.specs.declared.cause.Cause.{Cause}

@@ -1,5 +1,5 @@
 -- What the laws of the machine say of the state for which parts stand.
-use Rattle.std.proofs.Common.{◌≡◌, ◌≢◌, ◌<◌, ◌∙◌, sym, ap, ℕ, ◌++◌, ◌∷◌, [], List, length, slice_get, Option, Some, None, ◌≤◌, true, nat_lt, arith}
+use Rattle.std.proofs.Common.{◌≡◌, ◌≢◌, ◌<◌, ◌∙◌, sym, ap, ℕ, ◌++◌, ◌∷◌, [], length, slice_get, Option, Some, None, ◌≤◌, true, arith}
 use Rattle.std.proofs.lemmas.Bool.{ltb-true}
 use Rattle.std.specs.FinMap.{get}
 use Rattle.tw_types.specs.declared.actor.Actor.{Actor}

@@ -17,3 +17,19 @@ mod Behind
 mod Puts
 mod NewRules
 mod Quieting
+pub mod DataNames
+pub mod Registers
+pub mod ValueRegisters
+pub mod Left
+pub mod Stores
+pub mod Gets
+pub mod News
+pub mod Copies
+pub mod Drops
+pub mod Inserts
+pub mod Looks
+pub mod Sizes
+pub mod Telling
+pub mod Keeping
+pub mod Calling
+pub mod Answering

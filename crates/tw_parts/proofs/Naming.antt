@@ -1,5 +1,5 @@
 -- RULE and PUT: what the law says of them, where a task stands at one.
-use Rattle.std.proofs.Common.{◌≡◌, ℕ, ◌==◌, Bool, true, false, List, Some, Result, Ok, Err, refl, sym, ap, subst, ◌∙◌, length, slice_get}
+use Rattle.std.proofs.Common.{◌≡◌, ◌==◌, Bool, true, false, List, Some, Result, Ok, Err, refl, sym, ap, subst, ◌∙◌, length, slice_get}
 use Rattle.std.proofs.lemmas.Option.{same_Some}
 use Rattle.std.specs.FinMap.{get}
 use Rattle.tw_types.specs.declared.actor.Actor.{Actor}
@@ -12,7 +12,6 @@ use Rattle.tw_types.specs.Layout.{ActorCounts}
 use Rattle.tw_types.specs.Mapped.{mapped}
 use Rattle.tw_types.specs.Notices.{Notices}
 use Rattle.tw_types.specs.Outcome.{Trap}
-use Rattle.tw_types.specs.Result.{must}
 use Rattle.tw_types.proofs.Results.{must_then, ok_first, there_then}
 use Rattle.tw_rights.specs.declared.held.Held.{Held}
 use Rattle.std.specs.declared.option.Option.{Option}

@@ -1,5 +1,5 @@
 -- RULE: on the parts.
-use Rattle.std.proofs.Common.{map as each, ◌≡◌, ◌+◌, ◌∙◌, ℕ, List, Option, Some, refl, sym, ap, slice_get, nat_cmp}
+use Rattle.std.proofs.Common.{map as each, ◌≡◌, ◌+◌, ◌∙◌, List, Option, Some, refl, sym, ap, slice_get}
 use Rattle.std.specs.Cmp.{nat_cmp_total}
 use Rattle.std.specs.FinMap.{get, insert, nat_cmp-IsAntisymmetric}
 use Rattle.tw_types.specs.declared.actor.Actor.{Actor}

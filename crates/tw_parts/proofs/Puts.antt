@@ -1,5 +1,5 @@
 -- PUT: on the parts.
-use Rattle.std.proofs.Common.{map as each, ◌≡◌, ◌+◌, ◌∙◌, ℕ, List, Option, Some, refl, sym, ap, slice_get, nat_cmp}
+use Rattle.std.proofs.Common.{map as each, ◌≡◌, ◌+◌, ◌∙◌, List, Option, Some, refl, sym, ap, slice_get}
 use Rattle.std.specs.Cmp.{nat_cmp_total}
 use Rattle.std.specs.FinMap.{get, insert, nat_cmp-IsAntisymmetric}
 use Rattle.tw_types.specs.declared.actor.Actor.{Actor}
@@ -35,7 +35,7 @@ use Rattle.tw_parts.specs.declared.parts.Parts.{Parts}
 use Rattle.tw_parts.proofs.Fitting.{seen, stand_put, stand_seated}
 use Rattle.tw_parts.proofs.Handovers.{args_stand, bare_args, fits_behind, frame_is}
 use Rattle.tw_parts.proofs.Law.{goes_to}
-use Rattle.tw_parts.proofs.Naming.{IsNamed, IsPut, puts}
+use Rattle.tw_parts.proofs.Naming.{IsNamed, puts}
 use Rattle.tw_parts.proofs.Seating.{get_other}
 
 module _ (verified : TypedProgram) (layout : ActorCounts) (old : Parts) (notices : Notices) (h : AreParts verified layout old notices)

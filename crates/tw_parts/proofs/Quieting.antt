@@ -1,7 +1,6 @@
 -- Whether a run is quiet, by what the parts tell at once: how many run, how many wait, the firsts of queues and agendas.
-use Rattle.std.proofs.Common.{map as each, ◌≡◌, ◌<◌, inl, inr, ◌⊎◌, ℕ, zero, suc, slice_get, ◌==◌, Bool, true, false, not, ◌&&◌, List, [], ◌∷◌, Option, Some, None, refl, sym, ap, subst, ◌∙◌, length, is_some, arith, nat_cmp, nat_eq}
+use Rattle.std.proofs.Common.{map as each, ◌≡◌, ◌<◌, inl, inr, ◌⊎◌, ℕ, zero, suc, slice_get, ◌==◌, Bool, true, false, not, ◌&&◌, List, [], ◌∷◌, Option, Some, None, refl, sym, ap, subst, ◌∙◌, length, is_some, arith, nat_cmp}
 use Rattle.std.proofs.lemmas.Bool.{eq-eqb, eqb-true, or_left, or_right}
-use Rattle.std.proofs.lemmas.Bool.Decides.{nat_tests}
 use Rattle.std.proofs.lemmas.Option.{same_Some}
 use Rattle.tw_types.specs.declared.stage.Stage.{Stage}
 use Rattle.tw_types.specs.declared.stage.Stage.TheVariants.{Unasked}

@@ -1,9 +1,7 @@
 -- An engine asks: on the parts.
-use Rattle.std.proofs.Common.{map, length, ◌≡◌, ℕ, zero, suc, Bool, true, false, if◌then◌else◌, List, [], ◌∷◌, Option, Some, None, IsSome, refl, sym, ap, subst, ◌∙◌, slice_get, option_map, is_none, nat_cmp}
+use Rattle.std.proofs.Common.{map, length, ◌≡◌, ℕ, zero, suc, true, false, if◌then◌else◌, List, [], ◌∷◌, Some, None, refl, sym, ap, subst, ◌∙◌, slice_get, option_map}
 use Rattle.std.proofs.lemmas.Option.{same_Some}
-use Rattle.std.specs.Cmp.{nat_cmp_total}
-use Rattle.std.specs.FinMap.{entries, get, insert, nat_cmp-IsAntisymmetric}
-use Rattle.std.specs.Option.{option_and_then}
+use Rattle.std.specs.FinMap.{entries, get, insert}
 use Rattle.tw_types.specs.declared.actor.Actor.TheVariants.{Engine}
 use Rattle.tw_types.specs.declared.event.Event.TheVariants.{Ask}
 use Rattle.tw_types.specs.declared.param.Mode.{Mode}
@@ -12,30 +10,27 @@ use Rattle.tw_types.specs.declared.param.Param.{Param}
 use Rattle.tw_types.specs.declared.stage.Stage.{Stage}
 use Rattle.tw_types.specs.declared.stage.Stage.TheVariants.{Unasked, Waiting, Ready}
 use Rattle.tw_types.specs.Layout.{ActorCounts}
-use Rattle.tw_types.specs.Mode.{is_val, is_write, is_closed_mode}
+use Rattle.tw_types.specs.Mode.{is_val, is_closed_mode}
 use Rattle.tw_types.specs.Notices.{Notices}
 use Rattle.tw_types.specs.Outcome.{Went}
-use Rattle.tw_types.specs.Rule.{Rule, RuleOf, RulesOf, at_stage, is_settled, next_ask}
+use Rattle.tw_types.specs.Rule.{Rule, at_stage, is_settled, next_ask}
 use Rattle.tw_types.specs.Store.{Datum, Store, is_closed}
 use Rattle.tw_types.specs.StoreCalls.{subscribed}
 use Rattle.tw_types.specs.Task.{RightArg}
-use Rattle.tw_types.proofs.Totals.{IsEntry}
 use Rattle.tw_rights.specs.declared.arg.Arg.{Arg}
 use Rattle.tw_rights.specs.declared.arg.Arg.TheVariants.{Val, Read, Write}
 use Rattle.tw_rights.specs.Rights.{Right}
 use Rattle.tw_rules.specs.Table.{right_at, stage_at, staged}
 use Rattle.tw_store.specs.Calls.{closed_by}
 use Rattle.tw_store.specs.Slots.{Places}
-use Rattle.tw_code.specs.declared.procedure.Procedure.{Procedure}
 use Rattle.tw_code.specs.machine.Arguments.{params_in, params_of}
 use Rattle.tw_verify.specs.Typed.{TypedProgram, typings_of}
 use Rattle.tw_code.specs.machine.Machine.{asked, step}
 use Rattle.tw_code.specs.machine.Rights.{right_of}
-use Rattle.tw_code.specs.machine.State.{State, with_stage}
+use Rattle.tw_code.specs.machine.State.{with_stage}
 use Rattle.tw_code.proofs.Found.{IsOwn, IsUnaskedAt, ask_found, own_rule_there}
 use Rattle.tw_no_trap.specs.InOrder.{is_asked_for}
 use Rattle.tw_no_trap.specs.Invariant.{IsHeld, RuleArgsFit}
-use Rattle.tw_no_trap.proofs.Safe.{kept_by}
 use Rattle.tw_no_trap.proofs.Wanted.{asked_is_there}
 use Rattle.tw_parts.specs.Events.{Goes}
 use Rattle.tw_parts.specs.Fits.{AreParts, ArgStands, ArgsStand, IsAt, Stand}

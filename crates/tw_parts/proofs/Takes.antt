@@ -1,6 +1,5 @@
 -- An actor takes a task: on the parts.
-use Rattle.std.proofs.Common.{map as each, ◌≡◌, ◌-◌, ℕ, zero, suc, Bool, true, false, ◌&&◌, List, [], ◌∷◌, ◌++◌, Option, Some, None, Result, Ok, Err, refl, sym, ap, subst, ◌∙◌, slice_get, option_map, is_none, length, replicate, option_to_list, nat_cmp, arith}
-use Rattle.std.proofs.lemmas.Option.{same_Some}
+use Rattle.std.proofs.Common.{map as each, ◌≡◌, ◌-◌, ℕ, zero, suc, Bool, true, List, [], ◌∷◌, ◌++◌, Option, Some, None, Result, Ok, Err, refl, sym, ap, subst, ◌∙◌, slice_get, option_map, length, replicate, option_to_list}
 use Rattle.std.proofs.lemmas.List.{length-map}
 use Rattle.std.specs.Cmp.{nat_cmp_total}
 use Rattle.std.specs.FinMap.{get, insert, remove, nat_cmp-IsAntisymmetric}
@@ -9,7 +8,7 @@ use Rattle.tw_types.specs.declared.cause.Cause.{Cause}
 use Rattle.tw_types.specs.declared.event.Event.TheVariants.{Take}
 use Rattle.tw_types.specs.declared.param.Param.{Param}
 use Rattle.tw_types.specs.declared.value.Value.{Value}
-use Rattle.tw_types.specs.Actor.{actor_cmp, is_in}
+use Rattle.tw_types.specs.Actor.{is_in}
 use Rattle.tw_types.specs.Layout.{ActorCounts}
 use Rattle.tw_types.specs.Mode.{is_write}
 use Rattle.tw_types.specs.Notices.{Notices}
@@ -19,28 +18,24 @@ use Rattle.tw_types.proofs.ActorOrder.{actor_cmp_total, actor_cmp-IsAntisymmetri
 use Rattle.tw_types.proofs.Best.{best_waits}
 use Rattle.tw_rights.specs.declared.arg.Arg.{Arg}
 use Rattle.tw_rights.specs.declared.arg.Arg.TheVariants.{Val, Read, Write}
-use Rattle.tw_rights.specs.declared.held.Held.{Held}
 use Rattle.tw_rights.specs.Held.{id_of}
 use Rattle.tw_rights.specs.Rights.{Right}
 use Rattle.tw_store.specs.Slots.{Places}
-use Rattle.tw_queue.specs.Queues.{without}
-use Rattle.tw_code.specs.accepting.Typing.{rights_given, start_typing}
+use Rattle.tw_code.specs.accepting.Typing.{rights_given}
 use Rattle.tw_code.specs.declared.procedure.Procedure.{Procedure}
-use Rattle.tw_code.specs.machine.Arguments.{params_in, params_of}
-use Rattle.tw_code.specs.machine.Holders.{typing_at}
+use Rattle.tw_code.specs.machine.Arguments.{params_in}
 use Rattle.tw_verify.specs.Typed.{TypedProgram, typings_of}
 use Rattle.tw_code.specs.machine.Machine.{step}
-use Rattle.tw_code.specs.machine.Position.{Position}
 use Rattle.tw_code.specs.machine.Rights.{RightType, first_rights, right_of}
-use Rattle.tw_code.specs.machine.State.{State, frame_of, ids_in, with_frame}
+use Rattle.tw_code.specs.machine.State.{frame_of, ids_in, with_frame}
 use Rattle.tw_no_trap.proofs.Running.{typed_at_start}
-use Rattle.tw_no_trap.proofs.Safe.{kept_by, safe}
+use Rattle.tw_no_trap.proofs.Safe.{safe}
 use Rattle.tw_parts.specs.Events.{Goes}
 use Rattle.tw_parts.specs.Fits.{AreParts, ArePlaced, ArgStands, ArgsStand, FrameFits, Stand, kinds_in}
 use Rattle.tw_frame.specs.Jobs.{FrameView, MayStand, bare_frame}
 use Rattle.tw_rights.specs.Bare.{bare_file}
 use Rattle.tw_rights.specs.Filed.{filed, rights_in}
-use Rattle.tw_rights.specs.Kinds.{kinds_of, writes}
+use Rattle.tw_rights.specs.Kinds.{writes}
 use Rattle.tw_frame.specs.Drafts.{MayStart, StartsAsMachine, started}
 use Rattle.tw_types.specs.Mapped.{entry_by, mapped}
 use Rattle.tw_rights.specs.Bare.{bare_arg, bare_rule, bare_task}

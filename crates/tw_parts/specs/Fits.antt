@@ -24,7 +24,7 @@ use Rattle.tw_code.specs.accepting.Needs.{HasTargets}
 use Rattle.tw_code.specs.declared.procedure.Procedure.{Procedure}
 use Rattle.tw_code.specs.format.Program.{IsProgram}
 use Rattle.tw_code.specs.machine.Arguments.{params_of}
-use Rattle.tw_code.specs.machine.Holders.{Typings, typing_at}
+use Rattle.tw_code.specs.machine.Holders.{typing_at}
 use Rattle.tw_code.specs.machine.Inputs.{AreInputsOf}
 use Rattle.tw_code.specs.machine.Opening.{reached}
 use Rattle.tw_code.specs.machine.Rights.{RightType, Typing, right_of}

@@ -1,5 +1,5 @@
 -- The state for which the parts of a pool stand.
-use Rattle.std.specs.Prelude.{ℕ, List, map as each}
+use Rattle.std.specs.Prelude.{map as each}
 use Rattle.tw_types.specs.Mapped.{mapped}
 use Rattle.tw_types.specs.Notices.{Notices}
 use Rattle.tw_rights.specs.Bare.{bare_rule, bare_task}

@@ -5,6 +5,7 @@
 mod advance;
 mod ask;
 mod copying;
+mod data;
 mod deliver;
 mod end;
 mod in_seat;

@@ -9,12 +9,16 @@ ghost use Rattle.tw_rights.specs.Bundled.{bundled};
 ghost use Rattle.tw_frame.specs.Jobs.{FrameView, draft_of, job_of};
 ghost use Rattle.tw_parts.specs.Seats.{HasSeat, seat_of};
 ghost use Rattle.tw_parts.specs.Coming.{MayLend, come, gone_on};
+ghost use Rattle.tw_parts.specs.Data.{IsAnswer, MayDo};
 
+use crate::data::data_in;
 use crate::in_seat::{advance_in, hand_over_in, lend_in};
 use std::alloc::{AllocError, Global};
 use std::marker::Model;
+use tw_code::DataInstr;
 use tw_frame::{Done, Draft, Frame, Job};
 use tw_rights::Bundle;
+use tw_store::Store;
 use tw_types::{Actor, Param, Value};
 
 /// A seat for each actor of the greatest layout: engines, servers, workers.
@@ -191,5 +195,22 @@ impl<'a> Seats<'a> {
             → (result ≡ job_of (record f { event_no = event_no })) × (self.new ≡ insert self.old actor (record f { event_no = event_no })) }
     {
         lend_in(&mut self.seats, seat_of(actor), event_no, draft)
+    }
+
+    /// The actor's task does an instruction on data behind the Done; a draft of its values, or the Done again.
+    pub(crate) fn data(
+        &mut self,
+        actor: Actor,
+        store: &mut Store,
+        alloc: Global,
+        done: Done<'a>,
+        instr: &DataInstr,
+    ) -> Result<Draft<'a>, Done<'a>>
+        requires seat { HasSeat actor }
+        requires sits { (f : FrameView) × (get self.old actor ≡ Some f) × (done.before ≡ job_of f) × MayDo instr.now store.old (come f done) }
+        ensures { (f : FrameView) → get self.old actor ≡ Some f → (g : FrameView) × (self.new ≡ insert self.old actor g)
+            × IsAnswer instr.now store.old store.new f g done.entry result }
+    {
+        data_in(&mut self.seats, seat_of(actor), store, alloc, done, instr)
     }
 }

@@ -1,4 +1,4 @@
-use Rattle.std.proofs.Common.{◌≡◌, ◌<◌, ◌+◌, ◌∙◌, ℕ, Some, length, arith, slice_get, slice_index_or, refl, sym, ap}
+use Rattle.std.proofs.Common.{◌<◌, ◌∙◌, length, arith, slice_index_or, refl, sym, ap}
 use Rattle.std.proofs.lemmas.Option.{slice_get_read, slice_get-get_or}
 use Rattle.tw_types.specs.declared.param.Param.{Param}
 use Rattle.tw_types.specs.Mode.{is_val}

@@ -1,4 +1,4 @@
-use Rattle.std.proofs.Common.{ℕ, length}
+use Rattle.std.proofs.Common.{length}
 use Rattle.tw_parts.proofs.outputs.spend_all.Given as goal
 
 abbrev pub invariant-loop-right : goal.invariant-loop-right

@@ -1,4 +1,4 @@
-use Rattle.std.proofs.Common.{◌≡◌, ◌<◌, ◌^◌, ◌∙◌, ap, Some, arith}
+use Rattle.std.proofs.Common.{◌∙◌, ap, Some, arith}
 use Rattle.std.specs.FinMap.{get}
 use Rattle.tw_parts.specs.Coming.{come}
 use Rattle.tw_parts.proofs.Seating.{get_own}

@@ -1,4 +1,4 @@
-use Rattle.std.proofs.Common.{◌∙◌, sym, ap, refl, Some, IsSome, subst, length, ◌≡◌}
+use Rattle.std.proofs.Common.{◌∙◌, sym, ap, refl, IsSome, subst, ◌≡◌}
 use Rattle.std.proofs.lemmas.Option.{same_Some}
 use Rattle.tw_rights.specs.Rights.{Right}
 use Rattle.tw_types.specs.declared.stage.Stage.TheVariants.{Waiting, Ready}

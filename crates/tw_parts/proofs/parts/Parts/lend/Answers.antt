@@ -1,7 +1,4 @@
-use Rattle.std.proofs.Common.{◌≡◌, ◌∙◌, Some, refl, sym, ap, subst}
-use Rattle.std.specs.FinMap.{insert}
-use Rattle.tw_types.specs.Notices.{Notices}
-use Rattle.tw_verify.specs.Typed.{TypedProgram}
+use Rattle.std.proofs.Common.{◌∙◌, sym, ap, subst}
 use Rattle.tw_frame.specs.Jobs.{DraftView}
 use Rattle.tw_parts.specs.Fits.{AreParts}
 use Rattle.tw_parts.specs.Parts.{state_of}

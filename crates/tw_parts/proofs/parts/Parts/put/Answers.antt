@@ -1,9 +1,6 @@
-use Rattle.std.proofs.Common.{◌≡◌, ◌∙◌, ◌<◌, ◌≤◌, ◌+◌, ℕ, List, Some, IsSome, refl, sym, ap, subst, slice_get, to_z, of_z, w64, arith}
+use Rattle.std.proofs.Common.{◌≡◌, ◌∙◌, Some, IsSome, refl, sym, ap, subst, slice_get, to_z, of_z, w64}
 use Rattle.std.proofs.lemmas.Int.{to_z-of_z}
 use Rattle.std.specs.FinMap.{get, insert}
-use Rattle.tw_types.specs.declared.actor.Actor.{Actor}
-use Rattle.tw_rights.specs.declared.arg.Arg.{Arg}
-use Rattle.tw_rights.specs.declared.held.Held.{Held}
 use Rattle.tw_code.specs.declared.instr.Instr.TheVariants as instr
 use Rattle.tw_verify.specs.Typed.{TypedProgram}
 use Rattle.tw_frame.specs.Jobs.{JobView}

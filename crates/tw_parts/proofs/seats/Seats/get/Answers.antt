@@ -1,7 +1,6 @@
-use Rattle.std.proofs.Common.{◌≡◌, ◌<◌, ◌∙◌, sym, ap, refl, Some, None, cond, is_some, length, set, get_or, arith}
-use Rattle.std.specs.FinMap.{get, insert, remove}
-use Rattle.tw_parts.specs.Seats.{seat_of, seated}
-use Rattle.tw_parts.proofs.Seating.{count_set, get_seated, low_seat, seated_put, seated_without}
+use Rattle.std.proofs.Common.{◌∙◌, sym, ap, None, get_or, arith}
+use Rattle.std.specs.FinMap.{get}
+use Rattle.tw_parts.proofs.Seating.{get_seated, low_seat}
 use Rattle.tw_parts.proofs.seats.Seats.get.Goals as goal
 
 pub sitting-requires : goal.sitting-requires

@@ -1,5 +1,3 @@
-use Rattle.std.proofs.Common.{◌≡◌, Some, refl}
-use Rattle.tw_frame.specs.Jobs.{FrameView}
 use Rattle.tw_parts.specs.Coming.{come, gone_on}
 use Rattle.tw_parts.proofs.Seating.{changed, sits_there, still_seats}
 use Rattle.tw_parts.proofs.seats.Seats.hand_over.Goals as goal

@@ -1,7 +1,7 @@
-use Rattle.std.proofs.Common.{◌≡◌, ℕ, ◌<◌, ◌∙◌, sym, ap, refl, Some, None, cond, is_some, count_by, length, length-set, set, get_or, arith}
-use Rattle.std.specs.FinMap.{get, insert, remove}
+use Rattle.std.proofs.Common.{◌≡◌, ℕ, ◌<◌, ◌∙◌, sym, ap, Some, None, cond, is_some, count_by, length, length-set, set, get_or, arith}
+use Rattle.std.specs.FinMap.{get, insert}
 use Rattle.tw_parts.specs.Seats.{seat_of, seated}
-use Rattle.tw_parts.proofs.Seating.{count_set, get_seated, low_seat, seated_put, seated_without}
+use Rattle.tw_parts.proofs.Seating.{count_set, get_seated, low_seat, seated_put}
 use Rattle.tw_parts.proofs.seats.Seats.put.Goals as goal
 
 pub seat-requires-clause-inside : goal.seat-requires-clause-inside

@@ -1,7 +1,7 @@
-use Rattle.std.proofs.Common.{◌≡◌, ◌<◌, ◌∙◌, sym, ap, refl, Some, None, cond, is_some, length, set, get_or, arith}
-use Rattle.std.specs.FinMap.{get, insert, remove}
+use Rattle.std.proofs.Common.{◌<◌, ◌∙◌, sym, ap, None, length, set, get_or, arith}
+use Rattle.std.specs.FinMap.{get, remove}
 use Rattle.tw_parts.specs.Seats.{seat_of, seated}
-use Rattle.tw_parts.proofs.Seating.{count_set, get_seated, low_seat, seated_put, seated_without}
+use Rattle.tw_parts.proofs.Seating.{get_seated, low_seat, seated_without}
 use Rattle.tw_parts.proofs.seats.Seats.take.Goals as goal
 
 pub unseat-requires : goal.unseat-requires

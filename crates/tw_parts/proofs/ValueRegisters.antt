@@ -1,0 +1,76 @@
+-- One value register: the number that is in it, and the values that it may be given.
+use Rattle.std.specs.Option.{option_and_then}
+use Rattle.tw_types.specs.declared.data_type.Scalar.TheVariants as scalar
+use Rattle.tw_types.specs.declared.value.Value.TheVariants as value
+use Rattle.tw_types.specs.DataType.{same_scalar}
+use Rattle.tw_types.specs.Store.{Content, Unset, Set, Contains}
+use Rattle.tw_types.specs.StoreCalls.{value_at, value_in}
+use Rattle.tw_types.specs.StoreChecks.{may_retrieve}
+use Rattle.tw_types.specs.TypedStore.{IsOfType, IsTypedStore}
+use Rattle.tw_types.specs.Value.{is_of, scalar_of}
+use Rattle.tw_code.specs.machine.Position.{int_in, must_have_type}
+use Rattle.tw_frame.specs.Drafts.{MaySet}
+use Rattle.tw_no_trap.proofs.Scalars.{same_scalars}
+use Rattle.tw_parts.specs.Memory.{IsTextAt}
+use Rattle.tw_parts.proofs.Registers.{and_second}
+use Rattle.tw_parts.proofs.DataNames.{◌≡◌, ◌∙◌, ℕ, ℤ, Bool, true, false, not, ◌||◌, List, Option, Some, None, Result, Ok, refl, sym, ap, option_map, slice_get, same_Some, get, Cause, FreedDatum, WrongRegister, Value, is_scalar, NestedScalar, Datum, Data, must_ok, must_then, there_then, suits, Position, int_at}
+
+-- ---- numbers
+
+int_value : (x : Value) (n : ℤ) → int_in x ≡ Ok n → x ≡ value.Int n
+int_value (value.Int k) n e = let same : k ≡ n = cc in ap value.Int same
+int_value (value.Text text) n e = cc
+
+pub int_is : (at : Position) (register : ℕ) (n : ℤ) → int_at at register ≡ Ok n → slice_get at.values register ≡ Some (value.Int n)
+int_is at register n e =
+    let v = there_then (slice_get at.values register) WrongRegister int_in n e in
+    v.1 ∙ ap Some (int_value v.0 n v.2)
+
+pub int_known : (at : Position) (register : ℕ) (n : ℤ) → slice_get at.values register ≡ Some (value.Int n) → int_at at register ≡ Ok n
+int_known at register n e = rw e refl
+
+ok_ints : (a b : ℤ) → ◌≡◌ {A = Result ℤ Cause} (Ok a) (Ok b) → a ≡ b
+ok_ints a b e = cc
+
+pub int_same : (at : Position) (register : ℕ) (k n : ℤ) → int_at at register ≡ Ok k → slice_get at.values register ≡ Some (value.Int n) → k ≡ n
+int_same at register k n e there = ok_ints k n (sym e ∙ int_known at register n there)
+
+-- a register of ints may be given any
+pub may_set_int : (at : Position) (register : ℕ) (n : ℤ) → must_have_type at register scalar.Int ≡ Ok tt → MaySet at.values register (value.Int n)
+may_set_int at register n e =
+    let v = there_then (slice_get at.values register) WrongRegister _ tt e in
+    let same = same_scalars (scalar_of v.0) scalar.Int (must_ok (same_scalar (scalar_of v.0) scalar.Int) WrongRegister v.2) in
+    ap (option_map scalar_of) v.1 ∙ ap Some same
+
+-- ---- the value of a datum
+
+content_of_type : (ty : NestedScalar) (c : Content) (x : Value) → IsOfType ty c → value_in c ≡ Some x → scalar_of x ≡ ty.scalar
+content_of_type ty Unset x fits e = cc
+content_of_type ty (Set y) x fits e = ap scalar_of (sym (same_Some y x e)) ∙ fits.1
+content_of_type ty (Contains members) x fits e = cc
+
+not_scalar : (a b : Bool) → a ≡ true → (not a || b) ≡ true → b ≡ true
+not_scalar true b e h = h
+not_scalar false b e h = cc
+
+-- a register whose value suits a datum may be given the datum's
+module _ (s : Data) (typed : IsTypedStore s) (id : ℕ) (new : Value) (allowed : may_retrieve (get s.live id) ≡ Ok tt) (has : value_at s id ≡ Some new) where
+  pub value_fits : (values : List Value) (register : ℕ) (old : Value) → slice_get values register ≡ Some old → suits old (get s.live id) ≡ true → MaySet values register new
+  value_fits values register old there suit =
+      let live = there_then (get s.live id) FreedDatum _ tt allowed in
+      let x = live.0 in
+      let scalar = must_then (is_scalar x.ty) _ _ tt live.2 in
+      let is_value : value_in x.content ≡ Some new = ap (option_and_then (λ (y : Datum). value_in y.content)) (sym live.1) ∙ has in
+      let fits = content_of_type x.ty x.content new (typed.contents id x live.1) is_value in
+      let of : is_of old x.ty ≡ true = not_scalar (is_scalar x.ty) (is_of old x.ty) scalar.0 (ap (suits old) (sym live.1) ∙ suit) in
+      let same = same_scalars (scalar_of old) x.ty.scalar (and_second (is_scalar x.ty) (same_scalar (scalar_of old) x.ty.scalar) of) in
+      ap (option_map scalar_of) there ∙ ap Some (same ∙ sym fits)
+
+-- a register that may be given a text has one
+pub text_there : (values : List Value) (register : ℕ) (text : List ℕ) → MaySet values register (value.Text text) → IsTextAt values register
+text_there values register text may = by (slice_get values register) refl may
+  where
+    by : (o : Option Value) → slice_get values register ≡ o → option_map scalar_of o ≡ Some scalar.Text → IsTextAt values register
+    by None at e = cc
+    by (Some (value.Int n)) at e = cc
+    by (Some (value.Text t)) at e = (t, at)

@@ -1,0 +1,38 @@
+use Rattle.std.proofs.Common.{◌∙◌, ◌+◌, ap, sym, refl}
+use Rattle.tw_rights.specs.declared.held.Held.TheVariants as held
+use Rattle.tw_code.specs.machine.Position.{at_next_place}
+use Rattle.tw_frame.specs.Jobs.{FrameView, draft_of, job_of}
+use Rattle.tw_parts.specs.Coming.{come}
+use Rattle.tw_parts.proofs.Drops.{drop_write_allowed, drop_write_here, drop_write_right, write_dropped_done}
+use Rattle.tw_parts.proofs.Registers.{id_at, more_than, put_back}
+use Rattle.tw_parts.proofs.data.rights.drop_write.Goals as goal
+
+pub take_write-right-requires : goal.take_write-right-requires
+take_write-right-requires c = drop_write_right c.args.datum c.args.store.now (come c.args.frame.now c.args.done) c.requires.may
+
+pub drop_write-requires-clause-here : goal.drop_write-requires-clause-here
+drop_write-requires-clause-here c = drop_write_here c.args.datum c.args.store.now (come c.args.frame.now c.args.done) c.requires.may c.take_write-right.result c.take_write-right.ensures.taken
+
+pub drop_write-requires-clause-allowed : goal.drop_write-requires-clause-allowed
+drop_write-requires-clause-allowed c = drop_write_allowed c.args.datum c.args.store.now (come c.args.frame.now c.args.done) c.requires.may c.take_write-right.result c.take_write-right.ensures.taken
+
+pub come-draft-requires-clause-own : goal.come-draft-requires-clause-own
+come-draft-requires-clause-own c = c.requires.own ∙ ap job_of (sym c.take_write-right.ensures.rest)
+
+pub returns-in-Ok : goal.returns-in-Ok
+returns-in-Ok c =
+    let came = c.come-draft.ensures.came ∙ ap (λ (n : FrameView). come n c.args.done) c.take_write-right.ensures.rest in
+    let is = c.go_on.ensures ∙ ap (λ (n : FrameView). record n { position = at_next_place n.position; spent = n.spent + 1 }) came in
+    record {
+      is_done = write_dropped_done c.args.datum c.args.store.now (come c.args.frame.now c.args.done) c.requires.may c.take_write-right.result c.take_write-right.ensures.taken c.drop_write.new.self c.in-Ok.ensures.dropped c.go_on.new.self is;
+      is_draft = c.come-draft.ensures.draft ∙ ap draft_of came ∙ sym (ap draft_of is);
+    }
+
+pub returns-in-Err : goal.returns-in-Err
+returns-in-Err c = record {
+  memory = (c.take_write-right.result.id, id_at c.args.frame.now.held c.args.datum (held.Write c.take_write-right.result) c.take_write-right.ensures.taken, more_than _ _ c.in-Err.ensures.reserved);
+  store = c.in-Err.ensures.refused;
+  frame = put_back c.args.frame.now c.take_write-right.new.self c.fill.new.self c.args.datum (held.Write c.take_write-right.result) (held.Write c.in-Err.right) c.take_write-right.ensures.taken c.take_write-right.ensures.rest
+      (ap held.Write c.in-Err.ensures.back) c.fill.ensures;
+  is_back = refl;
+}

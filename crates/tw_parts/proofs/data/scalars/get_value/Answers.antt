@@ -1,0 +1,43 @@
+use Rattle.std.proofs.Common.{◌∙◌, ◌+◌, slice_get, ap, refl}
+use Rattle.tw_types.specs.declared.value.Value.TheVariants as value
+use Rattle.tw_code.specs.machine.Position.{at_next_place, with_value}
+use Rattle.tw_frame.specs.Jobs.{FrameView}
+use Rattle.tw_parts.specs.Coming.{come}
+use Rattle.std.specs.Option.{option_map}
+use Rattle.tw_types.specs.Value.{scalar_of}
+use Rattle.tw_parts.proofs.Gets.{get_allowed, get_fits, get_here, get_right, got_done}
+use Rattle.tw_parts.proofs.ValueRegisters.{text_there}
+use Rattle.tw_parts.proofs.data.scalars.get_value.Goals as goal
+
+pub peek_read-requires : goal.peek_read-requires
+peek_read-requires c = get_right c.args.to c.args.datum c.args.store.now (come c.args.frame.now c.args.done) c.requires.may
+
+pub two_copies-requires-clause-here : goal.two_copies-requires-clause-here
+two_copies-requires-clause-here c = get_here c.args.to c.args.datum c.args.store.now (come c.args.frame.now c.args.done) c.requires.may c.peek_read.result.now c.peek_read.ensures
+
+pub two_copies-requires-clause-allowed : goal.two_copies-requires-clause-allowed
+two_copies-requires-clause-allowed c = get_allowed c.args.to c.args.datum c.args.store.now (come c.args.frame.now c.args.done) c.requires.may c.peek_read.result.now c.peek_read.ensures
+
+pub returns-in_default : goal.returns-in_default
+returns-in_default c =
+    let text = c.in_default.ensures.texts in
+    record {
+      memory = text_there c.args.done.after.values c.args.to text.0
+          (get_fits c.args.to c.args.datum c.args.store.now (come c.args.frame.now c.args.done) c.requires.may c.peek_read.result.now c.peek_read.ensures (value.Text text.0) text.1);
+      store = record { store = refl; places = refl; queues = refl };
+      frame = refl;
+      is_back = refl;
+    }
+
+pub give-requires-clause-fits : goal.give-requires-clause-fits
+give-requires-clause-fits c =
+    ap (λ (n : FrameView). option_map scalar_of (slice_get n.position.values c.args.to)) c.come-draft.ensures.came
+    ∙ get_fits c.args.to c.args.datum c.args.store.now (come c.args.frame.now c.args.done) c.requires.may c.peek_read.result.now c.peek_read.ensures c.in-Ok.copies.0 c.in-Ok.ensures.first
+
+pub returns : goal.returns
+returns c =
+    let is = c.give.ensures.given ∙ ap (λ (n : FrameView). record n { position = at_next_place (with_value n.position c.args.to c.in-Ok.copies.0); spent = n.spent + 1 }) c.come-draft.ensures.came in
+    record {
+      is_done = got_done c.args.to c.args.datum c.args.store.now (come c.args.frame.now c.args.done) c.requires.may c.peek_read.result.now c.peek_read.ensures c.in-Ok.copies.0 c.in-Ok.ensures.first c.give.new.frame is;
+      is_draft = c.give.ensures.drafted;
+    }

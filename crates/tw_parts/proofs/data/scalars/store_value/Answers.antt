@@ -1,0 +1,46 @@
+use Rattle.std.proofs.Common.{◌∙◌, ◌+◌, sym, ap, refl, inl, inr}
+use Rattle.tw_types.specs.declared.value.Value.{Value}
+use Rattle.tw_rights.specs.Rights.{Right}
+use Rattle.tw_rights.specs.declared.held.Held.TheVariants as held
+use Rattle.tw_code.specs.machine.Position.{at_next_place}
+use Rattle.tw_frame.specs.Jobs.{FrameView, draft_of, job_of}
+use Rattle.tw_parts.specs.Coming.{come}
+use Rattle.tw_parts.proofs.Registers.{id_at, more_than, put_back}
+use Rattle.tw_parts.proofs.Stores.{store_allowed, store_declared, store_here, store_right, stored_done}
+use Rattle.tw_parts.proofs.data.scalars.store_value.Goals as goal
+
+pub value-requires : goal.value-requires
+value-requires c = store_declared c.args.datum c.args.from c.args.store.now (come c.args.frame.now c.args.done) c.requires.may
+
+pub returns-in_default : goal.returns-in_default
+returns-in_default c = record { memory = inl c.in_default.ensures.text; store = record { store = refl; places = refl; queues = refl }; frame = refl; is_back = refl }
+
+pub take_write-right-requires : goal.take_write-right-requires
+take_write-right-requires c = store_right c.args.datum c.args.from c.args.store.now (come c.args.frame.now c.args.done) c.requires.may
+
+pub store-requires-clause-here : goal.store-requires-clause-here
+store-requires-clause-here c = store_here c.args.datum c.args.from c.args.store.now (come c.args.frame.now c.args.done) c.requires.may c.take_write-right.result c.take_write-right.ensures.taken
+
+pub store-requires-clause-allowed : goal.store-requires-clause-allowed
+store-requires-clause-allowed c = store_allowed c.args.datum c.args.from c.args.store.now (come c.args.frame.now c.args.done) c.requires.may c.take_write-right.result c.take_write-right.ensures.taken c.in-Ok.value c.in-Ok.ensures.copy
+
+pub come-draft-requires-clause-own : goal.come-draft-requires-clause-own
+come-draft-requires-clause-own c = c.requires.own ∙ ap job_of (sym c.take_write-right.ensures.rest)
+
+pub returns-in-Ok-store : goal.returns-in-Ok-store
+returns-in-Ok-store c =
+    let came = c.come-draft.ensures.came ∙ ap (λ (n : FrameView). come n c.args.done) c.take_write-right.ensures.rest in
+    let is = c.go_on.ensures ∙ ap (λ (n : FrameView). record n { position = at_next_place n.position; spent = n.spent + 1 }) came in
+    record {
+      is_done = stored_done c.args.datum c.args.from c.args.store.now (come c.args.frame.now c.args.done) c.requires.may c.take_write-right.result c.take_write-right.ensures.taken c.in-Ok.value c.in-Ok.ensures.copy c.store.new.self c.in-Ok-store.ensures.stored c.go_on.new.self is;
+      is_draft = c.come-draft.ensures.draft ∙ ap draft_of came ∙ sym (ap draft_of is);
+    }
+
+pub returns-in-Err : goal.returns-in-Err
+returns-in-Err c = record {
+  memory = inr (c.take_write-right.result.id, id_at c.args.frame.now.held c.args.datum (held.Write c.take_write-right.result) c.take_write-right.ensures.taken, more_than _ _ c.in-Err.ensures.reserved);
+  store = c.in-Err.ensures.refused;
+  frame = put_back c.args.frame.now c.take_write-right.new.self c.fill.new.self c.args.datum (held.Write c.take_write-right.result) (held.Write c.in-Err.back.0) c.take_write-right.ensures.taken c.take_write-right.ensures.rest
+      (ap (λ (b : Right × Value). held.Write b.0) c.in-Err.ensures.back) c.fill.ensures;
+  is_back = refl;
+}

@@ -1,0 +1,80 @@
+use Rattle.std.proofs.Common.{◌≡◌, ◌∙◌, refl, sym, ap, subst}
+use Rattle.std.proofs.lemmas.Option.{same_Some}
+use Rattle.std.specs.FinMap.{get, insert}
+use Rattle.tw_types.specs.declared.event.Event.TheVariants.{Call}
+use Rattle.tw_frame.specs.Jobs.{DraftView, FrameView}
+use Rattle.tw_parts.specs.Coming.{come}
+use Rattle.tw_parts.specs.Memory.{TakesMemory}
+use Rattle.tw_parts.specs.declared.parts.Parts.{Parts}
+use Rattle.tw_parts.specs.Events.{IsDrafted, IsOwed, Makes, MakesBehind, Untouched, with_done}
+use Rattle.tw_parts.proofs.Answering.{when_back, when_done, when_drafted, when_refused}
+use Rattle.tw_parts.proofs.Calling.{called, may_do}
+use Rattle.tw_parts.proofs.Law.{runner_has_seat}
+use Rattle.tw_parts.proofs.Seating.{again, get_own, same_seat}
+use Rattle.tw_parts.proofs.parts.Parts.call_data.Goals as goal
+
+pub data-requires-clause-seat : goal.data-requires-clause-seat
+data-requires-clause-seat c =
+    let s = c.requires.stands in
+    let done = c.args.done in
+    runner_has_seat done.before.program s.layout (with_done c.args.self.now c.args.actor s.f done) s.notices s.parts c.args.actor (come s.f done) (get_own c.args.self.now.seats c.args.actor (come s.f done))
+
+pub data-requires-clause-sits : goal.data-requires-clause-sits
+data-requires-clause-sits c =
+    let s = c.requires.stands in
+    let done = c.args.done in (
+      s.f,
+      s.owed.sits,
+      s.owed.own,
+      may_do done.before.program s.layout (with_done c.args.self.now c.args.actor s.f done) s.notices s.parts c.args.actor (come s.f done) s.q c.args.instr.now (get_own c.args.self.now.seats c.args.actor (come s.f done)) s.here s.behind s.small,
+    )
+
+pub returns-clause-called : goal.returns-clause-called
+returns-clause-called c =
+    let s = c.requires.stands in
+    let done = c.args.done in
+    let old = c.args.self.now in
+    let e = c.data.ensures s.f s.owed.sits in
+    let new : Parts = record old { store = c.data.new.store; seats = c.data.new.self } in
+    when_done c.args.instr.now old.store c.data.new.store s.f e.0 done (MakesBehind (Call c.args.actor) old c.args.actor done new) c.data.result e.2 (λ o. λ layout f owed.
+    let same : s.f ≡ f = same_Some s.f f (sym s.owed.sits ∙ owed.sits) in
+    subst (λ (x : FrameView). Makes done.before.program layout (Call c.args.actor) (with_done old c.args.actor x done) new) same (λ notices h.
+    called done.before.program layout (with_done old c.args.actor s.f done) notices h c.args.actor (come s.f done) s.q c.args.instr.now (get_own old.seats c.args.actor (come s.f done)) s.here s.behind new e.0 o
+    (e.1 ∙ sym (again old.seats c.args.actor (come s.f done) e.0)) refl refl refl refl))
+
+pub returns-clause-drafted : goal.returns-clause-drafted
+returns-clause-drafted c =
+    let s = c.requires.stands in
+    let e = c.data.ensures s.f s.owed.sits in
+    when_drafted c.args.instr.now c.args.self.now.store c.data.new.store s.f e.0 c.args.done (λ (draft : DraftView). IsDrafted _ c.args.actor draft) c.data.result e.2 (λ draft is. record {
+      f = e.0;
+      sits = ap (λ m. get m c.args.actor) e.1 ∙ get_own c.args.self.now.seats c.args.actor e.0;
+      is = is;
+    })
+
+pub returns-clause-refused : goal.returns-clause-refused
+returns-clause-refused c =
+    let s = c.requires.stands in
+    let e = c.data.ensures s.f s.owed.sits in
+    when_refused c.args.instr.now c.args.self.now.store c.data.new.store s.f e.0 c.args.done (Untouched c.args.self.now _) c.data.result e.2 (λ back r. record {
+      store = r.store;
+      rules = refl;
+      next_rule = refl;
+      tasks = refl;
+      next_task = refl;
+      seats = e.1 ∙ ap (insert c.args.self.now.seats c.args.actor) r.frame ∙ same_seat c.args.self.now.seats c.args.actor s.f s.owed.sits;
+      outputs = refl;
+    })
+
+pub returns-clause-back : goal.returns-clause-back
+returns-clause-back c =
+    let s = c.requires.stands in
+    let e = c.data.ensures s.f s.owed.sits in
+    when_back c.args.instr.now c.args.self.now.store c.data.new.store s.f e.0 c.args.done c.data.result e.2
+
+pub returns-clause-memory : goal.returns-clause-memory
+returns-clause-memory c =
+    let s = c.requires.stands in
+    let e = c.data.ensures s.f s.owed.sits in
+    when_refused c.args.instr.now c.args.self.now.store c.data.new.store s.f e.0 c.args.done ((f : FrameView) → IsOwed c.args.self.now c.args.actor f c.args.done → TakesMemory c.args.instr.now c.args.self.now.store (come f c.args.done)) c.data.result e.2 (λ back r. λ f owed.
+    subst (λ (x : FrameView). TakesMemory c.args.instr.now c.args.self.now.store (come x c.args.done)) (same_Some s.f f (sym s.owed.sits ∙ owed.sits)) r.memory)

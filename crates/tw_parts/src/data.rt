@@ -1,0 +1,137 @@
+//! Instructions on data.
+
+ghost use Rattle.std.specs.Prelude.{◌≡◌, ◌<◌, IfErr, IfOk, OnErr, OnOk, None, Some, length, slice_index_or, slice_set};
+ghost use Rattle.tw_types.specs.declared.event.Event.TheVariants as event;
+ghost use Rattle.tw_code.specs.declared.instr.Instr.TheVariants as instr_is;
+ghost use Rattle.tw_frame.specs.Jobs.{FrameView, draft_of, job_of};
+ghost use Rattle.tw_parts.specs.Coming.{come};
+ghost use Rattle.tw_parts.specs.Data.{IsAnswer, IsDone, MayDo, TakesNone};
+ghost use Rattle.tw_parts.specs.Memory.{TakesMemory};
+ghost use Rattle.tw_parts.specs.Events.{IsDrafted, IsOwed, MakesBehind, StandsAt, Untouched};
+
+mod containers;
+mod give;
+mod rights;
+mod scalars;
+
+use crate::data::containers::{insert_member, look_up, size, subscript_at};
+use crate::data::rights::{copy_read, copy_write, drop_read, drop_write, new_datum};
+use crate::data::scalars::{get_value, store_value};
+use crate::in_seat::come;
+use crate::parts::Parts;
+use std::alloc::Global;
+use tw_code::DataInstr;
+use tw_frame::{Done, Draft, Frame};
+use tw_store::Store;
+use tw_types::Actor;
+
+/// An instruction that takes no memory.
+fn run_at_once<'a>(
+    store: &mut Store,
+    frame: &mut Frame<'a>,
+    draft: &mut Draft<'a>,
+    instr: &DataInstr,
+)
+    requires none { TakesNone instr.now }
+    requires may { MayDo instr.now store.old frame.old }
+    requires like { draft.old ≡ draft_of frame.old }
+    ensures done { IsDone instr.now store.old store.new frame.old frame.new }
+    ensures drafted { draft.new ≡ draft_of frame.new }
+{
+    match instr {
+        DataInstr::Look {
+            member,
+            container,
+            subscript,
+            skip,
+        } => look_up(store, frame, *member, *container, *subscript, *skip),
+        DataInstr::Size { to, container } => size(store, frame, draft, *to, *container),
+        DataInstr::SubscriptAt {
+            to,
+            container,
+            index,
+            skip,
+        } => subscript_at(store, frame, draft, *to, *container, *index, *skip),
+        DataInstr::CopyRead { to, from } => copy_read(store, frame, *to, *from),
+        DataInstr::CopyWrite { to, from } => copy_write(store, frame, *to, *from),
+        DataInstr::DropRead { right } => drop_read(store, frame, *right),
+        DataInstr::New { .. } | DataInstr::Store { .. } | DataInstr::Get { .. } => unreachable!(),
+        DataInstr::Insert { .. } | DataInstr::DropWrite { .. } => unreachable!(),
+    }
+}
+
+/// A task does an instruction behind the Done of its job, and the draft is of its values then; or the Done comes back, where
+/// memory is refused.
+pub(crate) fn run_data<'a>(
+    store: &mut Store,
+    frame: &mut Frame<'a>,
+    alloc: Global,
+    done: Done<'a>,
+    instr: &DataInstr,
+) -> Result<Draft<'a>, Done<'a>>
+    requires own { done.before ≡ job_of frame.old }
+    requires may { MayDo instr.now store.old (come frame.old done) }
+    ensures { IsAnswer instr.now store.old store.new frame.old frame.new done.entry result }
+{
+    match instr {
+        DataInstr::New { write, read, ty } => new_datum(
+            store, frame, alloc, done, *write, *read, *ty,
+        ),
+        DataInstr::Store { datum, from } => store_value(store, frame, alloc, done, *datum, *from),
+        DataInstr::Get { to, datum } => get_value(store, frame, alloc, done, *to, *datum),
+        DataInstr::Insert {
+            container,
+            subscript,
+            member,
+            skip,
+        } => insert_member(store, frame, done, *container, *subscript, *member, *skip),
+        DataInstr::DropWrite { right } => drop_write(store, frame, done, *right),
+        other => {
+            let mut draft = come(frame, done);
+            run_at_once(store, frame, &mut draft, other);
+            Ok(draft)
+        }
+    }
+}
+
+/// The task in a seat does so.
+pub(crate) fn data_in<'a>(
+    seats: &mut Vec<Option<Frame<'a>>>,
+    seat: usize,
+    store: &mut Store,
+    alloc: Global,
+    done: Done<'a>,
+    instr: &DataInstr,
+) -> Result<Draft<'a>, Done<'a>>
+    requires inside { seat < length seats.old.items }
+    requires sits { (f : FrameView) × (slice_index_or seats.old.items seat None ≡ Some f) × (done.before ≡ job_of f) × MayDo instr.now store.old (come f done) }
+    ensures { (f : FrameView) → slice_index_or seats.old.items seat None ≡ Some f → (g : FrameView) × (seats.new.items ≡ slice_set seats.old.items seat (Some g))
+        × IsAnswer instr.now store.old store.new f g done.entry result }
+{
+    let place = &mut seats[seat];
+    match place {
+        Some(frame) => run_data(store, frame, alloc, done, instr),
+        None => unreachable!(),
+    }
+}
+
+impl<'a> Parts<'a> {
+    /// The actor's task, which stands at this instruction on data behind the Done, comes there and does it; a draft of its
+    /// values. Where memory is refused the Done comes back.
+    pub fn call_data(
+        &mut self,
+        alloc: Global,
+        actor: Actor,
+        instr: &DataInstr,
+        done: Done<'a>,
+    ) -> Result<Draft<'a>, Done<'a>>
+        requires stands { StandsAt self.old actor done (instr_is.Data instr.now) }
+        ensures called { OnOk result (MakesBehind (event.Call actor) self.old actor done.entry self.new) }
+        ensures drafted { IfOk result (λ draft. IsDrafted self.new actor draft) }
+        ensures refused { OnErr result (Untouched self.old self.new) }
+        ensures back { IfErr result (λ back. back ≡ done.entry) }
+        ensures memory { OnErr result ((f : FrameView) → IsOwed self.old actor f done.entry → TakesMemory instr.now self.old.store (come f done.entry)) }
+    {
+        self.seats.data(actor, &mut self.store, alloc, done, instr)
+    }
+}

@@ -1,0 +1,111 @@
+//! Members of containers.
+
+ghost use Rattle.std.specs.Prelude.{◌≡◌};
+ghost use Rattle.tw_code.specs.declared.instr.DataInstr.TheVariants as on_data;
+ghost use Rattle.tw_frame.specs.Jobs.{draft_of, job_of};
+ghost use Rattle.tw_parts.specs.Coming.{come};
+ghost use Rattle.tw_parts.specs.Data.{IsAnswer, IsDone, MayDo};
+
+use crate::data::give::{give, number_at};
+use crate::in_seat::come;
+use tw_frame::{Done, Draft, Frame};
+use tw_rights::Held;
+use tw_store::{Inserted, Store};
+use tw_types::Value;
+
+/// INS: it is refused, and skips, where the subscript is there.
+pub(crate) fn insert_member<'a>(
+    store: &mut Store,
+    frame: &mut Frame<'a>,
+    done: Done<'a>,
+    container: u8,
+    subscript: u8,
+    member: u8,
+    skip: u16,
+) -> Result<Draft<'a>, Done<'a>>
+    requires own { done.before ≡ job_of frame.old }
+    requires may { MayDo (on_data.Insert container subscript member skip) store.old (come frame.old done) }
+    ensures { IsAnswer (on_data.Insert container subscript member skip) store.old store.new frame.old frame.new done.entry result }
+{
+    let at = number_at(&done, subscript);
+    let right = frame.take_read(member);
+    match store.insert(frame.peek_write(container), at, right) {
+        Ok(Inserted::Done) => {
+            let draft = come(frame, done);
+            frame.go_on();
+            Ok(draft)
+        }
+        Ok(Inserted::Present(back)) => {
+            frame.fill(member, Held::Read(back));
+            let draft = come(frame, done);
+            frame.skip(skip);
+            Ok(draft)
+        }
+        Err(back) => {
+            frame.fill(member, Held::Read(back));
+            Err(done)
+        }
+    }
+}
+
+/// LOOK: it is refused, and skips, where there is no member at the subscript.
+pub(crate) fn look_up(
+    store: &mut Store,
+    frame: &mut Frame<'_>,
+    member: u8,
+    container: u8,
+    subscript: u8,
+    skip: u16,
+)
+    requires { MayDo (on_data.Look member container subscript skip) store.old frame.old }
+    ensures done { IsDone (on_data.Look member container subscript skip) store.old store.new frame.old frame.new }
+    ensures values { frame.new.position.values ≡ frame.old.position.values }
+{
+    let at = frame.int(subscript);
+    match store.look(frame.peek_read(container), at) {
+        None => frame.skip(skip),
+        Some(right) => {
+            frame.fill(member, Held::Read(right));
+            frame.go_on();
+        }
+    }
+}
+
+/// SIZE.
+pub(crate) fn size<'a>(
+    store: &Store,
+    frame: &mut Frame<'a>,
+    draft: &mut Draft<'a>,
+    to: u8,
+    container: u8,
+)
+    requires may { MayDo (on_data.Size to container) store.now frame.old }
+    requires like { draft.old ≡ draft_of frame.old }
+    ensures done { IsDone (on_data.Size to container) store.now store.now frame.old frame.new }
+    ensures drafted { draft.new ≡ draft_of frame.new }
+{
+    let size = store.size(frame.peek_read(container)) as i64;
+    give(frame, draft, to, Value::Int(size), Value::Int(size));
+}
+
+/// SUBAT: it is refused, and skips, where there are no more members than that.
+pub(crate) fn subscript_at<'a>(
+    store: &Store,
+    frame: &mut Frame<'a>,
+    draft: &mut Draft<'a>,
+    to: u8,
+    container: u8,
+    index: u8,
+    skip: u16,
+)
+    requires may { MayDo (on_data.SubscriptAt to container index skip) store.now frame.old }
+    requires like { draft.old ≡ draft_of frame.old }
+    ensures done { IsDone (on_data.SubscriptAt to container index skip) store.now store.now frame.old frame.new }
+    ensures drafted { draft.new ≡ draft_of frame.new }
+{
+    let count = frame.int(index);
+    match store.subscript_at(frame.peek_read(container), count) {
+        Some(at) => give(frame, draft, to, Value::Int(at), Value::Int(at)),
+        None => frame.skip(skip),
+    }
+}

@@ -1,0 +1,42 @@
+//! Values that an instruction reads of a Done, or gives to a task and to the draft of its next job.
+
+ghost use Rattle.std.specs.Prelude.{◌≡◌, ◌<◌, ◌^◌, ◌+◌, ℤ, Some, slice_get};
+ghost use Rattle.tw_types.specs.declared.value.Value.TheVariants as value;
+ghost use Rattle.tw_code.specs.machine.Position.{at_next_place, with_value};
+ghost use Rattle.tw_frame.specs.Drafts.{MaySet};
+ghost use Rattle.tw_frame.specs.Jobs.{draft_of};
+
+use tw_frame::{Done, Draft, Frame, ValueRef};
+use tw_types::Value;
+
+/// The number in a register that has one, as far as the Done came.
+pub(crate) fn number_at(done: &Done<'_>, register: u8) -> i64
+    requires { (n : ℤ) × (slice_get done.now.after.values register ≡ Some (value.Int n)) }
+    ensures { slice_get done.now.after.values register ≡ Some (value.Int result) }
+{
+    match done.look(register) {
+        ValueRef::Int(number) => number,
+        ValueRef::Text(_text) => unreachable!(),
+    }
+}
+
+/// Gives a register of the frame a value, and that of its draft a copy of it, and goes on.
+pub(crate) fn give<'a>(
+    frame: &mut Frame<'a>,
+    draft: &mut Draft<'a>,
+    register: u8,
+    value: Value,
+    copy: Value,
+)
+    requires fits { MaySet frame.old.position.values register value }
+    requires same { copy ≡ value }
+    requires like { draft.old ≡ draft_of frame.old }
+    requires place { frame.old.position.place < 2 ^ 63 }
+    requires spent { frame.old.spent < 2 ^ 63 }
+    ensures given { frame.new ≡ record frame.old { position = at_next_place (with_value frame.old.position register value); spent = frame.old.spent + 1 } }
+    ensures drafted { draft.new ≡ draft_of frame.new }
+{
+    frame.set(register, value);
+    draft.set(register, copy);
+    frame.go_on();
+}
