@@ -1,29 +1,27 @@
 -- The events of rules and notices have words: their numbers are small, since each event makes these larger by one at most.
-use Rattle.std.proofs.Common.{◌≡◌, ◌<◌, ◌≤◌, ◌+◌, ◌^◌, ◌==◌, not, ℕ, zero, suc, List, [], ◌∷◌, ◌++◌, length, Option, Some, None, slice_get, refl, sym, ap, subst, ◌∙◌, arith}
+use Rattle.std.proofs.Common.{◌≡◌, ◌<◌, ◌≤◌, ◌+◌, ℕ, zero, suc, List, [], ◌∷◌, length, Option, Some, None, slice_get, refl, ap, subst, arith}
 use Rattle.std.proofs.lemmas.Option.{slice_get_within}
 use Rattle.std.specs.FinMap.{get}
-use Rattle.tw_types.specs.declared.actor.Actor.{Actor}
 use Rattle.tw_types.specs.declared.event.Event.{Event}
 use Rattle.tw_types.specs.declared.input.Input.{Input}
-use Rattle.tw_types.specs.declared.notice.Notice.{Notice}
 use Rattle.tw_types.specs.declared.param.Param.{Param}
 use Rattle.tw_types.specs.declared.stage.Stage.{Stage}
 use Rattle.tw_types.specs.Layout.{ActorCounts}
 use Rattle.tw_types.specs.Outcome.{Went}
 use Rattle.tw_types.specs.Rule.{Rule}
 use Rattle.tw_types.specs.Store.{Store}
-use Rattle.tw_types.specs.Task.{Arg, ValueArg, RightArg}
+use Rattle.tw_types.specs.Task.{Arg, RightArg}
 use Rattle.tw_code.specs.declared.procedure.Procedure.{Procedure}
 use Rattle.tw_code.specs.format.Program.{IsProcedure, IsProgram}
 use Rattle.tw_code.specs.machine.Bounds.{AreNumbersBelow, opening_bound}
 use Rattle.tw_code.specs.machine.Holders.{Typings}
 use Rattle.tw_code.specs.machine.Inputs.{AreInputsOf}
 use Rattle.tw_code.specs.machine.Opening.{opening, reached}
-use Rattle.tw_code.specs.machine.Rights.{RightType, right_of}
+use Rattle.tw_code.specs.machine.Rights.{RightType}
 use Rattle.tw_code.specs.machine.State.{State}
 use Rattle.tw_code.proofs.Growth.{opening_is_small}
 use Rattle.tw_no_trap.specs.InOrder.{right_until}
-use Rattle.tw_no_trap.specs.Invariant.{ArgFits, Holds, IsHeld, RuleArgsFit}
+use Rattle.tw_no_trap.specs.Invariant.{ArgFits, IsHeld, RuleArgsFit}
 use Rattle.tw_no_trap.proofs.Accepted.{all_found}
 use Rattle.tw_no_trap.proofs.Along.{numbers_along}
 

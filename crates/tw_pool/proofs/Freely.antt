@@ -1,12 +1,11 @@
 -- What an actor without a task does: the lines of the table, from the events of the parts.
-use Rattle.std.proofs.Common.{IsSome, ◌≡◌, ◌≢◌, ◌<◌, ◌≤◌, ◌+◌, ◌^◌, ◌==◌, nat_lt, ◌&&◌, ℕ, Bool, true, false, List, [], ◌∷◌, ◌++◌, length, Option, Some, None, refl, sym, ap, subst, ◌∙◌, arith, inl, inr, option_map}
+use Rattle.std.proofs.Common.{IsSome, ◌≡◌, ◌<◌, ◌+◌, ◌^◌, ◌==◌, nat_lt, ◌&&◌, ℕ, Bool, true, false, List, [], ◌∷◌, ◌++◌, length, Option, Some, None, refl, sym, ap, subst, ◌∙◌, arith, inl, inr, option_map}
 use Rattle.std.proofs.lemmas.Bool.{and_parts, eqb-true}
 use Rattle.std.proofs.lemmas.Option.{same_Some}
 use Rattle.std.specs.declared.alloc.AllocError.{AllocError}
 use Rattle.std.specs.declared.result.Result.TheVariants.{Ok}
 use Rattle.std.specs.FinMap.{get}
 use Rattle.std.specs.FinSet as set
-use Rattle.std.specs.Option.{option_or}
 use Rattle.tw_types.specs.declared.actor.Actor.{Actor}
 use Rattle.tw_types.specs.declared.actor.Actor.TheVariants.{Engine, Server, Worker}
 use Rattle.tw_types.specs.declared.event.Event.{Event}
@@ -15,7 +14,7 @@ use Rattle.tw_types.specs.declared.input.Input.{Input}
 use Rattle.tw_types.specs.declared.notice.Notice.{Notice}
 use Rattle.tw_types.specs.Layout.{ActorCounts}
 use Rattle.tw_types.specs.Actor.{is_in}
-use Rattle.tw_types.specs.Mapped.{entry_by, mapped}
+use Rattle.tw_types.specs.Mapped.{entry_by}
 use Rattle.tw_types.specs.Outcome.{Went, only_if}
 use Rattle.tw_types.specs.Rule.{next_ask, next_release}
 use Rattle.tw_types.specs.Store.{server_of}
@@ -23,11 +22,10 @@ use Rattle.tw_types.specs.Task.{Task, TaskOf, best}
 use Rattle.tw_types.proofs.Chosen.{best_mapped, next_ask_mapped, next_release_mapped}
 use Rattle.tw_types.proofs.Mapped.{get_mapped}
 use Rattle.tw_types.proofs.Outcomes.{same_went, went_after, went_only}
-use Rattle.tw_rights.specs.Bare.{bare_arg, bare_rule, bare_task}
+use Rattle.tw_rights.specs.Bare.{bare_arg, bare_task}
 use Rattle.tw_rights.specs.declared.arg.Arg.{Arg}
 use Rattle.tw_code.specs.declared.procedure.Procedure.{Procedure}
-use Rattle.tw_code.specs.machine.Due.{IsDelivery, IsDueFree, first_of, take_of}
-use Rattle.tw_code.specs.machine.History.{actor_of}
+use Rattle.tw_code.specs.machine.Due.{IsDueFree, first_of, take_of}
 use Rattle.tw_code.specs.machine.Machine.{step}
 use Rattle.tw_code.specs.machine.State.{Frame, State}
 use Rattle.tw_code.proofs.Found.{ask_found, own_rule_there, release_found}
@@ -38,7 +36,7 @@ use Rattle.tw_verify.specs.Typed.{TypedProgram, typings_of}
 use Rattle.tw_frame.specs.Jobs.{FrameView, JobView, bare_frame, job_of}
 use Rattle.tw_parts.specs.Events.{Goes, IsTaken, IsTried, Makes, Untouched}
 use Rattle.tw_parts.specs.Fits.{FrameFits}
-use Rattle.tw_parts.specs.Notes.{AreQueued, is_among, queue_at}
+use Rattle.tw_parts.specs.Notes.{is_among, queue_at}
 use Rattle.tw_parts.specs.Parts.{state_of}
 use Rattle.tw_parts.specs.declared.parts.Parts.{Parts}
 use Rattle.tw_pool.specs.declared.answer.Turn.{Turn}
@@ -164,8 +162,11 @@ module _ (verified : TypedProgram) (inputs : List Input) (layout : ActorCounts) 
           (deliver_frames verified.program layout state (state_of new goes.left) server n goes.step_is)
 
       pub deliver_line : GoesFree w state (Server server) Made (Deliver server n.datum n.rule n.parameter ∷ [])
-      deliver_line = inl (Deliver server n.datum n.rule n.parameter,
-          record { notice = n; waits = waits.0; own = ap (λ (x : PoolView). server_of x.layout.servers n.datum) (sym seen) ∙ waits.1; is = refl }, (refl, refl))
+      deliver_line = inl (
+        Deliver server n.datum n.rule n.parameter,
+        record { notice = n; waits = waits.0; own = ap (λ (x : PoolView). server_of x.layout.servers n.datum) (sym seen) ∙ waits.1; is = refl },
+        (refl, refl),
+      )
 
   -- ---- an engine
 

@@ -1,31 +1,29 @@
 -- What comes of a Done: the lines of the table, from the events of the parts.
-use Rattle.std.proofs.Common.{IsSome, ◌≡◌, ◌≢◌, ◌<◌, ◌≤◌, ◌+◌, ◌*◌, ◌^◌, ◌==◌, not, ◌&&◌, ℕ, zero, suc, Bool, true, false, cond, if◌then◌else◌, List, [], ◌∷◌, ◌++◌, length, length-append, Option, Some, None, refl, sym, ap, subst, ◌∙◌, arith, inl, inr, option_map, filter, slice_get}
+use Rattle.std.proofs.Common.{◌≡◌, ◌≢◌, ◌<◌, ◌≤◌, ◌+◌, ◌*◌, ◌^◌, ◌==◌, not, ◌&&◌, ℕ, Bool, true, false, cond, List, [], ◌∷◌, ◌++◌, length, length-append, Option, Some, None, refl, sym, ap, subst, ◌∙◌, arith, inl, option_map, slice_get}
 use Rattle.std.specs.Prelude.{IfSome, MatchOption, option_to_list}
 use Rattle.std.proofs.lemmas.Bool.{and_parts, eqb-true}
 use Rattle.std.proofs.lemmas.Bool.Decides.{nat_tests}
 use Rattle.std.proofs.lemmas.List.Elements.{filter-append}
 use Rattle.std.proofs.lemmas.Option.{same_Some}
-use Rattle.std.specs.FinMap.{get, get-insert, get-remove, insert, remove}
+use Rattle.std.specs.FinMap.{get, get-insert, get-remove, insert}
 use Rattle.std.specs.Option.{option_and_then}
 use Rattle.std.specs.Ordering.{eq_by_cmp, is_eq}
 use Rattle.std.specs.Cmp.{Equal-is, tied_itself}
 use Rattle.tw_types.specs.declared.actor.Actor.{Actor}
 use Rattle.tw_types.specs.declared.event.Event.{Event}
-use Rattle.tw_types.specs.declared.event.Event.TheVariants.{Call, End, Local}
+use Rattle.tw_types.specs.declared.event.Event.TheVariants.{End, Local}
 use Rattle.tw_types.specs.declared.input.Input.{Input}
 use Rattle.tw_types.specs.Actor.{actor_cmp, is_in}
 use Rattle.tw_types.specs.Layout.{ActorCounts}
-use Rattle.tw_types.specs.Mapped.{mapped}
 use Rattle.tw_types.specs.Notices.{Notices}
 use Rattle.tw_types.specs.Outcome.{Went}
 use Rattle.tw_types.proofs.ActorOrder.{actor_cmp_total, actor_cmp-IsAntisymmetric}
 use Rattle.tw_types.proofs.Mapped.{get_mapped}
 use Rattle.tw_types.proofs.Outcomes.{went_of}
 use Rattle.tw_code.specs.declared.instr.Instr.{Instr}
-use Rattle.tw_code.specs.declared.instr.Instr.TheVariants as instr
 use Rattle.tw_code.specs.declared.procedure.Procedure.{Procedure}
 use Rattle.tw_code.specs.accepting.Walk.{greatest_budget}
-use Rattle.tw_code.specs.machine.Bounds.{AreBelow, opening_bound}
+use Rattle.tw_code.specs.machine.Bounds.{opening_bound}
 use Rattle.tw_code.specs.machine.History.{actor_of}
 use Rattle.tw_code.specs.machine.Machine.{end_event, step}
 use Rattle.tw_code.specs.machine.Opening.{opening, reached}
@@ -36,19 +34,18 @@ use Rattle.tw_code.proofs.Runs.{run_more}
 use Rattle.tw_no_trap.proofs.Along.{small_along}
 use Rattle.tw_no_trap.proofs.Safe.{opened_held}
 use Rattle.tw_verify.specs.Typed.{TypedProgram, typings_of}
-use Rattle.tw_frame.specs.Jobs.{DoneView, DraftView, FrameView, JobView, bare_frame, draft_of, job_of}
+use Rattle.tw_frame.specs.Jobs.{DoneView, DraftView, FrameView, JobView, bare_frame, job_of}
 use Rattle.tw_parts.specs.Coming.{come}
-use Rattle.tw_parts.specs.Events.{Goes, IsDrafted, IsLent, IsOwed, IsSmall, Makes, MakesBehind, StandsAt, Untouched, with_done}
-use Rattle.tw_parts.specs.Fits.{AreParts, FrameFits}
+use Rattle.tw_parts.specs.Events.{Goes, IsDrafted, IsLent, IsOwed, IsSmall, Makes, MakesBehind, StandsAt, with_done}
+use Rattle.tw_parts.specs.Fits.{AreParts}
 use Rattle.tw_parts.specs.Parts.{state_of}
-use Rattle.tw_parts.specs.Seats.{Seated}
 use Rattle.tw_parts.specs.declared.parts.Parts.{Parts}
 use Rattle.tw_pool.specs.declared.answer.Turn.{Turn}
 use Rattle.tw_pool.specs.declared.answer.Turn.TheVariants.{Run}
 use Rattle.tw_pool.specs.Actors.{HasPlace, events_of, same_actor}
 use Rattle.tw_pool.specs.History.{HistoryView}
 use Rattle.tw_pool.specs.Kept.{AreLent, IsKept, IsOwedBy}
-use Rattle.tw_pool.specs.PoolView.{PoolView, HasState, with_events}
+use Rattle.tw_pool.specs.PoolView.{PoolView}
 use Rattle.tw_pool.specs.Turns.{IsTurnBy, Lends, Line, OrNoMemory, is_last, instr_behind, lent_to, steps_of}
 use Rattle.tw_pool.specs.Words.{FitsWord}
 use Rattle.tw_pool.proofs.Counting.{itself, the_same}

@@ -1,5 +1,5 @@
 -- A pool's parts stay what they are: with one event more, and where nothing was touched.
-use Rattle.std.proofs.Common.{map as each, ◌≡◌, ◌≢◌, ◌<◌, ◌≤◌, ◌+◌, ℕ, Bool, true, false, cond, List, [], ◌∷◌, ◌++◌, length, length-append, Option, Some, None, refl, sym, ap, subst, ◌∙◌, arith, option_map}
+use Rattle.std.proofs.Common.{map as each, ◌≡◌, ◌≢◌, ◌<◌, ◌+◌, ℕ, Bool, true, false, cond, List, [], ◌∷◌, ◌++◌, length, length-append, Option, Some, None, refl, sym, ap, subst, ◌∙◌, arith, option_map}
 use Rattle.std.specs.FinMap.{get}
 use Rattle.std.proofs.lemmas.Bool.{ltb-true}
 use Rattle.tw_types.specs.declared.actor.Actor.{Actor}
@@ -29,7 +29,6 @@ use Rattle.tw_frame.specs.Jobs.{FrameView, bare_frame}
 use Rattle.tw_parts.specs.Events.{Goes, Untouched}
 use Rattle.tw_parts.specs.Fits.{AreParts, IsReached}
 use Rattle.tw_parts.specs.Parts.{state_of}
-use Rattle.tw_parts.specs.Seats.{Seated}
 use Rattle.tw_parts.specs.declared.parts.Parts.{Parts}
 use Rattle.tw_pool.specs.Actors.{HasPlace, events_of, same_actor}
 use Rattle.tw_pool.specs.Kept.{AreLent, IsKept}

@@ -1,7 +1,5 @@
 -- Each line of the table appends two events at most, all of the actor whose turn it is.
-use Rattle.std.proofs.Common.{◌≡◌, ◌≢◌, ◌≤◌, ◌+◌, ◌==◌, ℕ, Bool, true, false, not, ◌&&◌, cond, refl, sym, ap, subst, ◌∙◌, arith, List, [], ◌∷◌, ◌++◌, length, Option, Some, None, ◌⊎◌, inl, inr}
-use Rattle.std.specs.Option.{option_map, option_or}
-use Rattle.std.proofs.lemmas.Bool.{eq-eqb}
+use Rattle.std.proofs.Common.{◌≡◌, ◌==◌, ℕ, Bool, true, false, refl, sym, ap, subst, ◌∙◌, arith, List, [], ◌∷◌, ◌++◌, Option, Some, None, ◌⊎◌, inl, inr}
 use Rattle.tw_types.specs.declared.actor.Actor.{Actor}
 use Rattle.tw_types.specs.declared.actor.Actor.TheVariants.{Engine, Server, Worker}
 use Rattle.tw_types.specs.declared.event.Event.{Event}
@@ -10,7 +8,7 @@ use Rattle.tw_types.specs.Rule.{next_ask, next_release}
 use Rattle.tw_types.specs.Task.{Task, best}
 use Rattle.tw_code.specs.declared.instr.Instr.{Instr}
 use Rattle.tw_code.specs.declared.instr.Instr.TheVariants as instr
-use Rattle.tw_code.specs.machine.Due.{IsDueFree, IsDelivery, event_of, first_of, take_of}
+use Rattle.tw_code.specs.machine.Due.{IsDueFree, event_of, first_of, take_of}
 use Rattle.tw_code.specs.machine.History.{actor_of}
 use Rattle.tw_code.specs.machine.State.{State}
 use Rattle.tw_types.specs.Layout.{ActorCounts}
@@ -19,7 +17,7 @@ use Rattle.tw_pool.specs.declared.answer.Closing.{Closing}
 use Rattle.tw_pool.specs.declared.answer.Turn.{Turn}
 use Rattle.tw_pool.specs.Actors.{events_of, same_actor}
 use Rattle.tw_pool.specs.PoolView.{PoolView}
-use Rattle.tw_pool.specs.Turns.{Answers, AreOwn, GoesFree, HandsIn, Makes, TakesBack, Turns, TurnsUnless, instr_behind, is_last, lent_to, steps_of}
+use Rattle.tw_pool.specs.Turns.{AreOwn, GoesFree, HandsIn, Makes, TakesBack, Turns, TurnsUnless, instr_behind, is_last, lent_to, steps_of}
 use Rattle.tw_pool.proofs.Counting.{itself}
 
 -- ---- events of one actor

@@ -23,7 +23,6 @@ pub struct Final {
 
 impl Model for Final {
     ghost use Rattle.tw_pool.specs.Ends.{FinalView};
-
     ghost use Rattle.tw_types.specs.Store.{Datum as DatumMeaning};
     ghost use Rattle.std.specs.FinMap.{code};
     ghost use Rattle.std.specs.Ordering.{nat_cmp, int_cmp};

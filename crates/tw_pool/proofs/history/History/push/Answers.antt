@@ -1,6 +1,6 @@
-use Rattle.std.proofs.Common.{◌≡◌, ◌∙◌, ◌/◌, ◌%◌, ℕ, ap, sym, length, arith}
+use Rattle.std.proofs.Common.{◌∙◌, ◌/◌, ◌%◌, ap, length, arith}
 use Rattle.tw_pool.specs.History.{HistoryView}
-use Rattle.tw_pool.specs.Words.{events_in, unpack}
+use Rattle.tw_pool.specs.Words.{events_in}
 use Rattle.tw_pool.proofs.Counting.{below, counted_more}
 use Rattle.tw_pool.proofs.Round.{told}
 use Rattle.tw_pool.proofs.history.History.push.Goals as goal

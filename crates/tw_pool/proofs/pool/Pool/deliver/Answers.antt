@@ -1,4 +1,3 @@
-use Rattle.std.proofs.Common.{◌≡◌}
 use Rattle.tw_types.specs.declared.actor.Actor.TheVariants.{Server}
 use Rattle.tw_pool.specs.Turns.{GoesFree}
 use Rattle.tw_pool.specs.declared.answer.Turn.TheVariants.{Idle, Went}

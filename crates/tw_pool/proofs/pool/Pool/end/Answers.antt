@@ -1,9 +1,8 @@
-use Rattle.std.proofs.Common.{◌≡◌, ◌∙◌, ◌∷◌, ◌++◌, [], sym, ap, subst, refl, Option, Some, None, inl, inr}
-use Rattle.tw_types.specs.declared.event.Event.TheVariants.{Call, End}
+use Rattle.std.proofs.Common.{◌∷◌, ◌++◌, [], refl}
+use Rattle.tw_types.specs.declared.event.Event.TheVariants.{End}
 use Rattle.tw_code.specs.declared.instr.Instr.TheVariants as instr
-use Rattle.tw_pool.specs.declared.answer.Closing.TheVariants.{Limit}
 use Rattle.tw_pool.specs.declared.answer.Turn.TheVariants as answer
-use Rattle.tw_pool.specs.Turns.{Answers, Lends, OrNoMemory, steps_of}
+use Rattle.tw_pool.specs.Turns.{Answers, steps_of}
 use Rattle.tw_pool.proofs.Freely as free
 use Rattle.tw_pool.proofs.Handing as hand
 use Rattle.tw_pool.proofs.pool.Pool.end.Goals as goal

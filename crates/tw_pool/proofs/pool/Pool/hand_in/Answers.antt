@@ -1,5 +1,4 @@
-use Rattle.std.proofs.Common.{◌≡◌, ◌∙◌, ◌∷◌, ◌++◌, [], sym, ap, subst, refl, Option, Some, None, inl, inr, true, false}
-use Rattle.tw_pool.specs.PoolView.{PoolView}
+use Rattle.std.proofs.Common.{◌≡◌, ◌∙◌, sym, ap, refl, true, false}
 use Rattle.tw_pool.proofs.Turning as turning
 use Rattle.tw_pool.proofs.pool.Pool.hand_in.Goals as goal
 

@@ -1,4 +1,4 @@
-use Rattle.std.proofs.Common.{◌≡◌, ◌∙◌, sym, ap, subst, ℕ, Option, Some, None}
+use Rattle.std.proofs.Common.{None}
 use Rattle.tw_types.specs.declared.actor.Actor.TheVariants.{Engine}
 use Rattle.tw_pool.specs.Turns.{GoesFree}
 use Rattle.tw_pool.specs.declared.answer.Turn.TheVariants.{NoMemory, Went}

@@ -1,4 +1,4 @@
-use Rattle.std.proofs.Common.{◌≡◌, ap, refl}
+use Rattle.std.proofs.Common.{ap, refl}
 use Rattle.tw_store.specs.Served.{Served}
 use Rattle.tw_parts.specs.Parts.{state_of}
 use Rattle.tw_pool.specs.PoolView.{PoolView}

@@ -1,4 +1,4 @@
-use Rattle.std.proofs.Common.{◌≡◌, ◌∙◌, ◌+◌, ◌∷◌, [], sym, ap, subst, ℕ, Option, Some, None, arith}
+use Rattle.std.proofs.Common.{◌∙◌, ◌+◌, ◌∷◌, [], sym, ap, subst, None, arith}
 use Rattle.tw_types.specs.declared.event.Event.TheVariants.{Take}
 use Rattle.tw_frame.specs.Jobs.{JobView}
 use Rattle.tw_parts.specs.Parts.{state_of}

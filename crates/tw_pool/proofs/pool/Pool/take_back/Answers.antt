@@ -1,5 +1,3 @@
-use Rattle.std.proofs.Common.{◌≡◌, ◌∙◌, ◌∷◌, ◌++◌, [], sym, ap, subst, refl, Option, Some, None, inl, inr, true, false}
-use Rattle.tw_pool.specs.PoolView.{PoolView}
 use Rattle.tw_pool.proofs.Turning as turning
 use Rattle.tw_pool.proofs.pool.Pool.take_back.Goals as goal
 

@@ -1,4 +1,4 @@
-use Rattle.std.proofs.Common.{◌≡◌, ◌∙◌, sym, ap, subst, refl, Option, Some, None}
+use Rattle.std.proofs.Common.{◌∙◌, sym, subst, Option, Some, None}
 use Rattle.tw_frame.specs.Jobs.{DoneView}
 use Rattle.tw_pool.specs.declared.answer.Turn.TheVariants.{Foreign, Owed}
 use Rattle.tw_pool.specs.Turns.{IsTurn}
