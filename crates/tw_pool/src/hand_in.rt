@@ -39,7 +39,7 @@ fn call_by<'a>(
     ensures back { IfErr result (λ back. back ≡ done.entry) }
 {
     match instr {
-        Instr::Data(instr) => parts.data(alloc, actor, instr, done),
+        Instr::Data(instr) => parts.call_data(alloc, actor, instr, done),
         Instr::Rule(action) => parts.rule(alloc, actor, action, done),
         Instr::Put(action) => parts.put(alloc, actor, action, done),
         Instr::Local(_) => unreachable!(),
