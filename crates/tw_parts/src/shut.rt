@@ -13,6 +13,7 @@ use tw_types::DatumId;
 
 /// What is left of parts for reading, without rights: the data, the outputs by the order of main's parameters, and the rules
 /// that were pending, in no order.
+#[derive(Drop)]
 pub struct Remains {
     pub store: Store,
     pub outputs: Vec<DatumId>,

@@ -1,0 +1,83 @@
+-- One event more is counted at the place of who makes it.
+use Rattle.std.proofs.Common.{◌≡◌, ◌≢◌, ◌<◌, ◌≤◌, ◌+◌, ◌/◌, ◌%◌, ℕ, Bool, true, false, cond, refl, sym, ap, ◌∙◌, arith, List, [], ◌∷◌, ◌++◌, length, length-append, get_or, set}
+use Rattle.std.proofs.lemmas.Bool.{eq-eqb, eqb-true}
+use Rattle.std.proofs.lemmas.List.{get_or-set_same, get_or-set_other}
+use Rattle.std.proofs.lemmas.List.Elements.{filter-append}
+use Rattle.std.proofs.lemmas.List.Sums.{length-filter, count_by-le-length}
+use Rattle.tw_types.specs.declared.actor.Actor.{Actor}
+use Rattle.tw_types.specs.declared.actor.Actor.TheVariants.{Engine, Server, Worker}
+use Rattle.tw_types.specs.declared.event.Event.{Event}
+use Rattle.tw_code.specs.machine.History.{actor_of}
+use Rattle.tw_pool.specs.Actors.{AreCounts, HasPlace, events_of, place_of, same_actor}
+use Rattle.tw_pool.proofs.Round.{place_low, maker_of}
+use Rattle.tw_pool.specs.Words.{FitsWord, word_of}
+
+-- no more of them than events
+pub few : (actor : Actor) (history : List Event) → length (events_of actor history) ≤ length history
+few actor history = rw (length-filter (λ (e : Event). same_actor (actor_of e) actor) history) (count_by-le-length (λ (e : Event). same_actor (actor_of e) actor) history)
+
+pub itself : (a : Actor) → same_actor a a ≡ true
+itself (Engine n) = eq-eqb n n refl
+itself (Server n) = eq-eqb n n refl
+itself (Worker n) = eq-eqb n n refl
+
+pub the_same : (a b : Actor) → same_actor a b ≡ true → a ≡ b
+the_same (Engine a) (Engine b) e = ap Engine (eqb-true a b e)
+the_same (Engine a) (Server b) e = cc
+the_same (Engine a) (Worker b) e = cc
+the_same (Server a) (Engine b) e = cc
+the_same (Server a) (Server b) e = ap Server (eqb-true a b e)
+the_same (Server a) (Worker b) e = cc
+the_same (Worker a) (Engine b) e = cc
+the_same (Worker a) (Server b) e = cc
+the_same (Worker a) (Worker b) e = ap Worker (eqb-true a b e)
+
+one_place : (a b : Actor) → HasPlace a → HasPlace b → place_of a ≡ place_of b → same_actor a b ≡ true
+one_place (Engine a) (Engine b) f g e = eq-eqb a b e
+one_place (Engine a) (Server b) f g e = absurd (omega (arith, f, g, e))
+one_place (Engine a) (Worker b) f g e = absurd (omega (arith, f, g, e))
+one_place (Server a) (Engine b) f g e = absurd (omega (arith, f, g, e))
+one_place (Server a) (Server b) f g e = eq-eqb a b (omega (arith, e))
+one_place (Server a) (Worker b) f g e = absurd (omega (arith, f, g, e))
+one_place (Worker a) (Engine b) f g e = absurd (omega (arith, f, g, e))
+one_place (Worker a) (Server b) f g e = absurd (omega (arith, f, g, e))
+one_place (Worker a) (Worker b) f g e = eq-eqb a b (omega (arith, e))
+
+-- ---- one event more
+
+pub of_more : (actor : Actor) (history : List Event) (e : Event) → events_of actor (history ++ e ∷ []) ≡ events_of actor history ++ cond (same_actor (actor_of e) actor) (e ∷ []) []
+of_more actor history e = filter-append (λ (x : Event). same_actor (actor_of x) actor) history (e ∷ []) ∙ ap (λ es. events_of actor history ++ es) (last (same_actor (actor_of e) actor) refl)
+  where
+    last : (b : Bool) → same_actor (actor_of e) actor ≡ b → events_of actor (e ∷ []) ≡ cond b (e ∷ []) []
+    last true is = rw is refl
+    last false is = rw is refl
+
+module _ (counts : List ℕ) (history : List Event) (e : Event) (many : length counts ≡ 24) (counted : AreCounts counts history) (fits : FitsWord e) where
+  pub below : (place : ℕ) → place ≡ word_of e / 8 % 32 → get_or counts place 0 ≤ length history
+  below place is =
+      let at : place ≡ place_of (actor_of e) = is ∙ maker_of e fits.0 in
+      let count : get_or counts place 0 ≡ length (events_of (actor_of e) history) = ap (λ n. get_or counts n 0) at ∙ counted (actor_of e) fits.0 in
+      let low = few (actor_of e) history in
+      rw count low
+
+  pub counted_more : (place : ℕ) (events : List Event) → place ≡ word_of e / 8 % 32 → events ≡ history ++ e ∷ [] → AreCounts (set counts place (get_or counts place 0 + 1)) events
+  counted_more place events is more actor has = by (same_actor (actor_of e) actor) refl
+    where
+      at : place ≡ place_of (actor_of e)
+      at = is ∙ maker_of e fits.0
+
+      by : (b : Bool) → same_actor (actor_of e) actor ≡ b → get_or (set counts place (get_or counts place 0 + 1)) (place_of actor) 0 ≡ length (events_of actor events)
+      by true same =
+          let who : actor_of e ≡ actor = the_same (actor_of e) actor same in
+          let here : place_of actor ≡ place = ap place_of (sym who) ∙ sym at in
+          let low : place < length counts = let l = place_low actor has in omega (arith, l, here, many) in
+          let left : get_or (set counts place (get_or counts place 0 + 1)) (place_of actor) 0 ≡ get_or counts place 0 + 1 = ap (λ n. get_or (set counts place (get_or counts place 0 + 1)) n 0) here ∙ get_or-set_same counts place (get_or counts place 0 + 1) 0 low in
+          let old : get_or counts place 0 ≡ length (events_of actor history) = ap (λ n. get_or counts n 0) (sym here) ∙ counted actor has in
+          let right : length (events_of actor events) ≡ length (events_of actor history) + 1 = ap (λ es. length (events_of actor es)) more ∙ ap (λ es. length es) (of_more actor history e ∙ ap (λ b. events_of actor history ++ cond b (e ∷ []) []) same) ∙ length-append (events_of actor history) (e ∷ []) in
+          omega (arith, left, old, right)
+      by false other =
+          let apart : place_of actor ≢ place = λ is_here. let yes = one_place (actor_of e) actor fits.0 has (sym (is_here ∙ at)) in let both : true ≡ false = sym yes ∙ other in cc in
+          let left = get_or-set_other counts place (place_of actor) (get_or counts place 0 + 1) 0 apart in
+          let right : length (events_of actor events) ≡ length (events_of actor history) + 0 = ap (λ es. length (events_of actor es)) more ∙ ap (λ es. length es) (of_more actor history e ∙ ap (λ b. events_of actor history ++ cond b (e ∷ []) []) other) ∙ length-append (events_of actor history) [] in
+          let old = counted actor has in
+          omega (arith, left, old, right)

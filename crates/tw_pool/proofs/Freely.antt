@@ -1,0 +1,340 @@
+-- What an actor without a task does: the lines of the table, from the events of the parts.
+use Rattle.std.proofs.Common.{IsSome, ◌≡◌, ◌<◌, ◌+◌, ◌^◌, ◌==◌, nat_lt, ◌&&◌, ℕ, Bool, true, false, List, [], ◌∷◌, ◌++◌, length, Option, Some, None, refl, sym, ap, subst, ◌∙◌, arith, inl, inr, option_map}
+use Rattle.std.proofs.lemmas.Bool.{and_parts, eqb-true}
+use Rattle.std.proofs.lemmas.Option.{same_Some}
+use Rattle.std.specs.declared.alloc.AllocError.{AllocError}
+use Rattle.std.specs.declared.result.Result.TheVariants.{Ok}
+use Rattle.std.specs.FinMap.{get}
+use Rattle.std.specs.FinSet as set
+use Rattle.tw_types.specs.declared.actor.Actor.{Actor}
+use Rattle.tw_types.specs.declared.actor.Actor.TheVariants.{Engine, Server, Worker}
+use Rattle.tw_types.specs.declared.event.Event.{Event}
+use Rattle.tw_types.specs.declared.event.Event.TheVariants.{Take, Ask, Deliver, Release}
+use Rattle.tw_types.specs.declared.input.Input.{Input}
+use Rattle.tw_types.specs.declared.notice.Notice.{Notice}
+use Rattle.tw_types.specs.Layout.{ActorCounts}
+use Rattle.tw_types.specs.Actor.{is_in}
+use Rattle.tw_types.specs.Mapped.{entry_by}
+use Rattle.tw_types.specs.Outcome.{Went, only_if}
+use Rattle.tw_types.specs.Rule.{next_ask, next_release}
+use Rattle.tw_types.specs.Store.{server_of}
+use Rattle.tw_types.specs.Task.{Task, TaskOf, best}
+use Rattle.tw_types.proofs.Chosen.{best_mapped, next_ask_mapped, next_release_mapped}
+use Rattle.tw_types.proofs.Mapped.{get_mapped}
+use Rattle.tw_types.proofs.Outcomes.{same_went, went_after, went_only}
+use Rattle.tw_rights.specs.Bare.{bare_arg, bare_task}
+use Rattle.tw_rights.specs.declared.arg.Arg.{Arg}
+use Rattle.tw_code.specs.declared.procedure.Procedure.{Procedure}
+use Rattle.tw_code.specs.machine.Due.{IsDueFree, first_of, take_of}
+use Rattle.tw_code.specs.machine.Machine.{step}
+use Rattle.tw_code.specs.machine.State.{Frame, State}
+use Rattle.tw_code.proofs.Found.{ask_found, own_rule_there, release_found}
+use Rattle.tw_no_trap.specs.Invariant.{IsHeld}
+use Rattle.tw_no_trap.proofs.Asked.{Noted, noted}
+use Rattle.tw_no_trap.proofs.Safe.{reached_is_held}
+use Rattle.tw_verify.specs.Typed.{TypedProgram, typings_of}
+use Rattle.tw_frame.specs.Jobs.{FrameView, JobView, bare_frame, job_of}
+use Rattle.tw_parts.specs.Events.{Goes, IsTaken, IsTried, Makes, Untouched}
+use Rattle.tw_parts.specs.Fits.{FrameFits}
+use Rattle.tw_parts.specs.Notes.{is_among, queue_at}
+use Rattle.tw_parts.specs.Parts.{state_of}
+use Rattle.tw_parts.specs.declared.parts.Parts.{Parts}
+use Rattle.tw_pool.specs.declared.answer.Turn.{Turn}
+use Rattle.tw_pool.specs.declared.answer.Turn.TheVariants.{Idle, NoMemory, Run, Went as Made}
+use Rattle.tw_pool.specs.Actors.{HasPlace, events_of}
+use Rattle.tw_pool.specs.History.{HistoryView}
+use Rattle.tw_pool.specs.Kept.{AsksNone, IsFree, IsKept, MayTakeNow, ReleasesNone}
+use Rattle.tw_pool.specs.PoolView.{PoolView, HasState, with_events}
+use Rattle.tw_pool.specs.Turns.{GoesFree, IsTurnBy, Lends, Line, lent_to}
+use Rattle.tw_pool.specs.Words.{FitsWord}
+use Rattle.tw_pool.proofs.Fitting.{few_parameters, low_datum, small_numbers}
+use Rattle.tw_pool.proofs.Keeping.{ask_frames, deliver_frames, has_place, made_free, made_lent, no_task, own_count, release_frames, still}
+
+-- as what a pool is seen
+abbrev pub viewed : TypedProgram → List Input → ActorCounts → Bool → HistoryView → PoolView
+viewed verified inputs layout stopped told = record { program = verified; inputs = inputs; layout = layout; limit = told.limit; stopped = stopped; history = told.events }
+
+-- what is tried, by whether it was due
+pub tried_none : {A : Type 0} (due : Option A) (Done : A → Type 0) (Same : Type 0) (o : Option A) → o ≡ None → IsTried {E = AllocError} due Done Same (Ok o) → (due ≡ None) × Same
+tried_none due Done Same o is h = subst (λ x. IsTried {E = AllocError} due Done Same (Ok x)) is h
+
+pub tried_some : {A : Type 0} (due : Option A) (Done : A → Type 0) (Same : Type 0) (o : Option A) (x : A) → o ≡ Some x → IsTried {E = AllocError} due Done Same (Ok o) → (due ≡ Some x) × Done x
+tried_some due Done Same o x is h = subst (λ y. IsTried {E = AllocError} due Done Same (Ok y)) is h
+
+pub taken_none : {A : Type 0} (due : Option A) (Done : A → JobView → Type 0) (Same : Type 0) (o : Option JobView) → o ≡ None → IsTaken {E = AllocError} due Done Same (Ok o) → (due ≡ None) × Same
+taken_none due Done Same o is h = subst (λ x. IsTaken {E = AllocError} due Done Same (Ok x)) is h
+
+pub taken_some : {A : Type 0} (due : Option A) (Done : A → JobView → Type 0) (Same : Type 0) (o : Option JobView) (job : JobView) → o ≡ Some job → IsTaken {E = AllocError} due Done Same (Ok o) → (x : A) × (due ≡ Some x) × Done x job
+taken_some due Done Same o job is h = subst (λ y. IsTaken {E = AllocError} due Done Same (Ok y)) is h
+
+-- the notice that goes waits for this server
+delivery : (program : List Procedure) (layout : ActorCounts) (server : ℕ) (n : Notice) (s t : State) → step program layout (Deliver server n.datum n.rule n.parameter) s ≡ Went t → (set.contains s.notices n ≡ true) × (server_of layout.servers n.datum ≡ server)
+unfolding step
+delivery program layout server n s t e =
+    let here = went_after (only_if (nat_lt server layout.servers && (server_of layout.servers n.datum == server))) _ t e in
+    let has = went_after (only_if (set.contains s.notices n)) _ t here.1 in
+    let both = and_parts (nat_lt server layout.servers) (server_of layout.servers n.datum == server) (went_only _ here.0) in
+    (went_only (set.contains s.notices n) has.0, eqb-true (server_of layout.servers n.datum) server both.1)
+
+module _ (verified : TypedProgram) (inputs : List Input) (layout : ActorCounts) (stopped : Bool) (told : HistoryView) (old : Parts) (h : IsKept verified inputs layout told.limit told.events old) (w : PoolView) (seen : viewed verified inputs layout stopped told ≡ w) where
+  abbrev pub state : State
+  state = state_of old h.notices
+
+  pub has_state : HasState w state
+  has_state = subst (λ (x : PoolView). HasState x state) seen h.replays
+
+  law : IsHeld verified.program (typings_of verified) state
+  law = reached_is_held verified.program (typings_of verified) h.parts.runnable.is h.parts.runnable.right inputs layout told.events state h.given h.replays
+
+  pub room_here : length w.history < w.limit → length told.events < told.limit
+  room_here room = subst (λ (x : PoolView). length x.history < x.limit) (sym seen) room
+
+  free_here : (actor : Actor) → IsFree w actor → get state.frames actor ≡ None
+  free_here actor free = free state has_state
+
+  -- events that are told
+  pub appended : (es : List Event) (now : HistoryView) → now ≡ record { events = told.events ++ es; limit = told.limit } → viewed verified inputs layout stopped now ≡ with_events w es
+  appended es now pushed = ap (viewed verified inputs layout stopped) pushed ∙ ap (λ (x : PoolView). with_events x es) seen
+
+  pub kept_told : (event : Event) (now : HistoryView) (new : Parts) → now ≡ record { events = told.events ++ event ∷ []; limit = told.limit } → IsKept verified inputs layout told.limit (told.events ++ event ∷ []) new
+      → IsKept verified inputs layout now.limit now.events new
+  kept_told event now new pushed kept = subst (λ (t : HistoryView). IsKept verified inputs layout t.limit t.events new) (sym pushed) kept
+
+  pub kept_as : (es : List Event) (now : HistoryView) (new : Parts) → now ≡ record { events = told.events ++ es; limit = told.limit } → IsKept verified inputs layout told.limit (told.events ++ es) new → IsKept verified inputs layout now.limit now.events new
+  kept_as es now new pushed kept = subst (λ (t : HistoryView). IsKept verified inputs layout t.limit t.events new) (sym pushed) kept
+
+  pub line_told : (line : State → Line) (answer : Turn) (es : List Event) (now : HistoryView) → now ≡ record { events = told.events ++ es; limit = told.limit } → line state answer es → IsTurnBy line w answer (viewed verified inputs layout stopped now)
+  line_told line answer es now pushed is = record { state = state; has_state = has_state; events = es; is = is; appended = appended es now pushed }
+
+  no_more : (es : List Event) → es ++ [] ≡ es
+  no_more [] = refl
+  no_more (e ∷ es) = ap (λ xs. e ∷ xs) (no_more es)
+
+  -- nothing is told
+  pub line_still : (line : State → Line) (answer : Turn) → line state answer [] → IsTurnBy line w answer (viewed verified inputs layout stopped told)
+  line_still line answer is = record { state = state; has_state = has_state; events = []; is = is; appended = seen ∙ ap (λ es. record w { history = es }) (sym (no_more w.history)) }
+
+  pub kept_still : (new : Parts) → Untouched old new → IsKept verified inputs layout told.limit told.events new
+  kept_still new u = still verified inputs layout told.limit told.events old h new u
+
+  -- ---- a server
+
+  module _ (server : ℕ) (low : server < w.layout.servers) (room : length w.history < w.limit) (free : IsFree w (Server server)) where
+    low_here : server < layout.servers
+    low_here = subst (λ (x : PoolView). server < x.layout.servers) (sym seen) low
+
+    pub queue_here : server < length old.store.queues
+    queue_here = let many = h.parts.servers in omega (arith, low_here, many)
+
+    pub deliver_idle : queue_at old.store.queues server ≡ [] → GoesFree w state (Server server) Idle []
+    deliver_idle empty = inr ((λ due d. none_there d.notice (sym (h.parts.queued.all d.notice) ∙ d.waits) (own d.notice d.own)), (refl, refl))
+      where
+        own : (n : Notice) → server_of w.layout.servers n.datum ≡ server → server_of (length old.store.queues) n.datum ≡ server
+        own n e = ap (λ k. server_of k n.datum) (h.parts.servers ∙ ap (λ (x : PoolView). x.layout.servers) seen) ∙ e
+
+        none_there : (n : Notice) → is_among n (queue_at old.store.queues (server_of (length old.store.queues) n.datum)) ≡ true → server_of (length old.store.queues) n.datum ≡ server → ⊥
+        none_there n has at = let no : false ≡ true = sym (ap (λ q. is_among n q) (ap (queue_at old.store.queues) at ∙ empty)) ∙ has in cc
+
+    module _ (n : Notice) (new : Parts) (makes : Makes verified layout (Deliver server n.datum n.rule n.parameter) old new) where
+      event : Event
+      event = Deliver server n.datum n.rule n.parameter
+
+      goes : Goes verified layout (Deliver server n.datum n.rule n.parameter) old h.notices new
+      goes = makes h.notices h.parts
+
+      waits : (set.contains state.notices n ≡ true) × (server_of layout.servers n.datum ≡ server)
+      waits = delivery verified.program layout server n state (state_of new goes.left) goes.step_is
+
+      known : Noted state.rules n
+      known = noted state.store.live state.notices state.rules n law.notices waits.0
+
+      pub deliver_fits : FitsWord (Deliver server n.datum n.rule n.parameter)
+      deliver_fits =
+          let few = h.parts.runnable.counts.few_servers in
+          let parameter = few_parameters verified.program (typings_of verified) h.parts.runnable.is state law n.rule known.rule known.is n.parameter _ known.stage in
+          let datum = low_datum verified.program (typings_of verified) h.parts.runnable.is state law n.rule known.rule known.is n.parameter n.datum known.arg in
+          let rule = law.numbers.rules n.rule known.rule known.is in
+          let small = small_numbers verified.program inputs layout told.events state h.parts.runnable.is h.given (omega (arith, h.within, h.few)) h.replays in
+          (omega (arith, low_here, few), (omega (arith, datum, small.datum, h.within, h.few), omega (arith, rule, small.rule, h.within, h.few), parameter))
+
+      pub deliver_kept : IsKept verified inputs layout told.limit (told.events ++ Deliver server n.datum n.rule n.parameter ∷ []) new
+      deliver_kept = made_free verified inputs layout told.limit told.events old h (Deliver server n.datum n.rule n.parameter) new goes (room_here room) (free_here (Server server) free)
+          (deliver_frames verified.program layout state (state_of new goes.left) server n goes.step_is)
+
+      pub deliver_line : GoesFree w state (Server server) Made (Deliver server n.datum n.rule n.parameter ∷ [])
+      deliver_line = inl (
+        Deliver server n.datum n.rule n.parameter,
+        record { notice = n; waits = waits.0; own = ap (λ (x : PoolView). server_of x.layout.servers n.datum) (sym seen) ∙ waits.1; is = refl },
+        (refl, refl),
+      )
+
+  -- ---- an engine
+
+  module _ (engine : ℕ) (low : engine < w.layout.engines) (room : length w.history < w.limit) (free : IsFree w (Engine engine)) where
+    engine_low : engine < 4
+    engine_low = let here = subst (λ (x : PoolView). engine < x.layout.engines) (sym seen) low in let few = h.parts.runnable.counts.few_engines in omega (arith, here, few)
+
+    pub seat_free : get old.seats (Engine engine) ≡ None
+    seat_free = no_task old h.notices (Engine engine) (free_here (Engine engine) free)
+
+    pub asks_none : next_ask engine old.rules.rules ≡ None → AsksNone w engine
+    asks_none e s at = ap (λ (t : State). next_ask engine t.rules) (same_went s state (sym at ∙ has_state)) ∙ next_ask_mapped bare_arg engine old.rules.rules ∙ e
+
+    pub releases_none : next_release engine old.rules.rules ≡ None → ReleasesNone w engine
+    releases_none e s at = ap (λ (t : State). next_release engine t.rules) (same_went s state (sym at ∙ has_state)) ∙ next_release_mapped bare_arg engine old.rules.rules ∙ e
+
+    pub next_task_small : old.next_task < 2 ^ 63
+    next_task_small =
+        let small = small_numbers verified.program inputs layout told.events state h.parts.runnable.is h.given (omega (arith, h.within, h.few)) h.replays in
+        omega (arith, small.task, h.within, h.few)
+
+    module _ (rule parameter : ℕ) (due : next_ask engine old.rules.rules ≡ Some (rule, parameter)) where
+      asked : next_ask engine state.rules ≡ Some (rule, parameter)
+      asked = next_ask_mapped bare_arg engine old.rules.rules ∙ due
+
+      ask_due : IsDueFree w.layout (Engine engine) state (Ask engine rule parameter)
+      ask_due = ap (λ o. first_of engine o (next_release engine state.rules) (best (Engine engine) state.tasks)) asked
+
+      ask_refused : GoesFree w state (Engine engine) (NoMemory None) []
+      ask_refused = inl (Ask engine rule parameter, ask_due, inr (refl, refl))
+
+      module _ (new : Parts) (makes : Makes verified layout (Ask engine rule parameter) old new) where
+        ask_goes : Goes verified layout (Ask engine rule parameter) old h.notices new
+        ask_goes = makes h.notices h.parts
+
+        pub ask_fits : FitsWord (Ask engine rule parameter)
+        ask_fits =
+            let found = ask_found engine rule parameter state.rules asked in
+            let at = own_rule_there engine _ rule state.rules found in
+            let number = law.numbers.rules rule found.rule at in
+            let few = few_parameters verified.program (typings_of verified) h.parts.runnable.is state law rule found.rule at parameter _ found.has in
+            let small = small_numbers verified.program inputs layout told.events state h.parts.runnable.is h.given (omega (arith, h.within, h.few)) h.replays in
+            (engine_low, (omega (arith, number, small.rule, h.within, h.few), few))
+
+        pub ask_kept : IsKept verified inputs layout told.limit (told.events ++ Ask engine rule parameter ∷ []) new
+        ask_kept = made_free verified inputs layout told.limit told.events old h (Ask engine rule parameter) new ask_goes (room_here room) (free_here (Engine engine) free)
+            (ask_frames verified.program layout state (state_of new ask_goes.left) engine rule parameter ask_goes.step_is)
+
+        pub ask_line : GoesFree w state (Engine engine) Made (Ask engine rule parameter ∷ [])
+        ask_line = inl (Ask engine rule parameter, ask_due, inl (refl, refl))
+
+    pub ask_refused_for : IsSome (next_ask engine old.rules.rules) → GoesFree w state (Engine engine) (NoMemory None) []
+    ask_refused_for some = by (next_ask engine old.rules.rules) refl some
+      where
+        by : (o : Option (ℕ × ℕ)) → next_ask engine old.rules.rules ≡ o → IsSome o → GoesFree w state (Engine engine) (NoMemory None) []
+        by None e is = cc
+        by (Some q) e is = ask_refused q.0 q.1 e
+
+    module _ (none : AsksNone w engine) (rule : ℕ) (due : next_release engine old.rules.rules ≡ Some rule) where
+      released : next_release engine state.rules ≡ Some rule
+      released = next_release_mapped bare_arg engine old.rules.rules ∙ due
+
+      release_due : IsDueFree w.layout (Engine engine) state (Release engine rule)
+      release_due = ap (λ o. first_of engine o (next_release engine state.rules) (best (Engine engine) state.tasks)) (none state has_state) ∙ ap (λ o. first_of engine None o (best (Engine engine) state.tasks)) released
+
+      release_refused : GoesFree w state (Engine engine) (NoMemory None) []
+      release_refused = inl (Release engine rule, release_due, inr (refl, refl))
+
+      module _ (new : Parts) (makes : Makes verified layout (Release engine rule) old new) where
+        release_goes : Goes verified layout (Release engine rule) old h.notices new
+        release_goes = makes h.notices h.parts
+
+        pub release_fits : FitsWord (Release engine rule)
+        release_fits =
+            let found = release_found engine rule state.rules released in
+            let at = own_rule_there engine _ rule state.rules found in
+            let number = law.numbers.rules rule found.rule at in
+            let small = small_numbers verified.program inputs layout told.events state h.parts.runnable.is h.given (omega (arith, h.within, h.few)) h.replays in
+            (engine_low, omega (arith, number, small.rule, h.within, h.few))
+
+        pub release_kept : IsKept verified inputs layout told.limit (told.events ++ Release engine rule ∷ []) new
+        release_kept = made_free verified inputs layout told.limit told.events old h (Release engine rule) new release_goes (room_here room) (free_here (Engine engine) free)
+            (release_frames verified.program layout state (state_of new release_goes.left) engine rule release_goes.step_is)
+
+        pub release_line : GoesFree w state (Engine engine) Made (Release engine rule ∷ [])
+        release_line = inl (Release engine rule, release_due, inl (refl, refl))
+
+    pub release_refused_for : AsksNone w engine → IsSome (next_release engine old.rules.rules) → GoesFree w state (Engine engine) (NoMemory None) []
+    release_refused_for none some = by (next_release engine old.rules.rules) refl some
+      where
+        by : (o : Option ℕ) → next_release engine old.rules.rules ≡ o → IsSome o → GoesFree w state (Engine engine) (NoMemory None) []
+        by None e is = cc
+        by (Some rule) e is = release_refused none rule e
+
+  -- ---- a job that is lent
+
+  -- with these events told, and a task of the actor's that is lent by its number
+  module _ (actor : Actor) (es : List Event) (new : Parts) (kept : IsKept verified inputs layout told.limit (told.events ++ es) new) (f : FrameView) (sits : get new.seats actor ≡ Some f)
+      (by_number : f.event_no ≡ length (events_of actor (told.events ++ es))) where
+    abbrev after : State
+    after = state_of new kept.notices
+
+    after_here : HasState (with_events w es) after
+    after_here = subst (λ (x : PoolView). HasState (with_events x es) after) seen kept.replays
+
+    fits : FrameFits verified new.store.places actor f
+    fits = kept.parts.stand.frames actor f sits
+
+    is_lent : lent_to (with_events w es) after actor ≡ Some (job_of f)
+    is_lent =
+        let runs : get after.frames actor ≡ Some (bare_frame f) = get_mapped bare_frame new.seats actor ∙ ap (option_map bare_frame) sits in
+        subst (λ (x : PoolView). lent_to (with_events x es) after actor ≡ Some (job_of f)) seen
+        (ap (option_map (λ (g : Frame). record { program = verified; task = g.task; procedure = g.procedure; actor = actor; event_no = length (events_of actor (told.events ++ es)); position = g.position })) runs
+        ∙ ap Some (λ i. record { program = sym fits.program i; task = f.task; procedure = f.procedure; actor = sym fits.own i; event_no = sym by_number i; position = f.position }))
+
+    pub lends : Lends w actor es (Run (job_of f)) es
+    lends = (after, after_here, job_of f, is_lent, (refl, refl))
+
+  -- ---- a task is taken
+
+  module _ (actor : Actor) (there : is_in w.layout actor ≡ true) (room : length w.history < w.limit) (free : IsFree w actor) (first : MayTakeNow w actor) where
+    pub there_here : is_in layout actor ≡ true
+    there_here = subst (λ (x : PoolView). is_in x.layout actor ≡ true) (sym seen) there
+
+    pub seat_here : HasPlace actor
+    seat_here = has_place layout actor h.parts.runnable.counts there_here
+
+    pub taker_free : get old.seats actor ≡ None
+    taker_free = no_task old h.notices actor (free_here actor free)
+
+    due_is : (a : Actor) → MayTakeNow w a → (o : Option (ℕ × Task)) → best a state.tasks ≡ o → (due : Event) → IsDueFree w.layout a state due → take_of a o ≡ Some due
+    due_is (Engine engine) none o is due h =
+        sym (ap (λ x. first_of engine x (next_release engine state.rules) (best (Engine engine) state.tasks)) (none.0 state has_state) ∙ ap (λ x. first_of engine None x (best (Engine engine) state.tasks)) (none.1 state has_state)
+        ∙ ap (take_of (Engine engine)) is) ∙ h
+    due_is (Server server) none o is due h = elim none [ ]
+    due_is (Worker worker) none o is due h = sym (ap (take_of (Worker worker)) is) ∙ h
+
+    is_due : (a : Actor) → MayTakeNow w a → (e : ℕ × Task) → best a state.tasks ≡ Some e → IsDueFree w.layout a state (Take a)
+    is_due (Engine engine) none e is =
+        ap (λ x. first_of engine x (next_release engine state.rules) (best (Engine engine) state.tasks)) (none.0 state has_state) ∙ ap (λ x. first_of engine None x (best (Engine engine) state.tasks)) (none.1 state has_state)
+        ∙ ap (take_of (Engine engine)) is
+    is_due (Server server) none e is = elim none [ ]
+    is_due (Worker worker) none e is = ap (take_of (Worker worker)) is
+
+    best_is : best actor state.tasks ≡ option_map (entry_by bare_task) (best actor old.tasks.tasks)
+    best_is = best_mapped bare_arg actor old.tasks.tasks
+
+    pub take_idle : best actor old.tasks.tasks ≡ None → GoesFree w state actor Idle []
+    take_idle none = inr ((λ due d. let no : None ≡ Some due = due_is actor first None (best_is ∙ ap (option_map (entry_by bare_task)) none) due d in cc), (refl, refl))
+
+    pub take_refused : IsSome (best actor old.tasks.tasks) → GoesFree w state actor (NoMemory None) []
+    take_refused some = by (best actor old.tasks.tasks) refl some
+      where
+        by : (o : Option (ℕ × TaskOf Arg)) → best actor old.tasks.tasks ≡ o → IsSome o → GoesFree w state actor (NoMemory None) []
+        by None e is = cc
+        by (Some t) e is = inl (Take actor, is_due actor first (entry_by bare_task t) (best_is ∙ ap (option_map (entry_by bare_task)) e), inr (refl, refl))
+
+    module _ (t : ℕ × TaskOf Arg) (is : best actor old.tasks.tasks ≡ Some t) (new : Parts) (makes : Makes verified layout (Take actor) old new) (f : FrameView) (sits : get new.seats actor ≡ Some f)
+        (number : f.event_no ≡ length (events_of actor told.events) + 1) where
+      take_goes : Goes verified layout (Take actor) old h.notices new
+      take_goes = makes h.notices h.parts
+
+      by_number : f.event_no ≡ length (events_of actor (told.events ++ Take actor ∷ []))
+      by_number = number ∙ sym (own_count actor told.events (Take actor) refl)
+
+      pub take_kept : IsKept verified inputs layout told.limit (told.events ++ Take actor ∷ []) new
+      take_kept = made_lent verified inputs layout told.limit told.events old h (Take actor) new take_goes (room_here room)
+          (λ g at. ap (λ (x : FrameView). x.event_no) (same_Some g f (sym at ∙ sits)) ∙ by_number)
+
+      pub take_line : GoesFree w state actor (Run (job_of f)) (Take actor ∷ [])
+      take_line = inl (Take actor, is_due actor first (entry_by bare_task t) (best_is ∙ ap (option_map (entry_by bare_task)) is), inl (lends actor (Take actor ∷ []) new take_kept f sits by_number))

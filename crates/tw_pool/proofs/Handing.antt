@@ -1,0 +1,433 @@
+-- What comes of a Done: the lines of the table, from the events of the parts.
+use Rattle.std.proofs.Common.{◌≡◌, ◌≢◌, ◌<◌, ◌≤◌, ◌+◌, ◌*◌, ◌^◌, ◌==◌, not, ◌&&◌, ℕ, Bool, true, false, cond, List, [], ◌∷◌, ◌++◌, length, length-append, Option, Some, None, refl, sym, ap, subst, ◌∙◌, arith, inl, option_map, slice_get}
+use Rattle.std.specs.Prelude.{IfSome, MatchOption, option_to_list}
+use Rattle.std.proofs.lemmas.Bool.{and_parts, eqb-true}
+use Rattle.std.proofs.lemmas.Bool.Decides.{nat_tests}
+use Rattle.std.proofs.lemmas.List.Elements.{filter-append}
+use Rattle.std.proofs.lemmas.Option.{same_Some}
+use Rattle.std.specs.FinMap.{get, get-insert, get-remove, insert}
+use Rattle.std.specs.Option.{option_and_then}
+use Rattle.std.specs.Ordering.{eq_by_cmp, is_eq}
+use Rattle.std.specs.Cmp.{Equal-is, tied_itself}
+use Rattle.tw_types.specs.declared.actor.Actor.{Actor}
+use Rattle.tw_types.specs.declared.event.Event.{Event}
+use Rattle.tw_types.specs.declared.event.Event.TheVariants.{End, Local}
+use Rattle.tw_types.specs.declared.input.Input.{Input}
+use Rattle.tw_types.specs.Actor.{actor_cmp, is_in}
+use Rattle.tw_types.specs.Layout.{ActorCounts}
+use Rattle.tw_types.specs.Notices.{Notices}
+use Rattle.tw_types.specs.Outcome.{Went}
+use Rattle.tw_types.proofs.ActorOrder.{actor_cmp_total, actor_cmp-IsAntisymmetric}
+use Rattle.tw_types.proofs.Mapped.{get_mapped}
+use Rattle.tw_types.proofs.Outcomes.{went_of}
+use Rattle.tw_code.specs.declared.instr.Instr.{Instr}
+use Rattle.tw_code.specs.declared.procedure.Procedure.{Procedure}
+use Rattle.tw_code.specs.accepting.Walk.{greatest_budget}
+use Rattle.tw_code.specs.machine.Bounds.{opening_bound}
+use Rattle.tw_code.specs.machine.History.{actor_of}
+use Rattle.tw_code.specs.machine.Machine.{end_event, step}
+use Rattle.tw_code.specs.machine.Opening.{opening, reached}
+use Rattle.tw_code.specs.machine.State.{Frame, State}
+use Rattle.tw_code.proofs.Growth.{below_more, opening_is_small}
+use Rattle.tw_code.proofs.Leaving.{end_leaves}
+use Rattle.tw_code.proofs.Runs.{run_more}
+use Rattle.tw_no_trap.proofs.Along.{small_along}
+use Rattle.tw_no_trap.proofs.Safe.{opened_held}
+use Rattle.tw_verify.specs.Typed.{TypedProgram, typings_of}
+use Rattle.tw_frame.specs.Jobs.{DoneView, DraftView, FrameView, JobView, bare_frame, job_of}
+use Rattle.tw_parts.specs.Coming.{come}
+use Rattle.tw_parts.specs.Events.{Goes, IsDrafted, IsLent, IsOwed, IsSmall, Makes, MakesBehind, StandsAt, with_done}
+use Rattle.tw_parts.specs.Fits.{AreParts}
+use Rattle.tw_parts.specs.Parts.{state_of}
+use Rattle.tw_parts.specs.declared.parts.Parts.{Parts}
+use Rattle.tw_pool.specs.declared.answer.Turn.{Turn}
+use Rattle.tw_pool.specs.declared.answer.Turn.TheVariants.{Run}
+use Rattle.tw_pool.specs.Actors.{HasPlace, events_of, same_actor}
+use Rattle.tw_pool.specs.History.{HistoryView}
+use Rattle.tw_pool.specs.Kept.{AreLent, IsKept, IsOwedBy}
+use Rattle.tw_pool.specs.PoolView.{PoolView}
+use Rattle.tw_pool.specs.Turns.{IsTurnBy, Lends, Line, OrNoMemory, is_last, instr_behind, lent_to, steps_of}
+use Rattle.tw_pool.specs.Words.{FitsWord}
+use Rattle.tw_pool.proofs.Counting.{itself, the_same}
+use Rattle.tw_pool.proofs.Freely.{has_state, lends, line_told, room_here, state, viewed}
+use Rattle.tw_pool.proofs.Keeping.{has_place, no_task}
+
+-- ---- lists of one actor's events
+
+abbrev pub AreBy : Actor → List Event → Type 0
+AreBy actor [] = Unit {0}
+AreBy actor (e ∷ es) = (actor_of e ≡ actor) × AreBy actor es
+
+apart : (a b : Actor) → a ≢ b → same_actor a b ≡ false
+apart a b h = by (same_actor a b) refl
+  where
+    by : (t : Bool) → same_actor a b ≡ t → t ≡ false
+    by true e = absurd (h (the_same a b e))
+    by false e = refl
+
+none_of : (a actor : Actor) → a ≢ actor → (es : List Event) → AreBy actor es → events_of a es ≡ []
+none_of a actor h [] by = refl
+none_of a actor h (e ∷ es) by =
+    let other : same_actor (actor_of e) a ≡ false = apart (actor_of e) a (λ is. h (sym is ∙ by.0)) in
+    rw other (none_of a actor h es by.1)
+
+others_same : (a actor : Actor) → a ≢ actor → (history es : List Event) → AreBy actor es → length (events_of a (history ++ es)) ≡ length (events_of a history)
+others_same a actor h history es by =
+    let split = ap (λ xs. length xs) (filter-append (λ (x : Event). same_actor (actor_of x) a) history es ∙ ap (λ xs. events_of a history ++ xs) (none_of a actor h es by)) in
+    let long = length-append (events_of a history) [] in
+    omega (arith, split, long)
+
+pub steps_by : (actor : Actor) (done : DoneView) → AreBy actor (steps_of actor done)
+steps_by actor done = by (done.steps == 0) refl
+  where
+    by : (b : Bool) → (done.steps == 0) ≡ b → AreBy actor (steps_of actor done)
+    by true is = rw is tt
+    by false is = rw is (refl, tt)
+
+then_by : (actor : Actor) (es : List Event) (e : Event) → AreBy actor es → actor_of e ≡ actor → AreBy actor (es ++ e ∷ [])
+then_by actor [] e all is = (is, tt)
+then_by actor (d ∷ es) e all is = (all.0, then_by actor es e all.1 is)
+
+pub assoc : (xs ys zs : List Event) → (xs ++ ys) ++ zs ≡ xs ++ (ys ++ zs)
+assoc [] ys zs = refl
+assoc (x ∷ xs) ys zs = ap (λ es. x ∷ es) (assoc xs ys zs)
+
+no_more : (es : List Event) → es ++ [] ≡ es
+no_more [] = refl
+no_more (e ∷ es) = ap (λ xs. e ∷ xs) (no_more es)
+
+-- ---- seats
+
+other_key : (a b : Actor) → a ≢ b → eq_by_cmp actor_cmp a b ≡ false
+other_key a b h = by (eq_by_cmp actor_cmp a b) refl
+  where
+    by : (t : Bool) → eq_by_cmp actor_cmp a b ≡ t → t ≡ false
+    by true e = absurd (h (actor_cmp-IsAntisymmetric a b ((Equal-is (actor_cmp a b)).0 e)))
+    by false e = refl
+
+own_key : (a : Actor) → eq_by_cmp actor_cmp a a ≡ true
+own_key a = ap is_eq (tied_itself actor_cmp_total a)
+
+get_other : {X : Type 0} (f : X) (m : _) (a q : Actor) → q ≢ a → get (insert {R = actor_cmp} m a f) q ≡ get m q
+get_other f m a q h = get-insert actor_cmp_total m a f q ∙ ap (λ t. cond t (Some f) (get m q)) (other_key q a h)
+
+get_own : {X : Type 0} (f : X) (m : _) (a : Actor) → get (insert {R = actor_cmp} m a f) a ≡ Some f
+get_own f m a = get-insert actor_cmp_total m a f a ∙ ap (λ t. cond t (Some f) (get m a)) (own_key a)
+
+-- ---- parts to which events lead
+
+pub record AreAt (verified : TypedProgram) (inputs : List Input) (layout : ActorCounts) (history : List Event) (p : Parts) : Type 0 where
+  pub notices : Notices
+  pub replays : reached verified.program inputs layout history ≡ Went (state_of p notices)
+  pub parts : AreParts verified layout p notices
+
+then_at : (verified : TypedProgram) (inputs : List Input) (layout : ActorCounts) (history : List Event) (p new : Parts) (at : AreAt verified inputs layout history p) (e : Event) → Goes verified layout e p at.notices new
+    → AreAt verified inputs layout (history ++ e ∷ []) new
+then_at verified inputs layout history p new at e goes = record {
+  notices = goes.left;
+  replays = run_more verified.program layout history e (opening verified.program inputs) (state_of p at.notices) (state_of new goes.left) at.replays goes.step_is;
+  parts = goes.parts;
+}
+
+end_frames : (program : List Procedure) (layout : ActorCounts) (actor : Actor) (s t : State) → step program layout (End actor) s ≡ Went t → get t.frames actor ≡ None
+unfolding step
+end_frames program layout actor s t e = went_of (end_event program actor s) (λ (u : State). get u.frames actor ≡ None) t
+    (end_leaves program actor s {P = λ (u : State). get u.frames actor ≡ None} (get-remove actor_cmp_total s.frames actor actor ∙ ap (λ b. cond b None (get s.frames actor)) (own_key actor))) e
+
+module _ (verified : TypedProgram) (inputs : List Input) (layout : ActorCounts) (stopped : Bool) (told : HistoryView) (old : Parts) (h : IsKept verified inputs layout told.limit told.events old) (w : PoolView) (seen : viewed verified inputs layout stopped told ≡ w)
+    (actor : Actor) (there : is_in w.layout actor ≡ true) (room : length w.history < w.limit) (done : DoneView) (owed : IsOwedBy w actor done) where
+  abbrev here : State
+  here = state verified inputs layout stopped told old h w seen
+
+  pub room_now : length told.events < told.limit
+  room_now = room_here verified inputs layout stopped told old h w seen room
+
+  pub has_seat : HasPlace actor
+  has_seat = has_place layout actor h.parts.runnable.counts (subst (λ (x : PoolView). is_in x.layout actor ≡ true) (sym seen) there)
+
+  -- the task of the job
+  pub record IsIts (f : FrameView) : Type 0 where
+    pub sits : get old.seats actor ≡ Some f
+    pub own : done.before ≡ job_of f
+    pub program : done.before.program ≡ verified
+
+  lent_now : lent_to (viewed verified inputs layout stopped told) here actor ≡ Some done.before
+  lent_now = subst (λ (x : PoolView). lent_to x here actor ≡ Some done.before) (sym seen) (owed here (has_state verified inputs layout stopped told old h w seen))
+
+  pub its : (f : FrameView) × IsIts f
+  its = by (get old.seats actor) refl
+    where
+      job_by : Frame → JobView
+      job_by g = record { program = verified; task = g.task; procedure = g.procedure; actor = actor; event_no = length (events_of actor told.events); position = g.position }
+
+      by : (o : Option FrameView) → get old.seats actor ≡ o → (f : FrameView) × IsIts f
+      by None e =
+          let none : None ≡ Some done.before = sym (ap (option_map job_by) (get_mapped bare_frame old.seats actor ∙ ap (option_map bare_frame) e)) ∙ lent_now in cc
+      by (Some f) e =
+          let same : job_by (bare_frame f) ≡ done.before = same_Some _ _ (sym (ap (option_map job_by) (get_mapped bare_frame old.seats actor ∙ ap (option_map bare_frame) e)) ∙ lent_now) in
+          let fits = h.parts.stand.frames actor f e in
+          let number = h.lent room_now actor f e in
+          let job_is : job_by (bare_frame f) ≡ job_of f = λ i. record { program = sym fits.program i; task = f.task; procedure = f.procedure; actor = sym fits.own i; event_no = sym number i; position = f.position } in
+          (f, record { sits = e; own = sym same ∙ job_is; program = ap (λ (j : JobView). j.program) (sym same) })
+
+  pub task : FrameView
+  task = its.0
+
+  pub owed_now : IsOwed old actor its.0 done
+  owed_now = record { sits = its.1.sits; own = its.1.own }
+
+  small_of : (es : List Event) (p : Parts) (at : AreAt verified inputs layout es p) → length es ≤ told.limit → IsSmall (state_of p at.notices)
+  small_of es p at within =
+      let below = small_along verified.program (typings_of verified) h.parts.runnable.is h.parts.runnable.right layout es opening_bound (opening verified.program inputs) (state_of p at.notices)
+      (opened_held verified.program (typings_of verified) h.parts.runnable.is h.parts.runnable.right inputs h.given) (opening_is_small verified.program inputs h.parts.runnable.is h.given) at.replays in
+      below_more (opening_bound + length es * greatest_budget) (2 ^ 62) (state_of p at.notices) (omega (arith, within, h.few)) below
+
+  abbrev pub Local_is : Option Event → Type 0
+  Local_is o = MatchOption o
+      ((done.steps ≡ 0) × ((f : FrameView) → IsOwed old actor f done → with_done old actor f done ≡ old))
+      (λ (e : Event). (0 < done.steps) × (e ≡ Local actor done.steps) × ((l : ActorCounts) (f : FrameView) → IsOwed old actor f done → Makes done.before.program l e old (with_done old actor f done)))
+
+  abbrev pub came : Parts
+  came = with_done old actor its.0 done
+
+  -- the steps are told, and lead to where the task has come
+  pub record HasCome (o : Option Event) : Type 0 where
+    pub is : option_to_list o ≡ steps_of actor done
+    pub at : AreAt verified inputs layout (told.events ++ option_to_list o) came
+    pub fits : IfSome o FitsWord
+
+  abbrev at_old : AreAt verified inputs layout told.events old
+  at_old = record { notices = h.notices; replays = h.replays; parts = h.parts }
+
+  pub has_come : done.steps ≤ greatest_budget → (o : Option Event) → Local_is o → HasCome o
+  has_come few None l =
+      let none : (done.steps == 0) ≡ true = grind (arith, nat_tests, l.0) in
+      record {
+        is = rw none refl;
+        at = subst (λ p. AreAt verified inputs layout (told.events ++ []) p) (sym (l.1 its.0 owed_now)) (subst (λ es. AreAt verified inputs layout es old) (sym (no_more told.events)) at_old);
+        fits = tt;
+      }
+  has_come few (Some e) l =
+      let some : (done.steps == 0) ≡ false = grind (arith, nat_tests, l.0) in
+      let makes = subst (λ (v : TypedProgram). Makes v layout e old came) its.1.program (l.2 layout its.0 owed_now) in
+      record {
+        is = rw some (ap (λ x. x ∷ []) l.1);
+        at = then_at verified inputs layout told.events old came at_old e (makes h.notices h.parts);
+        fits = subst FitsWord (sym l.1) (has_seat, omega (arith, few));
+      }
+
+  pub owed_some : (f : FrameView) × IsOwed old actor f done
+  owed_some = (its.0, owed_now)
+
+  pub may_advance : (l : ActorCounts) × (notices : Notices) × (f : FrameView) × AreParts done.before.program l old notices × IsSmall (state_of old notices) × IsOwed old actor f done
+  may_advance = (layout, h.notices, its.0, subst (λ (v : TypedProgram). AreParts v layout old h.notices) (sym its.1.program) h.parts, small_of told.events old at_old h.within, owed_now)
+
+  one_at_most : (o : Option Event) → length (option_to_list o) ≤ 1
+  one_at_most None = omega arith
+  one_at_most (Some e) = omega arith
+
+  pub within_one : (o : Option Event) → length (told.events ++ option_to_list o) ≤ told.limit
+  within_one o = let long = length-append told.events (option_to_list o) in let few = one_at_most o in omega (arith, long, few, room_now)
+
+  module _ (last : is_last w done ≡ false) where
+    last_now : (not (done.steps == 0) && (length told.events + 1 == told.limit)) ≡ false
+    last_now = subst (λ (x : PoolView). (not (done.steps == 0) && (length x.history + 1 == x.limit)) ≡ false) (sym seen) last
+
+    pub room_two : (o : Option Event) → Local_is o → length (told.events ++ option_to_list o) < told.limit
+    room_two None l = let long = length-append told.events [] in omega (arith, long, room_now)
+    room_two (Some e) l =
+        let some : (done.steps == 0) ≡ false = grind (arith, nat_tests, l.0) in
+        let full : (length told.events + 1 == told.limit) ≡ false = sym (ap (λ b. not b && (length told.events + 1 == told.limit)) some) ∙ last_now in
+        let long = length-append told.events (e ∷ []) in
+        grind (arith, nat_tests, full, long, room_now)
+
+  -- the instruction behind the steps
+  record IsBehind (i : Instr) : Type 0 where
+    q : Procedure
+    there_is : slice_get verified.program done.before.procedure ≡ Some q
+    is : slice_get q.code done.after.place ≡ Some i
+
+  is_behind : (i : Instr) → instr_behind w.program.program done ≡ Some i → IsBehind i
+  is_behind i e = by (slice_get verified.program done.before.procedure) refl
+    where
+      e_now : option_and_then (λ (p : Procedure). slice_get p.code done.after.place) (slice_get verified.program done.before.procedure) ≡ Some i
+      e_now = subst (λ (x : PoolView). instr_behind x.program.program done ≡ Some i) (sym seen) e
+
+      by : (o : Option Procedure) → slice_get verified.program done.before.procedure ≡ o → IsBehind i
+      by None at = let no : None ≡ Some i = sym (ap (option_and_then (λ (p : Procedure). slice_get p.code done.after.place)) at) ∙ e_now in cc
+      by (Some q) at = record { q = q; there_is = at; is = sym (ap (option_and_then (λ (p : Procedure). slice_get p.code done.after.place)) at) ∙ e_now }
+
+  pub stands : (o : Option Event) → HasCome o → (i : Instr) → instr_behind w.program.program done ≡ Some i → StandsAt old actor done i
+  stands o c i e =
+      let it = is_behind i e in
+      record {
+        layout = layout;
+        notices = c.at.notices;
+        f = its.0;
+        owed = owed_now;
+        parts = subst (λ (v : TypedProgram). AreParts v layout came c.at.notices) (sym its.1.program) c.at.parts;
+        small = small_of (told.events ++ option_to_list o) came c.at (within_one o);
+        q = it.q;
+        here = ap (λ (v : TypedProgram). slice_get v.program its.0.procedure) its.1.program ∙ ap (λ (j : JobView). slice_get verified.program j.procedure) (sym its.1.own) ∙ it.there_is;
+        behind = it.is;
+      }
+
+  pub others_come : (a : Actor) → a ≢ actor → get came.seats a ≡ get old.seats a
+  others_come a h = get_other (come its.0 done) old.seats actor a h
+
+  -- ---- with the steps alone
+
+  pub told_one : (o : Option Event) (c : HasCome o) (t : HistoryView) → t ≡ record told { events = told.events ++ option_to_list o } → t ≡ record { events = told.events ++ steps_of actor done; limit = told.limit }
+  told_one o c t is = is ∙ ap (λ es. record { events = told.events ++ es; limit = told.limit }) c.is
+
+  pub at_steps : (o : Option Event) (c : HasCome o) → AreAt verified inputs layout (told.events ++ steps_of actor done) came
+  at_steps o c = subst (λ es. AreAt verified inputs layout (told.events ++ es) came) c.is c.at
+
+  pub within_steps : (o : Option Event) (c : HasCome o) → length (told.events ++ steps_of actor done) ≤ told.limit
+  within_steps o c = subst (λ es. length (told.events ++ es) ≤ told.limit) c.is (within_one o)
+
+  -- the history is full
+  pub kept_full : (last : is_last w done ≡ true) (o : Option Event) (c : HasCome o) (new : Parts) → new ≡ came → IsKept verified inputs layout told.limit (told.events ++ steps_of actor done) new
+  kept_full last o c new is = record {
+    given = h.given;
+    few = h.few;
+    within = within_steps o c;
+    notices = (at_steps o c).notices;
+    replays = (at_steps o c).replays ∙ ap (λ p. Went (state_of p (at_steps o c).notices)) (sym is);
+    parts = subst (λ p. AreParts verified layout p (at_steps o c).notices) (sym is) (at_steps o c).parts;
+    lent = λ less. absurd (not_full less);
+  }
+    where
+      both : (not (done.steps == 0) ≡ true) × ((length told.events + 1 == told.limit) ≡ true)
+      both = and_parts (not (done.steps == 0)) (length told.events + 1 == told.limit) (subst (λ (x : PoolView). (not (done.steps == 0) && (length x.history + 1 == x.limit)) ≡ true) (sym seen) last)
+
+      not_full : length (told.events ++ steps_of actor done) < told.limit → ⊥
+      not_full less =
+          let some : (done.steps == 0) ≡ false = flip (done.steps == 0) both.0 in
+          let one : length (steps_of actor done) ≡ 1 = rw some refl in
+          let long = length-append told.events (steps_of actor done) in
+          let full = eqb-true (length told.events + 1) told.limit both.1 in
+          omega (arith, long, one, full, less)
+        where
+          flip : (b : Bool) → not b ≡ true → b ≡ false
+          flip true e = cc
+          flip false e = refl
+
+  -- ---- with one event more behind them
+
+  module _ (e : Event) (is_own : actor_of e ≡ actor) (o : Option Event) (c : HasCome o) (new : Parts) (makes : MakesBehind e old actor done new) where
+    goes : Goes verified layout e came c.at.notices new
+    goes = subst (λ (v : TypedProgram). Makes v layout e came new) its.1.program (makes layout its.0 owed_now) c.at.notices c.at.parts
+
+    both_are : (told.events ++ option_to_list o) ++ e ∷ [] ≡ told.events ++ (steps_of actor done ++ e ∷ [])
+    both_are = assoc told.events (option_to_list o) (e ∷ []) ∙ ap (λ es. told.events ++ (es ++ e ∷ [])) c.is
+
+    pub told_two : (t p : HistoryView) → t ≡ record told { events = told.events ++ option_to_list o } → p ≡ record t { events = t.events ++ e ∷ [] } → p ≡ record { events = told.events ++ (steps_of actor done ++ e ∷ []); limit = told.limit }
+    told_two t p one two = two ∙ ap (λ (x : HistoryView). record { events = x.events ++ e ∷ []; limit = x.limit }) one ∙ ap (λ es. record { events = es; limit = told.limit }) both_are
+
+    pub at_two : AreAt verified inputs layout (told.events ++ (steps_of actor done ++ e ∷ [])) new
+    at_two = subst (λ es. AreAt verified inputs layout es new) both_are (then_at verified inputs layout (told.events ++ option_to_list o) came new c.at e goes)
+
+    pub others_two : (a : Actor) → a ≢ actor → get new.seats a ≡ get old.seats a
+    others_two a h = goes.others a (λ is. h (is ∙ is_own)) ∙ get_other (come its.0 done) old.seats actor a h
+
+    pub within_two : length (told.events ++ option_to_list o) < told.limit → length (told.events ++ (steps_of actor done ++ e ∷ [])) ≤ told.limit
+    within_two less = let long = ap (λ es. length es) (sym both_are) ∙ length-append (told.events ++ option_to_list o) (e ∷ []) in omega (arith, long, less)
+
+    pub by_two : AreBy actor (steps_of actor done ++ e ∷ [])
+    by_two = then_by actor (steps_of actor done) e (steps_by actor done) is_own
+
+  -- the task has ended
+  pub kept_ended : (o : Option Event) (c : HasCome o) (new : Parts) (makes : MakesBehind (End actor) old actor done new) → length (told.events ++ option_to_list o) < told.limit
+      → IsKept verified inputs layout told.limit (told.events ++ (steps_of actor done ++ End actor ∷ [])) new
+  kept_ended o c new makes less = record {
+    given = h.given;
+    few = h.few;
+    within = within_two (End actor) refl o c new makes less;
+    notices = (at_two (End actor) refl o c new makes).notices;
+    replays = (at_two (End actor) refl o c new makes).replays;
+    parts = (at_two (End actor) refl o c new makes).parts;
+    lent = λ _. lent_others;
+  }
+    where
+      gone : get new.seats actor ≡ None
+      gone = no_task new (goes (End actor) refl o c new makes).left actor (end_frames verified.program layout actor (state_of came c.at.notices) (state_of new (goes (End actor) refl o c new makes).left) (goes (End actor) refl o c new makes).step_is)
+
+      lent_others : AreLent (told.events ++ (steps_of actor done ++ End actor ∷ [])) new.seats
+      lent_others a f sits = by (same_actor a actor) refl
+        where
+          by : (b : Bool) → same_actor a actor ≡ b → f.event_no ≡ length (events_of a (told.events ++ (steps_of actor done ++ End actor ∷ [])))
+          by true is = let no : None ≡ Some f = sym gone ∙ ap (get new.seats) (sym (the_same a actor is)) ∙ sits in cc
+          by false is =
+              let other : a ≢ actor = λ e. let yes : true ≡ false = sym (itself actor) ∙ ap (λ x. same_actor x actor) (sym e) ∙ is in cc in
+              h.lent room_now a f (sym (others_two (End actor) refl o c new makes a other) ∙ sits) ∙ sym (others_same a actor other told.events (steps_of actor done ++ End actor ∷ []) (by_two (End actor) refl o c new makes))
+
+  -- ---- lending again
+
+  module _ (es : List Event) (by : AreBy actor es) (p : Parts) (at : AreAt verified inputs layout (told.events ++ es) p) (others : (a : Actor) → a ≢ actor → get p.seats a ≡ get old.seats a) (within : length (told.events ++ es) ≤ told.limit) where
+    module _ (draft : DraftView) (drafted : IsDrafted p actor draft) where
+      pub may_lend : (l : ActorCounts) × (notices : Notices) × AreParts draft.program l p notices
+      may_lend =
+          let of : draft.program ≡ verified = ap (λ (d : DraftView). d.program) drafted.is ∙ (at.parts.stand.frames actor drafted.f drafted.sits).program in
+          (layout, at.notices, subst (λ (v : TypedProgram). AreParts v layout p at.notices) (sym of) at.parts)
+
+    module _ (event_no : ℕ) (number : event_no ≡ length (events_of actor (told.events ++ es))) (job : JobView) (new : Parts) (lent : IsLent p actor event_no job new)
+        (same : (notices : Notices) → state_of new notices ≡ state_of p notices) (still : (v : TypedProgram) (l : ActorCounts) (notices : Notices) → AreParts v l p notices → AreParts v l new notices) where
+      abbrev g : FrameView
+      g = record lent.f { event_no = event_no }
+
+      sits_new : get new.seats actor ≡ Some g
+      sits_new = ap (λ (x : Parts). get x.seats actor) lent.new_is ∙ get_own g p.seats actor
+
+      lent_all : AreLent (told.events ++ es) new.seats
+      lent_all a f sits = by_key (same_actor a actor) refl
+        where
+          by_key : (b : Bool) → same_actor a actor ≡ b → f.event_no ≡ length (events_of a (told.events ++ es))
+          by_key true is =
+              let who = the_same a actor is in
+              let one : f ≡ g = same_Some f g (sym sits ∙ ap (λ x. get new.seats x) who ∙ sits_new) in
+              ap (λ (x : FrameView). x.event_no) one ∙ number ∙ ap (λ x. length (events_of x (told.events ++ es))) (sym who)
+          by_key false is =
+              let other : a ≢ actor = λ e. let yes : true ≡ false = sym (itself actor) ∙ ap (λ x. same_actor x actor) (sym e) ∙ is in cc in
+              let was : get old.seats a ≡ Some f = sym (others a other) ∙ sym (get_other g p.seats actor a other) ∙ ap (λ (x : Parts). get x.seats a) (sym lent.new_is) ∙ sits in
+              h.lent room_now a f was ∙ sym (others_same a actor other told.events es by)
+
+      pub kept_lent : IsKept verified inputs layout told.limit (told.events ++ es) new
+      kept_lent = record {
+        given = h.given;
+        few = h.few;
+        within = within;
+        notices = at.notices;
+        replays = at.replays ∙ ap Went (sym (same at.notices));
+        parts = still verified layout at.notices at.parts;
+        lent = λ _. lent_all;
+      }
+
+      pub line_lent : Lends w actor es (Run job) es
+      line_lent = subst (λ j. Lends w actor es (Run j) es) (sym lent.job_is) (lends verified inputs layout stopped told old h w seen actor es new kept_lent g sits_new number)
+
+    module _ (t : HistoryView) (t_is : t ≡ record { events = told.events ++ es; limit = told.limit }) (event_no : ℕ) (counted : event_no ≡ length (events_of actor t.events)) (job : JobView) (new : Parts) (lent : IsLent p actor event_no job new)
+        (same : (notices : Notices) → state_of new notices ≡ state_of p notices) (still : (v : TypedProgram) (l : ActorCounts) (notices : Notices) → AreParts v l p notices → AreParts v l new notices) where
+      number_is : event_no ≡ length (events_of actor (told.events ++ es))
+      number_is = counted ∙ ap (λ (x : HistoryView). length (events_of actor x.events)) t_is
+
+      pub kept_again : IsKept verified inputs layout t.limit t.events new
+      kept_again = subst (λ (x : HistoryView). IsKept verified inputs layout x.limit x.events new) (sym t_is) (kept_lent event_no number_is job new lent same still)
+
+      pub line_again : IsTurnBy (λ s. Lends w actor es) w (Run job) (viewed verified inputs layout stopped t)
+      line_again = line_told verified inputs layout stopped told old h w seen (λ s. Lends w actor es) (Run job) es t t_is (line_lent event_no number_is job new lent same still)
+
+  -- the parts to which a task has come
+  module _ (o : Option Event) (c : HasCome o) (new : Parts) (is : (f : FrameView) → IsOwed old actor f done → new ≡ with_done old actor f done) where
+    pub at_come : AreAt verified inputs layout (told.events ++ steps_of actor done) new
+    at_come = subst (AreAt verified inputs layout (told.events ++ steps_of actor done)) (sym (is its.0 owed_now)) (at_steps o c)
+
+    pub others_at : (a : Actor) → a ≢ actor → get new.seats a ≡ get old.seats a
+    others_at a h = ap (λ (p : Parts). get p.seats a) (is its.0 owed_now) ∙ others_come a h
+
+    pub full_at : is_last w done ≡ true → (t : HistoryView) → t ≡ record { events = told.events ++ steps_of actor done; limit = told.limit } → IsKept verified inputs layout t.limit t.events new
+    full_at last t t_is = subst (λ (x : HistoryView). IsKept verified inputs layout x.limit x.events new) (sym t_is) (kept_full last o c new (is its.0 owed_now))
+
+-- a line, or want of memory
+pub or_memory : (line : Line) (given : Option DoneView) (w v : PoolView) (a : Turn) → IsTurnBy (λ s. line) w a v → IsTurnBy (λ s. OrNoMemory given line) w a v
+or_memory line given w v a l = record { state = l.state; has_state = l.has_state; events = l.events; is = inl l.is; appended = l.appended }

@@ -1,0 +1,157 @@
+-- A pool's parts stay what they are: with one event more, and where nothing was touched.
+use Rattle.std.proofs.Common.{map as each, ◌≡◌, ◌≢◌, ◌<◌, ◌+◌, ℕ, Bool, true, false, cond, List, [], ◌∷◌, ◌++◌, length, length-append, Option, Some, None, refl, sym, ap, subst, ◌∙◌, arith, option_map}
+use Rattle.std.specs.FinMap.{get}
+use Rattle.std.proofs.lemmas.Bool.{ltb-true}
+use Rattle.tw_types.specs.declared.actor.Actor.{Actor}
+use Rattle.tw_types.specs.declared.actor.Actor.TheVariants.{Engine, Server, Worker}
+use Rattle.tw_types.specs.Actor.{is_in}
+use Rattle.tw_types.specs.declared.event.Event.{Event}
+use Rattle.tw_types.specs.declared.event.Event.TheVariants.{Ask, Deliver, Release}
+use Rattle.tw_types.specs.declared.input.Input.{Input}
+use Rattle.tw_types.specs.declared.notice.Notice.{Notice}
+use Rattle.tw_types.specs.Layout.{ActorCounts, IsLayout}
+use Rattle.tw_types.specs.Mapped.{mapped}
+use Rattle.tw_types.specs.Notices.{Notices}
+use Rattle.tw_types.specs.Outcome.{Went}
+use Rattle.tw_types.proofs.Mapped.{get_mapped}
+use Rattle.tw_types.proofs.Outcomes.{went_of}
+use Rattle.tw_rights.specs.Rights.{Right}
+use Rattle.tw_rights.specs.Bare.{bare_rule, bare_task}
+use Rattle.tw_code.specs.declared.procedure.Procedure.{Procedure}
+use Rattle.tw_code.specs.machine.History.{actor_of}
+use Rattle.tw_code.specs.machine.Machine.{ask_event, deliver_event, release_event, step}
+use Rattle.tw_code.specs.machine.Opening.{opening}
+use Rattle.tw_code.specs.machine.State.{State}
+use Rattle.tw_code.proofs.Leaving.{ask_leaves, deliver_leaves, release_leaves}
+use Rattle.tw_code.proofs.Runs.{run_more}
+use Rattle.tw_verify.specs.Typed.{TypedProgram}
+use Rattle.tw_frame.specs.Jobs.{FrameView, bare_frame}
+use Rattle.tw_parts.specs.Events.{Goes, Untouched}
+use Rattle.tw_parts.specs.Fits.{AreParts, IsReached}
+use Rattle.tw_parts.specs.Parts.{state_of}
+use Rattle.tw_parts.specs.declared.parts.Parts.{Parts}
+use Rattle.tw_pool.specs.Actors.{HasPlace, events_of, same_actor}
+use Rattle.tw_pool.specs.Kept.{AreLent, IsKept}
+use Rattle.tw_pool.proofs.Counting.{itself, of_more, the_same}
+
+-- ---- who made an event more
+
+pub others_count : (actor : Actor) (history : List Event) (e : Event) → same_actor (actor_of e) actor ≡ false → length (events_of actor (history ++ e ∷ [])) ≡ length (events_of actor history)
+others_count actor history e other =
+    let more = ap (λ es. length es) (of_more actor history e ∙ ap (λ b. events_of actor history ++ cond b (e ∷ []) []) other) in
+    let long = length-append (events_of actor history) [] in
+    omega (arith, more, long)
+
+pub own_count : (actor : Actor) (history : List Event) (e : Event) → actor_of e ≡ actor → length (events_of actor (history ++ e ∷ [])) ≡ length (events_of actor history) + 1
+own_count actor history e is =
+    let yes : same_actor (actor_of e) actor ≡ true = ap (λ a. same_actor a actor) is ∙ itself actor in
+    let more = ap (λ es. length es) (of_more actor history e ∙ ap (λ b. events_of actor history ++ cond b (e ∷ []) []) yes) in
+    let long = length-append (events_of actor history) (e ∷ []) in
+    omega (arith, more, long)
+
+-- ---- an actor of the layout has a place
+
+pub has_place : (layout : ActorCounts) (actor : Actor) → IsLayout layout → is_in layout actor ≡ true → HasPlace actor
+has_place layout (Engine number) counts there = let below = ltb-true number layout.engines there in omega (arith, below, counts.few_engines)
+has_place layout (Server number) counts there = let below = ltb-true number layout.servers there in omega (arith, below, counts.few_servers)
+has_place layout (Worker number) counts there = let below = ltb-true number layout.workers there in omega (arith, below, counts.few_workers)
+
+-- ---- an actor without a task
+
+nothing : {X Y : Type 0} (f : X → Y) (o : Option X) → option_map f o ≡ None → o ≡ None
+nothing f None e = refl
+nothing f (Some x) e = cc
+
+pub no_task : (p : Parts) (notices : Notices) (actor : Actor) → get (state_of p notices).frames actor ≡ None → get p.seats actor ≡ None
+no_task p notices actor e = nothing bare_frame (get p.seats actor) (sym (get_mapped bare_frame p.seats actor) ∙ e)
+
+-- ---- what these events leave of the tasks that run
+
+module _ (program : List Procedure) (layout : ActorCounts) (s t : State) where
+  pub ask_frames : (engine rule parameter : ℕ) → step program layout (Ask engine rule parameter) s ≡ Went t → t.frames ≡ s.frames
+  unfolding step
+  ask_frames engine rule parameter e = went_of (ask_event engine rule parameter s) (λ (u : State). u.frames ≡ s.frames) t (ask_leaves s {P = λ (u : State). u.frames ≡ s.frames} engine rule parameter (λ _ _ _ _. refl) (λ _ _ _ _. refl)) e
+
+  pub deliver_frames : (server : ℕ) (n : Notice) → step program layout (Deliver server n.datum n.rule n.parameter) s ≡ Went t → t.frames ≡ s.frames
+  unfolding step
+  deliver_frames server n e = went_of (deliver_event layout server n s) (λ (u : State). u.frames ≡ s.frames) t (deliver_leaves s {P = λ (u : State). u.frames ≡ s.frames} layout server n (λ _ _. refl) (λ _ _ _. refl)) e
+
+  pub release_frames : (engine rule : ℕ) → step program layout (Release engine rule) s ≡ Went t → t.frames ≡ s.frames
+  unfolding step
+  release_frames engine rule e = went_of (release_event program engine rule s) (λ (u : State). u.frames ≡ s.frames) t (release_leaves s {P = λ (u : State). u.frames ≡ s.frames} program engine rule (λ _ _ _ _. refl)) e
+
+-- ---- the parts
+
+module _ (verified : TypedProgram) (inputs : List Input) (layout : ActorCounts) (limit : ℕ) (history : List Event) (old : Parts) (h : IsKept verified inputs layout limit history old) where
+  -- one event more
+  pub one_more : (event : Event) (new : Parts) → Goes verified layout event old h.notices new → length history < limit → AreLent (history ++ event ∷ []) new.seats → IsKept verified inputs layout limit (history ++ event ∷ []) new
+  one_more event new goes room lent =
+      let long = length-append history (event ∷ []) in
+      record {
+        given = h.given;
+        few = h.few;
+        within = omega (arith, long, room);
+        notices = goes.left;
+        replays = run_more verified.program layout history event (opening verified.program inputs) (state_of old h.notices) (state_of new goes.left) h.replays goes.step_is;
+        parts = goes.parts;
+        lent = λ _. lent;
+      }
+
+  -- the others' tasks were lent before
+  others_lent : (event : Event) (new : Parts) → Goes verified layout event old h.notices new → length history < limit
+      → ((f : FrameView) → get new.seats (actor_of event) ≡ Some f → f.event_no ≡ length (events_of (actor_of event) (history ++ event ∷ []))) → AreLent (history ++ event ∷ []) new.seats
+  others_lent event new goes room own actor f at = by (same_actor (actor_of event) actor) refl
+    where
+      by : (b : Bool) → same_actor (actor_of event) actor ≡ b → f.event_no ≡ length (events_of actor (history ++ event ∷ []))
+      by true same =
+          let who = the_same (actor_of event) actor same in
+          own f (ap (get new.seats) who ∙ at) ∙ ap (λ a. length (events_of a (history ++ event ∷ []))) who
+      by false other =
+          let apart : actor ≢ actor_of event = λ e. let yes : true ≡ false = sym (itself actor) ∙ ap (λ a. same_actor a actor) e ∙ other in cc in
+          h.lent room actor f (sym (goes.others actor apart) ∙ at) ∙ sym (others_count actor history event other)
+
+  -- an event of an actor that has no task, before and after
+  pub made_free : (event : Event) (new : Parts) (goes : Goes verified layout event old h.notices new) → length history < limit
+      → get (state_of old h.notices).frames (actor_of event) ≡ None → (state_of new goes.left).frames ≡ (state_of old h.notices).frames → IsKept verified inputs layout limit (history ++ event ∷ []) new
+  made_free event new goes room free same =
+      let none : get new.seats (actor_of event) ≡ None = no_task new goes.left (actor_of event) (ap (λ m. get m (actor_of event)) same ∙ free) in
+      one_more event new goes room (others_lent event new goes room (λ f at. let no : None ≡ Some f = sym none ∙ at in cc))
+
+  -- an event whose actor's task is lent by its number
+  pub made_lent : (event : Event) (new : Parts) (goes : Goes verified layout event old h.notices new) → length history < limit
+      → ((f : FrameView) → get new.seats (actor_of event) ≡ Some f → f.event_no ≡ length (events_of (actor_of event) (history ++ event ∷ []))) → IsKept verified inputs layout limit (history ++ event ∷ []) new
+  made_lent event new goes room own = one_more event new goes room (others_lent event new goes room own)
+
+  module _ (new : Parts) (u : Untouched old new) where
+    pub same_state : state_of new h.notices ≡ state_of old h.notices
+    same_state = λ i. record {
+      store = u.store.store i;
+      rules = mapped bare_rule (u.rules i);
+      next_rule = u.next_rule i;
+      tasks = mapped bare_task (u.tasks i);
+      next_task = u.next_task i;
+      frames = mapped bare_frame (u.seats i);
+      notices = h.notices;
+      outputs = each (λ (right : Right). right.id) (u.outputs i);
+    }
+
+    still_parts : AreParts verified layout new h.notices
+    still_parts = record {
+      runnable = h.parts.runnable;
+      law = subst (IsReached verified.program layout) (sym same_state) h.parts.law;
+      queued = rw (u.store.queues) h.parts.queued;
+      servers = ap length u.store.queues ∙ h.parts.servers;
+      stand = rw (u.store.places, u.seats, u.tasks, u.rules, u.outputs) h.parts.stand;
+    }
+
+    -- nothing was touched
+    pub still : IsKept verified inputs layout limit history new
+    still = record {
+      given = h.given;
+      few = h.few;
+      within = h.within;
+      notices = h.notices;
+      replays = h.replays ∙ ap Went (sym same_state);
+      parts = still_parts;
+      lent = λ room. subst (AreLent history) (sym u.seats) (h.lent room);
+    }

@@ -1,0 +1,64 @@
+-- What is true of the parts of every pool, with its history.
+use Rattle.std.specs.Prelude.{◌≡◌, ◌≤◌, ◌<◌, ℕ, List, Some, None, IsSome, length}
+use Rattle.std.specs.FinMap.{get}
+use Rattle.tw_types.specs.declared.actor.Actor.{Actor}
+use Rattle.tw_types.specs.declared.actor.Actor.TheVariants.{Engine, Server, Worker}
+use Rattle.tw_types.specs.declared.event.Event.{Event}
+use Rattle.tw_types.specs.declared.input.Input.{Input}
+use Rattle.tw_types.specs.Layout.{ActorCounts}
+use Rattle.tw_types.specs.Notices.{Notices}
+use Rattle.tw_types.specs.Outcome.{Went}
+use Rattle.tw_types.specs.Rule.{next_ask, next_release}
+use Rattle.tw_code.specs.machine.Inputs.{AreInputsOf}
+use Rattle.tw_code.specs.machine.Opening.{reached}
+use Rattle.tw_code.specs.machine.State.{State}
+use Rattle.tw_verify.specs.Typed.{TypedProgram}
+use Rattle.tw_frame.specs.Jobs.{DoneView, FrameView}
+use Rattle.tw_parts.specs.Fits.{AreParts}
+use Rattle.tw_parts.specs.Parts.{state_of}
+use Rattle.tw_parts.specs.Seats.{Seated}
+use Rattle.tw_parts.specs.declared.parts.Parts.{Parts}
+use Rattle.tw_pool.specs.Actors.{events_of}
+use Rattle.tw_pool.specs.PoolView.{PoolView, HasState}
+use Rattle.tw_pool.specs.Turns.{lent_to}
+
+-- each task was lent last by the number of its actor's events
+abbrev pub AreLent : List Event → Seated → Type 0
+AreLent history seats = (actor : Actor) (f : FrameView) → get seats actor ≡ Some f → f.event_no ≡ length (events_of actor history)
+
+-- the state that the parts stand for is the one to which the history leads
+pub record IsKept (verified : TypedProgram) (inputs : List Input) (layout : ActorCounts) (limit : ℕ) (history : List Event) (p : Parts) : Type 0 where
+  pub given : AreInputsOf verified.program inputs
+  pub few : limit ≤ 1000000
+  pub within : length history ≤ limit
+  pub notices : Notices
+  pub replays : reached verified.program inputs layout history ≡ Went (state_of p notices)
+  pub parts : AreParts verified layout p notices
+  -- a task that has gone on to the last event isn't lent again
+  pub lent : length history < limit → AreLent history p.seats
+
+-- what is so in the pool's state
+abbrev pub InState : PoolView → (State → Type 0) → Type 0
+InState p Holds = (s : State) → HasState p s → Holds s
+
+abbrev pub IsFree : PoolView → Actor → Type 0
+IsFree p actor = InState p (λ s. get s.frames actor ≡ None)
+
+abbrev pub HasTask : PoolView → Actor → Type 0
+HasTask p actor = InState p (λ s. IsSome (get s.frames actor))
+
+abbrev pub AsksNone : PoolView → ℕ → Type 0
+AsksNone p engine = InState p (λ s. next_ask engine s.rules ≡ None)
+
+abbrev pub ReleasesNone : PoolView → ℕ → Type 0
+ReleasesNone p engine = InState p (λ s. next_release engine s.rules ≡ None)
+
+-- nothing goes before its taking of a task
+abbrev pub MayTakeNow : PoolView → Actor → Type 0
+MayTakeNow p (Engine engine) = AsksNone p engine × ReleasesNone p engine
+MayTakeNow p (Server server) = ⊥
+MayTakeNow p (Worker worker) = Unit {0}
+
+-- the Done is of the job that is lent to the actor
+abbrev pub IsOwedBy : PoolView → Actor → DoneView → Type 0
+IsOwedBy p actor done = InState p (λ s. lent_to p s actor ≡ Some done.before)

@@ -1,0 +1,131 @@
+-- What a turn answers, and which events it appends: a table, of whose lines the first that fits is taken.
+use Rattle.std.specs.Prelude.{◌≡◌, ◌≢◌, ◌⊎◌, ◌+◌, ◌≤◌, ◌==◌, Bool, true, false, not, ◌&&◌, if◌then◌else◌, List, [], ◌∷◌, ◌++◌, length, Option, Some, None, slice_get}
+use Rattle.std.specs.FinMap.{get}
+use Rattle.std.specs.Option.{option_and_then, option_map, option_or}
+use Rattle.tw_types.specs.declared.actor.Actor.{Actor}
+use Rattle.tw_types.specs.declared.ending.Ending.{Ending}
+use Rattle.tw_types.specs.declared.ending.Ending.TheVariants as ending
+use Rattle.tw_types.specs.declared.event.Event.{Event}
+use Rattle.tw_types.specs.declared.event.Event.TheVariants.{Take, Local, Call, End, Ask, Deliver, Release}
+use Rattle.tw_code.specs.declared.instr.Instr.{Instr}
+use Rattle.tw_code.specs.declared.procedure.Procedure.{Procedure}
+use Rattle.tw_code.specs.machine.Due.{IsDueFree, event_of}
+use Rattle.tw_code.specs.machine.Ending.{ending}
+use Rattle.tw_code.specs.machine.State.{Frame, State}
+use Rattle.tw_frame.specs.Jobs.{DoneView, JobView}
+use Rattle.tw_pool.specs.declared.answer.Closing.{Closing}
+use Rattle.tw_pool.specs.declared.answer.Closing.TheVariants.{Quiet, Stuck, Stopped, Limit}
+use Rattle.tw_pool.specs.declared.answer.Turn.{Turn}
+use Rattle.tw_pool.specs.declared.answer.Turn.TheVariants.{Over, Foreign, Owed, NoMemory, Run, Ended, Went, Idle}
+use Rattle.tw_pool.specs.Actors.{events_of}
+use Rattle.tw_pool.specs.PoolView.{PoolView, HasState, with_events}
+
+-- ---- what is so before
+
+-- why no event is made any more: the run has ended by itself; else it was stopped; else there is room for no event
+abbrev pub closing_of : Ending → Closing
+closing_of ending.Quiet = Quiet
+closing_of (ending.Stuck rules) = Stuck rules
+
+abbrev pub closing_at : PoolView → State → Option Closing
+closing_at p s = option_or (option_map closing_of (ending s)) (if p.stopped then Some Stopped else if length p.history == p.limit then Some Limit else None)
+
+-- the job that is lent to an actor: where its task stands, by the number of the actor's events
+abbrev pub lent_to : PoolView → State → Actor → Option JobView
+lent_to p s actor =
+    option_map (λ (f : Frame). record { program = p.program; task = f.task; procedure = f.procedure; actor = actor; event_no = length (events_of actor p.history); position = f.position }) (get s.frames actor)
+
+-- ---- what a line says of answer and events
+
+abbrev pub Line : Type 1
+Line = Turn → List Event → Type 0
+
+abbrev pub Answers : Turn → List Event → Line
+Answers wanted appended answer events = (answer ≡ wanted) × (events ≡ appended)
+
+-- the job that is lent to the actor when these events are appended
+abbrev pub Lends : PoolView → Actor → List Event → Line
+Lends p actor appended answer events =
+    (s : State) × HasState (with_events p appended) s × (job : JobView) × (lent_to (with_events p appended) s actor ≡ Some job) × Answers (Run job) appended answer events
+
+-- or memory is refused, and then nothing is appended and a Done comes back
+abbrev pub OrNoMemory : Option DoneView → Line → Line
+OrNoMemory given line answer events = line answer events ⊎ Answers (NoMemory given) [] answer events
+
+abbrev pub Never : Line
+Never answer events = ⊥
+
+-- ---- the line of an event that is made behind others; where nothing grows memory isn't refused
+
+abbrev pub Makes : PoolView → Actor → Option DoneView → List Event → Event → Line
+Makes p actor given before (Take a) = OrNoMemory given (Lends p actor (before ++ Take a ∷ []))
+Makes p actor given before (Local a steps) = Never
+Makes p actor given before (Call a) = OrNoMemory given (Lends p actor (before ++ Call a ∷ []))
+Makes p actor given before (End a) = Answers Ended (before ++ End a ∷ [])
+Makes p actor given before (Ask engine rule parameter) = OrNoMemory given (Answers Went (before ++ Ask engine rule parameter ∷ []))
+Makes p actor given before (Deliver server datum rule parameter) = Answers Went (before ++ Deliver server datum rule parameter ∷ [])
+Makes p actor given before (Release engine rule) = OrNoMemory given (Answers Went (before ++ Release engine rule ∷ []))
+
+-- ---- a Done of the job that is lent
+
+-- its steps, if there are any
+abbrev pub steps_of : Actor → DoneView → List Event
+steps_of actor done = if done.steps == 0 then [] else Local actor done.steps ∷ []
+
+-- the instruction to which they lead
+abbrev pub instr_behind : List Procedure → DoneView → Option Instr
+instr_behind program done = option_and_then (λ (p : Procedure). slice_get p.code done.after.place) (slice_get program done.before.procedure)
+
+-- two events are wanted, and there is room for one
+abbrev pub is_last : PoolView → DoneView → Bool
+is_last p done = not (done.steps == 0) && (length p.history + 1 == p.limit)
+
+-- The job goes on where it is short: its Done has the values of the next one, so that no memory is taken. Else the
+-- instruction behind the steps is done, if there is room for both.
+abbrev pub TakesBack : Bool → Bool → PoolView → Actor → DoneView → Line
+TakesBack true last p actor done = Lends p actor (steps_of actor done)
+TakesBack false true p actor done = Answers (Over Limit) (steps_of actor done)
+TakesBack false false p actor done = Makes p actor (Some done) (steps_of actor done) (event_of actor (instr_behind p.program.program done))
+
+-- ---- an actor without a job: an event that is due is made, or none is due
+
+abbrev pub GoesFree : PoolView → State → Actor → Line
+GoesFree p s actor answer events =
+    ((due : Event) × IsDueFree p.layout actor s due × Makes p actor None [] due answer events)
+    ⊎ (((due : Event) → IsDueFree p.layout actor s due → ⊥) × Answers Idle [] answer events)
+
+-- ---- all lines
+
+-- a Done of the job that is lent, or of another
+abbrev pub HandsIn : PoolView → Actor → JobView → DoneView → Line
+HandsIn p actor job done answer events =
+    ((done.before ≡ job) × TakesBack done.short (is_last p done) p actor done answer events) ⊎ ((done.before ≢ job) × Answers (Foreign done) [] answer events)
+
+-- by the job that is lent, and the Done
+abbrev pub Turns : PoolView → State → Actor → Option JobView → Option DoneView → Line
+Turns p s actor None None = GoesFree p s actor
+Turns p s actor None (Some done) = Answers (Foreign done) []
+Turns p s actor (Some job) None = Answers Owed []
+Turns p s actor (Some job) (Some done) = HandsIn p actor job done
+
+-- where the run isn't over
+abbrev pub TurnsUnless : Option Closing → PoolView → State → Actor → Option DoneView → Line
+TurnsUnless (Some closing) p s actor given = Answers (Over closing) []
+TurnsUnless None p s actor given = Turns p s actor (lent_to p s actor) given
+
+-- a line in the pool's state, and nothing but its events is new
+pub record IsTurnBy (line : State → Line) (old : PoolView) (answer : Turn) (new : PoolView) : Type 0 where
+  pub state : State
+  pub has_state : HasState old state
+  pub events : List Event
+  pub is : line state answer events
+  pub appended : new ≡ with_events old events
+
+-- one turn of an actor, with a Done or none
+abbrev pub IsTurn : PoolView → Actor → Option DoneView → Turn → PoolView → Type 0
+IsTurn old actor given answer new = IsTurnBy (λ s. TurnsUnless (closing_at old s) old s actor given) old answer new
+
+-- what follows for every turn: one or two events at most, all of the actor
+pub record AreOwn (actor : Actor) (events : List Event) : Type 0 where
+  pub few : length events ≤ 2
+  pub own : events_of actor events ≡ events

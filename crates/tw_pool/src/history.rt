@@ -1,0 +1,95 @@
+//! The events of a run, in order.
+
+ghost use Rattle.std.specs.Prelude.{◌≡◌, ◌<◌, ◌++◌, ◌∷◌, ◌+◌, ◌==◌, [], IfOk, Some, length, slice_get};
+ghost use Rattle.tw_pool.specs.Actors.{HasPlace, events_of};
+ghost use Rattle.tw_pool.specs.Words.{FitsWord};
+
+use crate::words::{maker, pack, place_of, unpack};
+use std::alloc::{AllocError, Global};
+use std::marker::Model;
+use tw_types::{Actor, Event};
+
+/// Events in the order in which they were made, each kept in one word, with room for as many as there may be.
+#[derive(Drop)]
+pub struct History {
+    words: Vec<u64>,
+    limit: usize,
+    /// How many events each actor made, by its place.
+    counts: [u64; 24],
+}
+
+impl Model for History {
+    ghost use Rattle.tw_pool.specs.Words.{events_in};
+    ghost use Rattle.tw_pool.specs.History.{HistoryView};
+
+    ghost Value = { HistoryView };
+
+    ghost view = { λ h. record { events = events_in h.words.items; limit = h.limit } };
+
+    ghost use Rattle.std.specs.Prelude.{◌≤◌, vec_capacity};
+    ghost use Rattle.tw_pool.specs.Actors.{AreCounts};
+
+    ghost invariant = { λ h. (h.limit ≤ vec_capacity h.words) × AreCounts h.counts (events_in h.words.items) };
+}
+
+impl History {
+    /// No event, and room for so many.
+    pub fn with_capacity(alloc: Global, limit: usize) -> Result<History, AllocError>
+        ensures { IfOk result (λ h. h ≡ record { events = []; limit = limit }) }
+    {
+        Ok(History {
+            words: Vec::with_capacity(alloc, limit)?,
+            limit,
+            counts: [0; 24],
+        })
+    }
+
+    /// How many events there are.
+    pub fn len(&self) -> usize
+        ensures { result ≡ length self.now.events }
+    {
+        self.words.len()
+    }
+
+    /// Whether there are as many events as there may be.
+    pub fn is_full(&self) -> bool
+        ensures { result ≡ (length self.now.events == self.now.limit) }
+    {
+        self.words.len() == self.limit
+    }
+
+    /// Whether there may be just one event more.
+    pub(crate) fn has_room_for_one(&self) -> bool
+        requires { length self.now.events < self.now.limit }
+        ensures { result ≡ (length self.now.events + 1 == self.now.limit) }
+    {
+        self.words.len() + 1 == self.limit
+    }
+
+    /// How many events of an actor there are.
+    pub fn count(&self, actor: Actor) -> u64
+        requires { HasPlace actor }
+        ensures { result ≡ length (events_of actor self.now.events) }
+    {
+        self.counts[place_of(actor) as usize]
+    }
+
+    /// The event before which there are so many.
+    pub fn event(&self, index: usize) -> Event
+        requires { index < length self.now.events }
+        ensures { slice_get self.now.events index ≡ Some result }
+    {
+        unpack(self.words[index])
+    }
+
+    /// Tells one event more.
+    pub fn push(&mut self, event: Event)
+        requires fits { FitsWord event }
+        requires room { length self.old.events < self.old.limit }
+        ensures { self.new ≡ record self.old { events = self.old.events ++ event ∷ [] } }
+    {
+        let word = pack(event);
+        self.words.push_reserved(word);
+        self.counts[maker(word)] += 1;
+    }
+}

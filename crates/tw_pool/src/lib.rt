@@ -1,0 +1,16 @@
+//! A run under one lock: its parts, and the history of its events.
+#![tactic(auto)]
+
+mod answer;
+mod ends;
+mod free;
+mod hand_in;
+mod history;
+mod pool;
+mod turn;
+mod words;
+
+pub use answer::{Closing, Turn};
+pub use ends::Final;
+pub use history::History;
+pub use pool::Pool;

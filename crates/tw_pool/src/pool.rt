@@ -1,0 +1,79 @@
+//! The pool.
+
+ghost use Rattle.std.specs.Prelude.{◌≡◌, ◌<◌, length, true};
+ghost use Rattle.tw_pool.specs.Actors.{HasPlace, events_of};
+
+use crate::history::History;
+use std::marker::Model;
+use tw_parts::Parts;
+use tw_types::{Actor, Input, Layout};
+use tw_verify::Verified;
+
+/// A run of a program: its parts, and the history of its events. Contracts see what is run, and the history; the state is
+/// the machine's, to which the history leads.
+pub struct Pool<'a> {
+    pub(crate) verified: &'a Verified,
+    pub(crate) inputs: &'a [Input],
+    pub(crate) layout: Layout,
+    pub(crate) stopped: bool,
+    pub(crate) history: History,
+    pub(crate) parts: Parts<'a>,
+}
+
+impl<'a> Model for Pool<'a> {
+    ghost use Rattle.tw_pool.specs.PoolView.{PoolView};
+
+    ghost Value = { PoolView };
+
+    ghost use Rattle.tw_pool.specs.Kept.{IsKept};
+
+    ghost view = { λ p. record {
+      program = p.verified.now;
+      inputs = p.inputs.now;
+      layout = p.layout;
+      limit = p.history.limit;
+      stopped = p.stopped;
+      history = p.history.events;
+    } };
+
+    ghost invariant = { λ p. IsKept p.verified.now p.inputs.now p.layout p.history.limit p.history.events p.parts };
+}
+
+impl<'a> Pool<'a> {
+    /// Stops the run: no turn makes an event any more.
+    pub fn stop(&mut self)
+        ensures { self.new ≡ record self.old { stopped = true } }
+    {
+        self.stopped = true;
+    }
+
+    /// The events that were made, in order.
+    pub fn history(&self) -> &History
+        ensures events { result.now.events ≡ self.now.history }
+        ensures limit { result.now.limit ≡ self.now.limit }
+    {
+        &self.history
+    }
+
+    /// How many events of an actor there are.
+    pub fn count(&self, actor: Actor) -> u64
+        requires { HasPlace actor }
+        ensures { result ≡ length (events_of actor self.now.history) }
+    {
+        self.history.count(actor)
+    }
+
+    /// The program that is run.
+    pub fn program(&self) -> &'a Verified
+        ensures { result.now ≡ self.now.program }
+    {
+        self.verified
+    }
+
+    /// The actors.
+    pub fn layout(&self) -> Layout
+        ensures { result ≡ self.now.layout }
+    {
+        self.layout
+    }
+}

@@ -1,0 +1,98 @@
+//! An event in one word.
+
+ghost use Rattle.std.specs.Prelude.{◌≡◌, ◌<◌, ◌+◌, ◌*◌, ◌%◌, ◌/◌, ◌^◌};
+ghost use Rattle.tw_code.specs.machine.History.{actor_of};
+ghost use Rattle.tw_pool.specs.Actors.{HasPlace, actor_at, place_of};
+ghost use Rattle.tw_pool.specs.Words.{FitsWord, unpack, word_of};
+
+use tw_types::{Actor, DatumId, Event, RuleNo};
+
+/// The actor's place among all that may be.
+pub(crate) fn place_of(actor: Actor) -> u64
+    requires { HasPlace actor }
+    ensures is { result ≡ place_of actor }
+    ensures low { result < 24 }
+{
+    match actor {
+        Actor::Engine(number) => u64::from(number),
+        Actor::Server(number) => 4 + u64::from(number),
+        Actor::Worker(number) => 8 + u64::from(number),
+    }
+}
+
+/// The actor of a place.
+fn actor_at(place: u64) -> Actor
+    requires { place < 32 }
+    ensures { result ≡ actor_at place }
+{
+    if place < 4 {
+        Actor::Engine(place as u8)
+    } else if place < 8 {
+        Actor::Server((place - 4) as u8)
+    } else {
+        Actor::Worker((place - 8) as u8)
+    }
+}
+
+/// The place of who made the event of a word.
+pub(crate) fn maker(word: u64) -> usize
+    ensures { result ≡ word / 8 % 32 }
+{
+    (word / 8 % 32) as usize
+}
+
+/// A word with this kind, for an actor.
+fn word(kind: u64, actor: Actor, numbers: u64) -> u64
+    requires actor { HasPlace actor }
+    requires kind { kind < 8 }
+    requires numbers { numbers < 2 ^ 56 }
+    ensures { result ≡ kind + 8 * (place_of actor + 32 * numbers) }
+{
+    kind + 8 * (place_of(actor) + 32 * numbers)
+}
+
+/// The word of an event.
+pub(crate) fn pack(event: Event) -> u64
+    requires { FitsWord event }
+    ensures { result ≡ word_of event }
+{
+    match event {
+        Event::Take(actor) => word(0, actor, 0),
+        Event::Local(actor, steps) => word(1, actor, steps),
+        Event::Call(actor) => word(2, actor, 0),
+        Event::End(actor) => word(3, actor, 0),
+        Event::Ask(engine, rule, parameter) => {
+            let numbers = u64::from(parameter) + 8 * rule.number();
+            word(4, Actor::Engine(engine), numbers)
+        }
+        Event::Deliver(server, datum, rule, parameter) => {
+            let data = rule.number() + 16_777_216 * datum.number();
+            word(5, Actor::Server(server), u64::from(parameter) + 8 * data)
+        }
+        Event::Release(engine, rule) => word(6, Actor::Engine(engine), rule.number()),
+    }
+}
+
+/// The event of a word.
+#[tactic(auto, unfolding(crate::specs::Words::unpack))]
+pub(crate) fn unpack(word: u64) -> Event
+    ensures { result ≡ unpack word }
+{
+    let actor = actor_at(word / 8 % 32);
+    let numbers = word / 256;
+    let parameter = (numbers % 8) as u8;
+    match word % 8 {
+        0 => Event::Take(actor),
+        1 => Event::Local(actor, numbers),
+        2 => Event::Call(actor),
+        3 => Event::End(actor),
+        4 => Event::Ask(actor.number(), RuleNo::new(numbers / 8), parameter),
+        5 => Event::Deliver(
+            actor.number(),
+            DatumId::new(numbers / 8 / 16_777_216),
+            RuleNo::new(numbers / 8 % 16_777_216),
+            parameter,
+        ),
+        _ => Event::Release(actor.number(), RuleNo::new(numbers)),
+    }
+}
