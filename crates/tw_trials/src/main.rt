@@ -62,7 +62,7 @@ fn whole_trials(rt: &HostRuntime, agreeing: u64) -> io::Result<u64> {
     let agreeing = told(
         rt,
         agreeing,
-        "worked rows of jobs",
+        "worked examples of jobs",
         worked::first_row(alloc),
     )?;
     let jobs = jobs::first_stretch(alloc, 10_000, MOST);

@@ -1,4 +1,4 @@
-//! Worked rows: what each local instruction does in a job, counted by hand.
+//! Worked examples: what each local instruction does in a job, counted by hand.
 
 use crate::jobs::{Stretch, stretch_of};
 use crate::stretches::spelled;
