@@ -1,0 +1,36 @@
+#!/bin/sh
+# Runs a program once for each request for memory that it makes, with that request refused, and prints how often it ended in
+# which way: its status, and the last line that it wrote.
+#
+#   tools/refused.sh [-n MOST] PROGRAM [WORDS..] < INPUT
+#
+# The C library's own requests are among those that are counted. It needs a C compiler.
+set -e
+most=0
+[ "$1" = "-n" ] && { most=$2; shift 2; }
+[ $# -gt 0 ] || { sed -n '2,7s/^# \{0,1\}//p' "$0"; exit 2; }
+here=$(dirname "$(readlink -f "$0")")
+room=$(mktemp -d)
+trap 'rm -rf "$room"' EXIT
+cc -O2 -shared -fPIC -o "$room/refuse.so" "$here/refuse.c" -ldl
+cat >"$room/input"
+
+# Runs the program with the request of this number refused, and tells in `requests` how many it made.
+run_refusing() {
+    number=$1
+    shift
+    status=0
+    rm -f "$room/count"
+    REFUSE=$number REPORT=$room/count LD_PRELOAD=$room/refuse.so "$@" <"$room/input" >"$room/out" 2>"$room/err" || status=$?
+    requests=$(cat "$room/count" 2>/dev/null || echo "$number")
+}
+
+: >"$room/ends"
+next=1
+while run_refusing "$next" "$@"; [ "$requests" -ge "$next" ]; do
+    printf 'status %s, %s\n' "$status" "$(tail -n 1 "$room/out")" >>"$room/ends"
+    [ "$next" = "$most" ] && break
+    next=$((next + 1))
+done
+echo "$(wc -l <"$room/ends") requests, each refused once"
+sort "$room/ends" | uniq -c | sort -rn
