@@ -4,7 +4,7 @@
 #
 #   tools/refused.sh [-n MOST] PROGRAM [WORDS..] < INPUT
 #
-# The C library's own requests are among those that are counted. It needs a C compiler.
+# The runtime's own requests are among those that are counted. It needs a C compiler.
 set -e
 most=0
 [ "$1" = "-n" ] && { most=$2; shift 2; }
