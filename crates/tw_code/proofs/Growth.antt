@@ -29,7 +29,7 @@ use Rattle.tw_types.specs.Mode.{is_write}
 use Rattle.tw_types.specs.Nesting.{NestedScalar}
 use Rattle.tw_types.specs.Outcome.{Went}
 use Rattle.tw_types.specs.Result.{must}
-use Rattle.tw_types.specs.Store.{Members, Unset, Contains, Datum, Data, Store, added, drop_read_within, empty_store, is_closed, is_unheld, members_of, new_datum, read_taken_by, settled_by, subscribers_cleared}
+use Rattle.tw_types.specs.Store.{Members, Unset, Contains, Datum, Data, Store, added, drop_read_within, is_closed, is_unheld, members_of, new_datum, read_taken_by, settled_by, subscribers_cleared}
 use Rattle.tw_types.specs.StoreCalls as store
 use Rattle.tw_types.specs.StoreCalls.{changed, created, inserted, member_at, members_in, one_read_more, one_write_less, one_write_more, read_copied, read_dropped, set_to, store_after, stored, with_member, write_copied, write_dropped, subscribed, with_subscriber}
 use Rattle.tw_types.specs.StoreChecks.{may_be_read, may_copy_write, may_drop_read, may_drop_write, may_insert, may_look, may_read_members, may_retrieve, may_store}
@@ -48,7 +48,7 @@ use Rattle.tw_code.specs.machine.Bounds.{AreBelow, AreNumbersBelow, OpeningIsSma
 use Rattle.tw_code.specs.machine.Data.{Context, after_insert, after_look, data_instr, datum_at, datum_of, suits}
 use Rattle.tw_code.specs.machine.Inputs.{are_inputs_of, are_few, input_params, is_input_of, is_short, rises}
 use Rattle.tw_code.specs.machine.Machine.{Standing, step}
-use Rattle.tw_code.specs.machine.Opening.{Opened, closed_scalar, main_params, numbered, opened, opening, with_container, with_given, with_input, with_output}
+use Rattle.tw_code.specs.machine.Opening.{Opened, closed_scalar, main_params, nothing_opened, numbered, opened, opening, with_container, with_given, with_input, with_output}
 use Rattle.tw_code.specs.machine.Position.{int_at, must_have_type, value_at}
 use Rattle.tw_code.specs.machine.Rights.{Rights, held, must_be_empty}
 use Rattle.tw_code.specs.machine.State.{Frame, Frames, State, context_of, filled, frame_of, values_in, gone_behind, with_frame, with_rule, with_task, new_rule}
@@ -427,7 +427,7 @@ small_room (p ∷ params) = omega (arith, small_room params)
 pub opening_is_small : (program : List Procedure) (inputs : List Input) → OpeningIsSmall program inputs
 unfolding opening
 opening_is_small program inputs within fit =
-    let fresh = fresh_opened (main_params program) inputs 0 (record { store = empty_store; rights = []; outputs = [] }) fit.fit
+    let fresh = fresh_opened (main_params program) inputs 0 nothing_opened fit.fit
     (record { next = omega arith; few = each_empty nat_cmp IsFew }) in
     let room = small_room (main_params program) in
     let few = few_params program within in

@@ -7,6 +7,7 @@ mod actions;
 pub mod compute;
 mod fault;
 mod flow;
+mod inputs;
 mod instr;
 mod items;
 mod laws;
@@ -22,6 +23,7 @@ mod writing;
 
 pub use fault::{Fault, FaultNo, NoMemory};
 pub use flow::{Flow, Way, flow_at};
+pub use inputs::{has_fitting_inputs, has_input_count};
 pub use instr::{Action, Arithmetic, DataInstr, Instr, LocalInstr};
 pub use laws::{numbers_grow, shown_and_read, some_enabled, takes_once};
 pub use main_shape::{has_main_shape, main_params};

@@ -10,10 +10,10 @@ use Rattle.tw_code.specs.accepting.MainShape.{has_main_shape}
 use Rattle.tw_code.specs.format.Program.{IsProgram}
 use Rattle.tw_code.specs.machine.Bounds.{AreBelow, opening_bound}
 use Rattle.tw_code.specs.machine.Inputs.{AreInputsOf, are_inputs_of, has_fitting_inputs, has_input_count, input_params, is_input_of}
-use Rattle.tw_code.specs.machine.Opening.{Opened, main_params, opened, opening, opening_of, with_given, with_output}
+use Rattle.tw_code.specs.machine.Opening.{Opened, main_params, nothing_opened, opened, opening, opening_of, with_given, with_output}
 use Rattle.tw_code.specs.machine.State.{State}
 use Rattle.tw_code.proofs.Growth.{opening_is_small}
-use Rattle.tw_machine.specs.Opening.{nothing_opened, refusal_of}
+use Rattle.tw_machine.specs.Opening.{refusal_of}
 use Rattle.tw_machine.specs.declared.refusal.OpenRefusal.TheVariants.{InputCount, InputType, MainShape}
 use Rattle.tw_machine.proofs.InputData.{input_next}
 

@@ -1,10 +1,8 @@
 -- How an opening is refused.
-use Rattle.std.specs.Prelude.{◌≡◌, ℕ, not, if◌then◌else◌, List, [], Option, Some, None}
+use Rattle.std.specs.Prelude.{◌≡◌, ℕ, not, if◌then◌else◌, List, Option, Some, None}
 use Rattle.tw_types.specs.declared.input.Input.{Input}
-use Rattle.tw_types.specs.Store.{empty_store}
 use Rattle.tw_code.specs.declared.procedure.Procedure.{Procedure}
 use Rattle.tw_code.specs.machine.Inputs.{has_input_count, has_fitting_inputs}
-use Rattle.tw_code.specs.machine.Opening.{Opened}
 use Rattle.tw_code.specs.accepting.MainShape.{has_main_shape}
 use Rattle.tw_machine.specs.declared.refusal.OpenRefusal.{OpenRefusal}
 use Rattle.tw_machine.specs.declared.refusal.OpenRefusal.TheVariants.{InputCount, InputType, NoMemory, MainShape}
@@ -15,10 +13,6 @@ open_refusal_number InputCount = 1
 open_refusal_number InputType = 2
 open_refusal_number NoMemory = 5
 open_refusal_number MainShape = 6
-
--- before the first of main's parameters
-abbrev pub nothing_opened : Opened
-nothing_opened = record { store = empty_store; rights = []; outputs = [] }
 
 -- what refuses an opening, if anything but want of memory does: main's shape is asked first, then the number of the
 -- inputs, then what they are

@@ -8,7 +8,6 @@
 #![tactic(auto)]
 
 mod events;
-mod inputs;
 mod opened;
 mod opening;
 mod plain;

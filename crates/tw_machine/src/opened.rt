@@ -2,13 +2,12 @@
 
 ghost use Rattle.std.specs.Prelude.{◌≡◌, ◌+◌, ◌<◌, ◌≤◌, ◌^◌, length, map, IfOk, OnOk, true, false, Some};
 ghost use Rattle.tw_code.specs.machine.Inputs.{are_inputs_of, input_params, is_input_of, is_short};
-ghost use Rattle.tw_code.specs.machine.Opening.{closed_scalar, opened, with_given, with_input, with_output};
+ghost use Rattle.tw_code.specs.machine.Opening.{closed_scalar, nothing_opened, opened, with_given, with_input, with_output};
 ghost use Rattle.tw_types.specs.declared.value.Value.TheVariants.{Int as INT, Text as TEXT};
 ghost use Rattle.std.specs.List.{list_all};
 ghost use Rattle.tw_types.specs.DataType.{is_scalar};
 ghost use Rattle.tw_types.specs.Store.{added};
 ghost use Rattle.tw_machine.specs.Inputs.{closed_container, numbered, with_members};
-ghost use Rattle.tw_machine.specs.Opening.{nothing_opened};
 
 use std::alloc::{AllocError, Global};
 use std::marker::Model;

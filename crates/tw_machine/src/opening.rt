@@ -3,9 +3,8 @@
 ghost use Rattle.std.specs.Prelude.{◌≡◌};
 ghost use Rattle.tw_machine.specs.Opening.{refusal_of};
 
-use crate::inputs::{has_fitting_inputs, has_input_count};
 use crate::refusal::OpenRefusal;
-use tw_code::{Procedure, has_main_shape};
+use tw_code::{Procedure, has_fitting_inputs, has_input_count, has_main_shape};
 use tw_types::Input;
 
 /// What refuses an opening, if anything but want of memory does.

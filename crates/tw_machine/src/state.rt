@@ -12,12 +12,11 @@ ghost use Rattle.tw_code.specs.machine.Bounds.{AreBelow, size_of};
 ghost use Rattle.tw_code.specs.machine.Ending.{ending, is_quiet};
 ghost use Rattle.tw_code.specs.machine.Machine.{step};
 ghost use Rattle.tw_code.specs.machine.Inputs.{are_inputs_of, input_params};
-ghost use Rattle.tw_code.specs.machine.Opening.{opened, opening_of};
+ghost use Rattle.tw_code.specs.machine.Opening.{nothing_opened, opened, opening_of};
 ghost use Rattle.tw_instr.specs.Attempts.{Changes};
 ghost use Rattle.tw_machine.specs.Parts.{rules_of, tasks_of};
 ghost use Rattle.tw_machine.specs.Due.{is_due};
 ghost use Rattle.tw_machine.specs.Memory.{TakesMemory};
-ghost use Rattle.tw_machine.specs.Opening.{nothing_opened};
 ghost use Rattle.tw_machine.specs.Parts.{frames_of};
 
 use crate::events::{calls, rules, tasks};

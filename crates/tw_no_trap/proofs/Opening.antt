@@ -19,7 +19,7 @@ use Rattle.tw_types.specs.DataType.{IsDataType, is_flat}
 use Rattle.tw_types.specs.Mode.{is_closed_mode, is_val, is_write}
 use Rattle.tw_types.specs.Nesting.{NestedScalar}
 use Rattle.tw_types.specs.Rule.{Rule}
-use Rattle.tw_types.specs.Store.{Datum, Store, added, empty_store, new_datum}
+use Rattle.tw_types.specs.Store.{Datum, Store, added, new_datum}
 use Rattle.tw_types.specs.Task.{Arg, RightArg, Task}
 use Rattle.tw_types.specs.Totals.{total}
 use Rattle.tw_types.proofs.Freeing.{balanced_same, hits_other, hits_same}
@@ -29,7 +29,7 @@ use Rattle.tw_code.specs.accepting.MainShape.{has_main_shape, is_main_param}
 use Rattle.tw_code.specs.format.Program.{IsParam, IsTypeUnder}
 use Rattle.tw_code.specs.machine.Holders.{Typings, frame_reads, frame_writes, id_of, read_by, rule_reads, rule_writes, task_reads, task_writes, write_by}
 use Rattle.tw_code.specs.machine.Inputs.{AreInputsOf, are_inputs_of, input_params, is_input_of}
-use Rattle.tw_code.specs.machine.Opening.{Opened, main_task, opened, opening, opening_of, with_given, with_input, with_output}
+use Rattle.tw_code.specs.machine.Opening.{Opened, main_task, nothing_opened, opened, opening, opening_of, with_given, with_input, with_output}
 use Rattle.tw_code.specs.machine.Rights.{RightType, right_of}
 use Rattle.tw_code.specs.machine.State.{Frame}
 use Rattle.tw_no_trap.specs.Invariant.{ArgFits, ArgsFit, Holds, IsHeld, NumbersHeld, TypesHeld, CountsHeld, BudgetsHeld}
@@ -234,7 +234,7 @@ opened_all before (p ∷ params) inputs o h main each count fit =
 nothing_live : (d : ℕ) (x : Datum) → get (empty {X = Datum} {R = nat_cmp}) d ≡ Some x → ⊥
 nothing_live d x e = let none : None ≡ Some x = sym (get-empty nat_cmp d) ∙ e in cc
 
-start_opened : IsOpened [] (record { store = empty_store; rights = []; outputs = [] })
+start_opened : IsOpened [] nothing_opened
 start_opened = record {
   right = record {
     typed = record {
@@ -312,15 +312,15 @@ module _ (main : Procedure) (others : List Procedure) (typings : Typings) (o : O
   }
 
 module _ (main : Procedure) (others : List Procedure) (inputs : List Input) (each : AllByRecursion IsParam main.params) (shape : has_main_shape (main ∷ others) ≡ true) (given : AreInputsOf (main ∷ others) inputs) where
-  main_opened : IsOpened main.params (opened (record { store = empty_store; rights = []; outputs = [] }) main.params inputs)
+  main_opened : IsOpened main.params (opened nothing_opened main.params inputs)
   main_opened =
       let shaped = (and_parts (is_control main.kind) (list_all is_main_param main.params) shape).1 in
-      opened_all [] main.params inputs (record { store = empty_store; rights = []; outputs = [] }) start_opened shaped each (eqb-true (length inputs) (length (input_params main.params)) given.count) given.fit
+      opened_all [] main.params inputs nothing_opened start_opened shaped each (eqb-true (length inputs) (length (input_params main.params)) given.count) given.fit
 
   pub opening_held : (typings : Typings) → IsHeld (main ∷ others) typings (opening (main ∷ others) inputs)
   unfolding opening
   opening_held typings =
-      let o : Opened = opened (record { store = empty_store; rights = []; outputs = [] }) main.params inputs in
+      let o : Opened = opened nothing_opened main.params inputs in
       record {
         numbers = numbers_opened main others typings o main_opened;
         types = types_opened main others typings o main_opened;

@@ -5,7 +5,8 @@ ghost use Rattle.tw_code.specs.machine.Inputs.{are_few, are_inputs_of, has_fitti
 ghost use Rattle.std.specs.List.{list_all};
 ghost use Rattle.tw_types.specs.DataType.{same_type};
 
-use tw_code::{Procedure, main_params};
+use crate::main_shape::main_params;
+use crate::procedure::Procedure;
 use tw_types::{DataType, Input, InputText, Param, Scalar, Text};
 
 /// The greatest number of members that an input may have.
