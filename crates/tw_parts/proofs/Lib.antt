@@ -33,3 +33,7 @@ pub mod Telling
 pub mod Keeping
 pub mod Calling
 pub mod Answering
+pub mod Adding
+pub mod Filled
+mod MainParameters
+mod Openings

@@ -1,6 +1,7 @@
 mod Round
 pub mod Counting
 pub mod Lines
+pub mod Opened
 mod Fitting
 mod Keeping
 mod Freely

@@ -4,32 +4,36 @@ use Rattle.std.specs.FinMap.{entries}
 use Rattle.std.specs.List.Sorted.{IsPermutation}
 use Rattle.tw_types.specs.Mapped.{mapped}
 use Rattle.tw_types.specs.Rule.{RulesOf}
-use Rattle.tw_types.specs.Store.{Store}
 use Rattle.tw_rights.specs.Bare.{bare_rule}
 use Rattle.tw_rights.specs.declared.arg.Arg.{Arg}
 use Rattle.tw_rules.specs.Table.{told}
 use Rattle.tw_rules.specs.declared.plain.PlainRule.{PlainRule}
+use Rattle.tw_store.specs.Served.{Served}
 use Rattle.tw_code.specs.machine.State.{State}
 use Rattle.tw_pool.specs.declared.answer.Closing.{Closing}
 use Rattle.tw_pool.specs.History.{HistoryView}
 use Rattle.tw_pool.specs.PoolView.{PoolView, HasState}
 use Rattle.tw_pool.specs.Turns.{closing_at}
 
--- the data, the ids of the outputs by the order of main's parameters, the rules that were pending, and why the run was over
+-- the store, the ids of the outputs by the order of main's parameters, the rules that were pending, and why the run was over
 pub record FinalView : Type 0 where
-  pub store : Store
+  pub store : Served
   pub outputs : List ℕ
   pub pending : List PlainRule
   pub closing : Option Closing
 
--- all of the state to which the history leads; the rules come in no order
+-- all that is told is so in this state; the rules come in no order
+pub record IsLeftOf (s : State) (final : FinalView) : Type 0 where
+  pub store : final.store.store ≡ s.store
+  pub outputs : final.outputs ≡ s.outputs
+  pub rules : RulesOf Arg
+  pub rules_are : mapped bare_rule rules ≡ s.rules
+  pub pending : IsPermutation (each told (entries rules)) final.pending
+
+-- it is left of the state to which the history leads
 pub record IsShut (p : PoolView) (final : FinalView) (history : HistoryView) : Type 0 where
   pub state : State
   pub has_state : HasState p state
-  pub store : final.store ≡ state.store
-  pub outputs : final.outputs ≡ state.outputs
-  pub rules : RulesOf Arg
-  pub rules_are : mapped bare_rule rules ≡ state.rules
-  pub pending : IsPermutation (each told (entries rules)) final.pending
+  pub left : IsLeftOf state final
   pub closing : final.closing ≡ closing_at p state
   pub events : history.events ≡ p.history

@@ -1,8 +1,10 @@
 //! What is left of a run.
 
-ghost use Rattle.std.specs.Prelude.{◌≡◌, ◌<◌, length, option_map, slice_get, Some};
+ghost use Rattle.std.specs.Prelude.{◌≡◌, IfSome, option_map};
 ghost use Rattle.std.specs.FinMap.{get};
 ghost use Rattle.std.specs.Option.{option_copied};
+ghost use Rattle.tw_store.specs.Calls.{IsShown};
+ghost use Rattle.tw_store.specs.Served.{KnowsPlaces};
 ghost use Rattle.tw_pool.specs.Ends.{IsShut};
 
 use crate::answer::Closing;
@@ -11,7 +13,7 @@ use crate::pool::Pool;
 use std::marker::Model;
 use tw_parts::Remains;
 use tw_rules::PlainRule;
-use tw_store::Datum;
+use tw_store::{Datum, ShownMember};
 use tw_types::DatumId;
 
 /// What is left of a run for reading: its data, its outputs, the rules that were pending, and why it was over.
@@ -30,10 +32,10 @@ impl Model for Final {
 
     ghost Value = { FinalView };
 
-    ghost coded = { Prim.hlevel (codes, code {X = DatumMeaning} {R = nat_cmp} coded_ℕ (Prim.hlevel (codes, code {R = int_cmp} coded_ℤ coded_ℕ))) };
+    ghost coded = { Prim.hlevel (codes, code {X = DatumMeaning} {R = nat_cmp} coded_ℕ (Prim.hlevel (codes, code {R = int_cmp} coded_ℤ coded_ℕ)), code {R = nat_cmp} coded_ℕ coded_ℕ) };
 
     ghost view = { λ f. record {
-      store = f.remains.store.store;
+      store = f.remains.store;
       outputs = f.remains.outputs.items;
       pending = f.remains.pending.items;
       closing = f.closing;
@@ -41,26 +43,28 @@ impl Model for Final {
 }
 
 impl Final {
-    /// How many outputs there are.
-    pub fn output_count(&self) -> usize
-        ensures { result ≡ length self.now.outputs }
+    /// The ids of the outputs, by the order of main's parameters.
+    pub fn outputs(&self) -> &[DatumId]
+        ensures { result.now ≡ self.now.outputs }
     {
-        self.remains.outputs.len()
+        &self.remains.outputs
     }
 
-    /// The datum of an output, by the order of main's parameters.
-    pub fn output(&self, index: usize) -> DatumId
-        requires { index < length self.now.outputs }
-        ensures { slice_get self.now.outputs index ≡ Some result }
-    {
-        self.remains.outputs[index]
-    }
-
-    /// The datum of an id, if it is live.
+    /// The datum of an id, if it is live; it is searched, so this is for the few outputs.
     pub fn view(&self, id: DatumId) -> Option<&Datum>
-        ensures { option_map (λ d. d.datum) (option_copied result) ≡ get self.now.store.live id }
+        ensures datum { option_map (λ d. d.datum) (option_copied result) ≡ get self.now.store.store.live id }
+        ensures members { IfSome result (λ datum. KnowsPlaces self.now.store datum.now) }
     {
         self.remains.store.view(id)
+    }
+
+    /// The member of a container with so many smaller subscripts. Its datum is looked up at its place. The container is
+    /// one that was shown here.
+    pub fn member(&self, container: &Datum, index: usize) -> Option<ShownMember<'_>>
+        requires { KnowsPlaces self.now.store container.now }
+        ensures { IsShown self.now.store container.now index result }
+    {
+        self.remains.store.member(container, index)
     }
 
     /// The rules that were pending, in no order.

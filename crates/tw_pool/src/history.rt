@@ -33,6 +33,9 @@ impl Model for History {
 }
 
 impl History {
+    /// The greatest number of events.
+    pub const MOST_EVENTS: usize = 1_000_000;
+
     /// No event, and room for so many.
     pub fn with_capacity(alloc: Global, limit: usize) -> Result<History, AllocError>
         ensures { IfOk result (λ h. h ≡ record { events = []; limit = limit }) }

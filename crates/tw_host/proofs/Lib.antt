@@ -1,0 +1,5 @@
+mod Lists
+mod Fitting
+mod Owning
+mod Turning
+mod Ending

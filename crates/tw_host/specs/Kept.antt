@@ -1,0 +1,18 @@
+-- What is true of what lies under the lock.
+use Rattle.std.specs.Prelude.{◌≡◌, ◌≤◌, ℕ, length}
+use Rattle.tw_types.specs.Layout.{IsLayout}
+use Rattle.tw_code.specs.machine.Inputs.{AreInputsOf}
+use Rattle.tw_pool.specs.PoolView.{PoolView}
+use Rattle.tw_host.specs.Run.{Run, run_of}
+use Rattle.tw_host.specs.Seats.{seat_count}
+
+-- The pool is the run's, and the ledger's total counts its events. The ledger has a part for each seat, and none stays here
+pub record IsKept (run : Run) (parts total spare_parts spare_amount : ℕ) (pool : PoolView) : Type 0 where
+  pub of_run : run_of pool ≡ run
+  pub layout : IsLayout run.layout
+  pub given : AreInputsOf run.program.program run.inputs
+  pub within : length pool.history ≤ run.limit
+  pub counted : total ≡ length pool.history
+  pub seats : parts ≡ seat_count run.layout
+  pub no_part : spare_parts ≡ 0
+  pub no_amount : spare_amount ≡ 0

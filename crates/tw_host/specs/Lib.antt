@@ -1,0 +1,8 @@
+-- What a reader must believe of the host: who has which seat (Seats), what one run is (Run), what a turn tells a seat (Tells),
+-- and what is said at the end (Ends).
+pub mod Seats
+pub mod Run
+pub mod Tells
+pub mod Ends
+-- What is true of what lies under the lock.
+pub mod Kept

@@ -1,0 +1,51 @@
+-- What a turn of a host answers and tells a seat.
+use Rattle.std.specs.Prelude.{◌≡◌, ◌≢◌, ◌⊎◌, ℕ, List, [], ◌++◌, length, Option, Some, None, Result, Ok, Err, IfSome}
+use Rattle.tw_types.specs.declared.actor.Actor.{Actor}
+use Rattle.tw_types.specs.declared.event.Event.{Event}
+use Rattle.tw_verify.specs.Typed.{TypedProgram}
+use Rattle.tw_frame.specs.Jobs.{DoneView}
+use Rattle.tw_pool.specs.declared.answer.Turn.{Turn}
+use Rattle.tw_pool.specs.declared.answer.Turn.TheVariants as turn
+use Rattle.tw_pool.specs.Actors.{events_of}
+use Rattle.tw_pool.specs.PoolView.{PoolView, with_events}
+use Rattle.tw_pool.specs.Turns.{AreOwn, IsTurn}
+use Rattle.tw_host.specs.declared.locked.Strange.{Strange}
+use Rattle.tw_host.specs.Run.{Run, run_of}
+
+-- some pool of the run, in which the actor has so many events, turns and appends just these
+pub record SomeTurn (run : Run) (actor : Actor) (count : ℕ) (given : Option DoneView) (answer : Turn) (es : List Event) : Type 0 where
+  pub pool : PoolView
+  pub of_run : run_of pool ≡ run
+  pub same_count : length (events_of actor pool.history) ≡ count
+  pub turns : IsTurn pool actor given answer (with_events pool es)
+
+-- or memory for what is told was refused, and no pool has turned
+abbrev pub TurnsOrNot : Run → Actor → ℕ → Option DoneView → Turn → List Event → Type 0
+TurnsOrNot run actor count given answer es = SomeTurn run actor count given answer es ⊎ ((answer ≡ turn.NoMemory given) × (es ≡ []))
+
+-- the seat of an actor had been told the old events, and is told these
+pub record IsTold (run : Run) (actor : Actor) (old new : List Event) (given : Option DoneView) (answer : Turn) : Type 0 where
+  pub es : List Event
+  pub told : new ≡ old ++ es
+  pub own : AreOwn actor es
+  pub turns : TurnsOrNot run actor (length old) given answer es
+
+abbrev pub Tells : Run → Actor → List Event → List Event → Option DoneView → Result Turn Strange → Type 0
+Tells run actor old new given (Ok answer) = IsTold run actor old new given answer
+Tells run actor old new given (Err strange) = (new ≡ old) × (strange.count ≢ length old) × (strange.done ≡ given)
+
+-- ---- what follows for jobs
+
+abbrev pub IsDoneOf : TypedProgram → Option DoneView → Type 0
+IsDoneOf program done = IfSome done (λ d. d.before.program ≡ program)
+
+-- jobs and Dones of an answer are of the program
+abbrev pub IsAnswerOf : TypedProgram → Turn → Type 0
+IsAnswerOf program (turn.Over closing) = Unit {0}
+IsAnswerOf program (turn.Foreign done) = done.before.program ≡ program
+IsAnswerOf program turn.Owed = Unit {0}
+IsAnswerOf program (turn.NoMemory done) = IsDoneOf program done
+IsAnswerOf program (turn.Run job) = job.program ≡ program
+IsAnswerOf program turn.Ended = Unit {0}
+IsAnswerOf program turn.Went = Unit {0}
+IsAnswerOf program turn.Idle = Unit {0}

@@ -1,0 +1,96 @@
+//! The host.
+
+ghost use Rattle.std.specs.Prelude.{◌≡◌, ◌≤◌, IfErr, IfOk, [], map, vec_len, vec_capacity};
+ghost use Rattle.tw_pool.specs.Openings.{IsRefusal, MayOpen};
+ghost use Rattle.tw_host.specs.Seats.{actors_of, seat_count};
+ghost use Rattle.tw_host.specs.Tells.{IsAnswerOf, IsDoneOf, Tells};
+
+use crate::layout::seat_count;
+use crate::locked::{Locked, Strange};
+use crate::named::Named;
+use crate::seat::{Seat, rooms, seats_of};
+use std::alloc::Global;
+use std::sync::ledger::Blank;
+use std::sync::{Mutex, Wait};
+use tw_frame::Done;
+use tw_pool::{OpenRefusal, Pool, Turn};
+use tw_types::{Event, Input, Layout};
+use tw_verify::Verified;
+
+/// The pool of a run under its one lock.
+pub struct Host<'a, N: Named> {
+    pub(crate) verified: &'a Verified,
+    pub(crate) locked: Mutex<Locked<'a, N>>,
+    pub(crate) by_seat: Vec<Vec<Event>>,
+    ghost program: { verified.now ≡ N.run.program },
+    ghost empty: { by_seat.items ≡ [] },
+    ghost room: { seat_count N.run.layout ≤ vec_capacity by_seat },
+}
+
+impl<'a, N: Named> Host<'a, N> {
+    /// A run before its first event, and a seat for each actor, in the order of `actor_at`. All memory for the seats is made
+    /// before there is one.
+    pub fn open(
+        alloc: Global,
+        blank: Blank,
+        verified: &'a Verified,
+        inputs: &'a [Input],
+        layout: Layout,
+        limit: usize,
+    ) -> Result<(Host<'a, N>, Vec<Seat<N>>), OpenRefusal>
+        requires ledger { (blank.name ≡ N.name) × (blank.parts ≡ N.parts) × (blank.parts ≡ seat_count layout) }
+        requires run { N.run ≡ record { program = verified.now; inputs = inputs.now; layout = layout; limit = limit } }
+        ensures allowed { IfOk result (λ _. MayOpen verified.now.program inputs.now layout limit) }
+        ensures len { IfOk result (λ r. vec_len r.1 ≡ seat_count layout) }
+        ensures actors { IfOk result (λ r. map (λ s. s.actor) r.1.items ≡ actors_of layout) }
+        ensures told { IfOk result (λ r. map (λ s. s.told.items) r.1.items ≡ map (λ _. []) (actors_of layout)) }
+        ensures refused { IfErr result (IsRefusal verified.now.program inputs.now layout limit) }
+    {
+        let pool = Pool::open(alloc, verified, inputs, layout, limit)?;
+        let Ok((seats, by_seat)) = rooms(alloc, seat_count(layout)) else {
+            let _ = pool.shut();
+            return Err(OpenRefusal::NoMemory);
+        };
+        let (book, mut spare) = blank.open::<N>();
+        let seats = seats_of(alloc, layout, seats, &mut spare);
+        let locked = Mutex::new(Locked { pool, book, spare });
+        let host = Host {
+            verified,
+            locked,
+            by_seat,
+        };
+        Ok((host, seats))
+    }
+
+    /// The program that is run.
+    pub fn program(&self) -> &'a Verified
+        ensures { result.now ≡ N.run.program }
+    {
+        self.verified
+    }
+
+    /// One turn of the seat's actor, under the lock; the seat is told the events that it appends. Where memory for these is
+    /// refused the pool isn't touched. Where the seat's list isn't the pool's nothing is changed either.
+    pub fn turn(
+        &self,
+        rt: &impl Wait,
+        alloc: Global,
+        seat: &mut Seat<N>,
+        done: Option<Done<'a>>,
+    ) -> Result<Turn<'a>, Strange<'a>>
+        requires program { IsDoneOf N.run.program done }
+        ensures actor { seat.new.actor ≡ seat.old.actor }
+        ensures told { Tells N.run seat.old.actor seat.old.told.items seat.new.told.items done.entry result }
+        ensures program { IfOk result (IsAnswerOf N.run.program) }
+    {
+        if seat.told.reserve(2).is_err() {
+            return Ok(Turn::NoMemory(done));
+        }
+        self.locked.lock(rt).turn(alloc, seat, done)
+    }
+
+    /// From now on no turn makes an event.
+    pub fn stop(&self, rt: &impl Wait) {
+        self.locked.lock(rt).stop();
+    }
+}

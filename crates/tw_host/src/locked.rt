@@ -1,0 +1,69 @@
+//! What lies under the lock.
+
+ghost use Rattle.std.specs.Prelude.{◌≡◌, ◌+◌, ◌≤◌, vec_len, vec_capacity, true, IfOk};
+ghost use Rattle.tw_host.specs.Tells.{IsAnswerOf, IsDoneOf, Tells};
+
+use crate::named::Named;
+use crate::seat::{Seat, tell};
+use std::alloc::Global;
+use std::marker::Model;
+use std::sync::ledger::{Book, Share};
+use tw_frame::Done;
+use tw_pool::{Pool, Turn};
+
+/// A seat's list isn't as long as the pool's number of its actor's events.
+#[derive(Drop)]
+pub struct Strange<'a> {
+    pub count: u64,
+    pub done: Option<Done<'a>>,
+}
+
+/// The pool, the total of its events, and what is left of the ledger's parts.
+pub(crate) struct Locked<'a, N: Named> {
+    pub(crate) pool: Pool<'a>,
+    pub(crate) book: Book<N>,
+    pub(crate) spare: Share<N>,
+}
+
+impl<'a, N: Named> Model for Locked<'a, N> {
+    ghost use Rattle.tw_pool.specs.PoolView.{PoolView};
+
+    ghost Value = { PoolView };
+
+    ghost use Rattle.tw_host.specs.Kept.{IsKept};
+
+    ghost view = { λ l. l.pool };
+
+    ghost invariant = { λ l. IsKept N.run N.parts l.book.total l.spare.parts l.spare.amount l.pool };
+}
+
+impl<'a, N: Named> Locked<'a, N> {
+    pub(crate) fn stop(&mut self)
+        ensures { self.new ≡ record self.old { stopped = true } }
+    {
+        self.pool.stop();
+    }
+
+    /// One turn of the seat's actor. The seat is told the events that it appends.
+    pub(crate) fn turn(
+        &mut self,
+        alloc: Global,
+        seat: &mut Seat<N>,
+        done: Option<Done<'a>>,
+    ) -> Result<Turn<'a>, Strange<'a>>
+        requires room { vec_len seat.old.told + 2 ≤ vec_capacity seat.old.told }
+        requires program { IsDoneOf N.run.program done }
+        ensures actor { seat.new.actor ≡ seat.old.actor }
+        ensures told { Tells N.run seat.old.actor seat.old.told.items seat.new.told.items done.entry result }
+        ensures program { IfOk result (IsAnswerOf N.run.program) }
+    {
+        let count = self.pool.count(seat.actor);
+        if count != seat.told.len() as u64 {
+            return Err(Strange { count, done });
+        }
+        let before = self.pool.history().len();
+        let answer = self.pool.turn(alloc, seat.actor, done);
+        tell(self.pool.history(), before, &mut self.book, seat);
+        Ok(answer)
+    }
+}

@@ -1,0 +1,17 @@
+//! One run, named by a type.
+
+ghost use Rattle.tw_host.specs.Run.{Run};
+
+use std::marker::Brand;
+use std::sync::ledger::Ledger;
+
+/// One run and its ledger. What lies under a lock is known by its type alone, so each type of a host bears the run's name.
+pub trait Named: Ledger {
+    ghost run: { Run };
+}
+
+impl Named for Brand {
+    ghost use Rattle.std.specs.Prelude.{[]};
+
+    ghost run = { record { program = record { program = []; typings = [] }; inputs = []; layout = record { engines = 1; servers = 1; workers = 1 }; limit = 1 } };
+}

@@ -1,0 +1,103 @@
+//! Seats.
+
+ghost use Rattle.std.specs.Prelude.{◌≡◌, ◌+◌, ◌-◌, ◌≤◌, ◌++◌, [], vec_len, vec_capacity, drop, length, map, true, IfOk};
+ghost use Rattle.tw_types.specs.Actor.{is_in};
+ghost use Rattle.tw_host.specs.Seats.{actors_of, seat_count};
+
+use crate::layout::{actor_at, seat_count};
+use crate::named::Named;
+use std::alloc::{AllocError, Global};
+use std::sync::ledger::{Book, Share};
+use tw_pool::History;
+use tw_types::{Actor, Event, Layout};
+
+/// The place from which one actor turns the host, with the events that it was told. It must be given back.
+pub struct Seat<N: Named> {
+    pub(crate) actor: Actor,
+    pub(crate) told: Vec<Event>,
+    pub(crate) share: Share<N>,
+    pub ghost in_layout: { is_in N.run.layout actor ≡ true },
+    pub ghost one_part: { share.parts ≡ 1 },
+    pub ghost counted: { share.amount ≡ vec_len told },
+}
+
+impl<N: Named> Seat<N> {
+    /// Whose seat it is.
+    pub fn actor(&self) -> Actor
+        ensures { result ≡ self.now.actor }
+    {
+        self.actor
+    }
+
+    /// The events that the actor was told, in order.
+    pub fn told(&self) -> &[Event]
+        ensures { result.now ≡ self.now.told.items }
+    {
+        self.told.as_slice()
+    }
+}
+
+/// Room for so many seats, and for what they are told in the end.
+pub(crate) fn rooms<N: Named>(
+    alloc: Global,
+    count: usize,
+) -> Result<(Vec<Seat<N>>, Vec<Vec<Event>>), AllocError>
+    ensures seats { IfOk result (λ r. (r.0.items ≡ []) × (count ≤ vec_capacity r.0)) }
+    ensures lists { IfOk result (λ r. (r.1.items ≡ []) × (count ≤ vec_capacity r.1)) }
+{
+    let by_seat = Vec::with_capacity(alloc, count)?;
+    let seats = Vec::with_capacity(alloc, count)?;
+    Ok((seats, by_seat))
+}
+
+/// A seat for each actor of a layout, with a part of the ledger.
+pub(crate) fn seats_of<N: Named>(
+    alloc: Global,
+    layout: Layout,
+    mut seats: Vec<Seat<N>>,
+    all: &mut Share<N>,
+) -> Vec<Seat<N>>
+    requires empty { seats.items ≡ [] }
+    requires room { seat_count layout ≤ vec_capacity seats }
+    requires layout { N.run.layout ≡ layout }
+    requires parts { all.old.parts ≡ seat_count layout }
+    requires amount { all.old.amount ≡ 0 }
+    ensures len { vec_len result ≡ seat_count layout }
+    ensures actors { map (λ s. s.actor) result.items ≡ actors_of layout }
+    ensures told { map (λ s. s.told.items) result.items ≡ map (λ _. []) (actors_of layout) }
+    ensures parts { (all.new.parts ≡ 0) × (all.new.amount ≡ 0) }
+{
+    for seat in 0..seat_count(layout) {
+        let share = all.split_off(1, 0);
+        seats.push_reserved(Seat {
+            actor: actor_at(layout, seat),
+            told: Vec::new(alloc),
+            share,
+        });
+    }
+    seats
+}
+
+/// Tells a seat the events of the history from a place on, and counts them.
+pub(crate) fn tell<N: Named>(
+    history: &History,
+    before: usize,
+    book: &mut Book<N>,
+    seat: &mut Seat<N>,
+)
+    requires before { before ≤ length history.now.events }
+    requires room { vec_len seat.old.told + (length history.now.events - before) ≤ vec_capacity seat.old.told }
+    ensures told { seat.new.told.items ≡ seat.old.told.items ++ drop before history.now.events }
+    ensures actor { seat.new.actor ≡ seat.old.actor }
+    ensures total { book.new.total + before ≡ book.old.total + length history.now.events }
+{
+    let Seat {
+        actor: _,
+        told,
+        share,
+    } = seat;
+    for k in before..history.len() {
+        told.push_reserved(history.event(k));
+        book.add(share, 1);
+    }
+}

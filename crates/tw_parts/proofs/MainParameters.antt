@@ -1,0 +1,336 @@
+-- Main's parameters get their data one after the other: on the parts.
+use Rattle.std.proofs.Common.{map as each, ◌≡◌, ◌≢◌, ◌<◌, ◌≤◌, ◌+◌, ℕ, ℤ, zero, suc, Bool, true, false, not, ◌&&◌, List, [], ◌∷◌, ◌++◌, Some, None, refl, sym, ap, subst, ◌∙◌, arith, cond, length, length-append, slice_get, fold, drop, drop-cons, get_or, append_assoc, append-nil}
+use Rattle.std.proofs.lemmas.List.{drop_all, length-map, map-append}
+use Rattle.std.proofs.lemmas.Bool.{and_parts}
+use Rattle.std.proofs.lemmas.Bool.Decides.{nat_tests}
+use Rattle.std.proofs.lemmas.Option.{same_Some}
+use Rattle.std.specs.Cmp.{nat_cmp_total}
+use Rattle.std.specs.FinMap.{empty, get, insert, get-insert}
+use Rattle.std.specs.Prelude.{replicate}
+use Rattle.std.specs.List.{list_all}
+use Rattle.std.specs.Ordering.{eq_by_cmp, nat_cmp}
+use Rattle.tw_types.specs.Nesting.{NestedScalar}
+use Rattle.tw_types.specs.declared.data_type.Scalar.{Scalar}
+use Rattle.tw_types.specs.declared.data_type.Scalar.TheVariants as scalar
+use Rattle.tw_types.specs.declared.input.Input.{Input}
+use Rattle.tw_types.specs.declared.input.Input.TheVariants as input
+use Rattle.tw_types.specs.declared.param.Mode.{Mode}
+use Rattle.tw_types.specs.declared.param.Mode.TheVariants as mode
+use Rattle.tw_types.specs.declared.param.Param.{Param}
+use Rattle.tw_types.specs.declared.value.Value.{Value}
+use Rattle.tw_types.specs.declared.value.Value.TheVariants as value
+use Rattle.tw_types.specs.DataType.{container_of, is_flat, same_type, scalar_type}
+use Rattle.tw_types.specs.Mode.{is_val, is_write}
+use Rattle.tw_types.specs.Store.{Contains, Datum, Store, added, empty_store}
+use Rattle.tw_types.specs.StoreCalls.{created}
+use Rattle.tw_types.specs.Task.{RightArg}
+use Rattle.tw_rights.specs.declared.arg.Arg.{Arg}
+use Rattle.tw_rights.specs.declared.arg.Arg.TheVariants.{Read, Write}
+use Rattle.tw_rights.specs.Bare.{bare_arg}
+use Rattle.tw_rights.specs.Rights.{Right}
+use Rattle.tw_store.specs.Served.{Served}
+use Rattle.tw_store.specs.Slots.{Places}
+use Rattle.tw_code.specs.accepting.MainShape.{is_main_param}
+use Rattle.tw_code.specs.machine.Inputs.{are_few, are_inputs_of, input_params, is_input_of, is_short, rises}
+use Rattle.tw_code.specs.machine.Opening.{Opened, closed_scalar, nothing_opened, numbered, opened, with_container, with_given, with_input, with_output}
+use Rattle.tw_code.specs.machine.Rights.{right_of}
+use Rattle.tw_parts.specs.Fits.{ArgStands, ArgsStand, AreAt, IsAt}
+use Rattle.tw_parts.specs.OpenedParts.{Adds, AreBefore, AreForAll, IsMade, MayAdd, OpenedParts}
+use Rattle.tw_parts.specs.Opening.{IsAdded}
+use Rattle.tw_parts.specs.Givens.{AreAllLive}
+use Rattle.tw_parts.proofs.Adding.{empty_live, made_live}
+use Rattle.tw_parts.proofs.Keeping.{all_kept, args_kept}
+
+-- ---- one argument, right or id more
+
+pub same_count : (places : Places) (params : List Param) (args : List Arg) → ArgsStand places params args → length args ≡ length params
+same_count places [] [] h = refl
+same_count places [] (arg ∷ args) h = absurd h
+same_count places (p ∷ params) [] h = absurd h
+same_count places (p ∷ params) (arg ∷ args) h = ap suc (same_count places params args h.1)
+
+args_more : (places : Places) (params : List Param) (args : List Arg) (p : Param) (arg : Arg) → ArgsStand places params args → ArgStands places (right_of p) arg → ArgsStand places (params ++ p ∷ []) (args ++ arg ∷ [])
+args_more places [] [] p arg h one = (one, tt)
+args_more places [] (a ∷ args) p arg h one = absurd h
+args_more places (q ∷ params) [] p arg h one = absurd h
+args_more places (q ∷ params) (a ∷ args) p arg h one = (h.0, args_more places params args p arg h.1 one)
+
+at_more : (places : Places) (rights : List Right) (right : Right) → AreAt places rights → IsAt places right → AreAt places (rights ++ right ∷ [])
+at_more places [] right h one = (one, tt)
+at_more places (r ∷ rights) right h one = (h.0, at_more places rights right h.1 one)
+
+before_wider : (next more : ℕ) (ids : List ℕ) → next ≤ more → AreBefore next ids → AreBefore more ids
+before_wider next more [] wide h = tt
+before_wider next more (id ∷ ids) wide h = (omega (arith, h.0), before_wider next more ids wide h.1)
+
+before_more : (next : ℕ) (ids : List ℕ) (id : ℕ) → AreBefore next ids → id < next → AreBefore next (ids ++ id ∷ [])
+before_more next [] id h one = (one, tt)
+before_more next (other ∷ ids) id h one = (h.0, before_more next ids id h.1 one)
+
+-- the ids of rights are such
+named_before : (next : ℕ) (ids : List ℕ) (k d : ℕ) → AreBefore next ids → slice_get (each RightArg ids) k ≡ Some (RightArg d) → d < next
+named_before next [] k d h e = cc
+named_before next (id ∷ ids) zero d h e = let same : id ≡ d = cc in subst (λ (n : ℕ). n < next) same h.0
+named_before next (id ∷ ids) (suc k) d h e = named_before next ids k d h.1 e
+
+id_before : (next : ℕ) (ids : List ℕ) (k d : ℕ) → AreBefore next ids → slice_get ids k ≡ Some d → d < next
+id_before next [] k d h e = cc
+id_before next (id ∷ ids) zero d h e = subst (λ (n : ℕ). n < next) (same_Some id d e) h.0
+id_before next (id ∷ ids) (suc k) d h e = id_before next ids k d h.1 e
+
+-- ---- how many data an input has
+
+members_next : (es : List (ℤ × Value)) (s : Store) → (fold (λ (t : Store) (e : ℤ × Value). added t (closed_scalar e.1)) s es).next ≡ s.next + length es
+members_next [] s = omega arith
+members_next (e ∷ es) s = omega (arith, members_next es (added s (closed_scalar e.1)))
+
+abbrev AreFew : Store → Store → Type 0
+AreFew old new = (old.next < new.next) × (new.next ≤ old.next + 1001)
+
+container_next : {A : Type 0} (f : A → Value) (s : Store) (inside : Scalar) (es : List (ℤ × A)) → are_few es ≡ true → AreFew s (with_container s inside (each (λ e. (e.0, f e.1)) es))
+container_next {A} f s inside es few =
+    let with_value : ℤ × A → ℤ × Value = λ e. (e.0, f e.1) in
+    let values : List (ℤ × Value) = each with_value es in
+    let count : length es ≤ 1000 = grind (arith, nat_tests, few) in
+    let container : Datum = record { ty = container_of (scalar_type inside); content = Contains (numbered (s.next + 1) values); reads = 1; writes = 0; subscribers = [] } in
+    let all : (with_container s inside values).next ≡ s.next + 1 + length values = members_next values (added s container) in
+    (omega (arith, count, length-map es with_value, all), omega (arith, count, length-map es with_value, all))
+
+pub input_next : (ty : NestedScalar) (i : Input) (s : Store) → is_input_of ty i ≡ true → AreFew s (with_input s i)
+input_next ty (input.Int n) s h = (omega arith, omega arith)
+input_next ty (input.Text text) s h = (omega arith, omega arith)
+input_next ty (input.Ints es) s h =
+    let of_type = and_parts (same_type ty (container_of (scalar_type scalar.Int))) (are_few es && rises es) h in
+    container_next value.Int s scalar.Int es (and_parts (are_few es) (rises es) of_type.1).0
+input_next ty (input.Texts es) s h =
+    let of_type = and_parts (same_type ty (container_of (scalar_type scalar.Text))) (are_few es && (rises es && list_all (λ (e : ℤ × List ℕ). is_short e.1) es)) h in
+    container_next value.Text s scalar.Text es (and_parts (are_few es) (rises es && list_all (λ (e : ℤ × List ℕ). is_short e.1) es) of_type.1).0
+
+-- ---- one parameter more
+
+write_stands : (places : Places) (p : Param) (right : Right) → is_write p.mode ≡ true → IsAt places right → ArgStands places (right_of p) (Write right)
+write_stands places p right write here = by p.mode write
+  where
+    by : (m : Mode) → is_write m ≡ true → ArgStands places (cond (is_val m) None (Some (record { mode = m; ty = p.ty }))) (Write right)
+    by mode.Val e = cc
+    by mode.Closed e = cc
+    by mode.Ref e = cc
+    by mode.Write e = (refl, here)
+
+read_stands : (places : Places) (p : Param) (right : Right) → is_write p.mode ≡ false → is_val p.mode ≡ false → IsAt places right → ArgStands places (right_of p) (Read right)
+read_stands places p right read right_due here = by p.mode read right_due
+  where
+    by : (m : Mode) → is_write m ≡ false → is_val m ≡ false → ArgStands places (cond (is_val m) None (Some (record { mode = m; ty = p.ty }))) (Read right)
+    by mode.Val e v = cc
+    by mode.Closed e v = (refl, here)
+    by mode.Ref e v = (refl, here)
+    by mode.Write e v = cc
+
+bare_more : (args : List Arg) (ids : List ℕ) (arg : Arg) (id : ℕ) → each bare_arg args ≡ each RightArg ids → bare_arg arg ≡ RightArg id → each bare_arg (args ++ arg ∷ []) ≡ each RightArg (ids ++ id ∷ [])
+bare_more args ids arg id same one =
+    map-append bare_arg args (arg ∷ []) ∙ (λ i. same i ++ one i ∷ []) ∙ sym (map-append RightArg ids (id ∷ []))
+
+module _ (servers : ℕ) (params : List Param) (o : OpenedParts) (made : Opened) (h : IsMade servers params o made) (p : Param) where
+  pub has_place : length params < 8 → length o.args ≢ 8
+  has_place few full = omega (arith, few, full, same_count o.store.places params o.args h.stand)
+
+  longer : length (params ++ p ∷ []) ≡ length params + 1
+  longer = length-append params (p ∷ [])
+
+  next_is : o.store.store.next ≡ made.store.next
+  next_is = ap (λ (s : Store). s.next) h.store
+
+  module _ (new : Served) (stays : (id : ℕ) → id < o.store.store.next → get new.places id ≡ get o.store.places id) where
+    kept : (id place : ℕ) → id < made.store.next → get o.store.places id ≡ Some place → get new.places id ≡ Some place
+    kept id place low there = stays id (omega (arith, low, next_is)) ∙ there
+
+    args_stand : ArgsStand new.places params o.args
+    args_stand = args_kept o.store.places new.places (λ id. id < made.store.next) kept params o.args
+        (λ k d at. named_before made.store.next made.rights k d h.args_before (ap (λ xs. slice_get xs k) (sym h.args) ∙ at)) h.stand
+
+    outputs_at : AreAt new.places o.outputs
+    outputs_at = all_kept o.store.places new.places (λ id. id < made.store.next) kept o.outputs
+        (λ k d at. id_before made.store.next made.outputs k d h.outputs_before (ap (λ xs. slice_get xs k) (sym h.outputs) ∙ at)) h.outputs_at
+
+  module _ (new : Served) (right : Right) (id : right.id ≡ o.store.store.next) (here : IsAt new.places right) (queues : new.queues ≡ o.store.queues) where
+    id_is : right.id ≡ made.store.next
+    id_is = id ∙ next_is
+
+    -- an output
+    module _ (read : Right) (same : read ≡ right) (write : is_write p.mode ≡ true) (store : new.store ≡ created o.store.store p.ty) (places : new.places ≡ insert o.store.places o.store.store.next right.place) where
+      elsewhere : (d : ℕ) → d < o.store.store.next → get new.places d ≡ get o.store.places d
+      elsewhere d low = ap (λ ps. get ps d) places ∙ get-insert nat_cmp_total o.store.places o.store.store.next right.place d ∙ rw apart refl
+        where
+          apart : eq_by_cmp nat_cmp d o.store.store.next ≡ false
+          apart = grind (arith, nat_tests, low)
+
+      pub output_made : IsMade servers (params ++ p ∷ []) (record { store = new; args = o.args ++ Write right ∷ []; outputs = o.outputs ++ read ∷ [] }) (with_output made p.ty)
+      output_made = record {
+        store = store ∙ ap (λ s. created s p.ty) h.store;
+        queues = queues ∙ h.queues;
+        live = made_live o.store new p.ty right read (record { made = store; write = id; read = same; places = places; here = here; quiet = queues; live = h.live });
+        args = bare_more o.args made.rights (Write right) made.store.next h.args (ap RightArg id_is);
+        outputs = map-append (λ (r : Right). r.id) o.outputs (read ∷ []) ∙ (λ i. h.outputs i ++ (ap (λ (r : Right). r.id) same ∙ id_is) i ∷ []);
+        stand = args_more new.places params o.args p (Write right) (args_stand new elsewhere) (write_stands new.places p right write here);
+        outputs_at = at_more new.places o.outputs read (outputs_at new elsewhere) (subst (λ (r : Right). IsAt new.places r) (sym same) here);
+        args_before = before_more (made.store.next + 1) made.rights made.store.next (before_wider made.store.next (made.store.next + 1) made.rights (omega arith) h.args_before) (omega arith);
+        outputs_before = before_more (made.store.next + 1) made.outputs made.store.next (before_wider made.store.next (made.store.next + 1) made.outputs (omega arith) h.outputs_before) (omega arith);
+        next = omega (arith, h.next, longer);
+        few = omega (arith, h.few, longer, length-append o.outputs (read ∷ []));
+      }
+
+  -- an input
+  pub given_made : (i : Input) (new : Served) (right : Right) → is_write p.mode ≡ false → is_val p.mode ≡ false → is_input_of p.ty i ≡ true → IsAdded (with_input o.store.store i) o.store new right → AreAllLive new
+      → IsMade servers (params ++ p ∷ []) (record { store = new; args = o.args ++ Read right ∷ []; outputs = o.outputs }) (with_given made (Some i))
+  given_made i new right read right_due fits added live =
+      let more = input_next p.ty i made.store fits in
+      let after = (with_input made.store i).next in
+      record {
+        store = added.store ∙ ap (λ s. with_input s i) h.store;
+        queues = added.queues ∙ h.queues;
+        live = live;
+        args = bare_more o.args made.rights (Read right) made.store.next h.args (ap RightArg (added.first ∙ next_is));
+        outputs = h.outputs;
+        stand = args_more new.places params o.args p (Read right) (args_stand new added.stays) (read_stands new.places p right read right_due added.here);
+        outputs_at = outputs_at new added.stays;
+        args_before = before_more after made.rights made.store.next (before_wider made.store.next after made.rights (omega (arith, more.0)) h.args_before) more.0;
+        outputs_before = before_wider made.store.next after made.outputs (omega (arith, more.0)) h.outputs_before;
+        next = omega (arith, h.next, longer, more.1);
+        few = omega (arith, h.few, longer);
+      }
+
+-- ---- before the first
+
+pub nothing_made : (servers : ℕ) (o : OpenedParts) → o.store.store ≡ empty_store → o.store.places ≡ empty → o.store.queues ≡ replicate servers [] → o.args ≡ [] → o.outputs ≡ [] → IsMade servers [] o nothing_opened
+nothing_made servers o store places queues args outputs = record {
+  store = store;
+  queues = queues;
+  live = empty_live o.store places;
+  args = ap (each bare_arg) args;
+  outputs = ap (each (λ (r : Right). r.id)) outputs;
+  stand = subst (ArgsStand o.store.places []) (sym args) tt;
+  outputs_at = subst (AreAt o.store.places) (sym outputs) tt;
+  args_before = tt;
+  outputs_before = tt;
+  next = omega arith;
+  few = let none = ap length outputs in omega (arith, none);
+}
+
+-- ---- the loop
+
+-- so many parameters have their data, and these inputs are left for the others
+pub record IsBegun (first : OpenedParts) (params : List Param) (inputs : List Input) (index : ℕ) (o : OpenedParts) (rest : List Input) : Type 0 where
+  pub done : List Param
+  pub all : params ≡ done ++ drop index params
+  pub made : Opened
+  pub opened : opened nothing_opened params inputs ≡ opened made (drop index params) rest
+  pub left : AreForAll (drop index params) rest
+  pub is_made : (servers : ℕ) → IsMade servers [] first nothing_opened → IsMade servers done o made
+
+pub begun_first : (first : OpenedParts) (params : List Param) (inputs : List Input) → AreForAll params inputs → IsBegun first params inputs 0 first inputs
+begun_first first params inputs h = record {
+  done = [];
+  all = refl;
+  made = nothing_opened;
+  opened = refl;
+  left = h;
+  is_made = λ servers m. m;
+}
+
+-- the next parameter, and the others
+pub next_param : (params : List Param) (k : ℕ) (p : Param) → k < length params → p ≡ get_or params k p → drop k params ≡ p ∷ drop (k + 1) params
+next_param params k p h is =
+    let more : k + 1 ≡ suc k = omega arith in
+    drop-cons params k p h ∙ ap (λ q. q ∷ drop (suc k) params) (sym is) ∙ ap (λ (n : ℕ). p ∷ drop n params) (sym more)
+
+skips : (p : Param) (others : List Param) → is_write p.mode ≡ true → input_params (p ∷ others) ≡ input_params others
+skips p others write = rw write refl
+
+takes : (p : Param) (others : List Param) → is_write p.mode ≡ false → input_params (p ∷ others) ≡ p ∷ input_params others
+takes p others read = rw read refl
+
+no_value : (a b : Bool) → (not a && b) ≡ true → a ≡ false
+no_value true b e = cc
+no_value false b e = refl
+
+module _ (first : OpenedParts) (params : List Param) (inputs : List Input) (index : ℕ) (o : OpenedParts) (rest : List Input) (p : Param)
+    (here : drop index params ≡ p ∷ drop (index + 1) params) (begun : IsBegun first params inputs index o rest) where
+  abbrev others : List Param
+  others = drop (index + 1) params
+
+  left_here : AreForAll (p ∷ others) rest
+  left_here = subst (λ (ps : List Param). AreForAll ps rest) here begun.left
+
+  shapes : (is_main_param p ≡ true) × (list_all is_main_param others ≡ true)
+  shapes = and_parts (is_main_param p) (list_all is_main_param others) left_here.shape
+
+  pub right_due : is_val p.mode ≡ false
+  right_due = no_value (is_val p.mode) (is_flat p.ty) shapes.0
+
+  opened_here : opened nothing_opened params inputs ≡ opened begun.made (p ∷ others) rest
+  opened_here = begun.opened ∙ ap (λ ps. opened begun.made ps rest) here
+
+  all_here : params ≡ (begun.done ++ p ∷ []) ++ others
+  all_here = begun.all ∙ ap (λ ps. begun.done ++ ps) here ∙ sym (append_assoc begun.done (p ∷ []) others)
+
+  pub may_add : length params ≤ 8 → (servers : ℕ) → IsMade servers [] first nothing_opened → MayAdd o
+  may_add few servers nothing =
+      let count = length-append begun.done (p ∷ others) in
+      let all : length params ≡ length (begun.done ++ p ∷ others) = ap length (begun.all ∙ ap (λ ps. begun.done ++ ps) here) in
+      (servers, begun.done, begun.made, omega (arith, few, count, all), begun.is_made servers nothing)
+
+  pub output_begun : (new : OpenedParts) (after : List Input) → is_write p.mode ≡ true → Adds p (λ m. with_output m p.ty) o new → after ≡ rest → IsBegun first params inputs (index + 1) new after
+  output_begun new after write adds same = rw same (record {
+    done = begun.done ++ p ∷ [];
+    all = all_here;
+    made = with_output begun.made p.ty;
+    opened = opened_here ∙ rw write refl;
+    left = record {
+      few = omega (arith, left_here.few);
+      shape = shapes.1;
+      count = left_here.count ∙ ap length (skips p others write);
+      fit = ap (λ ps. are_inputs_of ps rest) (sym (skips p others write)) ∙ left_here.fit;
+    };
+    is_made = λ servers nothing. adds servers begun.done begun.made (begun.is_made servers nothing);
+  })
+
+  module _ (read : is_write p.mode ≡ false) where
+    count_here : length rest ≡ suc (length (input_params others))
+    count_here = left_here.count ∙ ap length (takes p others read)
+
+    pub some_left : length rest ≢ 0
+    some_left none = omega (arith, none, count_here)
+
+    module _ (i : Input) (after : List Input) (given : rest ≡ i ∷ after) where
+      fit_here : are_inputs_of (p ∷ input_params others) (i ∷ after) ≡ true
+      fit_here = ap (are_inputs_of (p ∷ input_params others)) (sym given) ∙ ap (λ ps. are_inputs_of ps rest) (sym (takes p others read)) ∙ left_here.fit
+
+      both : (is_input_of p.ty i ≡ true) × (are_inputs_of (input_params others) after ≡ true)
+      both = and_parts (is_input_of p.ty i) (are_inputs_of (input_params others) after) fit_here
+
+      pub fits : is_input_of p.ty i ≡ true
+      fits = both.0
+
+      pub given_begun : (new : OpenedParts) → Adds p (λ m. with_given m (Some i)) o new → IsBegun first params inputs (index + 1) new after
+      given_begun new adds = record {
+        done = begun.done ++ p ∷ [];
+        all = all_here;
+        made = with_given begun.made (Some i);
+        opened = opened_here ∙ ap (opened begun.made (p ∷ others)) given ∙ rw read refl;
+        left = record {
+          few = omega (arith, left_here.few);
+          shape = shapes.1;
+          count = let counts = ap length given in omega (arith, count_here, counts);
+          fit = both.1;
+        };
+        is_made = λ servers nothing. adds servers begun.done begun.made (begun.is_made servers nothing);
+      }
+
+-- all have
+pub all_begun : (first : OpenedParts) (params : List Param) (inputs : List Input) (index : ℕ) (o : OpenedParts) (rest : List Input) → length params ≤ index → IsBegun first params inputs index o rest
+    → (servers : ℕ) → IsMade servers [] first nothing_opened → IsMade servers params o (opened nothing_opened params inputs)
+all_begun first params inputs index o rest past begun servers nothing =
+    let none : drop index params ≡ [] = drop_all index params past in
+    let done : begun.done ≡ params = sym (begun.all ∙ ap (λ ps. begun.done ++ ps) none ∙ append-nil begun.done) in
+    let made : begun.made ≡ opened nothing_opened params inputs = sym (begun.opened ∙ ap (λ ps. opened begun.made ps rest) none) in
+    subst (λ (m : Opened). IsMade servers params o m) made (subst (λ (ps : List Param). IsMade servers ps o begun.made) done (begun.is_made servers nothing))

@@ -1,0 +1,243 @@
+//! A program is opened.
+
+ghost use Rattle.std.specs.Prelude.{◌≡◌, ◌<◌, ℕ, true, false, IfOk, OnOk, Some, []};
+ghost use Rattle.std.specs.FinMap as map;
+ghost use Rattle.tw_types.specs.declared.actor.Kind.TheVariants.{Control};
+ghost use Rattle.tw_types.specs.Mode.{is_val, is_write};
+ghost use Rattle.tw_code.specs.accepting.Needs.{HasTargets};
+ghost use Rattle.tw_code.specs.machine.Inputs.{AreInputsOf, is_input_of};
+ghost use Rattle.tw_code.specs.machine.Opening.{nothing_opened, opened, with_given, with_output};
+ghost use Rattle.tw_queue.specs.Queues.{room_for};
+ghost use Rattle.tw_parts.specs.OpenedParts.{Adds, AreForAll, IsMade, MainWaits, MayAdd};
+ghost use Rattle.tw_parts.specs.Opening.{IsOpening};
+
+use crate::givens::add_input;
+use crate::outputs::Outputs;
+use crate::parts::Parts;
+use crate::seats::Seats;
+use std::alloc::{AllocError, Global};
+use std::marker::Model;
+use tw_code::main_params;
+use tw_queue::{Task, TaskQueues};
+use tw_rights::{Arg, Bundle, ReadRight};
+use tw_rules::RuleTable;
+use tw_store::Store;
+use tw_types::{DatumId, Input, Kind, Layout, Param, TaskNo};
+use tw_verify::Verified;
+
+/// What was made for main's parameters so far: their data, the arguments that main gets, and the rights of the host on the
+/// outputs with their ids.
+struct Opened {
+    store: Store,
+    args: Bundle,
+    rights: Vec<ReadRight>,
+    ids: Vec<DatumId>,
+}
+
+impl Model for Opened {
+    ghost use Rattle.std.specs.Coded.{codes, coded_ℕ, coded_ℤ};
+    ghost use Rattle.std.specs.FinMap.{code};
+    ghost use Rattle.std.specs.Ordering.{int_cmp, nat_cmp};
+    ghost use Rattle.tw_types.specs.Store.{Datum as DatumMeaning};
+    ghost use Rattle.tw_parts.specs.OpenedParts.{OpenedParts};
+
+    ghost Value = { OpenedParts };
+
+    ghost coded = { Prim.hlevel (
+      codes,
+      code {X = DatumMeaning} {R = nat_cmp} coded_ℕ (Prim.hlevel (codes, code {R = int_cmp} coded_ℤ coded_ℕ)),
+      code {R = nat_cmp} coded_ℕ coded_ℕ,
+    ) };
+
+    ghost use Rattle.std.specs.Prelude.{◌≡◌, ◌≤◌, map as each, vec_capacity};
+    ghost use Rattle.tw_rights.specs.Rights.{Right};
+
+    ghost view = { λ o. record { store = o.store; args = o.args; outputs = o.rights.items } };
+
+    ghost invariant = { λ o. (o.ids.items ≡ each (λ (r : Right). r.id) o.rights.items) × (8 ≤ vec_capacity o.rights) × (8 ≤ vec_capacity o.ids) };
+}
+
+impl Opened {
+    /// Before the first parameter, with room for all.
+    fn new(alloc: Global, servers: u8) -> Result<Opened, AllocError>
+        requires { 0 < servers }
+        ensures { IfOk result (λ o. IsMade servers [] o nothing_opened) }
+    {
+        let store = Store::new(alloc, servers)?;
+        let ids = Vec::with_capacity(alloc, Bundle::MAX_LEN)?;
+        let rights = Vec::with_capacity(alloc, Bundle::MAX_LEN)?;
+        Ok(Opened {
+            store,
+            args: Bundle::new(),
+            rights,
+            ids,
+        })
+    }
+
+    /// All that stands for these parameters, with the inputs for those that take one.
+    fn of(
+        alloc: Global,
+        servers: u8,
+        params: &[Param],
+        inputs: &[Input],
+    ) -> Result<Opened, AllocError>
+        requires servers { 0 < servers }
+        requires all { AreForAll params.now inputs.now }
+        ensures { IfOk result (λ o. IsMade servers params.now o (opened nothing_opened params.now inputs.now)) }
+    {
+        let mut opened = Opened::new(alloc, servers)?;
+        match opened.add_all(alloc, params, inputs) {
+            Ok(()) => Ok(opened),
+            Err(_) => {
+                opened.shut();
+                Err(AllocError)
+            }
+        }
+    }
+
+    /// Adds what stands for each of the parameters, where there is nothing yet.
+    fn add_all(
+        &mut self,
+        alloc: Global,
+        params: &[Param],
+        inputs: &[Input],
+    ) -> Result<(), AllocError>
+        requires all { AreForAll params.now inputs.now }
+        requires first { (servers : ℕ) × IsMade servers [] self.old nothing_opened }
+        ensures { OnOk result ((servers : ℕ) → IsMade servers [] self.old nothing_opened → IsMade servers params.now self.new (opened nothing_opened params.now inputs.now)) }
+    {
+        let mut rest = inputs;
+        for param in params {
+            if param.mode.is_write() {
+                self.add_output(alloc, *param)?;
+            } else if let Some((input, others)) = rest.split_first() {
+                self.add_given(alloc, *param, input)?;
+                rest = others;
+            } else {
+                unreachable!();
+            }
+        }
+        Ok(())
+    }
+
+    /// Makes an output: main gets the right to write it, and the host that to read it.
+    fn add_output(&mut self, alloc: Global, param: Param) -> Result<(), AllocError>
+        requires mode { is_write param.mode ≡ true }
+        requires room { MayAdd self.old }
+        ensures { OnOk result (Adds param (λ o. with_output o param.ty) self.old self.new) }
+    {
+        let Ok(rights) = self.store.create(alloc, param.ty) else {
+            return Err(AllocError);
+        };
+        let (write, read) = rights;
+        let id = read.id();
+        self.rights.push_reserved(read);
+        self.ids.push_reserved(id);
+        match self.args.push(Arg::Write(write)) {
+            Ok(()) => Ok(()),
+            Err(_arg) => unreachable!(),
+        }
+    }
+
+    /// Makes the data of an input: main gets the right to read it.
+    fn add_given(&mut self, alloc: Global, param: Param, input: &Input) -> Result<(), AllocError>
+        requires read { is_write param.mode ≡ false }
+        requires right { is_val param.mode ≡ false }
+        requires fits { is_input_of param.ty input.now ≡ true }
+        requires room { MayAdd self.old }
+        ensures { OnOk result (Adds param (λ o. with_given o (Some input.now)) self.old self.new) }
+    {
+        let Ok(right) = add_input(alloc, &mut self.store, param.ty, input) else {
+            return Err(AllocError);
+        };
+        match self.args.push(Arg::Read(right)) {
+            Ok(()) => Ok(()),
+            Err(_arg) => unreachable!(),
+        }
+    }
+
+    /// Spends every right.
+    fn shut(self) {
+        let Opened {
+            store: _store,
+            args,
+            rights,
+            ids,
+        } = self;
+        args.shut();
+        let _ids = Outputs::new(rights, ids).shut();
+    }
+}
+
+/// Queues without a task, with room for main.
+fn queues_for_main(alloc: Global) -> Result<TaskQueues, AllocError>
+    ensures empty { IfOk result (λ queues. queues.tasks ≡ map.empty) }
+    ensures room { IfOk result (λ queues. room_for Control queues ≡ true) }
+{
+    let mut queues = TaskQueues::new(alloc)?;
+    match queues.reserve(Kind::Control) {
+        Ok(()) => Ok(queues),
+        Err(_) => {
+            queues.shut();
+            Err(AllocError)
+        }
+    }
+}
+
+impl<'a> Parts<'a> {
+    /// The parts of a program that is opened with these inputs: its data stand, and main waits.
+    pub fn open(
+        alloc: Global,
+        verified: &Verified,
+        inputs: &[Input],
+        layout: Layout,
+    ) -> Result<Parts<'a>, AllocError>
+        requires given { AreInputsOf verified.now.program inputs.now }
+        requires targets { HasTargets verified.now.program layout }
+        ensures { IfOk result (λ p. IsOpening verified.now inputs.now layout p) }
+    {
+        let params = main_params(verified.program().procedures());
+        let seats = Seats::new(alloc)?;
+        let Ok(queues) = queues_for_main(alloc) else {
+            seats.shut();
+            return Err(AllocError);
+        };
+        let Ok(opened) = Opened::of(alloc, layout.servers(), params, inputs) else {
+            seats.shut();
+            queues.shut();
+            return Err(AllocError);
+        };
+        Ok(Parts::begun(alloc, seats, queues, opened))
+    }
+
+    /// The parts in which main waits with what was made for it, and nobody runs.
+    fn begun(alloc: Global, seats: Seats<'a>, mut queues: TaskQueues, opened: Opened) -> Parts<'a>
+        requires tasks { queues.tasks ≡ map.empty }
+        requires room { room_for Control queues ≡ true }
+        ensures { MainWaits seats.entry opened result }
+    {
+        let Opened {
+            store,
+            args,
+            rights,
+            ids,
+        } = opened;
+        let main = Task {
+            no: TaskNo::new(1),
+            procedure: 0,
+            args,
+        };
+        match queues.put(Kind::Control, 0, None, main) {
+            Ok(()) => {}
+            Err(_task) => unreachable!(),
+        }
+        Parts {
+            store,
+            rules: RuleTable::new(alloc),
+            tasks: queues,
+            next_task: 2,
+            seats,
+            outputs: Outputs::new(rights, ids),
+        }
+    }
+}

@@ -1,0 +1,40 @@
+-- What holds of a pool before its first event.
+use Rattle.std.proofs.Common.{◌≡◌, ℕ, List, [], refl, sym, ap, subst, ◌∙◌, arith, length, Some, None}
+use Rattle.std.specs.FinMap as fin
+use Rattle.std.specs.FinMap.{get, get-empty}
+use Rattle.std.specs.FinSet as set
+use Rattle.tw_types.specs.declared.actor.Actor.{Actor}
+use Rattle.tw_types.specs.declared.input.Input.{Input}
+use Rattle.tw_types.specs.Actor.{actor_cmp}
+use Rattle.tw_types.specs.Layout.{ActorCounts}
+use Rattle.tw_types.specs.Outcome.{Went}
+use Rattle.tw_code.specs.machine.Machine.{run}
+use Rattle.tw_code.specs.machine.Opening.{opening, reached}
+use Rattle.tw_code.specs.machine.State.{State}
+use Rattle.tw_verify.specs.Typed.{TypedProgram}
+use Rattle.tw_frame.specs.Jobs.{FrameView}
+use Rattle.tw_parts.specs.Opening.{IsOpening}
+use Rattle.tw_parts.specs.Parts.{state_of}
+use Rattle.tw_parts.specs.Seats.{Seated}
+use Rattle.tw_parts.specs.declared.parts.Parts.{Parts}
+use Rattle.tw_pool.specs.Kept.{AreLent, IsKept}
+use Rattle.tw_pool.specs.Openings.{MayOpen}
+
+nobody : (seats : Seated) → seats ≡ fin.empty → AreLent [] seats
+nobody seats none actor f at = let no_one : None ≡ Some f = sym (get-empty actor_cmp actor) ∙ (sym (ap (λ (s : Seated). get s actor) none) ∙ at) in cc
+
+replays_nothing : (verified : TypedProgram) (inputs : List Input) (layout : ActorCounts) (s : State) → s ≡ opening verified.program inputs → reached verified.program inputs layout [] ≡ Went s
+unfolding run
+replays_nothing verified inputs layout s is = ap (λ (t : State). Went t) (sym is)
+
+pub kept : (verified : TypedProgram) (inputs : List Input) (layout : ActorCounts) (limit : ℕ) (p : Parts) → MayOpen verified.program inputs layout limit → IsOpening verified inputs layout p
+    → IsKept verified inputs layout limit [] p
+kept verified inputs layout limit p may opens = record {
+  given = may.inputs_are;
+  few = may.within.few;
+  within = omega arith;
+  notices = set.empty;
+  replays = replays_nothing verified inputs layout (state_of p set.empty) opens.state;
+  parts = opens.parts;
+  lent = λ room. nobody p.seats opens.nobody;
+}

@@ -1,0 +1,108 @@
+//! How a run is opened.
+
+ghost use Rattle.std.specs.Prelude.{◌≡◌, IfErr, IfOk, MatchOption};
+ghost use Rattle.tw_pool.specs.Openings.{IsRefusal, MayOpen, open_refusal_number, opened};
+
+use crate::history::History;
+use crate::pool::Pool;
+use std::alloc::{AllocError, Global};
+use tw_code::{has_fitting_inputs, has_input_count};
+use tw_parts::Parts;
+use tw_types::{Input, Layout};
+use tw_verify::Verified;
+
+/// Why a run isn't opened.
+#[derive(Clone, Copy, PartialEq, Eq)]
+pub enum OpenRefusal {
+    /// O01: another number of inputs than main takes.
+    InputCount,
+    /// O02: an input of another type than its parameter, with a text that is too long, or with members that are too many or
+    /// don't rise.
+    InputType,
+    /// O03: the layout lacks an actor that the program names as a target.
+    MissingTarget,
+    /// O04: the limit isn't one of 1 to 1,000,000.
+    LimitRange,
+    /// O05.
+    NoMemory,
+}
+
+impl OpenRefusal {
+    /// The number behind the letter O.
+    pub fn number(self) -> u8
+        ensures { result ≡ open_refusal_number self }
+    {
+        match self {
+            OpenRefusal::InputCount => 1,
+            OpenRefusal::InputType => 2,
+            OpenRefusal::MissingTarget => 3,
+            OpenRefusal::LimitRange => 4,
+            OpenRefusal::NoMemory => 5,
+        }
+    }
+}
+
+impl From<AllocError> for OpenRefusal {
+    ghost use Rattle.tw_pool.specs.declared.open.OpenRefusal.TheVariants.{NoMemory};
+
+    ghost from_gives = { λ _ e. e ≡ NoMemory };
+
+    fn from(_error: AllocError) -> OpenRefusal {
+        OpenRefusal::NoMemory
+    }
+}
+
+/// Why the run isn't opened, if it isn't for want of memory alone.
+fn refusal_of(
+    verified: &Verified,
+    inputs: &[Input],
+    layout: Layout,
+    limit: usize,
+) -> Option<OpenRefusal>
+    ensures { MatchOption result (MayOpen verified.now.program inputs.now layout limit) (IsRefusal verified.now.program inputs.now layout limit) }
+{
+    let program = verified.program().procedures();
+    if !has_input_count(program, inputs) {
+        return Some(OpenRefusal::InputCount);
+    }
+    if !has_fitting_inputs(program, inputs) {
+        return Some(OpenRefusal::InputType);
+    }
+    let (engines, workers) = verified.needs();
+    if layout.engines() < engines || layout.workers() < workers {
+        return Some(OpenRefusal::MissingTarget);
+    }
+    if limit == 0 || limit > History::MOST_EVENTS {
+        return Some(OpenRefusal::LimitRange);
+    }
+    None
+}
+
+impl<'a> Pool<'a> {
+    /// A run before its first event, in which main waits. Room for all its events is made here.
+    pub fn open(
+        alloc: Global,
+        verified: &'a Verified,
+        inputs: &'a [Input],
+        layout: Layout,
+        limit: usize,
+    ) -> Result<Pool<'a>, OpenRefusal>
+        ensures opened { IfOk result (λ p. p ≡ opened verified.now inputs.now layout limit) }
+        ensures allowed { IfOk result (λ p. MayOpen verified.now.program inputs.now layout limit) }
+        ensures refused { IfErr result (IsRefusal verified.now.program inputs.now layout limit) }
+    {
+        if let Some(why) = refusal_of(verified, inputs, layout, limit) {
+            return Err(why);
+        }
+        let history = History::with_capacity(alloc, limit)?;
+        let parts = Parts::open(alloc, verified, inputs, layout)?;
+        Ok(Pool {
+            verified,
+            inputs,
+            layout,
+            stopped: false,
+            history,
+            parts,
+        })
+    }
+}
