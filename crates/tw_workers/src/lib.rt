@@ -1,0 +1,10 @@
+//! Drivers that turn a host from its seats, each in a thread of its own.
+#![tactic(auto)]
+
+mod driver;
+mod gate;
+mod threads;
+
+pub use driver::{Driven, drive};
+pub use gate::{Gate, NoGate};
+pub use threads::{run, run_all};
