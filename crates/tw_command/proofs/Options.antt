@@ -1,16 +1,18 @@
--- The number of an option, by what the reader of digits answers.
-use Rattle.std.proofs.Common.{arith, ◌≡◌, ◌<◌, ◌∙◌, ◌&&◌, ℕ, Bool, true, false, List, [], ◌∷◌, length, get_or, inl, refl, sym, ap, cond, subst, Option, Some, None}
+-- The number of an option, by what the reader of digits answers; and what is read of a flag.
+use Rattle.std.proofs.Common.{arith, ◌≡◌, ◌<◌, ◌∙◌, ◌&&◌, ℕ, Bool, true, false, List, [], ◌∷◌, length, get_or, inl, refl, sym, ap, cond, subst, Option, Some, None, codes, unwrap_or}
 use Rattle.std.specs.Prelude.{nat_le, nat_lt, is_some, Result, Ok, Err}
 use Rattle.std.specs.Char.{digit_value}
 use Rattle.std.specs.Int.{IsInRange}
 use Rattle.std.specs.List.{list_all}
 use Rattle.std.specs.Option.{option_map_or}
 use Rattle.std.specs.Result.{result_ok}
-use Rattle.std.specs.Str.Parse.{AllDigits, digits_value}
+use Rattle.std.specs.Str.{bytes_eq}
+use Rattle.std.specs.Str.Parse.{AllDigits, ParsesBool, digits_value}
 use Rattle.std.proofs.lemmas.Bool.{leb-true, le-leb, ltb-true, lt-ltb}
 use Rattle.std.proofs.lemmas.List.Folds.{list_all_at}
+use Rattle.std.proofs.lemmas.Slice.Eq.{bytes_eq-Decides}
 use Rattle.clap.specs.ValueTests.{is_numeral}
-use Rattle.clap.specs.Words.{Kinds, Row, Text, first_value, rows_of}
+use Rattle.clap.specs.Words.{Kinds, ReadsOne, Row, Text, first_value, rows_of}
 use Rattle.clap.specs.declared.parser.matches.Found.{Found}
 use Rattle.clap.specs.declared.error.ErrorKind.TheVariants.{DisplayHelp, ValueValidation}
 use Rattle.clap.proofs.WalkLemmas.{both, first_value-rows}
@@ -113,3 +115,18 @@ actors_taken rows layout h = rw (h.0, h.1, h.2) refl
 
 pub actors_are : (rows : List Row) (layout : ActorCounts) → HasActors rows layout → layout ≡ actors_told rows
 actors_are rows layout h = rw (h.0, h.1, h.2) refl
+
+-- ---- a flag
+
+-- what is read of its text, where there is one, is whether it is given
+pub flag_read : (E : Type 0) (text : Option Text) (read : Option Bool) → (text ≡ None → read ≡ None)
+    → ((t : Text) → text ≡ Some t → ReadsOne (ParsesBool {E = E}) t read)
+    → unwrap_or read false ≡ option_map_or (λ t. bytes_eq t (codes "true")) text false
+flag_read E None read none is = ap (λ (r : Option Bool). unwrap_or r false) (none refl)
+flag_read E (Some t) (Some true) none is = rw (is t refl) refl
+flag_read E (Some t) (Some false) none is = rw (is t refl) refl
+flag_read E (Some t) None none is = go (bytes_eq t (codes "true")) refl
+  where
+    go : (b : Bool) → bytes_eq t (codes "true") ≡ b → false ≡ b
+    go true e = absurd ((is t refl).1.0 ((bytes_eq-Decides t (codes "true")).0 e))
+    go false e = refl

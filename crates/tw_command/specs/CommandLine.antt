@@ -1,11 +1,11 @@
 -- The command line: what clap is told of it, and what the words then ask for.
-use Rattle.std.specs.Prelude.{◌≡◌, ℕ, true, List, [], Option, Some, None, codes, bytes_eq, fold, if◌then◌else◌, map, unwrap_or}
+use Rattle.std.specs.Prelude.{◌≡◌, ◌++◌, ℕ, Bool, true, List, [], ◌∷◌, Option, Some, None, codes, bytes_eq, fold, if◌then◌else◌, map, unwrap_or}
 use Rattle.clap.specs.Kinds.{or_else}
 use Rattle.clap.specs.Lexer.{usize_max}
 use Rattle.clap.specs.Words.{App, Kinds, Row, Rule, Text, all_of, fault_of, new_app, new_rule, subcommand_of, with_rule, with_subcommand}
 use Rattle.tw_types.specs.Layout.{ActorCounts}
 use Rattle.tw_command.specs.InputWords.{AreSpelled, IsRefusedWord}
-use Rattle.tw_command.specs.Options.{NumberOption, actor_options, actors_told, limit, number_options, option_faults, option_rule, told}
+use Rattle.tw_command.specs.Options.{NumberOption, actor_options, actors_told, flag_rule, is_given, limit, number_options, option_faults, option_rule, told, trace}
 use Rattle.tw_command.specs.declared.command.Order.{Order}
 use Rattle.tw_command.specs.declared.command.Order.TheVariants.{Assemble, Program, Replay}
 use Rattle.tw_command.specs.declared.command.ProgramOrder.TheVariants.{Disassemble, Verified}
@@ -21,15 +21,16 @@ plain_line name = new_app name
 abbrev pub input_rule : Rule
 input_rule = record (new_rule (codes "input")) { range = Some (record { start_inclusive = 0; end_inclusive = usize_max }) }
 
--- a command with these options, and input words
-abbrev pub options_line : Text → List NumberOption → App
-options_line name options = with_rule (fold with_rule (new_app name) (map (λ o. option_rule o.name) options)) input_rule
+-- a command with these options and flags, and input words
+abbrev pub options_line : Text → List NumberOption → List Text → App
+options_line name options flags =
+    with_rule (fold with_rule (new_app name) (map (λ o. option_rule o.name) options ++ map flag_rule flags)) input_rule
 
 abbrev pub run_line : App
-run_line = options_line (codes "run") number_options
+run_line = options_line (codes "run") number_options (trace ∷ [])
 
 abbrev pub replay_line : App
-replay_line = options_line (codes "replay") actor_options
+replay_line = options_line (codes "replay") actor_options []
 
 -- the words come without the program's own name, and a command must be among them
 abbrev pub bare_line : App
@@ -52,18 +53,18 @@ command_line = with_subcommand (with_subcommand (with_subcommand (with_subcomman
 abbrev pub given_words : List Row → List Text
 given_words rows = unwrap_or (all_of (codes "input") rows) []
 
--- the command that was named; `run` with its actors, the most events of the run, and the input words; `replay` with its actors
--- and the input words
+-- the command that was named; `run` with its actors, the most events of the run, whether its history is written, and the input
+-- words; `replay` with its actors and the input words
 pub data Asked : Type 0 where
   Assembles : Asked
   Disassembles : Asked
   Checks : Asked
-  Runs : ActorCounts → ℕ → List Text → Asked
+  Runs : ActorCounts → ℕ → Bool → List Text → Asked
   Replays : ActorCounts → List Text → Asked
 
 -- `run`, by what clap found behind it
 abbrev pub run_asked : List Row → Asked
-run_asked rows = Runs (actors_told rows) (told limit rows) (given_words rows)
+run_asked rows = Runs (actors_told rows) (told limit rows) (is_given trace rows) (given_words rows)
 
 -- `replay`, by what clap found behind it
 abbrev pub replay_asked : List Row → Asked
@@ -87,8 +88,9 @@ abbrev pub IsAsked : Asked → Order → Type 0
 IsAsked Assembles order = order ≡ Assemble
 IsAsked Disassembles order = order ≡ Program Disassemble
 IsAsked Checks order = order ≡ Program (Verified Check)
-IsAsked (Runs layout most words) order =
-    (run : RunOrder) × (order ≡ Program (Verified (Run run))) × (run.layout ≡ layout) × (run.limit ≡ most) × AreSpelled run.inputs words
+IsAsked (Runs layout most traced words) order =
+    (run : RunOrder) × (order ≡ Program (Verified (Run run)))
+    × (run.layout ≡ layout) × (run.limit ≡ most) × (run.trace ≡ traced) × AreSpelled run.inputs words
 IsAsked (Replays layout words) order =
     (replay : ReplayOrder) × (order ≡ Replay replay) × (replay.layout ≡ layout) × AreSpelled replay.inputs words
 
@@ -97,7 +99,7 @@ abbrev pub IsRefusedInput : Asked → ℕ → Type 0
 IsRefusedInput Assembles number = ⊥
 IsRefusedInput Disassembles number = ⊥
 IsRefusedInput Checks number = ⊥
-IsRefusedInput (Runs layout most words) number = IsRefusedWord words number
+IsRefusedInput (Runs layout most traced words) number = IsRefusedWord words number
 IsRefusedInput (Replays layout words) number = IsRefusedWord words number
 
 -- ---- what refuses the words

@@ -1,11 +1,13 @@
--- The options of `run` and `replay`. Each takes a number.
-use Rattle.std.specs.Prelude.{◌≡◌, ◌&&◌, ℕ, List, [], ◌∷◌, Option, Some, None, codes, if◌then◌else◌, is_some, nat_le, unwrap_or}
+-- The options of `run` and `replay`. Each takes a number, but for a flag, which takes none.
+use Rattle.std.specs.Prelude.{◌≡◌, ◌&&◌, ℕ, Bool, false, List, [], ◌∷◌, Option, Some, None, codes, if◌then◌else◌, is_some, nat_le, unwrap_or}
 use Rattle.std.specs.List.{list_all}
 use Rattle.std.specs.Option.{option_map_or}
+use Rattle.std.specs.Str.{bytes_eq}
 use Rattle.std.specs.Str.Parse.{digits_value}
 use Rattle.tw_types.specs.Layout.{ActorCounts}
 use Rattle.clap.specs.ValueTests.{is_numeral}
-use Rattle.clap.specs.Words.{Kinds, Row, Rule, Text, first_of, new_rule}
+use Rattle.clap.specs.Words.{Kinds, Row, Rule, Text, first_of, new_rule, one_of}
+use Rattle.clap.specs.declared.builder.action.ArgAction.TheVariants.{SetTrue}
 use Rattle.clap.specs.declared.error.ErrorKind.TheVariants.{ValueValidation}
 
 -- its name, the greatest number that it takes, and the number where it isn't given
@@ -34,9 +36,17 @@ actor_options = engines ∷ servers ∷ workers ∷ []
 abbrev pub number_options : List NumberOption
 number_options = engines ∷ servers ∷ workers ∷ limit ∷ []
 
+-- the flag of `run`: the history is written before the report
+abbrev pub trace : Text
+trace = codes "trace"
+
 -- what clap is told of an option of this name
 abbrev pub option_rule : Text → Rule
 option_rule name = record (new_rule name) { long = Some name }
+
+-- and of a flag
+abbrev pub flag_rule : Text → Rule
+flag_rule name = record (option_rule name) { action = Some SetTrue }
 
 -- the number from 1 to this one that decimal digits spell; zeros may stand first
 abbrev pub number_in : ℕ → Text → Option ℕ
@@ -47,6 +57,10 @@ number_in most text =
 -- the number of an option, by what clap found; none where its word spells none that it takes
 abbrev pub number_of : NumberOption → List Row → Option ℕ
 number_of o rows = option_map_or (number_in o.most) (first_of o.name rows) (Some o.default)
+
+-- whether a flag is given, by what clap found
+abbrev pub is_given : Text → List Row → Bool
+is_given name rows = option_map_or (λ text. bytes_eq text (codes "true")) (one_of name rows) false
 
 -- the fault where one of these options has none
 abbrev pub option_faults : List NumberOption → List Row → Kinds

@@ -10,71 +10,22 @@ ghost use Rattle.tw_command.specs.declared.command.Order.TheVariants.{Program, R
 ghost use Rattle.tw_command.specs.declared.command.ProgramOrder.TheVariants.{Verified};
 ghost use Rattle.tw_command.specs.declared.command.VerifiedOrder.TheVariants.{Run};
 ghost use Rattle.tw_command.specs.InputWords.{AreSpelled};
-ghost use Rattle.tw_command.specs.Options.{HasActors, actor_options, limit, number_of, number_options, option_faults, option_rule};
+ghost use Rattle.tw_command.specs.Options.{HasActors, actor_options, flag_rule, is_given, limit, number_of, number_options, option_faults, option_rule};
 ghost use Rattle.std.specs.Int.{IsInRange};
 ghost use Rattle.tw_command.specs.Order.{HasReason, IsInputReason, IsReason};
 ghost use Rattle.tw_command.specs.declared.command.NoOrder.TheVariants.{NoMemory};
 
+use crate::help::{
+    ABOUT, ASM_ABOUT, CHECK_ABOUT, DISASM_ABOUT, ENGINES_HELP, INPUT_HELP, LIMIT_HELP,
+    REPLAY_ABOUT, RUN_ABOUT, SERVERS_HELP, TRACE_HELP, WORKERS_HELP,
+};
 use crate::input_words::input_of;
 use crate::limit::EventLimit;
 use clap::error::ErrorKind;
-use clap::{Arg, ArgMatches, Command, Error};
+use clap::{Arg, ArgAction, ArgMatches, Command, Error};
 use std::alloc::{AllocError, AllocFailed, Global};
 use tw_types::{Input, Items, Layout};
 use tw_words::digits;
-
-const ABOUT: &str = "Assembles, checks and runs dataflow programs of the task host.";
-
-const RUN_ABOUT: &str = "Runs a program and reports its outputs.
-
-The program is read from standard input as hex text: two digits a byte; spaces, tabs and line ends are skipped.
-Its inputs are the words behind the command, one word each, in the order of main's parameters. Examples: int:-7,
-text:abc, ints:1=7,5=-3 and texts:1=\"abc\",2=\"\"; the subscripts of a container rise, and it may have no member.
-Between quotes \\\", \\\\, \\n and \\x with two hex digits are read.
-Options take a number in decimal digits, and stand before, behind or between the inputs.
-The report has a line for each output, with a line for each member behind a container's, and then how the run ended.
-Exit status: 0 quiet, 1 refused, 2 command line or input word refused, 3 stuck, 4 event limit, 5 memory ran out,
-6 trap, 7 a read or write failed.";
-
-const REPLAY_ABOUT: &str =
-    "Makes the events of a history on the reference machine and reports the state that they leave.
-
-What is read from standard input is a program as hex text, a line `events`, a line for each event, and a line `end` or
-the end. Without a line `events` there are no events; what stands behind `end` isn't looked at. A history is what
-`tw run --trace` writes, or any other: take w0, local w0 3, call w0, end w0, ask e0 1 0, deliver s0 2 1 0, release e0 1.
-The program isn't verified first. Its inputs are words behind the command, as those of `tw run`.
-The report ends with a line that tells how the run ended, or with `running`.
-Exit status: 0 quiet or still running, 1 refused or an event that isn't enabled, 2 command line or input word refused,
-3 stuck, 5 memory ran out, 6 trap, 7 a read or write failed.";
-
-const ENGINES_HELP: &str = "How many engines: 1 to 4 (default: 1)";
-
-const SERVERS_HELP: &str = "How many servers: 1 to 4 (default: 1)";
-
-const WORKERS_HELP: &str = "How many workers: 1 to 16 (default: 1)";
-
-const LIMIT_HELP: &str = "The most events: 1 to 1000000 (default: 10000)";
-
-const INPUT_HELP: &str = "An input: int:, text:, ints: or texts:, and its value";
-
-const CHECK_ABOUT: &str = "Verifies a program and reports its budgets.
-
-The program is read from standard input as hex text: two digits a byte; spaces, tabs and line ends are skipped.
-Where it is accepted, a line for each procedure tells how many instructions a task of it does at most, and a last
-line how many engines and workers its targets need. Exit status: 0 accepted, 1 refused, 2 command line refused,
-5 memory ran out, 7 a read or write failed.";
-
-const ASM_ABOUT: &str = "Turns assembly text into a program.
-
-The text is read from standard input. What is written is the program as hex text, two digits a byte, in one line: what the
-other commands read. A text that spells no program is refused with the number and the line of its first fault.
-Exit status: 0 assembled, 1 refused, 2 command line refused, 5 memory ran out, 7 a read or write failed.";
-
-const DISASM_ABOUT: &str = "Writes a program as assembly text.
-
-The program is read from standard input as hex text: two digits a byte; spaces, tabs and line ends are skipped.
-It need not be one that is accepted. `tw asm` makes the same program of what is written.
-Exit status: 0 written, 1 refused, 2 command line refused, 5 memory ran out, 7 a read or write failed.";
 
 /// How a program is run.
 #[derive(Drop)]
@@ -83,6 +34,8 @@ pub struct RunOrder {
     pub layout: Layout,
     /// How many events may be made.
     pub limit: EventLimit,
+    /// Whether the history is written before the report.
+    pub trace: bool,
     /// Main's inputs, one for each input word, in their order.
     pub inputs: Items<Input>,
 }
@@ -169,6 +122,14 @@ fn option_arg<'a>(alloc: Global, name: &'a str, help: &'a str) -> Arg<'a>
     Arg::new(alloc, name).long(name).help(help)
 }
 
+/// An option without a value.
+fn flag_arg<'a>(alloc: Global, name: &'a str, help: &'a str) -> Arg<'a>
+    ensures rule { rule_of result ≡ flag_rule name.entry.now }
+    ensures local { result.global ≡ false }
+{
+    option_arg(alloc, name, help).action(ArgAction::SetTrue)
+}
+
 fn input_arg<'a>(alloc: Global) -> Arg<'a>
     ensures rule { rule_of result ≡ input_rule }
     ensures local { result.global ≡ false }
@@ -180,12 +141,13 @@ fn run_command<'a>(alloc: Global) -> Result<Command<'a>, AllocError>
     ensures app { IfOk result (λ c. app_of c ≡ run_line) }
     ensures local { IfOk result (λ c. (out-Command c).has_globals ≡ false) }
 {
-    let bare = Command::new(alloc, "run").about(RUN_ABOUT);
+    let bare = plain_command(alloc, "run", RUN_ABOUT);
     let engines = bare.arg(option_arg(alloc, "engines", ENGINES_HELP))?;
     let servers = engines.arg(option_arg(alloc, "servers", SERVERS_HELP))?;
     let workers = servers.arg(option_arg(alloc, "workers", WORKERS_HELP))?;
     let limit = workers.arg(option_arg(alloc, "limit", LIMIT_HELP))?;
-    let whole = limit.arg(input_arg(alloc))?;
+    let trace = limit.arg(flag_arg(alloc, "trace", TRACE_HELP))?;
+    let whole = trace.arg(input_arg(alloc))?;
     Ok(whole)
 }
 
@@ -193,7 +155,7 @@ fn replay_command<'a>(alloc: Global) -> Result<Command<'a>, AllocError>
     ensures app { IfOk result (λ c. app_of c ≡ replay_line) }
     ensures local { IfOk result (λ c. (out-Command c).has_globals ≡ false) }
 {
-    let bare = Command::new(alloc, "replay").about(REPLAY_ABOUT);
+    let bare = plain_command(alloc, "replay", REPLAY_ABOUT);
     let engines = bare.arg(option_arg(alloc, "engines", ENGINES_HELP))?;
     let servers = engines.arg(option_arg(alloc, "servers", SERVERS_HELP))?;
     let workers = servers.arg(option_arg(alloc, "workers", WORKERS_HELP))?;
@@ -274,6 +236,13 @@ fn limit_given(matches: &ArgMatches<'_>) -> Option<EventLimit>
     EventLimit::new(events as usize)
 }
 
+/// Whether a flag is given. `get_flag` promises nothing where the text found is neither `true` nor `false`.
+fn flag_given(matches: &ArgMatches<'_>, name: &str) -> bool
+    ensures { result ≡ is_given name.now (rows_of (found_of matches.now)) }
+{
+    matches.get_one(name).unwrap_or(false)
+}
+
 /// The inputs that words spell.
 fn inputs_of(alloc: Global, words: &[&str]) -> Result<Items<Input>, NoOrder>
     ensures spelled { IfOk result (λ inputs. AreSpelled inputs (map (λ word. word.now) words.now)) }
@@ -317,6 +286,7 @@ fn run_order(alloc: Global, matches: &ArgMatches<'_>) -> Result<RunOrder, NoOrde
     Ok(RunOrder {
         layout,
         limit,
+        trace: flag_given(matches, "trace"),
         inputs,
     })
 }

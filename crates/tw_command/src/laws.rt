@@ -1,8 +1,8 @@
 //! What the reading of words says at some words.
 
-ghost use Rattle.std.specs.Prelude.{◌≡◌, ℕ, List, [], ◌∷◌, codes};
+ghost use Rattle.std.specs.Prelude.{◌≡◌, ℕ, true, false, List, [], ◌∷◌, codes};
 ghost use Rattle.clap.specs.declared.error.ErrorKind.TheVariants.{ArgumentConflict, DisplayHelp, InvalidSubcommand};
-ghost use Rattle.clap.specs.declared.error.ErrorKind.TheVariants.{InvalidValue, UnknownArgument, ValueValidation};
+ghost use Rattle.clap.specs.declared.error.ErrorKind.TheVariants.{InvalidValue, TooManyValues, UnknownArgument, ValueValidation};
 ghost use Rattle.tw_command.specs.CommandLine.{Assembles, Checks, Disassembles, Replays, Runs, asked_by_words, word_faults};
 ghost use Rattle.tw_command.specs.Options.{actors};
 ghost use Rattle.tw_command.specs.InputWords.{OneInput, OneRefusedWord};
@@ -13,33 +13,39 @@ pub fn commands_are_taken()
     ensures disasm { (word_faults (codes "disasm" ∷ []) ≡ []) × (asked_by_words (codes "disasm" ∷ []) ≡ Disassembles) }
     ensures check { (word_faults (codes "check" ∷ []) ≡ []) × (asked_by_words (codes "check" ∷ []) ≡ Checks) }
     ensures run { (word_faults (codes "run" ∷ []) ≡ [])
-        × (asked_by_words (codes "run" ∷ []) ≡ Runs (actors 1 1 1) 10000 []) }
+        × (asked_by_words (codes "run" ∷ []) ≡ Runs (actors 1 1 1) 10000 false []) }
     ensures inputs { (word_faults (codes "run" ∷ codes "int:7" ∷ codes "text:a" ∷ []) ≡ [])
         × (asked_by_words (codes "run" ∷ codes "int:7" ∷ codes "text:a" ∷ [])
-        ≡ Runs (actors 1 1 1) 10000 (codes "int:7" ∷ codes "text:a" ∷ [])) }
+        ≡ Runs (actors 1 1 1) 10000 false (codes "int:7" ∷ codes "text:a" ∷ [])) }
     ensures first { (rest : List ℕ) → (word_faults (codes "run" ∷ (105 ∷ rest) ∷ []) ≡ [])
-        × (asked_by_words (codes "run" ∷ (105 ∷ rest) ∷ []) ≡ Runs (actors 1 1 1) 10000 ((105 ∷ rest) ∷ [])) }
+        × (asked_by_words (codes "run" ∷ (105 ∷ rest) ∷ []) ≡ Runs (actors 1 1 1) 10000 false ((105 ∷ rest) ∷ [])) }
     ensures before { (word_faults (codes "run" ∷ codes "--workers" ∷ codes "16" ∷ codes "int:7" ∷ []) ≡ [])
         × (asked_by_words (codes "run" ∷ codes "--workers" ∷ codes "16" ∷ codes "int:7" ∷ [])
-        ≡ Runs (actors 1 1 16) 10000 (codes "int:7" ∷ [])) }
+        ≡ Runs (actors 1 1 16) 10000 false (codes "int:7" ∷ [])) }
     ensures between { (word_faults (codes "run" ∷ codes "int:7" ∷ codes "--servers=3" ∷ codes "int:8" ∷ []) ≡ [])
         × (asked_by_words (codes "run" ∷ codes "int:7" ∷ codes "--servers=3" ∷ codes "int:8" ∷ [])
-        ≡ Runs (actors 1 3 1) 10000 (codes "int:7" ∷ codes "int:8" ∷ [])) }
+        ≡ Runs (actors 1 3 1) 10000 false (codes "int:7" ∷ codes "int:8" ∷ [])) }
     ensures behind { (word_faults (codes "run" ∷ codes "int:7" ∷ codes "--limit" ∷ codes "9" ∷ codes "--engines=2" ∷ [])
         ≡ [])
         × (asked_by_words (codes "run" ∷ codes "int:7" ∷ codes "--limit" ∷ codes "9" ∷ codes "--engines=2" ∷ [])
-        ≡ Runs (actors 2 1 1) 9 (codes "int:7" ∷ [])) }
+        ≡ Runs (actors 2 1 1) 9 false (codes "int:7" ∷ [])) }
+    ensures trace { (word_faults (codes "run" ∷ codes "--trace" ∷ codes "int:7" ∷ []) ≡ [])
+        × (asked_by_words (codes "run" ∷ codes "--trace" ∷ codes "int:7" ∷ [])
+        ≡ Runs (actors 1 1 1) 10000 true (codes "int:7" ∷ [])) }
+    ensures last { (word_faults (codes "run" ∷ codes "int:7" ∷ codes "--limit" ∷ codes "100" ∷ codes "--trace" ∷ []) ≡ [])
+        × (asked_by_words (codes "run" ∷ codes "int:7" ∷ codes "--limit" ∷ codes "100" ∷ codes "--trace" ∷ [])
+        ≡ Runs (actors 1 1 1) 100 true (codes "int:7" ∷ [])) }
     ensures replay { (word_faults (codes "replay" ∷ codes "--workers" ∷ codes "2" ∷ codes "int:7" ∷ []) ≡ [])
         × (asked_by_words (codes "replay" ∷ codes "--workers" ∷ codes "2" ∷ codes "int:7" ∷ [])
         ≡ Replays (actors 1 1 2) (codes "int:7" ∷ [])) }
 {}
 
 /// Words are refused that name no command, or come after `check`; so is an option that isn't known, comes twice, or has
-/// no number in its range.
+/// no number in its range, and a flag with a value.
 pub fn strangers_are_refused()
     ensures command { word_faults (codes "walk" ∷ []) ≡ UnknownArgument ∷ InvalidSubcommand ∷ [] }
     ensures help { word_faults (codes "run" ∷ codes "--help" ∷ []) ≡ DisplayHelp ∷ [] }
-    ensures option { word_faults (codes "run" ∷ codes "--trace" ∷ []) ≡ UnknownArgument ∷ [] }
+    ensures option { word_faults (codes "run" ∷ codes "--engine" ∷ []) ≡ UnknownArgument ∷ [] }
     ensures input { word_faults (codes "check" ∷ codes "int:7" ∷ []) ≡ UnknownArgument ∷ [] }
     ensures second { word_faults (codes "check" ∷ codes "--workers" ∷ codes "2" ∷ []) ≡ UnknownArgument ∷ [] }
     ensures twice { word_faults (codes "run" ∷ codes "--limit=5" ∷ codes "--limit=5" ∷ []) ≡ ArgumentConflict ∷ [] }
@@ -47,6 +53,9 @@ pub fn strangers_are_refused()
     ensures none { word_faults (codes "run" ∷ codes "--workers" ∷ codes "0" ∷ []) ≡ ValueValidation ∷ [] }
     ensures past { word_faults (codes "run" ∷ codes "--workers" ∷ codes "17" ∷ codes "7" ∷ []) ≡ ValueValidation ∷ [] }
     ensures limit { word_faults (codes "replay" ∷ codes "--limit" ∷ codes "9" ∷ []) ≡ UnknownArgument ∷ [] }
+    ensures trace { word_faults (codes "replay" ∷ codes "--trace" ∷ []) ≡ UnknownArgument ∷ [] }
+    ensures traces { word_faults (codes "run" ∷ codes "--trace" ∷ codes "--trace" ∷ []) ≡ ArgumentConflict ∷ [] }
+    ensures value { word_faults (codes "run" ∷ codes "--trace=true" ∷ []) ≡ TooManyValues ∷ [] }
     ensures word { word_faults (codes "run" ∷ codes "--engines" ∷ codes "+1" ∷ []) ≡ ValueValidation ∷ [] }
 {}
 

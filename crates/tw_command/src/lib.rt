@@ -4,6 +4,7 @@
 #![tactic(auto)]
 
 mod command;
+mod help;
 mod input_words;
 mod laws;
 mod limit;

@@ -1,5 +1,5 @@
 -- The words that are read as an event are those that spell it.
-use Rattle.std.proofs.Common.{◌≡◌, ◌==◌, ℕ, Bool, true, false, cond, List, [], ◌∷◌, ◌++◌, codes, Option, Some, None, refl, sym, ap, subst, ◌∙◌, arith}
+use Rattle.std.proofs.Common.{◌≡◌, ◌==◌, ℕ, Bool, true, false, cond, List, [], ◌∷◌, codes, Option, Some, None, refl, sym, ap, subst, ◌∙◌}
 use Rattle.std.specs.Int.{IsInRange}
 use Rattle.std.specs.Option.{MatchOption, option_and_then, option_map, option_or}
 use Rattle.std.specs.Str.{bytes_eq}
@@ -11,7 +11,7 @@ use Rattle.tw_types.specs.declared.event.Event.{Event}
 use Rattle.tw_types.specs.declared.event.Event.TheVariants.{Take, Local, Call, End, Ask, Deliver, Release}
 use Rattle.tw_types.specs.Actor.{number_in_kind}
 use Rattle.tw_words.specs.Number.{SpellsDigits}
-use Rattle.tw_report.specs.Events.{IsByte, IsEvent, IsWord, Name, Number, Part, SpellParts, SpellsPart, SpellsEvent, actor_part, event_parts, words_in}
+use Rattle.tw_report.specs.Events.{IsByte, IsEvent, Name, Number, Part, SpellParts, SpellsPart, SpellsEvent, actor_part, event_parts, words_in}
 use Rattle.tw_report.specs.reading.Event.{actor_in, alone, ask_in, behind, deliver_in, event_in, first, for_actor, local_in, named, number_in, release_in, words_64}
 use Rattle.tw_report.specs.reading.Words.{with_word}
 use Rattle.tw_report.proofs.Readings.{number_read, number_spelled}

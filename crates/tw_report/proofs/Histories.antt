@@ -1,12 +1,12 @@
 -- Histories, line by line; and that no lines tell two.
-use Rattle.std.proofs.Common.{◌≡◌, ◌⊎◌, ◌==◌, ◌+◌, ◌≤◌, ℕ, suc, Bool, true, false, List, [], ◌∷◌, ◌++◌, length, codes, Option, Some, None, Result, Ok, Err, inl, inr, refl, sym, ap, subst, ◌∙◌, append_assoc, arith}
+use Rattle.std.proofs.Common.{◌≡◌, ◌⊎◌, ◌==◌, ◌+◌, ◌≤◌, ℕ, List, [], ◌∷◌, length, codes, Result, Ok, Err, inl, inr, sym, ap, subst, ◌∙◌, arith}
 use Rattle.std.specs.List.{AllByRecursion}
 use Rattle.std.proofs.lemmas.List.Splits.{length-slice_split}
 use Rattle.std.proofs.lemmas.List.Sums.{count_by-le-length}
 use Rattle.tw_types.specs.declared.event.Event.{Event}
 use Rattle.tw_types.specs.declared.event.Event.TheVariants.{Take, Local, Call, End, Ask, Deliver, Release}
 use Rattle.tw_report.specs.Events.{IsEvent, SpellParts, SpellsEvent, event_parts, words_in}
-use Rattle.tw_report.specs.History.{IsBlank, IsEnd, IsUnknown, OneHistory, Tell, behind_blank, behind_event, lines_in}
+use Rattle.tw_report.specs.History.{IsBlank, IsEnd, OneHistory, Tell, behind_blank, behind_event, lines_in}
 use Rattle.tw_report.proofs.Written.{one_event}
 
 -- ---- one history

@@ -1,13 +1,13 @@
 -- A history as it is read, line by line.
 use Rattle.std.proofs.Common.{◌≡◌, ◌⊎◌, ◌==◌, ◌+◌, ◌-◌, ◌<◌, ◌≤◌, ℕ, suc, Bool, true, false, List, [], ◌∷◌, ◌++◌, codes, length, get_or, take, drop, Option, Some, None, Result, Ok, Err, inl, inr, refl, sym, ap, subst, ◌∙◌, append_assoc, arith}
-use Rattle.std.specs.List.{AllByRecursion, onto_first, slice_split}
+use Rattle.std.specs.List.{AllByRecursion, onto_first}
 use Rattle.std.proofs.lemmas.Bool.{eqb-true}
-use Rattle.std.proofs.lemmas.List.{append-nil, drop_at, length-append, length-drop, take-append-drop, take_all, take_at, take_more}
+use Rattle.std.proofs.lemmas.List.{append-nil, length-append, length-drop, take-append-drop, take_all, take_at, take_more}
 use Rattle.std.proofs.lemmas.List.Splits.{slice_split-cons_no}
 use Rattle.tw_types.specs.declared.event.Event.{Event}
 use Rattle.tw_words.proofs.Writing.{all_append}
 use Rattle.tw_report.specs.Events.{SpellsEvent}
-use Rattle.tw_report.specs.History.{AreParts, HasNoHistory, HasNoLineFeed, IsBlank, IsCut, IsEnd, IsNoHistory, IsUnknown, IsWord, Tell, behind_blank, behind_event, lines_in, text_of}
+use Rattle.tw_report.specs.History.{AreParts, HasNoLineFeed, IsBlank, IsNoHistory, IsWord, Tell, behind_blank, behind_event, lines_in, text_of}
 use Rattle.tw_report.specs.reading.History.{Follows, IsFirstLine, IsReadTo, Takes, onto}
 use Rattle.tw_report.specs.declared.history.HistoryFault.{HistoryFault}
 use Rattle.tw_report.specs.declared.history.HistoryFault.TheVariants.{UnknownLine, NoMemory}

@@ -1,5 +1,5 @@
 -- Rules that are pending, one by one; and when there may be a circle.
-use Rattle.std.proofs.Common.{◌≡◌, ◌==◌, ◌+◌, ◌<◌, ℕ, Bool, true, false, cond, arith, List, [], ◌∷◌, ◌++◌, length, map, get_or, drop, Option, Some, None, refl, sym, ap, ◌∙◌, append_assoc, add-one, drop-cons}
+use Rattle.std.proofs.Common.{◌≡◌, ◌==◌, ◌+◌, ◌<◌, ℕ, Bool, true, false, cond, arith, List, [], ◌∷◌, ◌++◌, length, map, get_or, drop, Some, None, refl, sym, ap, ◌∙◌, append_assoc, add-one, drop-cons}
 use Rattle.std.proofs.lemmas.List.{append-nil}
 use Rattle.std.specs.Cmp.{nat_cmp_total}
 use Rattle.std.specs.FinMap.{entries, len}
@@ -9,7 +9,6 @@ use Rattle.std.specs.Ordering.{nat_cmp}
 use Rattle.tw_types.specs.declared.ending.Ending.{Ending}
 use Rattle.tw_types.specs.declared.ending.Ending.TheVariants.{Quiet, Stuck}
 use Rattle.tw_types.specs.declared.param.Param.{Param}
-use Rattle.tw_types.specs.declared.pending.Link.{Link}
 use Rattle.tw_types.specs.declared.pending.Pending.{Pending}
 use Rattle.tw_types.specs.declared.stage.Stage.{Stage}
 use Rattle.tw_types.specs.Circle.{circle_of}
@@ -21,8 +20,6 @@ use Rattle.tw_code.specs.declared.procedure.Procedure.{Procedure}
 use Rattle.tw_code.specs.machine.Ending.{ending, is_quiet}
 use Rattle.tw_code.specs.machine.Pending.{circle, pending_of, pending_rules, waited_for, written_by}
 use Rattle.tw_code.specs.machine.State.{State}
-use Rattle.tw_instr.specs.Arguments.{arg_of}
-use Rattle.tw_instr.specs.declared.arguments.Arg as code
 use Rattle.tw_machine.specs.Parts.{rules_of}
 
 pub waited_more : (stage : Stage) (arg : Arg) (stages : List Stage) (args : List Arg) → waited_for (stage ∷ stages) (arg ∷ args) ≡ waited_for (stage ∷ []) (arg ∷ []) ++ waited_for stages args
@@ -71,18 +68,19 @@ circle_some program s end some = by (is_quiet s) refl some
 
 -- ---- one argument more
 
-pub waited_step : (stages : List Stage) (i : ℕ) (stage : Stage) (rest others : List code.Arg) (arg : code.Arg) (ids new whole : List ℕ) → i < length stages → rest ≡ arg ∷ others
-    → new ≡ ids ++ waited_for (get_or stages i stage ∷ []) (arg_of arg ∷ []) → ids ++ waited_for (drop i stages) (map arg_of rest) ≡ whole → new ++ waited_for (drop (i + 1) stages) (map arg_of others) ≡ whole
-waited_step stages i stage rest others arg ids new whole inside is made before =
-    let one = get_or stages i stage in
-    let next : drop i stages ≡ one ∷ drop (i + 1) stages = drop-cons stages i stage inside ∙ ap (λ (n : ℕ). one ∷ drop n stages) (sym (add-one i)) in
-    ap (λ (t : List ℕ). t ++ waited_for (drop (i + 1) stages) (map arg_of others)) made
-    ∙ append_assoc ids (waited_for (one ∷ []) (arg_of arg ∷ [])) (waited_for (drop (i + 1) stages) (map arg_of others))
-    ∙ ap (λ (t : List ℕ). ids ++ t) (sym (waited_more one (arg_of arg) (drop (i + 1) stages) (map arg_of others)))
-    ∙ ap (λ (ss : List Stage). ids ++ waited_for ss (map arg_of (arg ∷ others))) (sym next)
-    ∙ ap (λ (given : List code.Arg). ids ++ waited_for (drop i stages) (map arg_of given)) (sym is)
-    ∙ before
+module _ {A : Type 0} (meaning : A → Arg) where
+  pub waited_step : (stages : List Stage) (i : ℕ) (stage : Stage) (rest others : List A) (arg : A) (ids new whole : List ℕ) → i < length stages → rest ≡ arg ∷ others
+      → new ≡ ids ++ waited_for (get_or stages i stage ∷ []) (meaning arg ∷ []) → ids ++ waited_for (drop i stages) (map meaning rest) ≡ whole → new ++ waited_for (drop (i + 1) stages) (map meaning others) ≡ whole
+  waited_step stages i stage rest others arg ids new whole inside is made before =
+      let one = get_or stages i stage in
+      let next : drop i stages ≡ one ∷ drop (i + 1) stages = drop-cons stages i stage inside ∙ ap (λ (n : ℕ). one ∷ drop n stages) (sym (add-one i)) in
+      ap (λ (t : List ℕ). t ++ waited_for (drop (i + 1) stages) (map meaning others)) made
+      ∙ append_assoc ids (waited_for (one ∷ []) (meaning arg ∷ [])) (waited_for (drop (i + 1) stages) (map meaning others))
+      ∙ ap (λ (t : List ℕ). ids ++ t) (sym (waited_more one (meaning arg) (drop (i + 1) stages) (map meaning others)))
+      ∙ ap (λ (ss : List Stage). ids ++ waited_for ss (map meaning (arg ∷ others))) (sym next)
+      ∙ ap (λ (given : List A). ids ++ waited_for (drop i stages) (map meaning given)) (sym is)
+      ∙ before
 
-pub waited_end : (stages : List Stage) (rest : List code.Arg) (ids whole : List ℕ) → length rest ≡ 0 → ids ++ waited_for stages (map arg_of rest) ≡ whole → ids ≡ whole
-waited_end stages [] ids whole none before = sym (append-nil ids) ∙ ap (λ (t : List ℕ). ids ++ t) (sym (waited_none stages)) ∙ before
-waited_end stages (arg ∷ rest) ids whole none before = absurd (omega (arith, none))
+  pub waited_end : (stages : List Stage) (rest : List A) (ids whole : List ℕ) → length rest ≡ 0 → ids ++ waited_for stages (map meaning rest) ≡ whole → ids ≡ whole
+  waited_end stages [] ids whole none before = sym (append-nil ids) ∙ ap (λ (t : List ℕ). ids ++ t) (sym (waited_none stages)) ∙ before
+  waited_end stages (arg ∷ rest) ids whole none before = absurd (omega (arith, none))

@@ -1,10 +1,10 @@
 -- One output more, and one member more.
-use Rattle.std.proofs.Common.{◌≡◌, ◌<◌, ◌+◌, ℕ, ℤ, suc, List, [], ◌∷◌, ◌++◌, length, take, get_or, sym, ap, ◌∙◌, arith, append_assoc, Option, Some, None, ◌≤◌}
+use Rattle.std.proofs.Common.{◌≡◌, ◌<◌, ◌+◌, ℕ, ℤ, suc, List, [], ◌∷◌, ◌++◌, length, take, get_or, sym, ap, ◌∙◌, arith, append_assoc, Option, Some, None, ◌≤◌, refl, option_map}
 use Rattle.std.specs.Prelude.{slice_get}
 use Rattle.std.proofs.lemmas.List.{append-nil, flat_map_more, length-take, take_all, take_more}
 use Rattle.std.proofs.lemmas.Option.{slice_get-get_or, slice_get_within}
 use Rattle.std.specs.FinMap as fin
-use Rattle.tw_types.specs.Store.{Data, Members}
+use Rattle.tw_types.specs.Store.{Data, Datum, Members}
 use Rattle.tw_report.specs.Report.{member_line, member_lines, output_text, output_texts}
 
 -- ---- outputs
@@ -37,28 +37,41 @@ one_output_more live ids n id old out new lt is before made =
 some_entry : (x y : ℤ × ℕ) → ◌≡◌ {A = Option (ℤ × ℕ)} (Some x) (Some y) → x ≡ y
 some_entry x y e = cc
 
--- the text with the line of member i added, where the lines before it stand
-pub one_member_more : (live : Data) (es : List (ℤ × ℕ)) (i : ℕ) (e : ℤ × ℕ) (old out new : List ℕ) → Some e ≡ slice_get es i → out ≡ old ++ member_lines live (take i es)
-    → new ≡ out ++ member_line e.0 (fin.get live e.1) → new ≡ old ++ member_lines live (take (i + 1) es)
-one_member_more live es i e old out new at before made =
-    let lt : i < length es = slice_get_within es i e (sym at) in
-    let is : get_or es i e ≡ e = some_entry _ _ (sym (slice_get-get_or es i e lt) ∙ sym at) in
-    let one : take (i + 1) es ≡ take i es ++ e ∷ [] = take_more es i e lt ∙ ap (λ (x : ℤ × ℕ). take i es ++ x ∷ []) is in
-    made
-    ∙ ap (λ (t : List ℕ). t ++ member_line e.0 (fin.get live e.1)) before
-    ∙ flat_map_more (λ (x : ℤ × ℕ). member_line x.0 (fin.get live x.1)) old (take i es) e
-    ∙ ap (λ (ms : List (ℤ × ℕ)). old ++ member_lines live ms) (sym one)
+-- the subscript and the datum of an entry
+abbrev pub told_of : Data → ℤ × ℕ → ℤ × Option Datum
+told_of live e = (e.0, fin.get live e.1)
 
-never_none : (x : ℤ × ℕ) → ◌≡◌ {A = Option (ℤ × ℕ)} None (Some x) → ⊥
-never_none x e = cc
+-- what stands at an index, by what is told of it
+entry_told : (live : Data) (m : ℤ × Option Datum) (found : Option (ℤ × ℕ)) → ◌≡◌ {A = Option (ℤ × Option Datum)} (Some m) (option_map (told_of live) found) → (e : ℤ × ℕ) × (found ≡ Some e) × (m ≡ told_of live e)
+entry_told live m None is = absurd (cc)
+entry_told live m (Some e) is = (e, refl, cc)
+
+-- the text with the line of member i added, where the lines before it stand
+pub one_member_more : (live : Data) (es : List (ℤ × ℕ)) (i : ℕ) (m : ℤ × Option Datum) (old out new : List ℕ) → Some m ≡ option_map (told_of live) (slice_get es i) → out ≡ old ++ member_lines live (take i es)
+    → new ≡ out ++ member_line m.0 m.1 → new ≡ old ++ member_lines live (take (i + 1) es)
+one_member_more live es i m old out new at before made = by (entry_told live m (slice_get es i) at)
+  where
+    by : (e : ℤ × ℕ) × (slice_get es i ≡ Some e) × (m ≡ told_of live e) → new ≡ old ++ member_lines live (take (i + 1) es)
+    by (e, found, told) =
+        let lt : i < length es = slice_get_within es i e found in
+        let is : get_or es i e ≡ e = some_entry _ _ (sym (slice_get-get_or es i e lt) ∙ found) in
+        let one : take (i + 1) es ≡ take i es ++ e ∷ [] = take_more es i e lt ∙ ap (λ (x : ℤ × ℕ). take i es ++ x ∷ []) is in
+        made
+        ∙ ap (λ (x : ℤ × Option Datum). out ++ member_line x.0 x.1) told
+        ∙ ap (λ (t : List ℕ). t ++ member_line e.0 (fin.get live e.1)) before
+        ∙ flat_map_more (λ (x : ℤ × ℕ). member_line x.0 (fin.get live x.1)) old (take i es) e
+        ∙ ap (λ (ms : List (ℤ × ℕ)). old ++ member_lines live ms) (sym one)
+
+never_none : (live : Data) (x : ℤ × ℕ) → ◌≡◌ {A = Option (ℤ × Option Datum)} None (option_map (told_of live) (Some x)) → ⊥
+never_none live x e = cc
 
 -- a member stands at each index below their number
-pub is_there : (members : Members) (i count : ℕ) → count ≡ fin.len members → i < count → None ≡ slice_get (fin.entries members) i → ⊥
-is_there members i count all lt none = by (fin.entries members) (omega (arith, lt, all, fin.len-entries members)) none
+pub is_there : (live : Data) (members : Members) (i count : ℕ) → count ≡ fin.len members → i < count → None ≡ option_map (told_of live) (slice_get (fin.entries members) i) → ⊥
+is_there live members i count all lt none = by (fin.entries members) (omega (arith, lt, all, fin.len-entries members)) none
   where
-    by : (es : List (ℤ × ℕ)) → i < length es → None ≡ slice_get es i → ⊥
+    by : (es : List (ℤ × ℕ)) → i < length es → None ≡ option_map (told_of live) (slice_get es i) → ⊥
     by [] inside none = absurd (omega (arith, inside))
-    by (e ∷ es) inside none = never_none (get_or (e ∷ es) i e) (none ∙ slice_get-get_or (e ∷ es) i e inside)
+    by (e ∷ es) inside none = never_none live (get_or (e ∷ es) i e) (none ∙ ap (option_map (told_of live)) (slice_get-get_or (e ∷ es) i e inside))
 
 -- all have been added
 pub all_members : (live : Data) (members : Members) (i count : ℕ) (old out : List ℕ) → count ≡ fin.len members → count ≤ i → out ≡ old ++ member_lines live (take i (fin.entries members)) → out ≡ old ++ member_lines live (fin.entries members)

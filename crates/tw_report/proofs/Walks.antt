@@ -1,10 +1,10 @@
 -- One step of the walk.
-use Rattle.std.proofs.Common.{◌≡◌, ◌==◌, ℕ, zero, suc, Bool, true, false, if◌then◌else◌, List, [], ◌∷◌, ◌++◌, slice_get, Option, Some, None, refl, ap, ◌∙◌}
+use Rattle.std.proofs.Common.{◌≡◌, ◌==◌, ℕ, zero, suc, Bool, true, false, List, [], ◌∷◌, ◌++◌, slice_get, Some, None, refl, ap}
 use Rattle.std.specs.Prelude.{◌||◌}
 use Rattle.std.specs.List.{list_any}
 use Rattle.tw_types.specs.declared.pending.Link.{Link}
 use Rattle.tw_types.specs.declared.pending.Pending.{Pending}
-use Rattle.tw_types.specs.Circle.{is_met, since, step_from, walk, writer_of}
+use Rattle.tw_types.specs.Circle.{is_met, since, walk, writer_of}
 
 pub walk_met : (steps : ℕ) (rules : List Pending) (trail : List Link) (at : Pending) → is_met at.number trail ≡ true → walk steps rules trail at ≡ Some (since at.number trail)
 walk_met zero rules trail at met = rw met refl

@@ -1,22 +1,20 @@
 -- What is written of an event is read back.
-use Rattle.std.proofs.Common.{◌≡◌, ◌==◌, ◌<◌, ◌^◌, ℕ, Bool, true, false, List, [], ◌∷◌, ◌++◌, codes, map, Option, Some, None, refl, sym, ap, subst, ◌∙◌, arith}
+use Rattle.std.proofs.Common.{◌≡◌, ◌<◌, ◌^◌, ℕ, true, false, List, [], ◌∷◌, ◌++◌, map, Some, refl, sym, ap, subst, ◌∙◌, arith}
 use Rattle.std.specs.Fmt.{decimal}
 use Rattle.std.specs.Int.{IsInRange}
 use Rattle.std.specs.List.{AllByRecursion, filter, join_with_byte, onto_first, slice_split}
 use Rattle.std.proofs.lemmas.Fmt.{decimal_is_IsNumeral}
-use Rattle.std.proofs.lemmas.List.Splits.{slice_split-cons_no, slice_split-cons_yes}
+use Rattle.std.proofs.lemmas.List.Splits.{slice_split-cons_no}
 use Rattle.tw_types.specs.declared.actor.Actor.{Actor}
 use Rattle.tw_types.specs.declared.actor.Actor.TheVariants.{Engine, Server, Worker}
 use Rattle.tw_types.specs.declared.event.Event.{Event}
 use Rattle.tw_types.specs.declared.event.Event.TheVariants.{Take, Local, Call, End, Ask, Deliver, Release}
 use Rattle.tw_types.specs.Actor.{number_in_kind}
-use Rattle.tw_words.specs.Number.{SpellsDigits}
 use Rattle.tw_words.specs.Words.{is_edge, is_parting}
 use Rattle.tw_words.proofs.Once.{no_edge}
 use Rattle.tw_words.proofs.Writing.{all_append, decimal_bare, decimal_clean}
 use Rattle.tw_words.specs.Words.{IsBare}
-use Rattle.tw_report.specs.Events.{EventsAreReadBack, IsByte, IsEvent, IsWord, Name, Number, OneEvent, Part, SpellParts, SpellsPart, actor_part, event_parts, event_text, has_bytes, part_text, words_in}
-use Rattle.tw_report.specs.reading.Event.{event_in}
+use Rattle.tw_report.specs.Events.{EventsAreReadBack, IsByte, IsEvent, IsWord, Name, Number, OneEvent, Part, SpellParts, SpellsPart, actor_part, event_parts, has_bytes, part_text, words_in}
 use Rattle.tw_report.proofs.EventReading.{event_read}
 
 -- ---- one event

@@ -1,32 +1,39 @@
-//! The rules that are pending in a state of the reference machine.
+//! The rules that are pending, in a state of the reference machine and at the end of a run on the pool.
 
 ghost use Rattle.std.specs.Prelude.{◌≡◌, ◌++◌, ◌∷◌, [], map, IfOk, OnOk};
-ghost use Rattle.std.specs.List.Sorted.{IsStrictlySortedBy};
+ghost use Rattle.std.specs.List.Sorted.{IsNonDecreasingBy, IsPermutation, IsStrictlySortedBy};
 ghost use Rattle.std.specs.Map.{keys_of};
 ghost use Rattle.std.specs.Ordering.{nat_cmp};
+ghost use Rattle.tw_types.specs.declared.pending.Pending.{Pending as APending};
 ghost use Rattle.tw_code.specs.machine.Arguments.{params_of};
 ghost use Rattle.tw_code.specs.machine.Pending.{pending_of, waited_for, written_by};
-ghost use Rattle.tw_instr.specs.Arguments.{arg_of};
+ghost use Rattle.tw_report.specs.Arguments.{pending_from, pending_told};
 
+use crate::argument::Argument;
 use std::alloc::{AllocError, Global};
 use std::collections::BTreeMap;
 use tw_code::Procedure;
-use tw_machine::{Arg, Rule};
+use tw_machine::Rule;
+use tw_rules::PlainRule;
 use tw_types::{DatumId, Items, Param, Pending, RuleNo, Stage};
 
 /// Adds the datum of an argument whose parameter waits for it.
-fn put_waited(ids: &mut Vec<DatumId>, stage: Stage, arg: &Arg) -> Result<(), AllocError>
-    ensures { OnOk result (ids.new.items ≡ ids.old.items ++ waited_for (stage ∷ []) (arg_of arg.now ∷ [])) }
+fn put_waited<A: Argument>(ids: &mut Vec<DatumId>, stage: Stage, arg: &A) -> Result<(), AllocError>
+    ensures { OnOk result (ids.new.items ≡ ids.old.items ++ waited_for (stage ∷ []) (A.meaning arg.now ∷ [])) }
 {
-    match (stage, arg) {
-        (Stage::Waiting, Arg::Right(id)) => Ok(ids.push(*id)?),
-        (Stage::Free | Stage::Unasked | Stage::Ready, _) | (_, Arg::Value(_)) => Ok(()),
+    match (stage, arg.right()) {
+        (Stage::Waiting, Some(id)) => Ok(ids.push(id)?),
+        (Stage::Free | Stage::Unasked | Stage::Ready, _) | (_, None) => Ok(()),
     }
 }
 
 /// The data for which parameters wait.
-fn waited_for(alloc: Global, stages: &[Stage], args: &[Arg]) -> Result<Vec<DatumId>, AllocError>
-    ensures { IfOk result (λ ids. ids.items ≡ waited_for stages.now (map arg_of args.now)) }
+fn waited_for<A: Argument>(
+    alloc: Global,
+    stages: &[Stage],
+    args: &[A],
+) -> Result<Vec<DatumId>, AllocError>
+    ensures { IfOk result (λ ids. ids.items ≡ waited_for stages.now (map A.meaning args.now)) }
 {
     let mut ids = Vec::new(alloc);
     let mut rest = args;
@@ -41,23 +48,27 @@ fn waited_for(alloc: Global, stages: &[Stage], args: &[Arg]) -> Result<Vec<Datum
 }
 
 /// Adds the datum of a `write` argument.
-fn put_written(ids: &mut Vec<DatumId>, param: Param, arg: &Arg) -> Result<(), AllocError>
-    ensures { OnOk result (ids.new.items ≡ ids.old.items ++ written_by (param ∷ []) (arg_of arg.now ∷ [])) }
+fn put_written<A: Argument>(ids: &mut Vec<DatumId>, param: Param, arg: &A) -> Result<(), AllocError>
+    ensures { OnOk result (ids.new.items ≡ ids.old.items ++ written_by (param ∷ []) (A.meaning arg.now ∷ [])) }
 {
-    match arg {
-        Arg::Right(id) => {
+    match arg.right() {
+        Some(id) => {
             if param.mode.is_write() {
-                ids.push(*id)?;
+                ids.push(id)?;
             }
             Ok(())
         }
-        Arg::Value(_) => Ok(()),
+        None => Ok(()),
     }
 }
 
 /// The data of `write` arguments.
-fn written_by(alloc: Global, params: &[Param], args: &[Arg]) -> Result<Vec<DatumId>, AllocError>
-    ensures { IfOk result (λ ids. ids.items ≡ written_by params.now (map arg_of args.now)) }
+fn written_by<A: Argument>(
+    alloc: Global,
+    params: &[Param],
+    args: &[A],
+) -> Result<Vec<DatumId>, AllocError>
+    ensures { IfOk result (λ ids. ids.items ≡ written_by params.now (map A.meaning args.now)) }
 {
     let mut ids = Vec::new(alloc);
     let mut rest = args;
@@ -81,6 +92,26 @@ fn params_of(program: &[Procedure], procedure: u8) -> &[Param]
     }
 }
 
+/// A rule with this number, with these stages and arguments for the parameters.
+fn pending_from<A: Argument>(
+    alloc: Global,
+    number: RuleNo,
+    params: &[Param],
+    stages: &[Stage],
+    args: &[A],
+) -> Result<Pending, AllocError>
+    ensures { IfOk result (λ p. p ≡ pending_from number params.now stages.now (map A.meaning args.now)) }
+{
+    let waits = waited_for(alloc, stages, args)?;
+    let writes = written_by(alloc, params, args)?;
+    Ok(Pending {
+        number,
+        waits: Items::from(waits),
+        writes: Items::from(writes),
+    })
+}
+
+/// A rule of the reference machine.
 fn pending_of(
     alloc: Global,
     program: &[Procedure],
@@ -89,13 +120,14 @@ fn pending_of(
 ) -> Result<Pending, AllocError>
     ensures { IfOk result (λ p. p ≡ pending_of program.now (number, rule.now)) }
 {
-    let waits = waited_for(alloc, rule.stages(), rule.args())?;
-    let writes = written_by(alloc, params_of(program, rule.procedure()), rule.args())?;
-    Ok(Pending {
-        number: RuleNo::new(number),
-        waits: Items::from(waits),
-        writes: Items::from(writes),
-    })
+    let params = params_of(program, rule.procedure());
+    pending_from(
+        alloc,
+        RuleNo::new(number),
+        params,
+        rule.stages(),
+        rule.args(),
+    )
 }
 
 /// The rules of a table, by rising number.
@@ -111,5 +143,40 @@ pub fn pending_rules(
     for (number, rule) in rules {
         pending.push(pending_of(alloc, program, *number, rule)?)?;
     }
+    Ok(pending)
+}
+
+/// A rule as the pool tells it.
+fn pending_told(
+    alloc: Global,
+    program: &[Procedure],
+    rule: &PlainRule,
+) -> Result<Pending, AllocError>
+    ensures { IfOk result (λ p. p ≡ pending_told program.now rule.now) }
+{
+    let params = params_of(program, rule.action.procedure);
+    pending_from(
+        alloc,
+        rule.number,
+        params,
+        rule.stages.as_slice(),
+        rule.args.as_slice(),
+    )
+}
+
+/// The rules that the pool tells in no order, by rising number.
+pub fn rules_told(
+    alloc: Global,
+    program: &[Procedure],
+    rules: &[PlainRule],
+) -> Result<Vec<Pending>, AllocError>
+    ensures same { IfOk result (λ pending. IsPermutation (map (pending_told program.now) rules.now) pending.items) }
+    ensures rising { IfOk result (λ pending. IsNonDecreasingBy (λ (p : APending). p.number) pending.items) }
+{
+    let mut pending = Vec::new(alloc);
+    for rule in rules {
+        pending.push(pending_told(alloc, program, rule)?)?;
+    }
+    pending.sort_unstable_by_key(|p| p.number.number());
     Ok(pending)
 }

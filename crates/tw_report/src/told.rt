@@ -1,12 +1,16 @@
 //! What reports are made of.
 
-ghost use Rattle.std.specs.Prelude.{◌≡◌, ℕ, List, option_map};
+ghost use Rattle.std.specs.Prelude.{◌≡◌, ℕ, List, IfSome, option_map};
 ghost use Rattle.std.specs.FinMap.{get};
 ghost use Rattle.std.specs.Option.{option_copied};
 ghost use Rattle.tw_types.specs.Store.{Data};
+ghost use Rattle.tw_datum.specs.Kept.{KeptDatum};
+ghost use Rattle.tw_store.specs.Served.{KnowsPlaces};
+ghost use Rattle.tw_report.specs.Report.{member_told};
 
 use tw_datum::{Datum, Member};
 use tw_machine::State;
+use tw_pool::Final;
 use tw_types::DatumId;
 
 /// What has outputs, and the live data that stand in them.
@@ -18,16 +22,29 @@ pub trait Told {
 
     ghost ids: { Self → List ℕ };
 
+    /// What is true of a container that was shown, so that its members are found without a search.
+    ghost IsShown: { Self → KeptDatum Self.Kept → Type 0 };
+
     /// The ids of the outputs, from number 0 on.
     fn outputs(&self) -> &[DatumId]
         ensures { result.now ≡ ids self.now };
 
-    /// The datum of an id, if it is live.
+    /// The datum of an output, if it is live.
     fn datum(&self, id: DatumId) -> Option<&Datum<Self::Kept>>
-        ensures { option_map (λ d. d.datum) (option_copied result) ≡ get (live self.now) id };
+        ensures datum { option_map (λ d. d.datum) (option_copied result) ≡ get (live self.now) id }
+        ensures shown { IfSome result (λ d. IsShown self.now d.now) };
+
+    /// The subscript of a container with so many smaller ones, and the datum that stands there, if it is live.
+    fn member(
+        &self,
+        container: &Datum<Self::Kept>,
+        index: usize,
+    ) -> Option<(i64, Option<&Datum<Self::Kept>>)>
+        requires { IsShown self.now container.now }
+        ensures { option_map (λ m. (m.0, option_map (λ d. d.datum) (option_copied m.1))) result ≡ member_told (live self.now) container.now.datum index };
 }
 
-/// A state of the reference machine.
+/// A state of the reference machine, which looks a member up by its id.
 impl Told for State {
     type Kept = DatumId;
 
@@ -35,11 +52,52 @@ impl Told for State {
 
     ghost ids = { λ s. s.outputs };
 
+    ghost IsShown = { λ s d. Unit {0} };
+
     fn outputs(&self) -> &[DatumId] {
         self.outputs()
     }
 
     fn datum(&self, id: DatumId) -> Option<&Datum<DatumId>> {
         self.datum(id)
+    }
+
+    fn member(
+        &self,
+        container: &Datum<DatumId>,
+        index: usize,
+    ) -> Option<(i64, Option<&Datum<DatumId>>)> {
+        let (subscript, id) = container.member(index)?;
+        Some((subscript, self.datum(id)))
+    }
+}
+
+/// The end of a run on the pool, which looks a member up at its place.
+impl Told for Final {
+    type Kept = tw_store::Member;
+
+    ghost live = { λ f. f.store.store.live };
+
+    ghost ids = { λ f. f.outputs };
+
+    ghost IsShown = { λ f d. KnowsPlaces f.store d };
+
+    fn outputs(&self) -> &[DatumId] {
+        self.outputs()
+    }
+
+    fn datum(&self, id: DatumId) -> Option<&Datum<tw_store::Member>> {
+        self.view(id)
+    }
+
+    fn member(
+        &self,
+        container: &Datum<tw_store::Member>,
+        index: usize,
+    ) -> Option<(i64, Option<&Datum<tw_store::Member>>)> {
+        match self.member(container, index) {
+            Some(member) => Some((member.subscript, member.datum)),
+            None => None,
+        }
     }
 }

@@ -6,9 +6,11 @@ use crate::complaint::Complaint;
 use crate::kinds::outcome;
 use std::alloc::{AllocError, Global};
 use std::rt::Files;
+use std::sync::Wait;
+use std::thread::Threads;
 
 /// What is to be printed of a line: a complaint, or what came in place of what is wanted.
-pub fn play_line<H: AllocGlobal + Files>(
+pub fn play_line<H: AllocGlobal + Files + Threads + Wait + Sync>(
     rt: &H,
     book: &mut Book,
     line: &str,
@@ -43,7 +45,7 @@ fn name_bytes(alloc: Global, book: &mut Book, text: &str) -> Result<(), Complain
 }
 
 /// What is told of a case that didn't come to what is wanted, with its name in front. Others are counted.
-fn case_line<H: AllocGlobal + Files>(
+fn case_line<H: AllocGlobal + Files + Threads + Wait + Sync>(
     rt: &H,
     book: &mut Book,
     line: &str,

@@ -13,9 +13,11 @@ use crate::sessions::{phrases_text, tw_text};
 use crate::shown::shown_text;
 use std::alloc::Global;
 use std::rt::Files;
+use std::sync::Wait;
+use std::thread::Threads;
 
 /// What a case comes to: the first field is its kind, with words that belong to it; the others are what it is given.
-pub fn outcome<H: AllocGlobal + Files>(
+pub fn outcome<H: AllocGlobal + Files + Threads + Wait + Sync>(
     rt: &H,
     book: &Book,
     inputs: &str,

@@ -5,10 +5,12 @@ use crate::bytes::read_bytes;
 use crate::complaint::Complaint;
 use crate::words::{read_words, unescaped};
 use std::alloc::{AllocError, Global};
+use std::sync::Wait;
+use std::thread::Threads;
 use tw_session::session;
 
 /// The status and the whole text of a session with these words and this input.
-pub fn tw_text<H: AllocGlobal>(
+pub fn tw_text<H: AllocGlobal + Threads + Wait + Sync>(
     rt: &H,
     book: &Book,
     words: &str,
@@ -22,7 +24,7 @@ pub fn tw_text<H: AllocGlobal>(
 }
 
 /// The status of a session, how many bytes it left unread, and what it wrote.
-pub fn ended<H: AllocGlobal>(rt: &H, words: &[String], input: &[u8]) -> (u8, usize, Vec<u8>) {
+pub fn ended<H: AllocGlobal + Threads + Wait + Sync>(rt: &H, words: &[String], input: &[u8]) -> (u8, usize, Vec<u8>) {
     let mut reader = input;
     let mut writer = Vec::new(rt.alloc());
     let status = session(rt, words, &mut reader, &mut writer);
@@ -30,7 +32,7 @@ pub fn ended<H: AllocGlobal>(rt: &H, words: &[String], input: &[u8]) -> (u8, usi
 }
 
 /// The status of a session without input, and which of these phrases its text lacks.
-pub fn phrases_text<H: AllocGlobal>(
+pub fn phrases_text<H: AllocGlobal + Threads + Wait + Sync>(
     rt: &H,
     words: &str,
     phrases: &str,

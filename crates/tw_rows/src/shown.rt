@@ -5,9 +5,11 @@ use crate::sessions::ended;
 use crate::words::read_words;
 use std::fs;
 use std::rt::Files;
+use std::sync::Wait;
+use std::thread::Threads;
 
 /// How many commands a file shows that print what stands below them; or the first that prints something else.
-pub fn shown_text<H: AllocGlobal + Files>(rt: &H, file: &str) -> Result<String, Complaint> {
+pub fn shown_text<H: AllocGlobal + Files + Threads + Wait + Sync>(rt: &H, file: &str) -> Result<String, Complaint> {
     let text = fs::read_to_string(rt, file)?;
     let mut commands = 0u64;
     for shown in text.as_str().split("$ ./tw ").skip(1) {
@@ -22,7 +24,7 @@ pub fn shown_text<H: AllocGlobal + Files>(rt: &H, file: &str) -> Result<String, 
 }
 
 /// What the last of some sessions prints, where each reads a file or what the one before wrote.
-fn printed<H: AllocGlobal + Files>(rt: &H, command: &str) -> Result<String, Complaint> {
+fn printed<H: AllocGlobal + Files + Threads + Wait + Sync>(rt: &H, command: &str) -> Result<String, Complaint> {
     let mut written = Vec::new(rt.alloc());
     for part in command.split(" | ./tw ") {
         written = played(rt, part, written)?;
@@ -31,7 +33,7 @@ fn printed<H: AllocGlobal + Files>(rt: &H, command: &str) -> Result<String, Comp
 }
 
 /// What a session writes that is given a file, where it names one, or else these bytes.
-fn played<H: AllocGlobal + Files>(
+fn played<H: AllocGlobal + Files + Threads + Wait + Sync>(
     rt: &H,
     part: &str,
     before: Vec<u8>,

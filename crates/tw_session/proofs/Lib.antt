@@ -1,4 +1,4 @@
-pub mod Openings
+pub mod Ran
 pub mod Checks
 pub mod Replies
 pub mod Playing

@@ -2,15 +2,11 @@
 use Rattle.std.specs.Prelude.{◌≡◌, ◌⊎◌, ◌++◌, ℕ, List, length, codes, Result, Ok, Err, nat_lt, MatchBool, IsUtf8, Option, ⊤}
 use Rattle.hex.specs.Hex.{decode_of, encode_lower}
 use Rattle.hex.specs.declared.FromHexError.{FromHexError}
-use Rattle.tw_types.specs.Cause.{cause_number}
 use Rattle.tw_code.specs.declared.procedure.Procedure.{Procedure}
 use Rattle.tw_code.specs.declared.fault.Fault.{Fault}
 use Rattle.tw_code.specs.format.Fault as fault
 use Rattle.tw_code.specs.format.Reading.{program_of}
 use Rattle.tw_code.specs.format.Spelling.{spelling}
-use Rattle.tw_code.specs.machine.State.{State}
-use Rattle.tw_code.specs.machine.Inputs.{has_input_count, has_fitting_inputs}
-use Rattle.tw_code.specs.accepting.Needs.{HasTargets}
 use Rattle.tw_code.specs.accepting.WellTyped.{IsAccepted, IsFirstRefusal}
 use Rattle.tw_command.specs.declared.command.Order.{Order}
 use Rattle.tw_command.specs.declared.command.Order.TheVariants.{Assemble, Program, Replay}
@@ -18,8 +14,7 @@ use Rattle.tw_command.specs.declared.command.ProgramOrder.{ProgramOrder}
 use Rattle.tw_command.specs.declared.command.ProgramOrder.TheVariants.{Disassemble, Verified}
 use Rattle.tw_command.specs.declared.command.VerifiedOrder.{VerifiedOrder}
 use Rattle.tw_command.specs.declared.command.VerifiedOrder.TheVariants.{Check, Run}
-use Rattle.tw_command.specs.declared.command.RunOrder.{RunOrder}
-use Rattle.tw_session.specs.declared.status.Close.TheVariants.{Success, Refused, CommandLine, Stuck, Limit, Trapped}
+use Rattle.tw_session.specs.declared.status.Close.TheVariants.{Success, Refused, CommandLine}
 use Rattle.tw_session.specs.declared.status.Status.{Status}
 use Rattle.tw_session.specs.declared.status.Status.TheVariants.{Ended, NoMemory, ReadFailed, WriteFailed}
 use Rattle.std.specs.Io.KnownBytes.{Appends, Keeps}
@@ -28,51 +23,15 @@ use Rattle.tw_asm.specs.Answers.{HasFault}
 use Rattle.tw_asm.specs.Disassembly.{disassembly}
 use Rattle.tw_asm.specs.Fault as asm
 use Rattle.tw_asm.specs.Spelling.{SpellsProgram}
-use Rattle.tw_run.specs.declared.run_end.RunEnd.{RunEnd}
-use Rattle.tw_run.specs.declared.run_end.RunEnd.TheVariants as run_end
-use Rattle.tw_run.specs.Run.{IsRun, Setup}
 use Rattle.tw_session.specs.Input.{most_bytes, digits_in}
 use Rattle.tw_command.specs.CommandLine.{Asked, IsAsked, IsRefusedInput}
-use Rattle.tw_code.specs.machine.Pending.{circle}
-use Rattle.tw_report.specs.Lines.{asm_line, fault_line, input_word_line, verify_line, opening_line, trap_line}
-use Rattle.tw_report.specs.Report.{report, stuck_lines}
+use Rattle.tw_report.specs.Lines.{asm_line, fault_line, input_word_line, verify_line}
 use Rattle.tw_session.specs.Reply.{Reply, reply}
 use Rattle.tw_session.specs.Check.{IsCheckText}
 use Rattle.tw_session.specs.Replay.{RepliesByReplay}
-
--- ---- a run
-
--- the report, with this closing
-abbrev pub report_of : State → List ℕ → List ℕ
-report_of s closing = report s.store.live s.outputs closing
-
-abbrev pub run_reply : List Procedure → State → RunEnd → Reply
-run_reply program s run_end.Quiet = reply (report_of s (codes "quiet\n")) Success
-run_reply program s (run_end.Stuck rules) = reply (report_of s (stuck_lines rules (circle program s))) Stuck
-run_reply program s run_end.Limit = reply (report_of s (codes "limit\n")) Limit
-run_reply program s (run_end.Trapped cause event) = reply (trap_line (cause_number cause) event) Trapped
-
-abbrev pub setup_of : RunOrder → Setup
-setup_of order = record { layout = order.layout; inputs = order.inputs; limit = order.limit }
-
--- the reply is that of a run of the program as it is ordered
-abbrev pub RepliesByRun : List Procedure → RunOrder → Reply → Type 0
-RepliesByRun program order r = (s : State) × (end : RunEnd) × IsRun program (setup_of order) s end × (r ≡ run_reply program s end)
+use Rattle.tw_session.specs.Run.{RepliesByOpening}
 
 -- ---- a program
-
--- a layout without an actor that the program names as a target is O03
-abbrev pub RepliesByLayout : List Procedure → RunOrder → Reply → Type 0
-RepliesByLayout program order r =
-    (HasTargets program order.layout × RepliesByRun program order r)
-    ⊎ ((HasTargets program order.layout → ⊥) × (r ≡ reply (opening_line 3) Refused))
-
--- another number of inputs than main takes is O01, and one that its parameter can't be given is O02; these are asked first
-abbrev pub RepliesByOpening : List Procedure → RunOrder → Reply → Type 0
-RepliesByOpening program order r =
-    MatchBool (has_input_count program order.inputs)
-    (MatchBool (has_fitting_inputs program order.inputs) (RepliesByLayout program order r) (r ≡ reply (opening_line 2) Refused))
-    (r ≡ reply (opening_line 1) Refused)
 
 abbrev pub RepliesByCheck : List Procedure → Reply → Type 0
 RepliesByCheck program r = (text : List ℕ) × IsCheckText program text × (r ≡ reply text Success)

@@ -7,6 +7,7 @@ mod check;
 mod input;
 mod replay;
 mod reply;
+mod run;
 mod shell;
 mod status;
 

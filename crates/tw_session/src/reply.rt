@@ -3,40 +3,29 @@
 ghost use Rattle.std.specs.Prelude.{◌≡◌, ◌<◌, ◌++◌, List, IfOk, codes};
 ghost use Rattle.tw_command.specs.declared.command.Order.TheVariants.{Assemble};
 ghost use Rattle.tw_session.specs.Session.{MayReply, RepliesByAccepted, RepliesByAssembly, RepliesByBytes, RepliesByInput};
-ghost use Rattle.tw_session.specs.Session.{RepliesByLayout, RepliesByOpening, RepliesByProgram, RepliesByText, RepliesByVerified, run_reply};
+ghost use Rattle.tw_session.specs.Session.{RepliesByProgram, RepliesByText, RepliesByVerified};
 ghost use Rattle.tw_session.specs.Reply.{reply};
 ghost use Rattle.tw_session.specs.Input.{digits_in};
 ghost use Rattle.tw_report.specs.Lines.{opening_line, verify_line};
-ghost use Rattle.tw_types.specs.declared.input.Input.{Input as AnInput};
-ghost use Rattle.tw_types.specs.declared.actor.Kind.TheVariants.{Control, Leaf};
 ghost use Rattle.tw_code.specs.format.Reading.{program_of};
-ghost use Rattle.tw_code.specs.accepting.Needs.{needed};
 ghost use Rattle.tw_code.specs.accepting.WellTyped.{IsAccepted};
-ghost use Rattle.tw_code.specs.machine.Bounds.{AreBelow, opening_bound};
-ghost use Rattle.tw_code.specs.machine.Opening.{opening};
-ghost use Rattle.tw_run.specs.Run.{IsOpened};
 ghost use Rattle.tw_code.specs.format.Spelling.{spelling};
 ghost use Rattle.hex.specs.Hex.{decode_of, encode_lower};
 
 use crate::check::check_text;
 use crate::input::{MOST_BYTES, digits};
 use crate::replay::replay_reply;
+use crate::run::run_of;
 use crate::status::Close;
 use hex::FromHexError;
 use std::alloc::{AllocError, Global};
+use std::sync::Wait;
+use std::thread::Threads;
 use tw_asm::{assemble, disassemble};
 use tw_code::{FaultNo, Program, decode, encode};
-use tw_command::{EventLimit, Order, ProgramOrder, RunOrder, VerifiedOrder};
-use tw_machine::{OpenRefusal, Plain};
-use tw_report::{
-    put, put_asm_line, put_fault_line, put_opening_line, put_report, put_trap_line,
-    put_verify_line, stuck_text,
-};
-use tw_run::{RunEnd, run};
+use tw_command::{Order, ProgramOrder, VerifiedOrder};
+use tw_report::{put, put_asm_line, put_fault_line, put_opening_line, put_verify_line};
 use tw_verify::{Verified, VerifyRefusal, verify};
-
-/// O03, which no opening answers: the layout lacks an actor that the program names as a target.
-const MISSING_TARGET: u8 = 3;
 
 /// What a session writes, and how it ends.
 #[derive(Drop)]
@@ -53,35 +42,7 @@ pub fn fixed_reply(alloc: Global, line: &str, close: Close) -> Result<Reply, All
     Ok(Reply { text, close })
 }
 
-/// The reply of a run that ended so.
-fn run_reply(alloc: Global, plain: &Plain, end: RunEnd) -> Result<Reply, AllocError>
-    ensures { IfOk result (λ r. reply r.text.items r.close ≡ run_reply plain.now.program plain.now.state end) }
-{
-    let state = plain.state();
-    let mut text = Vec::new(alloc);
-    let close = match end {
-        RunEnd::Quiet => {
-            put_report(alloc, &mut text, state, b"quiet\n")?;
-            Close::Success
-        }
-        RunEnd::Stuck(rules) => {
-            let closing = stuck_text(alloc, rules, plain)?;
-            put_report(alloc, &mut text, state, &closing)?;
-            Close::Stuck
-        }
-        RunEnd::Limit => {
-            put_report(alloc, &mut text, state, b"limit\n")?;
-            Close::Limit
-        }
-        RunEnd::Trapped(cause, event) => {
-            put_trap_line(alloc, &mut text, cause.number(), event)?;
-            Close::Trapped
-        }
-    };
-    Ok(Reply { text, close })
-}
-
-/// The reply where a program isn't opened, or its targets aren't in the layout.
+/// The reply where a program isn't opened.
 pub fn opening_reply(alloc: Global, number: u8) -> Result<Reply, AllocError>
     requires { number < 100 }
     ensures { IfOk result (λ r. reply r.text.items r.close ≡ reply (opening_line number) Close.Refused) }
@@ -94,51 +55,9 @@ pub fn opening_reply(alloc: Global, number: u8) -> Result<Reply, AllocError>
     })
 }
 
-/// Runs an opened program, if each of its targets is in the layout.
-fn opened_reply(
-    alloc: Global,
-    mut plain: Plain,
-    needs: (u8, u8),
-    limit: EventLimit,
-) -> Result<Reply, AllocError>
-    requires opened { IsOpened plain.program plain.state }
-    requires below { AreBelow opening_bound plain.state }
-    requires engines { needs.0 ≡ needed Control plain.program }
-    requires workers { needs.1 ≡ needed Leaf plain.program }
-    ensures { (inputs : List AnInput) → plain.state ≡ opening plain.program inputs → IfOk result (λ r.
-        RepliesByLayout plain.program (record { layout = plain.layout; inputs = inputs; limit = limit })
-        (reply r.text.items r.close)) }
-{
-    let layout = plain.layout();
-    if layout.engines() < needs.0 || layout.workers() < needs.1 {
-        return opening_reply(alloc, MISSING_TARGET);
-    }
-    let end = run(alloc, &mut plain, limit.events())?;
-    run_reply(alloc, &plain, end)
-}
-
-/// Opens and runs an accepted program.
-fn run_of(alloc: Global, order: &RunOrder, verified: Verified) -> Result<Reply, AllocError>
-    requires { IsAccepted verified.program }
-    ensures { IfOk result (λ r. RepliesByOpening verified.program order.now (reply r.text.items r.close)) }
-{
-    let needs = verified.needs();
-    match Plain::open(
-        alloc,
-        verified.into_program(),
-        order.inputs.as_slice(),
-        order.layout,
-    ) {
-        Ok(plain) => opened_reply(alloc, plain, needs, order.limit),
-        Err(refused) => match refused.no {
-            OpenRefusal::NoMemory => Err(AllocError),
-            no => opening_reply(alloc, no.number()),
-        },
-    }
-}
-
 /// Does what is ordered with an accepted program.
-fn accepted_reply(
+fn accepted_reply<H: Threads + Wait + Sync>(
+    rt: &H,
     alloc: Global,
     order: &VerifiedOrder,
     verified: Verified,
@@ -151,7 +70,7 @@ fn accepted_reply(
             text: check_text(alloc, &verified)?,
             close: Close::Success,
         }),
-        VerifiedOrder::Run(order) => run_of(alloc, order, verified),
+        VerifiedOrder::Run(order) => run_of(rt, alloc, order, &verified),
     }
 }
 
@@ -174,7 +93,8 @@ fn refusal_reply(
 }
 
 /// Verifies a program, and does what is ordered if it is accepted.
-fn verified_reply(
+fn verified_reply<H: Threads + Wait + Sync>(
+    rt: &H,
     alloc: Global,
     order: &VerifiedOrder,
     program: Program,
@@ -182,7 +102,7 @@ fn verified_reply(
     ensures { IfOk result (λ r. RepliesByVerified order.now program (reply r.text.items r.close)) }
 {
     match verify(alloc, program) {
-        Ok(verified) => accepted_reply(alloc, order, verified),
+        Ok(verified) => accepted_reply(rt, alloc, order, verified),
         Err(refused) => match refused.no {
             VerifyRefusal::NoMemory => Err(AllocError),
             no => refusal_reply(alloc, no.number(), refused.procedure, refused.place),
@@ -191,7 +111,7 @@ fn verified_reply(
 }
 
 /// Writes a program's assembly text, or verifies the program.
-fn program_reply(alloc: Global, order: &ProgramOrder, program: Program) -> Result<Reply, AllocError>
+fn program_reply<H: Threads + Wait + Sync>(rt: &H, alloc: Global, order: &ProgramOrder, program: Program) -> Result<Reply, AllocError>
     ensures { IfOk result (λ r. RepliesByProgram order.now program (reply r.text.items r.close)) }
 {
     match order {
@@ -202,16 +122,16 @@ fn program_reply(alloc: Global, order: &ProgramOrder, program: Program) -> Resul
             }),
             Err(_) => Err(AllocError),
         },
-        ProgramOrder::Verified(order) => verified_reply(alloc, order, program),
+        ProgramOrder::Verified(order) => verified_reply(rt, alloc, order, program),
     }
 }
 
 /// Decodes bytes, and does what is ordered with the program that they spell.
-fn bytes_reply(alloc: Global, order: &ProgramOrder, bytes: &[u8]) -> Result<Reply, AllocError>
+fn bytes_reply<H: Threads + Wait + Sync>(rt: &H, alloc: Global, order: &ProgramOrder, bytes: &[u8]) -> Result<Reply, AllocError>
     ensures { IfOk result (λ r. RepliesByBytes order.now (program_of bytes.now) (reply r.text.items r.close)) }
 {
     match decode(alloc, bytes) {
-        Ok(program) => program_reply(alloc, order, program),
+        Ok(program) => program_reply(rt, alloc, order, program),
         Err(fault) => match fault.no {
             FaultNo::NoMemory => Err(AllocError),
             no => {
@@ -227,12 +147,12 @@ fn bytes_reply(alloc: Global, order: &ProgramOrder, bytes: &[u8]) -> Result<Repl
 }
 
 /// Turns hex text into bytes, and answers to these.
-fn text_reply(alloc: Global, order: &ProgramOrder, input: Vec<u8>) -> Result<Reply, AllocError>
+fn text_reply<H: Threads + Wait + Sync>(rt: &H, alloc: Global, order: &ProgramOrder, input: Vec<u8>) -> Result<Reply, AllocError>
     ensures { IfOk result (λ r.
         RepliesByText order.now (decode_of (digits_in input.items)) (reply r.text.items r.close)) }
 {
     match hex::decode(alloc, digits(input)) {
-        Ok(bytes) => bytes_reply(alloc, order, &bytes),
+        Ok(bytes) => bytes_reply(rt, alloc, order, &bytes),
         Err(FromHexError::OutOfMemory) => Err(AllocError),
         Err(_) => fixed_reply(alloc, "refused H01\n", Close::Refused),
     }
@@ -284,7 +204,7 @@ fn assembled_reply(alloc: Global, input: Vec<u8>) -> Result<Reply, AllocError>
 }
 
 /// The whole reply to an order and the bytes that were read; refused where memory is.
-pub fn reply_to(alloc: Global, order: &Order, input: Vec<u8>) -> Result<Reply, AllocError>
+pub fn reply_to<H: Threads + Wait + Sync>(rt: &H, alloc: Global, order: &Order, input: Vec<u8>) -> Result<Reply, AllocError>
     ensures { IfOk result (λ r. MayReply order.now input.items (reply r.text.items r.close)) }
 {
     if input.len() > MOST_BYTES {
@@ -292,7 +212,7 @@ pub fn reply_to(alloc: Global, order: &Order, input: Vec<u8>) -> Result<Reply, A
     }
     match order {
         Order::Assemble => assembled_reply(alloc, input),
-        Order::Program(order) => text_reply(alloc, order, input),
+        Order::Program(order) => text_reply(rt, alloc, order, input),
         Order::Replay(order) => {
             replay_reply(alloc, order.layout, order.inputs.as_slice(), &input)
         }

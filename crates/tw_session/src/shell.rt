@@ -11,6 +11,8 @@ use crate::reply::reply_to;
 use crate::status::{Close, Status};
 use std::alloc::Global;
 use std::io::{ErrorKind, Read, Write};
+use std::sync::Wait;
+use std::thread::Threads;
 use tw_command::{NoOrder, Order, read_order};
 use tw_report::put_input_word_line;
 
@@ -71,7 +73,11 @@ pub fn without_words<W: Write>(kind: ErrorKind, writer: &mut W) -> Status
 }
 
 /// Reads, acts and writes, where there is an order.
-fn obey<R: Read, W: Write>(alloc: Global, order: &Order, reader: &mut R, writer: &mut W) -> Status
+fn obey<H, R, W>(rt: &H, alloc: Global, order: &Order, reader: &mut R, writer: &mut W) -> Status
+where
+    H: Threads + Wait + Sync,
+    R: Read,
+    W: Write,
     ensures reply { (asked : Asked) → IsAsked asked order.now → IfSome (R.remaining reader.old) (λ input.
         ComesOf asked input result (W.contents writer.old) (W.contents writer.new)) }
     ensures memory { result ≡ Status.NoMemory
@@ -83,7 +89,7 @@ fn obey<R: Read, W: Write>(alloc: Global, order: &Order, reader: &mut R, writer:
         Err(NoInput::Failed) => return Status::ReadFailed,
         Err(NoInput::NoMemory) => return write_memory(writer),
     };
-    match reply_to(alloc, order, input) {
+    match reply_to(rt, alloc, order, input) {
         Ok(reply) => write_text(writer, reply.text.as_slice(), Status::Ended(reply.close)),
         Err(_) => write_memory(writer),
     }
@@ -96,7 +102,7 @@ fn obey<R: Read, W: Write>(alloc: Global, order: &Order, reader: &mut R, writer:
 /// answered.
 pub fn session<H, R, W>(rt: &H, words: &[String], reader: &mut R, writer: &mut W) -> Status
 where
-    H: AllocGlobal,
+    H: AllocGlobal + Threads + Wait + Sync,
     R: Read,
     W: Write,
     // Words that are taken, and the bytes that the reader holds, have a reply, and that is written; or the first input
@@ -125,7 +131,7 @@ where
 {
     let alloc = rt.alloc();
     match read_order(alloc, words) {
-        Ok(order) => obey(alloc, &order, reader, writer),
+        Ok(order) => obey(rt, alloc, &order, reader, writer),
         Err(NoOrder::Help(text)) => write_text(
             writer,
             text.as_bytes(),

@@ -1,7 +1,9 @@
 //! Inputs at their limits, which are too long for a line of data.
 
 use std::alloc::Global;
+use std::sync::Wait;
 use std::test::Fail;
+use std::thread::Threads;
 use tw_session::session;
 
 /// GET v0 d0 / LEN v1 v0 / DROPR d0 / STORE d1 v1 / RET, of a closed text and an int to write.
@@ -40,7 +42,7 @@ fn ints(alloc: Global, last: usize) -> Result<String, Fail> {
 
 /// Whether a run with one input ends with this status and this text.
 fn comes_to(
-    rt: &impl AllocGlobal,
+    rt: &(impl AllocGlobal + Threads + Wait + Sync),
     input: String,
     program: &str,
     code: u8,

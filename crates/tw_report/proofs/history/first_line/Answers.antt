@@ -1,4 +1,3 @@
-use Rattle.std.proofs.Common.{arith}
 use Rattle.tw_report.proofs.HistoryReading.{feed_cut, no_feed}
 use Rattle.tw_report.proofs.history.first_line.Goals as goal
 

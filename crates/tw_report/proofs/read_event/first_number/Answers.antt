@@ -1,6 +1,6 @@
 use Rattle.tw_report.specs.Events.{words_in}
-use Rattle.tw_report.specs.reading.Event.{actor_in, behind, number_in}
-use Rattle.tw_report.proofs.EventReading.{first_some, actor_none, behind_none, number_none}
+use Rattle.tw_report.specs.reading.Event.{number_in}
+use Rattle.tw_report.proofs.EventReading.{first_some, number_none}
 use Rattle.tw_report.proofs.read_event.first_number.Goals as goal
 
 pub returns : goal.returns

@@ -3,7 +3,6 @@ use Rattle.std.proofs.lemmas.Result.{IfOk-weaker}
 use Rattle.tw_types.specs.Circle.{circle_of}
 use Rattle.tw_types.specs.declared.pending.Link.{Link}
 use Rattle.tw_code.specs.declared.procedure.Procedure.{Procedure}
-use Rattle.tw_code.specs.machine.Ending.{ending}
 use Rattle.tw_code.specs.machine.Pending.{circle, pending_of}
 use Rattle.tw_code.specs.machine.State.{State}
 use Rattle.tw_report.proofs.PendingRules.{circle_some, pending_is}

@@ -1,4 +1,4 @@
-use Rattle.std.proofs.Common.{◌≤◌, length, subst, sym, ◌∙◌}
+use Rattle.std.proofs.Common.{◌≤◌, length, subst, sym}
 use Rattle.tw_report.proofs.LineWords.{length_short, word_cut}
 use Rattle.tw_report.proofs.words.first_word.Goals as goal
 

@@ -1,0 +1,60 @@
+//! What the help texts say.
+
+pub(crate) const ABOUT: &str = "Assembles, checks and runs dataflow programs of the task host.";
+
+pub(crate) const RUN_ABOUT: &str = "Runs a program and reports its outputs.
+
+The program is read from standard input as hex text: two digits a byte; spaces, tabs and line ends are skipped.
+Its inputs are the words behind the command, one word each, in the order of main's parameters. Examples: int:-7,
+text:abc, ints:1=7,5=-3 and texts:1=\"abc\",2=\"\"; the subscripts of a container rise, and it may have no member.
+Between quotes \\\", \\\\, \\n and \\x with two hex digits are read.
+Options stand before, behind or between the inputs. --trace takes no value; the others take a number in decimal digits.
+The report has a line for each output, with a line for each member behind a container's, and then how the run ended.
+With --trace the history stands before the report: a line `events`, a line for each event, in their order, and a line
+`end`. The program isn't written: its hex text, a line end and then all of this can be piped into `tw replay`, which is
+given the same inputs and as many engines, servers and workers.
+Exit status: 0 quiet, 1 refused, 2 command line or input word refused, 3 stuck, 4 event limit, 5 memory ran out,
+6 trap, 7 a read or write failed.";
+
+pub(crate) const REPLAY_ABOUT: &str =
+    "Makes the events of a history on the reference machine and reports the state that they leave.
+
+What is read from standard input is a program as hex text, a line `events`, a line for each event, and a line `end` or
+the end. Without a line `events` there are no events; what stands behind `end` isn't looked at. A history is what
+`tw run --trace` writes, or any other: take w0, local w0 3, call w0, end w0, ask e0 1 0, deliver s0 2 1 0, release e0 1.
+The program isn't verified first. Its inputs are words behind the command, as those of `tw run`.
+The report ends with a line that tells how the run ended, or with `running`.
+Exit status: 0 quiet or still running, 1 refused or an event that isn't enabled, 2 command line or input word refused,
+3 stuck, 5 memory ran out, 6 trap, 7 a read or write failed.";
+
+pub(crate) const ENGINES_HELP: &str = "How many engines: 1 to 4 (default: 1)";
+
+pub(crate) const SERVERS_HELP: &str = "How many servers: 1 to 4 (default: 1)";
+
+pub(crate) const WORKERS_HELP: &str = "How many workers: 1 to 16 (default: 1)";
+
+pub(crate) const LIMIT_HELP: &str = "The most events: 1 to 1000000 (default: 10000)";
+
+pub(crate) const TRACE_HELP: &str =
+    "Write the history before the report: a line `events`, a line for each event, a line `end`";
+
+pub(crate) const INPUT_HELP: &str = "An input: int:, text:, ints: or texts:, and its value";
+
+pub(crate) const CHECK_ABOUT: &str = "Verifies a program and reports its budgets.
+
+The program is read from standard input as hex text: two digits a byte; spaces, tabs and line ends are skipped.
+Where it is accepted, a line for each procedure tells how many instructions a task of it does at most, and a last
+line how many engines and workers its targets need. Exit status: 0 accepted, 1 refused, 2 command line refused,
+5 memory ran out, 7 a read or write failed.";
+
+pub(crate) const ASM_ABOUT: &str = "Turns assembly text into a program.
+
+The text is read from standard input. What is written is the program as hex text, two digits a byte, in one line: what the
+other commands read. A text that spells no program is refused with the number and the line of its first fault.
+Exit status: 0 assembled, 1 refused, 2 command line refused, 5 memory ran out, 7 a read or write failed.";
+
+pub(crate) const DISASM_ABOUT: &str = "Writes a program as assembly text.
+
+The program is read from standard input as hex text: two digits a byte; spaces, tabs and line ends are skipped.
+It need not be one that is accepted. `tw asm` makes the same program of what is written.
+Exit status: 0 written, 1 refused, 2 command line refused, 5 memory ran out, 7 a read or write failed.";

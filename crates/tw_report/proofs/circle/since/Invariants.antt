@@ -1,6 +1,0 @@
-use Rattle.std.proofs.Common.{◌≡◌, drop}
-use Rattle.tw_types.specs.Circle.{since}
-use Rattle.tw_report.proofs.circle.since.Given as goal
-
-abbrev pub invariant-loop-index : goal.invariant-loop-index
-invariant-loop-index l = since l.rule (drop l.index l.trail) ≡ since l.rule l.trail

@@ -1,0 +1,47 @@
+//! The report of the end of a run on the pool, and the circle where it is stuck.
+
+ghost use Rattle.std.specs.Prelude.{◌≡◌, IfOk, option_map};
+ghost use Rattle.tw_report.specs.Ends.{IsEndCircle, IsEndReport, has_ended};
+
+use crate::ending_text::closing_text;
+use crate::outputs::put_report;
+use crate::pending::rules_told;
+use crate::walk::circle_of;
+use std::alloc::{AllocError, Global};
+use tw_code::Program;
+use tw_pool::{Closing, Final};
+use tw_types::Link;
+
+fn has_ended(closing: Option<Closing>) -> bool
+    ensures { result ≡ has_ended closing }
+{
+    match closing {
+        Some(Closing::Quiet | Closing::Stuck(_)) => true,
+        Some(Closing::Stopped | Closing::Limit) | None => false,
+    }
+}
+
+/// The circle of rules that wait for one another, where a run of this program is stuck.
+pub fn circle(
+    alloc: Global,
+    left: &Final,
+    program: &Program,
+) -> Result<Option<Vec<Link>>, AllocError>
+    ensures { IfOk result (λ found. IsEndCircle program.now left.now (option_map (λ v. v.items) found)) }
+{
+    if !has_ended(left.closing()) {
+        return Ok(None);
+    }
+    let rules = rules_told(alloc, program.procedures(), left.pending())?;
+    circle_of(alloc, &rules)
+}
+
+/// The report of the end of a run of this program.
+pub fn report(alloc: Global, left: &Final, program: &Program) -> Result<Vec<u8>, AllocError>
+    ensures { IfOk result (λ text. IsEndReport program.now left.now text.items) }
+{
+    let mut text = Vec::new(alloc);
+    let closing = closing_text(alloc, left.closing(), circle(alloc, left, program)?)?;
+    put_report(alloc, &mut text, left, &closing)?;
+    Ok(text)
+}

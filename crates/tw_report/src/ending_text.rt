@@ -1,0 +1,81 @@
+//! The text that closes a report.
+
+ghost use Rattle.std.specs.Prelude.{◌≡◌, ◌++◌, IfOk, OnOk, option_map};
+ghost use Rattle.tw_report.specs.Report.{closing_lines, ending_lines, link_line, link_lines, stuck_lines};
+
+use crate::lines::{put, put_numbered};
+use std::alloc::{AllocError, Global};
+use tw_pool::Closing;
+use tw_types::{Ending, Link};
+
+fn put_link_line(alloc: Global, out: &mut Vec<u8>, link: &Link) -> Result<(), AllocError>
+    ensures { OnOk result (out.new.items ≡ out.old.items ++ link_line link.now) }
+{
+    put_numbered(alloc, out, "waits ", link.rule.number() as usize)?;
+    put_numbered(alloc, out, " ", link.datum.number() as usize)?;
+    put_numbered(alloc, out, " ", link.next.number() as usize)?;
+    put(out, "\n")
+}
+
+fn put_link_lines(alloc: Global, out: &mut Vec<u8>, links: &[Link]) -> Result<(), AllocError>
+    ensures { OnOk result (out.new.items ≡ out.old.items ++ link_lines links.now) }
+{
+    for link in links {
+        put_link_line(alloc, out, link)?;
+    }
+    Ok(())
+}
+
+/// How many rules are pending, and the circle among them, if there is one.
+fn stuck_text(alloc: Global, rules: u64, found: Option<Vec<Link>>) -> Result<Vec<u8>, AllocError>
+    ensures { IfOk result (λ text. text.items ≡ stuck_lines rules (option_map (λ v. v.items) found)) }
+{
+    let mut text = Vec::new(alloc);
+    put_numbered(alloc, &mut text, "stuck ", rules as usize)?;
+    put(&mut text, "\n")?;
+    match found {
+        Some(links) => put_link_lines(alloc, &mut text, &links)?,
+        None => {}
+    }
+    Ok(text)
+}
+
+fn text_of(alloc: Global, words: &str) -> Result<Vec<u8>, AllocError>
+    ensures { IfOk result (λ text. text.items ≡ words.now) }
+{
+    let mut text = Vec::new(alloc);
+    put(&mut text, words)?;
+    Ok(text)
+}
+
+/// How a run has ended, with the circle that was found, or that it is still running.
+pub fn ending_text(
+    alloc: Global,
+    ending: Option<Ending>,
+    found: Option<Vec<Link>>,
+) -> Result<Vec<u8>, AllocError>
+    ensures { IfOk result (λ text. text.items ≡ ending_lines ending (option_map (λ v. v.items) found)) }
+{
+    match ending {
+        Some(Ending::Quiet) => text_of(alloc, "quiet\n"),
+        Some(Ending::Stuck(rules)) => stuck_text(alloc, rules, found),
+        None => text_of(alloc, "running\n"),
+    }
+}
+
+/// Why a run on the pool was over, with the circle that was found, or that it wasn't.
+pub fn closing_text(
+    alloc: Global,
+    closing: Option<Closing>,
+    found: Option<Vec<Link>>,
+) -> Result<Vec<u8>, AllocError>
+    ensures { IfOk result (λ text. text.items ≡ closing_lines closing (option_map (λ v. v.items) found)) }
+{
+    match closing {
+        Some(Closing::Quiet) => ending_text(alloc, Some(Ending::Quiet), found),
+        Some(Closing::Stuck(rules)) => ending_text(alloc, Some(Ending::Stuck(rules)), found),
+        Some(Closing::Stopped) => text_of(alloc, "stopped\n"),
+        Some(Closing::Limit) => text_of(alloc, "limit\n"),
+        None => ending_text(alloc, None, found),
+    }
+}

@@ -1,0 +1,143 @@
+//! Outputs, with the members of those that are containers.
+
+ghost use Rattle.std.specs.Prelude.{◌≡◌, ◌++◌, OnOk, option_map};
+ghost use Rattle.std.specs.Option.{option_copied};
+ghost use Rattle.std.specs.FinMap.{entries, get};
+ghost use Rattle.tw_types.specs.StoreCalls.{members_in};
+ghost use Rattle.tw_report.specs.Report.{closed_text, container_head, datum_text, member_line, member_lines};
+ghost use Rattle.tw_report.specs.Report.{output_line, output_text, report, scalar_text};
+
+use crate::lines::{put, put_decimal, put_numbered, put_signed, put_value};
+use crate::told::Told;
+use std::alloc::{AllocError, Global};
+use tw_datum::{Datum, Member};
+use tw_types::{DatumId, Scalar};
+
+fn scalar_text(scalar: Scalar) -> &'static str
+    ensures { result.now ≡ scalar_text scalar }
+{
+    match scalar {
+        Scalar::Int => "int",
+        Scalar::Text => "text",
+    }
+}
+
+fn closed_text(closed: bool) -> &'static str
+    ensures { result.now ≡ closed_text closed }
+{
+    if closed { " closed " } else { " open " }
+}
+
+/// Adds what a container holds, and whether it is closed.
+fn put_container_head<M: Member>(out: &mut Vec<u8>, datum: &Datum<M>) -> Result<(), AllocError>
+    ensures { OnOk result (out.new.items ≡ out.old.items ++ container_head datum.now.datum) }
+{
+    put(out, "cont ")?;
+    put(out, scalar_text(datum.ty().scalar()))?;
+    put(out, closed_text(datum.closed()))
+}
+
+/// Adds what is in a datum, or that it was freed.
+fn put_datum<M: Member>(
+    alloc: Global,
+    out: &mut Vec<u8>,
+    datum: Option<&Datum<M>>,
+) -> Result<(), AllocError>
+    ensures { OnOk result (out.new.items ≡ out.old.items ++ datum_text (option_map (λ d. d.datum) (option_copied datum.entry))) }
+{
+    let Some(datum) = datum else {
+        return put(out, "gone");
+    };
+    if let Some(value) = datum.value() {
+        return put_value(alloc, out, value);
+    }
+    if datum.is_unset() {
+        return put(out, "unset");
+    }
+    put_container_head(out, datum)?;
+    put_decimal(alloc, out, datum.len())
+}
+
+/// Adds the line of an output.
+fn put_output_line<M: Member>(
+    alloc: Global,
+    out: &mut Vec<u8>,
+    number: usize,
+    datum: Option<&Datum<M>>,
+) -> Result<(), AllocError>
+    ensures { OnOk result (out.new.items ≡ out.old.items ++ output_line number (option_map (λ d. d.datum) (option_copied datum.entry))) }
+{
+    put_numbered(alloc, out, "out ", number)?;
+    put(out, " ")?;
+    put_datum(alloc, out, datum)?;
+    put(out, "\n")
+}
+
+/// Adds the line of a container's member: its subscript, and its datum.
+fn put_member_line<M: Member>(
+    alloc: Global,
+    out: &mut Vec<u8>,
+    member: (i64, Option<&Datum<M>>),
+) -> Result<(), AllocError>
+    ensures { OnOk result (out.new.items ≡ out.old.items ++ member_line member.entry.0 (option_map (λ d. d.datum) (option_copied member.entry.1))) }
+{
+    put(out, "  at ")?;
+    put_signed(alloc, out, member.0)?;
+    put(out, " ")?;
+    put_datum(alloc, out, member.1)?;
+    put(out, "\n")
+}
+
+/// Adds the lines of a container's members, by rising subscripts.
+fn put_member_lines<T: Told>(
+    alloc: Global,
+    out: &mut Vec<u8>,
+    told: &T,
+    container: &Datum<T::Kept>,
+) -> Result<(), AllocError>
+    requires { T.IsShown told.now container.now }
+    ensures { OnOk result (out.new.items ≡ out.old.items
+        ++ member_lines (T.live told.now) (entries (members_in container.now.datum.content))) }
+{
+    for index in 0..container.len() {
+        let Some(member) = told.member(container, index) else {
+            unreachable!();
+        };
+        put_member_line(alloc, out, member)?;
+    }
+    Ok(())
+}
+
+/// Adds the line of an output, and those of its members.
+fn put_output<T: Told>(
+    alloc: Global,
+    out: &mut Vec<u8>,
+    told: &T,
+    number: usize,
+    id: DatumId,
+) -> Result<(), AllocError>
+    ensures { OnOk result (out.new.items ≡ out.old.items
+        ++ output_text (T.live told.now) number (get (T.live told.now) id)) }
+{
+    let datum = told.datum(id);
+    put_output_line(alloc, out, number, datum)?;
+    match datum {
+        Some(datum) => put_member_lines(alloc, out, told, datum),
+        None => Ok(()),
+    }
+}
+
+/// Adds the report of what is told: the outputs, and the text that closes it.
+pub fn put_report<T: Told>(
+    alloc: Global,
+    out: &mut Vec<u8>,
+    told: &T,
+    closing: &[u8],
+) -> Result<(), AllocError>
+    ensures { OnOk result (out.new.items ≡ out.old.items ++ report (T.live told.now) (T.ids told.now) closing.now) }
+{
+    for (number, id) in told.outputs().iter().enumerate() {
+        put_output(alloc, out, told, number, *id)?;
+    }
+    out.extend_from_slice(closing)
+}

@@ -1,0 +1,118 @@
+//! What `run` answers.
+
+ghost use Rattle.std.specs.Prelude.{◌≡◌, ◌++◌, IfOk, List, OnOk};
+ghost use Rattle.tw_types.specs.declared.event.Event.{Event as AnEvent};
+ghost use Rattle.tw_host.specs.Ends.{Closes};
+ghost use Rattle.tw_session.specs.Reply.{reply};
+ghost use Rattle.tw_session.specs.Run.{RepliesByOpening, RepliesByRun, close_of, run_as, threads_refused, trace_text};
+
+use crate::reply::{Reply, fixed_reply, opening_reply};
+use crate::status::Close;
+use std::alloc::{AllocError, Global};
+use std::sync::Wait;
+use std::thread::Threads;
+use tw_command::RunOrder;
+use tw_host::Closed;
+use tw_pool::{Closing, Final, History, OpenRefusal};
+use tw_report::{put, put_event_line, report};
+use tw_verify::Verified;
+use tw_workers::{NoGate, run};
+
+fn close_of(closing: Closing) -> Close
+    ensures { result ≡ close_of closing }
+{
+    match closing {
+        Closing::Quiet => Close::Success,
+        Closing::Stuck(_) => Close::Stuck,
+        Closing::Limit => Close::Limit,
+        Closing::Stopped => Close::Refused,
+    }
+}
+
+/// Adds the lines of the events, where they are asked for.
+fn put_trace(
+    alloc: Global,
+    out: &mut Vec<u8>,
+    asked: bool,
+    history: &History,
+) -> Result<(), AllocError>
+    ensures { OnOk result (out.new.items ≡ out.old.items ++ trace_text asked history.now.events) }
+{
+    if !asked {
+        return Ok(());
+    }
+    put(out, "events\n")?;
+    for index in 0..history.len() {
+        put_event_line(alloc, out, &history.event(index))?;
+    }
+    put(out, "end\n")
+}
+
+/// The reply where the threads have come to no end.
+fn threads_reply(alloc: Global) -> Result<Reply, AllocError>
+    ensures { IfOk result (λ r. reply r.text.items r.close ≡ threads_refused) }
+{
+    fixed_reply(alloc, "refused X01\n", Close::Refused)
+}
+
+/// The reply where all seats were given back.
+fn closed_reply(
+    alloc: Global,
+    order: &RunOrder,
+    verified: &Verified,
+    closed: Closed,
+) -> Result<Reply, AllocError>
+    requires { (told : List (List AnEvent)) × Closes (run_as verified.now order.now) told closed }
+    ensures { IfOk result (λ r. RepliesByRun verified.now.program order.now (reply r.text.items r.close)) }
+{
+    match closed {
+        Closed::Ended {
+            history,
+            outcome,
+            by_seat: _,
+        } => match outcome.closing() {
+            None | Some(Closing::Stopped) => threads_reply(alloc),
+            Some(closing) => {
+                let mut text = Vec::new(alloc);
+                put_trace(alloc, &mut text, order.trace, &history)?;
+                let told = report(alloc, &outcome, verified.program())?;
+                text.extend_from_slice(&told)?;
+                Ok(Reply {
+                    text,
+                    close: close_of(closing),
+                })
+            }
+        },
+        Closed::Differs { .. } => threads_reply(alloc),
+    }
+}
+
+/// Opens and runs an accepted program in threads, one an actor.
+pub fn run_of<H: Threads + Wait + Sync>(
+    rt: &H,
+    alloc: Global,
+    order: &RunOrder,
+    verified: &Verified,
+) -> Result<Reply, AllocError>
+    ensures { IfOk result (λ r. RepliesByOpening verified.now.program order.now (reply r.text.items r.close)) }
+{
+    let inputs = order.inputs.as_slice();
+    match run(
+        rt,
+        alloc,
+        verified,
+        inputs,
+        order.layout,
+        order.limit.events(),
+        &NoGate,
+    ) {
+        Ok((closed, memory)) => {
+            if memory {
+                return Err(AllocError);
+            }
+            closed_reply(alloc, order, verified, closed)
+        }
+        Err(OpenRefusal::NoMemory) => Err(AllocError),
+        Err(why) => opening_reply(alloc, why.number()),
+    }
+}
