@@ -1,0 +1,23 @@
+#!/bin/sh
+# Runs bench/load.tw so many times with 4 engines, 4 servers and 16 workers, and prints how many runs ended with which status and
+# the checksum of what they wrote. All must have one and the same: the report doesn't depend on the order of events.
+#
+#   tools/load.sh [TIMES] [WORDS of tw run..]
+set -e
+root=$(dirname "$(dirname "$(readlink -f "$0")")")
+times=${1:-100}
+[ $# -gt 0 ] && shift
+"$root/tw" --help >/dev/null
+room=$(mktemp -d)
+trap 'rm -rf "$room"' EXIT
+"$root/tw" asm <"$root/bench/load.tw" >"$room/load.hex"
+program=$root/crates/tw_main/out/tw_main
+done=0
+while [ "$done" -lt "$times" ]; do
+    status=0
+    "$program" run --engines=4 --servers=4 --workers=16 --limit=1000000 "$@" <"$room/load.hex" >"$room/out" || status=$?
+    echo "status $status, last line $(tail -n 1 "$room/out"), checksum $(sha256sum <"$room/out" | cut -c1-16)" >>"$room/ends"
+    done=$((done + 1))
+    [ $((done % 10)) -eq 0 ] && echo "$done of $times" >&2
+done
+sort "$room/ends" | uniq -c | sort -rn
