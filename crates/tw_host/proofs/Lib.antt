@@ -2,4 +2,3 @@ mod Lists
 mod Fitting
 mod Owning
 mod Turning
-mod Ending

@@ -15,7 +15,6 @@ use crate::seat::Seat;
 use std::sync::ledger::Share;
 use tw_pool::{Final, History};
 use tw_types::{Actor, Event, Layout};
-use tw_verify::ends_well;
 
 /// The end of a run.
 #[derive(Drop)]
@@ -121,7 +120,6 @@ impl<'a, N: Named> Locked<'a, N> {
             mut spare,
         } = self;
         let layout = pool.layout();
-        ends_well(pool.program());
         let differing = first_differing(seats.as_slice(), layout, pool.history());
         let mut by_seat = settle(seats, by_seat, &mut spare);
         book.audit(&mut spare);

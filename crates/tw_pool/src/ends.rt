@@ -5,7 +5,10 @@ ghost use Rattle.std.specs.FinMap.{get};
 ghost use Rattle.std.specs.Option.{option_copied};
 ghost use Rattle.tw_store.specs.Calls.{IsShown};
 ghost use Rattle.tw_store.specs.Served.{KnowsPlaces};
+ghost use Rattle.tw_code.specs.machine.State.{State};
+ghost use Rattle.tw_no_trap.specs.EndsWell.{EndsWell};
 ghost use Rattle.tw_pool.specs.Ends.{IsShut};
+ghost use Rattle.tw_pool.specs.PoolView.{HasState};
 
 use crate::answer::Closing;
 use crate::history::History;
@@ -15,6 +18,7 @@ use tw_parts::Remains;
 use tw_rules::PlainRule;
 use tw_store::{Datum, ShownMember};
 use tw_types::DatumId;
+use tw_verify::ends_well;
 
 /// What is left of a run for reading: its data, its outputs, the rules that were pending, and why it was over.
 #[derive(Drop)]
@@ -83,10 +87,13 @@ impl Final {
 }
 
 impl<'a> Pool<'a> {
-    /// Ends the run: spends every right, and gives what is left for reading, and the history.
+    /// Ends the run: spends every right, and gives what is left for reading, and the history. Where the run has ended by
+    /// itself, it has ended as the law says.
     pub fn shut(self) -> (Final, History)
-        ensures { IsShut self.entry result.0 result.1 }
+        ensures left { IsShut self.entry result.0 result.1 }
+        ensures ends_well { (s : State) → HasState self.entry s → EndsWell self.entry.program.program s }
     {
+        ends_well(self.verified);
         let closing = self.closing();
         let Pool {
             verified: _,

@@ -1,15 +1,16 @@
-use Rattle.std.proofs.Common.{◌≡◌, sym, ap, ◌∙◌, arith, length, map, ◌<◌, ℕ, List, []}
+use Rattle.std.proofs.Common.{◌≡◌, sym, ap, ◌∙◌, arith, subst, length, map, ◌<◌, ℕ, List, []}
 use Rattle.std.proofs.lemmas.List.{length-map}
 use Rattle.tw_pool.specs.Actors.{events_of}
 use Rattle.tw_host.specs.Seats.{actor_at, seat_count}
-use Rattle.tw_host.proofs.Ending.{run_ends_well}
+use Rattle.tw_no_trap.specs.EndsWell.{EndsWell}
+use Rattle.tw_host.specs.Run.{Run}
 use Rattle.tw_host.proofs.Lists.{all_by_actor, at_same}
 use Rattle.tw_host.proofs.locked.Locked.close.Goals as goal
 
 pub returns-in-None : goal.returns-in-None
 returns-in-None g c =
     let run = g.N.Named.run in
-    let shut = c.shut-outcome.ensures in
+    let shut = c.shut-outcome.ensures.left in
     let inv = c.self.invariant in
     let p = c.self.inside.pool in
     let told = map (λ s. s.told.items) c.args.seats.items in
@@ -21,7 +22,7 @@ returns-in-None g c =
       of_run = inv.of_run;
       within = inv.within;
       shut = shut;
-      ends_well = run_ends_well run p c.program.result.now shut.state inv.of_run c.program.ensures inv.given shut.has_state c.ends_well.ensures;
+      ends_well = subst (λ (r : Run). EndsWell r.program.program shut.state) inv.of_run (c.shut-outcome.ensures.ends_well shut.state shut.has_state);
       by_seat_is = c.settle-by_seat.ensures.lists;
       each = all_by_actor run told c.shut-outcome.result.1.events long (λ k low. all k low ∙ (ap (λ r. events_of (actor_at r.layout k) p.history) inv.of_run ∙ ap (events_of (actor_at run.layout k)) (sym shut.events)));
       together = omega (arith, c.settle-by_seat.ensures.amount, whole, inv.counted, inv.no_amount, ap length shut.events);
@@ -30,7 +31,7 @@ returns-in-None g c =
 pub returns : goal.returns
 returns g c =
     let run = g.N.Named.run in
-    let shut = c.shut-outcome.ensures in
+    let shut = c.shut-outcome.ensures.left in
     let inv = c.self.invariant in
     let p = c.self.inside.pool in
     let one = rw (c.as_slice.ensures.value, c.history.ensures.events, c.layout-layout.ensures) at c.in-Some.ensures in

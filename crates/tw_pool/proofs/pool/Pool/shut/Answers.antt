@@ -1,12 +1,14 @@
-use Rattle.std.proofs.Common.{ap, refl}
+use Rattle.std.proofs.Common.{ap, refl, subst}
 use Rattle.tw_store.specs.Served.{Served}
+use Rattle.tw_code.specs.machine.State.{State}
+use Rattle.tw_no_trap.specs.EndsWell.{EndsWell}
 use Rattle.tw_parts.specs.Parts.{state_of}
-use Rattle.tw_pool.specs.PoolView.{PoolView}
+use Rattle.tw_pool.specs.PoolView.{PoolView, HasState}
 use Rattle.tw_pool.proofs.Turning as turning
 use Rattle.tw_pool.proofs.pool.Pool.shut.Goals as goal
 
-pub returns : goal.returns
-returns c = record {
+pub returns-clause-left : goal.returns-clause-left
+returns-clause-left c = record {
   state = state_of c.self.inside.parts c.self.invariant.notices;
   has_state = turning.at_here _ _ _ c.self.inside.stopped c.self.inside.history c.self.inside.parts c.self.invariant c.args.self c.self.view_is;
   left = record {
@@ -19,3 +21,7 @@ returns c = record {
   closing = c.closing-closing.ensures _ (turning.at_here _ _ _ c.self.inside.stopped c.self.inside.history c.self.inside.parts c.self.invariant c.args.self c.self.view_is);
   events = ap (λ (p : PoolView). p.history) c.self.view_is;
 }
+
+pub returns-clause-ends_well : goal.returns-clause-ends_well
+returns-clause-ends_well c =
+    subst (λ (p : PoolView). (s : State) → HasState p s → EndsWell p.program.program s) c.self.view_is (λ s has. c.ends_well.ensures _ _ _ s c.self.invariant.given has)
