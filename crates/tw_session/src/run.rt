@@ -1,6 +1,6 @@
 //! What `run` answers.
 
-ghost use Rattle.std.specs.Prelude.{◌≡◌, ◌++◌, IfOk, List, OnOk};
+ghost use Rattle.std.specs.Prelude.{◌≡◌, ◌≢◌, ◌++◌, IfOk, IfSome, List, OnOk, Some};
 ghost use Rattle.tw_types.specs.declared.event.Event.{Event as AnEvent};
 ghost use Rattle.tw_host.specs.Ends.{Closes};
 ghost use Rattle.tw_session.specs.Reply.{reply};
@@ -26,6 +26,19 @@ fn close_of(closing: Closing) -> Close
         Closing::Stuck(_) => Close::Stuck,
         Closing::Limit => Close::Limit,
         Closing::Stopped => Close::Refused,
+    }
+}
+
+/// Why a run is over that wasn't stopped.
+fn end_of(closing: Option<Closing>) -> Option<Closing>
+    ensures same { IfSome result (λ c. closing ≡ Some c) }
+    ensures unstopped { IfSome result (λ c. c ≢ Closing.Stopped) }
+{
+    match closing {
+        Some(Closing::Quiet) => Some(Closing::Quiet),
+        Some(Closing::Stuck(rules)) => Some(Closing::Stuck(rules)),
+        Some(Closing::Limit) => Some(Closing::Limit),
+        Some(Closing::Stopped) | None => None,
     }
 }
 
@@ -70,8 +83,8 @@ fn closed_reply(
             history,
             outcome,
             by_seat: _,
-        } => match outcome.closing() {
-            None | Some(Closing::Stopped) => threads_reply(alloc),
+        } => match end_of(outcome.closing()) {
+            None => threads_reply(alloc),
             Some(closing) => {
                 let mut text = Vec::new(alloc);
                 put_trace(alloc, &mut text, order.trace, &history)?;
