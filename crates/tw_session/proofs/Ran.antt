@@ -56,8 +56,14 @@ ran verified order told by_seat final history closing text e over other is_repor
     is_report p history (ap (λ (r : Run). r.program.program) e.of_run) shut ∙ ap (λ (o : Option Closing). end_report verified.program s o) over in
     let leads : reached verified.program order.inputs order.layout p.history ≡ Went s =
     subst (λ (r : Run). reached r.program.program r.inputs r.layout p.history ≡ Went s) e.of_run shut.has_state in
-    inl (history.events, s, closing, record {
-      few = subst (λ (es : List Event). length es ≤ order.limit) (sym shut.events) e.within;
-      reaches = subst (λ (es : List Event). reached verified.program order.inputs order.layout es ≡ Went s) (sym shut.events) leads;
-      ends = here;
-    }, ap (λ (t : List ℕ). reply (trace_text order.trace history.events ++ t) (close_of closing)) told_so)
+    inl (
+      history.events,
+      s,
+      closing,
+      record {
+        few = subst (λ (es : List Event). length es ≤ order.limit) (sym shut.events) e.within;
+        reaches = subst (λ (es : List Event). reached verified.program order.inputs order.layout es ≡ Went s) (sym shut.events) leads;
+        ends = here;
+      },
+      ap (λ (t : List ℕ). reply (trace_text order.trace history.events ++ t) (close_of closing)) told_so,
+    )

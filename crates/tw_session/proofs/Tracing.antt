@@ -21,9 +21,9 @@ pub whole_trace : (history : List Event) (i : ℕ) (asked : Bool) (old now next 
 whole_trace history i true old now next is has all added =
     let lines = flat_map event_line history in
     added
-        ∙ ap (λ (text : List ℕ). text ++ codes "end\n") (has ∙ ap (λ (es : List Event). (old ++ codes "events\n") ++ flat_map event_line es) (take_all i history all))
-        ∙ append_assoc (old ++ codes "events\n") lines (codes "end\n")
-        ∙ append_assoc old (codes "events\n") (lines ++ codes "end\n")
+    ∙ ap (λ (text : List ℕ). text ++ codes "end\n") (has ∙ ap (λ (es : List Event). (old ++ codes "events\n") ++ flat_map event_line es) (take_all i history all))
+    ∙ append_assoc (old ++ codes "events\n") lines (codes "end\n")
+    ∙ append_assoc old (codes "events\n") (lines ++ codes "end\n")
 whole_trace history i false old now next is has all added = absurd (no is)
   where
     no : false ≡ true → ⊥

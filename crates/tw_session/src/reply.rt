@@ -111,7 +111,12 @@ fn verified_reply<H: Threads + Wait + Sync>(
 }
 
 /// Writes a program's assembly text, or verifies the program.
-fn program_reply<H: Threads + Wait + Sync>(rt: &H, alloc: Global, order: &ProgramOrder, program: Program) -> Result<Reply, AllocError>
+fn program_reply<H: Threads + Wait + Sync>(
+    rt: &H,
+    alloc: Global,
+    order: &ProgramOrder,
+    program: Program,
+) -> Result<Reply, AllocError>
     ensures { IfOk result (λ r. RepliesByProgram order.now program (reply r.text.items r.close)) }
 {
     match order {
@@ -127,7 +132,12 @@ fn program_reply<H: Threads + Wait + Sync>(rt: &H, alloc: Global, order: &Progra
 }
 
 /// Decodes bytes, and does what is ordered with the program that they spell.
-fn bytes_reply<H: Threads + Wait + Sync>(rt: &H, alloc: Global, order: &ProgramOrder, bytes: &[u8]) -> Result<Reply, AllocError>
+fn bytes_reply<H: Threads + Wait + Sync>(
+    rt: &H,
+    alloc: Global,
+    order: &ProgramOrder,
+    bytes: &[u8],
+) -> Result<Reply, AllocError>
     ensures { IfOk result (λ r. RepliesByBytes order.now (program_of bytes.now) (reply r.text.items r.close)) }
 {
     match decode(alloc, bytes) {
@@ -147,7 +157,12 @@ fn bytes_reply<H: Threads + Wait + Sync>(rt: &H, alloc: Global, order: &ProgramO
 }
 
 /// Turns hex text into bytes, and answers to these.
-fn text_reply<H: Threads + Wait + Sync>(rt: &H, alloc: Global, order: &ProgramOrder, input: Vec<u8>) -> Result<Reply, AllocError>
+fn text_reply<H: Threads + Wait + Sync>(
+    rt: &H,
+    alloc: Global,
+    order: &ProgramOrder,
+    input: Vec<u8>,
+) -> Result<Reply, AllocError>
     ensures { IfOk result (λ r.
         RepliesByText order.now (decode_of (digits_in input.items)) (reply r.text.items r.close)) }
 {
@@ -204,7 +219,12 @@ fn assembled_reply(alloc: Global, input: Vec<u8>) -> Result<Reply, AllocError>
 }
 
 /// The whole reply to an order and the bytes that were read; refused where memory is.
-pub fn reply_to<H: Threads + Wait + Sync>(rt: &H, alloc: Global, order: &Order, input: Vec<u8>) -> Result<Reply, AllocError>
+pub fn reply_to<H: Threads + Wait + Sync>(
+    rt: &H,
+    alloc: Global,
+    order: &Order,
+    input: Vec<u8>,
+) -> Result<Reply, AllocError>
     ensures { IfOk result (λ r. MayReply order.now input.items (reply r.text.items r.close)) }
 {
     if input.len() > MOST_BYTES {
