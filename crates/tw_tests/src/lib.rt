@@ -6,8 +6,14 @@ mod inputs;
 #[cfg(test)]
 mod laws;
 #[cfg(test)]
+mod programs;
+#[cfg(test)]
 mod rights;
 #[cfg(test)]
 mod streams;
+#[cfg(test)]
+mod threads;
+#[cfg(test)]
+mod turns;
 #[cfg(test)]
 mod types;
