@@ -24,7 +24,11 @@ pub fn tw_text<H: AllocGlobal + Threads + Wait + Sync>(
 }
 
 /// The status of a session, how many bytes it left unread, and what it wrote.
-pub fn ended<H: AllocGlobal + Threads + Wait + Sync>(rt: &H, words: &[String], input: &[u8]) -> (u8, usize, Vec<u8>) {
+pub fn ended<H: AllocGlobal + Threads + Wait + Sync>(
+    rt: &H,
+    words: &[String],
+    input: &[u8],
+) -> (u8, usize, Vec<u8>) {
     let mut reader = input;
     let mut writer = Vec::new(rt.alloc());
     let status = session(rt, words, &mut reader, &mut writer);

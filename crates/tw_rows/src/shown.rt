@@ -9,7 +9,10 @@ use std::sync::Wait;
 use std::thread::Threads;
 
 /// How many commands a file shows that print what stands below them; or the first that prints something else.
-pub fn shown_text<H: AllocGlobal + Files + Threads + Wait + Sync>(rt: &H, file: &str) -> Result<String, Complaint> {
+pub fn shown_text<H: AllocGlobal + Files + Threads + Wait + Sync>(
+    rt: &H,
+    file: &str,
+) -> Result<String, Complaint> {
     let text = fs::read_to_string(rt, file)?;
     let mut commands = 0u64;
     for shown in text.as_str().split("$ ./tw ").skip(1) {
@@ -24,7 +27,10 @@ pub fn shown_text<H: AllocGlobal + Files + Threads + Wait + Sync>(rt: &H, file: 
 }
 
 /// What the last of some sessions prints, where each reads a file or what the one before wrote.
-fn printed<H: AllocGlobal + Files + Threads + Wait + Sync>(rt: &H, command: &str) -> Result<String, Complaint> {
+fn printed<H: AllocGlobal + Files + Threads + Wait + Sync>(
+    rt: &H,
+    command: &str,
+) -> Result<String, Complaint> {
     let mut written = Vec::new(rt.alloc());
     for part in command.split(" | ./tw ") {
         written = played(rt, part, written)?;

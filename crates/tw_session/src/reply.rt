@@ -1,7 +1,7 @@
 //! What a session answers to the bytes that it reads.
 
-ghost use Rattle.std.specs.Prelude.{◌≡◌, ◌<◌, ◌++◌, List, IfOk, codes};
-ghost use Rattle.tw_command.specs.declared.command.Order.TheVariants.{Assemble};
+ghost use Rattle.std.specs.Prelude.{◌≡◌, ◌<◌, ◌≤◌, ◌++◌, List, IfOk, codes, length};
+ghost use Rattle.tw_command.specs.declared.command.Order.TheVariants.{Assemble, Replay};
 ghost use Rattle.tw_session.specs.Session.{MayReply, RepliesByAccepted, RepliesByAssembly, RepliesByBytes, RepliesByInput};
 ghost use Rattle.tw_session.specs.Session.{RepliesByProgram, RepliesByText, RepliesByVerified};
 ghost use Rattle.tw_session.specs.Reply.{reply};
@@ -23,7 +23,7 @@ use std::sync::Wait;
 use std::thread::Threads;
 use tw_asm::{assemble, disassemble};
 use tw_code::{FaultNo, Program, decode, encode};
-use tw_command::{Order, ProgramOrder, VerifiedOrder};
+use tw_command::{Order, ProgramOrder, ReplayOrder, VerifiedOrder};
 use tw_report::{put, put_asm_line, put_fault_line, put_opening_line, put_verify_line};
 use tw_verify::{Verified, VerifyRefusal, verify};
 
@@ -218,6 +218,14 @@ fn assembled_reply(alloc: Global, input: Vec<u8>) -> Result<Reply, AllocError>
     }
 }
 
+/// The reply to what is to be a program with a history behind it.
+fn replayed_reply(alloc: Global, order: &ReplayOrder, input: Vec<u8>) -> Result<Reply, AllocError>
+    requires { length input.items ≤ 16777216 }
+    ensures { IfOk result (λ r. RepliesByInput (Replay order.now) input.items (reply r.text.items r.close)) }
+{
+    replay_reply(alloc, order.layout, order.inputs.as_slice(), &input)
+}
+
 /// The whole reply to an order and the bytes that were read; refused where memory is.
 pub fn reply_to<H: Threads + Wait + Sync>(
     rt: &H,
@@ -233,8 +241,6 @@ pub fn reply_to<H: Threads + Wait + Sync>(
     match order {
         Order::Assemble => assembled_reply(alloc, input),
         Order::Program(order) => text_reply(rt, alloc, order, input),
-        Order::Replay(order) => {
-            replay_reply(alloc, order.layout, order.inputs.as_slice(), &input)
-        }
+        Order::Replay(order) => replayed_reply(alloc, order, input),
     }
 }

@@ -6,6 +6,6 @@ use Rattle.tw_command.specs.declared.command.VerifiedOrder.{VerifiedOrder}
 use Rattle.tw_session.specs.declared.reply.Reply.{Reply}
 use Rattle.tw_session.proofs.reply.accepted_reply.Goals as goal
 
-pub returns-in-Run : goal.returns-in-Run
-returns-in-Run c =
+pub returns : goal.returns
+returns g c =
     IfOk-weaker _ _ _ (λ (r : Reply) h. subst (λ (o : VerifiedOrder). RepliesByAccepted o c.args.verified.program (reply r.text.items r.close)) (sym c.in-Run.is) h) c.run_of.ensures
