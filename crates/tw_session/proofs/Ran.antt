@@ -1,5 +1,5 @@
 -- What closes a run is what the definition of its end says.
-use Rattle.std.proofs.Common.{◌≡◌, ◌≢◌, ◌≤◌, ◌++◌, ◌==◌, ◌∙◌, Bool, true, false, ℕ, refl, sym, ap, subst, cond, inl, List, length, Option, Some, None}
+use Rattle.std.proofs.Common.{◌≡◌, ◌≢◌, ◌≤◌, ◌++◌, ◌==◌, ◌∙◌, Bool, true, false, ℕ, refl, sym, ap, subst, inl, List, length, Option, Some, None}
 use Rattle.std.proofs.lemmas.Bool.{eqb-true}
 use Rattle.std.specs.Prelude.{if◌then◌else◌}
 use Rattle.std.specs.Option.{option_map, option_or}
@@ -12,7 +12,7 @@ use Rattle.tw_code.specs.machine.Opening.{reached}
 use Rattle.tw_code.specs.machine.State.{State}
 use Rattle.tw_verify.specs.Typed.{TypedProgram}
 use Rattle.tw_pool.specs.declared.answer.Closing.{Closing}
-use Rattle.tw_pool.specs.declared.answer.Closing.TheVariants.{Quiet, Stuck, Stopped, Limit}
+use Rattle.tw_pool.specs.declared.answer.Closing.TheVariants.{Stopped, Limit}
 use Rattle.tw_pool.specs.Ends.{FinalView}
 use Rattle.tw_pool.specs.History.{HistoryView}
 use Rattle.tw_pool.specs.Turns.{closing_of}
