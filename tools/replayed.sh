@@ -1,0 +1,49 @@
+#!/bin/sh
+# Runs each example so many times with changing layouts, its events before its report, and replays them on the reference machine: the
+# report and the status must be the same. Prints how many runs of each example were replayed alike, and stops at the first that isn't.
+#
+#   tools/replayed.sh [TIMES]
+set -e
+root=$(dirname "$(dirname "$(readlink -f "$0")")")
+times=${1:-200}
+"$root/tw" --help >/dev/null
+program=$root/crates/tw_main/out/tw_main
+room=$(mktemp -d)
+trap 'rm -rf "$room"' EXIT
+
+# The input words that an example's main takes.
+inputs_of() {
+    case $1 in
+        pipeline) echo int:39 ;;
+        read_member) echo ints:3=42 ;;
+        text_input) echo text:ab ;;
+        two_inputs) echo ints:1=7,5=-3 int:-4 ;;
+    esac
+}
+
+# Runs a program with so many engines, servers and workers, and replays its events.
+replay_once() {
+    layout="--engines=$1 --servers=$2 --workers=$3"
+    run_status=0 replay_status=0
+    "$program" run $layout --limit=1000000 --trace $words <"$room/hex" >"$room/run" || run_status=$?
+    sed '1,/^end$/d' "$room/run" >"$room/report"
+    { cat "$room/hex"; sed '/^end$/,$d' "$room/run"; echo end; } >"$room/history"
+    "$program" replay $layout $words <"$room/history" >"$room/replayed" || replay_status=$?
+    [ "$run_status" = "$replay_status" ] && cmp -s "$room/report" "$room/replayed"
+}
+
+for file in "$root"/examples/*.tw; do
+    name=$(basename "$file" .tw)
+    words=$(inputs_of "$name")
+    "$program" asm <"$file" >"$room/hex"
+    "$program" check <"$room/hex" >"$room/check" || { echo "$name: $(cat "$room/check")"; continue; }
+    count=0
+    while [ "$count" -lt "$times" ]; do
+        replay_once $((count % 4 + 1)) $((count / 4 % 4 + 1)) $((count * 5 % 16 + 1)) || {
+            echo "$name: $layout $words: run $run_status, replay $replay_status; $(diff "$room/report" "$room/replayed" | head -n 2 | tr '\n' ' ')"
+            exit 1
+        }
+        count=$((count + 1))
+    done
+    echo "$name: $count runs replayed alike, $(tail -n 1 "$room/report")"
+done
