@@ -1,33 +1,34 @@
 /* Refuses one request for memory of a program: the one whose number, from 1, is in REFUSE. Where REPORT names a file, the
-   number of requests is written there at the end. Built and loaded by tools/refused.sh. */
+   number of requests stands there, written anew at each, since a program with threads may end without its destructors. Built
+   and loaded by tools/refused.sh. */
 #define _GNU_SOURCE
 #include <dlfcn.h>
+#include <fcntl.h>
 #include <stdatomic.h>
 #include <stdio.h>
 #include <stdlib.h>
+#include <unistd.h>
 
 static atomic_ulong requests;
 static unsigned long refused;
+static int report = -1;
 
 __attribute__((constructor)) static void begin(void) {
     const char *number = getenv("REFUSE");
+    const char *path = getenv("REPORT");
     refused = number ? strtoul(number, NULL, 10) : 0;
+    report = path ? open(path, O_WRONLY | O_CREAT | O_TRUNC | O_CLOEXEC, 0644) : -1;
     atomic_store(&requests, 0);
 }
 
-__attribute__((destructor)) static void end(void) {
-    const char *path = getenv("REPORT");
-    unsigned long count = atomic_load(&requests);
-    refused = 0;
-    FILE *file = path ? fopen(path, "w") : NULL;
-    if (!file)
-        return;
-    fprintf(file, "%lu\n", count);
-    fclose(file);
-}
-
+/* The numbers are written with leading zeros, so that a shorter one never stands over a longer one. */
 static int is_refused(void) {
-    return atomic_fetch_add(&requests, 1) + 1 == refused;
+    unsigned long number = atomic_fetch_add(&requests, 1) + 1;
+    char line[24];
+    int length = snprintf(line, sizeof line, "%010lu\n", number);
+    if (report >= 0 && pwrite(report, line, (size_t)length, 0) != length)
+        abort();
+    return number == refused;
 }
 
 void *malloc(size_t size) {

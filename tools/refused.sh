@@ -22,7 +22,8 @@ run_refusing() {
     status=0
     rm -f "$room/count"
     REFUSE=$number REPORT=$room/count LD_PRELOAD=$room/refuse.so "$@" <"$room/input" >"$room/out" 2>"$room/err" || status=$?
-    requests=$(cat "$room/count" 2>/dev/null || echo "$number")
+    requests=$(sed 's/^0*//' "$room/count" 2>/dev/null)
+    requests=${requests:-0}
 }
 
 : >"$room/ends"

@@ -39,7 +39,7 @@ for file in "$root"/examples/*.tw; do
     "$program" check <"$room/hex" >"$room/check" || { echo "$name: $(cat "$room/check")"; continue; }
     count=0
     while [ "$count" -lt "$times" ]; do
-        replay_once $((count % 4 + 1)) $((count / 4 % 4 + 1)) $((count * 5 % 16 + 1)) || {
+        replay_once $((count % 4 + 1)) $((count / 4 % 4 + 1)) $(((count * 5 + count / 16) % 16 + 1)) || {
             echo "$name: $layout $words: run $run_status, replay $replay_status; $(diff "$room/report" "$room/replayed" | head -n 2 | tr '\n' ' ')"
             exit 1
         }
