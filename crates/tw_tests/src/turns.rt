@@ -245,9 +245,9 @@ fn put_two(alloc: Global, table: &mut Table) {
     let _last = table.turn(alloc, ENGINE, done);
 }
 
-const W0: Actor = Actor::Worker(0);
+const FIRST: Actor = Actor::Worker(0);
 
-const W1: Actor = Actor::Worker(1);
+const SECOND: Actor = Actor::Worker(1);
 
 /// The events of `TWO_LEAVES` where the second worker ends first.
 const TWO: [Event; 8] = [
@@ -255,10 +255,10 @@ const TWO: [Event; 8] = [
     Event::Call(ENGINE),
     Event::Call(ENGINE),
     Event::End(ENGINE),
-    Event::Take(W0),
-    Event::Take(W1),
-    Event::End(W1),
-    Event::End(W0),
+    Event::Take(FIRST),
+    Event::Take(SECOND),
+    Event::End(SECOND),
+    Event::End(FIRST),
 ];
 
 /// What the workers are told, how many events the foreign Done made, and whether the history is as it should be.
