@@ -2,7 +2,6 @@
 
 ghost use Rattle.std.specs.Prelude.{◌≡◌, map as each};
 ghost use Rattle.std.specs.FinMap.{entries};
-ghost use Rattle.std.specs.List.Sorted.{IsPermutation};
 ghost use Rattle.tw_rights.specs.Rights.{Right};
 ghost use Rattle.tw_rules.specs.Table.{told};
 
@@ -12,7 +11,7 @@ use tw_store::Store;
 use tw_types::DatumId;
 
 /// What is left of parts for reading, without rights: the data, the outputs by the order of main's parameters, and the rules
-/// that were pending, in no order.
+/// that were pending, by rising number.
 #[derive(Drop)]
 pub struct Remains {
     pub store: Store,
@@ -25,7 +24,7 @@ impl<'a> Parts<'a> {
     pub fn shut(self) -> Remains
         ensures store { result.store ≡ self.entry.store }
         ensures outputs { result.outputs.items ≡ each (λ (r : Right). r.id) self.entry.outputs }
-        ensures pending { IsPermutation (each told (entries self.entry.rules.rules)) result.pending.items }
+        ensures pending { result.pending.items ≡ each told (entries self.entry.rules.rules) }
     {
         let Parts {
             store,

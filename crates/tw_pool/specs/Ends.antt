@@ -1,7 +1,6 @@
 -- What is left of a run that is shut.
 use Rattle.std.specs.Prelude.{◌≡◌, ℕ, List, Option, map as each}
 use Rattle.std.specs.FinMap.{entries}
-use Rattle.std.specs.List.Sorted.{IsPermutation}
 use Rattle.tw_types.specs.Mapped.{mapped}
 use Rattle.tw_types.specs.Rule.{RulesOf}
 use Rattle.tw_rights.specs.Bare.{bare_rule}
@@ -22,13 +21,13 @@ pub record FinalView : Type 0 where
   pub pending : List PlainRule
   pub closing : Option Closing
 
--- all that is told is so in this state; the rules come in no order
+-- all that is told is so in this state; the rules come by rising number
 pub record IsLeftOf (s : State) (final : FinalView) : Type 0 where
   pub store : final.store.store ≡ s.store
   pub outputs : final.outputs ≡ s.outputs
   pub rules : RulesOf Arg
   pub rules_are : mapped bare_rule rules ≡ s.rules
-  pub pending : IsPermutation (each told (entries rules)) final.pending
+  pub pending : final.pending ≡ each told (entries rules)
 
 -- it is left of the state to which the history leads
 pub record IsShut (p : PoolView) (final : FinalView) (history : HistoryView) : Type 0 where

@@ -71,7 +71,7 @@ impl Final {
         self.remains.store.member(container, index)
     }
 
-    /// The rules that were pending, in no order.
+    /// The rules that were pending, by rising number.
     pub fn pending(&self) -> &[PlainRule]
         ensures { result.now ≡ self.now.pending }
     {

@@ -1,14 +1,7 @@
 -- What is left of a run stands for the state in which it was over.
 use Rattle.std.proofs.Common.{◌≡◌, ◌==◌, ◌<◌, ℕ, Bool, true, false, cond, T, List, [], ◌∷◌, length, map, Some, None, refl, sym, ap, subst, ◌∙◌}
-use Rattle.std.specs.FinMap.{entries, entries_sorted, len}
-use Rattle.std.specs.FinMap.Entries.{below_all, is_sorted}
-use Rattle.std.specs.List.{AllByRecursion}
-use Rattle.std.specs.List.Sorted.{IsNonDecreasingBy, IsPermutation}
+use Rattle.std.specs.FinMap.{entries, len}
 use Rattle.std.specs.Option.{option_map, option_or}
-use Rattle.std.specs.Ordering.{is_lt, nat_cmp}
-use Rattle.std.specs.declared.cmp.Ordering.TheVariants.{Less}
-use Rattle.std.proofs.lemmas.Cmp.{ranked}
-use Rattle.std.proofs.lemmas.List.Sorted.{IsPermutation-map, IsPermutation-trans}
 use Rattle.tw_types.specs.declared.ending.Ending.TheVariants as ending
 use Rattle.tw_types.specs.declared.param.Param.{Param}
 use Rattle.tw_types.specs.declared.pending.Pending.{Pending}
@@ -18,7 +11,6 @@ use Rattle.tw_types.specs.Mapped.{entry_by}
 use Rattle.tw_types.specs.Mode.{is_write}
 use Rattle.tw_types.specs.Rule.{Rule, RuleOf, is_waiting}
 use Rattle.tw_types.proofs.Mapped.{entries_mapped}
-use Rattle.tw_types.proofs.Rising.{first, less, second}
 use Rattle.tw_rights.specs.Bare.{bare_arg, bare_rule}
 use Rattle.tw_rights.specs.declared.arg.Arg.{Arg}
 use Rattle.tw_rights.specs.declared.arg.Arg.TheVariants.{Val, Read, Write}
@@ -34,7 +26,6 @@ use Rattle.tw_pool.specs.PoolView.{PoolView}
 use Rattle.tw_pool.specs.Turns.{closing_at, closing_of}
 use Rattle.tw_report.specs.Arguments.{arg_told, pending_told}
 use Rattle.tw_report.specs.Ends.{has_ended}
-use Rattle.tw_report.proofs.SameOrder.{RiseStrictly, same_order}
 
 -- ---- one rule
 
@@ -65,26 +56,10 @@ all_told program [] = refl
 all_told program (e ∷ es) =
     ap (λ (p : Pending). p ∷ map (pending_told program) (map told es)) (one_told program e) ∙ ap (λ (ps : List Pending). pending_of program (entry_by bare_rule e) ∷ ps) (all_told program es)
 
-below : (k n : ℕ) → T (is_lt (nat_cmp k n)) → k < n
-below k n h = ranked k n Less (sym (less (nat_cmp k n) h))
-
-all_below : (program : List Procedure) (k : ℕ) (es : List (ℕ × Rule)) → T (below_all nat_cmp k es) → AllByRecursion (λ n. k < n) (map (λ (p : Pending). p.number) (map (pending_of program) es))
-all_below program k [] h = tt
-all_below program k (e ∷ es) h = (below k e.0 (first _ _ h), all_below program k es (second _ _ h))
-
-rise_strictly : (program : List Procedure) (es : List (ℕ × Rule)) → T (is_sorted nat_cmp es) → RiseStrictly (map (λ (p : Pending). p.number) (map (pending_of program) es))
-rise_strictly program [] h = tt
-rise_strictly program (e ∷ es) h = (all_below program e.0 es (first _ _ h), rise_strictly program es (second _ _ h))
-
--- those that are told, by rising number
-pub rules_are : (program : List Procedure) (s : State) (final : FinalView) (rules : List Pending) → IsLeftOf s final → IsPermutation (map (pending_told program) final.pending) rules
-    → IsNonDecreasingBy (λ (p : Pending). p.number) rules → rules ≡ pending_rules program s
-rules_are program s final rules left same rising =
-    let es = entries left.rules in
-    let all : map (pending_told program) (map told es) ≡ pending_rules program s =
-    all_told program es ∙ ap (map (pending_of program)) (sym (entries_mapped bare_rule left.rules) ∙ ap (λ rs. entries rs) left.rules_are) in
-    let moved : IsPermutation (map (pending_told program) (map told es)) rules = IsPermutation-trans _ _ _ (IsPermutation-map (pending_told program) (map told es) final.pending left.pending) same in
-    same_order (λ (p : Pending). p.number) (pending_rules program s) rules (rise_strictly program (entries s.rules) (entries_sorted s.rules)) rising (subst (λ (ps : List Pending). IsPermutation ps rules) all moved)
+-- those that are told
+pub rules_are : (program : List Procedure) (s : State) (final : FinalView) → IsLeftOf s final → map (pending_told program) final.pending ≡ pending_rules program s
+rules_are program s final left =
+    ap (map (pending_told program)) left.pending ∙ all_told program (entries left.rules) ∙ ap (map (pending_of program)) (sym (entries_mapped bare_rule left.rules) ∙ ap (λ rs. entries rs) left.rules_are)
 
 -- ---- the circle
 

@@ -5,7 +5,6 @@ pub mod Written
 pub mod Histories
 pub mod HistoryReading
 pub mod Reports
-pub mod SameOrder
 pub mod Finals
 pub mod Walks
 pub mod PendingRules

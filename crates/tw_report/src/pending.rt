@@ -1,10 +1,9 @@
 //! The rules that are pending, in a state of the reference machine and at the end of a run on the pool.
 
 ghost use Rattle.std.specs.Prelude.{◌≡◌, ◌++◌, ◌∷◌, [], map, IfOk, OnOk};
-ghost use Rattle.std.specs.List.Sorted.{IsNonDecreasingBy, IsPermutation, IsStrictlySortedBy};
+ghost use Rattle.std.specs.List.Sorted.{IsStrictlySortedBy};
 ghost use Rattle.std.specs.Map.{keys_of};
 ghost use Rattle.std.specs.Ordering.{nat_cmp};
-ghost use Rattle.tw_types.specs.declared.pending.Pending.{Pending as APending};
 ghost use Rattle.tw_code.specs.machine.Arguments.{params_of};
 ghost use Rattle.tw_code.specs.machine.Pending.{pending_of, waited_for, written_by};
 ghost use Rattle.tw_report.specs.Arguments.{pending_from, pending_told};
@@ -164,19 +163,17 @@ fn pending_told(
     )
 }
 
-/// The rules that the pool tells in no order, by rising number.
+/// The rules that the pool tells.
 pub fn rules_told(
     alloc: Global,
     program: &[Procedure],
     rules: &[PlainRule],
 ) -> Result<Vec<Pending>, AllocError>
-    ensures same { IfOk result (λ pending. IsPermutation (map (pending_told program.now) rules.now) pending.items) }
-    ensures rising { IfOk result (λ pending. IsNonDecreasingBy (λ (p : APending). p.number) pending.items) }
+    ensures { IfOk result (λ pending. pending.items ≡ map (pending_told program.now) rules.now) }
 {
     let mut pending = Vec::new(alloc);
     for rule in rules {
         pending.push(pending_told(alloc, program, rule)?)?;
     }
-    pending.sort_unstable_by_key(|p| p.number.number());
     Ok(pending)
 }

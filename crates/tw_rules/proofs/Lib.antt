@@ -8,3 +8,5 @@ pub mod Heaps
 pub mod Rooms
 pub mod Fitting
 pub mod Found
+pub mod SameOrder
+pub mod Told

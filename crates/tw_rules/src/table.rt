@@ -254,7 +254,7 @@ impl RuleTable {
     }
 
     /// Spends every right, and tells the rules that were pending, in no order.
-    pub fn shut(self) -> Vec<PlainRule>
+    fn spend_all(self) -> Vec<PlainRule>
         ensures { IsPermutation (each told (map.entries self.rules)) result.items }
     {
         let RuleTable {
@@ -268,6 +268,15 @@ impl RuleTable {
             told.push_reserved(rule.spend(number));
         }
         rules.destroy_empty();
+        told
+    }
+
+    /// Spends every right, and tells the rules that were pending, by rising number. No memory is taken.
+    pub fn shut(self) -> Vec<PlainRule>
+        ensures { result.items ≡ each told (map.entries self.rules) }
+    {
+        let mut told = self.spend_all();
+        told.sort_unstable_by_key(|rule| rule.number.number());
         told
     }
 

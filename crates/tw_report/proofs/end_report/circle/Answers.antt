@@ -1,4 +1,4 @@
-use Rattle.std.proofs.Common.{◌≡◌, ◌∙◌, true, List, Option, Vec, Global, IsPermutation, ap, map, option_map, subst, sym}
+use Rattle.std.proofs.Common.{◌≡◌, ◌∙◌, true, List, Option, Vec, Global, ap, map, option_map, sym}
 use Rattle.std.proofs.lemmas.Result.{IfOk-weaker}
 use Rattle.tw_types.specs.Circle.{circle_of}
 use Rattle.tw_types.specs.declared.pending.Link.{Link}
@@ -14,12 +14,12 @@ returns c =
     let program = c.args.program.now in
     let final = c.args.left.now in
     let items = c.in_ok-rules.rules.items in
-    let given = subst (λ (ps : List Procedure). IsPermutation (map (pending_told ps) c.pending.result.now) items) c.procedures.ensures.is c.in_ok-rules.ensures.same in
-    let same = subst (λ (rs : List PlainRule). IsPermutation (map (pending_told program) rs) items) c.pending.ensures given in
+    let same : items ≡ map (pending_told program) final.pending =
+    c.in_ok-rules.ensures ∙ ap (λ (ps : List Procedure). map (pending_told ps) c.pending.result.now) c.procedures.ensures.is ∙ ap (λ (rs : List PlainRule). map (pending_told program) rs) c.pending.ensures in
     let ended : true ≡ c.has_ended.result = cc in
     IfOk-weaker c.circle_of.result (λ (found : Option (Vec Link Global)). option_map (λ (v : Vec Link Global). v.items) found ≡ circle_of c.deref.result.now)
     (λ (found : Option (Vec Link Global)). IsEndCircle program final (option_map (λ (v : Vec Link Global). v.items) found))
     (λ found h p history of shut.
-    h ∙ ap circle_of (c.deref.ensures.value ∙ rules_are program shut.state final items shut.left same c.in_ok-rules.ensures.rising)
+    h ∙ ap circle_of (c.deref.ensures.value ∙ same ∙ rules_are program shut.state final shut.left)
     ∙ sym (circle_ended program p shut.state (ended ∙ c.has_ended.ensures ∙ ap has_ended (c.closing.ensures ∙ shut.closing))))
     c.circle_of.ensures

@@ -5,7 +5,7 @@ use Rattle.std.specs.Vec.{vec_capacity, vec_len}
 use Rattle.std.specs.List.Sorted.{IsPermutation}
 use Rattle.tw_rules.specs.Entries.{rules_in}
 use Rattle.tw_rules.specs.Table.{told}
-use Rattle.tw_rules.proofs.table.RuleTable.shut.Given as goal
+use Rattle.tw_rules.proofs.table.RuleTable.spend_all.Given as goal
 
 abbrev pub invariant-loop-number : goal.invariant-loop-number
 invariant-loop-number l = record {
