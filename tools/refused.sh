@@ -1,12 +1,14 @@
 #!/bin/sh
 # Runs a program once for each request for memory that it makes, with that request refused, and prints how often it ended in
-# which way: its status, and the last line that it wrote.
+# which way: its status, and the last line that it wrote. With -t, each request for a thread.
 #
-#   tools/refused.sh [-n MOST] PROGRAM [WORDS..] < INPUT
+#   tools/refused.sh [-t] [-n MOST] PROGRAM [WORDS..] < INPUT
 #
 # The runtime's own requests are among those that are counted. It needs a C compiler.
 set -e
 most=0
+kind=memory
+[ "$1" = "-t" ] && { kind=thread; shift; }
 [ "$1" = "-n" ] && { most=$2; shift 2; }
 [ $# -gt 0 ] || { sed -n '2,7s/^# \{0,1\}//p' "$0"; exit 2; }
 here=$(dirname "$(readlink -f "$0")")
@@ -21,7 +23,7 @@ run_refusing() {
     shift
     status=0
     rm -f "$room/count"
-    REFUSE=$number REPORT=$room/count LD_PRELOAD=$room/refuse.so "$@" <"$room/input" >"$room/out" 2>"$room/err" || status=$?
+    KIND=$kind REFUSE=$number REPORT=$room/count LD_PRELOAD=$room/refuse.so "$@" <"$room/input" >"$room/out" 2>"$room/err" || status=$?
     requests=$(sed 's/^0*//' "$room/count" 2>/dev/null)
     requests=${requests:-0}
 }

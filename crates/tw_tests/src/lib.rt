@@ -2,6 +2,8 @@
 #![tactic(auto)]
 
 #[cfg(test)]
+mod dones;
+#[cfg(test)]
 mod inputs;
 #[cfg(test)]
 mod laws;
@@ -9,6 +11,8 @@ mod laws;
 mod programs;
 #[cfg(test)]
 mod rights;
+#[cfg(test)]
+mod stops;
 #[cfg(test)]
 mod streams;
 #[cfg(test)]

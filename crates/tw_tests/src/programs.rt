@@ -24,6 +24,10 @@ pub const TARGETED_TASK: &str = "proc control\nregs\nPUT 1 0 3\nRET\nproc leaf\n
 pub const TWO_LEAVES: &str =
     "proc control\nregs\nPUT 1 0 any\nPUT 1 0 any\nRET\nproc leaf\nregs\nRET\n";
 
+/// Main writes its input twice: `examples/text_input.tw`.
+pub const TEXT_INPUT: &str =
+    "proc control closed text write text\nregs text\nGET v0 d0\nDROPR d0\nCAT v0 v0 v0 too_long\ntoo_long:\nSTORE d1 v0\nRET\n";
+
 pub const ENGINE: Actor = Actor::Engine(0);
 
 /// The events of `STORE_SEVEN`.

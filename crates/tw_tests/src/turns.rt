@@ -1,6 +1,6 @@
 //! A pool and a host that are turned in one thread.
 
-ghost use Rattle.std.specs.Prelude.{◌≡◌};
+ghost use Rattle.std.specs.Prelude.{◌≡◌, IfSome};
 ghost use Rattle.tw_host.specs.Seats.{seat_count};
 ghost use Rattle.tw_host.specs.Tells.{IsAnswerOf, IsDoneOf};
 
@@ -20,7 +20,7 @@ use tw_verify::Verified;
 
 /// What a turn answers, with the task's number in place of a job or a Done.
 #[derive(Clone, Copy, Debug, PartialEq, Eq)]
-enum Said {
+pub enum Said {
     Quiet,
     Stuck,
     Stopped,
@@ -70,25 +70,28 @@ fn settled<'a>(alloc: Global, verified: &Verified, turn: Turn<'a>) -> (Said, Opt
 }
 
 /// A pool with its program.
-struct Table<'a> {
-    verified: &'a Verified,
-    pool: Pool<'a>,
+pub struct Table<'a> {
+    pub verified: &'a Verified,
+    pub pool: Pool<'a>,
     ghost of: { pool.program ≡ verified.now },
 }
 
 impl<'a> Table<'a> {
-    fn open(
+    pub fn open(
         alloc: Global,
         verified: &'a Verified,
+        inputs: &'a [Input],
         layout: Layout,
         limit: usize,
-    ) -> Option<Table<'a>> {
-        let pool = Pool::open(alloc, verified, &[], layout, limit).ok()?;
+    ) -> Option<Table<'a>>
+        ensures { IfSome result (λ table. table.verified.now ≡ verified.now) }
+    {
+        let pool = Pool::open(alloc, verified, inputs, layout, limit).ok()?;
         Some(Table { verified, pool })
     }
 
     /// One turn of an actor, whose job is run.
-    fn turn(
+    pub fn turn(
         &mut self,
         alloc: Global,
         actor: Actor,
@@ -105,7 +108,13 @@ impl<'a> Table<'a> {
         settled(alloc, self.verified, turn)
     }
 
-    fn shut(self) -> (Final, History) {
+    pub fn stop(&mut self)
+        ensures { self.new.verified.now ≡ self.old.verified.now }
+    {
+        self.pool.stop();
+    }
+
+    pub fn shut(self) -> (Final, History) {
         let Table { verified: _, pool } = self;
         pool.shut()
     }
@@ -137,7 +146,7 @@ fn table_of_turns(
     wanted: &[Event],
 ) -> Option<([Said; 5], (Said, Said), bool)> {
     let layout = Layout::new(1, 1, 1).ok()?;
-    let mut table = Table::open(alloc, verified, layout, limit)?;
+    let mut table = Table::open(alloc, verified, &[], layout, limit)?;
     let said = turns_of_engine(alloc, &mut table);
     let others = turns_of_others(alloc, &mut table);
     let (_outcome, history) = table.shut();
@@ -265,7 +274,7 @@ const TWO: [Event; 8] = [
 fn foreign_in_pool(alloc: Global) -> Option<([Said; 5], usize, bool)> {
     let verified = program(alloc, TWO_LEAVES)?;
     let layout = Layout::new(1, 1, 2).ok()?;
-    let mut table = Table::open(alloc, &verified, layout, 100)?;
+    let mut table = Table::open(alloc, &verified, &[], layout, 100)?;
     put_two(alloc, &mut table);
     let (said, made) = foreign_at_table(alloc, &mut table);
     let (_outcome, history) = table.shut();
@@ -287,7 +296,7 @@ fn a_done_of_another_job_comes_back(rt: HostRuntime) {
 }
 
 /// What is done with a host and its seats.
-trait Play {
+pub trait Play {
     fn play<'a, N: Named, R: Wait>(
         &mut self,
         rt: &R,
@@ -319,7 +328,7 @@ fn played_by<N: Named, P: Play, R: Wait>(
 }
 
 /// How a host closes with which this was done.
-fn played<P: Play, R: Wait>(
+pub fn played<P: Play, R: Wait>(
     rt: &R,
     alloc: Global,
     verified: &Verified,
@@ -331,7 +340,7 @@ fn played<P: Play, R: Wait>(
 }
 
 /// One turn of a seat, whose job is run.
-fn seat_turn<'a, N: Named, R: Wait>(
+pub fn seat_turn<'a, N: Named, R: Wait>(
     rt: &R,
     alloc: Global,
     host: &Host<'a, N>,
@@ -398,7 +407,7 @@ impl Play for TwoWorkers {
 }
 
 /// The history of a host whose seats were told what their actors did, and why it was over.
-fn end_of(closed: Closed) -> Option<(History, Option<Said>)> {
+pub fn end_of(closed: Closed) -> Option<(History, Option<Said>)> {
     match closed {
         Closed::Ended {
             history,
@@ -594,7 +603,7 @@ fn twins<R: Wait>(
 ) -> Option<(bool, Option<(bool, usize, Option<Said>)>)> {
     let verified = program(alloc, text)?;
     let layout = Layout::new(1, 1, 4).ok()?;
-    let table = Table::open(alloc, &verified, layout, 100)?;
+    let table = Table::open(alloc, &verified, &[], layout, 100)?;
     let mut play = Twin {
         table,
         is_same: true,
