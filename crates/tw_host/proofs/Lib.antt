@@ -1,4 +1,4 @@
 mod Lists
 mod Fitting
-mod Owning
+pub mod Owning
 mod Turning

@@ -15,7 +15,7 @@ use Rattle.tw_pool.specs.declared.answer.Turn.{Turn}
 use Rattle.tw_pool.specs.declared.answer.Turn.TheVariants as turn
 use Rattle.tw_pool.specs.Actors.{events_of}
 use Rattle.tw_pool.specs.PoolView.{PoolView, with_events}
-use Rattle.tw_pool.specs.Turns.{Answers, Lends, Makes, TakesBack, Turns, TurnsUnless, instr_behind, is_last, lent_to, steps_of}
+use Rattle.tw_pool.specs.Turns.{Answers, IsTurn, Lends, Makes, TakesBack, Turns, TurnsUnless, closing_at, instr_behind, is_last, lent_to, steps_of}
 use Rattle.tw_host.specs.Tells.{IsAnswerOf, IsDoneOf}
 
 abbrev program_in : TypedProgram → Option JobView → TypedProgram
@@ -66,3 +66,7 @@ module _ (p : PoolView) (answer : Turn) (events : List Event) where
   pub owns : (s : State) (actor : Actor) (closing : Option Closing) (given : Option DoneView) → IsDoneOf p.program given → TurnsUnless closing p s actor given answer events → Owns
   owns s actor (Some closing) given d l = other (turn.Over closing) l.0 tt
   owns s actor None given d l = turned s actor (lent_to p s actor) given d l
+
+-- the same of a turn
+pub is_answer_of : (old new : PoolView) (actor : Actor) (given : Option DoneView) (answer : Turn) → IsTurn old actor given answer new → IsDoneOf old.program given → IsAnswerOf old.program answer
+is_answer_of old new actor given answer turn d = owns old answer turn.events turn.state actor (closing_at old turn.state) given d turn.is

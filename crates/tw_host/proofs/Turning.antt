@@ -11,7 +11,7 @@ use Rattle.tw_pool.proofs.Lines.{own_events}
 use Rattle.tw_host.specs.Run.{Run, run_of}
 use Rattle.tw_host.specs.Tells.{IsAnswerOf, IsDoneOf, IsTold}
 use Rattle.tw_host.proofs.Fitting.{fits}
-use Rattle.tw_host.proofs.Owning.{owns}
+use Rattle.tw_host.proofs.Owning.{is_answer_of}
 
 -- the events behind the old ones are those that were appended
 behind : {X : Type 0} (xs ys : List X) → drop (length xs) (xs ++ ys) ≡ ys
@@ -40,7 +40,7 @@ module _ (old new : PoolView) (actor : Actor) (given : Option DoneView) (answer 
       omega (arith, f, longer)
 
   pub answers : IsDoneOf old.program given → IsAnswerOf old.program answer
-  answers d = owns old answer turn.events turn.state actor (closing_at old turn.state) given d turn.is
+  answers = is_answer_of old new actor given answer turn
 
   pub told : (run : Run) (before after : List Event) → run_of old ≡ run → length (events_of actor old.history) ≡ length before → after ≡ before ++ drop (length old.history) new.history → IsTold run actor before after given answer
   told run before after is same after_is = record {
