@@ -8,4 +8,5 @@ pub mod Reports
 pub mod SameOrder
 pub mod Finals
 pub mod Walks
+pub mod Writers
 pub mod PendingRules
