@@ -1,0 +1,71 @@
+-- The job of a turn's answer is of the pool's program, if the Done that is handed in is.
+use Rattle.std.proofs.Common.{◌≡◌, ℕ, Bool, true, false, sym, ap, subst, List, [], ◌∷◌, ◌++◌, length, Option, Some, None, inl, inr}
+use Rattle.std.specs.FinMap.{get}
+use Rattle.std.specs.Option.{option_map}
+use Rattle.tw_types.specs.declared.actor.Actor.{Actor}
+use Rattle.tw_types.specs.declared.event.Event.{Event}
+use Rattle.tw_types.specs.declared.event.Event.TheVariants.{Take, Local, Call, End, Ask, Deliver, Release}
+use Rattle.tw_code.specs.machine.Due.{event_of}
+use Rattle.tw_code.specs.machine.State.{Frame, State}
+use Rattle.tw_frame.specs.Jobs.{DoneView, JobView}
+use Rattle.tw_verify.specs.Typed.{TypedProgram}
+use Rattle.tw_pool.specs.declared.answer.Closing.{Closing}
+use Rattle.tw_pool.specs.declared.answer.Closing.TheVariants.{Limit}
+use Rattle.tw_pool.specs.declared.answer.Turn.{Turn}
+use Rattle.tw_pool.specs.declared.answer.Turn.TheVariants as turn
+use Rattle.tw_pool.specs.Actors.{events_of}
+use Rattle.tw_pool.specs.PoolView.{PoolView, with_events}
+use Rattle.tw_pool.specs.Turns.{IsTurn, Lends, Makes, TakesBack, Turns, TurnsUnless, closing_at, instr_behind, is_last, lent_to, steps_of}
+use Rattle.tw_host.specs.Tells.{IsAnswerOf, IsDoneOf}
+
+abbrev program_in : TypedProgram → Option JobView → TypedProgram
+program_in program None = program
+program_in program (Some job) = job.program
+
+lent_is : (p : PoolView) (n : ℕ) (actor : Actor) (o : Option Frame) (job : JobView)
+    → option_map (λ (f : Frame). record { program = p.program; task = f.task; procedure = f.procedure; actor = actor; event_no = n; position = f.position }) o ≡ Some job → job.program ≡ p.program
+lent_is p n actor None job is = cc
+lent_is p n actor (Some f) job is = sym (ap (program_in p.program) is)
+
+module _ (p : PoolView) (answer : Turn) (events : List Event) where
+  abbrev Owns : Type 0
+  Owns = IsAnswerOf p.program answer
+
+  other : (wanted : Turn) → answer ≡ wanted → IsAnswerOf p.program wanted → Owns
+  other wanted is owns = subst (IsAnswerOf p.program) (sym is) owns
+
+  lends : (actor : Actor) (es : List Event) → Lends p actor es answer events → Owns
+  lends actor es l = other (turn.Run l.2) l.4.0 (lent_is p (length (events_of actor (with_events p es).history)) actor (get l.0.frames actor) l.2 l.3)
+
+  made : (actor : Actor) (given : Option DoneView) (es : List Event) (e : Event) → IsDoneOf p.program given → Makes p actor given es e answer events → Owns
+  made actor given es (Take a) d (inl l) = lends actor (es ++ Take a ∷ []) l
+  made actor given es (Take a) d (inr l) = other (turn.NoMemory given) l.0 d
+  made actor given es (Local _ _) d l = elim l [ ]
+  made actor given es (Call a) d (inl l) = lends actor (es ++ Call a ∷ []) l
+  made actor given es (Call a) d (inr l) = other (turn.NoMemory given) l.0 d
+  made actor given es (End a) d l = other turn.Ended l.0 tt
+  made actor given es (Ask engine rule parameter) d (inl l) = other turn.Went l.0 tt
+  made actor given es (Ask engine rule parameter) d (inr l) = other (turn.NoMemory given) l.0 d
+  made actor given es (Deliver server datum rule parameter) d l = other turn.Went l.0 tt
+  made actor given es (Release engine rule) d (inl l) = other turn.Went l.0 tt
+  made actor given es (Release engine rule) d (inr l) = other (turn.NoMemory given) l.0 d
+
+  taken_back : (actor : Actor) (short last : Bool) (done : DoneView) → done.before.program ≡ p.program → TakesBack short last p actor done answer events → Owns
+  taken_back actor true last done d l = lends actor (steps_of actor done) l
+  taken_back actor false true done d l = other (turn.Over Limit) l.0 tt
+  taken_back actor false false done d l = made actor (Some done) (steps_of actor done) (event_of actor (instr_behind p.program.program done)) d l
+
+  turned : (s : State) (actor : Actor) (job : Option JobView) (given : Option DoneView) → IsDoneOf p.program given → Turns p s actor job given answer events → Owns
+  turned s actor None None d (inl l) = made actor None [] l.0 tt l.2
+  turned s actor None None d (inr l) = other turn.Idle l.1.0 tt
+  turned s actor None (Some done) d l = other (turn.Foreign done) l.0 d
+  turned s actor (Some job) None d l = other turn.Owed l.0 tt
+  turned s actor (Some job) (Some done) d (inl l) = taken_back actor done.short (is_last p done) done d l.1
+  turned s actor (Some job) (Some done) d (inr l) = other (turn.Foreign done) l.1.0 d
+
+  pub owns : (s : State) (actor : Actor) (closing : Option Closing) (given : Option DoneView) → IsDoneOf p.program given → TurnsUnless closing p s actor given answer events → Owns
+  owns s actor (Some closing) given d l = other (turn.Over closing) l.0 tt
+  owns s actor None given d l = turned s actor (lent_to p s actor) given d l
+
+pub answers : (old new : PoolView) (actor : Actor) (given : Option DoneView) (answer : Turn) → IsTurn old actor given answer new → IsDoneOf old.program given → IsAnswerOf old.program answer
+answers old new actor given answer turn d = owns old answer turn.events turn.state actor (closing_at old turn.state) given d turn.is
