@@ -16,6 +16,7 @@ pub struct Code {
 }
 
 impl Code {
+    /// No text, and nothing held.
     pub fn new(alloc: Global) -> Code {
         Code {
             text: Vec::new(alloc),
@@ -31,6 +32,7 @@ impl Code {
         self.kept = [false; 16];
     }
 
+    /// Adds words.
     pub fn put(&mut self, words: &str) -> Result<(), AllocError> {
         put(&mut self.text, words)
     }
@@ -40,6 +42,7 @@ impl Code {
         put_numbered(alloc, &mut self.text, words, usize::from(register))
     }
 
+    /// Adds words with a number behind them.
     pub fn number(&mut self, alloc: Global, words: &str, number: usize) -> Result<(), AllocError> {
         put_numbered(alloc, &mut self.text, words, number)
     }
@@ -56,18 +59,22 @@ impl Code {
         self.put(":\n")
     }
 
+    /// What a register holds.
     pub fn at(&self, register: u8) -> Option<Right> {
         self.held[usize::from(register) % 16]
     }
 
+    /// From now on a register holds this.
     pub fn set(&mut self, register: u8, held: Option<Right>) {
         self.held[usize::from(register) % 16] = held;
     }
 
+    /// Whether what a register holds stays.
     pub fn is_kept(&self, register: u8) -> bool {
         self.kept[usize::from(register) % 16]
     }
 
+    /// What a register holds stays from now on, or may go.
     pub fn keep(&mut self, register: u8, kept: bool) {
         self.kept[usize::from(register) % 16] = kept;
     }

@@ -4,6 +4,7 @@ use crate::code::Code;
 use crate::draw::draw;
 use std::alloc::{AllocError, Global};
 
+/// The line of a procedure's value registers.
 pub const REGISTERS: &str = "regs int text int int text\n";
 
 const INTS: [u8; 3] = [0, 2, 3];
@@ -24,7 +25,7 @@ pub fn text(seed: &mut u64) -> u8 {
     TEXTS[usize::from(draw(seed, 2)) % 2]
 }
 
-pub fn put_int(alloc: Global, code: &mut Code, seed: &mut u64) -> Result<(), AllocError> {
+fn put_int(alloc: Global, code: &mut Code, seed: &mut u64) -> Result<(), AllocError> {
     code.register(alloc, "INT v", int(seed))?;
     code.put(" ")?;
     code.put(NUMBERS[usize::from(draw(seed, 6)) % 6])?;

@@ -103,8 +103,8 @@ fn controls(rt: &HostRuntime, agreeing: u64) -> io::Result<u64> {
 fn main(rt: HostRuntime) -> io::Result<()> {
     let programs = programs_asked(&rt)?;
     let agreeing = rounds_trial(&rt, programs)?;
-    let agreeing = prefixes_trial(&rt, agreeing, programs / 4)?;
-    let agreeing = threads_trial(&rt, agreeing, programs / 4)?;
+    let agreeing = prefixes_trial(&rt, agreeing, programs)?;
+    let agreeing = threads_trial(&rt, agreeing, programs)?;
     let long = if long::runs_agree(&rt, rt.alloc(), 2) {
         None
     } else {

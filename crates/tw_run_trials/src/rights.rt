@@ -13,6 +13,7 @@ pub enum Ty {
 }
 
 impl Ty {
+    /// How the type is spelled.
     pub fn words(self) -> &'static str {
         match self {
             Ty::Int => "int",
@@ -52,6 +53,7 @@ impl Ty {
     }
 }
 
+/// The modes of rights.
 #[derive(Clone, Copy, PartialEq, Eq)]
 pub enum Mode {
     Closed,
@@ -60,6 +62,7 @@ pub enum Mode {
 }
 
 impl Mode {
+    /// How the mode is spelled, with a space behind it.
     pub fn word(self) -> &'static str {
         match self {
             Mode::Closed => "closed ",
@@ -86,14 +89,17 @@ pub struct Right {
 }
 
 impl Right {
+    /// A right of this mode on a datum of this type.
     pub fn new(mode: Mode, ty: Ty) -> Right {
         Right { mode, ty }
     }
 
+    /// Whether it is a right to write.
     pub fn is_write(self) -> bool {
         self.mode == Mode::Write
     }
 
+    /// Whether its datum is a container.
     pub fn is_container(self) -> bool {
         self.ty.element().is_some()
     }

@@ -16,6 +16,7 @@ pub struct Signature {
 }
 
 impl Signature {
+    /// The rights that are asked, in order.
     pub fn rights(&self) -> &[Right] {
         &self.rights[..usize::from(self.count) % 4]
     }
