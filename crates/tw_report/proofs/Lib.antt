@@ -7,4 +7,5 @@ pub mod HistoryReading
 pub mod Reports
 pub mod Finals
 pub mod Walks
+pub mod Writers
 pub mod PendingRules

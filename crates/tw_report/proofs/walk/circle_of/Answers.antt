@@ -1,64 +1,71 @@
-use Rattle.std.proofs.Common.{◌≡◌, ◌-◌, ◌+◌, suc, length, true, false, Some, None, slice_get, sym, ap, ◌∙◌, arith}
-use Rattle.std.specs.Option.{option_copied}
-use Rattle.tw_types.specs.Circle.{is_met, since, walk, writer_of}
-use Rattle.tw_report.proofs.Walks.{met_any, walk_met, walk_lost, walk_waitless, walk_writerless, walk_on}
+use Rattle.std.proofs.Common.{◌≡◌, ◌==◌, ◌-◌, ◌+◌, suc, length, true, false, Some, None, sym, ap, ◌∙◌, arith}
+use Rattle.std.proofs.lemmas.Grind.{common_steps}
+use Rattle.std.proofs.lemmas.Result.{IfOk-weaker}
+use Rattle.std.specs.Prelude.{◌||◌}
+use Rattle.std.specs.BTreeSet.{contains}
+use Rattle.std.specs.Option.{option_map}
+use Rattle.std.specs.Ordering.{nat_cmp}
+use Rattle.tw_types.specs.Circle.{is_met, since, step_from, walk}
+use Rattle.tw_report.proofs.Walks.{met_more, walk_ends, walk_lost, walk_met, walk_on}
 use Rattle.tw_report.proofs.walk.circle_of.Goals as goal
 
-pub loop-index-preserved : goal.loop-index-preserved
-loop-index-preserved c =
+pub loop-step-preserved : goal.loop-step-preserved
+loop-step-preserved c =
     let rules = c.args.rules.now in
-    let at = c.loop-index.at.now in
-    let trail = c.loop-index.trail.items in
-    let new : is_met at.number trail ≡ false = ap (is_met at.number) (sym c.deref.ensures.value) ∙ sym (c.is_met.ensures ∙ met_any at.number c.deref.result.now) ∙ c.if-is_met.false in
-    let first : slice_get at.waits 0 ≡ Some c.in-Some-first.datum.now = ap (λ s. slice_get s 0) (sym c.as_slice.ensures) ∙ sym c.first-in-loop-index.ensures.value ∙ ap option_copied c.in-Some-first.is in
-    let writer : writer_of c.in-Some-first.datum.now rules ≡ Some c.in-Some-writer_of.next.now = sym c.writer_of.ensures ∙ ap (λ o. option_copied o) c.in-Some-writer_of.is in
-    let count : suc (length c.args.rules.now - (c.loop-index.index + 1)) ≡ length c.args.rules.now - c.loop-index.index = omega arith in
-    ap (λ t. walk (length c.args.rules.now - (c.loop-index.index + 1)) rules t c.in-Some-writer_of.next.now) c.in_ok-push.ensures.items
-    ∙ sym (walk_on (length c.args.rules.now - (c.loop-index.index + 1)) rules trail at c.in-Some-writer_of.next.now c.in-Some-first.datum.now new first writer)
-    ∙ ap (λ n. walk n rules trail at) count ∙ c.loop-index.invariant
+    let at = c.loop-step.at.now in
+    let trail = c.loop-step.trail.items in
+    let link = c.in-Some-step_from.link in
+    let next = c.in-Some-step_from.next.now in
+    let steps = length rules - (c.loop-step._step + 1) in
+    let new : is_met at.number trail ≡ false = sym (c.loop-step.invariant.met at.number) ∙ ap (λ n. contains nat_cmp c.loop-step.met n) (sym c.number.ensures) ∙ sym c.contains.ensures ∙ c.if-contains.false in
+    let step : step_from rules at ≡ Some (link, next) = sym c.step_from.ensures.is ∙ ap (λ o. option_map (λ s. (s.0, s.1.now)) o) c.in-Some-step_from.is in
+    let count : suc steps ≡ length rules - c.loop-step._step = omega arith in
+    record {
+      same =
+          ap (λ t. walk steps rules t next) c.in_ok-push.ensures.items
+          ∙ sym (walk_on steps rules trail at next link new step)
+          ∙ ap (λ n. walk n rules trail at) count ∙ c.loop-step.invariant.same;
+      met = λ n.
+          let of : link.rule ≡ at.number = c.in-Some-step_from.ensures.rule in
+          let more : is_met n c.push.new.self.items ≡ (is_met n trail || link.rule == n) = ap (is_met n) c.in_ok-push.ensures.items ∙ met_more n trail link in
+          grind (arith, common_steps, c.loop-step.invariant.met n, c.number-in-loop-step.ensures);
+    }
 
-pub returns-then-is_met : goal.returns-then-is_met
-returns-then-is_met c =
+pub returns-then-contains : goal.returns-then-contains
+returns-then-contains c =
     let rules = c.args.rules.now in
-    let at = c.loop-index.at.now in
-    let trail = c.loop-index.trail.items in
-    let met : is_met at.number trail ≡ true = ap (is_met at.number) (sym c.deref.ensures.value) ∙ sym (c.is_met.ensures ∙ met_any at.number c.deref.result.now) ∙ c.if-is_met.true in
-    ap (λ w. Some w) (c.in_ok-copied.ensures ∙ c.since.ensures ∙ ap (since at.number) c.deref-then-is_met.ensures.value) ∙ sym (walk_met (length c.args.rules.now - c.loop-index.index) rules trail at met) ∙ c.loop-index.invariant
+    let at = c.loop-step.at.now in
+    let trail = c.loop-step.trail.items in
+    let met : is_met at.number trail ≡ true = sym (c.loop-step.invariant.met at.number) ∙ ap (λ n. contains nat_cmp c.loop-step.met n) (sym c.number.ensures) ∙ sym c.contains.ensures ∙ c.if-contains.true in
+    IfOk-weaker c.closed.result _ _
+    (λ found h. h ∙ ap (λ t. Some (since at.number t)) c.deref.ensures.value ∙ sym (walk_met (length rules - c.loop-step._step) rules trail at met) ∙ c.loop-step.invariant.same) c.closed.ensures
 
-pub returns-in_default-first : goal.returns-in_default-first
-returns-in_default-first c =
+pub returns-in_default-step_from : goal.returns-in_default-step_from
+returns-in_default-step_from c =
     let rules = c.args.rules.now in
-    let at = c.loop-index.at.now in
-    let trail = c.loop-index.trail.items in
-    let new : is_met at.number trail ≡ false = ap (is_met at.number) (sym c.deref.ensures.value) ∙ sym (c.is_met.ensures ∙ met_any at.number c.deref.result.now) ∙ c.if-is_met.false in
-    let none : slice_get at.waits 0 ≡ None = ap (λ s. slice_get s 0) (sym c.as_slice.ensures) ∙ sym c.first-in-loop-index.ensures.value ∙ ap option_copied c.in_default-first.is in
-    let count : suc (length c.args.rules.now - (c.loop-index.index + 1)) ≡ length c.args.rules.now - c.loop-index.index = omega arith in
-    sym (walk_waitless (length c.args.rules.now - (c.loop-index.index + 1)) rules trail at new none) ∙ ap (λ n. walk n rules trail at) count ∙ c.loop-index.invariant
+    let at = c.loop-step.at.now in
+    let trail = c.loop-step.trail.items in
+    let steps = length rules - (c.loop-step._step + 1) in
+    let new : is_met at.number trail ≡ false = sym (c.loop-step.invariant.met at.number) ∙ ap (λ n. contains nat_cmp c.loop-step.met n) (sym c.number.ensures) ∙ sym c.contains.ensures ∙ c.if-contains.false in
+    let none : step_from rules at ≡ None = sym c.step_from.ensures.is ∙ ap (λ o. option_map (λ s. (s.0, s.1.now)) o) c.in_default-step_from.is in
+    let count : suc steps ≡ length rules - c.loop-step._step = omega arith in
+    sym (walk_ends steps rules trail at new none) ∙ ap (λ n. walk n rules trail at) count ∙ c.loop-step.invariant.same
 
-pub returns-in_default-writer_of : goal.returns-in_default-writer_of
-returns-in_default-writer_of c =
+pub returns-then-contains-2 : goal.returns-then-contains-2
+returns-then-contains-2 c =
     let rules = c.args.rules.now in
-    let at = c.loop-index.at.now in
-    let trail = c.loop-index.trail.items in
-    let new : is_met at.number trail ≡ false = ap (is_met at.number) (sym c.deref.ensures.value) ∙ sym (c.is_met.ensures ∙ met_any at.number c.deref.result.now) ∙ c.if-is_met.false in
-    let first : slice_get at.waits 0 ≡ Some c.in-Some-first.datum.now = ap (λ s. slice_get s 0) (sym c.as_slice.ensures) ∙ sym c.first-in-loop-index.ensures.value ∙ ap option_copied c.in-Some-first.is in
-    let none : writer_of c.in-Some-first.datum.now rules ≡ None = sym c.writer_of.ensures ∙ ap (λ o. option_copied o) c.in_default-writer_of.is in
-    let count : suc (length c.args.rules.now - (c.loop-index.index + 1)) ≡ length c.args.rules.now - c.loop-index.index = omega arith in
-    sym (walk_writerless (length c.args.rules.now - (c.loop-index.index + 1)) rules trail at c.in-Some-first.datum.now new first none) ∙ ap (λ n. walk n rules trail at) count ∙ c.loop-index.invariant
-
-pub returns-then-is_met-2 : goal.returns-then-is_met-2
-returns-then-is_met-2 c =
-    let rules = c.args.rules.now in
-    let at = c.loop-index.at.now in
-    let trail = c.loop-index.trail.items in
-    let met : is_met at.number trail ≡ true = ap (is_met at.number) (sym c.deref-2.ensures.value) ∙ sym (c.is_met-2.ensures ∙ met_any at.number c.deref-2.result.now) ∙ c.if-is_met-2.true in
-    ap (λ w. Some w) (c.in_ok-copied-2.ensures ∙ c.since-then-is_met-2.ensures ∙ ap (since at.number) c.deref-then-is_met-2.ensures.value) ∙ sym (walk_met (length c.args.rules.now - c.loop-index.index) rules trail at met) ∙ c.loop-index.invariant
+    let at = c.loop-step.at.now in
+    let trail = c.loop-step.trail.items in
+    let met : is_met at.number trail ≡ true = sym (c.loop-step.invariant.met at.number) ∙ ap (λ n. contains nat_cmp c.loop-step.met n) (sym c.number-2.ensures) ∙ sym c.contains-2.ensures ∙ c.if-contains-2.true in
+    IfOk-weaker c.closed-then-contains-2.result _ _
+    (λ found h. h ∙ ap (λ t. Some (since at.number t)) c.deref-then-contains-2.ensures.value ∙ sym (walk_met (length rules - c.loop-step._step) rules trail at met) ∙ c.loop-step.invariant.same)
+    c.closed-then-contains-2.ensures
 
 pub returns : goal.returns
 returns c =
     let rules = c.args.rules.now in
-    let at = c.loop-index.at.now in
-    let trail = c.loop-index.trail.items in
-    let new : is_met at.number trail ≡ false = ap (is_met at.number) (sym c.deref-2.ensures.value) ∙ sym (c.is_met-2.ensures ∙ met_any at.number c.deref-2.result.now) ∙ c.if-is_met-2.false in
-    let count : 0 ≡ length c.args.rules.now - c.loop-index.index = omega arith in
-    sym (walk_lost rules trail at new) ∙ ap (λ n. walk n rules trail at) count ∙ c.loop-index.invariant
+    let at = c.loop-step.at.now in
+    let trail = c.loop-step.trail.items in
+    let new : is_met at.number trail ≡ false = sym (c.loop-step.invariant.met at.number) ∙ ap (λ n. contains nat_cmp c.loop-step.met n) (sym c.number-2.ensures) ∙ sym c.contains-2.ensures ∙ c.if-contains-2.false in
+    let count : 0 ≡ length rules - c.loop-step._step = omega arith in
+    sym (walk_lost rules trail at new) ∙ ap (λ n. walk n rules trail at) count ∙ c.loop-step.invariant.same

@@ -1,0 +1,72 @@
+//! Inputs and layouts, by chance.
+
+use crate::draw::draw;
+use crate::rights::Ty;
+use crate::signature::Signature;
+use std::alloc::{AllocError, Global};
+use tw_types::{Input, InputText, Items, Layout};
+use tw_verify::Verified;
+
+fn next_text(alloc: Global, seed: &mut u64) -> Result<InputText, AllocError> {
+    let words = ["", "7", "two", "-3"];
+    let word = words[usize::from(draw(seed, 4)) % 4];
+    Ok(InputText::from(word.to_string(alloc)?))
+}
+
+fn next_ints(alloc: Global, seed: &mut u64) -> Result<Items<(i64, i64)>, AllocError> {
+    let mut pairs = Vec::new(alloc);
+    let mut subscript: i64 = -3;
+    for _member in 0..draw(seed, 5) {
+        subscript = subscript
+            .wrapping_add(i64::from(draw(seed, 3)))
+            .wrapping_add(1);
+        pairs.push((subscript, i64::from(draw(seed, 20))))?;
+    }
+    Ok(Items::from(pairs))
+}
+
+fn next_texts(alloc: Global, seed: &mut u64) -> Result<Items<(i64, InputText)>, AllocError> {
+    let mut pairs = Vec::new(alloc);
+    let mut subscript: i64 = -3;
+    for _member in 0..draw(seed, 4) {
+        subscript = subscript
+            .wrapping_add(i64::from(draw(seed, 3)))
+            .wrapping_add(1);
+        let text = next_text(alloc, seed)?;
+        pairs.push((subscript, text))?;
+    }
+    Ok(Items::from(pairs))
+}
+
+fn next_input(alloc: Global, seed: &mut u64, ty: Ty) -> Result<Input, AllocError> {
+    match ty {
+        Ty::Int => Ok(Input::Int(i64::from(draw(seed, 9)))),
+        Ty::Text => Ok(Input::Text(next_text(alloc, seed)?)),
+        Ty::Texts => Ok(Input::Texts(next_texts(alloc, seed)?)),
+        Ty::Ints | Ty::Rows => Ok(Input::Ints(next_ints(alloc, seed)?)),
+    }
+}
+
+/// Inputs for main.
+pub fn next_inputs(
+    alloc: Global,
+    seed: &mut u64,
+    main: &Signature,
+) -> Result<Vec<Input>, AllocError> {
+    let mut inputs = Vec::new(alloc);
+    for right in main.rights() {
+        if !right.is_write() {
+            let input = next_input(alloc, seed, right.ty)?;
+            inputs.push(input)?;
+        }
+    }
+    Ok(inputs)
+}
+
+/// A layout in which the program's targets are.
+pub fn next_layout(seed: &mut u64, verified: &Verified) -> Option<Layout> {
+    let (engines, workers) = verified.needs();
+    let engines = engines.max(draw(seed, 4).wrapping_add(1));
+    let workers = workers.max(draw(seed, 16).wrapping_add(1));
+    Layout::new(engines, draw(seed, 4).wrapping_add(1), workers).ok()
+}

@@ -1,0 +1,110 @@
+//! A run of many events in threads, whose outputs don't depend on the order.
+
+use crate::replay::{Told, told_of};
+use crate::threads::run_in_threads;
+use std::alloc::{AllocError, Global};
+use std::sync::Wait;
+use std::thread::Threads;
+use std::time::Clock;
+use tw_asm::assemble;
+use tw_report::{put, put_numbered};
+use tw_types::Layout;
+use tw_verify::{Verified, verify};
+
+/// Puts 80 control tasks, each of which makes 80 rules and tasks: the square of each number below 6,400 comes to stand in the
+/// output, at itself.
+const PROGRAM: &str = "proc control write cont int
+regs int int
+INT v1 1
+REPEAT 80
+DUPW d1 d0
+PUT 1 0 any 0 1
+ADD v0 v0 v1 +0
+END
+DROPW d0
+RET
+
+proc control val int write cont int
+regs int int int
+INT v1 80
+MUL v0 v0 v1 +0
+INT v1 1
+REPEAT 80
+NEW d1 d2 int
+DUPW d3 d0
+RULE 3 0 any 3 2
+PUT 2 0 any 0 1
+ADD v0 v0 v1 +0
+END
+DROPW d0
+RET
+
+proc leaf val int write int
+regs int
+MUL v0 v0 v0 +0
+STORE d0 v0
+RET
+
+proc leaf write cont int closed int
+regs int
+GET v0 d1
+INS d0 v0 d1 there
+JMP done
+there:
+DROPR d1
+done:
+DROPW d0
+RET
+";
+
+/// The report that is wanted.
+fn wanted(alloc: Global) -> Result<Vec<u8>, AllocError> {
+    let mut text = Vec::new(alloc);
+    put(&mut text, "out 0 cont int closed 6400\n")?;
+    for number in 0..6_400_usize {
+        put_numbered(alloc, &mut text, "  at ", number.wrapping_mul(number))?;
+        put_numbered(alloc, &mut text, " int ", number.wrapping_mul(number))?;
+        put(&mut text, "\n")?;
+    }
+    put(&mut text, "quiet\n")?;
+    Ok(text)
+}
+
+fn program(alloc: Global) -> Option<Verified> {
+    let Ok(program) = assemble(alloc, PROGRAM) else {
+        return None;
+    };
+    verify(alloc, program).ok()
+}
+
+/// The report of one run, of 100,000 events at least.
+fn report_of<R: Threads + Wait + Clock + Sync>(
+    rt: &R,
+    alloc: Global,
+    verified: &Verified,
+) -> Option<Told> {
+    let layout = Layout::new(4, 4, 16).ok()?;
+    let (left, history) = run_in_threads(rt, alloc, verified, &[], layout, 1_000_000)?;
+    if history.len() < 100_000 {
+        return None;
+    }
+    told_of(alloc, &left, verified.program())
+}
+
+/// Whether so many runs come to the report that is wanted.
+pub fn runs_agree<R: Threads + Wait + Clock + Sync>(rt: &R, alloc: Global, runs: u8) -> bool {
+    let Some(verified) = program(alloc) else {
+        return false;
+    };
+    let Ok(wanted) = wanted(alloc) else {
+        return false;
+    };
+    let mut agree = true;
+    for _run in 0..runs {
+        match report_of(rt, alloc, &verified) {
+            Some(told) => agree &= told.text.as_slice() == wanted.as_slice(),
+            None => agree = false,
+        }
+    }
+    agree
+}

@@ -1,0 +1,95 @@
+//! Events on the reference machine, and what it tells behind them.
+
+ghost use Rattle.std.specs.Prelude.{◌+◌, ◌*◌, ◌≤◌, ◌↔◌, length, IsTrue};
+ghost use Rattle.tw_code.specs.machine.Bounds.{AreBelow, opening_bound, size_of};
+
+use std::alloc::{AllocError, Global};
+use tw_code::Program;
+use tw_machine::Plain;
+use tw_pool::{Closing, Final};
+use tw_report::{put_report, report, report_state};
+use tw_types::Event;
+
+/// Whether an event does at most a thousand million instructions.
+fn is_short(event: Event) -> bool
+    ensures { IsTrue result ↔ (size_of event ≤ 1000000000) }
+{
+    match event {
+        Event::Local(_, steps) => steps <= 1_000_000_000,
+        Event::Take(_) | Event::Call(_) | Event::End(_) => true,
+        Event::Ask(..) | Event::Deliver(..) | Event::Release(..) => true,
+    }
+}
+
+/// Makes an event behind so many others. False where it doesn't go.
+pub fn goes(alloc: Global, plain: &mut Plain, event: &Event, before: usize) -> bool
+    requires few { before ≤ 1000000 }
+    requires low { AreBelow (opening_bound + 1000000000 * before) plain.old.state }
+    ensures { IsTrue result → AreBelow (opening_bound + 1000000000 * (before + 1)) plain.new.state }
+{
+    if !is_short(*event) {
+        return false;
+    }
+    plain.step(alloc, *event).is_ok()
+}
+
+/// The machine after the events; nothing where one doesn't go.
+fn play(alloc: Global, first: Plain, events: &[Event]) -> Option<Plain>
+    requires few { length events.now ≤ 1000000 }
+    requires low { AreBelow opening_bound first.state }
+{
+    let mut plain = first;
+    for (index, event) in events.iter().enumerate() {
+        if !goes(alloc, &mut plain, event, index) {
+            return None;
+        }
+    }
+    Some(plain)
+}
+
+/// The report of a state, with the line that closes that of the run.
+fn text_of(alloc: Global, plain: &Plain, closing: Closing) -> Result<Vec<u8>, AllocError> {
+    if closing != Closing::Limit || plain.ending().is_some() {
+        return report_state(alloc, plain);
+    }
+    let mut text = Vec::new(alloc);
+    put_report(alloc, &mut text, plain.state(), "limit\n".as_bytes())?;
+    Ok(text)
+}
+
+/// The end of a run, as it is told.
+#[derive(Drop)]
+pub struct Told {
+    pub closing: Closing,
+    pub text: Vec<u8>,
+}
+
+/// What is told of the end of a run.
+pub fn told_of(alloc: Global, left: &Final, program: &Program) -> Option<Told> {
+    let closing = left.closing()?;
+    match report(alloc, left, program) {
+        Ok(text) => Some(Told { closing, text }),
+        Err(_) => None,
+    }
+}
+
+/// Whether a machine tells the same.
+pub fn tells(alloc: Global, plain: &Plain, wanted: &Told) -> bool {
+    match text_of(alloc, plain, wanted.closing) {
+        Ok(text) => text.as_slice() == wanted.text.as_slice(),
+        Err(_) => false,
+    }
+}
+
+/// Whether the machine makes the events, and then tells the same.
+pub fn agrees(alloc: Global, first: Plain, events: &[Event], wanted: &Told) -> bool
+    requires { AreBelow opening_bound first.state }
+{
+    if events.len() > 1_000_000 {
+        return false;
+    }
+    match play(alloc, first, events) {
+        Some(plain) => tells(alloc, &plain, wanted),
+        None => false,
+    }
+}
