@@ -45,6 +45,23 @@ impl Case {
     }
 }
 
+/// A program of this text, with no inputs; nothing where it isn't accepted.
+pub fn case_of_text(alloc: Global, text: &str, workers: u8, seed: u64) -> Option<Case> {
+    let program = assemble(alloc, text).ok()?;
+    let verified = verify(alloc, program).ok()?;
+    let layout = Layout::new(1, 1, workers).ok()?;
+    let mut kept = Vec::new(alloc);
+    kept.extend_from_slice(text.as_bytes()).ok()?;
+    Some(Case {
+        text: kept,
+        verified,
+        inputs: Vec::new(alloc),
+        layout,
+        limit: 100,
+        seed,
+    })
+}
+
 /// The program of this number; nothing where it isn't accepted.
 pub fn case_of(alloc: Global, number: u64) -> Option<Case> {
     let mut seed = seed_of(number);

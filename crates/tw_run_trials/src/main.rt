@@ -1,5 +1,5 @@
 //! Trials of whole runs: each tells its first difference, if there is one, and a last line tells how many agree. With a number
-//! behind the name so many programs are drawn.
+//! behind the name so many programs are drawn; with the word `worked` only the worked programs run.
 #![tactic(auto)]
 
 mod calls;
@@ -12,6 +12,7 @@ mod local;
 mod long;
 mod prefixes;
 mod programs;
+mod refused;
 mod replay;
 mod rights;
 mod rounds;
@@ -82,6 +83,13 @@ fn threads_trial<R: AllocGlobal + Print + Threads + Wait + Clock + Sync>(
     told(rt, agreeing, "in threads", ran.differing)
 }
 
+/// Worked programs, and what is told where memory was refused; 1 if all agree.
+fn worked_trial(rt: &HostRuntime) -> io::Result<u64> {
+    let (ended, shut) = refused::worked(rt.alloc());
+    println!(rt; "{ended} worked programs end, {shut} can be shut")?;
+    Ok(u64::from(ended == 4 && shut == 4))
+}
+
 /// Histories that are changed, which are to differ; how many agree, with those before.
 fn controls(rt: &HostRuntime, agreeing: u64) -> io::Result<u64> {
     let shorter = trial::rounds(rt.alloc(), 100, Change::Shorter).differing;
@@ -100,7 +108,19 @@ fn controls(rt: &HostRuntime, agreeing: u64) -> io::Result<u64> {
     )
 }
 
+/// Whether the word behind the name asks for the worked programs alone, which may be run where memory is refused.
+fn asks_for_worked(rt: &HostRuntime) -> io::Result<bool> {
+    match env::args(rt)?.nth(1) {
+        Some(word) => Ok(word.as_str() == "worked"),
+        None => Ok(false),
+    }
+}
+
 fn main(rt: HostRuntime) -> io::Result<()> {
+    if asks_for_worked(&rt)? {
+        let _agreeing = worked_trial(&rt)?;
+        return Ok(());
+    }
     let programs = programs_asked(&rt)?;
     let agreeing = rounds_trial(&rt, programs)?;
     let agreeing = prefixes_trial(&rt, agreeing, programs)?;
@@ -111,6 +131,7 @@ fn main(rt: HostRuntime) -> io::Result<()> {
         Some(0)
     };
     let agreeing = told(&rt, agreeing, "a long run", long)?;
+    let agreeing = agreeing.wrapping_add(worked_trial(&rt)?);
     let agreeing = controls(&rt, agreeing)?;
     println!(rt; "{agreeing} trials agree")
 }

@@ -16,8 +16,19 @@ use tw_types::{Actor, Layout};
 enum Came {
     On,
     Over,
+    /// Memory was refused, and the history is as it was.
+    Refused,
     /// An answer that no such turn has.
     Astray,
+}
+
+/// What is done where memory is refused.
+#[derive(Clone, Copy, PartialEq, Eq)]
+pub enum AtRefusal {
+    /// The turn is made again.
+    Again,
+    /// The run is shut.
+    Shut,
 }
 
 /// The actor of a place, if there is one.
@@ -44,10 +55,15 @@ fn turn_one<'a>(
     ensures program { pool.new.program ≡ pool.old.program }
     ensures kept { IsDoneOf pool.old.program kept.new }
 {
+    let before = pool.history().len();
     match pool.turn(alloc, actor, kept.take()) {
         Turn::Run(job) => {
             *kept = Some(job.run(alloc));
             Came::On
+        }
+        Turn::NoMemory(done) if pool.history().len() == before => {
+            *kept = done;
+            Came::Refused
         }
         Turn::Ended | Turn::Went | Turn::Idle => Came::On,
         Turn::Over(_) => Came::Over,
@@ -82,8 +98,8 @@ fn turn_round<'a>(
     Came::On
 }
 
-/// Turns until the run is over. False where an answer is none that may come, or the run doesn't end.
-fn turn_all<'a>(alloc: Global, pool: &mut Pool<'a>, seed: &mut u64) -> bool {
+/// Turns until the run is over, or is to be shut. False where an answer is none that may come, or the run doesn't end.
+fn turn_all<'a>(alloc: Global, pool: &mut Pool<'a>, seed: &mut u64, at_refusal: AtRefusal) -> bool {
     let mut kept: Vec<Option<Done<'a>>> = Vec::new(alloc);
     for _place in 0..24_u8 {
         if kept.push(None).is_err() {
@@ -93,7 +109,8 @@ fn turn_all<'a>(alloc: Global, pool: &mut Pool<'a>, seed: &mut u64) -> bool {
     for _round in 0..100_000_u32 {
         match turn_round(alloc, pool, seed, kept.as_mut_slice()) {
             Came::On => {}
-            Came::Over => return true,
+            Came::Refused if at_refusal == AtRefusal::Again => {}
+            Came::Refused | Came::Over => return true,
             Came::Astray => return false,
         }
     }
@@ -103,12 +120,22 @@ fn turn_all<'a>(alloc: Global, pool: &mut Pool<'a>, seed: &mut u64) -> bool {
 /// What is left of a run in one thread with so many events at most, and its history; nothing where it isn't opened, or comes to
 /// no end.
 pub fn run_in_rounds(alloc: Global, case: &Case, limit: usize) -> Option<(Final, History)> {
+    run_or_shut(alloc, case, limit, AtRefusal::Again)
+}
+
+/// The same, where it is said what is done where memory is refused.
+pub fn run_or_shut(
+    alloc: Global,
+    case: &Case,
+    limit: usize,
+    at_refusal: AtRefusal,
+) -> Option<(Final, History)> {
     let opened = Pool::open(alloc, &case.verified, &case.inputs, case.layout, limit);
     let Ok(mut pool) = opened else {
         return None;
     };
     let mut seed = case.seed;
-    let came = turn_all(alloc, &mut pool, &mut seed);
+    let came = turn_all(alloc, &mut pool, &mut seed, at_refusal);
     let (left, history) = pool.shut();
     if came { Some((left, history)) } else { None }
 }

@@ -10,3 +10,9 @@ returns-in-Run-clause-kept c =
     let given = subst (λ done. IsDoneOf old.program done) (sym c.take.ensures.value) c.requires.kept in
     let owned = is_answer_of old c.turn.new.self c.args.actor c.take.result c.turn.result c.turn.ensures given in
     ap (λ (job : JobView). job.program) c.run.ensures ∙ subst (IsAnswerOf old.program) c.in-Run.is owned
+
+pub returns-in-NoMemory-clause-kept : goal.returns-in-NoMemory-clause-kept
+returns-in-NoMemory-clause-kept c =
+    let old = c.args.pool.now in
+    let given = subst (λ done. IsDoneOf old.program done) (sym c.take.ensures.value) c.requires.kept in
+    subst (IsAnswerOf old.program) c.in-NoMemory.is (is_answer_of old c.turn.new.self c.args.actor c.take.result c.turn.result c.turn.ensures given)
