@@ -8,9 +8,10 @@ use std::alloc::{AllocError, Global};
 use std::rt::Files;
 use std::sync::Wait;
 use std::thread::Threads;
+use std::time::Clock;
 
 /// What is to be printed of a line: a complaint, or what came in place of what is wanted.
-pub fn play_line<H: AllocGlobal + Files + Threads + Wait + Sync>(
+pub fn play_line<H: AllocGlobal + Files + Threads + Wait + Clock + Sync>(
     rt: &H,
     book: &mut Book,
     line: &str,
@@ -45,7 +46,7 @@ fn name_bytes(alloc: Global, book: &mut Book, text: &str) -> Result<(), Complain
 }
 
 /// What is told of a case that didn't come to what is wanted, with its name in front. Others are counted.
-fn case_line<H: AllocGlobal + Files + Threads + Wait + Sync>(
+fn case_line<H: AllocGlobal + Files + Threads + Wait + Clock + Sync>(
     rt: &H,
     book: &mut Book,
     line: &str,

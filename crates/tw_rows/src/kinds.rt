@@ -15,9 +15,10 @@ use std::alloc::Global;
 use std::rt::Files;
 use std::sync::Wait;
 use std::thread::Threads;
+use std::time::Clock;
 
 /// What a case comes to: the first field is its kind, with words that belong to it; the others are what it is given.
-pub fn outcome<H: AllocGlobal + Files + Threads + Wait + Sync>(
+pub fn outcome<H: AllocGlobal + Files + Threads + Wait + Clock + Sync>(
     rt: &H,
     book: &Book,
     inputs: &str,

@@ -7,10 +7,11 @@ use crate::words::{read_words, unescaped};
 use std::alloc::{AllocError, Global};
 use std::sync::Wait;
 use std::thread::Threads;
+use std::time::Clock;
 use tw_session::session;
 
 /// The status and the whole text of a session with these words and this input.
-pub fn tw_text<H: AllocGlobal + Threads + Wait + Sync>(
+pub fn tw_text<H: AllocGlobal + Threads + Wait + Clock + Sync>(
     rt: &H,
     book: &Book,
     words: &str,
@@ -24,7 +25,7 @@ pub fn tw_text<H: AllocGlobal + Threads + Wait + Sync>(
 }
 
 /// The status of a session, how many bytes it left unread, and what it wrote.
-pub fn ended<H: AllocGlobal + Threads + Wait + Sync>(
+pub fn ended<H: AllocGlobal + Threads + Wait + Clock + Sync>(
     rt: &H,
     words: &[String],
     input: &[u8],
@@ -36,7 +37,7 @@ pub fn ended<H: AllocGlobal + Threads + Wait + Sync>(
 }
 
 /// The status of a session without input, and which of these phrases its text lacks.
-pub fn phrases_text<H: AllocGlobal + Threads + Wait + Sync>(
+pub fn phrases_text<H: AllocGlobal + Threads + Wait + Clock + Sync>(
     rt: &H,
     words: &str,
     phrases: &str,

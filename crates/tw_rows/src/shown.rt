@@ -7,9 +7,10 @@ use std::fs;
 use std::rt::Files;
 use std::sync::Wait;
 use std::thread::Threads;
+use std::time::Clock;
 
 /// How many commands a file shows that print what stands below them; or the first that prints something else.
-pub fn shown_text<H: AllocGlobal + Files + Threads + Wait + Sync>(
+pub fn shown_text<H: AllocGlobal + Files + Threads + Wait + Clock + Sync>(
     rt: &H,
     file: &str,
 ) -> Result<String, Complaint> {
@@ -27,7 +28,7 @@ pub fn shown_text<H: AllocGlobal + Files + Threads + Wait + Sync>(
 }
 
 /// What the last of some sessions prints, where each reads a file or what the one before wrote.
-fn printed<H: AllocGlobal + Files + Threads + Wait + Sync>(
+fn printed<H: AllocGlobal + Files + Threads + Wait + Clock + Sync>(
     rt: &H,
     command: &str,
 ) -> Result<String, Complaint> {
@@ -39,7 +40,7 @@ fn printed<H: AllocGlobal + Files + Threads + Wait + Sync>(
 }
 
 /// What a session writes that is given a file, where it names one, or else these bytes.
-fn played<H: AllocGlobal + Files + Threads + Wait + Sync>(
+fn played<H: AllocGlobal + Files + Threads + Wait + Clock + Sync>(
     rt: &H,
     part: &str,
     before: Vec<u8>,

@@ -21,6 +21,7 @@ use hex::FromHexError;
 use std::alloc::{AllocError, Global};
 use std::sync::Wait;
 use std::thread::Threads;
+use std::time::Clock;
 use tw_asm::{assemble, disassemble};
 use tw_code::{FaultNo, Program, decode, encode};
 use tw_command::{Order, ProgramOrder, ReplayOrder, VerifiedOrder};
@@ -56,7 +57,7 @@ pub fn opening_reply(alloc: Global, number: u8) -> Result<Reply, AllocError>
 }
 
 /// Does what is ordered with an accepted program.
-fn accepted_reply<H: Threads + Wait + Sync>(
+fn accepted_reply<H: Threads + Wait + Clock + Sync>(
     rt: &H,
     alloc: Global,
     order: &VerifiedOrder,
@@ -93,7 +94,7 @@ fn refusal_reply(
 }
 
 /// Verifies a program, and does what is ordered if it is accepted.
-fn verified_reply<H: Threads + Wait + Sync>(
+fn verified_reply<H: Threads + Wait + Clock + Sync>(
     rt: &H,
     alloc: Global,
     order: &VerifiedOrder,
@@ -111,7 +112,7 @@ fn verified_reply<H: Threads + Wait + Sync>(
 }
 
 /// Writes a program's assembly text, or verifies the program.
-fn program_reply<H: Threads + Wait + Sync>(
+fn program_reply<H: Threads + Wait + Clock + Sync>(
     rt: &H,
     alloc: Global,
     order: &ProgramOrder,
@@ -132,7 +133,7 @@ fn program_reply<H: Threads + Wait + Sync>(
 }
 
 /// Decodes bytes, and does what is ordered with the program that they spell.
-fn bytes_reply<H: Threads + Wait + Sync>(
+fn bytes_reply<H: Threads + Wait + Clock + Sync>(
     rt: &H,
     alloc: Global,
     order: &ProgramOrder,
@@ -157,7 +158,7 @@ fn bytes_reply<H: Threads + Wait + Sync>(
 }
 
 /// Turns hex text into bytes, and answers to these.
-fn text_reply<H: Threads + Wait + Sync>(
+fn text_reply<H: Threads + Wait + Clock + Sync>(
     rt: &H,
     alloc: Global,
     order: &ProgramOrder,
@@ -227,7 +228,7 @@ fn replayed_reply(alloc: Global, order: &ReplayOrder, input: Vec<u8>) -> Result<
 }
 
 /// The whole reply to an order and the bytes that were read; refused where memory is.
-pub fn reply_to<H: Threads + Wait + Sync>(
+pub fn reply_to<H: Threads + Wait + Clock + Sync>(
     rt: &H,
     alloc: Global,
     order: &Order,

@@ -11,6 +11,7 @@ use crate::status::Close;
 use std::alloc::{AllocError, Global};
 use std::sync::Wait;
 use std::thread::Threads;
+use std::time::Clock;
 use tw_command::RunOrder;
 use tw_host::Closed;
 use tw_pool::{Closing, Final, History, OpenRefusal};
@@ -101,7 +102,7 @@ fn closed_reply(
 }
 
 /// Opens and runs an accepted program in threads, one an actor.
-pub fn run_of<H: Threads + Wait + Sync>(
+pub fn run_of<H: Threads + Wait + Clock + Sync>(
     rt: &H,
     alloc: Global,
     order: &RunOrder,

@@ -13,6 +13,7 @@ use std::alloc::Global;
 use std::io::{ErrorKind, Read, Write};
 use std::sync::Wait;
 use std::thread::Threads;
+use std::time::Clock;
 use tw_command::{NoOrder, Order, read_order};
 use tw_report::put_input_word_line;
 
@@ -75,7 +76,7 @@ pub fn without_words<W: Write>(kind: ErrorKind, writer: &mut W) -> Status
 /// Reads, acts and writes, where there is an order.
 fn obey<H, R, W>(rt: &H, alloc: Global, order: &Order, reader: &mut R, writer: &mut W) -> Status
 where
-    H: Threads + Wait + Sync,
+    H: Threads + Wait + Clock + Sync,
     R: Read,
     W: Write,
     ensures reply { (asked : Asked) → IsAsked asked order.now → IfSome (R.remaining reader.old) (λ input.
@@ -102,7 +103,7 @@ where
 /// answered.
 pub fn session<H, R, W>(rt: &H, words: &[String], reader: &mut R, writer: &mut W) -> Status
 where
-    H: AllocGlobal + Threads + Wait + Sync,
+    H: AllocGlobal + Threads + Wait + Clock + Sync,
     R: Read,
     W: Write,
     // Words that are taken, and the bytes that the reader holds, have a reply, and that is written; or the first input

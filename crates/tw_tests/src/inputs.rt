@@ -4,6 +4,7 @@ use std::alloc::Global;
 use std::sync::Wait;
 use std::test::Fail;
 use std::thread::Threads;
+use std::time::Clock;
 use tw_session::session;
 
 /// GET v0 d0 / LEN v1 v0 / DROPR d0 / STORE d1 v1 / RET, of a closed text and an int to write.
@@ -42,7 +43,7 @@ fn ints(alloc: Global, last: usize) -> Result<String, Fail> {
 
 /// Whether a run with one input ends with this status and this text.
 fn comes_to(
-    rt: &(impl AllocGlobal + Threads + Wait + Sync),
+    rt: &(impl AllocGlobal + Threads + Wait + Clock + Sync),
     input: String,
     program: &str,
     code: u8,

@@ -6,6 +6,7 @@ use std::io::{ErrorKind, Read, Write};
 use std::sync::Wait;
 use std::test::Fail;
 use std::thread::Threads;
+use std::time::Clock;
 use tw_session::{session, without_words};
 
 /// `examples/store_seven.hex`.
@@ -53,7 +54,7 @@ impl Read for Source<'_> {
 
 /// Whether a run over a reader ends with this status and this text.
 fn comes_to(
-    rt: &(impl AllocGlobal + Threads + Wait + Sync),
+    rt: &(impl AllocGlobal + Threads + Wait + Clock + Sync),
     words: &[String],
     mut reader: Source,
     code: u8,
@@ -80,7 +81,7 @@ fn one_byte_a_call(rt: HostRuntime) -> Result<(), Fail> {
 
 /// Whether a run whose reader fails by this kind after so many calls ends with this status and this text.
 fn fails_as(
-    rt: &(impl AllocGlobal + Threads + Wait + Sync),
+    rt: &(impl AllocGlobal + Threads + Wait + Clock + Sync),
     words: &[String],
     (calls, kind): (usize, ErrorKind),
     code: u8,
@@ -176,7 +177,7 @@ impl Write for Sink {
 /// The status of a run into a writer, how often it was called after it was full, and whether it has the report's front
 /// of so many bytes.
 fn run_into(
-    rt: &(impl AllocGlobal + Threads + Wait + Sync),
+    rt: &(impl AllocGlobal + Threads + Wait + Clock + Sync),
     words: &[String],
     room: usize,
     is_flushed: bool,

@@ -6,6 +6,7 @@ use std::sync::Wait;
 use std::sync::atomic::{AtomicBool, AtomicU64, Ordering};
 use std::thread;
 use std::thread::Threads;
+use std::time::Clock;
 use tw_host::Closed;
 use tw_pool::{Closing, Final};
 use tw_types::{Actor, Layout, Value};
@@ -80,7 +81,7 @@ fn quiet_after(closed: Closed) -> Option<usize> {
 }
 
 /// How many events a run of `TWO_LEAVES` with two workers has, where it is quiet, and whether memory ran out.
-fn two_leaves<R: Threads + Wait + Sync>(
+fn two_leaves<R: Threads + Wait + Clock + Sync>(
     rt: &R,
     alloc: Global,
     gate: &Hold,
@@ -133,7 +134,7 @@ fn end_of(closed: Closed) -> Option<(bool, bool, i64)> {
 }
 
 /// The end of a run of `STORE_SEVEN`, and whether memory ran out.
-fn store_seven<R: Threads + Wait + Sync>(
+fn store_seven<R: Threads + Wait + Clock + Sync>(
     rt: &R,
     alloc: Global,
 ) -> Option<((bool, bool, i64), bool)> {

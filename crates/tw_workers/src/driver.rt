@@ -4,9 +4,10 @@ ghost use Rattle.std.specs.Prelude.{◌≡◌, IfOk};
 ghost use Rattle.tw_host.specs.Tells.{IsDoneOf};
 
 use crate::gate::Gate;
-use crossbeam_utils::Backoff;
+use crate::rest::Rest;
 use std::alloc::Global;
 use std::sync::Wait;
+use std::time::Clock;
 use tw_frame::{Done, Job};
 use tw_host::{Host, Named, Seat};
 use tw_pool::Turn;
@@ -67,13 +68,13 @@ fn work<'a, N: Named, G: Gate, R: Wait>(
 }
 
 /// One turn, and its job if it lends one: the Done for the next turn; or, where the driver ends, whether memory ran out.
-fn step<'a, N: Named, G: Gate, R: Wait>(
+fn step<'a, N: Named, G: Gate, R: Wait + Clock>(
     rt: &R,
     alloc: Global,
     host: &Host<'a, N>,
     seat: &mut Seat<N>,
     gate: &G,
-    backoff: &Backoff,
+    rest: &mut Rest,
     given: Option<Done<'a>>,
 ) -> Result<Option<Done<'a>>, bool>
     requires { IsDoneOf N.run.program given }
@@ -83,15 +84,15 @@ fn step<'a, N: Named, G: Gate, R: Wait>(
     match host.turn(rt, alloc, seat, given) {
         Ok(Turn::Over(_)) => Err(false),
         Ok(Turn::Run(job)) => {
-            backoff.reset();
+            rest.reset();
             work(rt, alloc, host, seat, gate, job)
         }
         Ok(Turn::Ended) | Ok(Turn::Went) => {
-            backoff.reset();
+            rest.reset();
             Ok(None)
         }
         Ok(Turn::Idle) => {
-            backoff.snooze();
+            rest.wait(rt);
             Ok(None)
         }
         Ok(Turn::NoMemory(done)) => {
@@ -107,7 +108,7 @@ fn step<'a, N: Named, G: Gate, R: Wait>(
 
 /// Turns a seat until the run is over. Where memory is refused, or the host's answer is none that this driver awaits, it stops
 /// the run.
-pub fn drive<'a, N: Named, G: Gate, R: Wait>(
+pub fn drive<'a, N: Named, G: Gate, R: Wait + Clock>(
     rt: &R,
     alloc: Global,
     host: &Host<'a, N>,
@@ -122,7 +123,7 @@ pub fn drive<'a, N: Named, G: Gate, R: Wait>(
 }
 
 /// The same for a seat that is lent. True where memory ran out.
-pub(crate) fn drive_at<'a, N: Named, G: Gate, R: Wait>(
+pub(crate) fn drive_at<'a, N: Named, G: Gate, R: Wait + Clock>(
     rt: &R,
     alloc: Global,
     host: &Host<'a, N>,
@@ -131,10 +132,10 @@ pub(crate) fn drive_at<'a, N: Named, G: Gate, R: Wait>(
 ) -> bool
     ensures { seat.new.actor ≡ seat.old.actor }
 {
-    let backoff = Backoff::new();
+    let mut rest = Rest::new();
     let mut done: Option<Done<'a>> = None;
     for _ in rt.forever() {
-        match step(rt, alloc, host, seat, gate, &backoff, done.take()) {
+        match step(rt, alloc, host, seat, gate, &mut rest, done.take()) {
             Ok(next) => done = next,
             Err(memory) => return memory,
         }

@@ -3,6 +3,7 @@
 
 mod driver;
 mod gate;
+mod rest;
 mod threads;
 
 pub use driver::{Driven, drive};

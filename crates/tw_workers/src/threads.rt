@@ -15,13 +15,14 @@ use std::sync::atomic::{AtomicBool, Ordering};
 use std::sync::ledger::Blank;
 use std::thread;
 use std::thread::{SpawnError, Threads};
+use std::time::Clock;
 use tw_host::{Closed, Host, Named, Seat, seat_count};
 use tw_pool::OpenRefusal;
 use tw_types::{Input, Layout};
 use tw_verify::Verified;
 
 /// Drives each seat in a thread of its own, and joins the threads. True where memory ran out.
-fn drive_all<'a, N: Named + Send + Sync, G: Gate + Sync, R: Threads + Wait + Sync>(
+fn drive_all<'a, N: Named + Send + Sync, G: Gate + Sync, R: Threads + Wait + Clock + Sync>(
     rt: &R,
     alloc: Global,
     host: &Host<'a, N>,
@@ -50,7 +51,7 @@ fn drive_all<'a, N: Named + Send + Sync, G: Gate + Sync, R: Threads + Wait + Syn
 
 /// Drives all seats in threads of their own until the run is over, and closes the host. The second answer is true where memory
 /// ran out.
-pub fn run_all<'a, N: Named + Send + Sync, G: Gate + Sync, R: Threads + Wait + Sync>(
+pub fn run_all<'a, N: Named + Send + Sync, G: Gate + Sync, R: Threads + Wait + Clock + Sync>(
     rt: &R,
     alloc: Global,
     host: Host<'a, N>,
@@ -65,7 +66,7 @@ pub fn run_all<'a, N: Named + Send + Sync, G: Gate + Sync, R: Threads + Wait + S
 }
 
 /// One run under a name.
-fn run_named<N: Named + Send + Sync, G: Gate + Sync, R: Threads + Wait + Sync>(
+fn run_named<N: Named + Send + Sync, G: Gate + Sync, R: Threads + Wait + Clock + Sync>(
     rt: &R,
     alloc: Global,
     blank: Blank,
@@ -86,7 +87,7 @@ fn run_named<N: Named + Send + Sync, G: Gate + Sync, R: Threads + Wait + Sync>(
 }
 
 /// One run, in as many threads as there are actors. The second answer is true where memory ran out.
-pub fn run<G: Gate + Sync, R: Threads + Wait + Sync>(
+pub fn run<G: Gate + Sync, R: Threads + Wait + Clock + Sync>(
     rt: &R,
     alloc: Global,
     verified: &Verified,
