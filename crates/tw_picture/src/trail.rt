@@ -121,6 +121,7 @@ impl Tasks {
         requires taken { IsTaken plain.now.state mark.now.event }
         ensures { OnOk result (map begun self.new.bars.items ≡ map begun self.old.bars.items ++ taken mark.now) }
     {
+        keep_maker(&mut self.makers, plain, mark)?;
         match mark.event {
             Event::Take(actor) => {
                 let Some(frame) = plain.state().frame(actor) else {
