@@ -103,11 +103,11 @@ bar_shape layout scale b = joined (bar_box layout scale b) (bar_label layout sca
 abbrev pub thread_title : Thread → List ℕ
 thread_title t = codes "task " ++ (decimal t.task ++ (codes ", made at event " ++ (decimal t.from.number ++ (codes ", taken at event " ++ decimal t.to.number))))
 
--- from the mark of the event that made the task to the beginning of its bar
+-- from the mark of the event that made the task to just above the beginning of its bar
 abbrev pub thread_shape : ActorCounts → Scale → Thread → Forest
 thread_shape layout scale t =
     let from : Point = record { x = across scale t.from.number + mark_inset scale; y = lane_top layout t.from.actor + 28 } in
-    let to : Point = record { x = across scale t.to.number; y = lane_top layout t.to.actor + 28 } in
+    let to : Point = record { x = across scale t.to.number; y = lane_top layout t.to.actor + 16 } in
     titled name.Path (way_row word.Thread (value.Curve from to)) (thread_title t)
 
 -- ---- actors

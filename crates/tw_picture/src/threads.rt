@@ -50,7 +50,7 @@ fn put_thread(
     };
     let to = Point {
         x: scale.across(thread.to.number),
-        y: lane_top(layout, thread.to.actor) + 28,
+        y: lane_top(layout, thread.to.actor) + 16,
     };
     let row = way_row(Word::Thread, Value::Curve(from, to));
     put_titled(alloc, out, Name::Path, &row, &title)
