@@ -166,11 +166,11 @@ never_refused Assembles order number is_asked h = h
 never_refused Disassembles order number is_asked h = h
 never_refused Checks order number is_asked h = h
 never_refused (Runs layout most traced words) order number (run, is, layout_is, limit_is, trace_is, spelled) h = none_refused words run.inputs number spelled h
-never_refused (Replays layout words) order number (replay, is, layout_is, spelled) h = none_refused words replay.inputs number spelled h
+never_refused (Replays answer layout words) order number (replay, is, answer_is, layout_is, spelled) h = none_refused words replay.inputs number spelled h
 
 pub one_number : (asked : Asked) (number other : ℕ) → IsRefusedInput asked number → IsRefusedInput asked other → number ≡ other
 one_number Assembles number other h k = absurd h
 one_number Disassembles number other h k = absurd h
 one_number Checks number other h k = absurd h
 one_number (Runs layout most traced words) number other h k = one_refused_word words number other h k
-one_number (Replays layout words) number other h k = one_refused_word words number other h k
+one_number (Replays answer layout words) number other h k = one_refused_word words number other h k

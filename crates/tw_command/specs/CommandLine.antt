@@ -6,6 +6,8 @@ use Rattle.clap.specs.Words.{App, Kinds, Row, Rule, Text, all_of, fault_of, new_
 use Rattle.tw_types.specs.Layout.{ActorCounts}
 use Rattle.tw_command.specs.InputWords.{AreSpelled, IsRefusedWord}
 use Rattle.tw_command.specs.Options.{NumberOption, actor_options, actors_told, flag_rule, is_given, limit, number_options, option_faults, option_rule, told, trace}
+use Rattle.tw_command.specs.declared.command.Answer.{Answer}
+use Rattle.tw_command.specs.declared.command.Answer.TheVariants.{Report, Picture}
 use Rattle.tw_command.specs.declared.command.Order.{Order}
 use Rattle.tw_command.specs.declared.command.Order.TheVariants.{Assemble, Program, Replay}
 use Rattle.tw_command.specs.declared.command.ProgramOrder.TheVariants.{Disassemble, Verified}
@@ -17,7 +19,7 @@ use Rattle.tw_command.specs.declared.command.RunOrder.{RunOrder}
 abbrev pub plain_line : Text → App
 plain_line name = new_app name
 
--- the words behind `run` or `replay`, however many
+-- the words behind `run`, `replay` or `picture`, however many
 abbrev pub input_rule : Rule
 input_rule = record (new_rule (codes "input")) { range = Some (record { start_inclusive = 0; end_inclusive = usize_max }) }
 
@@ -29,8 +31,9 @@ options_line name options flags =
 abbrev pub run_line : App
 run_line = options_line (codes "run") number_options (trace ∷ [])
 
-abbrev pub replay_line : App
-replay_line = options_line (codes "replay") actor_options []
+-- a command that is given a history
+abbrev pub replay_line : Text → App
+replay_line name = options_line name actor_options []
 
 -- the words come without the program's own name, and a command must be among them
 abbrev pub bare_line : App
@@ -44,8 +47,9 @@ bare_line = record (new_app (codes "tw")) {
 
 -- the whole command line
 unfoldable pub command_line : App
-command_line = with_subcommand (with_subcommand (with_subcommand (with_subcommand (with_subcommand bare_line
-    (plain_line (codes "asm")).top) (plain_line (codes "disasm")).top) (plain_line (codes "check")).top) run_line.top) replay_line.top
+command_line = with_subcommand (with_subcommand (with_subcommand (with_subcommand (with_subcommand (with_subcommand bare_line
+    (plain_line (codes "asm")).top) (plain_line (codes "disasm")).top) (plain_line (codes "check")).top) run_line.top)
+    (replay_line (codes "replay")).top) (replay_line (codes "picture")).top
 
 -- ---- what the words ask for
 
@@ -54,27 +58,28 @@ abbrev pub given_words : List Row → List Text
 given_words rows = unwrap_or (all_of (codes "input") rows) []
 
 -- the command that was named; `run` with its actors, the most events of the run, whether its history is written, and the input
--- words; `replay` with its actors and the input words
+-- words; `replay` or `picture`, by what is written, with its actors and the input words
 pub data Asked : Type 0 where
   Assembles : Asked
   Disassembles : Asked
   Checks : Asked
   Runs : ActorCounts → ℕ → Bool → List Text → Asked
-  Replays : ActorCounts → List Text → Asked
+  Replays : Answer → ActorCounts → List Text → Asked
 
 -- `run`, by what clap found behind it
 abbrev pub run_asked : List Row → Asked
 run_asked rows = Runs (actors_told rows) (told limit rows) (is_given trace rows) (given_words rows)
 
--- `replay`, by what clap found behind it
-abbrev pub replay_asked : List Row → Asked
-replay_asked rows = Replays (actors_told rows) (given_words rows)
+-- `replay` or `picture`, by what clap found behind it
+abbrev pub replay_asked : Answer → List Row → Asked
+replay_asked answer rows = Replays answer (actors_told rows) (given_words rows)
 
 abbrev pub asked_of : Option (Text × List Row) → Asked
 asked_of None = Checks
 asked_of (Some named) =
     if bytes_eq named.0 (codes "run") then run_asked named.1 else
-    if bytes_eq named.0 (codes "replay") then replay_asked named.1 else
+    if bytes_eq named.0 (codes "replay") then replay_asked Report named.1 else
+    if bytes_eq named.0 (codes "picture") then replay_asked Picture named.1 else
     if bytes_eq named.0 (codes "asm") then Assembles else
     if bytes_eq named.0 (codes "disasm") then Disassembles else
     Checks
@@ -91,8 +96,8 @@ IsAsked Checks order = order ≡ Program (Verified Check)
 IsAsked (Runs layout most traced words) order =
     (run : RunOrder) × (order ≡ Program (Verified (Run run)))
     × (run.layout ≡ layout) × (run.limit ≡ most) × (run.trace ≡ traced) × AreSpelled run.inputs words
-IsAsked (Replays layout words) order =
-    (replay : ReplayOrder) × (order ≡ Replay replay) × (replay.layout ≡ layout) × AreSpelled replay.inputs words
+IsAsked (Replays answer layout words) order =
+    (replay : ReplayOrder) × (order ≡ Replay replay) × (replay.answer ≡ answer) × (replay.layout ≡ layout) × AreSpelled replay.inputs words
 
 -- or the word of this number, counted from 1, is the first that spells no input
 abbrev pub IsRefusedInput : Asked → ℕ → Type 0
@@ -100,7 +105,7 @@ IsRefusedInput Assembles number = ⊥
 IsRefusedInput Disassembles number = ⊥
 IsRefusedInput Checks number = ⊥
 IsRefusedInput (Runs layout most traced words) number = IsRefusedWord words number
-IsRefusedInput (Replays layout words) number = IsRefusedWord words number
+IsRefusedInput (Replays answer layout words) number = IsRefusedWord words number
 
 -- ---- what refuses the words
 
@@ -110,6 +115,7 @@ faults_behind None = []
 faults_behind (Some named) =
     if bytes_eq named.0 (codes "run") then option_faults number_options named.1 else
     if bytes_eq named.0 (codes "replay") then option_faults actor_options named.1 else
+    if bytes_eq named.0 (codes "picture") then option_faults actor_options named.1 else
     []
 
 -- nothing where they are taken; the faults that clap finds go before an option's

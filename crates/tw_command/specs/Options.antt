@@ -1,4 +1,4 @@
--- The options of `run` and `replay`. Each takes a number, but for a flag, which takes none.
+-- The options of `run`, `replay` and `picture`. Each takes a number, but for a flag, which takes none.
 use Rattle.std.specs.Prelude.{◌≡◌, ◌&&◌, ℕ, Bool, false, List, [], ◌∷◌, Option, Some, None, codes, if◌then◌else◌, is_some, nat_le, unwrap_or}
 use Rattle.std.specs.List.{list_all}
 use Rattle.std.specs.Option.{option_map_or}
@@ -28,7 +28,7 @@ workers = record { name = codes "workers"; most = 16; default = 1 }
 abbrev pub limit : NumberOption
 limit = record { name = codes "limit"; most = 1000000; default = 10000 }
 
--- those of `replay`
+-- those of `replay` and `picture`
 abbrev pub actor_options : List NumberOption
 actor_options = engines ∷ servers ∷ workers ∷ []
 

@@ -17,7 +17,7 @@ ghost use Rattle.tw_command.specs.declared.command.NoOrder.TheVariants.{NoMemory
 
 use crate::help::{
     ABOUT, ASM_ABOUT, CHECK_ABOUT, DISASM_ABOUT, ENGINES_HELP, INPUT_HELP, LIMIT_HELP,
-    REPLAY_ABOUT, RUN_ABOUT, SERVERS_HELP, TRACE_HELP, WORKERS_HELP,
+    PICTURE_ABOUT, REPLAY_ABOUT, RUN_ABOUT, SERVERS_HELP, TRACE_HELP, WORKERS_HELP,
 };
 use crate::input_words::input_of;
 use crate::limit::EventLimit;
@@ -58,9 +58,20 @@ pub enum ProgramOrder {
     Verified(VerifiedOrder),
 }
 
+/// What is written of a history whose events all go.
+#[derive(Clone, Copy, PartialEq, Eq)]
+pub enum Answer {
+    /// The report of the state that they leave.
+    Report,
+    /// Their picture.
+    Picture,
+}
+
 /// How a history is replayed.
 #[derive(Drop)]
 pub struct ReplayOrder {
+    /// What is written of it.
+    pub answer: Answer,
     /// The actors.
     pub layout: Layout,
     /// Main's inputs, one for each input word, in their order.
@@ -151,11 +162,16 @@ fn run_command<'a>(alloc: Global) -> Result<Command<'a>, AllocError>
     Ok(whole)
 }
 
-fn replay_command<'a>(alloc: Global) -> Result<Command<'a>, AllocError>
-    ensures app { IfOk result (λ c. app_of c ≡ replay_line) }
+/// A command that is given a history.
+fn replay_command<'a>(
+    alloc: Global,
+    name: &'a str,
+    about: &'a str,
+) -> Result<Command<'a>, AllocError>
+    ensures app { IfOk result (λ c. app_of c ≡ replay_line name.entry.now) }
     ensures local { IfOk result (λ c. (out-Command c).has_globals ≡ false) }
 {
-    let bare = plain_command(alloc, "replay", REPLAY_ABOUT);
+    let bare = plain_command(alloc, name, about);
     let engines = bare.arg(option_arg(alloc, "engines", ENGINES_HELP))?;
     let servers = engines.arg(option_arg(alloc, "servers", SERVERS_HELP))?;
     let workers = servers.arg(option_arg(alloc, "workers", WORKERS_HELP))?;
@@ -185,8 +201,10 @@ fn command<'a>(alloc: Global) -> Result<Command<'a>, AllocError>
     let checking = both.subcommand(plain_command(alloc, "check", CHECK_ABOUT))?;
     let running = run_command(alloc)?;
     let four = checking.subcommand(running)?;
-    let replaying = replay_command(alloc)?;
-    let whole = four.subcommand(replaying)?;
+    let replaying = replay_command(alloc, "replay", REPLAY_ABOUT)?;
+    let five = four.subcommand(replaying)?;
+    let drawing = replay_command(alloc, "picture", PICTURE_ABOUT)?;
+    let whole = five.subcommand(drawing)?;
     Ok(whole)
 }
 
@@ -258,7 +276,7 @@ fn inputs_of(alloc: Global, words: &[&str]) -> Result<Items<Input>, NoOrder>
     Ok(Items::from(inputs))
 }
 
-/// The inputs that the words behind `run` or `replay` spell.
+/// The inputs that the words behind `run`, `replay` or `picture` spell.
 fn inputs_given(alloc: Global, matches: &ArgMatches<'_>) -> Result<Items<Input>, NoOrder>
     ensures spelled { IfOk result (λ inputs. AreSpelled inputs (given_words (rows_of (found_of matches.now)))) }
     ensures refused { IfErr result (IsInputReason (given_words (rows_of (found_of matches.now)))) }
@@ -291,18 +309,26 @@ fn run_order(alloc: Global, matches: &ArgMatches<'_>) -> Result<RunOrder, NoOrde
     })
 }
 
-/// The order to replay, by what was found behind `replay`.
-fn replay_order(alloc: Global, matches: &ArgMatches<'_>) -> Result<ReplayOrder, NoOrder>
+/// The order to replay and write this, by what was found behind the command.
+fn replay_order(
+    alloc: Global,
+    answer: Answer,
+    matches: &ArgMatches<'_>,
+) -> Result<ReplayOrder, NoOrder>
     ensures taken { IfOk result (λ order. (option_faults actor_options (rows_of (found_of matches.now)) ≡ [])
-        × IsAsked (replay_asked (rows_of (found_of matches.now))) (Replay order)) }
+        × IsAsked (replay_asked answer (rows_of (found_of matches.now))) (Replay order)) }
     ensures refused { IfErr result
-        (HasReason (option_faults actor_options (rows_of (found_of matches.now))) (replay_asked (rows_of (found_of matches.now)))) }
+        (HasReason (option_faults actor_options (rows_of (found_of matches.now))) (replay_asked answer (rows_of (found_of matches.now)))) }
 {
     let Some(layout) = layout_given(matches) else {
         return Err(NoOrder::Refused);
     };
     let inputs = inputs_given(alloc, matches)?;
-    Ok(ReplayOrder { layout, inputs })
+    Ok(ReplayOrder {
+        answer,
+        layout,
+        inputs,
+    })
 }
 
 fn verified_order(order: VerifiedOrder) -> Order
@@ -322,7 +348,8 @@ fn order_of(alloc: Global, matches: &ArgMatches<'_>) -> Result<Order, NoOrder>
             let order = run_order(alloc, given)?;
             Ok(verified_order(VerifiedOrder::Run(order)))
         }
-        Some(("replay", given)) => Ok(Order::Replay(replay_order(alloc, given)?)),
+        Some(("replay", given)) => Ok(Order::Replay(replay_order(alloc, Answer::Report, given)?)),
+        Some(("picture", given)) => Ok(Order::Replay(replay_order(alloc, Answer::Picture, given)?)),
         Some(("asm", _)) => Ok(Order::Assemble),
         Some(("disasm", _)) => Ok(Order::Program(ProgramOrder::Disassemble)),
         _ => Ok(verified_order(VerifiedOrder::Check)),

@@ -27,6 +27,17 @@ The report ends with a line that tells how the run ended, or with `running`.
 Exit status: 0 quiet or still running, 1 refused or an event that isn't enabled, 2 command line or input word refused,
 3 stuck, 5 memory ran out, 6 trap, 7 a read or write failed.";
 
+pub(crate) const PICTURE_ABOUT: &str =
+    "Makes the events of a history on the reference machine and draws them as one SVG picture.
+
+It takes what `tw replay` takes, and refuses what that refuses, with the same line and status. Else what is written can be
+opened in a browser: a lane for each actor, with the events from left to right by their numbers; a mark for each event,
+which shows its line where the pointer rests on it; a bar for each task from its `take` to its `end`; a line from the
+event that made a task to its `take`; and above how the run ended. Where it is stuck in a circle of rules, the circle
+stands below: a box for each rule, and an arrow with the datum that it waits for to the rule that may write it.
+Exit status: 0 quiet or still running, 1 refused or an event that isn't enabled, 2 command line or input word refused,
+3 stuck, 5 memory ran out, 6 trap, 7 a read or write failed.";
+
 pub(crate) const ENGINES_HELP: &str = "How many engines: 1 to 4 (default: 1)";
 
 pub(crate) const SERVERS_HELP: &str = "How many servers: 1 to 4 (default: 1)";

@@ -4,10 +4,11 @@ ghost use Rattle.std.specs.Prelude.{◌≡◌, ℕ, true, false, List, [], ◌�
 ghost use Rattle.clap.specs.declared.error.ErrorKind.TheVariants.{ArgumentConflict, DisplayHelp, InvalidSubcommand};
 ghost use Rattle.clap.specs.declared.error.ErrorKind.TheVariants.{InvalidValue, TooManyValues, UnknownArgument, ValueValidation};
 ghost use Rattle.tw_command.specs.CommandLine.{Assembles, Checks, Disassembles, Replays, Runs, asked_by_words, word_faults};
+ghost use Rattle.tw_command.specs.declared.command.Answer.TheVariants.{Picture, Report};
 ghost use Rattle.tw_command.specs.Options.{actors};
 ghost use Rattle.tw_command.specs.InputWords.{OneInput, OneRefusedWord};
 
-/// Each command is taken, and asks for what its name says, with the options and words behind `run` and `replay`.
+/// Each command is taken, and asks for what its name says, with the options and words behind `run`, `replay` and `picture`.
 pub fn commands_are_taken()
     ensures asm { (word_faults (codes "asm" ∷ []) ≡ []) × (asked_by_words (codes "asm" ∷ []) ≡ Assembles) }
     ensures disasm { (word_faults (codes "disasm" ∷ []) ≡ []) × (asked_by_words (codes "disasm" ∷ []) ≡ Disassembles) }
@@ -37,7 +38,10 @@ pub fn commands_are_taken()
         ≡ Runs (actors 1 1 1) 100 true (codes "int:7" ∷ [])) }
     ensures replay { (word_faults (codes "replay" ∷ codes "--workers" ∷ codes "2" ∷ codes "int:7" ∷ []) ≡ [])
         × (asked_by_words (codes "replay" ∷ codes "--workers" ∷ codes "2" ∷ codes "int:7" ∷ [])
-        ≡ Replays (actors 1 1 2) (codes "int:7" ∷ [])) }
+        ≡ Replays Report (actors 1 1 2) (codes "int:7" ∷ [])) }
+    ensures picture { (word_faults (codes "picture" ∷ codes "--workers" ∷ codes "2" ∷ codes "int:7" ∷ []) ≡ [])
+        × (asked_by_words (codes "picture" ∷ codes "--workers" ∷ codes "2" ∷ codes "int:7" ∷ [])
+        ≡ Replays Picture (actors 1 1 2) (codes "int:7" ∷ [])) }
 {}
 
 /// Words are refused that name no command, or come after `check`; so is an option that isn't known, comes twice, or has

@@ -9,7 +9,9 @@ mod input_words;
 mod laws;
 mod limit;
 
-pub use command::{NoOrder, Order, ProgramOrder, ReplayOrder, RunOrder, VerifiedOrder, read_order};
+pub use command::{
+    Answer, NoOrder, Order, ProgramOrder, ReplayOrder, RunOrder, VerifiedOrder, read_order,
+};
 pub use input_words::input_of;
 pub use laws::{commands_are_taken, strangers_are_refused, words_spell_one_input};
 pub use limit::EventLimit;

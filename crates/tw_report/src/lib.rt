@@ -26,5 +26,5 @@ pub use lines::{
 };
 pub use outputs::put_report;
 pub use read_event::event_of;
-pub use state_report::{circle_state, report_state};
+pub use state_report::{circle_state, ending_line, report_state};
 pub use told::Told;

@@ -1,8 +1,9 @@
 //! The report of a state of the reference machine, and the circle where it is stuck.
 
-ghost use Rattle.std.specs.Prelude.{◌≡◌, IfOk, option_map};
+ghost use Rattle.std.specs.Prelude.{◌≡◌, IfOk, None, option_map};
+ghost use Rattle.tw_code.specs.machine.Ending.{ending};
 ghost use Rattle.tw_code.specs.machine.Pending.{circle};
-ghost use Rattle.tw_report.specs.Report.{state_report};
+ghost use Rattle.tw_report.specs.Report.{ending_lines, state_report};
 
 use crate::ending_text::ending_text;
 use crate::outputs::put_report;
@@ -22,6 +23,13 @@ pub fn circle_state(alloc: Global, plain: &Plain) -> Result<Option<Vec<Link>>, A
     };
     let rules = pending_rules(alloc, plain.program().procedures(), plain.state().rules())?;
     circle_of(alloc, &rules)
+}
+
+/// The line that tells how a run has ended in this state, or that it is still running.
+pub fn ending_line(alloc: Global, plain: &Plain) -> Result<Vec<u8>, AllocError>
+    ensures { IfOk result (λ text. text.items ≡ ending_lines (ending plain.now.state) None) }
+{
+    ending_text(alloc, plain.ending(), None)
 }
 
 /// The report of a state, which need not be an end.

@@ -1,6 +1,6 @@
--- Events, one after the other, in a replay.
-use Rattle.std.proofs.Common.{◌≡◌, ◌+◌, ◌<◌, ◌≤◌, ℕ, zero, suc, List, [], ◌∷◌, length, get_or, drop, Option, Some, None, sym, ap, subst, ◌∙◌, add-one, drop-cons, arith}
-use Rattle.std.proofs.lemmas.List.{drop_all}
+-- Events, one after the other, in a replay and in a picture.
+use Rattle.std.proofs.Common.{◌≡◌, ◌+◌, ◌<◌, ◌≤◌, ℕ, zero, suc, List, [], ◌∷◌, ◌++◌, length, length-take, get_or, drop, take, Option, Some, None, refl, sym, ap, subst, ◌∙◌, add-one, drop-cons, arith}
+use Rattle.std.proofs.lemmas.List.{drop_all, take_all, take_more}
 use Rattle.std.specs.List.{AllByRecursion}
 use Rattle.tw_types.specs.declared.cause.Cause.{Cause}
 use Rattle.tw_types.specs.declared.event.Event.{Event}
@@ -8,19 +8,23 @@ use Rattle.tw_types.specs.declared.event.Event.TheVariants.{Take, Local, Call, E
 use Rattle.tw_types.specs.declared.input.Input.{Input}
 use Rattle.tw_types.specs.Cause.{cause_number}
 use Rattle.tw_types.specs.Layout.{ActorCounts}
-use Rattle.tw_types.specs.Outcome.{Outcome, Went, NotEnabled, Trap}
+use Rattle.tw_types.specs.Outcome.{Outcome, Went, NotEnabled, Trap, ◌>>=◌}
 use Rattle.tw_code.specs.declared.procedure.Procedure.{Procedure}
 use Rattle.tw_code.specs.machine.Bounds.{size_of}
-use Rattle.tw_code.specs.machine.Machine.{step}
+use Rattle.tw_code.specs.machine.Machine.{run, step}
 use Rattle.tw_code.specs.machine.Opening.{opening}
 use Rattle.tw_code.specs.machine.State.{State}
+use Rattle.tw_command.specs.declared.command.ReplayOrder.{ReplayOrder}
 use Rattle.tw_machine.specs.PlainView.{PlainView}
 use Rattle.tw_machine.specs.declared.refusal.OpenRefusal.{OpenRefusal}
 use Rattle.tw_machine.specs.declared.refusal.OpenRefusal.TheVariants.{NoMemory}
 use Rattle.tw_machine.specs.Opening.{IsTold, open_refusal_number, refusal_of}
+use Rattle.tw_picture.specs.declared.trail.Trail.{Trail}
+use Rattle.tw_picture.specs.History.{HasFew, IsDrawing, IsTrail}
+use Rattle.tw_picture.proofs.History.{trail_length}
 use Rattle.tw_report.specs.Events.{IsEvent}
 use Rattle.tw_report.specs.Lines.{not_enabled_line, opening_line, trap_line}
-use Rattle.tw_session.specs.Replay.{after_event, opened_or, played, replayed, state_reply}
+use Rattle.tw_session.specs.Replay.{ByOutcome, IsAnswer, IsPicture, IsReplayed, OpensOr, after_event, played, state_reply}
 use Rattle.tw_session.specs.Reply.{Reply, reply}
 use Rattle.tw_session.specs.declared.status.Close.TheVariants.{Refused, Trapped}
 
@@ -77,13 +81,83 @@ at_index (e ∷ events) (suc i) d all h = at_index events i d all.1 (omega (arit
 pub event_small : (events : List Event) (i : ℕ) (event : Event) → AllByRecursion IsEvent events → i < length events → event ≡ get_or events i event → size_of event ≤ 1000000000
 event_small events i event all inside is = size_small event (subst IsEvent (sym is) (at_index events i event all inside))
 
+-- ---- runs
+
+-- what the next event comes to, and those behind it
+run_here : (program : List Procedure) (layout : ActorCounts) (events : List Event) (i : ℕ) (event : Event) (s : State) → i < length events → event ≡ get_or events i event
+    → run program layout (drop i events) s ≡ (step program layout event s >>= (λ next. run program layout (drop (i + 1) events) next))
+unfolding run
+run_here program layout events i event s inside is =
+    let one : drop i events ≡ event ∷ drop (i + 1) events = drop-cons events i event inside ∙ ap (λ (e : Event). e ∷ drop (suc i) events) (sym is) ∙ ap (λ (n : ℕ). event ∷ drop n events) (sym (add-one i)) in
+    ap (λ (es : List Event). run program layout es s) one
+
+-- where it comes to this
+run_by : (program : List Procedure) (layout : ActorCounts) (events : List Event) (i : ℕ) (event : Event) (s : State) (o : Outcome State) → i < length events → event ≡ get_or events i event → step program layout event s ≡ o
+    → run program layout (drop i events) s ≡ (o >>= (λ next. run program layout (drop (i + 1) events) next))
+run_by program layout events i event s o inside is comes =
+    run_here program layout events i event s inside is ∙ ap (λ (p : Outcome State). p >>= (λ next. run program layout (drop (i + 1) events) next)) comes
+
+pub run_on : (program : List Procedure) (layout : ActorCounts) (events : List Event) (i : ℕ) (event : Event) (s t : State) (whole : Outcome State) → i < length events → event ≡ get_or events i event
+    → step program layout event s ≡ Went t → run program layout (drop i events) s ≡ whole → run program layout (drop (i + 1) events) t ≡ whole
+run_on program layout events i event s t whole inside is went before = sym (run_by program layout events i event s (Went t) inside is went) ∙ before
+
+pub run_not_enabled : (program : List Procedure) (layout : ActorCounts) (events : List Event) (i : ℕ) (event : Event) (s : State) (whole : Outcome State) → i < length events → event ≡ get_or events i event
+    → step program layout event s ≡ NotEnabled → run program layout (drop i events) s ≡ whole → whole ≡ NotEnabled
+run_not_enabled program layout events i event s whole inside is stopped before = sym before ∙ run_by program layout events i event s NotEnabled inside is stopped
+
+pub run_trapped : (program : List Procedure) (layout : ActorCounts) (events : List Event) (i : ℕ) (event : Event) (s : State) (cause : Cause) (whole : Outcome State) → i < length events → event ≡ get_or events i event
+    → step program layout event s ≡ Trap cause → run program layout (drop i events) s ≡ whole → whole ≡ Trap cause
+run_trapped program layout events i event s cause whole inside is stopped before = sym before ∙ run_by program layout events i event s (Trap cause) inside is stopped
+
+pub all_run : (program : List Procedure) (layout : ActorCounts) (events : List Event) (i : ℕ) (s : State) (whole : Outcome State) → length events ≤ i → run program layout (drop i events) s ≡ whole → whole ≡ Went s
+unfolding run
+all_run program layout events i s whole all before = sym before ∙ ap (λ (es : List Event). run program layout es s) (drop_all i events all)
+
+pub by_not_enabled : (o : Outcome State) (goes : State → Type 0) (stops : Type 0) → o ≡ NotEnabled → stops → ByOutcome o goes stops
+by_not_enabled o goes stops is h = subst (λ (p : Outcome State). ByOutcome p goes stops) (sym is) h
+
+pub by_trap : (o : Outcome State) (cause : Cause) (goes : State → Type 0) (stops : Type 0) → o ≡ Trap cause → stops → ByOutcome o goes stops
+by_trap o cause goes stops is h = subst (λ (p : Outcome State). ByOutcome p goes stops) (sym is) h
+
+pub by_went : (o : Outcome State) (s : State) (goes : State → Type 0) (stops : Type 0) → o ≡ Went s → goes s → ByOutcome o goes stops
+by_went o s goes stops is h = subst (λ (p : Outcome State). ByOutcome p goes stops) (sym is) h
+
+-- ---- pictures
+
+-- events leave the program and the layout as they are
+pub stays_so : (first at next : PlainView) → at ≡ record first { state = at.state } → next.program ≡ at.program → next.layout ≡ at.layout → next ≡ record first { state = next.state }
+stays_so first at next stays p l =
+    ap (λ (ps : List Procedure). record { program = ps; layout = next.layout; state = next.state }) (p ∙ ap (λ (v : PlainView). v.program) stays)
+    ∙ ap (λ (a : ActorCounts). record { program = first.program; layout = a; state = next.state }) (l ∙ ap (λ (v : PlainView). v.layout) stays)
+
+pub stepped : (first at : PlainView) (event : Event) (o : Outcome State) → at ≡ record first { state = at.state } → step at.program at.layout event at.state ≡ o → step first.program first.layout event at.state ≡ o
+stepped first at event o stays comes = sym (ap (λ (v : PlainView). step v.program v.layout event at.state) stays) ∙ comes
+
+pub trail_on : (events : List Event) (i : ℕ) (event : Event) (t : Trail) → i < length events → event ≡ get_or events i event → IsTrail (take i events ++ event ∷ []) t → IsTrail (take (i + 1) events) t
+trail_on events i event t inside is h =
+    subst (λ (es : List Event). IsTrail es t) (sym (take_more events i event inside ∙ ap (λ (e : Event). take i events ++ e ∷ []) (sym is))) h
+
+pub few_taken : (events : List Event) (i : ℕ) (t : Trail) → IsTrail (take i events) t → length events ≤ 16777217 → HasFew t
+few_taken events i t h few =
+    let count : length t.marks.items ≡ length (take i events) = trail_length (take i events) t h in
+    let bound : length t.marks.items < 2147483648 = omega (arith, length-take i events) in
+    bound
+
+pub picture_from : (first at : PlainView) (events : List Event) (i : ℕ) (r : Reply) → at ≡ record first { state = at.state } → length events ≤ i → IsPicture at (take i events) at.state r → IsPicture first events at.state r
+picture_from first at events i r stays all (d, drawing, is) =
+    (d, subst (λ (v : PlainView). IsDrawing v events d) stays (subst (λ (es : List Event). IsDrawing at es d) (take_all i events all) drawing), is)
+
 -- ---- the opening
 
-pub opened_played : (program : List Procedure) (layout : ActorCounts) (inputs : List Input) (events : List Event) (plain : PlainView) → plain ≡ record { program = program; layout = layout; state = opening program inputs } → refusal_of program inputs ≡ None
-    → played plain.program plain.layout 1 events plain.state ≡ replayed program layout inputs events
-opened_played program layout inputs events plain is none =
-    ap (λ (v : PlainView). played v.program v.layout 1 events v.state) is ∙ sym (ap (λ (o : Option OpenRefusal). opened_or o (played program layout 1 events (opening program inputs))) none)
+pub opened_answer : (order : ReplayOrder) (program : List Procedure) (inputs : List Input) (events : List Event) (plain : PlainView) (r : Reply) → inputs ≡ order.inputs
+    → plain ≡ record { program = program; layout = order.layout; state = opening program inputs } → refusal_of program inputs ≡ None → IsAnswer order.answer plain events r → IsReplayed order program events r
+opened_answer order program inputs events plain r same is none h =
+    let first : PlainView = record { program = program; layout = order.layout; state = opening program order.inputs } in
+    let here : plain ≡ first = is ∙ ap (λ (given : List Input). record { program = program; layout = order.layout; state = opening program given }) same in
+    let opens : None ≡ refusal_of program order.inputs = sym none ∙ ap (refusal_of program) same in
+    subst (λ (o : Option OpenRefusal). OpensOr o (IsAnswer order.answer first events r) r) opens (subst (λ (v : PlainView). IsAnswer order.answer v events r) here h)
 
-pub refused_played : (o : Option OpenRefusal) (why : OpenRefusal) (number : ℕ) (r : Reply) → IsTold o why → (why ≡ NoMemory → ⊥) → number ≡ open_refusal_number why → reply (opening_line number) Refused ≡ opened_or o r
-refused_played (Some given) why number r told other is = ap (λ (n : ℕ). reply (opening_line n) Refused) is ∙ ap (λ (w : OpenRefusal). reply (opening_line (open_refusal_number w)) Refused) told
-refused_played None why number r told other is = absurd (other told)
+pub refused_answer : (o : Option OpenRefusal) (why : OpenRefusal) (number : ℕ) (Answers : Type 0) (r : Reply) → IsTold o why → (why ≡ NoMemory → ⊥) → number ≡ open_refusal_number why → r ≡ reply (opening_line number) Refused
+    → OpensOr o Answers r
+refused_answer (Some given) why number Answers r told other is h = h ∙ ap (λ (n : ℕ). reply (opening_line n) Refused) is ∙ ap (λ (w : OpenRefusal). reply (opening_line (open_refusal_number w)) Refused) told
+refused_answer None why number Answers r told other is h = absurd (other told)

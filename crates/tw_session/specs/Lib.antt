@@ -1,5 +1,5 @@
 -- What a session writes, and how it ends: to be believed for `session` and `reply_to` are all files, and those of
--- tw_command for the words and of tw_report for the texts. Begin with Session; a run is Run, a replay Replay, a check Check,
+-- tw_command for the words and of tw_report for the texts. Begin with Session; a run is Run, a replay and its picture Replay, a check Check,
 -- statuses Status.
 pub mod Input
 pub mod Reply

@@ -79,7 +79,7 @@ abbrev pub RepliesByInput : Order → List ℕ → Reply → Type 0
 RepliesByInput Assemble input r =
     (IsUtf8 input × RepliesByAssembly input r) ⊎ ((IsUtf8 input → ⊥) × (r ≡ reply (codes "refused H03\n") Refused))
 RepliesByInput (Program order) input r = RepliesByText order (decode_of (digits_in input)) r
-RepliesByInput (Replay order) input r = RepliesByReplay order.layout order.inputs input r
+RepliesByInput (Replay order) input r = RepliesByReplay order input r
 
 -- what a session may answer to an order and the bytes that it reads: too much input is refused before it is looked at
 abbrev pub MayReply : Order → List ℕ → Reply → Type 0

@@ -4,6 +4,7 @@
 #![tactic(auto)]
 
 mod check;
+mod drawn;
 mod input;
 mod replay;
 mod reply;

@@ -224,7 +224,7 @@ fn replayed_reply(alloc: Global, order: &ReplayOrder, input: Vec<u8>) -> Result<
     requires { length input.items ≤ 16777216 }
     ensures { IfOk result (λ r. RepliesByInput (Replay order.now) input.items (reply r.text.items r.close)) }
 {
-    replay_reply(alloc, order.layout, order.inputs.as_slice(), &input)
+    replay_reply(alloc, order, &input)
 }
 
 /// The whole reply to an order and the bytes that were read; refused where memory is.

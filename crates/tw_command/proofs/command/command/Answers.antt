@@ -22,5 +22,7 @@ returns c =
     let both : app_of c.in_ok-both.both ≡ with_both = c.in_ok-both.ensures.shape (search rules) ∙ ap₂ with_subcommand assembling (ap (λ (a : App). a.top) disasm) in
     let checking : app_of c.in_ok-checking.checking ≡ with_subcommand with_both (plain_line (codes "check")).top = c.in_ok-checking.ensures.shape (search rules) ∙ ap₂ with_subcommand both (ap (λ (a : App). a.top) check) in
     let four = c.in_ok-four.ensures.shape (search rules) ∙ ap₂ with_subcommand checking (ap (λ (a : App). a.top) run) in
-    let replay : app_of c.in_ok-replaying.replaying ≡ replay_line = c.in_ok-replaying.ensures.app in
-    c.in_ok-whole.ensures.shape (search rules) ∙ ap₂ with_subcommand four (ap (λ (a : App). a.top) replay)
+    let replay : app_of c.in_ok-replaying.replaying ≡ replay_line (codes "replay") = c.in_ok-replaying.ensures.app in
+    let five = c.in_ok-five.ensures.shape (search rules) ∙ ap₂ with_subcommand four (ap (λ (a : App). a.top) replay) in
+    let picture : app_of c.in_ok-drawing.drawing ≡ replay_line (codes "picture") = c.in_ok-drawing.ensures.app in
+    c.in_ok-whole.ensures.shape (search rules) ∙ ap₂ with_subcommand five (ap (λ (a : App). a.top) picture)

@@ -1,0 +1,180 @@
+//! Actors and the numbers of events, as they are drawn.
+
+ghost use Rattle.std.specs.Prelude.{◌≡◌, ◌++◌, IfOk, OnOk};
+ghost use Rattle.tw_types.specs.declared.actor.Actor.TheVariants.{Engine, Server, Worker};
+ghost use Rattle.tw_picture.specs.Picture.{all, below, lanes};
+ghost use Rattle.tw_picture.specs.Shapes.{actor_name, lane, tick, tick_of, tick_row};
+ghost use Rattle.tw_picture.specs.Xml.{xml_text};
+
+use crate::attributes::{Attribute, Key, Name, Word, fixed, number};
+use crate::bars::labelled;
+use crate::drawing::Mark;
+use crate::elements::{numbered, put_plain, put_titled, put_words};
+use crate::marks::rectangle;
+use crate::places::{Scale, bottom, lane_top};
+use std::alloc::{AllocError, Global};
+use tw_report::put_numbered;
+use tw_types::{Actor, Layout};
+
+fn actor_name(alloc: Global, actor: Actor) -> Result<Vec<u8>, AllocError>
+    ensures { IfOk result (λ name. name.items ≡ actor_name actor) }
+{
+    let mut name = Vec::new(alloc);
+    match actor {
+        Actor::Engine(number) => { put_numbered(alloc, &mut name, "engine ", usize::from(number))? }
+        Actor::Server(number) => { put_numbered(alloc, &mut name, "server ", usize::from(number))? }
+        Actor::Worker(number) => { put_numbered(alloc, &mut name, "worker ", usize::from(number))? }
+    }
+    Ok(name)
+}
+
+/// Adds the lane of an actor, and its name at the left.
+fn put_lane(
+    alloc: Global,
+    out: &mut Vec<u8>,
+    layout: Layout,
+    width: usize,
+    actor: Actor,
+) -> Result<(), AllocError>
+    ensures { OnOk result (out.new.items ≡ out.old.items ++ xml_text (lane layout width actor)) }
+{
+    let name = actor_name(alloc, actor)?;
+    let top = lane_top(layout, actor);
+    put_titled(
+        alloc,
+        out,
+        Name::Rectangle,
+        &rectangle(Word::Lane, 0, top + 1, width, 42),
+        &name,
+    )?;
+    put_words(
+        alloc,
+        out,
+        Name::Text,
+        &labelled(Word::Actor, 10, top + 32),
+        &name,
+    )
+}
+
+fn put_engines(
+    alloc: Global,
+    out: &mut Vec<u8>,
+    layout: Layout,
+    width: usize,
+) -> Result<(), AllocError>
+    ensures { OnOk result (out.new.items ≡ out.old.items ++ xml_text (below (λ n. lane layout width (Engine n)) layout.engines)) }
+{
+    for number in 0..layout.engines() {
+        put_lane(alloc, out, layout, width, Actor::Engine(number))?;
+    }
+    Ok(())
+}
+
+fn put_servers(
+    alloc: Global,
+    out: &mut Vec<u8>,
+    layout: Layout,
+    width: usize,
+) -> Result<(), AllocError>
+    ensures { OnOk result (out.new.items ≡ out.old.items ++ xml_text (below (λ n. lane layout width (Server n)) layout.servers)) }
+{
+    for number in 0..layout.servers() {
+        put_lane(alloc, out, layout, width, Actor::Server(number))?;
+    }
+    Ok(())
+}
+
+fn put_workers(
+    alloc: Global,
+    out: &mut Vec<u8>,
+    layout: Layout,
+    width: usize,
+) -> Result<(), AllocError>
+    ensures { OnOk result (out.new.items ≡ out.old.items ++ xml_text (below (λ n. lane layout width (Worker n)) layout.workers)) }
+{
+    for number in 0..layout.workers() {
+        put_lane(alloc, out, layout, width, Actor::Worker(number))?;
+    }
+    Ok(())
+}
+
+/// Adds a lane for each actor.
+pub fn put_lanes(
+    alloc: Global,
+    out: &mut Vec<u8>,
+    layout: Layout,
+    width: usize,
+) -> Result<(), AllocError>
+    ensures { OnOk result (out.new.items ≡ out.old.items ++ xml_text (lanes layout width)) }
+{
+    put_engines(alloc, out, layout, width)?;
+    put_servers(alloc, out, layout, width)?;
+    put_workers(alloc, out, layout, width)
+}
+
+fn tick_row(x: usize, down_to: usize) -> [Attribute; 5]
+    ensures { result ≡ tick_row x down_to }
+{
+    [
+        fixed(Key::Class, Word::Tick),
+        number(Key::FromX, x),
+        number(Key::FromY, 46),
+        number(Key::ToX, x),
+        number(Key::ToY, down_to),
+    ]
+}
+
+/// Adds a line at an event, and its number above.
+fn put_tick(
+    alloc: Global,
+    out: &mut Vec<u8>,
+    layout: Layout,
+    scale: Scale,
+    event: u32,
+) -> Result<(), AllocError>
+    ensures { OnOk result (out.new.items ≡ out.old.items ++ xml_text (tick layout scale event)) }
+{
+    let text = numbered(alloc, "", u64::from(event))?;
+    let x = scale.across(event);
+    put_plain(alloc, out, Name::Line, &tick_row(x, bottom(layout)))?;
+    put_words(
+        alloc,
+        out,
+        Name::Text,
+        &labelled(Word::Number, x + 3, 55),
+        &text,
+    )
+}
+
+/// Adds a tick at an event, if it is due there.
+fn put_tick_of(
+    alloc: Global,
+    out: &mut Vec<u8>,
+    layout: Layout,
+    scale: Scale,
+    mark: &Mark,
+) -> Result<(), AllocError>
+    ensures { OnOk result (out.new.items ≡ out.old.items ++ xml_text (tick_of layout scale mark.now)) }
+{
+    if mark.number % scale.tick_step() == 0 {
+        put_tick(alloc, out, layout, scale, mark.number)
+    } else {
+        Ok(())
+    }
+}
+
+/// Adds the ticks.
+pub fn put_ticks(
+    alloc: Global,
+    out: &mut Vec<u8>,
+    layout: Layout,
+    scale: Scale,
+    marks: &[Mark],
+) -> Result<(), AllocError>
+    ensures { OnOk result (out.new.items ≡ out.old.items ++ xml_text (all (tick_of layout scale) marks.now)) }
+{
+    for mark in marks {
+        put_tick_of(alloc, out, layout, scale, mark)?;
+    }
+    Ok(())
+}

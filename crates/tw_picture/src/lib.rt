@@ -1,0 +1,20 @@
+//! A history as a picture: one SVG text with a lane for each actor, a bar for each task and a mark for each event.
+#![tactic(auto)]
+
+mod attributes;
+mod bars;
+mod drawing;
+mod elements;
+mod escaping;
+mod heading;
+mod lanes;
+mod links;
+mod marks;
+mod page;
+mod places;
+mod threads;
+mod trail;
+
+pub use drawing::{Bar, Drawing, Mark, Place, Thread, Wait};
+pub use page::picture;
+pub use trail::Trail;

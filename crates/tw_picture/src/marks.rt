@@ -1,0 +1,104 @@
+//! Events, as they are drawn.
+
+ghost use Rattle.std.specs.Prelude.{◌≡◌, ◌++◌, IfOk, OnOk};
+ghost use Rattle.tw_picture.specs.Picture.{all};
+ghost use Rattle.tw_picture.specs.Shapes.{actor_of, class_of, mark_shape, mark_title, rectangle, way_row};
+ghost use Rattle.tw_picture.specs.Xml.{xml_text};
+
+use crate::attributes::{Attribute, Key, Name, Value, Word, fixed, number, route};
+use crate::drawing::Mark;
+use crate::elements::put_titled;
+use crate::places::{Scale, lane_top};
+use std::alloc::{AllocError, Global};
+use tw_report::{put, put_event_line, put_numbered};
+use tw_types::{Actor, Event, Layout};
+
+/// A rectangle's row of attributes.
+pub fn rectangle(class: Word, x: usize, y: usize, width: usize, height: usize) -> [Attribute; 5]
+    ensures { result ≡ rectangle class x y width height }
+{
+    [
+        fixed(Key::Class, class),
+        number(Key::X, x),
+        number(Key::Y, y),
+        number(Key::Width, width),
+        number(Key::Height, height),
+    ]
+}
+
+/// A way of these looks.
+pub fn way_row(class: Word, way: Value) -> [Attribute; 2]
+    ensures { result ≡ way_row class way }
+{
+    [fixed(Key::Class, class), route(way)]
+}
+
+/// Whose event it is.
+pub fn actor_of(event: &Event) -> Actor
+    ensures { result ≡ actor_of event.now }
+{
+    match *event {
+        Event::Take(actor) | Event::Call(actor) | Event::End(actor) => actor,
+        Event::Local(actor, _) => actor,
+        Event::Ask(engine, _, _) => Actor::Engine(engine),
+        Event::Deliver(server, _, _, _) => Actor::Server(server),
+        Event::Release(engine, _) => Actor::Engine(engine),
+    }
+}
+
+fn class_of(event: &Event) -> Word
+    ensures { result ≡ class_of event.now }
+{
+    match event {
+        Event::Take(_) => Word::Take,
+        Event::Local(_, _) => Word::Local,
+        Event::Call(_) => Word::Call,
+        Event::End(_) => Word::End,
+        Event::Ask(_, _, _) => Word::Ask,
+        Event::Deliver(_, _, _, _) => Word::Deliver,
+        Event::Release(_, _) => Word::Release,
+    }
+}
+
+/// The number and the line of an event.
+fn mark_title(alloc: Global, mark: &Mark) -> Result<Vec<u8>, AllocError>
+    ensures { IfOk result (λ title. title.items ≡ mark_title mark.now) }
+{
+    let mut title = Vec::new(alloc);
+    put_numbered(alloc, &mut title, "event ", mark.number as usize)?;
+    put(&mut title, ": ")?;
+    put_event_line(alloc, &mut title, &mark.event)?;
+    Ok(title)
+}
+
+fn put_mark(
+    alloc: Global,
+    out: &mut Vec<u8>,
+    layout: Layout,
+    scale: Scale,
+    mark: &Mark,
+) -> Result<(), AllocError>
+    ensures { OnOk result (out.new.items ≡ out.old.items ++ xml_text (mark_shape layout scale mark.now)) }
+{
+    let title = mark_title(alloc, mark)?;
+    let x = scale.across(mark.number) + scale.mark_inset();
+    let y = lane_top(layout, actor_of(&mark.event)) + 22;
+    let row = rectangle(class_of(&mark.event), x, y, scale.mark_width(), 12);
+    put_titled(alloc, out, Name::Rectangle, &row, &title)
+}
+
+/// Adds a mark for each event.
+pub fn put_marks(
+    alloc: Global,
+    out: &mut Vec<u8>,
+    layout: Layout,
+    scale: Scale,
+    marks: &[Mark],
+) -> Result<(), AllocError>
+    ensures { OnOk result (out.new.items ≡ out.old.items ++ xml_text (all (mark_shape layout scale) marks.now)) }
+{
+    for mark in marks {
+        put_mark(alloc, out, layout, scale, mark)?;
+    }
+    Ok(())
+}
