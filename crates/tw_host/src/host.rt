@@ -9,13 +9,29 @@ use crate::layout::seat_count;
 use crate::locked::{Locked, Strange};
 use crate::named::Named;
 use crate::seat::{Seat, rooms, seats_of};
+use crossbeam_utils::Backoff;
 use std::alloc::Global;
 use std::sync::ledger::Blank;
-use std::sync::{Mutex, Wait};
+use std::sync::{Mutex, MutexGuard, Wait};
 use tw_frame::Done;
 use tw_pool::{OpenRefusal, Pool, Turn};
 use tw_types::{Event, Input, Layout};
 use tw_verify::Verified;
+
+/// How often the lock is asked for before the thread sleeps for it.
+const TRIES: u32 = 64;
+
+/// Takes a lock that is held for a short time each time: spins and yields first, so that who holds it needs wake nobody.
+fn locked_soon<'b, T, R: Wait>(lock: &'b Mutex<T>, rt: &R) -> MutexGuard<'b, T> {
+    let backoff = Backoff::new();
+    for _ in 0..TRIES {
+        if let Some(guard) = lock.try_lock() {
+            return guard;
+        }
+        backoff.snooze();
+    }
+    lock.lock(rt)
+}
 
 /// The pool of a run under its one lock.
 pub struct Host<'a, N: Named> {
@@ -86,7 +102,7 @@ impl<'a, N: Named> Host<'a, N> {
         if seat.told.reserve(2).is_err() {
             return Ok(Turn::NoMemory(done));
         }
-        self.locked.lock(rt).turn(alloc, seat, done)
+        locked_soon(&self.locked, rt).turn(alloc, seat, done)
     }
 
     /// From now on no turn makes an event.
