@@ -5,6 +5,7 @@ use Rattle.tw_types.specs.declared.actor.Actor.TheVariants.{Engine, Server, Work
 use Rattle.tw_types.specs.declared.event.Event.{Event}
 use Rattle.tw_types.specs.declared.event.Event.TheVariants as event
 use Rattle.tw_types.specs.Layout.{ActorCounts}
+use Rattle.tw_code.specs.machine.History.{actor_of}
 use Rattle.tw_report.specs.Events.{event_line}
 use Rattle.tw_picture.specs.declared.attributes.Attribute.{Attribute}
 use Rattle.tw_picture.specs.declared.attributes.Key.{Key}
@@ -46,15 +47,6 @@ abbrev pub way_row : Word → Value → List Attribute
 way_row class way = fixed key.Class class ∷ route way ∷ []
 
 -- ---- events
-
-abbrev pub actor_of : Event → Actor
-actor_of (event.Take actor) = actor
-actor_of (event.Local actor n) = actor
-actor_of (event.Call actor) = actor
-actor_of (event.End actor) = actor
-actor_of (event.Ask engine rule parameter) = Engine engine
-actor_of (event.Deliver server datum rule parameter) = Server server
-actor_of (event.Release engine rule) = Engine engine
 
 abbrev pub class_of : Event → Word
 class_of (event.Take actor) = word.Take

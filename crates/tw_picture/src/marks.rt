@@ -2,7 +2,8 @@
 
 ghost use Rattle.std.specs.Prelude.{◌≡◌, ◌++◌, IfOk, OnOk};
 ghost use Rattle.tw_picture.specs.Picture.{all};
-ghost use Rattle.tw_picture.specs.Shapes.{actor_of, class_of, mark_shape, mark_title, rectangle, way_row};
+ghost use Rattle.tw_code.specs.machine.History.{actor_of};
+ghost use Rattle.tw_picture.specs.Shapes.{class_of, mark_shape, mark_title, rectangle, way_row};
 ghost use Rattle.tw_picture.specs.Xml.{xml_text};
 
 use crate::attributes::{Attribute, Key, Name, Value, Word, fixed, number, route};

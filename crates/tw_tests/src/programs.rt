@@ -55,3 +55,13 @@ pub fn has_just(history: &History, wanted: &[Event]) -> bool {
     }
     history.len() == wanted.len()
 }
+
+/// Whether one history is a beginning of another.
+pub fn begins(history: &History, whole: &History) -> bool {
+    for k in 0..history.len() {
+        if k >= whole.len() || history.event(k) != whole.event(k) {
+            return false;
+        }
+    }
+    true
+}

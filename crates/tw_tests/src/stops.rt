@@ -3,7 +3,7 @@
 ghost use Rattle.tw_host.specs.Tells.{IsDoneOf};
 
 use crate::programs::{
-    RULE_ON_CLOSED, RULE_WAITS_FOR_NOTICE, STORE_SEVEN, TARGETED_TASK, TWO_LEAVES, program,
+    RULE_ON_CLOSED, RULE_WAITS_FOR_NOTICE, STORE_SEVEN, TARGETED_TASK, TWO_LEAVES, begins, program,
 };
 use crate::turns::{Play, Said, end_of, played, seat_turn};
 use std::alloc::Global;
@@ -134,16 +134,6 @@ fn stopped_after<R: Wait>(
     } else {
         None
     }
-}
-
-/// Whether one history is a beginning of another.
-fn begins(history: &History, whole: &History) -> bool {
-    for k in 0..history.len() {
-        if k >= whole.len() || history.event(k) != whole.event(k) {
-            return false;
-        }
-    }
-    true
 }
 
 /// Whether a run that is stopped after so many turns has a beginning of the whole history, and what each turn behind was told is

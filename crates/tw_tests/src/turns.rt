@@ -6,7 +6,7 @@ ghost use Rattle.tw_host.specs.Tells.{IsAnswerOf, IsDoneOf};
 
 use crate::programs::{
     ENGINE, RULE_ON_CLOSED, RULE_WAITS_FOR_NOTICE, SEVEN, STORE_SEVEN, TARGETED_TASK, TWO_LEAVES,
-    has_just, program,
+    begins, has_just, program,
 };
 use std::alloc::Global;
 use std::marker::Brand;
@@ -580,12 +580,7 @@ impl Play for Twin<'_> {
 
 /// Whether two histories have the same events.
 fn are_same(history: &History, other: &History) -> bool {
-    for k in 0..history.len() {
-        if k >= other.len() || history.event(k) != other.event(k) {
-            return false;
-        }
-    }
-    history.len() == other.len()
+    history.len() == other.len() && begins(history, other)
 }
 
 /// Whether the host with which this was done closes with the table's history, of so many events, and is quiet.
