@@ -2,20 +2,25 @@
 use Rattle.std.proofs.Common.{◌≡◌, ℕ, ℤ, zero, suc, Option, Some, None, ◌⊎◌, true, false, eqb, List, [], ◌∷◌, ◌++◌, length, Ok, Err, refl, sym, ap, subst, ◌∙◌, drop, arith, inl, inr}
 use Rattle.std.specs.Prelude.{FitsSigned}
 use Rattle.std.specs.Int.{w64}
-use Rattle.std.specs.List.{concat}
+use Rattle.std.specs.List.{concat, flat_map}
 use Rattle.std.proofs.lemmas.Bool.{eqb-true}
+use Rattle.std.proofs.lemmas.List.{append-nil}
 use Rattle.tw_code.specs.declared.fault.Broken.{Broken}
 use Rattle.tw_code.specs.declared.fault.FaultNo.TheVariants.{Unknown}
+use Rattle.tw_code.specs.declared.instr.Action.{Action}
 use Rattle.tw_code.specs.declared.instr.Arithmetic.TheVariants.{Add, Subtract, Multiply, Divide, Remainder}
 use Rattle.tw_code.specs.declared.instr.DataInstr.TheVariants as on_data
 use Rattle.tw_code.specs.declared.instr.Instr.{Instr}
 use Rattle.tw_code.specs.declared.instr.Instr.TheVariants as instr
 use Rattle.tw_code.specs.declared.instr.LocalInstr.TheVariants as local
+use Rattle.tw_code.specs.declared.opcode.Opcode.{Opcode}
+use Rattle.tw_code.specs.declared.opcode.Opcode.TheVariants as opcode
 use Rattle.tw_types.specs.DataType.{IsDataType}
 use Rattle.tw_types.specs.Nesting.{NestedScalar}
 use Rattle.tw_types.specs.Text.{IsText}
 use Rattle.tw_code.specs.format.Program.{IsAction, IsInstr, IsList, IsRegister, IsSkip, IsTarget, IsWithin}
-use Rattle.tw_code.specs.format.Spelling.{Item, byte, text_items, type_items, counted_items, register_items, target_code, action_items, instr_items}
+use Rattle.tw_code.specs.format.Spelling.{Item, byte, number, text_items, type_items, counted_items, register_items, target_code, operand_items, instr_items}
+use Rattle.tw_code.specs.format.Table.{action_operands, code_of}
 use Rattle.tw_code.specs.format.Reading.{Reading, as_is, both, counted, byte_at, type_at, target_in, target_at, action_at, on, register_at, number_at, wide_at, skip_at, text_at, two_registers_at, two_registers_and_skip_at, three_registers_and_skip_at, nothing_at, no_other, operands_at, instr_at}
 use Rattle.tw_code.proofs.Formats.{IsBytes, IsBytes-rest, chosen, ok_is, Takes, IsMade, as_is_takes, as_is_again}
 use Rattle.tw_code.proofs.Breaks.{IsStrict, FailsAt, GoesOn, carried, due_after, no_err, err_is, both_strict, counted_strict, as_is_strict, as_is_fails}
@@ -41,14 +46,14 @@ nothing_strict = record {
 abbrev HasCode : ℕ → Instr → Type 0
 HasCode c x = IsInstr x × (instr_items x ≡ byte c ∷ drop 1 (instr_items x))
 
-abbrev operand_items : Instr → List Item
-operand_items x = drop 1 (instr_items x)
+abbrev behind_code : Instr → List Item
+behind_code x = drop 1 (instr_items x)
 
 -- the code isn't known, or the operands behind it fail
 abbrev CodeFailsAt : (ℕ → Reading Instr) → ℕ → List ℕ → Broken → Type 0
 CodeFailsAt operands c bytes f =
     ((record { no = Unknown; left = suc (length bytes) } ≡ f) × ((rest : List ℕ) → operands c rest ≡ Err (record { no = Unknown; left = suc (length rest) })))
-    ⊎ FailsAt (HasCode c) operand_items (operands c) bytes f
+    ⊎ FailsAt (HasCode c) behind_code (operands c) bytes f
 
 -- behind each code a reading takes the operands of an instruction of that code, or says where they fail
 record AreOperands (operands : ℕ → Reading Instr) : Type 0 where
@@ -60,32 +65,32 @@ no_others = record { takes = λ c bytes x rest fits e. absurd (no_instr c bytes 
   no_instr : (c : ℕ) (bytes : List ℕ) (x : Instr) (rest : List ℕ) → no_other c bytes ≡ Ok (x, rest) → ⊥
   no_instr c bytes x rest e = cc
 
-module _ {A : Type 0} {F : A → Type 0} {w : A → List Item} {r : Reading A} {others : ℕ → Reading Instr} (code : ℕ) (strict : IsStrict F w r) (make : A → Instr) (spelled : (a : A) → instr_items (make a) ≡ byte code ∷ w a) (fit : (a : A) → F a → IsInstr (make a)) (on_others : AreOperands others) where
-  on_takes : (c : ℕ) (bytes : List ℕ) (x : Instr) (rest : List ℕ) → IsBytes (c ∷ bytes) → on code r make others c bytes ≡ Ok (x, rest) → Takes (c ∷ bytes) (concat (instr_items x)) rest × IsInstr x
+module _ {A : Type 0} {F : A → Type 0} {w : A → List Item} {r : Reading A} {others : ℕ → Reading Instr} (o : Opcode) (strict : IsStrict F w r) (make : A → Instr) (spelled : (a : A) → instr_items (make a) ≡ byte (code_of o) ∷ w a) (fit : (a : A) → F a → IsInstr (make a)) (on_others : AreOperands others) where
+  on_takes : (c : ℕ) (bytes : List ℕ) (x : Instr) (rest : List ℕ) → IsBytes (c ∷ bytes) → on o r make others c bytes ≡ Ok (x, rest) → Takes (c ∷ bytes) (concat (instr_items x)) rest × IsInstr x
   on_takes c bytes x rest fits e =
-      elim (chosen (eqb c code) (as_is make r bytes) (others c bytes) (Ok (x, rest)) e) [
+      elim (chosen (eqb c (code_of o)) (as_is make r bytes) (others c bytes) (Ok (x, rest)) e) [
         | inl h ↦
             let a = as_is_takes strict.format make bytes x rest (IsBytes-rest c bytes fits) h.1 in
             let text : Takes (c ∷ bytes) (concat (byte c ∷ w a.0)) rest = record { parts = ap (λ (t : List ℕ). c ∷ t) a.1.parts; rest_fits = a.1.rest_fits } in
-            let so : byte c ∷ w a.0 ≡ instr_items (make a.0) = ap (λ (k : ℕ). byte k ∷ w a.0) (eqb-true c code h.0) ∙ sym (spelled a.0) in
+            let so : byte c ∷ w a.0 ≡ instr_items (make a.0) = ap (λ (k : ℕ). byte k ∷ w a.0) (eqb-true c (code_of o) h.0) ∙ sym (spelled a.0) in
             subst (λ (y : Instr). Takes (c ∷ bytes) (concat (instr_items y)) rest × IsInstr y) a.3 (subst (λ (t : List Item). Takes (c ∷ bytes) (concat t) rest) so text, fit a.0 a.2)
         | inr h ↦ on_others.takes c bytes x rest fits h.1
       ]
 
-  here : (c : ℕ) → eqb c code ≡ true → GoesOn F w r (HasCode c) operand_items (on code r make others c) []
+  here : (c : ℕ) → eqb c (code_of o) ≡ true → GoesOn F w r (HasCode c) behind_code (on o r make others c) []
   here c is = record {
     due = due_after make (λ a h. (fit a h, has_code a)) [] (λ a h. ap (drop 1) (spelled a));
     fails = λ rest d h. rw (is, h) refl;
   } where
     has_code : (a : A) → instr_items (make a) ≡ byte c ∷ drop 1 (instr_items (make a))
-    has_code a = spelled a ∙ ap (λ (t : List Item). byte code ∷ t) (sym (ap (drop 1) (spelled a))) ∙ ap (λ (k : ℕ). byte k ∷ drop 1 (instr_items (make a))) (sym (eqb-true c code is))
+    has_code a = spelled a ∙ ap (λ (t : List Item). byte (code_of o) ∷ t) (sym (ap (drop 1) (spelled a))) ∙ ap (λ (k : ℕ). byte k ∷ drop 1 (instr_items (make a))) (sym (eqb-true c (code_of o) is))
 
-  further : (c : ℕ) → eqb c code ≡ false → GoesOn (HasCode c) operand_items (others c) (HasCode c) operand_items (on code r make others c) []
+  further : (c : ℕ) → eqb c (code_of o) ≡ false → GoesOn (HasCode c) behind_code (others c) (HasCode c) behind_code (on o r make others c) []
   further c isnt = record { due = λ before size d. d; fails = λ rest d h. rw isnt h }
 
-  on_fails : (c : ℕ) (bytes : List ℕ) (f : Broken) → IsBytes bytes → on code r make others c bytes ≡ Err f → CodeFailsAt (on code r make others) c bytes f
+  on_fails : (c : ℕ) (bytes : List ℕ) (f : Broken) → IsBytes bytes → on o r make others c bytes ≡ Err f → CodeFailsAt (on o r make others) c bytes f
   on_fails c bytes f fits e =
-      elim (chosen (eqb c code) (as_is make r bytes) (others c bytes) (Err f) e) [
+      elim (chosen (eqb c (code_of o)) (as_is make r bytes) (others c bytes) (Err f) e) [
         | inl h ↦ inr (carried (here c h.0) bytes bytes f refl (strict.fails bytes f fits (as_is_fails make r bytes f h.1)))
         | inr h ↦ elim (on_others.fails c bytes f fits h.1) [
           | inl m ↦ inl (m.0, λ rest. rw h.0 (m.1 rest))
@@ -93,10 +98,23 @@ module _ {A : Type 0} {F : A → Type 0} {w : A → List Item} {r : Reading A} {
         ]
       ]
 
-  on_operands : AreOperands (on code r make others)
+  on_operands : AreOperands (on o r make others)
   on_operands = record { takes = on_takes; fails = on_fails }
 
 -- ---- the instructions
+
+abbrev action_items : Action → List Item
+action_items action = byte action.procedure ∷ number action.priority ∷ byte (target_code action.target) ∷ counted_items byte register_items action.args
+
+-- an operand of several items, behind others
+last : (others items : List Item) → others ++ (items ++ []) ≡ others ++ items
+last others items = ap (λ (xs : List Item). others ++ xs) (append-nil items)
+
+new_spelled : (write read : ℕ) (ty : NestedScalar) → instr_items (instr.Data (on_data.New write read ty)) ≡ byte (code_of opcode.New) ∷ byte write ∷ byte read ∷ type_items ty
+new_spelled write read ty = last (byte (code_of opcode.New) ∷ byte write ∷ byte read ∷ []) (type_items ty)
+
+action_spelled : (code : ℕ) (action : Action) → byte code ∷ flat_map operand_items (action_operands action) ≡ byte code ∷ action_items action
+action_spelled code action = last (byte code ∷ byte action.procedure ∷ number action.priority ∷ byte (target_code action.target) ∷ []) (counted_items byte register_items action.args)
 
 -- the operands, by their shape
 
@@ -166,38 +184,41 @@ action_strict = as_is_strict action_made (both_strict (byte_strict 0 255 (omega 
 -- a line an instruction
 operands : AreOperands operands_at
 operands =
-    on_operands 0x01 register_and_number (λ x. instr.Local (local.Int x.0 x.1)) (λ _. refl) (λ _ h. h) (
-    on_operands 0x02 register_and_text (λ x. instr.Local (local.Text x.0 x.1)) (λ _. refl) (λ _ h. h) (
-    on_operands 0x03 two_registers (λ x. instr.Local (local.Copy x.0 x.1)) (λ _. refl) (λ _ h. h) (
-    on_operands 0x10 three_registers_and_skip (λ x. instr.Local (local.Compute Add x.0 x.1.0 x.1.1.0 x.1.1.1)) (λ _. refl) (λ _ h. (h.0, h.1.0, h.1.1.0, h.1.1.1)) (
-    on_operands 0x11 three_registers_and_skip (λ x. instr.Local (local.Compute Subtract x.0 x.1.0 x.1.1.0 x.1.1.1)) (λ _. refl) (λ _ h. (h.0, h.1.0, h.1.1.0, h.1.1.1)) (
-    on_operands 0x12 three_registers_and_skip (λ x. instr.Local (local.Compute Multiply x.0 x.1.0 x.1.1.0 x.1.1.1)) (λ _. refl) (λ _ h. (h.0, h.1.0, h.1.1.0, h.1.1.1)) (
-    on_operands 0x13 three_registers_and_skip (λ x. instr.Local (local.Compute Divide x.0 x.1.0 x.1.1.0 x.1.1.1)) (λ _. refl) (λ _ h. (h.0, h.1.0, h.1.1.0, h.1.1.1)) (
-    on_operands 0x14 three_registers_and_skip (λ x. instr.Local (local.Compute Remainder x.0 x.1.0 x.1.1.0 x.1.1.1)) (λ _. refl) (λ _ h. (h.0, h.1.0, h.1.1.0, h.1.1.1)) (
-    on_operands 0x18 three_registers_and_skip (λ x. instr.Local (local.Concatenate x.0 x.1.0 x.1.1.0 x.1.1.1)) (λ _. refl) (λ _ h. (h.0, h.1.0, h.1.1.0, h.1.1.1)) (
-    on_operands 0x19 two_registers (λ x. instr.Local (local.Length x.0 x.1)) (λ _. refl) (λ _ h. h) (
-    on_operands 0x1a two_registers (λ x. instr.Local (local.Show x.0 x.1)) (λ _. refl) (λ _ h. h) (
-    on_operands 0x1b two_registers_and_skip (λ x. instr.Local (local.ReadInt x.0 x.1.0 x.1.1)) (λ _. refl) (λ _ h. (h.0, h.1.0, h.1.1)) (
-    on_operands 0x20 skip_strict (λ x. instr.Local (local.Jump x)) (λ _. refl) (λ _ h. h) (
-    on_operands 0x21 two_registers_and_skip (λ x. instr.Local (local.JumpEqual x.0 x.1.0 x.1.1)) (λ _. refl) (λ _ h. (h.0, h.1.0, h.1.1)) (
-    on_operands 0x22 two_registers_and_skip (λ x. instr.Local (local.JumpLess x.0 x.1.0 x.1.1)) (λ _. refl) (λ _ h. (h.0, h.1.0, h.1.1)) (
-    on_operands 0x23 turns_strict (λ x. instr.Local (local.Repeat x)) (λ _. refl) (λ _ h. h) (
-    on_operands 0x24 nothing_strict (λ _. instr.Local local.End) (λ _. refl) (λ _ h. h) (
-    on_operands 0x30 new_strict (λ x. instr.Data (on_data.New x.0 x.1.0 x.1.1)) (λ _. refl) (λ _ h. (h.0, h.1.0, h.1.1)) (
-    on_operands 0x31 two_registers (λ x. instr.Data (on_data.Store x.0 x.1)) (λ _. refl) (λ _ h. h) (
-    on_operands 0x32 two_registers (λ x. instr.Data (on_data.Get x.0 x.1)) (λ _. refl) (λ _ h. h) (
-    on_operands 0x33 three_registers_and_skip (λ x. instr.Data (on_data.Insert x.0 x.1.0 x.1.1.0 x.1.1.1)) (λ _. refl) (λ _ h. (h.0, h.1.0, h.1.1.0, h.1.1.1)) (
-    on_operands 0x34 three_registers_and_skip (λ x. instr.Data (on_data.Look x.0 x.1.0 x.1.1.0 x.1.1.1)) (λ _. refl) (λ _ h. (h.0, h.1.0, h.1.1.0, h.1.1.1)) (
-    on_operands 0x35 two_registers (λ x. instr.Data (on_data.Size x.0 x.1)) (λ _. refl) (λ _ h. h) (
-    on_operands 0x36 three_registers_and_skip (λ x. instr.Data (on_data.SubscriptAt x.0 x.1.0 x.1.1.0 x.1.1.1)) (λ _. refl) (λ _ h. (h.0, h.1.0, h.1.1.0, h.1.1.1)) (
-    on_operands 0x37 two_registers (λ x. instr.Data (on_data.CopyRead x.0 x.1)) (λ _. refl) (λ _ h. h) (
-    on_operands 0x38 two_registers (λ x. instr.Data (on_data.CopyWrite x.0 x.1)) (λ _. refl) (λ _ h. h) (
-    on_operands 0x39 register_strict (λ x. instr.Data (on_data.DropRead x)) (λ _. refl) (λ _ h. h) (
-    on_operands 0x3a register_strict (λ x. instr.Data (on_data.DropWrite x)) (λ _. refl) (λ _ h. h) (
-    on_operands 0x40 action_strict (λ x. instr.Rule x) (λ _. refl) (λ _ h. h) (
-    on_operands 0x41 action_strict (λ x. instr.Put x) (λ _. refl) (λ _ h. h) (
-    on_operands 0x42 nothing_strict (λ _. instr.Ret) (λ _. refl) (λ _ h. h) (
+    on_operands opcode.Int register_and_number (λ x. instr.Local (local.Int x.0 x.1)) (λ _. refl) (λ _ h. h) (
+    on_operands opcode.Text register_and_text (λ x. instr.Local (local.Text x.0 x.1)) (λ _. refl) (λ _ h. h) (
+    on_operands opcode.Copy two_registers (λ x. instr.Local (local.Copy x.0 x.1)) (λ _. refl) (λ _ h. h) (
+    on_operands opcode.Add three_registers_and_skip (λ x. instr.Local (local.Compute Add x.0 x.1.0 x.1.1.0 x.1.1.1)) (λ _. refl) (λ _ h. (h.0, h.1.0, h.1.1.0, h.1.1.1)) (
+    on_operands opcode.Subtract three_registers_and_skip (λ x. instr.Local (local.Compute Subtract x.0 x.1.0 x.1.1.0 x.1.1.1)) (λ _. refl) (λ _ h. (h.0, h.1.0, h.1.1.0, h.1.1.1)) (
+    on_operands opcode.Multiply three_registers_and_skip (λ x. instr.Local (local.Compute Multiply x.0 x.1.0 x.1.1.0 x.1.1.1)) (λ _. refl) (λ _ h. (h.0, h.1.0, h.1.1.0, h.1.1.1)) (
+    on_operands opcode.Divide three_registers_and_skip (λ x. instr.Local (local.Compute Divide x.0 x.1.0 x.1.1.0 x.1.1.1)) (λ _. refl) (λ _ h. (h.0, h.1.0, h.1.1.0, h.1.1.1)) (
+    on_operands opcode.Remainder three_registers_and_skip (λ x. instr.Local (local.Compute Remainder x.0 x.1.0 x.1.1.0 x.1.1.1)) (λ _. refl) (λ _ h. (h.0, h.1.0, h.1.1.0, h.1.1.1)) (
+    on_operands opcode.Concatenate three_registers_and_skip (λ x. instr.Local (local.Concatenate x.0 x.1.0 x.1.1.0 x.1.1.1)) (λ _. refl) (λ _ h. (h.0, h.1.0, h.1.1.0, h.1.1.1)) (
+    on_operands opcode.Length two_registers (λ x. instr.Local (local.Length x.0 x.1)) (λ _. refl) (λ _ h. h) (
+    on_operands opcode.Show two_registers (λ x. instr.Local (local.Show x.0 x.1)) (λ _. refl) (λ _ h. h) (
+    on_operands opcode.ReadInt two_registers_and_skip (λ x. instr.Local (local.ReadInt x.0 x.1.0 x.1.1)) (λ _. refl) (λ _ h. (h.0, h.1.0, h.1.1)) (
+    on_operands opcode.Jump skip_strict (λ x. instr.Local (local.Jump x)) (λ _. refl) (λ _ h. h) (
+    on_operands opcode.JumpEqual two_registers_and_skip (λ x. instr.Local (local.JumpEqual x.0 x.1.0 x.1.1)) (λ _. refl) (λ _ h. (h.0, h.1.0, h.1.1)) (
+    on_operands opcode.JumpLess two_registers_and_skip (λ x. instr.Local (local.JumpLess x.0 x.1.0 x.1.1)) (λ _. refl) (λ _ h. (h.0, h.1.0, h.1.1)) (
+    on_operands opcode.Repeat turns_strict (λ x. instr.Local (local.Repeat x)) (λ _. refl) (λ _ h. h) (
+    on_operands opcode.End nothing_strict (λ _. instr.Local local.End) (λ _. refl) (λ _ h. h) (
+    on_operands opcode.New new_strict (λ x. instr.Data (on_data.New x.0 x.1.0 x.1.1)) (λ x. new_spelled x.0 x.1.0 x.1.1) (λ _ h. (h.0, h.1.0, h.1.1)) (
+    on_operands opcode.Store two_registers (λ x. instr.Data (on_data.Store x.0 x.1)) (λ _. refl) (λ _ h. h) (
+    on_operands opcode.Get two_registers (λ x. instr.Data (on_data.Get x.0 x.1)) (λ _. refl) (λ _ h. h) (
+    on_operands opcode.Insert three_registers_and_skip (λ x. instr.Data (on_data.Insert x.0 x.1.0 x.1.1.0 x.1.1.1)) (λ _. refl) (λ _ h. (h.0, h.1.0, h.1.1.0, h.1.1.1)) (
+    on_operands opcode.Look three_registers_and_skip (λ x. instr.Data (on_data.Look x.0 x.1.0 x.1.1.0 x.1.1.1)) (λ _. refl) (λ _ h. (h.0, h.1.0, h.1.1.0, h.1.1.1)) (
+    on_operands opcode.Size two_registers (λ x. instr.Data (on_data.Size x.0 x.1)) (λ _. refl) (λ _ h. h) (
+    on_operands opcode.SubscriptAt three_registers_and_skip (λ x. instr.Data (on_data.SubscriptAt x.0 x.1.0 x.1.1.0 x.1.1.1)) (λ _. refl) (λ _ h. (h.0, h.1.0, h.1.1.0, h.1.1.1)) (
+    on_operands opcode.CopyRead two_registers (λ x. instr.Data (on_data.CopyRead x.0 x.1)) (λ _. refl) (λ _ h. h) (
+    on_operands opcode.CopyWrite two_registers (λ x. instr.Data (on_data.CopyWrite x.0 x.1)) (λ _. refl) (λ _ h. h) (
+    on_operands opcode.DropRead register_strict (λ x. instr.Data (on_data.DropRead x)) (λ _. refl) (λ _ h. h) (
+    on_operands opcode.DropWrite register_strict (λ x. instr.Data (on_data.DropWrite x)) (λ _. refl) (λ _ h. h) (
+    on_operands opcode.Rule action_strict (λ x. instr.Rule x) (action_spelled (code_of opcode.Rule)) (λ _ h. h) (
+    on_operands opcode.Put action_strict (λ x. instr.Put x) (action_spelled (code_of opcode.Put)) (λ _ h. h) (
+    on_operands opcode.Ret nothing_strict (λ _. instr.Ret) (λ _. refl) (λ _ h. h) (
     no_others)))))))))))))))))))))))))))))))
+
+abbrev IsReadAgain : Instr → List ℕ → List Item → Type 0
+IsReadAgain x rest items = instr_at (concat items ++ rest) ≡ Ok (x, rest)
 
 -- a line an instruction
 instr_again : (x : Instr) (rest : List ℕ) → IsInstr x → instr_at (concat (instr_items x) ++ rest) ≡ Ok (x, rest)
@@ -219,7 +240,8 @@ instr_again (instr.Local (local.JumpEqual left right skip)) rest h = as_is_again
 instr_again (instr.Local (local.JumpLess left right skip)) rest h = as_is_again two_registers_and_skip.format (λ x. instr.Local (local.JumpLess x.0 x.1.0 x.1.1)) (left, (right, skip)) rest (h.0, (h.1, h.2))
 instr_again (instr.Local (local.Repeat turns)) rest h = as_is_again turns_strict.format (λ x. instr.Local (local.Repeat x)) turns rest h
 instr_again (instr.Local local.End) rest h = refl
-instr_again (instr.Data (on_data.New write read ty)) rest h = as_is_again new_strict.format (λ x. instr.Data (on_data.New x.0 x.1.0 x.1.1)) (write, (read, ty)) rest (h.0, (h.1, h.2))
+instr_again (instr.Data (on_data.New write read ty)) rest h =
+    subst (IsReadAgain (instr.Data (on_data.New write read ty)) rest) (sym (new_spelled write read ty)) (as_is_again new_strict.format (λ x. instr.Data (on_data.New x.0 x.1.0 x.1.1)) (write, (read, ty)) rest (h.0, (h.1, h.2)))
 instr_again (instr.Data (on_data.Store datum from)) rest h = as_is_again two_registers.format (λ x. instr.Data (on_data.Store x.0 x.1)) (datum, from) rest h
 instr_again (instr.Data (on_data.Get to datum)) rest h = as_is_again two_registers.format (λ x. instr.Data (on_data.Get x.0 x.1)) (to, datum) rest h
 instr_again (instr.Data (on_data.Insert container subscript member skip)) rest h = as_is_again three_registers_and_skip.format (λ x. instr.Data (on_data.Insert x.0 x.1.0 x.1.1.0 x.1.1.1)) (container, (subscript, (member, skip))) rest (h.0, (h.1, (h.2, h.3)))
@@ -230,12 +252,12 @@ instr_again (instr.Data (on_data.CopyRead to from)) rest h = as_is_again two_reg
 instr_again (instr.Data (on_data.CopyWrite to from)) rest h = as_is_again two_registers.format (λ x. instr.Data (on_data.CopyWrite x.0 x.1)) (to, from) rest h
 instr_again (instr.Data (on_data.DropRead right)) rest h = as_is_again register_strict.format (λ x. instr.Data (on_data.DropRead x)) right rest h
 instr_again (instr.Data (on_data.DropWrite right)) rest h = as_is_again register_strict.format (λ x. instr.Data (on_data.DropWrite x)) right rest h
-instr_again (instr.Rule action) rest h = as_is_again action_strict.format (λ x. instr.Rule x) action rest h
-instr_again (instr.Put action) rest h = as_is_again action_strict.format (λ x. instr.Put x) action rest h
+instr_again (instr.Rule action) rest h = subst (IsReadAgain (instr.Rule action) rest) (sym (action_spelled (code_of opcode.Rule) action)) (as_is_again action_strict.format (λ x. instr.Rule x) action rest h)
+instr_again (instr.Put action) rest h = subst (IsReadAgain (instr.Put action) rest) (sym (action_spelled (code_of opcode.Put) action)) (as_is_again action_strict.format (λ x. instr.Put x) action rest h)
 instr_again instr.Ret rest h = refl
 
 -- behind a code that is known
-in_operands : (c : ℕ) → GoesOn (HasCode c) operand_items (operands_at c) IsInstr instr_items instr_at (concat (byte c ∷ []))
+in_operands : (c : ℕ) → GoesOn (HasCode c) behind_code (operands_at c) IsInstr instr_items instr_at (concat (byte c ∷ []))
 unfolding instr_at
 in_operands c = record { due = due_after (λ x. x) (λ x h. h.0) (byte c ∷ []) (λ x h. h.1); fails = λ rest d h. h }
 

@@ -7,8 +7,8 @@ use crate::fault::Stop;
 use crate::instr::Instr;
 use crate::items::*;
 use crate::many::many;
-use crate::operands::instr_of;
 use crate::procedure::Procedure;
+use crate::rows::instr_of;
 use std::alloc::Global;
 use tw_types::{DataType, Items, Mode, Param, Scalar};
 

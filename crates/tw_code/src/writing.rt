@@ -2,17 +2,18 @@
 
 ghost use Rattle.std.specs.Prelude.{◌≡◌, ◌++◌, ◌≤◌, length, OnOk, IfOk};
 ghost use Rattle.std.specs.List.{concat};
-ghost use Rattle.tw_code.specs.declared.instr.DataInstr.TheVariants as on_data;
-ghost use Rattle.tw_code.specs.declared.instr.LocalInstr.TheVariants as local;
-ghost use Rattle.tw_code.specs.format.Program.{IsAction, IsInstr, IsList, IsLocalInstr, IsProcedure, IsTarget};
-ghost use Rattle.tw_code.specs.format.Spelling.{kind_code, mode_code, scalar_code, operation_code, target_code, byte, wide, type_items, param_items, scalar_items, register_items, action_items, local_items, data_items, instr_items, counted_items, procedure_items, spelling};
+ghost use Rattle.tw_code.specs.format.Program.{IsInstr, IsList, IsOperand, IsProcedure, IsTarget};
+ghost use Rattle.tw_code.specs.format.Sink.{seen};
+ghost use Rattle.tw_code.specs.format.Spelling.{kind_code, mode_code, scalar_code, target_code, byte, wide, text_items, type_items, param_items, scalar_items, register_items, operand_items, instr_items, counted_items, procedure_items, spelling};
 
 use crate::fault::NoMemory;
-use crate::instr::{Action, Arithmetic, DataInstr, Instr, LocalInstr};
+use crate::instr::Instr;
+use crate::opcode::Opcode;
 use crate::procedure::Procedure;
 use crate::program::Program;
+use crate::sink::{Operand, Sink, put_instr};
 use std::alloc::{AllocError, Global};
-use tw_types::{DataType, Kind, Mode, Param, Scalar, Text};
+use tw_types::{DataType, Kind, Mode, Param, Scalar};
 
 fn code_of_kind(kind: Kind) -> u8
     ensures { result ≡ kind_code kind }
@@ -40,18 +41,6 @@ fn code_of_scalar(scalar: Scalar) -> u8
     match scalar {
         Scalar::Int => 1,
         Scalar::Text => 2,
-    }
-}
-
-fn code_of_operation(operation: Arithmetic) -> u8
-    ensures { result ≡ operation_code operation }
-{
-    match operation {
-        Arithmetic::Add => 0x10,
-        Arithmetic::Subtract => 0x11,
-        Arithmetic::Multiply => 0x12,
-        Arithmetic::Divide => 0x13,
-        Arithmetic::Remainder => 0x14,
     }
 }
 
@@ -88,107 +77,13 @@ fn put_param(out: &mut Vec<u8>, param: Param) -> Result<(), AllocError>
     put_type(out, param.ty)
 }
 
-fn put_int(out: &mut Vec<u8>, to: u8, value: i64) -> Result<(), AllocError>
-    ensures { OnOk result (out.new.items
-        ≡ out.old.items ++ concat (local_items (local.Int to value))) }
+fn put_literal(out: &mut Vec<u8>, text: &str) -> Result<(), AllocError>
+    requires { length text.now ≤ 4096 }
+    ensures { OnOk result (out.new.items ≡ out.old.items ++ concat (text_items text.now)) }
 {
-    out.push(0x01)?;
-    out.push(to)?;
-    out.extend_from_slice(&value.to_be_bytes())?;
-    Ok(())
-}
-
-/// These bytes, and then a number of two bytes.
-fn put_wide(out: &mut Vec<u8>, front: &[u8], number: u16) -> Result<(), AllocError>
-    ensures { OnOk result (out.new.items ≡ out.old.items ++ (front.now ++ wide number)) }
-{
-    out.extend_from_slice(front)?;
-    out.extend_from_slice(&number.to_be_bytes())
-}
-
-fn put_text(out: &mut Vec<u8>, to: u8, text: &Text) -> Result<(), AllocError>
-    ensures { OnOk result (out.new.items
-        ≡ out.old.items ++ concat (local_items (local.Text to text.now))) }
-{
-    let bytes = text.as_str().as_bytes();
-    put_wide(out, &[0x02, to], bytes.len() as u16)?;
+    let bytes = text.as_bytes();
+    out.extend_from_slice(&(bytes.len() as u16).to_be_bytes())?;
     out.extend_from_slice(bytes)
-}
-
-fn put_local(out: &mut Vec<u8>, instr: &LocalInstr) -> Result<(), AllocError>
-    requires { IsLocalInstr instr.now }
-    ensures { OnOk result (out.new.items ≡ out.old.items ++ concat (local_items instr.now)) }
-{
-    match instr {
-        LocalInstr::Int { to, value } => put_int(out, *to, *value),
-        LocalInstr::Text { to, text } => put_text(out, *to, text),
-        LocalInstr::Copy { to, from } => out.extend_from_slice(&[0x03, *to, *from]),
-        LocalInstr::Compute {
-            operation,
-            to,
-            left,
-            right,
-            skip,
-        } => {
-            let code = code_of_operation(*operation);
-            put_wide(out, &[code, *to, *left, *right], *skip)
-        }
-        LocalInstr::Concatenate {
-            to,
-            left,
-            right,
-            skip,
-        } => put_wide(out, &[0x18, *to, *left, *right], *skip),
-        LocalInstr::Length { to, from } => out.extend_from_slice(&[0x19, *to, *from]),
-        LocalInstr::Show { to, from } => out.extend_from_slice(&[0x1a, *to, *from]),
-        LocalInstr::ReadInt { to, from, skip } => put_wide(out, &[0x1b, *to, *from], *skip),
-        LocalInstr::Jump { skip } => put_wide(out, &[0x20], *skip),
-        LocalInstr::JumpEqual { left, right, skip } => put_wide(out, &[0x21, *left, *right], *skip),
-        LocalInstr::JumpLess { left, right, skip } => put_wide(out, &[0x22, *left, *right], *skip),
-        LocalInstr::Repeat { turns } => put_wide(out, &[0x23], *turns),
-        LocalInstr::End => out.extend_from_slice(&[0x24]),
-    }
-}
-
-fn put_new(out: &mut Vec<u8>, write: u8, read: u8, ty: DataType) -> Result<(), AllocError>
-    ensures { OnOk result (out.new.items
-        ≡ out.old.items ++ concat (data_items (on_data.New write read ty))) }
-{
-    out.extend_from_slice(&[0x30, write, read])?;
-    put_type(out, ty)
-}
-
-fn put_data(out: &mut Vec<u8>, instr: DataInstr) -> Result<(), AllocError>
-    ensures { OnOk result (out.new.items ≡ out.old.items ++ concat (data_items instr)) }
-{
-    match instr {
-        DataInstr::New { write, read, ty } => put_new(out, write, read, ty),
-        DataInstr::Store { datum, from } => out.extend_from_slice(&[0x31, datum, from]),
-        DataInstr::Get { to, datum } => out.extend_from_slice(&[0x32, to, datum]),
-        DataInstr::Insert {
-            container,
-            subscript,
-            member,
-            skip,
-        } => put_wide(out, &[0x33, container, subscript, member], skip),
-        DataInstr::Look {
-            member,
-            container,
-            subscript,
-            skip,
-        } => put_wide(out, &[0x34, member, container, subscript], skip),
-        DataInstr::Size { to, container } => out.extend_from_slice(&[0x35, to, container]),
-        DataInstr::SubscriptAt {
-            to,
-            container,
-            index,
-            skip,
-        } => put_wide(out, &[0x36, to, container, index], skip),
-        DataInstr::CopyRead { to, from } => out.extend_from_slice(&[0x37, to, from]),
-        DataInstr::CopyWrite { to, from } => out.extend_from_slice(&[0x38, to, from]),
-        DataInstr::DropRead { right } => out.extend_from_slice(&[0x39, right]),
-        DataInstr::DropWrite { right } => out.extend_from_slice(&[0x3a, right]),
-    }
 }
 
 fn put_args(out: &mut Vec<u8>, args: &[u8]) -> Result<(), AllocError>
@@ -201,28 +96,41 @@ fn put_args(out: &mut Vec<u8>, args: &[u8]) -> Result<(), AllocError>
     Ok(())
 }
 
-/// This code, and the operands of RULE and of PUT.
-fn put_action(out: &mut Vec<u8>, code: u8, action: &Action) -> Result<(), AllocError>
-    requires { IsAction action.now }
-    ensures { OnOk result (out.new.items ≡ out.old.items ++ (byte code ++ concat (action_items action.now))) }
+fn put_operand(out: &mut Vec<u8>, operand: &Operand<'_>) -> Result<(), AllocError>
+    requires { IsOperand (seen operand.now) }
+    ensures { OnOk result (out.new.items
+        ≡ out.old.items ++ concat (operand_items (seen operand.now))) }
 {
-    out.extend_from_slice(&[code, action.procedure])?;
-    out.extend_from_slice(&action.priority.to_be_bytes())?;
-    out.push(code_of_target(action.target))?;
-    put_args(out, action.args.as_slice())?;
-    Ok(())
+    match operand {
+        Operand::Value(byte) | Operand::Right(byte) | Operand::Callee(byte) => {
+            out.extend_from_slice(&[*byte])
+        }
+        Operand::Number(number) => out.extend_from_slice(&number.to_be_bytes()),
+        Operand::Turns(number) | Operand::Skip(number) => {
+            out.extend_from_slice(&number.to_be_bytes())
+        }
+        Operand::Literal(text) => put_literal(out, text),
+        Operand::TypeOf(ty) => put_type(out, *ty),
+        Operand::Target(target) => out.extend_from_slice(&[code_of_target(*target)]),
+        Operand::Args(args) => put_args(out, args),
+    }
 }
 
-fn put_instr(out: &mut Vec<u8>, instr: &Instr) -> Result<(), AllocError>
-    requires { IsInstr instr.now }
-    ensures { OnOk result (out.new.items ≡ out.old.items ++ concat (instr_items instr.now)) }
-{
-    match instr {
-        Instr::Local(instr) => put_local(out, instr),
-        Instr::Data(instr) => put_data(out, *instr),
-        Instr::Rule(action) => put_action(out, 0x40, action),
-        Instr::Put(action) => put_action(out, 0x41, action),
-        Instr::Ret => out.extend_from_slice(&[0x42]),
+/// Bytes: the opcode's code, and the operands behind it.
+impl Sink for Vec<u8> {
+    ghost use Rattle.std.specs.Prelude.{◌≡◌, ◌++◌, ◌∷◌};
+    ghost use Rattle.std.specs.List.{concat, flat_map};
+    ghost use Rattle.tw_code.specs.format.Spelling.{byte, operand_items};
+    ghost use Rattle.tw_code.specs.format.Table.{code_of};
+
+    ghost puts = { λ s o operands t. t.items ≡ s.items ++ concat (byte (code_of o) ∷ flat_map operand_items operands) };
+
+    fn put(&mut self, opcode: Opcode, operands: &[Operand<'_>]) -> Result<(), AllocError> {
+        self.push(opcode.code())?;
+        for operand in operands {
+            put_operand(self, operand)?;
+        }
+        Ok(())
     }
 }
 

@@ -1,0 +1,146 @@
+//! Instructions from bytes, a row each.
+
+ghost use Rattle.std.specs.Prelude.{◌≡◌};
+ghost use Rattle.tw_code.specs.declared.instr.LocalInstr.TheVariants as local;
+ghost use Rattle.tw_code.specs.format.Reading.{Gives, action_at, as_is, instr_at, number_at, operands_at, register_at, skip_at, text_at, three_registers_and_skip_at, type_at, wide_at};
+ghost use Rattle.tw_code.specs.format.Table.{code_of};
+
+use crate::actions::action_of;
+use crate::fault::{FaultNo, Stop};
+use crate::instr::{Action, Arithmetic, DataInstr, Instr, LocalInstr};
+use crate::items::*;
+use crate::opcode::{Opcode, opcode_of};
+use crate::texts::text_of;
+use std::alloc::Global;
+use tw_types::{DataType, Text};
+
+fn register<'a>(bytes: &mut &'a [u8]) -> Result<u8, Stop>
+    ensures { Gives (λ x. (x, bytes.new.now)) result (register_at bytes.old.now) }
+{
+    let (register, rest) = register_of(bytes)?;
+    *bytes = rest;
+    Ok(register)
+}
+
+fn skip<'a>(bytes: &mut &'a [u8]) -> Result<u16, Stop>
+    ensures { Gives (λ x. (x, bytes.new.now)) result (skip_at bytes.old.now) }
+{
+    let (skip, rest) = wide_of(0, u16::MAX, bytes)?;
+    *bytes = rest;
+    Ok(skip)
+}
+
+fn number<'a>(bytes: &mut &'a [u8]) -> Result<i64, Stop>
+    ensures { Gives (λ x. (x, bytes.new.now)) result (number_at bytes.old.now) }
+{
+    let (number, rest) = number_of(bytes)?;
+    *bytes = rest;
+    Ok(number)
+}
+
+fn turns<'a>(bytes: &mut &'a [u8]) -> Result<u16, Stop>
+    ensures { Gives (λ x. (x, bytes.new.now)) result (wide_at 1 1000 bytes.old.now) }
+{
+    let (turns, rest) = wide_of(1, LocalInstr::MAX_TURNS, bytes)?;
+    *bytes = rest;
+    Ok(turns)
+}
+
+fn text<'a>(alloc: Global, bytes: &mut &'a [u8]) -> Result<Text, Stop>
+    ensures { Gives (λ x. (x, bytes.new.now)) result (text_at bytes.old.now) }
+{
+    let (text, rest) = text_of(alloc, bytes)?;
+    *bytes = rest;
+    Ok(text)
+}
+
+fn data_type<'a>(bytes: &mut &'a [u8]) -> Result<DataType, Stop>
+    ensures { Gives (λ x. (x, bytes.new.now)) result (type_at 3 bytes.old.now) }
+{
+    match type_of(DataType::MAX_DEPTH, bytes) {
+        Ok((ty, rest)) => {
+            *bytes = rest;
+            Ok(ty)
+        }
+        Err(e) => Err(e),
+    }
+}
+
+fn action<'a>(alloc: Global, bytes: &mut &'a [u8]) -> Result<Action, Stop>
+    ensures { Gives (λ x. (x, bytes.new.now)) result (action_at bytes.old.now) }
+{
+    let (action, rest) = action_of(alloc, bytes)?;
+    *bytes = rest;
+    Ok(action)
+}
+
+fn compute<'a>(operation: Arithmetic, bytes: &mut &'a [u8]) -> Result<LocalInstr, Stop>
+    ensures { Gives (λ x. (x, bytes.new.now)) result
+        (as_is (λ x. local.Compute operation x.0 x.1.0 x.1.1.0 x.1.1.1) three_registers_and_skip_at bytes.old.now) }
+{
+    Ok(LocalInstr::Compute {
+        operation,
+        to: register(bytes)?,
+        left: register(bytes)?,
+        right: register(bytes)?,
+        skip: skip(bytes)?,
+    })
+}
+
+/// The operands of an instruction, a row each.
+#[rattlefmt::skip]
+fn operands_of<'a>(alloc: Global, opcode: Opcode, bytes: &mut &'a [u8]) -> Result<Instr, Stop>
+    ensures { Gives (λ x. (x, bytes.new.now)) result (operands_at (code_of opcode) bytes.old.now) }
+{
+    match opcode {
+        Opcode::Int => Ok(Instr::Local(LocalInstr::Int { to: register(bytes)?, value: number(bytes)? })),
+        Opcode::Text => Ok(Instr::Local(LocalInstr::Text { to: register(bytes)?, text: text(alloc, bytes)? })),
+        Opcode::Copy => Ok(Instr::Local(LocalInstr::Copy { to: register(bytes)?, from: register(bytes)? })),
+        Opcode::Add => Ok(Instr::Local(compute(Arithmetic::Add, bytes)?)),
+        Opcode::Subtract => Ok(Instr::Local(compute(Arithmetic::Subtract, bytes)?)),
+        Opcode::Multiply => Ok(Instr::Local(compute(Arithmetic::Multiply, bytes)?)),
+        Opcode::Divide => Ok(Instr::Local(compute(Arithmetic::Divide, bytes)?)),
+        Opcode::Remainder => Ok(Instr::Local(compute(Arithmetic::Remainder, bytes)?)),
+        Opcode::Concatenate => Ok(Instr::Local(LocalInstr::Concatenate { to: register(bytes)?, left: register(bytes)?, right: register(bytes)?, skip: skip(bytes)? })),
+        Opcode::Length => Ok(Instr::Local(LocalInstr::Length { to: register(bytes)?, from: register(bytes)? })),
+        Opcode::Show => Ok(Instr::Local(LocalInstr::Show { to: register(bytes)?, from: register(bytes)? })),
+        Opcode::ReadInt => Ok(Instr::Local(LocalInstr::ReadInt { to: register(bytes)?, from: register(bytes)?, skip: skip(bytes)? })),
+        Opcode::Jump => Ok(Instr::Local(LocalInstr::Jump { skip: skip(bytes)? })),
+        Opcode::JumpEqual => Ok(Instr::Local(LocalInstr::JumpEqual { left: register(bytes)?, right: register(bytes)?, skip: skip(bytes)? })),
+        Opcode::JumpLess => Ok(Instr::Local(LocalInstr::JumpLess { left: register(bytes)?, right: register(bytes)?, skip: skip(bytes)? })),
+        Opcode::Repeat => Ok(Instr::Local(LocalInstr::Repeat { turns: turns(bytes)? })),
+        Opcode::End => Ok(Instr::Local(LocalInstr::End)),
+        Opcode::New => Ok(Instr::Data(DataInstr::New { write: register(bytes)?, read: register(bytes)?, ty: data_type(bytes)? })),
+        Opcode::Store => Ok(Instr::Data(DataInstr::Store { datum: register(bytes)?, from: register(bytes)? })),
+        Opcode::Get => Ok(Instr::Data(DataInstr::Get { to: register(bytes)?, datum: register(bytes)? })),
+        Opcode::Insert => Ok(Instr::Data(DataInstr::Insert { container: register(bytes)?, subscript: register(bytes)?, member: register(bytes)?, skip: skip(bytes)? })),
+        Opcode::Look => Ok(Instr::Data(DataInstr::Look { member: register(bytes)?, container: register(bytes)?, subscript: register(bytes)?, skip: skip(bytes)? })),
+        Opcode::Size => Ok(Instr::Data(DataInstr::Size { to: register(bytes)?, container: register(bytes)? })),
+        Opcode::SubscriptAt => Ok(Instr::Data(DataInstr::SubscriptAt { to: register(bytes)?, container: register(bytes)?, index: register(bytes)?, skip: skip(bytes)? })),
+        Opcode::CopyRead => Ok(Instr::Data(DataInstr::CopyRead { to: register(bytes)?, from: register(bytes)? })),
+        Opcode::CopyWrite => Ok(Instr::Data(DataInstr::CopyWrite { to: register(bytes)?, from: register(bytes)? })),
+        Opcode::DropRead => Ok(Instr::Data(DataInstr::DropRead { right: register(bytes)? })),
+        Opcode::DropWrite => Ok(Instr::Data(DataInstr::DropWrite { right: register(bytes)? })),
+        Opcode::Rule => Ok(Instr::Rule(action(alloc, bytes)?)),
+        Opcode::Put => Ok(Instr::Put(action(alloc, bytes)?)),
+        Opcode::Ret => Ok(Instr::Ret),
+    }
+}
+
+/// An instruction: its code, and behind it its operands. Only a text and a list of arguments take memory.
+#[tactic(auto, unfolding(crate::specs::format::Reading::instr_at))]
+pub fn instr_of(alloc: Global, bytes: &[u8]) -> Result<(Instr, &[u8]), Stop>
+    ensures { Gives (λ x. (x.0, x.1.now)) result (instr_at bytes.now) }
+{
+    match bytes {
+        [] => Err(Stop::missing()),
+        [code, rest @ ..] => match opcode_of(*code) {
+            Some(opcode) => {
+                let mut left = rest;
+                let instr = operands_of(alloc, opcode, &mut left)?;
+                Ok((instr, left))
+            }
+            None => Err(Stop::wrong(FaultNo::Unknown, bytes)),
+        },
+    }
+}

@@ -1,0 +1,120 @@
+//! The table of instructions, for every writer: each instruction's opcode and operands, handed to a sink.
+
+ghost use Rattle.std.specs.Prelude.{◌≡◌, List, OnOk, map};
+ghost use Rattle.tw_code.specs.declared.opcode.Opcode.{Opcode};
+ghost use Rattle.tw_code.specs.format.Program.{IsAction, IsDataInstr, IsInstr, IsLocalInstr};
+ghost use Rattle.tw_code.specs.format.Sink.{AreOperands, seen};
+ghost use Rattle.tw_code.specs.format.Table.{Operand, action_operands, data_row, local_row, opcode_of_operation, row};
+
+use crate::instr::{Action, Arithmetic, DataInstr, Instr, LocalInstr};
+use crate::opcode::Opcode;
+use std::alloc::AllocError;
+use tw_types::DataType;
+
+/// What follows an instruction's code or name.
+#[derive(Drop)]
+pub enum Operand<'a> {
+    /// A value register.
+    Value(u8),
+    /// A right register.
+    Right(u8),
+    Number(i64),
+    Turns(u16),
+    Literal(&'a str),
+    TypeOf(DataType),
+    Skip(u16),
+    /// The number of a procedure.
+    Callee(u8),
+    /// The number of an actor, or any.
+    Target(Option<u8>),
+    Args(&'a [u8]),
+}
+
+use Operand::{Args, Callee, Literal, Number, Right, Skip, Target, Turns, TypeOf, Value};
+
+/// A format, which puts instructions behind what it has.
+pub trait Sink {
+    ghost puts: { Self → Opcode → List Operand → Self → Type 0 };
+
+    fn put(&mut self, opcode: Opcode, operands: &[Operand<'_>]) -> Result<(), AllocError>
+        requires { AreOperands operands.now }
+        ensures { OnOk result (puts self.old opcode (map seen operands.now) self.new) };
+}
+
+fn opcode_of_operation(operation: Arithmetic) -> Opcode
+    ensures { result ≡ opcode_of_operation operation }
+{
+    match operation {
+        Arithmetic::Add => Opcode::Add,
+        Arithmetic::Subtract => Opcode::Subtract,
+        Arithmetic::Multiply => Opcode::Multiply,
+        Arithmetic::Divide => Opcode::Divide,
+        Arithmetic::Remainder => Opcode::Remainder,
+    }
+}
+
+/// A row an instruction: its opcode and its operands.
+#[rattlefmt::skip]
+fn put_local<S: Sink>(sink: &mut S, instr: &LocalInstr) -> Result<(), AllocError>
+    requires { IsLocalInstr instr.now }
+    ensures { OnOk result (S.puts sink.old (local_row instr.now).0 (local_row instr.now).1 sink.new) }
+{
+    match instr {
+        LocalInstr::Int { to, value } => sink.put(Opcode::Int, &[Value(*to), Number(*value)]),
+        LocalInstr::Text { to, text } => sink.put(Opcode::Text, &[Value(*to), Literal(text.as_str())]),
+        LocalInstr::Copy { to, from } => sink.put(Opcode::Copy, &[Value(*to), Value(*from)]),
+        LocalInstr::Compute { operation, to, left, right, skip } => sink.put(opcode_of_operation(*operation), &[Value(*to), Value(*left), Value(*right), Skip(*skip)]),
+        LocalInstr::Concatenate { to, left, right, skip } => sink.put(Opcode::Concatenate, &[Value(*to), Value(*left), Value(*right), Skip(*skip)]),
+        LocalInstr::Length { to, from } => sink.put(Opcode::Length, &[Value(*to), Value(*from)]),
+        LocalInstr::Show { to, from } => sink.put(Opcode::Show, &[Value(*to), Value(*from)]),
+        LocalInstr::ReadInt { to, from, skip } => sink.put(Opcode::ReadInt, &[Value(*to), Value(*from), Skip(*skip)]),
+        LocalInstr::Jump { skip } => sink.put(Opcode::Jump, &[Skip(*skip)]),
+        LocalInstr::JumpEqual { left, right, skip } => sink.put(Opcode::JumpEqual, &[Value(*left), Value(*right), Skip(*skip)]),
+        LocalInstr::JumpLess { left, right, skip } => sink.put(Opcode::JumpLess, &[Value(*left), Value(*right), Skip(*skip)]),
+        LocalInstr::Repeat { turns } => sink.put(Opcode::Repeat, &[Turns(*turns)]),
+        LocalInstr::End => sink.put(Opcode::End, &[]),
+    }
+}
+
+/// A row an instruction: its opcode and its operands.
+#[rattlefmt::skip]
+fn put_data<S: Sink>(sink: &mut S, instr: DataInstr) -> Result<(), AllocError>
+    requires { IsDataInstr instr }
+    ensures { OnOk result (S.puts sink.old (data_row instr).0 (data_row instr).1 sink.new) }
+{
+    match instr {
+        DataInstr::New { write, read, ty } => sink.put(Opcode::New, &[Right(write), Right(read), TypeOf(ty)]),
+        DataInstr::Store { datum, from } => sink.put(Opcode::Store, &[Right(datum), Value(from)]),
+        DataInstr::Get { to, datum } => sink.put(Opcode::Get, &[Value(to), Right(datum)]),
+        DataInstr::Insert { container, subscript, member, skip } => sink.put(Opcode::Insert, &[Right(container), Value(subscript), Right(member), Skip(skip)]),
+        DataInstr::Look { member, container, subscript, skip } => sink.put(Opcode::Look, &[Right(member), Right(container), Value(subscript), Skip(skip)]),
+        DataInstr::Size { to, container } => sink.put(Opcode::Size, &[Value(to), Right(container)]),
+        DataInstr::SubscriptAt { to, container, index, skip } => sink.put(Opcode::SubscriptAt, &[Value(to), Right(container), Value(index), Skip(skip)]),
+        DataInstr::CopyRead { to, from } => sink.put(Opcode::CopyRead, &[Right(to), Right(from)]),
+        DataInstr::CopyWrite { to, from } => sink.put(Opcode::CopyWrite, &[Right(to), Right(from)]),
+        DataInstr::DropRead { right } => sink.put(Opcode::DropRead, &[Right(right)]),
+        DataInstr::DropWrite { right } => sink.put(Opcode::DropWrite, &[Right(right)]),
+    }
+}
+
+#[rattlefmt::skip]
+fn put_action<S: Sink>(sink: &mut S, opcode: Opcode, action: &Action) -> Result<(), AllocError>
+    requires { IsAction action.now }
+    ensures { OnOk result (S.puts sink.old opcode (action_operands action.now) sink.new) }
+{
+    sink.put(opcode, &[Callee(action.procedure), Number(action.priority), Target(action.target), Args(action.args.as_slice())])
+}
+
+/// Puts an instruction: its opcode and its operands.
+pub fn put_instr<S: Sink>(sink: &mut S, instr: &Instr) -> Result<(), AllocError>
+    requires { IsInstr instr.now }
+    ensures { OnOk result (S.puts sink.old (row instr.now).0 (row instr.now).1 sink.new) }
+{
+    match instr {
+        Instr::Local(instr) => put_local(sink, instr),
+        Instr::Data(instr) => put_data(sink, *instr),
+        Instr::Rule(action) => put_action(sink, Opcode::Rule, action),
+        Instr::Put(action) => put_action(sink, Opcode::Put, action),
+        Instr::Ret => sink.put(Opcode::Ret, &[]),
+    }
+}
