@@ -8,7 +8,7 @@ use Rattle.tw_asm.proofs.Names.{name_decide}
 use Rattle.tw_asm.proofs.Table.{IsMade, made, named, named_back, parts_are}
 use Rattle.tw_asm.specs.Parts.{Part, Name, instr_parts}
 use Rattle.tw_asm.specs.Statement.{IsInstrWord, IsLabelWord, IsName}
-use Rattle.tw_asm.specs.declared.opcode.Opcode.{Opcode}
+use Rattle.tw_code.specs.declared.opcode.Opcode.{Opcode}
 use Rattle.tw_asm.specs.Names.{opcode_of, word_of}
 use Rattle.tw_asm.specs.reading.Lines.{Content, Line, LineContent, Operand, args, goal, instr_of, line_of, literal, more, natural, nothing, number, one, right, target, type, value}
 use Rattle.tw_asm.specs.reading.Operands.{further, is_name}

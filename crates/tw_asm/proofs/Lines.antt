@@ -1,15 +1,15 @@
 -- Lines as they are written from left to right.
-use Rattle.std.proofs.Common.{arith, ◌≡◌, ℕ, ◌+◌, ◌<◌, ◌≤◌, suc, List, [], ◌∷◌, ◌++◌, length, map, take, get_or, codes, Option, Some, None, refl, sym, ap, subst, ◌∙◌, append_assoc, append-nil}
+use Rattle.std.proofs.Common.{arith, ◌≡◌, ℕ, ◌+◌, ◌<◌, ◌≤◌, suc, List, [], ◌∷◌, ◌++◌, length, map, take, get_or, codes, refl, sym, ap, ◌∙◌, append_assoc, append-nil}
 use Rattle.std.specs.Prelude.{OnOk, decimal, Result, Ok, Err}
-use Rattle.std.specs.Fmt.{signed_decimal}
 use Rattle.std.specs.List.{flat_map, join_with_byte}
 use Rattle.std.proofs.Math.Seq.{take-suc}
 use Rattle.std.proofs.lemmas.List.{take_all}
 use Rattle.std.proofs.lemmas.Grind.{flat_map-append}
-use Rattle.tw_code.specs.declared.instr.Action.{Action}
-use Rattle.tw_asm.specs.Parts.{Natural, Number, Target, action_parts}
-use Rattle.tw_asm.specs.words.Lines.{behind, call_words, spaced}
-use Rattle.tw_asm.specs.Written.{goal_word, part_words}
+use Rattle.tw_code.specs.declared.sink.Operand as operands
+use Rattle.tw_code.specs.format.Sink.{seen}
+use Rattle.tw_asm.specs.Parts.{Part, Natural, operand_parts}
+use Rattle.tw_asm.specs.words.Lines.{behind, operand_words, spaced}
+use Rattle.tw_asm.specs.Written.{part_words}
 
 pub line_is : (word : List ℕ) (words : List (List ℕ)) → join_with_byte 32 (word ∷ words) ≡ word ++ behind words
 line_is word [] = sym (append-nil word)
@@ -54,15 +54,6 @@ module _ {X : Type 0} (each : X → List (List ℕ)) (xs : List X) (i : ℕ) whe
       ∙ append_assoc old (join_with_byte 32 (word ∷ front ++ flat_map each xs)) (codes "\n")
   wrote_line (Err e) old word front out new all before after = after
 
--- arguments, as they stand in another list that is the same
-abbrev pub arg_words : ℕ → List (List ℕ)
-arg_words arg = decimal arg ∷ []
-
-pub wrote_arg : (args listed : List ℕ) (i d : ℕ) (there out new : List ℕ) → listed ≡ args → i < length listed → out ≡ there ++ behind (flat_map arg_words (take i args)) → new ≡ out ++ behind (arg_words (get_or listed i d))
-    → new ≡ there ++ behind (flat_map arg_words (take (i + 1) args))
-wrote_arg args listed i d there out new is inside before after =
-    wrote arg_words args i d there out new (subst (λ (xs : List ℕ). i < length xs) is inside) before (after ∙ ap (λ (xs : List ℕ). out ++ behind (arg_words (get_or xs i d))) is)
-
 -- parts of parts
 pub flat_twice : {X Y Z : Type 0} (f : Y → List Z) (g : X → List Y) (xs : List X) → flat_map (λ x. flat_map f (g x)) xs ≡ flat_map f (flat_map g xs)
 flat_twice f g [] = refl
@@ -72,21 +63,14 @@ pub flat_mapped : {X Y Z : Type 0} (f : Y → List Z) (g : X → Y) (xs : List X
 flat_mapped f g [] = refl
 flat_mapped f g (x ∷ xs) = ap (λ zs. f (g x) ++ zs) (flat_mapped f g xs)
 
--- the words of an action
-pub action_line : (action : Action) → call_words action ++ flat_map (λ arg. decimal arg ∷ []) action.args ≡ flat_map (part_words (goal_word None)) (action_parts action)
-action_line action =
-    ap (λ (ws : List (List ℕ)). call_words action ++ ws) (flat_mapped (part_words (goal_word None)) Natural action.args)
-    ∙ sym (flat_map-append (part_words (goal_word None)) (Natural action.procedure ∷ Number action.priority ∷ Target action.target ∷ []) (map Natural action.args))
+-- a part alone
+pub one_part : {X Y : Type 0} (f : X → List Y) (x : X) → flat_map f (x ∷ []) ≡ f x
+one_part f x = append-nil (f x)
 
--- no goal stands in them
-pub action_goals : (f g : ℕ → List ℕ) (action : Action) → flat_map (part_words f) (action_parts action) ≡ flat_map (part_words g) (action_parts action)
-action_goals f g action = by action.target
-  where
-    args : (all : List ℕ) → flat_map (part_words f) (map Natural all) ≡ flat_map (part_words g) (map Natural all)
-    args [] = refl
-    args (arg ∷ all) = ap (λ (ws : List (List ℕ)). decimal arg ∷ ws) (args all)
+-- the words of arguments
+pub arg_words : (skip_word : ℕ → List ℕ) (args : List ℕ) → flat_map (λ arg. decimal arg ∷ []) args ≡ flat_map (part_words skip_word) (map Natural args)
+arg_words skip_word args = flat_mapped (part_words skip_word) Natural args
 
-    by : (target : Option ℕ) → flat_map (part_words f) (Natural action.procedure ∷ Number action.priority ∷ Target target ∷ map Natural action.args)
-        ≡ flat_map (part_words g) (Natural action.procedure ∷ Number action.priority ∷ Target target ∷ map Natural action.args)
-    by None = ap (λ (ws : List (List ℕ)). decimal action.procedure ∷ signed_decimal action.priority ∷ codes "any" ∷ ws) (args action.args)
-    by (Some number) = ap (λ (ws : List (List ℕ)). decimal action.procedure ∷ signed_decimal action.priority ∷ decimal number ∷ ws) (args action.args)
+-- the words of the operands that the code hands over, and those of the table's
+pub row_words : (skip_word : ℕ → List ℕ) (given : List operands.Operand) → flat_map (λ o. operand_words skip_word (seen o)) given ≡ flat_map (part_words skip_word) (flat_map operand_parts (map seen given))
+row_words skip_word given = flat_twice (part_words skip_word) (λ o. operand_parts (seen o)) given ∙ ap (λ (ps : List Part). flat_map (part_words skip_word) ps) (flat_mapped operand_parts seen given)

@@ -1,6 +1,6 @@
 -- The table of instructions once more, row by row: which sorts of parts follow a name, and which instruction they make. So
 -- what holds of each instruction's parts is gone through once, in `row`.
-use Rattle.std.proofs.Common.{◌≡◌, ◌==◌, ◌⊎◌, inl, inr, ℕ, zero, suc, ℤ, pos, Bool, true, false, List, [], ◌∷◌, map, codes, Option, None, refl, sym, ap, ◌∙◌, eq-eqb}
+use Rattle.std.proofs.Common.{◌≡◌, ◌==◌, ◌⊎◌, inl, inr, ℕ, zero, suc, ℤ, pos, Bool, true, false, List, [], ◌∷◌, ◌++◌, map, codes, Option, None, refl, sym, ap, ◌∙◌, eq-eqb}
 use Rattle.std.specs.Prelude.{◌&&◌, if◌then◌else◌}
 use Rattle.std.proofs.lemmas.Bool.{eqb-true}
 use Rattle.tw_code.specs.declared.instr.Action.{Action}
@@ -215,21 +215,21 @@ pub record IsRow (i : Instr) : Type 0 where
   pub reskipped : (skip : ℕ) → instr_parts (with_skip skip i) ≡ map (reskip skip) (instr_parts i)
   pub last : skips_last (instr_parts i) ≡ true
 
--- ---- arguments
+-- ---- arguments, the last operand
 
-args_sorts : (args : List ℕ) → have_sorts [] (map Natural args) ≡ true
+args_sorts : (args : List ℕ) → have_sorts [] (map Natural args ++ []) ≡ true
 args_sorts [] = refl
 args_sorts (arg ∷ args) = args_sorts args
 
-args_made : (args : List ℕ) → map size (map Natural args) ≡ args
+args_made : (args : List ℕ) → map size (map Natural args ++ []) ≡ args
 args_made [] = refl
 args_made (arg ∷ args) = ap (λ (xs : List ℕ). arg ∷ xs) (args_made args)
 
-args_reskipped : (skip : ℕ) (args : List ℕ) → map Natural args ≡ map (reskip skip) (map Natural args)
+args_reskipped : (skip : ℕ) (args : List ℕ) → map Natural args ++ [] ≡ map (reskip skip) (map Natural args ++ [])
 args_reskipped skip [] = refl
 args_reskipped skip (arg ∷ args) = ap (λ (ps : List Part). Natural arg ∷ ps) (args_reskipped skip args)
 
-args_last : (args : List ℕ) → skips_last (map Natural args) ≡ true
+args_last : (args : List ℕ) → skips_last (map Natural args ++ []) ≡ true
 args_last [] = refl
 args_last (arg ∷ args) = args_last args
 

@@ -16,7 +16,7 @@ use Rattle.tw_asm.proofs.Table.{made, named, parts_are}
 use Rattle.tw_asm.specs.Parts.{Part, Name, instr_parts, kind_word, param_parts, register_part, scalar_word}
 use Rattle.tw_asm.specs.Seen.{NoName}
 use Rattle.tw_asm.specs.Statement.{AnyName, AnyShortName, Code, Goals, HasForm, Head, IsInLimits, IsName, Label, Registers, SpellParts, Spells, Statement, statement_parts}
-use Rattle.tw_asm.specs.declared.opcode.Opcode.{Opcode}
+use Rattle.tw_code.specs.declared.opcode.Opcode.{Opcode}
 use Rattle.tw_asm.specs.declared.refusal.Flaw.{Flaw}
 use Rattle.tw_asm.specs.declared.refusal.Flaw.TheVariants.{Form, Limit}
 use Rattle.tw_asm.specs.Names.{opcode_of, word_of}

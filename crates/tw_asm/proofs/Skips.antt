@@ -1,5 +1,5 @@
 -- The skips of instructions.
-use Rattle.std.proofs.Common.{◌≡◌, ℕ, List, [], ◌∷◌, map, None, refl, sym, ap, ◌∙◌}
+use Rattle.std.proofs.Common.{◌≡◌, ℕ, List, [], ◌∷◌, ◌++◌, map, None, refl, sym, ap, ◌∙◌}
 use Rattle.tw_code.specs.accepting.Flow.{data_flow, flow_of, local_flow}
 use Rattle.tw_code.specs.declared.flow.Flow.{Flow}
 use Rattle.tw_code.specs.declared.instr.DataInstr.{DataInstr}
@@ -9,17 +9,17 @@ use Rattle.tw_code.specs.declared.instr.Instr.TheVariants as instr
 use Rattle.tw_code.specs.declared.instr.LocalInstr.{LocalInstr}
 use Rattle.tw_code.specs.declared.instr.LocalInstr.TheVariants as local
 use Rattle.tw_asm.specs.words.Skips.{skip_in}
-use Rattle.tw_asm.specs.Parts.{Natural, data_parts, local_parts, skip_among, skip_of}
+use Rattle.tw_asm.specs.Parts.{Natural, skip_among, skip_of}
 
-args_without : (args : List ℕ) → skip_among (map Natural args) ≡ None
+args_without : (args : List ℕ) → skip_among (map Natural args ++ []) ≡ None
 args_without [] = refl
 args_without (arg ∷ args) = args_without args
 
-local_skip : (i : LocalInstr) → skip_among (local_parts i) ≡ skip_in (local_flow i)
+local_skip : (i : LocalInstr) → skip_of (instr.Local i) ≡ skip_in (local_flow i)
 local_skip (local.Int to value) = refl
 local_skip i = refl
 
-data_skip : (i : DataInstr) → skip_among (data_parts i) ≡ skip_in (data_flow i)
+data_skip : (i : DataInstr) → skip_of (instr.Data i) ≡ skip_in (data_flow i)
 data_skip (on_data.New write read ty) = refl
 data_skip i = refl
 

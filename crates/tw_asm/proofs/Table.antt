@@ -1,5 +1,5 @@
 -- The table of instructions, as it is read and as it is defined.
-use Rattle.std.proofs.Common.{◌≡◌, ℕ, Bool, true, false, cond, List, [], ◌∷◌, Option, Some, None, refl, sym, ap, ◌∙◌}
+use Rattle.std.proofs.Common.{◌≡◌, ℕ, Bool, true, false, cond, List, [], ◌∷◌, append-nil, map, Option, Some, None, refl, sym, ap, ◌∙◌}
 use Rattle.std.specs.List.{find}
 use Rattle.std.specs.Str.{bytes_eq}
 use Rattle.std.proofs.lemmas.Slice.Eq.{bytes_eq-Decides}
@@ -10,9 +10,9 @@ use Rattle.tw_code.specs.declared.instr.Instr.TheVariants as instr
 use Rattle.tw_code.specs.declared.instr.LocalInstr.TheVariants as local
 use Rattle.tw_code.specs.format.Program.{IsInstr}
 use Rattle.tw_asm.proofs.Lined.{MayParts, parts_of}
-use Rattle.tw_asm.specs.Parts.{Name, instr_parts}
-use Rattle.tw_asm.specs.declared.opcode.Opcode.{Opcode}
-use Rattle.tw_asm.specs.declared.opcode.Opcode.TheVariants as op
+use Rattle.tw_asm.specs.Parts.{Part, Name, Natural, Number, Target, instr_parts}
+use Rattle.tw_code.specs.declared.opcode.Opcode.{Opcode}
+use Rattle.tw_code.specs.declared.opcode.Opcode.TheVariants as op
 use Rattle.tw_asm.specs.Names.{opcode_of, opcodes, word_of}
 use Rattle.tw_asm.specs.reading.Lines.{LineContent, before_colon, instr_of, line_of}
 use Rattle.tw_asm.specs.reading.Operands.{further}
@@ -25,7 +25,11 @@ pub made : (i : Instr) → IsMade i
 made (instr.Local (local.Int to value)) = (op.Int, (to, value), refl)
 made (instr.Local (local.Text to text)) = (op.Text, (to, text), refl)
 made (instr.Local (local.Copy to from)) = (op.Copy, (to, from), refl)
-made (instr.Local (local.Compute operation to left right skip)) = (op.Compute operation, (to, (left, (right, further skip))), refl)
+made (instr.Local (local.Compute Add to left right skip)) = (op.Add, (to, (left, (right, further skip))), refl)
+made (instr.Local (local.Compute Subtract to left right skip)) = (op.Subtract, (to, (left, (right, further skip))), refl)
+made (instr.Local (local.Compute Multiply to left right skip)) = (op.Multiply, (to, (left, (right, further skip))), refl)
+made (instr.Local (local.Compute Divide to left right skip)) = (op.Divide, (to, (left, (right, further skip))), refl)
+made (instr.Local (local.Compute Remainder to left right skip)) = (op.Remainder, (to, (left, (right, further skip))), refl)
 made (instr.Local (local.Concatenate to left right skip)) = (op.Concatenate, (to, (left, (right, further skip))), refl)
 made (instr.Local (local.Length to from)) = (op.Length, (to, from), refl)
 made (instr.Local (local.Show to from)) = (op.Show, (to, from), refl)
@@ -51,11 +55,16 @@ made (instr.Put action) = (op.Put, (action.procedure, (action.priority, (action.
 made instr.Ret = (op.Ret, tt, refl)
 
 pub parts_are : (o : Opcode) (x : LineContent (line_of o)) → instr_parts (instr_of o x) ≡ Name (word_of o) ∷ parts_of (line_of o) x
-parts_are op.Int x = refl
+parts_are op.Rule x = ap (λ (ps : List Part). Name (word_of op.Rule) ∷ Natural x.0 ∷ Number x.1.0 ∷ Target x.1.1.0 ∷ ps) (append-nil (map Natural x.1.1.1))
+parts_are op.Put x = ap (λ (ps : List Part). Name (word_of op.Put) ∷ Natural x.0 ∷ Number x.1.0 ∷ Target x.1.1.0 ∷ ps) (append-nil (map Natural x.1.1.1))
 parts_are o x = refl
 
 pub within : (o : Opcode) (x : LineContent (line_of o)) → MayParts (line_of o) x → IsInstr (instr_of o x)
-within (op.Compute operation) x m = (m.0, m.1.0, m.1.1.0, m.1.1.1)
+within op.Add x m = (m.0, m.1.0, m.1.1.0, m.1.1.1)
+within op.Subtract x m = (m.0, m.1.0, m.1.1.0, m.1.1.1)
+within op.Multiply x m = (m.0, m.1.0, m.1.1.0, m.1.1.1)
+within op.Divide x m = (m.0, m.1.0, m.1.1.0, m.1.1.1)
+within op.Remainder x m = (m.0, m.1.0, m.1.1.0, m.1.1.1)
 within op.Concatenate x m = (m.0, m.1.0, m.1.1.0, m.1.1.1)
 within op.ReadInt x m = (m.0, m.1.0, m.1.1)
 within op.JumpEqual x m = (m.0, m.1.0, m.1.1)
@@ -69,7 +78,11 @@ within op.Put x m = record { procedure = m.0; priority = m.1.0; target = m.1.1.0
 within o x m = m
 
 pub within_back : (o : Opcode) (x : LineContent (line_of o)) → IsInstr (instr_of o x) → MayParts (line_of o) x
-within_back (op.Compute operation) x m = (m.0, (m.1, (m.2, m.3)))
+within_back op.Add x m = (m.0, (m.1, (m.2, m.3)))
+within_back op.Subtract x m = (m.0, (m.1, (m.2, m.3)))
+within_back op.Multiply x m = (m.0, (m.1, (m.2, m.3)))
+within_back op.Divide x m = (m.0, (m.1, (m.2, m.3)))
+within_back op.Remainder x m = (m.0, (m.1, (m.2, m.3)))
 within_back op.Concatenate x m = (m.0, (m.1, (m.2, m.3)))
 within_back op.ReadInt x m = (m.0, (m.1, m.2))
 within_back op.JumpEqual x m = (m.0, (m.1, m.2))
@@ -86,19 +99,11 @@ within_back o x m = m
 
 pub named : (o : Opcode) → opcode_of (word_of o) ≡ Some o
 unfolding opcode_of
-named (op.Compute Add) = refl
-named (op.Compute Subtract) = refl
-named (op.Compute Multiply) = refl
-named (op.Compute Divide) = refl
-named (op.Compute Remainder) = refl
+named op.Int = refl
 named o = refl
 
 pub no_colon : (o : Opcode) → before_colon (word_of o) ≡ None
-no_colon (op.Compute Add) = refl
-no_colon (op.Compute Subtract) = refl
-no_colon (op.Compute Multiply) = refl
-no_colon (op.Compute Divide) = refl
-no_colon (op.Compute Remainder) = refl
+no_colon op.Int = refl
 no_colon o = refl
 
 -- a name that is found is that of its instruction

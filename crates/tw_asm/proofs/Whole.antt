@@ -18,7 +18,7 @@ use Rattle.tw_asm.specs.Parts.{Part, Name, instr_parts, kind_word, param_parts, 
 use Rattle.tw_asm.specs.Seen.{Read, seen}
 use Rattle.tw_asm.specs.LineAnswers.{Answers}
 use Rattle.tw_asm.specs.Statement.{AnyName, Code, Goals, Head, Label, Registers, SpellParts, Statement, statement_parts}
-use Rattle.tw_asm.specs.declared.opcode.Opcode.{Opcode}
+use Rattle.tw_code.specs.declared.opcode.Opcode.{Opcode}
 use Rattle.tw_asm.specs.declared.refusal.Flaw.{Flaw}
 use Rattle.tw_asm.specs.declared.refusal.Refusal.{Refusal}
 use Rattle.tw_asm.specs.declared.refusal.Refusal.TheVariants as refusal

@@ -22,6 +22,7 @@ use Rattle.tw_code.specs.declared.instr.Instr.{Instr}
 use Rattle.tw_code.specs.declared.instr.Instr.TheVariants as instr
 use Rattle.tw_code.specs.declared.instr.LocalInstr.{LocalInstr}
 use Rattle.tw_code.specs.declared.instr.LocalInstr.TheVariants as local
+use Rattle.tw_code.specs.format.Table.{opcode_of_operation}
 use Rattle.tw_code.specs.format.Program.{IsAction, IsDataInstr, IsInstr, IsLocalInstr, IsRegister, IsSkip, IsTarget}
 use Rattle.tw_words.specs.Words.{Bare, IsLine, IsWord, Quoted, Word, is_edge}
 use Rattle.tw_types.specs.declared.actor.Kind.{Kind}
@@ -36,7 +37,8 @@ use Rattle.tw_words.proofs.Numerals.{shown}
 use Rattle.tw_words.proofs.Written.{quoted_spells}
 use Rattle.tw_words.proofs.Breaks.{IsOneLine}
 use Rattle.tw_words.proofs.Writing.{AreWords, joined_line, joined_one_line, quoted_one_line}
-use Rattle.tw_asm.specs.Parts.{Literal, Name, Natural, Number, Part, Right, Skip, Target, TypeOf, Value, kind_word, mode_word, operation_word, param_parts, register_part, scalar_word, skip_among, skip_of, instr_parts}
+use Rattle.tw_asm.specs.Names.{word_of}
+use Rattle.tw_asm.specs.Parts.{Literal, Name, Natural, Number, Part, Right, Skip, Target, TypeOf, Value, kind_word, mode_word, param_parts, register_part, scalar_word, skip_among, skip_of, instr_parts}
 use Rattle.tw_asm.specs.Statement.{Code, Goals, HasForm, Head, IsInLimits, IsInName, IsName, Label, Registers, SpellParts, Spells, SpellsPart, SpellsWith, Statement, statement_parts}
 use Rattle.tw_asm.specs.Written.{goal_word, part_words}
 use Rattle.tw_asm.proofs.Quotes.{after_ascii, quoted_utf8}
@@ -285,7 +287,7 @@ module _ (goals : Goals) (skip_word : ℕ → List ℕ) where
 
 -- ---- the parts of statements in their limits
 
-operation_clear : (operation : Arithmetic) → IsClearWord (operation_word operation)
+operation_clear : (operation : Arithmetic) → IsClearWord (word_of (opcode_of_operation operation))
 operation_clear Add = clear_word (codes "ADD") refl
 operation_clear Subtract = clear_word (codes "SUB") refl
 operation_clear Multiply = clear_word (codes "MUL") refl
@@ -323,14 +325,14 @@ data_in (on_data.CopyWrite to from) h = (clear_word (codes "DUPW") refl, (h.0, (
 data_in (on_data.DropRead right) h = (clear_word (codes "DROPR") refl, (h, tt))
 data_in (on_data.DropWrite right) h = (clear_word (codes "DROPW") refl, (h, tt))
 
-args_in : (args : List ℕ) → AllByRecursion IsRegister args → AllByRecursion IsInPart (map Natural args)
+args_in : (args : List ℕ) → AllByRecursion IsRegister args → AllByRecursion IsInPart (map Natural args ++ [])
 args_in [] h = tt
 args_in (arg ∷ args) h = (few h.0.1, args_in args h.1)
   where
     few : arg ≤ 15 → arg ≤ 65535
     few high = omega arith
 
-action_in : (word : List ℕ) (action : Action) → IsClearWord word → IsAction action → AllByRecursion IsInPart (Name word ∷ Natural action.procedure ∷ Number action.priority ∷ Target action.target ∷ map Natural action.args)
+action_in : (word : List ℕ) (action : Action) → IsClearWord word → IsAction action → AllByRecursion IsInPart (Name word ∷ Natural action.procedure ∷ Number action.priority ∷ Target action.target ∷ map Natural action.args ++ [])
 action_in word action clear h = (clear, (few h.procedure.1, (h.priority, (h.target, args_in action.args h.args.1))))
   where
     few : action.procedure ≤ 255 → action.procedure ≤ 65535

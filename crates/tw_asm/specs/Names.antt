@@ -1,17 +1,19 @@
--- The names of instructions, by the code's opcodes. That they are those of Parts is shown by whoever reads them.
+-- The names of instructions.
 use Rattle.std.specs.Prelude.{ℕ, List, [], ◌∷◌, codes, Option}
 use Rattle.std.specs.List.{find}
 use Rattle.std.specs.Str.{bytes_eq}
-use Rattle.tw_code.specs.declared.instr.Arithmetic.TheVariants.{Add, Subtract, Multiply, Divide, Remainder}
-use Rattle.tw_asm.specs.declared.opcode.Opcode.{Opcode}
-use Rattle.tw_asm.specs.declared.opcode.Opcode.TheVariants as op
-use Rattle.tw_asm.specs.Parts.{operation_word}
+use Rattle.tw_code.specs.declared.opcode.Opcode.{Opcode}
+use Rattle.tw_code.specs.declared.opcode.Opcode.TheVariants as op
 
 abbrev pub word_of : Opcode → List ℕ
 word_of op.Int = codes "INT"
 word_of op.Text = codes "TEXT"
 word_of op.Copy = codes "COPY"
-word_of (op.Compute operation) = operation_word operation
+word_of op.Add = codes "ADD"
+word_of op.Subtract = codes "SUB"
+word_of op.Multiply = codes "MUL"
+word_of op.Divide = codes "DIV"
+word_of op.Remainder = codes "REM"
 word_of op.Concatenate = codes "CAT"
 word_of op.Length = codes "LEN"
 word_of op.Show = codes "SHOW"
@@ -39,7 +41,7 @@ word_of op.Ret = codes "RET"
 -- each of them
 abbrev pub opcodes : List Opcode
 opcodes =
-    op.Int ∷ op.Text ∷ op.Copy ∷ op.Compute Add ∷ op.Compute Subtract ∷ op.Compute Multiply ∷ op.Compute Divide ∷ op.Compute Remainder ∷ op.Concatenate ∷ op.Length ∷ op.Show ∷ op.ReadInt ∷
+    op.Int ∷ op.Text ∷ op.Copy ∷ op.Add ∷ op.Subtract ∷ op.Multiply ∷ op.Divide ∷ op.Remainder ∷ op.Concatenate ∷ op.Length ∷ op.Show ∷ op.ReadInt ∷
     op.Jump ∷ op.JumpEqual ∷ op.JumpLess ∷ op.Repeat ∷ op.End ∷ op.New ∷ op.Store ∷ op.Get ∷ op.Insert ∷ op.Look ∷ op.Size ∷ op.SubscriptAt ∷
     op.CopyRead ∷ op.CopyWrite ∷ op.DropRead ∷ op.DropWrite ∷ op.Rule ∷ op.Put ∷ op.Ret ∷ []
 

@@ -1,15 +1,9 @@
 -- What a statement of assembly text has, part by part, in the order of the text.
 use Rattle.std.specs.Prelude.{ℕ, ℤ, List, [], ◌∷◌, ◌++◌, map, codes, Option, Some, None}
 use Rattle.std.specs.List.{flat_map}
-use Rattle.tw_code.specs.declared.instr.Action.{Action}
-use Rattle.tw_code.specs.declared.instr.Arithmetic.{Arithmetic}
-use Rattle.tw_code.specs.declared.instr.Arithmetic.TheVariants.{Add, Subtract, Multiply, Divide, Remainder}
-use Rattle.tw_code.specs.declared.instr.DataInstr.{DataInstr}
-use Rattle.tw_code.specs.declared.instr.DataInstr.TheVariants as on_data
 use Rattle.tw_code.specs.declared.instr.Instr.{Instr}
-use Rattle.tw_code.specs.declared.instr.Instr.TheVariants as instr
-use Rattle.tw_code.specs.declared.instr.LocalInstr.{LocalInstr}
-use Rattle.tw_code.specs.declared.instr.LocalInstr.TheVariants as local
+use Rattle.tw_code.specs.format.Table.{Operand, row}
+use Rattle.tw_code.specs.format.Table as operand
 use Rattle.tw_types.specs.Nesting.{NestedScalar}
 use Rattle.tw_types.specs.declared.actor.Kind.{Kind}
 use Rattle.tw_types.specs.declared.actor.Kind.TheVariants.{Control, Leaf}
@@ -18,6 +12,7 @@ use Rattle.tw_types.specs.declared.data_type.Scalar.TheVariants.{Int, Text}
 use Rattle.tw_types.specs.declared.param.Mode.{Mode}
 use Rattle.tw_types.specs.declared.param.Mode.TheVariants.{Val, Closed, Ref, Write}
 use Rattle.tw_types.specs.declared.param.Param.{Param}
+use Rattle.tw_asm.specs.Names.{word_of}
 
 pub data Part : Type 0 where
   -- a word that stands as it is
@@ -50,53 +45,23 @@ abbrev pub scalar_word : Scalar → List ℕ
 scalar_word Int = codes "int"
 scalar_word Text = codes "text"
 
-abbrev pub operation_word : Arithmetic → List ℕ
-operation_word Add = codes "ADD"
-operation_word Subtract = codes "SUB"
-operation_word Multiply = codes "MUL"
-operation_word Divide = codes "DIV"
-operation_word Remainder = codes "REM"
+-- ---- instructions: a line a kind of operand
 
--- the argument registers; the parameter's mode says of which bank
-abbrev pub action_parts : Action → List Part
-action_parts action = Natural action.procedure ∷ Number action.priority ∷ Target action.target ∷ map Natural action.args
+abbrev pub operand_parts : Operand → List Part
+operand_parts (operand.Value register) = Value register ∷ []
+operand_parts (operand.Right register) = Right register ∷ []
+operand_parts (operand.Number number) = Number number ∷ []
+operand_parts (operand.Turns turns) = Natural turns ∷ []
+operand_parts (operand.Literal text) = Literal text ∷ []
+operand_parts (operand.TypeOf ty) = TypeOf ty ∷ []
+operand_parts (operand.Skip skip) = Skip skip ∷ []
+operand_parts (operand.Callee procedure) = Natural procedure ∷ []
+operand_parts (operand.Target target) = Target target ∷ []
+operand_parts (operand.Args registers) = map Natural registers
 
--- ---- a line an instruction: its name and its operands
-
-abbrev pub local_parts : LocalInstr → List Part
-local_parts (local.Int to value) = Name (codes "INT") ∷ Value to ∷ Number value ∷ []
-local_parts (local.Text to text) = Name (codes "TEXT") ∷ Value to ∷ Literal text ∷ []
-local_parts (local.Copy to from) = Name (codes "COPY") ∷ Value to ∷ Value from ∷ []
-local_parts (local.Compute operation to left right skip) = Name (operation_word operation) ∷ Value to ∷ Value left ∷ Value right ∷ Skip skip ∷ []
-local_parts (local.Concatenate to left right skip) = Name (codes "CAT") ∷ Value to ∷ Value left ∷ Value right ∷ Skip skip ∷ []
-local_parts (local.Length to from) = Name (codes "LEN") ∷ Value to ∷ Value from ∷ []
-local_parts (local.Show to from) = Name (codes "SHOW") ∷ Value to ∷ Value from ∷ []
-local_parts (local.ReadInt to from skip) = Name (codes "READI") ∷ Value to ∷ Value from ∷ Skip skip ∷ []
-local_parts (local.Jump skip) = Name (codes "JMP") ∷ Skip skip ∷ []
-local_parts (local.JumpEqual left right skip) = Name (codes "JEQ") ∷ Value left ∷ Value right ∷ Skip skip ∷ []
-local_parts (local.JumpLess left right skip) = Name (codes "JLT") ∷ Value left ∷ Value right ∷ Skip skip ∷ []
-local_parts (local.Repeat turns) = Name (codes "REPEAT") ∷ Natural turns ∷ []
-local_parts local.End = Name (codes "END") ∷ []
-
-abbrev pub data_parts : DataInstr → List Part
-data_parts (on_data.New write read ty) = Name (codes "NEW") ∷ Right write ∷ Right read ∷ TypeOf ty ∷ []
-data_parts (on_data.Store datum from) = Name (codes "STORE") ∷ Right datum ∷ Value from ∷ []
-data_parts (on_data.Get to datum) = Name (codes "GET") ∷ Value to ∷ Right datum ∷ []
-data_parts (on_data.Insert container subscript member skip) = Name (codes "INS") ∷ Right container ∷ Value subscript ∷ Right member ∷ Skip skip ∷ []
-data_parts (on_data.Look member container subscript skip) = Name (codes "LOOK") ∷ Right member ∷ Right container ∷ Value subscript ∷ Skip skip ∷ []
-data_parts (on_data.Size to container) = Name (codes "SIZE") ∷ Value to ∷ Right container ∷ []
-data_parts (on_data.SubscriptAt to container index skip) = Name (codes "SUBAT") ∷ Value to ∷ Right container ∷ Value index ∷ Skip skip ∷ []
-data_parts (on_data.CopyRead to from) = Name (codes "DUPR") ∷ Right to ∷ Right from ∷ []
-data_parts (on_data.CopyWrite to from) = Name (codes "DUPW") ∷ Right to ∷ Right from ∷ []
-data_parts (on_data.DropRead right) = Name (codes "DROPR") ∷ Right right ∷ []
-data_parts (on_data.DropWrite right) = Name (codes "DROPW") ∷ Right right ∷ []
-
+-- its name, and each of its operands
 abbrev pub instr_parts : Instr → List Part
-instr_parts (instr.Local i) = local_parts i
-instr_parts (instr.Data i) = data_parts i
-instr_parts (instr.Rule action) = Name (codes "RULE") ∷ action_parts action
-instr_parts (instr.Put action) = Name (codes "PUT") ∷ action_parts action
-instr_parts instr.Ret = Name (codes "RET") ∷ []
+instr_parts i = Name (word_of (row i).0) ∷ flat_map operand_parts (row i).1
 
 -- ---- the other statements
 

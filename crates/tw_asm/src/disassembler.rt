@@ -1,7 +1,9 @@
 //! The text of a program.
 
 ghost use Rattle.std.specs.Prelude.{◌≡◌, ◌<◌, ◌++◌, ◌+◌, ◌^◌, IfOk, OnOk, string_bytes};
+ghost use Rattle.std.specs.List.{AllByRecursion};
 ghost use Rattle.std.specs.Option.{option_and_then};
+ghost use Rattle.tw_code.specs.format.Program.{IsInstr, IsProcedure, IsProgram};
 ghost use Rattle.tw_asm.specs.Disassembly.{code_lines, disassembly, label_at, label_line, label_places, procedure_lines};
 ghost use Rattle.tw_asm.specs.Spelling.{SpellsProgram};
 ghost use Rattle.tw_asm.specs.Parts.{skip_of};
@@ -9,7 +11,7 @@ ghost use Rattle.tw_asm.specs.Statement.{Code};
 ghost use Rattle.tw_asm.specs.Written.{goal_word, line_of};
 
 use crate::skip::skip_of;
-use crate::write::{put_head, put_instr, put_label, put_registers};
+use crate::write::{Lines, put_head, put_instr, put_label, put_registers};
 use indexmap::IndexSet;
 use std::alloc::{AllocError, Global};
 use tw_code::{Instr, NoMemory, Procedure, Program};
@@ -38,16 +40,11 @@ fn label_at(places: &IndexSet<usize>, place: usize) -> Option<usize>
 }
 
 /// Adds the label at a place, if one stands there.
-fn put_label_at(
-    alloc: Global,
-    out: &mut Vec<u8>,
-    places: &IndexSet<usize>,
-    place: usize,
-) -> Result<(), AllocError>
-    ensures { OnOk result (out.new.items ≡ out.old.items ++ label_line (label_at places.now.keys place)) }
+fn put_label_at(lines: &mut Lines, places: &IndexSet<usize>, place: usize) -> Result<(), AllocError>
+    ensures { OnOk result (lines.new.out.items ≡ lines.old.out.items ++ label_line (label_at places.now.keys place)) }
 {
     match label_at(places, place) {
-        Some(number) => put_label(alloc, out, number),
+        Some(number) => put_label(lines.alloc, &mut lines.out, number),
         None => Ok(()),
     }
 }
@@ -65,54 +62,52 @@ fn goal_label(places: &IndexSet<usize>, place: usize, instr: &Instr) -> Option<u
 
 /// Adds the line of the instruction at a place.
 fn put_instr_at(
-    alloc: Global,
-    out: &mut Vec<u8>,
+    lines: &mut Lines,
     places: &IndexSet<usize>,
     place: usize,
     instr: &Instr,
 ) -> Result<(), AllocError>
-    requires { place < 2 ^ 63 }
-    ensures { OnOk result (out.new.items ≡ out.old.items
+    requires place { place < 2 ^ 63 }
+    requires instr { IsInstr instr.now }
+    ensures { OnOk result (lines.new.out.items ≡ lines.old.out.items
         ++ line_of (λ skip. goal_word (label_at places.now.keys (place + 1 + skip)) skip) (Code instr.now)) }
 {
-    put_instr(alloc, out, instr, goal_label(places, place, instr))
+    put_instr(lines, instr, goal_label(places, place, instr))
 }
 
 /// Adds the lines of a procedure's code, with the labels at these places.
-fn put_code(
-    alloc: Global,
-    out: &mut Vec<u8>,
-    places: &IndexSet<usize>,
-    code: &[Instr],
-) -> Result<(), AllocError>
-    ensures { OnOk result (out.new.items ≡ out.old.items ++ code_lines places.now.keys 0 code.now) }
+fn put_code(lines: &mut Lines, places: &IndexSet<usize>, code: &[Instr]) -> Result<(), AllocError>
+    requires { AllByRecursion IsInstr code.now }
+    ensures { OnOk result (lines.new.out.items ≡ lines.old.out.items ++ code_lines places.now.keys 0 code.now) }
 {
     for (place, instr) in code.iter().enumerate() {
-        put_label_at(alloc, out, places, place)?;
-        put_instr_at(alloc, out, places, place, instr)?;
+        put_label_at(lines, places, place)?;
+        put_instr_at(lines, places, place, instr)?;
     }
-    put_label_at(alloc, out, places, code.len())
+    put_label_at(lines, places, code.len())
 }
 
 /// Adds the lines of a procedure.
-fn put_procedure(alloc: Global, out: &mut Vec<u8>, procedure: &Procedure) -> Result<(), AllocError>
-    ensures { OnOk result (out.new.items ≡ out.old.items ++ procedure_lines procedure.now) }
+fn put_procedure(lines: &mut Lines, procedure: &Procedure) -> Result<(), AllocError>
+    requires { IsProcedure procedure.now }
+    ensures { OnOk result (lines.new.out.items ≡ lines.old.out.items ++ procedure_lines procedure.now) }
 {
-    let places = label_places(alloc, procedure.code.as_slice())?;
-    put_head(out, procedure.kind, procedure.params.as_slice())?;
-    put_registers(out, procedure.registers.as_slice())?;
-    put_code(alloc, out, &places, procedure.code.as_slice())
+    let places = label_places(lines.alloc, procedure.code.as_slice())?;
+    put_head(&mut lines.out, procedure.kind, procedure.params.as_slice())?;
+    put_registers(&mut lines.out, procedure.registers.as_slice())?;
+    put_code(lines, &places, procedure.code.as_slice())
 }
 
 /// The lines of procedures, one procedure after the other.
 fn lines_of(alloc: Global, procedures: &[Procedure]) -> Result<Vec<u8>, AllocError>
+    requires { IsProgram procedures.now }
     ensures { IfOk result (λ out. out.items ≡ disassembly procedures.now) }
 {
-    let mut out = Vec::new(alloc);
+    let mut lines = Lines::new(alloc);
     for procedure in procedures {
-        put_procedure(alloc, &mut out, procedure)?;
+        put_procedure(&mut lines, procedure)?;
     }
-    Ok(out)
+    Ok(lines.out)
 }
 
 /// The one text of a program, which assembles to it.

@@ -2,17 +2,19 @@
 
 ghost use Rattle.std.specs.Prelude.{◌≡◌, None, map};
 ghost use Rattle.tw_words.specs.Seen.{seen as seen_word};
-ghost use Rattle.tw_asm.specs.declared.opcode.Opcode.TheVariants as opcode;
-ghost use Rattle.tw_asm.specs.reading.Lines.{Gives, action_line, draft_in, drafted, line_in};
+ghost use Rattle.tw_code.specs.declared.instr.Instr.TheVariants as instr;
+ghost use Rattle.tw_code.specs.declared.instr.LocalInstr.TheVariants as local;
+ghost use Rattle.tw_code.specs.declared.opcode.Opcode.TheVariants as opcode;
+ghost use Rattle.tw_asm.specs.reading.Lines.{Gives, action_line, draft_in, drafted, goal, line_in, more, value};
+ghost use Rattle.tw_asm.specs.reading.Operands.{as_is};
 
 use crate::gathering::args_of;
-use crate::opcode::Opcode;
 use crate::operands::*;
 use crate::refusal::{Flaw, Refusal};
 use crate::shapes::*;
 use crate::statement::Unlinked;
 use std::alloc::Global;
-use tw_code::{Action, Arithmetic, DataInstr, Instr, LocalInstr};
+use tw_code::{Action, Arithmetic, DataInstr, Instr, LocalInstr, Opcode};
 use tw_words::Word;
 
 /// An instruction that names no label.
@@ -226,7 +228,8 @@ fn ret_of<'a>(words: &[Word<'a>]) -> Result<Unlinked<'a>, Refusal>
 }
 
 fn compute_of<'a>(operation: Arithmetic, words: &[Word<'a>]) -> Result<Unlinked<'a>, Refusal>
-    ensures { Gives drafted result (draft_in (opcode.Compute operation) (map seen_word words.now)) }
+    ensures { Gives drafted result
+        (as_is (λ x. (instr.Local (local.Compute operation x.0 x.1.0 x.1.1.0 x.1.1.1.skip), x.1.1.1.label)) (line_in (more value (more value (more value goal))) (map seen_word words.now))) }
 {
     let (to, (left, (right, goal))) = three_values_and_goal(words)?;
     let compute = LocalInstr::Compute {
@@ -320,7 +323,11 @@ pub fn draft_of<'a>(
         Opcode::Int => int_of(words),
         Opcode::Text => text_of(alloc, words),
         Opcode::Copy => copy_of(words),
-        Opcode::Compute(operation) => compute_of(operation, words),
+        Opcode::Add => compute_of(Arithmetic::Add, words),
+        Opcode::Subtract => compute_of(Arithmetic::Subtract, words),
+        Opcode::Multiply => compute_of(Arithmetic::Multiply, words),
+        Opcode::Divide => compute_of(Arithmetic::Divide, words),
+        Opcode::Remainder => compute_of(Arithmetic::Remainder, words),
         Opcode::Concatenate => concatenate_of(words),
         Opcode::Length => length_of(words),
         Opcode::Show => show_of(words),

@@ -3,54 +3,9 @@
 ghost use Rattle.std.specs.Prelude.{◌≡◌};
 ghost use Rattle.std.specs.List.{find};
 ghost use Rattle.std.specs.Str.{bytes_eq};
-ghost use Rattle.tw_asm.specs.Parts.{operation_word};
 ghost use Rattle.tw_asm.specs.Names.{opcode_of, word_of};
 
-use tw_code::Arithmetic;
-
-/// An instruction without its operands.
-#[derive(Clone, Copy)]
-pub enum Opcode {
-    Int,
-    Text,
-    Copy,
-    Compute(Arithmetic),
-    Concatenate,
-    Length,
-    Show,
-    ReadInt,
-    Jump,
-    JumpEqual,
-    JumpLess,
-    Repeat,
-    End,
-    New,
-    Store,
-    Get,
-    Insert,
-    Look,
-    Size,
-    SubscriptAt,
-    CopyRead,
-    CopyWrite,
-    DropRead,
-    DropWrite,
-    Rule,
-    Put,
-    Ret,
-}
-
-fn operation_word(operation: Arithmetic) -> &'static str
-    ensures { result.now ≡ operation_word operation }
-{
-    match operation {
-        Arithmetic::Add => "ADD",
-        Arithmetic::Subtract => "SUB",
-        Arithmetic::Multiply => "MUL",
-        Arithmetic::Divide => "DIV",
-        Arithmetic::Remainder => "REM",
-    }
-}
+use tw_code::Opcode;
 
 /// The name of an instruction.
 pub fn word_of(opcode: Opcode) -> &'static str
@@ -60,7 +15,11 @@ pub fn word_of(opcode: Opcode) -> &'static str
         Opcode::Int => "INT",
         Opcode::Text => "TEXT",
         Opcode::Copy => "COPY",
-        Opcode::Compute(operation) => operation_word(operation),
+        Opcode::Add => "ADD",
+        Opcode::Subtract => "SUB",
+        Opcode::Multiply => "MUL",
+        Opcode::Divide => "DIV",
+        Opcode::Remainder => "REM",
         Opcode::Concatenate => "CAT",
         Opcode::Length => "LEN",
         Opcode::Show => "SHOW",
@@ -108,11 +67,11 @@ pub fn opcode_named(name: &[u8]) -> Option<Opcode>
             Opcode::Int,
             Opcode::Text,
             Opcode::Copy,
-            Opcode::Compute(Arithmetic::Add),
-            Opcode::Compute(Arithmetic::Subtract),
-            Opcode::Compute(Arithmetic::Multiply),
-            Opcode::Compute(Arithmetic::Divide),
-            Opcode::Compute(Arithmetic::Remainder),
+            Opcode::Add,
+            Opcode::Subtract,
+            Opcode::Multiply,
+            Opcode::Divide,
+            Opcode::Remainder,
             Opcode::Concatenate,
             Opcode::Length,
             Opcode::Show,

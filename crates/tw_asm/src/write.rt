@@ -4,35 +4,20 @@ ghost use Rattle.std.specs.Prelude.{◌≡◌, ◌++◌, [], ◌∷◌, None, On
 ghost use Rattle.std.specs.Fmt.{signed_decimal};
 ghost use Rattle.std.specs.List.{flat_map};
 ghost use Rattle.tw_asm.specs.Parts.{kind_word, mode_word, scalar_word};
-ghost use Rattle.tw_asm.specs.Parts.{Name as name_part, Target as target_part, TypeOf as type_part, action_parts, data_parts, local_parts, param_parts};
+ghost use Rattle.tw_asm.specs.Parts.{Target as target_part, TypeOf as type_part, param_parts};
 ghost use Rattle.tw_asm.specs.Statement.{Code, Head, Label, Registers};
 ghost use Rattle.tw_asm.specs.Written.{goal_word, line_of, part_words};
 ghost use Rattle.tw_asm.specs.Names.{word_of};
-ghost use Rattle.tw_asm.specs.words.Lines.{behind, call_words, line_of_parts, seen_operand};
+ghost use Rattle.tw_asm.specs.words.Lines.{behind, operand_words, row_line};
+ghost use Rattle.tw_code.specs.format.Program.{IsInstr};
+ghost use Rattle.tw_code.specs.format.Sink.{seen};
+ghost use Rattle.tw_words.specs.Quoted.{quoted};
 
-use crate::opcode::{Opcode, word_of};
+use crate::opcode::word_of;
 use std::alloc::{AllocError, Global};
-use tw_code::{Action, DataInstr, Instr, LocalInstr};
+use tw_code::{Instr, Opcode, Operand, Sink};
 use tw_types::{DataType, Kind, Mode, Param, Scalar};
 use tw_words::put_quoted;
-
-/// What follows an instruction's name.
-#[derive(Drop)]
-enum Operand<'a> {
-    /// A value register.
-    Value(u8),
-    /// A right register.
-    Right(u8),
-    Number(i64),
-    Natural(u16),
-    Literal(&'a str),
-    TypeOf(DataType),
-    Skip(u16),
-    /// The number of an actor, or any.
-    Target(Option<u8>),
-}
-
-use Operand::{Literal, Natural, Number, Right, Skip, Target, TypeOf, Value};
 
 fn kind_word(kind: Kind) -> &'static str
     ensures { result.now ≡ kind_word kind }
@@ -152,102 +137,11 @@ fn put_goal(
     }
 }
 
-fn put_operand(
-    alloc: Global,
-    out: &mut Vec<u8>,
-    label: Option<usize>,
-    operand: &Operand<'_>,
-) -> Result<(), AllocError>
-    ensures { OnOk result (out.new.items ≡ out.old.items ++ behind (part_words (goal_word label) (seen_operand operand.now))) }
+fn put_literal(out: &mut Vec<u8>, text: &str) -> Result<(), AllocError>
+    ensures { OnOk result (out.new.items ≡ out.old.items ++ behind (quoted text.now ∷ [])) }
 {
-    match operand {
-        Value(register) => put_numbered(alloc, out, " v", usize::from(*register)),
-        Right(register) => put_numbered(alloc, out, " d", usize::from(*register)),
-        Number(number) => put_number(alloc, out, *number),
-        Natural(number) => put_numbered(alloc, out, " ", usize::from(*number)),
-        Literal(text) => {
-            put(out, " ")?;
-            put_quoted(out, text)
-        }
-        TypeOf(ty) => put_type(out, *ty),
-        Skip(skip) => put_goal(alloc, out, label, *skip),
-        Target(target) => put_target(alloc, out, *target),
-    }
-}
-
-// ---- lines
-
-/// Adds the line of an instruction: its name and its operands.
-fn put_line(
-    alloc: Global,
-    out: &mut Vec<u8>,
-    label: Option<usize>,
-    opcode: Opcode,
-    operands: &[Operand<'_>],
-) -> Result<(), AllocError>
-    ensures { OnOk result (out.new.items ≡ out.old.items ++ line_of_parts (goal_word label) (name_part (word_of opcode) ∷ map seen_operand operands.now)) }
-{
-    put(out, word_of(opcode))?;
-    for operand in operands {
-        put_operand(alloc, out, label, operand)?;
-    }
-    put(out, "\n")
-}
-
-/// A row an instruction: its name and its operands.
-#[rattlefmt::skip]
-fn put_local(alloc: Global, out: &mut Vec<u8>, label: Option<usize>, instr: &LocalInstr) -> Result<(), AllocError>
-    ensures { OnOk result (out.new.items ≡ out.old.items ++ line_of_parts (goal_word label) (local_parts instr.now)) }
-{
-    match instr {
-        LocalInstr::Int { to, value } => put_line(alloc, out, label, Opcode::Int, &[Value(*to), Number(*value)]),
-        LocalInstr::Text { to, text } => put_line(alloc, out, label, Opcode::Text, &[Value(*to), Literal(text.as_str())]),
-        LocalInstr::Copy { to, from } => put_line(alloc, out, label, Opcode::Copy, &[Value(*to), Value(*from)]),
-        LocalInstr::Compute { operation, to, left, right, skip } =>
-            put_line(alloc, out, label, Opcode::Compute(*operation), &[Value(*to), Value(*left), Value(*right), Skip(*skip)]),
-        LocalInstr::Concatenate { to, left, right, skip } =>
-            put_line(alloc, out, label, Opcode::Concatenate, &[Value(*to), Value(*left), Value(*right), Skip(*skip)]),
-        LocalInstr::Length { to, from } => put_line(alloc, out, label, Opcode::Length, &[Value(*to), Value(*from)]),
-        LocalInstr::Show { to, from } => put_line(alloc, out, label, Opcode::Show, &[Value(*to), Value(*from)]),
-        LocalInstr::ReadInt { to, from, skip } => put_line(alloc, out, label, Opcode::ReadInt, &[Value(*to), Value(*from), Skip(*skip)]),
-        LocalInstr::Jump { skip } => put_line(alloc, out, label, Opcode::Jump, &[Skip(*skip)]),
-        LocalInstr::JumpEqual { left, right, skip } => put_line(alloc, out, label, Opcode::JumpEqual, &[Value(*left), Value(*right), Skip(*skip)]),
-        LocalInstr::JumpLess { left, right, skip } => put_line(alloc, out, label, Opcode::JumpLess, &[Value(*left), Value(*right), Skip(*skip)]),
-        LocalInstr::Repeat { turns } => put_line(alloc, out, label, Opcode::Repeat, &[Natural(*turns)]),
-        LocalInstr::End => put_line(alloc, out, label, Opcode::End, &[]),
-    }
-}
-
-/// A row an instruction: its name and its operands.
-#[rattlefmt::skip]
-fn put_data(alloc: Global, out: &mut Vec<u8>, label: Option<usize>, instr: DataInstr) -> Result<(), AllocError>
-    ensures { OnOk result (out.new.items ≡ out.old.items ++ line_of_parts (goal_word label) (data_parts instr)) }
-{
-    match instr {
-        DataInstr::New { write, read, ty } => put_line(alloc, out, label, Opcode::New, &[Right(write), Right(read), TypeOf(ty)]),
-        DataInstr::Store { datum, from } => put_line(alloc, out, label, Opcode::Store, &[Right(datum), Value(from)]),
-        DataInstr::Get { to, datum } => put_line(alloc, out, label, Opcode::Get, &[Value(to), Right(datum)]),
-        DataInstr::Insert { container, subscript, member, skip } =>
-            put_line(alloc, out, label, Opcode::Insert, &[Right(container), Value(subscript), Right(member), Skip(skip)]),
-        DataInstr::Look { member, container, subscript, skip } =>
-            put_line(alloc, out, label, Opcode::Look, &[Right(member), Right(container), Value(subscript), Skip(skip)]),
-        DataInstr::Size { to, container } => put_line(alloc, out, label, Opcode::Size, &[Value(to), Right(container)]),
-        DataInstr::SubscriptAt { to, container, index, skip } =>
-            put_line(alloc, out, label, Opcode::SubscriptAt, &[Value(to), Right(container), Value(index), Skip(skip)]),
-        DataInstr::CopyRead { to, from } => put_line(alloc, out, label, Opcode::CopyRead, &[Right(to), Right(from)]),
-        DataInstr::CopyWrite { to, from } => put_line(alloc, out, label, Opcode::CopyWrite, &[Right(to), Right(from)]),
-        DataInstr::DropRead { right } => put_line(alloc, out, label, Opcode::DropRead, &[Right(right)]),
-        DataInstr::DropWrite { right } => put_line(alloc, out, label, Opcode::DropWrite, &[Right(right)]),
-    }
-}
-
-/// Adds what stands before an action's arguments.
-fn put_call(alloc: Global, out: &mut Vec<u8>, action: &Action) -> Result<(), AllocError>
-    ensures { OnOk result (out.new.items ≡ out.old.items ++ behind (call_words action.now)) }
-{
-    put_numbered(alloc, out, " ", usize::from(action.procedure))?;
-    put_number(alloc, out, action.priority)?;
-    put_target(alloc, out, action.target)
+    put(out, " ")?;
+    put_quoted(out, text)
 }
 
 fn put_argument(alloc: Global, out: &mut Vec<u8>, register: u8) -> Result<(), AllocError>
@@ -256,38 +150,96 @@ fn put_argument(alloc: Global, out: &mut Vec<u8>, register: u8) -> Result<(), Al
     put_numbered(alloc, out, " ", usize::from(register))
 }
 
-fn put_action(
+fn put_args(alloc: Global, out: &mut Vec<u8>, args: &[u8]) -> Result<(), AllocError>
+    ensures { OnOk result (out.new.items ≡ out.old.items ++ behind (flat_map (λ arg. decimal arg ∷ []) args.now)) }
+{
+    for arg in args {
+        put_argument(alloc, out, *arg)?;
+    }
+    Ok(())
+}
+
+#[tactic(auto, using(crate::proofs::Lines::one_part))]
+fn put_operand(
     alloc: Global,
     out: &mut Vec<u8>,
-    opcode: Opcode,
-    action: &Action,
+    label: Option<usize>,
+    operand: &Operand<'_>,
 ) -> Result<(), AllocError>
-    ensures { OnOk result (out.new.items ≡ out.old.items ++ line_of_parts (goal_word None) (name_part (word_of opcode) ∷ action_parts action.now)) }
+    ensures { OnOk result (out.new.items ≡ out.old.items ++ behind (operand_words (goal_word label) (seen operand.now))) }
+{
+    match operand {
+        Operand::Value(register) => put_numbered(alloc, out, " v", usize::from(*register)),
+        Operand::Right(register) => put_numbered(alloc, out, " d", usize::from(*register)),
+        Operand::Number(number) => put_number(alloc, out, *number),
+        Operand::Turns(turns) => put_numbered(alloc, out, " ", usize::from(*turns)),
+        Operand::Literal(text) => put_literal(out, text),
+        Operand::TypeOf(ty) => put_type(out, *ty),
+        Operand::Skip(skip) => put_goal(alloc, out, label, *skip),
+        Operand::Callee(procedure) => put_numbered(alloc, out, " ", usize::from(*procedure)),
+        Operand::Target(target) => put_target(alloc, out, *target),
+        Operand::Args(args) => put_args(alloc, out, args),
+    }
+}
+
+// ---- lines
+
+/// The text as it grows, and the label that the next instruction's skip names, if it names one.
+#[derive(Drop)]
+pub struct Lines {
+    pub alloc: Global,
+    pub out: Vec<u8>,
+    label: Option<usize>,
+}
+
+impl Lines {
+    pub fn new(alloc: Global) -> Lines
+        ensures { result.out.items ≡ [] }
+    {
+        Lines {
+            alloc,
+            out: Vec::new(alloc),
+            label: None,
+        }
+    }
+}
+
+/// A line an instruction: its name and its operands.
+impl Sink for Lines {
+    ghost use Rattle.std.specs.Prelude.{◌≡◌, ◌++◌};
+    ghost use Rattle.tw_asm.specs.Written.{goal_word};
+    ghost use Rattle.tw_asm.specs.words.Lines.{row_line};
+
+    ghost puts = { λ s o operands t. t.out.items ≡ s.out.items ++ row_line (goal_word s.label) o operands };
+
+    fn put(&mut self, opcode: Opcode, operands: &[Operand<'_>]) -> Result<(), AllocError> {
+        put_row(self.alloc, &mut self.out, self.label, opcode, operands)
+    }
+}
+
+fn put_row(
+    alloc: Global,
+    out: &mut Vec<u8>,
+    label: Option<usize>,
+    opcode: Opcode,
+    operands: &[Operand<'_>],
+) -> Result<(), AllocError>
+    ensures { OnOk result (out.new.items ≡ out.old.items ++ row_line (goal_word label) opcode (map seen operands.now)) }
 {
     put(out, word_of(opcode))?;
-    put_call(alloc, out, action)?;
-    for register in action.args.as_slice() {
-        put_argument(alloc, out, *register)?;
+    for operand in operands {
+        put_operand(alloc, out, label, operand)?;
     }
     put(out, "\n")
 }
 
 /// Adds the line of an instruction; its skip, where it has one, as this label or as a number.
-pub fn put_instr(
-    alloc: Global,
-    out: &mut Vec<u8>,
-    instr: &Instr,
-    label: Option<usize>,
-) -> Result<(), AllocError>
-    ensures { OnOk result (out.new.items ≡ out.old.items ++ line_of (goal_word label) (Code instr.now)) }
+pub fn put_instr(lines: &mut Lines, instr: &Instr, label: Option<usize>) -> Result<(), AllocError>
+    requires { IsInstr instr.now }
+    ensures { OnOk result (lines.new.out.items ≡ lines.old.out.items ++ line_of (goal_word label) (Code instr.now)) }
 {
-    match instr {
-        Instr::Local(instr) => put_local(alloc, out, label, instr),
-        Instr::Data(instr) => put_data(alloc, out, label, *instr),
-        Instr::Rule(action) => put_action(alloc, out, Opcode::Rule, action),
-        Instr::Put(action) => put_action(alloc, out, Opcode::Put, action),
-        Instr::Ret => put_line(alloc, out, None, Opcode::Ret, &[]),
-    }
+    lines.label = label;
+    tw_code::put_instr(lines, instr)
 }
 
 /// Adds the line with which a procedure begins.

@@ -1,17 +1,18 @@
 -- What the words behind a name say: a line an instruction.
 use Rattle.std.specs.Prelude.{◌≡◌, ℕ, suc, ◌+◌, ℤ, Bool, true, false, ◌&&◌, List, [], ◌∷◌, ◌++◌, length, codes, Option, Some, None, Result, Ok, Err, nat_lt, ◌==◌, if◌then◌else◌}
 use Rattle.std.specs.Str.{bytes_eq}
+use Rattle.tw_code.specs.declared.instr.Arithmetic.TheVariants.{Add, Subtract, Multiply, Divide, Remainder}
 use Rattle.tw_code.specs.declared.instr.DataInstr.TheVariants as on_data
 use Rattle.tw_code.specs.declared.instr.Instr.{Instr}
 use Rattle.tw_code.specs.declared.instr.Instr.TheVariants as instr
 use Rattle.tw_code.specs.declared.instr.LocalInstr.TheVariants as local
+use Rattle.tw_code.specs.declared.opcode.Opcode.{Opcode}
+use Rattle.tw_code.specs.declared.opcode.Opcode.TheVariants as op
 use Rattle.tw_words.specs.Words.{Word, Bare, Quoted}
 use Rattle.tw_asm.specs.Names.{opcode_of}
 use Rattle.tw_asm.specs.Parts.{kind_word}
 use Rattle.tw_asm.specs.Seen.{Read, bytes_of}
 use Rattle.tw_asm.specs.Statement as said
-use Rattle.tw_asm.specs.declared.opcode.Opcode.{Opcode}
-use Rattle.tw_asm.specs.declared.opcode.Opcode.TheVariants as op
 use Rattle.tw_asm.specs.declared.statement.Unlinked.{Unlinked}
 use Rattle.tw_asm.specs.declared.refusal.Flaw.{Flaw}
 use Rattle.tw_asm.specs.declared.refusal.Flaw.TheVariants.{Form, Limit}
@@ -200,7 +201,11 @@ abbrev pub line_of : Opcode → Line
 line_of op.Int = more value (one number)
 line_of op.Text = more value (one literal)
 line_of op.Copy = more value (one value)
-line_of (op.Compute operation) = more value (more value (more value goal))
+line_of op.Add = more value (more value (more value goal))
+line_of op.Subtract = more value (more value (more value goal))
+line_of op.Multiply = more value (more value (more value goal))
+line_of op.Divide = more value (more value (more value goal))
+line_of op.Remainder = more value (more value (more value goal))
 line_of op.Concatenate = more value (more value (more value goal))
 line_of op.Length = more value (one value)
 line_of op.Show = more value (one value)
@@ -229,7 +234,11 @@ abbrev pub instr_of : (o : Opcode) → LineContent (line_of o) → Instr
 instr_of op.Int x = instr.Local (local.Int x.0 x.1)
 instr_of op.Text x = instr.Local (local.Text x.0 x.1)
 instr_of op.Copy x = instr.Local (local.Copy x.0 x.1)
-instr_of (op.Compute operation) x = instr.Local (local.Compute operation x.0 x.1.0 x.1.1.0 x.1.1.1.skip)
+instr_of op.Add x = instr.Local (local.Compute Add x.0 x.1.0 x.1.1.0 x.1.1.1.skip)
+instr_of op.Subtract x = instr.Local (local.Compute Subtract x.0 x.1.0 x.1.1.0 x.1.1.1.skip)
+instr_of op.Multiply x = instr.Local (local.Compute Multiply x.0 x.1.0 x.1.1.0 x.1.1.1.skip)
+instr_of op.Divide x = instr.Local (local.Compute Divide x.0 x.1.0 x.1.1.0 x.1.1.1.skip)
+instr_of op.Remainder x = instr.Local (local.Compute Remainder x.0 x.1.0 x.1.1.0 x.1.1.1.skip)
 instr_of op.Concatenate x = instr.Local (local.Concatenate x.0 x.1.0 x.1.1.0 x.1.1.1.skip)
 instr_of op.Length x = instr.Local (local.Length x.0 x.1)
 instr_of op.Show x = instr.Local (local.Show x.0 x.1)

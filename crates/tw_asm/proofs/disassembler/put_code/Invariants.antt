@@ -4,4 +4,4 @@ use Rattle.tw_asm.proofs.disassembler.put_code.Given as goal
 
 -- with the lines of what is left, there are all
 abbrev pub invariant-loop-place : goal.invariant-loop-place
-invariant-loop-place l = l.out.items ++ code_lines l.places.keys l.place (drop l.place l.code) ≡ l.fn.out.items ++ code_lines l.places.keys 0 l.code
+invariant-loop-place l = l.lines.out.items ++ code_lines l.places.keys l.place (drop l.place l.code) ≡ l.fn.lines.out.items ++ code_lines l.places.keys 0 l.code

@@ -1,7 +1,7 @@
 use Rattle.std.proofs.Common.{◌≡◌, List, Result, map, sym, subst}
 use Rattle.tw_words.specs.Seen.{seen}
 use Rattle.tw_words.specs.Words.{Word}
-use Rattle.tw_asm.specs.declared.opcode.Opcode.{Opcode}
+use Rattle.tw_code.specs.declared.opcode.Opcode.{Opcode}
 use Rattle.tw_asm.specs.declared.statement.Unlinked.{Unlinked}
 use Rattle.tw_asm.specs.declared.refusal.Refusal.{Refusal}
 use Rattle.tw_asm.specs.reading.Lines.{Gives, draft_in, drafted}
@@ -20,8 +20,20 @@ returns-in-Text c = made c.args.opcode _ (map seen c.args.words.now) c.text_of.r
 pub returns-in-Copy : goal.returns-in-Copy
 returns-in-Copy c = made c.args.opcode _ (map seen c.args.words.now) c.copy_of.result c.in-Copy.is c.copy_of.ensures
 
-pub returns-in-Compute : goal.returns-in-Compute
-returns-in-Compute c = made c.args.opcode _ (map seen c.args.words.now) c.compute_of.result c.in-Compute.is c.compute_of.ensures
+pub returns-in-Add : goal.returns-in-Add
+returns-in-Add c = made c.args.opcode _ (map seen c.args.words.now) c.compute_of.result c.in-Add.is c.compute_of.ensures
+
+pub returns-in-Subtract : goal.returns-in-Subtract
+returns-in-Subtract c = made c.args.opcode _ (map seen c.args.words.now) c.compute_of-in-Subtract.result c.in-Subtract.is c.compute_of-in-Subtract.ensures
+
+pub returns-in-Multiply : goal.returns-in-Multiply
+returns-in-Multiply c = made c.args.opcode _ (map seen c.args.words.now) c.compute_of-in-Multiply.result c.in-Multiply.is c.compute_of-in-Multiply.ensures
+
+pub returns-in-Divide : goal.returns-in-Divide
+returns-in-Divide c = made c.args.opcode _ (map seen c.args.words.now) c.compute_of-in-Divide.result c.in-Divide.is c.compute_of-in-Divide.ensures
+
+pub returns-in-Remainder : goal.returns-in-Remainder
+returns-in-Remainder c = made c.args.opcode _ (map seen c.args.words.now) c.compute_of-in-Remainder.result c.in-Remainder.is c.compute_of-in-Remainder.ensures
 
 pub returns-in-Concatenate : goal.returns-in-Concatenate
 returns-in-Concatenate c = made c.args.opcode _ (map seen c.args.words.now) c.concatenate_of.result c.in-Concatenate.is c.concatenate_of.ensures

@@ -1,0 +1,8 @@
+use Rattle.std.proofs.Common.{◌≡◌, ◌++◌, ◌∷◌, [], take}
+use Rattle.std.specs.Prelude.{decimal}
+use Rattle.std.specs.List.{flat_map}
+use Rattle.tw_asm.specs.words.Lines.{behind}
+use Rattle.tw_asm.proofs.write.put_args.Given as goal
+
+abbrev pub invariant-loop-arg : goal.invariant-loop-arg
+invariant-loop-arg l = l.out.items ≡ l.fn.out.items ++ behind (flat_map (λ arg. decimal arg ∷ []) (take l.arg-index l.args))
