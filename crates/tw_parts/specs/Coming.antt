@@ -41,10 +41,14 @@ pub record Begins (verified : TypedProgram) (actor : Actor) (old : Seated) (wait
   pub rest : left ≡ remove waiting e.0
   pub drafted : draft ≡ draft_of (begun verified actor e values)
 
--- where none waits for the actor, or memory is refused, nothing has changed
+-- where none waits for the actor nothing changes
+abbrev pub BeginsOrNone : TypedProgram → Actor → Seated → TasksOf Arg → Seated → TasksOf Arg → Option DraftView → Type 0
+BeginsOrNone verified actor old waiting new left None = (best actor waiting ≡ None) × (new ≡ old) × (left ≡ waiting)
+BeginsOrNone verified actor old waiting new left (Some draft) = Begins verified actor old waiting new left draft
+
+-- nor where memory is refused
 abbrev pub IsBegun : {E : Type 0} → TypedProgram → Actor → Seated → TasksOf Arg → Seated → TasksOf Arg → Result (Option DraftView) E → Type 0
-IsBegun verified actor old waiting new left (Ok None) = (best actor waiting ≡ None) × (new ≡ old) × (left ≡ waiting)
-IsBegun verified actor old waiting new left (Ok (Some draft)) = Begins verified actor old waiting new left draft
+IsBegun verified actor old waiting new left (Ok o) = BeginsOrNone verified actor old waiting new left o
 IsBegun verified actor old waiting new left (Err e) = IsSome (best actor waiting) × (new ≡ old) × (left ≡ waiting)
 
 -- ---- it goes on

@@ -1,6 +1,6 @@
 //! The tasks that run, by their actors.
 
-ghost use Rattle.std.specs.Prelude.{◌≡◌, ◌<◌, ◌≤◌, ◌+◌, ◌^◌, ℕ, IfOk, List, Option, IsSome, None, Some, length, slice_index_or, slice_set};
+ghost use Rattle.std.specs.Prelude.{◌≡◌, ◌<◌, ◌≤◌, ◌+◌, ◌^◌, ℕ, IfOk, List, Option, IsSome, None, Some, length, replicate, slice_index_or, slice_set};
 ghost use Rattle.std.specs.FinMap as map;
 ghost use Rattle.std.specs.FinMap.{get, insert, remove, len};
 ghost use Rattle.std.specs.Option.{option_copied};
@@ -115,6 +115,17 @@ fn lay<'a>(rooms: &mut Vec<Option<Rooms<'a>>>, seat: usize, room: Rooms<'a>)
     rooms[seat] = Some(room);
 }
 
+/// Room for each seat.
+fn rooms_for_all<'a>(alloc: Global) -> Result<Vec<Option<Rooms<'a>>>, AllocError>
+    ensures { IfOk result (λ rooms. rooms.items ≡ replicate 24 (Some tt)) }
+{
+    let mut rooms = Vec::with_capacity(alloc, Seats::COUNT)?;
+    for _index in 0..Seats::COUNT {
+        rooms.push_reserved(Some(Rooms::new(alloc)?));
+    }
+    Ok(rooms)
+}
+
 /// Spends every right of those who sit there.
 fn shut_all<'a>(mut seats: Vec<Option<Frame<'a>>>) {
     while let Some(seat) = seats.pop() {
@@ -133,10 +144,7 @@ impl<'a> Seats<'a> {
     pub fn new(alloc: Global) -> Result<Seats<'a>, AllocError>
         ensures { IfOk result (λ seats. seats ≡ map.empty) }
     {
-        let mut rooms = Vec::with_capacity(alloc, Seats::COUNT)?;
-        for _index in 0..Seats::COUNT {
-            rooms.push_reserved(Some(Rooms::new(alloc)?));
-        }
+        let rooms = rooms_for_all(alloc)?;
         let mut seats = Vec::with_capacity(alloc, Seats::COUNT)?;
         for _index in 0..Seats::COUNT {
             seats.push_reserved(None);

@@ -1,9 +1,9 @@
-use Rattle.std.proofs.Common.{◌≡◌, ◌∙◌, Some, refl, ap}
+use Rattle.std.proofs.Common.{◌≡◌, ◌∙◌, refl, ap}
 use Rattle.std.specs.FinMap.{get, insert}
 use Rattle.tw_frame.specs.Jobs.{FrameView}
 use Rattle.tw_parts.specs.Coming.{Begins, begun}
 use Rattle.tw_parts.proofs.Seating.{again, get_own}
-use Rattle.tw_parts.proofs.Takes.{begun_stands, may_start, takes}
+use Rattle.tw_parts.proofs.Takes.{begun_stands, has_begun, may_start, takes}
 use Rattle.tw_parts.proofs.parts.Parts.take.Goals as goal
 
 pub start-requires-clause-may : goal.start-requires-clause-may
@@ -12,7 +12,8 @@ start-requires-clause-may c = λ e due. let p = c.requires.parts in may_start c.
 pub lend-requires-clause-sits : goal.lend-requires-clause-sits
 lend-requires-clause-sits c =
     let p = c.requires.parts in
-    let b = c.in-Some.ensures in
+    let b : Begins c.args.verified.now c.args.actor c.args.self.now.seats c.args.self.now.tasks.tasks c.start.new.self c.start.new.tasks.tasks c.in-Some.draft =
+    has_begun c.args.verified.now c.args.actor c.args.self.now.seats c.args.self.now.tasks.tasks c.start.new.self c.start.new.tasks.tasks _ c.in-Some.draft c.in-Some.is c.in_ok-draft.ensures in
     let f : FrameView = begun c.args.verified.now c.args.actor b.e b.values in (
       f,
       ap (λ m. get m c.args.actor) b.sits ∙ get_own c.args.self.now.seats c.args.actor f,
@@ -24,13 +25,14 @@ lend-requires-clause-sits c =
       },
     )
 
-pub returns : goal.returns
-returns c =
-    let b = c.in-Some.ensures in
+pub returns-in-Some : goal.returns-in-Some
+returns-in-Some c =
+    let b : Begins c.args.verified.now c.args.actor c.args.self.now.seats c.args.self.now.tasks.tasks c.start.new.self c.start.new.tasks.tasks c.in-Some.draft =
+    has_begun c.args.verified.now c.args.actor c.args.self.now.seats c.args.self.now.tasks.tasks c.start.new.self c.start.new.tasks.tasks _ c.in-Some.draft c.in-Some.is c.in_ok-draft.ensures in
     let f : FrameView = begun c.args.verified.now c.args.actor b.e b.values in
     let g : FrameView = record f { event_no = c.args.event_no } in
     let lent = c.lend.ensures f (ap (λ m. get m c.args.actor) b.sits ∙ get_own c.args.self.now.seats c.args.actor f) in
-    let sits = lent.1 ∙ ap (λ m. insert m c.args.actor g) b.sits ∙ again c.args.self.now.seats c.args.actor f g in (
+    let sits : c.lend.new.self ≡ insert c.args.self.now.seats c.args.actor g = lent.1 ∙ ap (λ m. insert m c.args.actor g) b.sits ∙ again c.args.self.now.seats c.args.actor f g in (
       b.e,
       b.due,
       (
