@@ -7,6 +7,7 @@ pub mod LabelMaps
 pub mod Linked
 pub mod NamedLabels
 pub mod OneFault
+pub mod Origins
 pub mod Ones
 pub mod OwnLines
 pub mod Places

@@ -1,10 +1,12 @@
 -- What the calls answer.
 use Rattle.std.specs.Prelude.{◌≡◌, ℕ, List, Result, Ok, Err}
 use Rattle.tw_code.specs.declared.procedure.Procedure.{Procedure}
+use Rattle.tw_asm.specs.declared.assembler.LinedProgram.{LinedProgram}
 use Rattle.tw_asm.specs.declared.fault.AsmFault.{AsmFault}
 use Rattle.tw_asm.specs.declared.fault.FaultNo.{FaultNo}
 use Rattle.tw_asm.specs.declared.fault.FaultNo.TheVariants as fault
 use Rattle.tw_asm.specs.Fault.{IsFirstFault}
+use Rattle.tw_asm.specs.Origins.{AreOrigins}
 use Rattle.tw_asm.specs.Spelling.{SpellsProgram}
 
 -- the first fault of a text that spells no program
@@ -25,3 +27,8 @@ IsFault text fault.NoMemory line = line ≡ 0
 abbrev pub IsAssembled : List ℕ → Result (List Procedure) AsmFault → Type 0
 IsAssembled text (Ok program) = SpellsProgram program text
 IsAssembled text (Err f) = IsFault text f.no f.line
+
+-- the same of the program with the line of each instruction
+abbrev pub IsLined : List ℕ → Result LinedProgram AsmFault → Type 0
+IsLined text (Ok lined) = SpellsProgram lined.program text × AreOrigins text lined.program lined.lines.procedures
+IsLined text (Err f) = IsFault text f.no f.line

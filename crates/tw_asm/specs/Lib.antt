@@ -1,11 +1,12 @@
--- Assembly text: Spelling says which texts spell a program, Fault which fault of a text is the first, and Disassembly which
--- text a program has. They stand on statements: Parts is the table of what each has, Statement says which words spell it,
+-- Assembly text: Spelling says which texts spell a program, Fault which fault of a text is the first, Origins which line an
+-- instruction comes from, and Disassembly which text a program has. They stand on statements: Parts is the table of what each has, Statement says which words spell it,
 -- and Written how it is written. Laws has a law on spellings and one on faults.
 pub mod Parts
 pub mod Statement
 pub mod Written
 pub mod Spelling
 pub mod Fault
+pub mod Origins
 pub mod Disassembly
 pub mod Laws
 -- How the code's results and statements are seen: Answers, LineAnswers, Seen. Names is for the parser alone: the names of

@@ -14,6 +14,7 @@ mod heads;
 mod instructions;
 mod label_names;
 mod laws;
+mod line_numbers;
 mod link;
 mod opcode;
 mod operands;
@@ -25,7 +26,8 @@ mod skip;
 mod statement;
 mod write;
 
-pub use assembler::assemble;
+pub use assembler::{LinedProgram, assemble, assemble_lined};
 pub use disassembler::disassemble;
 pub use fault::{AsmFault, FaultNo};
 pub use laws::{one_first_fault, spells_once};
+pub use line_numbers::LineNumbers;

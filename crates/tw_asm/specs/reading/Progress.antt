@@ -66,6 +66,10 @@ seen_stage (stage.InBody section) = Within (seen_section section)
 abbrev pub seen_reading : readings.Reading → Progress
 seen_reading reading = record { sections = map seen_section reading.sections.items; head_line = reading.head_line; place = seen_stage reading.stage }
 
+-- the lines of its instructions
+abbrev pub section_numbers : Section → List ℕ
+section_numbers section = map (λ draft. draft.number) section.drafts
+
 -- ---- the situation
 
 abbrev pub stage_of : Place → Stage

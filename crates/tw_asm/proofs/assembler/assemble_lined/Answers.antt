@@ -1,9 +1,10 @@
 use Rattle.std.proofs.Common.{map}
 use Rattle.std.proofs.lemmas.Result.{err_from_is_err_and}
 use Rattle.tw_asm.specs.reading.Progress.{seen_section}
+use Rattle.tw_asm.proofs.Origins.{origins}
 use Rattle.tw_asm.proofs.SpelledSections.{is_program, labels_fit, spells_program}
 use Rattle.tw_asm.proofs.Told.{not_linked, not_read}
-use Rattle.tw_asm.proofs.assembler.assemble.Goals as goal
+use Rattle.tw_asm.proofs.assembler.assemble_lined.Goals as goal
 
 pub returns-in_err-sections : goal.returns-in_err-sections
 returns-in_err-sections c =
@@ -22,4 +23,8 @@ pub new-requires : goal.new-requires
 new-requires c = is_program c.args.text.now (map seen_section c.in_ok-sections.sections.items) c.in_ok-procedures.procedures.items c.in_ok-sections.ensures c.in_ok-procedures.ensures
 
 pub returns : goal.returns
-returns c = rw c.new.ensures (spells_program c.args.text.now (map seen_section c.in_ok-sections.sections.items) c.in_ok-procedures.procedures.items c.in_ok-sections.ensures c.in_ok-procedures.ensures)
+returns c =
+    let all = map seen_section c.in_ok-sections.sections.items in (
+      rw c.new.ensures (spells_program c.args.text.now all c.in_ok-procedures.procedures.items c.in_ok-sections.ensures c.in_ok-procedures.ensures),
+      rw (c.new.ensures, c.in_ok-lines.ensures, c.deref.ensures.value) (origins c.args.text.now all c.in_ok-procedures.procedures.items c.in_ok-sections.ensures c.in_ok-procedures.ensures),
+    )

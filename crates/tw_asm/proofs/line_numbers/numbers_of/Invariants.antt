@@ -1,0 +1,6 @@
+use Rattle.std.proofs.Common.{◌≡◌, take}
+use Rattle.tw_asm.specs.reading.Progress.{seen_section, section_numbers}
+use Rattle.tw_asm.proofs.line_numbers.numbers_of.Given as goal
+
+abbrev pub invariant-loop-line : goal.invariant-loop-line
+invariant-loop-line l = l.numbers.items ≡ take l.line-index (section_numbers (seen_section l.section))
