@@ -1,6 +1,7 @@
 #!/bin/sh
 # Runs each command `$ ./tw ..` that README.md, docs/ and examples/sessions.txt show, and compares what it writes to standard
-# output with what stands below it. Tells of each that differs, and fails where one does.
+# output with what stands below it; of a refusal, also that standard error names its explanation. Tells of each that differs, and
+# fails where one does.
 #
 #   tools/shown.sh
 root=$(dirname "$(dirname "$(readlink -f "$0")")")
@@ -15,11 +16,12 @@ shown=0 differ=0 command=''
 compare() {
     [ -n "$command" ] || return 0
     shown=$((shown + 1))
-    sh -c "$command" >printed 2>/dev/null </dev/null
-    cmp -s printed wanted && return
+    sh -c "$command" >printed 2>told </dev/null
+    number=$(sed -n '1s/^refused \([A-Z][0-9]*\).*/\1/p' printed)
+    cmp -s printed wanted && { [ -z "$number" ] || grep -qF "./tw explain $number says more" told; } && return
     differ=$((differ + 1))
     echo "\$ $command"
-    diff wanted printed
+    diff wanted printed && cat told
 }
 
 # The marker ends the last command.
