@@ -14,16 +14,24 @@ trap 'rm -rf "$room"' EXIT
 # The input words that an example's main takes.
 inputs_of() {
     case $1 in
+        chain) echo ints:-4=20,0=-3,7=25 ;;
+        mapreduce) echo ints:-1=2,4=3,5=-4 ;;
+        matrix) echo ints:1=3,2=2 ;;
+        move_right) echo int:2 int:44 ;;
         pipeline) echo int:39 ;;
         read_member) echo ints:3=42 ;;
+        read_number) echo text:41 ;;
         text_input) echo text:ab ;;
+        texts) echo 'texts:1="4",2="x",3="-1"' ;;
         two_inputs) echo ints:1=7,5=-3 int:-4 ;;
     esac
 }
 
-# Runs a program with so many engines, servers and workers, and replays its events.
+# Runs a program with so many engines, servers and workers, or as many workers as it needs, and replays its events.
 replay_once() {
-    layout="--engines=$1 --servers=$2 --workers=$3"
+    workers=$(sed -n 's/^needs engines .* workers //p' "$room/check")
+    [ "$workers" -lt "$3" ] && workers=$3
+    layout="--engines=$1 --servers=$2 --workers=$workers"
     run_status=0 replay_status=0
     "$program" run $layout --limit=1000000 --trace $words <"$room/hex" >"$room/run" || run_status=$?
     sed '1,/^end$/d' "$room/run" >"$room/report"

@@ -3,11 +3,18 @@
 # what stands below it. The gate plays data/ and reads nothing outside of it, so run this after an edit of those.
 cd "$(dirname "$0")/../.." || exit 1
 data=crates/tw_rows/data
+
+# A file's name behind a command as what the script `tw` makes of it.
+as_input() {
+    sed -E '/^\$ /{
+        s#^\$ \./tw asm ([^ :<]+\.tw)#$ ./tw asm < \1#
+        s#^\$ \./tw ([a-z]+) ([^ :<]+\.tw)([^|]*[^| ])?( \| .*)?$#$ ./tw \1 --text\3 < \2\4#
+        s#^\$ \./tw ([a-z]+) ([^ :<]+\.(hex|history))([^|]*[^| ])?( \| .*)?$#$ ./tw \1\4 < \2\5#
+    }' "$1" >"$data/as_input" && mv "$data/as_input" "$1"
+}
+
 rm -rf "$data" && mkdir "$data" && cp -R examples "$data/examples" || exit 1
-awk '/^```/ { block = !block; shown = 0; next }
-     block && /^\$ / { shown = /^\$ \.\/tw / }
-     shown' README.md docs/*.md > "$data/shown.txt"
-awk '/into `sum.tw`/ { wanted = 1 }
-     /^```/ { if (wanted == 2) exit; if (wanted) wanted = 2; next }
-     wanted == 2' README.md > "$data/sum.tw"
+awk -f tools/shown.awk -v folder="$data" README.md docs/*.md
+as_input "$data/shown.txt"
+as_input "$data/examples/sessions.txt"
 printf '$ ./tw check < examples/store_seven.hex\nnonsense\n' > "$data/control.txt"

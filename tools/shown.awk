@@ -1,0 +1,38 @@
+# Writes what documents show to a folder: awk -f tools/shown.awk -v folder=DIR README.md docs/*.md. There shown.txt has each
+# command `$ ./tw ..` that stands in a block of code, with what stands below it. A block behind the words "into `sum.tw`" is the
+# file sum.tw; a command `$ sed -i .. sum.tw` in a block makes sum_2.tw of it, and so on, and a command takes the last.
+
+function current(name) {
+    return version[name] == 1 ? name : substr(name, 1, length(name) - 3) "_" version[name] ".tw"
+}
+
+/^```/ {
+    block = !block
+    shown = 0
+    if (!block && file) { close(file); file = "" }
+    if (block && named) { file = folder "/" current(named); named = "" }
+    next
+}
+
+!block && match($0, /into `[a-z_]+\.tw`/) {
+    named = substr($0, RSTART + 6, RLENGTH - 7)
+    version[named]++
+}
+
+block && file { print > file }
+
+block && /^\$ sed -i / {
+    edit = $0
+    sub(/^\$ sed -i /, "sed ", edit)
+    sub($NF "$", "", edit)
+    before = folder "/" current($NF)
+    version[$NF]++
+    system(edit before " > " folder "/" current($NF))
+}
+
+block && /^\$ / {
+    shown = /^\$ \.\/tw /
+    for (name in version) gsub(name, current(name))
+}
+
+shown { print > (folder "/shown.txt") }
