@@ -1,4 +1,4 @@
-use Rattle.std.proofs.Common.{◌≡◌, ◌<◌, ◌∙◌, ℕ, List, Some, None, false, true, arith, ap, cond, count_by, get_or, is_some, length, length-set, set, subst, sym}
+use Rattle.std.proofs.Common.{◌≡◌, ◌<◌, ◌∙◌, ℕ, List, None, false, true, arith, ap, cond, count_by, get_or, is_some, length, length-set, set, subst, sym}
 use Rattle.std.specs.declared.option.Option.{Option}
 use Rattle.std.specs.FinMap.{get, remove}
 use Rattle.tw_frame.specs.Jobs.{FrameView}
