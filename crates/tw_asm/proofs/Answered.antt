@@ -8,7 +8,7 @@ use Rattle.tw_asm.proofs.Lined.{HasLine, MayLine, found, goals_by, label_named, 
 use Rattle.tw_asm.proofs.OperandWords.{IsFine}
 use Rattle.tw_asm.proofs.Readings.{Reads}
 use Rattle.tw_asm.proofs.Spelled.{bare_is, parts_more}
-use Rattle.tw_asm.proofs.Table.{made, named, named_back, no_colon, parts_are, within, within_back}
+use Rattle.tw_asm.proofs.Table.{draft_is, instr_of, line_of, made, named, named_back, no_colon, parts_are, within, within_back}
 use Rattle.tw_asm.specs.Parts.{Part, Name, instr_parts, kind_word, param_parts, register_part}
 use Rattle.tw_asm.specs.Seen.{IsRead, NoName, OnlyName, Read}
 use Rattle.tw_asm.specs.LineAnswers.{IsFlawed}
@@ -17,7 +17,7 @@ use Rattle.tw_code.specs.declared.opcode.Opcode.{Opcode}
 use Rattle.tw_asm.specs.declared.refusal.Flaw.{Flaw}
 use Rattle.tw_asm.specs.declared.refusal.Flaw.TheVariants.{Form, Limit}
 use Rattle.tw_asm.specs.Names.{opcode_of, word_of}
-use Rattle.tw_asm.specs.reading.Lines.{LineContent, before_colon, code_read, draft_in, instr_of, label_in, line_in, line_of}
+use Rattle.tw_asm.specs.reading.Lines.{LineContent, before_colon, code_read, draft_in, label_in, line_in}
 use Rattle.tw_asm.specs.reading.Operands.{as_is}
 
 abbrev pub Judged : Result Read Flaw → List Word → Type 0
@@ -143,4 +143,5 @@ code_judged o word ws is (Err Limit) h = ((Code (instr_of o h.0.0), code_has_for
 
 -- a line that begins with an instruction's name
 pub code_answered : (o : Opcode) (word : List ℕ) (ws : List Word) → opcode_of word ≡ Some o → AllByRecursion IsFine ws → Judged (as_is code_read (draft_in o ws)) (Bare word ∷ ws)
-code_answered o word ws is fine = code_judged o word ws is (line_in (line_of o) ws) (line_read (line_of o) ws fine)
+code_answered o word ws is fine =
+    subst (λ (r : Result (Instr × Option (List ℕ)) Flaw). Judged (as_is code_read r) (Bare word ∷ ws)) (sym (draft_is o ws)) (code_judged o word ws is (line_in (line_of o) ws) (line_read (line_of o) ws fine))

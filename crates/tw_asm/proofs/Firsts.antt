@@ -5,12 +5,12 @@ use Rattle.std.specs.Option.{is_some}
 use Rattle.std.proofs.lemmas.List.{append_cancel_right}
 use Rattle.tw_asm.proofs.Lined.{parts_of}
 use Rattle.tw_asm.proofs.Names.{name_decide}
-use Rattle.tw_asm.proofs.Table.{IsMade, made, named, named_back, parts_are}
+use Rattle.tw_asm.proofs.Table.{IsMade, instr_of, line_of, made, named, named_back, parts_are}
 use Rattle.tw_asm.specs.Parts.{Part, Name, instr_parts}
 use Rattle.tw_asm.specs.Statement.{IsInstrWord, IsLabelWord, IsName}
 use Rattle.tw_code.specs.declared.opcode.Opcode.{Opcode}
 use Rattle.tw_asm.specs.Names.{opcode_of, word_of}
-use Rattle.tw_asm.specs.reading.Lines.{Content, Line, LineContent, Operand, args, goal, instr_of, line_of, literal, more, natural, nothing, number, one, right, target, type, value}
+use Rattle.tw_asm.specs.reading.Lines.{Content, Line, LineContent, Operand, args, goal, literal, more, natural, nothing, number, one, right, target, type, value}
 use Rattle.tw_asm.specs.reading.Operands.{further, is_name}
 use Rattle.tw_types.specs.declared.data_type.Scalar.TheVariants.{Int}
 

@@ -12,7 +12,7 @@ use Rattle.tw_asm.proofs.OperandWords.{Free, other_bytes, scalar_read}
 use Rattle.tw_asm.proofs.Readings.{Reads}
 use Rattle.tw_asm.proofs.Sequences.{HaveEach, each_long, each_read, few_read}
 use Rattle.tw_asm.proofs.Spelled.{bare_is}
-use Rattle.tw_asm.proofs.Table.{made, named, parts_are}
+use Rattle.tw_asm.proofs.Table.{instr_of, line_of, made, named, parts_are}
 use Rattle.tw_asm.specs.Parts.{Part, Name, instr_parts, kind_word, param_parts, register_part, scalar_word}
 use Rattle.tw_asm.specs.Seen.{NoName}
 use Rattle.tw_asm.specs.Statement.{AnyName, AnyShortName, Code, Goals, HasForm, Head, IsInLimits, IsName, Label, Registers, SpellParts, Spells, Statement, statement_parts}
@@ -20,7 +20,7 @@ use Rattle.tw_code.specs.declared.opcode.Opcode.{Opcode}
 use Rattle.tw_asm.specs.declared.refusal.Flaw.{Flaw}
 use Rattle.tw_asm.specs.declared.refusal.Flaw.TheVariants.{Form, Limit}
 use Rattle.tw_asm.specs.Names.{opcode_of, word_of}
-use Rattle.tw_asm.specs.reading.Lines.{LineContent, before_colon, each, few, instr_of, label_line, label_read, line_of, named_in, registers_in, registers_read}
+use Rattle.tw_asm.specs.reading.Lines.{LineContent, before_colon, each, few, label_line, label_read, named_in, registers_in, registers_read}
 use Rattle.tw_asm.specs.reading.Operands.{as_is, name_in, scalar_in}
 use Rattle.tw_types.specs.declared.data_type.Scalar.{Scalar}
 

@@ -9,13 +9,34 @@ use Rattle.tw_code.specs.declared.instr.Instr.{Instr}
 use Rattle.tw_code.specs.declared.instr.Instr.TheVariants as instr
 use Rattle.tw_code.specs.declared.instr.LocalInstr.TheVariants as local
 use Rattle.tw_code.specs.format.Program.{IsInstr}
+use Rattle.tw_words.specs.Words.{Word}
 use Rattle.tw_asm.proofs.Lined.{MayParts, parts_of}
 use Rattle.tw_asm.specs.Parts.{Part, Name, Natural, Number, Target, instr_parts}
 use Rattle.tw_code.specs.declared.opcode.Opcode.{Opcode}
 use Rattle.tw_code.specs.declared.opcode.Opcode.TheVariants as op
 use Rattle.tw_asm.specs.Names.{opcode_of, opcodes, word_of}
-use Rattle.tw_asm.specs.reading.Lines.{LineContent, before_colon, instr_of, line_of}
-use Rattle.tw_asm.specs.reading.Operands.{further}
+use Rattle.tw_asm.specs.reading.Lines.{Line, LineContent, Row, before_colon, draft_by, draft_in, label_in, line_in, row, row_of}
+use Rattle.tw_asm.specs.reading.Operands.{as_is, further}
+
+-- ---- a row's parts
+
+abbrev pub line_by : Row → Line
+line_by (row l make) = l
+
+abbrev pub instr_by : (r : Row) → LineContent (line_by r) → Instr
+instr_by (row l make) x = make x
+
+abbrev pub line_of : Opcode → Line
+line_of o = line_by (row_of o)
+
+abbrev pub instr_of : (o : Opcode) → LineContent (line_of o) → Instr
+instr_of o x = instr_by (row_of o) x
+
+pub draft_is : (o : Opcode) (ws : List Word) → draft_in o ws ≡ as_is (λ x. (instr_of o x, label_in (line_of o) x)) (line_in (line_of o) ws)
+draft_is o ws = by (row_of o)
+  where
+    by : (r : Row) → draft_by r ws ≡ as_is (λ x. (instr_by r x, label_in (line_by r) x)) (line_in (line_by r) ws)
+    by (row l make) = refl
 
 -- an instruction, by its code and its operands
 abbrev pub IsMade : Instr → Type 0

@@ -13,7 +13,7 @@ use Rattle.tw_asm.proofs.HeadWords.{head_answered}
 use Rattle.tw_asm.proofs.Lined.{parts_of}
 use Rattle.tw_asm.proofs.OperandWords.{IsFine}
 use Rattle.tw_asm.proofs.Sayings.{label_answered, nonempty, registers_answered}
-use Rattle.tw_asm.proofs.Table.{made, parts_are}
+use Rattle.tw_asm.proofs.Table.{instr_of, line_of, made, parts_are}
 use Rattle.tw_asm.specs.Parts.{Part, Name, instr_parts, kind_word, param_parts, register_part}
 use Rattle.tw_asm.specs.Seen.{Read, seen}
 use Rattle.tw_asm.specs.LineAnswers.{Answers}
@@ -24,7 +24,7 @@ use Rattle.tw_asm.specs.declared.refusal.Refusal.{Refusal}
 use Rattle.tw_asm.specs.declared.refusal.Refusal.TheVariants as refusal
 use Rattle.tw_asm.specs.declared.statement.Statement as statements
 use Rattle.tw_asm.specs.Names.{opcode_of, word_of}
-use Rattle.tw_asm.specs.reading.Lines.{Gives, LineContent, body_in, head_in, instr_of, line_of, registers_in, statement_in}
+use Rattle.tw_asm.specs.reading.Lines.{Gives, LineContent, body_in, head_in, registers_in, statement_in}
 
 -- each statement begins with a word that stands as it is
 begins : (statement : Statement) → (name : List ℕ) × (rest : List Part) × (statement_parts statement ≡ Name name ∷ rest)

@@ -2,7 +2,7 @@
 
 ghost use Rattle.std.specs.Prelude.{◌≡◌, map};
 ghost use Rattle.tw_words.specs.Seen.{seen as seen_word};
-ghost use Rattle.tw_asm.specs.reading.Lines.{line_in, value, right, number, one, goal, type, more, nothing};
+ghost use Rattle.tw_asm.specs.reading.Lines.{line_in, value, right, number, natural, one, goal, type, more, nothing};
 ghost use Rattle.tw_asm.specs.reading.Operands.{as_is};
 
 use crate::gathering::type_of;
@@ -49,6 +49,16 @@ fn only_number(words: &[Word<'_>]) -> Result<i64, Flaw>
 {
     match words {
         [word] => number_of(word),
+        _ => Err(Flaw::Form),
+    }
+}
+
+/// The number of turns of a loop.
+pub fn only_turns(words: &[Word<'_>]) -> Result<u16, Flaw>
+    ensures { result ≡ line_in (one (natural 1 1000)) (map seen_word words.now) }
+{
+    match words {
+        [word] => turns_of(word),
         _ => Err(Flaw::Form),
     }
 }

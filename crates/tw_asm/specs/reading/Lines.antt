@@ -197,75 +197,49 @@ label_in (more o l) x = label_in l x.1
 abbrev pub action_line : Line
 action_line = more (natural 0 255) (more number (more target args))
 
-abbrev pub line_of : Opcode → Line
-line_of op.Int = more value (one number)
-line_of op.Text = more value (one literal)
-line_of op.Copy = more value (one value)
-line_of op.Add = more value (more value (more value goal))
-line_of op.Subtract = more value (more value (more value goal))
-line_of op.Multiply = more value (more value (more value goal))
-line_of op.Divide = more value (more value (more value goal))
-line_of op.Remainder = more value (more value (more value goal))
-line_of op.Concatenate = more value (more value (more value goal))
-line_of op.Length = more value (one value)
-line_of op.Show = more value (one value)
-line_of op.ReadInt = more value (more value goal)
-line_of op.Jump = goal
-line_of op.JumpEqual = more value (more value goal)
-line_of op.JumpLess = more value (more value goal)
-line_of op.Repeat = one (natural 1 1000)
-line_of op.End = nothing
-line_of op.New = more right (more right type)
-line_of op.Store = more right (one value)
-line_of op.Get = more value (one right)
-line_of op.Insert = more right (more value (more right goal))
-line_of op.Look = more right (more right (more value goal))
-line_of op.Size = more value (one right)
-line_of op.SubscriptAt = more value (more right (more value goal))
-line_of op.CopyRead = more right (one right)
-line_of op.CopyWrite = more right (one right)
-line_of op.DropRead = one right
-line_of op.DropWrite = one right
-line_of op.Rule = action_line
-line_of op.Put = action_line
-line_of op.Ret = nothing
+-- its operands, and the instruction that they make
+pub data Row : Type 0 where
+  row : (l : Line) → (LineContent l → Instr) → Row
 
-abbrev pub instr_of : (o : Opcode) → LineContent (line_of o) → Instr
-instr_of op.Int x = instr.Local (local.Int x.0 x.1)
-instr_of op.Text x = instr.Local (local.Text x.0 x.1)
-instr_of op.Copy x = instr.Local (local.Copy x.0 x.1)
-instr_of op.Add x = instr.Local (local.Compute Add x.0 x.1.0 x.1.1.0 x.1.1.1.skip)
-instr_of op.Subtract x = instr.Local (local.Compute Subtract x.0 x.1.0 x.1.1.0 x.1.1.1.skip)
-instr_of op.Multiply x = instr.Local (local.Compute Multiply x.0 x.1.0 x.1.1.0 x.1.1.1.skip)
-instr_of op.Divide x = instr.Local (local.Compute Divide x.0 x.1.0 x.1.1.0 x.1.1.1.skip)
-instr_of op.Remainder x = instr.Local (local.Compute Remainder x.0 x.1.0 x.1.1.0 x.1.1.1.skip)
-instr_of op.Concatenate x = instr.Local (local.Concatenate x.0 x.1.0 x.1.1.0 x.1.1.1.skip)
-instr_of op.Length x = instr.Local (local.Length x.0 x.1)
-instr_of op.Show x = instr.Local (local.Show x.0 x.1)
-instr_of op.ReadInt x = instr.Local (local.ReadInt x.0 x.1.0 x.1.1.skip)
-instr_of op.Jump x = instr.Local (local.Jump x.skip)
-instr_of op.JumpEqual x = instr.Local (local.JumpEqual x.0 x.1.0 x.1.1.skip)
-instr_of op.JumpLess x = instr.Local (local.JumpLess x.0 x.1.0 x.1.1.skip)
-instr_of op.Repeat x = instr.Local (local.Repeat x)
-instr_of op.End x = instr.Local local.End
-instr_of op.New x = instr.Data (on_data.New x.0 x.1.0 x.1.1)
-instr_of op.Store x = instr.Data (on_data.Store x.0 x.1)
-instr_of op.Get x = instr.Data (on_data.Get x.0 x.1)
-instr_of op.Insert x = instr.Data (on_data.Insert x.0 x.1.0 x.1.1.0 x.1.1.1.skip)
-instr_of op.Look x = instr.Data (on_data.Look x.0 x.1.0 x.1.1.0 x.1.1.1.skip)
-instr_of op.Size x = instr.Data (on_data.Size x.0 x.1)
-instr_of op.SubscriptAt x = instr.Data (on_data.SubscriptAt x.0 x.1.0 x.1.1.0 x.1.1.1.skip)
-instr_of op.CopyRead x = instr.Data (on_data.CopyRead x.0 x.1)
-instr_of op.CopyWrite x = instr.Data (on_data.CopyWrite x.0 x.1)
-instr_of op.DropRead x = instr.Data (on_data.DropRead x)
-instr_of op.DropWrite x = instr.Data (on_data.DropWrite x)
-instr_of op.Rule x = instr.Rule (record { procedure = x.0; priority = x.1.0; target = x.1.1.0; args = x.1.1.1 })
-instr_of op.Put x = instr.Put (record { procedure = x.0; priority = x.1.0; target = x.1.1.0; args = x.1.1.1 })
-instr_of op.Ret x = instr.Ret
+abbrev pub row_of : Opcode → Row
+row_of op.Int = row (more value (one number)) (λ x. instr.Local (local.Int x.0 x.1))
+row_of op.Text = row (more value (one literal)) (λ x. instr.Local (local.Text x.0 x.1))
+row_of op.Copy = row (more value (one value)) (λ x. instr.Local (local.Copy x.0 x.1))
+row_of op.Add = row (more value (more value (more value goal))) (λ x. instr.Local (local.Compute Add x.0 x.1.0 x.1.1.0 x.1.1.1.skip))
+row_of op.Subtract = row (more value (more value (more value goal))) (λ x. instr.Local (local.Compute Subtract x.0 x.1.0 x.1.1.0 x.1.1.1.skip))
+row_of op.Multiply = row (more value (more value (more value goal))) (λ x. instr.Local (local.Compute Multiply x.0 x.1.0 x.1.1.0 x.1.1.1.skip))
+row_of op.Divide = row (more value (more value (more value goal))) (λ x. instr.Local (local.Compute Divide x.0 x.1.0 x.1.1.0 x.1.1.1.skip))
+row_of op.Remainder = row (more value (more value (more value goal))) (λ x. instr.Local (local.Compute Remainder x.0 x.1.0 x.1.1.0 x.1.1.1.skip))
+row_of op.Concatenate = row (more value (more value (more value goal))) (λ x. instr.Local (local.Concatenate x.0 x.1.0 x.1.1.0 x.1.1.1.skip))
+row_of op.Length = row (more value (one value)) (λ x. instr.Local (local.Length x.0 x.1))
+row_of op.Show = row (more value (one value)) (λ x. instr.Local (local.Show x.0 x.1))
+row_of op.ReadInt = row (more value (more value goal)) (λ x. instr.Local (local.ReadInt x.0 x.1.0 x.1.1.skip))
+row_of op.Jump = row goal (λ x. instr.Local (local.Jump x.skip))
+row_of op.JumpEqual = row (more value (more value goal)) (λ x. instr.Local (local.JumpEqual x.0 x.1.0 x.1.1.skip))
+row_of op.JumpLess = row (more value (more value goal)) (λ x. instr.Local (local.JumpLess x.0 x.1.0 x.1.1.skip))
+row_of op.Repeat = row (one (natural 1 1000)) (λ x. instr.Local (local.Repeat x))
+row_of op.End = row nothing (λ x. instr.Local local.End)
+row_of op.New = row (more right (more right type)) (λ x. instr.Data (on_data.New x.0 x.1.0 x.1.1))
+row_of op.Store = row (more right (one value)) (λ x. instr.Data (on_data.Store x.0 x.1))
+row_of op.Get = row (more value (one right)) (λ x. instr.Data (on_data.Get x.0 x.1))
+row_of op.Insert = row (more right (more value (more right goal))) (λ x. instr.Data (on_data.Insert x.0 x.1.0 x.1.1.0 x.1.1.1.skip))
+row_of op.Look = row (more right (more right (more value goal))) (λ x. instr.Data (on_data.Look x.0 x.1.0 x.1.1.0 x.1.1.1.skip))
+row_of op.Size = row (more value (one right)) (λ x. instr.Data (on_data.Size x.0 x.1))
+row_of op.SubscriptAt = row (more value (more right (more value goal))) (λ x. instr.Data (on_data.SubscriptAt x.0 x.1.0 x.1.1.0 x.1.1.1.skip))
+row_of op.CopyRead = row (more right (one right)) (λ x. instr.Data (on_data.CopyRead x.0 x.1))
+row_of op.CopyWrite = row (more right (one right)) (λ x. instr.Data (on_data.CopyWrite x.0 x.1))
+row_of op.DropRead = row (one right) (λ x. instr.Data (on_data.DropRead x))
+row_of op.DropWrite = row (one right) (λ x. instr.Data (on_data.DropWrite x))
+row_of op.Rule = row action_line (λ x. instr.Rule (record { procedure = x.0; priority = x.1.0; target = x.1.1.0; args = x.1.1.1 }))
+row_of op.Put = row action_line (λ x. instr.Put (record { procedure = x.0; priority = x.1.0; target = x.1.1.0; args = x.1.1.1 }))
+row_of op.Ret = row nothing (λ x. instr.Ret)
 
 -- an instruction, and the label that it names
+abbrev pub draft_by : Row → List Word → Result (Instr × Option (List ℕ)) Flaw
+draft_by (row l make) ws = as_is (λ x. (make x, label_in l x)) (line_in l ws)
+
 abbrev pub draft_in : Opcode → List Word → Result (Instr × Option (List ℕ)) Flaw
-draft_in o ws = as_is (λ x. (instr_of o x, label_in (line_of o) x)) (line_in (line_of o) ws)
+draft_in o ws = draft_by (row_of o) ws
 
 -- ---- statements
 
