@@ -1,7 +1,7 @@
 //! Main by itself, once or again and again.
 
 use std::alloc::{AllocError, Global};
-use tw_frame::{Draft, Frame};
+use tw_frame::{Frame, Rooms};
 use tw_queue::Task;
 use tw_rights::Bundle;
 use tw_types::{Actor, TaskNo};
@@ -25,16 +25,16 @@ pub(crate) fn steps_alone(alloc: Global, verified: &Verified) -> Result<u64, All
         procedure: 0,
         args: Bundle::new(),
     };
-    let Ok(first) = Draft::start(alloc, &task, verified) else {
+    let Ok(rooms) = Rooms::new(alloc) else {
         shut(task);
         return Err(AllocError);
     };
-    let Ok(second) = first.try_clone(alloc) else {
+    let Ok(start) = rooms.start(alloc, &task, verified) else {
         shut(task);
         return Err(AllocError);
     };
-    let mut frame = Frame::start(task, Actor::Engine(0), verified, first);
-    let done = frame.lend(0, second).run(alloc);
+    let (mut frame, draft) = Frame::start(task, Actor::Engine(0), verified, start);
+    let done = frame.lend(0, draft).run(alloc);
     let steps = done.steps();
     let accepted = frame.accept(done).is_ok();
     frame.shut();

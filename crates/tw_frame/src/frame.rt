@@ -12,10 +12,12 @@ ghost use Rattle.tw_frame.specs.Drafts.{MaySet, StartsAsMachine};
 ghost use Rattle.tw_frame.specs.Seen.{seen};
 ghost use Rattle.tw_frame.specs.Jobs.{MayStand, bare_frame, draft_of, job_of};
 
+use crate::context::Context;
 use crate::draft::Draft;
-use crate::job::{After, Done, Job};
+use crate::job::{Came, Done, Job, Lent};
 use crate::loops::Loops;
-use crate::registers::Registers;
+use crate::rooms::{Ahead, Rooms};
+use crate::start::Start;
 use crate::value_ref::ValueRef;
 use std::alloc::{AllocError, Global};
 use std::marker::Model;
@@ -31,69 +33,80 @@ pub struct Frame<'a> {
     procedure: u8,
     actor: Actor,
     event_no: u64,
-    place: usize,
     spent: u64,
-    loops: Loops,
-    registers: Registers<'a>,
+    own: Box<Context<'a>>,
     /// Its right registers.
     pub rights: RightFile,
 }
 
 impl<'a> Model for Frame<'a> {
-    ghost use Rattle.tw_frame.specs.Jobs.{AreOf, FrameView};
-    ghost use Rattle.tw_frame.specs.Standing.{standing};
+    ghost use Rattle.tw_frame.specs.Jobs.{AreOf, FrameView, position_of};
 
     ghost Value = { FrameView };
 
-    ghost view = { λ f. record { program = f.verified.now; task = f.task; procedure = f.procedure; actor = f.actor; event_no = f.event_no; position = standing f.place f.registers f.loops; held = f.rights; spent = f.spent } };
+    ghost view = { λ f. record { program = f.verified.now; task = f.task; procedure = f.procedure; actor = f.actor; event_no = f.event_no; position = position_of f.own.value; held = f.rights; spent = f.spent } };
 
-    ghost invariant = { λ f. AreOf f.verified.now.program f.procedure f.registers.types };
+    ghost invariant = { λ f. AreOf f.verified.now.program f.procedure f.own.value.registers.types };
 }
 
 impl<'a> Frame<'a> {
-    /// A task starts, with the values of the draft and the rights among its arguments: with the values with which it starts
-    /// it is the machine's frame.
-    pub fn start(task: Task, actor: Actor, verified: &'a Verified, draft: Draft<'a>) -> Frame<'a>
-        requires program { draft.program ≡ verified.now }
-        requires procedure { draft.procedure ≡ task.procedure }
-        ensures machine { StartsAsMachine verified.entry.now.program task.no task.procedure task.args draft.entry.values (bare_frame result) }
-        ensures is { result ≡ record {
+    /// A task starts, with these values and the rights among its arguments: with the values with which it starts it is the
+    /// machine's frame. The draft is for its first job.
+    pub fn start(
+        task: Task,
+        actor: Actor,
+        verified: &'a Verified,
+        start: Start<'a>,
+    ) -> (Frame<'a>, Draft<'a>)
+        requires program { start.program ≡ verified.now }
+        requires procedure { start.procedure ≡ task.procedure }
+        ensures machine { StartsAsMachine verified.entry.now.program task.no task.procedure task.args start.entry.values (bare_frame result.0) }
+        ensures is { result.0 ≡ record {
           program = verified.entry.now;
           task = task.no;
           procedure = task.procedure;
           actor = actor;
           event_no = 0;
-          position = record { place = 0; values = draft.entry.values; loops = [] };
+          position = record { place = 0; values = start.entry.values; loops = [] };
           held = filed (rights_in task.args);
           spent = 0;
         } }
+        ensures draft { result.1 ≡ start.entry }
     {
         let Task {
             no,
             procedure,
             args,
         } = task;
-        let Draft {
+        let Start {
             verified: _,
             procedure: _,
-            registers,
-        } = draft;
-        Frame {
+            mut own,
+            lent,
+            ahead,
+        } = start;
+        own.stand_at(0, Loops::new());
+        let draft = Draft {
+            verified,
+            procedure,
+            lent,
+            ahead,
+        };
+        let frame = Frame {
             verified,
             task: no,
             procedure,
             actor,
             event_no: 0,
-            place: 0,
             spent: 0,
-            loops: Loops::new(),
-            registers,
+            own,
             rights: args.into_file(),
-        }
+        };
+        (frame, draft)
     }
 
     /// Whether this is the job that was lent last. Numbers and place are compared first, then loops, then values.
-    pub fn has_lent(&self, job: &Job<'_>) -> bool
+    pub fn has_lent(&self, job: &Lent<'_>) -> bool
         requires { job.now.program ≡ self.now.program }
         ensures { IsTrue result ↔ (job.now ≡ job_of self.now) }
     {
@@ -109,13 +122,13 @@ impl<'a> Frame<'a> {
         if self.actor != job.actor {
             return false;
         }
-        if self.place != job.place {
+        if self.own.place != job.at.place {
             return false;
         }
-        if !self.loops.same(&job.loops) {
+        if !self.own.loops.same(&job.at.loops) {
             return false;
         }
-        self.registers.same(&job.registers)
+        self.own.registers.same(&job.at.registers)
     }
 
     /// Lends the task's work up to its next instruction that isn't local, by the number of its actor's events. The draft has
@@ -129,15 +142,24 @@ impl<'a> Frame<'a> {
         ensures kept { self.new ≡ record self.old { event_no = event_no } }
     {
         self.event_no = event_no;
+        let Draft {
+            verified: _,
+            procedure: _,
+            mut lent,
+            ahead,
+        } = draft;
+        let own: &Context<'a> = &self.own;
+        lent.stand_at(own.place, own.loops.copy());
         Job {
-            verified: self.verified,
-            task: self.task,
-            procedure: self.procedure,
-            actor: self.actor,
-            event_no,
-            place: self.place,
-            registers: draft.registers,
-            loops: self.loops.copy(),
+            lent: Lent {
+                verified: self.verified,
+                task: self.task,
+                procedure: self.procedure,
+                actor: self.actor,
+                event_no,
+                at: lent,
+            },
+            ahead,
         }
     }
 
@@ -159,31 +181,29 @@ impl<'a> Frame<'a> {
         let steps = done.steps();
         let Done {
             before,
-            after,
+            came,
             steps: _,
             short: _,
         } = done;
         self.spent += steps;
-        let Some(after) = after else {
-            return Ok(Draft {
-                verified: self.verified,
-                procedure: self.procedure,
-                registers: before.registers,
-            });
+        let (lent, ahead) = match came {
+            Came::Nowhere(ahead) => (before.at, ahead),
+            Came::There(Ahead { after, again }) => {
+                let own = std::mem::replace(&mut self.own, after);
+                (
+                    again,
+                    Ahead {
+                        after: own,
+                        again: before.at,
+                    },
+                )
+            }
         };
-        let After {
-            place,
-            registers,
-            loops,
-            again,
-        } = after;
-        self.place = place;
-        self.registers = registers;
-        self.loops = loops;
         Ok(Draft {
             verified: self.verified,
             procedure: self.procedure,
-            registers: again,
+            lent,
+            ahead,
         })
     }
 
@@ -228,7 +248,7 @@ impl<'a> Frame<'a> {
     pub fn place(&self) -> usize
         ensures { result ≡ self.now.position.place }
     {
-        self.place
+        self.own.place
     }
 
     /// The value of a register, which stays there.
@@ -236,8 +256,8 @@ impl<'a> Frame<'a> {
         requires { register < length self.now.position.values }
         ensures { slice_get self.now.position.values register ≡ Some (seen result) }
     {
-        let _count = self.registers.count();
-        self.registers.at(register)
+        let _count = self.own.registers.count();
+        self.own.registers.at(register)
     }
 
     /// A copy of the value of a register. Only a text takes memory.
@@ -246,8 +266,8 @@ impl<'a> Frame<'a> {
         ensures copy { IfOk result (λ value. slice_get self.now.position.values register ≡ Some value) }
         ensures text { OnErr result ((bytes : List ℕ) × (slice_get self.now.position.values register ≡ Some (value.Text bytes))) }
     {
-        let _count = self.registers.count();
-        self.registers.copy_of(alloc, register)
+        let _count = self.own.registers.count();
+        self.own.registers.copy_of(alloc, register)
     }
 
     /// The number in a register that has one.
@@ -255,7 +275,7 @@ impl<'a> Frame<'a> {
         requires { (n : ℤ) × (slice_get self.now.position.values register ≡ Some (value.Int n)) }
         ensures { slice_get self.now.position.values register ≡ Some (value.Int result) }
     {
-        self.registers.number(register)
+        self.own.registers.number(register)
     }
 
     /// Gives a register a value of its type.
@@ -263,7 +283,7 @@ impl<'a> Frame<'a> {
         requires { MaySet self.old.position.values register value }
         ensures { self.new ≡ record self.old { position = with_value self.old.position register value } }
     {
-        self.registers.replace(register, value);
+        self.own.registers.replace(register, value);
     }
 
     /// Goes to a place, by one instruction more.
@@ -271,7 +291,7 @@ impl<'a> Frame<'a> {
         requires { self.old.spent < 2 ^ 63 }
         ensures { self.new ≡ record self.old { position = record self.old.position { place = place }; spent = self.old.spent + 1 } }
     {
-        self.place = place;
+        self.own.place = place;
         self.spent += 1;
     }
 
@@ -281,7 +301,8 @@ impl<'a> Frame<'a> {
         requires spent { self.old.spent < 2 ^ 63 }
         ensures { self.new ≡ record self.old { position = at_next_place self.old.position; spent = self.old.spent + 1 } }
     {
-        self.go(self.place + 1);
+        let place = self.own.place;
+        self.go(place + 1);
     }
 
     /// Is refused, and skips.
@@ -290,7 +311,8 @@ impl<'a> Frame<'a> {
         requires spent { self.old.spent < 2 ^ 63 }
         ensures { self.new ≡ record self.old { position = at_goal self.old.position skip; spent = self.old.spent + 1 } }
     {
-        self.go(self.place + 1 + usize::from(skip));
+        let place = self.own.place;
+        self.go(place + 1 + usize::from(skip));
     }
 
     /// The read right of a register, which stays there.
@@ -352,18 +374,44 @@ impl<'a> Frame<'a> {
 
     /// Spends every right.
     pub fn shut(self) {
+        let _own = self.spend();
+    }
+
+    /// Spends every right, and gives its memory and that of a Done for the seat's next task.
+    pub fn end(self, alloc: Global, done: Done<'a>) -> Rooms<'a> {
+        let Done {
+            before,
+            came,
+            steps: _,
+            short: _,
+        } = done;
+        let ahead = match came {
+            Came::Nowhere(ahead) => ahead,
+            Came::There(ahead) => ahead,
+        };
+        let own = self.spend();
+        let mut rooms = Rooms {
+            own,
+            lent: before.at,
+            ahead,
+        };
+        rooms.empty(alloc);
+        rooms
+    }
+
+    /// Spends every right; the context is left.
+    fn spend(self) -> Box<Context<'a>> {
         let Frame {
             verified: _,
             task: _,
             procedure: _,
             actor: _,
             event_no: _,
-            place: _,
             spent: _,
-            loops: _,
-            registers: _,
+            own,
             rights,
         } = self;
         rights.shut();
+        own
     }
 }

@@ -2,11 +2,11 @@
 
 ghost use Rattle.std.specs.Prelude.{◌≡◌, ◌<◌, ℕ, List, IfOk, OnErr, Some, length, slice_get};
 ghost use Rattle.tw_types.specs.declared.value.Value.TheVariants as value;
-ghost use Rattle.tw_frame.specs.Jobs.{IsDone};
+ghost use Rattle.tw_frame.specs.Jobs.{IsDone, IsJob, IsRun, position_of};
 ghost use Rattle.tw_frame.specs.Seen.{seen};
 
-use crate::loops::Loops;
-use crate::registers::Registers;
+use crate::context::Context;
+use crate::rooms::Ahead;
 use crate::run::run_from;
 use crate::value_ref::ValueRef;
 use std::alloc::{AllocError, Global};
@@ -14,46 +14,56 @@ use std::marker::Model;
 use tw_types::{Actor, TaskNo, Value};
 use tw_verify::Verified;
 
-/// A task's work up to its next instruction that isn't local.
+/// A task as it is lent: its work up to its next instruction that isn't local.
 #[derive(Drop)]
-pub struct Job<'a> {
+pub struct Lent<'a> {
     pub(crate) verified: &'a Verified,
     pub(crate) task: TaskNo,
     pub(crate) procedure: u8,
     pub(crate) actor: Actor,
     pub(crate) event_no: u64,
-    pub(crate) place: usize,
-    pub(crate) registers: Registers<'a>,
-    pub(crate) loops: Loops,
+    pub(crate) at: Box<Context<'a>>,
 }
 
-impl<'a> Model for Job<'a> {
-    ghost use Rattle.tw_frame.specs.Jobs.{JobView, IsJob};
-    ghost use Rattle.tw_frame.specs.Standing.{standing};
+impl<'a> Model for Lent<'a> {
+    ghost use Rattle.tw_frame.specs.Jobs.{JobView, IsJob, position_of};
 
     ghost Value = { JobView };
 
-    ghost view = { λ j. record { program = j.verified.now; task = j.task; procedure = j.procedure; actor = j.actor; event_no = j.event_no; position = standing j.place j.registers j.loops } };
+    ghost view = { λ j. record { program = j.verified.now; task = j.task; procedure = j.procedure; actor = j.actor; event_no = j.event_no; position = position_of j.at.value } };
 
-    ghost invariant = { λ j. IsJob j.verified.now.program j.procedure j.registers.types (standing j.place j.registers j.loops) };
+    ghost invariant = { λ j. IsJob j.verified.now.program j.procedure j.at.value.registers.types (position_of j.at.value) };
+}
+
+/// A task as it is lent, with room for what is done of it.
+#[derive(Drop)]
+pub struct Job<'a> {
+    pub(crate) lent: Lent<'a>,
+    pub(crate) ahead: Ahead<'a>,
+}
+
+impl<'a> Model for Job<'a> {
+    ghost use Rattle.tw_frame.specs.Jobs.{JobView};
+
+    ghost Value = { JobView };
+
+    ghost view = { λ j. j.lent };
 }
 
 /// Where a task came to.
 #[derive(Drop)]
-pub(crate) struct After<'a> {
-    pub(crate) place: usize,
-    pub(crate) registers: Registers<'a>,
-    pub(crate) loops: Loops,
-    /// The same values again, for the next job.
-    pub(crate) again: Registers<'a>,
+pub(crate) enum Came<'a> {
+    /// No step was made, since the first instruction isn't local or the values couldn't be copied twice. The rooms are left.
+    Nowhere(Ahead<'a>),
+    /// It stands there, and there again for the next job.
+    There(Ahead<'a>),
 }
 
 /// What was done of a job. Only `run` makes one.
 #[derive(Drop)]
 pub struct Done<'a> {
-    pub(crate) before: Job<'a>,
-    /// Nothing where no step was made, since the first instruction isn't local or the values couldn't be copied twice.
-    pub(crate) after: Option<After<'a>>,
+    pub(crate) before: Lent<'a>,
+    pub(crate) came: Came<'a>,
     pub(crate) steps: u64,
     pub(crate) short: bool,
 }
@@ -63,12 +73,12 @@ impl<'a> Model for Done<'a> {
 
     ghost Value = { DoneView };
 
-    ghost view = { λ d. record { before = d.before; after = after_of d.before.position d.after; steps = d.steps; short = d.short } };
+    ghost view = { λ d. record { before = d.before; after = after_of d.before.position d.came; steps = d.steps; short = d.short } };
 
-    ghost invariant = { λ d. IsKept d.before.program.program d.before.procedure d.before.position d.after d.steps d.short };
+    ghost invariant = { λ d. IsKept d.before.program.program d.before.procedure d.before.position d.came d.steps d.short };
 }
 
-impl<'a> Job<'a> {
+impl<'a> Lent<'a> {
     /// The program that it belongs to.
     pub fn program(&self) -> &'a Verified
         ensures { result.now ≡ self.now.program }
@@ -94,7 +104,7 @@ impl<'a> Job<'a> {
     pub fn place(&self) -> usize
         ensures { result ≡ self.now.position.place }
     {
-        self.place
+        self.at.place
     }
 
     /// The value of a register, which stays there.
@@ -102,8 +112,8 @@ impl<'a> Job<'a> {
         requires { register < length self.now.position.values }
         ensures { slice_get self.now.position.values register ≡ Some (seen result) }
     {
-        let _count = self.registers.count();
-        self.registers.at(register)
+        let _count = self.at.registers.count();
+        self.at.registers.at(register)
     }
 
     /// A copy of the value of a register, from which it goes on.
@@ -112,8 +122,8 @@ impl<'a> Job<'a> {
         ensures copy { IfOk result (λ value. slice_get self.now.position.values register ≡ Some value) }
         ensures text { OnErr result ((bytes : List ℕ) × (slice_get self.now.position.values register ≡ Some (value.Text bytes))) }
     {
-        let _count = self.registers.count();
-        self.registers.copy_of(alloc, register)
+        let _count = self.at.registers.count();
+        self.at.registers.copy_of(alloc, register)
     }
 
     /// The actor to which it was lent.
@@ -129,6 +139,62 @@ impl<'a> Job<'a> {
     {
         self.event_no
     }
+}
+
+/// How a run went: after so many steps, and whether memory was wanting for the next one.
+#[derive(Clone, Copy)]
+pub(crate) enum Went {
+    Nowhere { short: bool },
+    There { steps: u64, short: bool },
+}
+
+/// Runs a task of a procedure from where it stands, in a copy, and copies where it came to once more.
+fn run_in<'a>(
+    alloc: Global,
+    verified: &'a Verified,
+    procedure: u8,
+    at: &Context<'a>,
+    after: &mut Context<'a>,
+    again: &mut Context<'a>,
+) -> Went
+    requires { IsJob verified.now.program procedure at.now.registers.types (position_of at.now) }
+    ensures { IsRun verified.now.program procedure at.now after.new again.new result }
+{
+    let procedure = usize::from(procedure);
+    let procedures = verified.program().procedures();
+    let p = &procedures[procedure];
+    if !p.code.as_slice()[at.place].is_local() {
+        return Went::Nowhere { short: false };
+    }
+    let Ok(()) = after.copy_from(alloc, at) else {
+        return Went::Nowhere { short: true };
+    };
+    let ran = run_from(
+        alloc,
+        p,
+        verified.quick(procedure),
+        verified.budget(procedure),
+        &mut after.registers,
+        &mut after.loops,
+        at.place,
+    );
+    after.place = ran.place;
+    let Ok(()) = again.copy_from(alloc, after) else {
+        return Went::Nowhere { short: true };
+    };
+    Went::There {
+        steps: ran.steps,
+        short: ran.short,
+    }
+}
+
+impl<'a> Job<'a> {
+    /// The task as it is lent.
+    pub fn lent(&self) -> &Lent<'a>
+        ensures { result.now ≡ self.now }
+    {
+        &self.lent
+    }
 
     /// Runs it up to its next instruction that isn't local; or, short, up to a local one whose memory is refused. The values
     /// are copied twice, before and after, so that the next job takes no memory; no copy is made where the first
@@ -136,63 +202,41 @@ impl<'a> Job<'a> {
     pub fn run(self, alloc: Global) -> Done<'a>
         ensures { result.before ≡ self.entry }
     {
-        let procedure = usize::from(self.procedure);
-        let procedures = self.verified.program().procedures();
-        let p = &procedures[procedure];
-        let code = p.code.as_slice();
-        if !code[self.place].is_local() {
-            return Done {
-                before: self,
-                after: None,
-                steps: 0,
-                short: false,
-            };
-        }
-        let Ok(mut registers) = self.registers.try_clone(alloc) else {
-            return Done {
-                before: self,
-                after: None,
-                steps: 0,
-                short: true,
-            };
-        };
-        let mut loops = self.loops.copy();
-        let quick = self.verified.quick(procedure);
-        let budget = self.verified.budget(procedure);
-        let ran = run_from(
+        let Job { lent, ahead } = self;
+        let Ahead {
+            mut after,
+            mut again,
+        } = ahead;
+        let verified = lent.verified;
+        let went = run_in(
             alloc,
-            p,
-            quick,
-            budget,
-            &mut registers,
-            &mut loops,
-            self.place,
+            verified,
+            lent.procedure,
+            &lent.at,
+            &mut after,
+            &mut again,
         );
-        let Ok(again) = registers.try_clone(alloc) else {
-            return Done {
-                before: self,
-                after: None,
+        let ahead = Ahead { after, again };
+        match went {
+            Went::Nowhere { short } => Done {
+                before: lent,
+                came: Came::Nowhere(ahead),
                 steps: 0,
-                short: true,
-            };
-        };
-        Done {
-            before: self,
-            after: Some(After {
-                place: ran.place,
-                registers,
-                loops,
-                again,
-            }),
-            steps: ran.steps,
-            short: ran.short,
+                short,
+            },
+            Went::There { steps, short } => Done {
+                before: lent,
+                came: Came::There(ahead),
+                steps,
+                short,
+            },
         }
     }
 }
 
 impl<'a> Done<'a> {
     /// The job that was run.
-    pub fn before(&self) -> &Job<'a>
+    pub fn before(&self) -> &Lent<'a>
         ensures { result.now ≡ self.now.before }
     {
         &self.before
@@ -202,10 +246,7 @@ impl<'a> Done<'a> {
     pub fn after_place(&self) -> usize
         ensures { result ≡ self.now.after.place }
     {
-        match &self.after {
-            Some(after) => after.place,
-            None => self.before.place,
-        }
+        self.context_after().place
     }
 
     /// The value of a register, to which it came.
@@ -213,9 +254,9 @@ impl<'a> Done<'a> {
         requires { register < length self.now.after.values }
         ensures { slice_get self.now.after.values register ≡ Some (seen result) }
     {
-        let registers = self.registers_after();
-        let _count = registers.count();
-        registers.at(register)
+        let context = self.context_after();
+        let _count = context.registers.count();
+        context.registers.at(register)
     }
 
     /// A copy of the value of a register, to which it came.
@@ -224,24 +265,24 @@ impl<'a> Done<'a> {
         ensures copy { IfOk result (λ value. slice_get self.now.after.values register ≡ Some value) }
         ensures text { OnErr result ((bytes : List ℕ) × (slice_get self.now.after.values register ≡ Some (value.Text bytes))) }
     {
-        let registers = self.registers_after();
-        let _count = registers.count();
-        registers.copy_of(alloc, register)
+        let context = self.context_after();
+        let _count = context.registers.count();
+        context.registers.copy_of(alloc, register)
     }
 
     /// How many value registers there are.
     pub fn count(&self) -> usize
         ensures { result ≡ length self.now.after.values }
     {
-        self.registers_after().count()
+        self.context_after().registers.count()
     }
 
-    fn registers_after(&self) -> &Registers<'a>
-        ensures { result.now.values ≡ self.now.after.values }
+    fn context_after(&self) -> &Context<'a>
+        ensures { position_of result.now ≡ self.now.after }
     {
-        match &self.after {
-            Some(after) => &after.registers,
-            None => &self.before.registers,
+        match &self.came {
+            Came::There(ahead) => &ahead.after,
+            Came::Nowhere(_) => &self.before.at,
         }
     }
 

@@ -2,18 +2,23 @@
 //! its next instruction that isn't local, which runs on registers without tags.
 #![tactic(auto)]
 
+mod context;
 mod dispatch;
 mod draft;
 mod frame;
 mod job;
 mod loops;
 mod registers;
+mod rooms;
 mod run;
+mod start;
 mod step;
 mod texts;
 mod value_ref;
 
 pub use draft::Draft;
 pub use frame::Frame;
-pub use job::{Done, Job};
+pub use job::{Done, Job, Lent};
+pub use rooms::Rooms;
+pub use start::Start;
 pub use value_ref::ValueRef;

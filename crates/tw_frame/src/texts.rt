@@ -59,6 +59,16 @@ fn string_of(bytes: &[u8]) -> &str
 }
 
 impl Texts {
+    /// No texts, and no memory.
+    pub(crate) fn none(alloc: Global) -> Texts
+        ensures { result ≡ [] }
+    {
+        Texts {
+            slots: Vec::new(alloc),
+            block: Vec::new(alloc),
+        }
+    }
+
     /// So many empty texts.
     pub(crate) fn blank(alloc: Global, count: usize) -> Result<Texts, AllocError>
         ensures blank { IfOk result (λ texts. texts ≡ replicate count []) }

@@ -1,5 +1,6 @@
 mod Law
 mod Seating
+mod Rooming
 mod Notes
 mod Fitting
 mod Delivers

@@ -13,7 +13,7 @@ use Rattle.tw_types.specs.Layout.{ActorCounts}
 use Rattle.tw_types.specs.Mode.{is_write}
 use Rattle.tw_types.specs.Notices.{Notices}
 use Rattle.tw_types.specs.Outcome.{Went, Trap}
-use Rattle.tw_types.specs.Task.{TaskOf, best}
+use Rattle.tw_types.specs.Task.{TaskOf, TasksOf, best}
 use Rattle.tw_types.proofs.ActorOrder.{actor_cmp_total, actor_cmp-IsAntisymmetric}
 use Rattle.tw_types.proofs.Best.{best_waits}
 use Rattle.tw_rights.specs.declared.arg.Arg.{Arg}
@@ -32,14 +32,16 @@ use Rattle.tw_no_trap.proofs.Running.{typed_at_start}
 use Rattle.tw_no_trap.proofs.Safe.{safe}
 use Rattle.tw_parts.specs.Events.{Goes}
 use Rattle.tw_parts.specs.Fits.{AreParts, ArePlaced, ArgStands, ArgsStand, FrameFits, Stand, kinds_in}
-use Rattle.tw_frame.specs.Jobs.{FrameView, MayStand, bare_frame}
+use Rattle.tw_frame.specs.Jobs.{DraftView, FrameView, MayStand, bare_frame}
 use Rattle.tw_rights.specs.Bare.{bare_file}
 use Rattle.tw_rights.specs.Filed.{filed, rights_in}
 use Rattle.tw_rights.specs.Kinds.{writes}
 use Rattle.tw_frame.specs.Drafts.{MayStart, StartsAsMachine, started}
 use Rattle.tw_types.specs.Mapped.{entry_by, mapped}
 use Rattle.tw_rights.specs.Bare.{bare_arg, bare_rule, bare_task}
+use Rattle.tw_parts.specs.Coming.{Begins, BeginsOrNone}
 use Rattle.tw_parts.specs.Parts.{state_of}
+use Rattle.tw_parts.specs.Seats.{Seated}
 use Rattle.tw_parts.specs.declared.parts.Parts.{Parts}
 use Rattle.tw_parts.proofs.Fitting.{seen, stand_seated, stand_without}
 use Rattle.tw_types.proofs.Mapped.{insert_mapped, remove_mapped}
@@ -103,6 +105,11 @@ placed_given places (p ∷ params) (arg ∷ args) n h = by (right_of p) arg h.0 
     by (Some t) (Val x) s rest = absurd s
     by (Some t) (Read right) s rest = (s.1, rest)
     by (Some t) (Write right) s rest = (s.1, rest)
+
+-- one that has begun
+pub has_begun : (verified : TypedProgram) (actor : Actor) (old : Seated) (waiting : TasksOf Arg) (new : Seated) (left : TasksOf Arg) (o : Option DraftView) (draft : DraftView)
+    → o ≡ Some draft → BeginsOrNone verified actor old waiting new left o → Begins verified actor old waiting new left draft
+has_begun verified actor old waiting new left o draft some begun = subst (λ (x : Option DraftView). BeginsOrNone verified actor old waiting new left x) some begun
 
 -- ---- the task that is taken
 

@@ -1,8 +1,57 @@
 -- What becomes of a task that runs.
-use Rattle.std.specs.Prelude.{◌≡◌, ◌+◌, List, Option}
+use Rattle.std.specs.Prelude.{◌≡◌, ◌+◌, ℕ, [], IsSome, List, None, Ok, Option, Result, Some, slice_get}
+use Rattle.std.specs.declared.result.Result.TheVariants.{Err}
+use Rattle.std.specs.FinMap.{insert, remove}
+use Rattle.tw_types.specs.declared.actor.Actor.{Actor}
+use Rattle.tw_types.specs.declared.value.Value.{Value}
+use Rattle.tw_types.specs.Task.{TaskOf, TasksOf, best}
+use Rattle.tw_rights.specs.declared.arg.Arg.{Arg}
 use Rattle.tw_rights.specs.declared.held.Held.{Held}
+use Rattle.tw_rights.specs.Filed.{filed, rights_in}
+use Rattle.tw_code.specs.declared.procedure.Procedure.{Procedure}
 use Rattle.tw_code.specs.machine.Position.{at_next_place}
-use Rattle.tw_frame.specs.Jobs.{DoneView, DraftView, FrameView, MayStand}
+use Rattle.tw_verify.specs.Typed.{TypedProgram}
+use Rattle.tw_frame.specs.Drafts.{StartsAsMachine, started}
+use Rattle.tw_frame.specs.Jobs.{DoneView, DraftView, FrameView, MayStand, bare_frame, draft_of}
+use Rattle.tw_parts.specs.Seats.{Seated}
+
+-- ---- it begins
+
+-- with these values
+abbrev pub begun : TypedProgram → Actor → ℕ × TaskOf Arg → List Value → FrameView
+begun verified actor e values = record {
+  program = verified;
+  task = e.0;
+  procedure = e.1.procedure;
+  actor = actor;
+  event_no = 0;
+  position = record { place = 0; values = values; loops = [] };
+  held = filed (rights_in e.1.args);
+  spent = 0;
+}
+
+-- the actor's best task begins as the machine's, with the values with which it starts, which the draft has
+pub record Begins (verified : TypedProgram) (actor : Actor) (old : Seated) (waiting : TasksOf Arg) (new : Seated) (left : TasksOf Arg) (draft : DraftView) : Type 0 where
+  pub e : ℕ × TaskOf Arg
+  pub due : best actor waiting ≡ Some e
+  pub values : List Value
+  pub starts : (p : Procedure) → slice_get verified.program e.1.procedure ≡ Some p → started e.1.args p.registers ≡ Ok values
+  pub machine : StartsAsMachine verified.program e.0 e.1.procedure e.1.args values (bare_frame (begun verified actor e values))
+  pub sits : new ≡ insert old actor (begun verified actor e values)
+  pub rest : left ≡ remove waiting e.0
+  pub drafted : draft ≡ draft_of (begun verified actor e values)
+
+-- where none waits for the actor nothing changes
+abbrev pub BeginsOrNone : TypedProgram → Actor → Seated → TasksOf Arg → Seated → TasksOf Arg → Option DraftView → Type 0
+BeginsOrNone verified actor old waiting new left None = (best actor waiting ≡ None) × (new ≡ old) × (left ≡ waiting)
+BeginsOrNone verified actor old waiting new left (Some draft) = Begins verified actor old waiting new left draft
+
+-- nor where memory is refused
+abbrev pub IsBegun : {E : Type 0} → TypedProgram → Actor → Seated → TasksOf Arg → Seated → TasksOf Arg → Result (Option DraftView) E → Type 0
+IsBegun verified actor old waiting new left (Ok o) = BeginsOrNone verified actor old waiting new left o
+IsBegun verified actor old waiting new left (Err e) = IsSome (best actor waiting) × (new ≡ old) × (left ≡ waiting)
+
+-- ---- it goes on
 
 -- it has come as far as the Done says
 abbrev pub come : FrameView → DoneView → FrameView

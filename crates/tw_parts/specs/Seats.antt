@@ -1,5 +1,5 @@
 -- A seat for each actor of the greatest layout: four engines, four servers, sixteen workers.
-use Rattle.std.specs.Prelude.{◌≡◌, ◌<◌, ℕ, suc, ◌+◌, ◌-◌, nat_lt, if◌then◌else◌, List, [], ◌∷◌, length, Option, Some, None, count_by, is_some}
+use Rattle.std.specs.Prelude.{◌≡◌, ◌<◌, ℕ, suc, ◌+◌, ◌-◌, nat_lt, if◌then◌else◌, List, [], ◌∷◌, length, Option, IsSome, Some, None, count_by, is_some}
 use Rattle.std.specs.FinMap.{FinMap, from_entries}
 use Rattle.tw_types.specs.declared.actor.Actor.{Actor}
 use Rattle.tw_types.specs.declared.actor.Actor.TheVariants.{Engine, Server, Worker}
@@ -37,3 +37,11 @@ seated seats = from_entries (who_sit 0 seats)
 pub record AreSeats (seats : List (Option FrameView)) (taken : ℕ) : Type 0 where
   pub many : length seats ≡ 24
   pub counted : taken ≡ count_by is_some seats
+
+-- each empty seat has room for a task
+abbrev pub AreKept : List (Option FrameView) → List (Option (Unit {0})) → Type 0
+AreKept [] [] = Unit {0}
+AreKept [] (room ∷ rooms) = ⊥
+AreKept (seat ∷ seats) [] = ⊥
+AreKept (None ∷ seats) (room ∷ rooms) = IsSome room × AreKept seats rooms
+AreKept (Some f ∷ seats) (room ∷ rooms) = AreKept seats rooms

@@ -5,19 +5,16 @@ ghost use Rattle.tw_code.specs.declared.instr.Instr.TheVariants as instr;
 ghost use Rattle.tw_parts.specs.Events.{MakesBehind, StandsAt};
 
 use crate::parts::Parts;
+use std::alloc::Global;
 use tw_frame::Done;
 use tw_types::Actor;
 
 impl<'a> Parts<'a> {
     /// The actor's task, which stands at RET behind the Done, ends.
-    pub fn end(&mut self, actor: Actor, done: &Done<'a>)
-        requires stands { StandsAt self.old actor done.now instr.Ret }
-        ensures { MakesBehind (event.End actor) self.old actor done.now self.new }
+    pub fn end(&mut self, alloc: Global, actor: Actor, done: Done<'a>)
+        requires stands { StandsAt self.old actor done instr.Ret }
+        ensures { MakesBehind (event.End actor) self.old actor done.entry self.new }
     {
-        let _steps = done.steps();
-        let Some(frame) = self.seats.take(actor) else {
-            unreachable!();
-        };
-        frame.shut();
+        self.seats.end(alloc, actor, done);
     }
 }

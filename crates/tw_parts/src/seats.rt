@@ -1,14 +1,17 @@
 //! The tasks that run, by their actors.
 
-ghost use Rattle.std.specs.Prelude.{◌≡◌, ◌<◌, ◌≤◌, ◌+◌, ◌^◌, IfOk, List, Option, IsSome, None, Some, length, slice_index_or, slice_set};
+ghost use Rattle.std.specs.Prelude.{◌≡◌, ◌<◌, ◌≤◌, ◌+◌, ◌^◌, ℕ, IfOk, List, Option, IsSome, None, Some, length, replicate, slice_index_or, slice_set};
 ghost use Rattle.std.specs.FinMap as map;
 ghost use Rattle.std.specs.FinMap.{get, insert, remove, len};
 ghost use Rattle.std.specs.Option.{option_copied};
 ghost use Rattle.tw_rights.specs.declared.held.Held.{Held};
 ghost use Rattle.tw_rights.specs.Bundled.{bundled};
+ghost use Rattle.tw_types.specs.Task.{TaskOf, best};
+ghost use Rattle.tw_rights.specs.declared.arg.Arg.{Arg};
+ghost use Rattle.tw_frame.specs.Drafts.{MayStart};
 ghost use Rattle.tw_frame.specs.Jobs.{FrameView, draft_of, job_of};
 ghost use Rattle.tw_parts.specs.Seats.{HasSeat, seat_of};
-ghost use Rattle.tw_parts.specs.Coming.{MayLend, come, gone_on};
+ghost use Rattle.tw_parts.specs.Coming.{IsBegun, MayLend, come, gone_on};
 ghost use Rattle.tw_parts.specs.Data.{IsAnswer, MayDo};
 
 use crate::data::data_in;
@@ -16,14 +19,18 @@ use crate::in_seat::{advance_in, hand_over_in, lend_in};
 use std::alloc::{AllocError, Global};
 use std::marker::Model;
 use tw_code::DataInstr;
-use tw_frame::{Done, Draft, Frame, Job};
+use tw_frame::{Done, Draft, Frame, Job, Rooms};
+use tw_queue::TaskQueues;
 use tw_rights::Bundle;
 use tw_store::Store;
 use tw_types::{Actor, Param, Value};
+use tw_verify::Verified;
 
 /// A seat for each actor of the greatest layout: engines, servers, workers.
 pub struct Seats<'a> {
     seats: Vec<Option<Frame<'a>>>,
+    /// Room for a task, for each empty seat.
+    rooms: Vec<Option<Rooms<'a>>>,
     taken: usize,
 }
 
@@ -38,11 +45,11 @@ impl<'a> Model for Seats<'a> {
 
     ghost coded = { Prim.hlevel (codes, code {X = FrameView} {R = actor_cmp} (Prim.hlevel codes) (Prim.hlevel codes)) };
 
-    ghost use Rattle.tw_parts.specs.Seats.{seated, AreSeats};
+    ghost use Rattle.tw_parts.specs.Seats.{seated, AreKept, AreSeats};
 
     ghost view = { λ s. seated s.seats.items };
 
-    ghost invariant = { λ s. AreSeats s.seats.items s.taken };
+    ghost invariant = { λ s. AreSeats s.seats.items s.taken × AreKept s.seats.items s.rooms.items };
 }
 
 fn seat_of(actor: Actor) -> usize
@@ -87,6 +94,38 @@ fn seat<'a>(seats: &mut Vec<Option<Frame<'a>>>, seat: usize, frame: Frame<'a>)
     }
 }
 
+/// Takes the room that is there.
+fn lift<'a>(rooms: &mut Vec<Option<Rooms<'a>>>, seat: usize) -> Rooms<'a>
+    requires inside { seat < length rooms.old.items }
+    requires there { IsSome (slice_index_or rooms.old.items seat None) }
+    ensures { rooms.new.items ≡ slice_set rooms.old.items seat None }
+{
+    let place = &mut rooms[seat];
+    match place.take() {
+        Some(rooms) => rooms,
+        None => unreachable!(),
+    }
+}
+
+/// Lays room there.
+fn lay<'a>(rooms: &mut Vec<Option<Rooms<'a>>>, seat: usize, room: Rooms<'a>)
+    requires { seat < length rooms.old.items }
+    ensures { rooms.new.items ≡ slice_set rooms.old.items seat (Some tt) }
+{
+    rooms[seat] = Some(room);
+}
+
+/// Room for each seat.
+fn rooms_for_all<'a>(alloc: Global) -> Result<Vec<Option<Rooms<'a>>>, AllocError>
+    ensures { IfOk result (λ rooms. rooms.items ≡ replicate 24 (Some tt)) }
+{
+    let mut rooms = Vec::with_capacity(alloc, Seats::COUNT)?;
+    for _index in 0..Seats::COUNT {
+        rooms.push_reserved(Some(Rooms::new(alloc)?));
+    }
+    Ok(rooms)
+}
+
 /// Spends every right of those who sit there.
 fn shut_all<'a>(mut seats: Vec<Option<Frame<'a>>>) {
     while let Some(seat) = seats.pop() {
@@ -101,20 +140,29 @@ impl<'a> Seats<'a> {
     /// How many seats there are.
     pub const COUNT: usize = 24;
 
-    /// Empty seats.
+    /// Empty seats, with room for a task in each.
     pub fn new(alloc: Global) -> Result<Seats<'a>, AllocError>
         ensures { IfOk result (λ seats. seats ≡ map.empty) }
     {
+        let rooms = rooms_for_all(alloc)?;
         let mut seats = Vec::with_capacity(alloc, Seats::COUNT)?;
         for _index in 0..Seats::COUNT {
             seats.push_reserved(None);
         }
-        Ok(Seats { seats, taken: 0 })
+        Ok(Seats {
+            seats,
+            rooms,
+            taken: 0,
+        })
     }
 
     /// Spends every right of every task.
     pub fn shut(self) {
-        let Seats { seats, taken: _ } = self;
+        let Seats {
+            seats,
+            rooms: _,
+            taken: _,
+        } = self;
         shut_all(seats);
     }
 
@@ -133,29 +181,51 @@ impl<'a> Seats<'a> {
         sitting(&self.seats, seat_of(actor))
     }
 
-    /// Takes the task of an actor, if it has one.
-    pub(crate) fn take(&mut self, actor: Actor) -> Option<Frame<'a>>
-        requires { HasSeat actor }
-        ensures taken { result ≡ get self.old actor }
-        ensures rest { self.new ≡ remove self.old actor }
-    {
-        match unseat(&mut self.seats, seat_of(actor)) {
-            Some(frame) => {
-                self.taken -= 1;
-                Some(frame)
-            }
-            None => None,
-        }
-    }
-
-    /// Seats the task of an actor that has none.
-    pub(crate) fn put(&mut self, actor: Actor, frame: Frame<'a>)
+    /// The best task of an actor without one begins, if there is one; a draft for its first job.
+    pub(crate) fn start(
+        &mut self,
+        alloc: Global,
+        actor: Actor,
+        verified: &'a Verified,
+        tasks: &mut TaskQueues,
+    ) -> Result<Option<Draft<'a>>, AllocError>
         requires seat { HasSeat actor }
         requires empty { get self.old actor ≡ None }
-        ensures { self.new ≡ insert self.old actor frame.entry }
+        requires may { (e : ℕ × TaskOf Arg) → best actor tasks.old.tasks ≡ Some e → MayStart verified.now.program e.1.procedure e.1.args }
+        ensures { IsBegun verified.now actor self.old tasks.old.tasks self.new tasks.new.tasks result }
     {
-        seat(&mut self.seats, seat_of(actor), frame);
+        let Some(best) = tasks.best(actor) else {
+            return Ok(None);
+        };
+        let number = seat_of(actor);
+        let start = match lift(&mut self.rooms, number).start(alloc, best, verified) {
+            Ok(start) => start,
+            Err(rooms) => {
+                lay(&mut self.rooms, number, rooms);
+                return Err(AllocError);
+            }
+        };
+        let Some(task) = tasks.take(actor) else {
+            unreachable!();
+        };
+        let (frame, draft) = Frame::start(task, actor, verified, start);
+        seat(&mut self.seats, number, frame);
         self.taken += 1;
+        Ok(Some(draft))
+    }
+
+    /// The actor's task ends, and its memory and that of its last Done is for the next one.
+    pub(crate) fn end(&mut self, alloc: Global, actor: Actor, done: Done<'a>)
+        requires seat { HasSeat actor }
+        requires sits { IsSome (get self.old actor) }
+        ensures { self.new ≡ remove self.old actor }
+    {
+        let number = seat_of(actor);
+        let Some(frame) = unseat(&mut self.seats, number) else {
+            unreachable!();
+        };
+        self.taken -= 1;
+        lay(&mut self.rooms, number, frame.end(alloc, done));
     }
 
     /// The actor's task comes as far as the Done says, which is of the job that was lent last; a draft of its values.

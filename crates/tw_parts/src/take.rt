@@ -14,7 +14,7 @@ ghost use Rattle.tw_parts.specs.Fits.{AreParts};
 
 use crate::parts::Parts;
 use std::alloc::{AllocError, Global};
-use tw_frame::{Draft, Frame, Job};
+use tw_frame::Job;
 use tw_types::Actor;
 use tw_verify::Verified;
 
@@ -35,17 +35,9 @@ impl<'a> Parts<'a> {
             × ((layout : ActorCounts) → is_in layout actor ≡ true → Makes verified.now layout (event.Take actor) self.old self.new))
             (Untouched self.old self.new) result }
     {
-        let Some(best) = self.tasks.best(actor) else {
-            return Ok(None);
-        };
-        let first = Draft::start(alloc, best, verified)?;
-        let lent = first.try_clone(alloc)?;
-        let Some(task) = self.tasks.take(actor) else {
-            unreachable!();
-        };
-        let mut frame = Frame::start(task, actor, verified, first);
-        let job = frame.lend(event_no, lent);
-        self.seats.put(actor, frame);
-        Ok(Some(job))
+        match self.seats.start(alloc, actor, verified, &mut self.tasks)? {
+            Some(draft) => Ok(Some(self.seats.lend(actor, event_no, draft))),
+            None => Ok(None),
+        }
     }
 }

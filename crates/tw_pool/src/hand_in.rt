@@ -119,7 +119,7 @@ impl<'a> Pool<'a> {
     }
 
     /// The actor's task goes on by its steps, and ends.
-    pub(crate) fn end(&mut self, actor: Actor, done: Done<'a>) -> Turn<'a>
+    pub(crate) fn end(&mut self, alloc: Global, actor: Actor, done: Done<'a>) -> Turn<'a>
         requires actor { is_in self.old.layout actor ≡ true }
         requires room { length self.old.history < self.old.limit }
         requires owed { IsOwedBy self.old actor done }
@@ -129,7 +129,7 @@ impl<'a> Pool<'a> {
     {
         let _steps = done.steps();
         let event = self.parts.event_of(actor, &done);
-        self.parts.end(actor, &done);
+        self.parts.end(alloc, actor, done);
         tell(&mut self.history, event);
         self.history.push(Event::End(actor));
         Turn::Ended

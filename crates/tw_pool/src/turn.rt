@@ -99,7 +99,7 @@ impl<'a> Pool<'a> {
         let _steps = done.steps();
         let instr = instr_at(self.verified, done.before().procedure(), done.after_place());
         if is_ret(instr) {
-            self.end(actor, done)
+            self.end(alloc, actor, done)
         } else {
             self.call(alloc, actor, instr, done)
         }

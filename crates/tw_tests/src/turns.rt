@@ -49,7 +49,7 @@ fn over(closing: Closing) -> Said {
 fn lent<'a>(alloc: Global, job: Job<'a>) -> (Said, Option<Done<'a>>)
     ensures { IsDoneOf job.entry.program result.1 }
 {
-    (Said::Run(job.task().number()), Some(job.run(alloc)))
+    (Said::Run(job.lent().task().number()), Some(job.run(alloc)))
 }
 
 /// What a turn answers, with the Done that it gives back or of the job that it lends.

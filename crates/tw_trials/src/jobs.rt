@@ -6,7 +6,7 @@ ghost use Rattle.tw_frame.specs.Jobs.{job_of};
 use crate::stretches::next_program;
 use std::alloc::{AllocError, Global};
 use tw_code::{Procedure, decode};
-use tw_frame::{Done, Draft, Frame, Job, ValueRef};
+use tw_frame::{Done, Frame, Job, Rooms, ValueRef};
 use tw_instr::{Position, count_local};
 use tw_queue::Task;
 use tw_rights::Bundle;
@@ -62,16 +62,16 @@ pub(crate) fn stretch_of(
         procedure: 0,
         args: Bundle::new(),
     };
-    let Ok(first) = Draft::start(alloc, &task, verified) else {
+    let Ok(rooms) = Rooms::new(alloc) else {
         shut(task);
         return Err(AllocError);
     };
-    let Ok(second) = first.try_clone(alloc) else {
+    let Ok(start) = rooms.start(alloc, &task, verified) else {
         shut(task);
         return Err(AllocError);
     };
-    let mut frame = Frame::start(task, Actor::Engine(0), verified, first);
-    let job = frame.lend(0, second);
+    let (mut frame, draft) = Frame::start(task, Actor::Engine(0), verified, start);
+    let job = frame.lend(0, draft);
     let stretch = run_on(alloc, &mut frame, job);
     frame.shut();
     Ok(stretch)

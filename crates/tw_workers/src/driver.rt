@@ -22,7 +22,8 @@ pub struct Driven<N: Named> {
 fn run_job<'a, G: Gate, R: Wait>(rt: &R, alloc: Global, job: Job<'a>, gate: &G) -> Done<'a>
     ensures { result.before ≡ job.entry }
 {
-    let (actor, task) = (job.actor(), job.task().number());
+    let lent = job.lent();
+    let (actor, task) = (lent.actor(), lent.task().number());
     gate.before_job(rt, actor, task);
     let done = job.run(alloc);
     gate.after_job(rt, actor, task);

@@ -1,9 +1,13 @@
-use Rattle.std.proofs.Common.{ap}
-use Rattle.tw_frame.specs.Jobs.{DraftView}
+use Rattle.std.proofs.Common.{◌≡◌, ◌∙◌, Ok, ap, subst, sym}
+use Rattle.tw_code.specs.machine.State.{frame_of}
+use Rattle.tw_rights.specs.Bare.{bare_file}
+use Rattle.tw_frame.specs.declared.context.Context.{Context}
+use Rattle.tw_frame.specs.Jobs.{DraftView, position_of}
 use Rattle.tw_frame.proofs.Frames.{frame_made}
 use Rattle.tw_frame.proofs.frame.Frame.start.Goals as goal
 
 pub returns-clause-machine : goal.returns-clause-machine
 returns-clause-machine c task p same are here starts =
-    frame_made c.args.verified.now.program c.args.task.no c.args.task.procedure task p c.args.draft.values c.draft.inside.registers.values c.args.task.args c.into_file.result c.new.result same are here starts
-    (ap (λ (d : DraftView). d.values) c.draft.view_is) c.into_file.ensures c.new.ensures
+    subst (λ (x : Context). frame_of c.args.verified.now.program c.args.task.no task ≡ Ok (record { task = c.args.task.no; procedure = c.args.task.procedure; position = position_of x; rights = bare_file c.into_file.result; spent = 0 })) (sym c.stand_at.ensures)
+    (frame_made c.args.verified.now.program c.args.task.no c.args.task.procedure task p c.args.start.values c.deref_mut.result.now.registers.values c.args.task.args c.into_file.result c.new.result same are here starts
+    (ap (λ (x : Context). x.registers.values) c.deref_mut.ensures.value ∙ ap (λ (d : DraftView). d.values) c.start.view_is) c.into_file.ensures c.new.ensures)

@@ -2,7 +2,7 @@ use Rattle.std.proofs.Common.{◌≡◌, ◌≤◌, Ok, length, map as each, tak
 use Rattle.tw_code.specs.machine.State.{values_in}
 use Rattle.tw_rights.specs.Bare.{bare_arg}
 use Rattle.tw_frame.specs.Drafts.{started}
-use Rattle.tw_frame.proofs.draft.fill.Given as goal
+use Rattle.tw_frame.proofs.start.fill.Given as goal
 
 abbrev pub invariant-loop-index : goal.invariant-loop-index
 invariant-loop-index l = record {

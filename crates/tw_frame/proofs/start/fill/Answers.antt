@@ -2,7 +2,7 @@ use Rattle.std.proofs.Common.{◌∙◌, ℕ, List, arith, refl, slice_get, sym,
 use Rattle.tw_types.specs.declared.data_type.Scalar.{Scalar}
 use Rattle.tw_frame.specs.Banks.{RegistersView}
 use Rattle.tw_frame.proofs.Starting.{IsNext, counted_on, counted_past, filled_on, filled_past, next_arg, vals}
-use Rattle.tw_frame.proofs.draft.fill.Goals as goal
+use Rattle.tw_frame.proofs.start.fill.Goals as goal
 
 pub loop-index-preserved-in_default : goal.loop-index-preserved-in_default
 loop-index-preserved-in_default c = record {

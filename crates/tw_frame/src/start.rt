@@ -1,0 +1,127 @@
+//! The values with which a task starts.
+
+ghost use Rattle.std.specs.Prelude.{◌≡◌, IfOk, OnOk, OnErr, List, Ok, slice_get, map as each};
+ghost use Rattle.std.specs.Option.{option_copied};
+ghost use Rattle.tw_types.specs.Value.{blank_of};
+ghost use Rattle.tw_types.specs.declared.value.Value.{Value as Content};
+ghost use Rattle.tw_code.specs.declared.procedure.Procedure.{Procedure};
+ghost use Rattle.tw_frame.specs.Banks.{HasText};
+ghost use Rattle.tw_frame.specs.Drafts.{HasTexts, MayStart, started, value_in};
+
+use crate::context::Context;
+use crate::registers::Registers;
+use crate::rooms::{Ahead, Rooms};
+use std::alloc::{AllocError, Global};
+use std::marker::Model;
+use tw_queue::Task;
+use tw_rights::{Arg, Bundle};
+use tw_types::Value;
+use tw_verify::Verified;
+
+/// The values with which a task starts, made where memory may be refused: once for its frame, and once for its first job.
+#[derive(Drop)]
+pub struct Start<'a> {
+    pub(crate) verified: &'a Verified,
+    pub(crate) procedure: u8,
+    pub(crate) own: Box<Context<'a>>,
+    pub(crate) lent: Box<Context<'a>>,
+    pub(crate) ahead: Ahead<'a>,
+}
+
+impl<'a> Model for Start<'a> {
+    ghost use Rattle.tw_frame.specs.Jobs.{AreOfBoth, DraftView};
+
+    ghost Value = { DraftView };
+
+    ghost view = { λ s. record { program = s.verified.now; procedure = s.procedure; values = s.own.value.registers.values } };
+
+    ghost invariant = { λ s. AreOfBoth s.verified.now.program s.procedure s.own.value.registers s.lent.value.registers };
+}
+
+/// The argument with so many before it, if it is a value.
+fn value_at(args: &Bundle, index: usize) -> Option<&Value>
+    ensures { option_copied result ≡ value_in (slice_get args.now index) }
+{
+    match args.get(index) {
+        Some(Arg::Val(value)) => Some(value),
+        Some(Arg::Read(_right)) => None,
+        Some(Arg::Write(_right)) => None,
+        None => None,
+    }
+}
+
+/// Gives the values among arguments to the first registers, which are blank.
+fn fill(alloc: Global, registers: &mut Registers<'_>, args: &Bundle) -> Result<(), AllocError>
+    requires fit { (values : List Content) × (started args.now registers.old.types ≡ Ok values) }
+    requires blank { registers.old.values ≡ each blank_of registers.old.types }
+    ensures types { registers.new.types ≡ registers.old.types }
+    ensures filled { OnOk result (started args.now registers.old.types ≡ Ok registers.new.values) }
+    ensures texts { OnErr result (HasText registers.old.types) }
+{
+    let mut register = 0;
+    for index in 0..args.len() {
+        let Some(value) = value_at(args, index) else {
+            continue;
+        };
+        registers.set_copy(alloc, register, value)?;
+        register += 1;
+    }
+    Ok(())
+}
+
+/// The values with which the task starts, in registers of its procedure's types.
+fn begin<'a>(
+    alloc: Global,
+    registers: &mut Registers<'a>,
+    task: &Task,
+    verified: &'a Verified,
+) -> Result<(), AllocError>
+    requires { MayStart verified.now.program task.now.procedure task.now.args }
+    ensures types { OnOk result ((p : Procedure) → slice_get verified.now.program task.now.procedure ≡ Some p → registers.new.types ≡ p.registers) }
+    ensures started { OnOk result ((p : Procedure) → slice_get verified.now.program task.now.procedure ≡ Some p
+        → started task.now.args p.registers ≡ Ok registers.new.values) }
+    ensures texts { OnErr result (HasTexts verified.now.program task.now.procedure) }
+{
+    let procedures = verified.program().procedures();
+    let p = &procedures[usize::from(task.procedure)];
+    registers.begin(alloc, p.registers.as_slice())?;
+    fill(alloc, registers, &task.args)
+}
+
+impl<'a> Rooms<'a> {
+    /// The values with which the task starts: those among its arguments in the first registers, the others blank. Where
+    /// no register is a text no memory is taken; where memory is refused the rooms come back.
+    pub fn start(
+        self,
+        alloc: Global,
+        task: &Task,
+        verified: &'a Verified,
+    ) -> Result<Start<'a>, Rooms<'a>>
+        requires { MayStart verified.now.program task.now.procedure task.now.args }
+        ensures program { IfOk result (λ start. start.program ≡ verified.now) }
+        ensures procedure { IfOk result (λ start. start.procedure ≡ task.now.procedure) }
+        ensures started { IfOk result (λ start. (p : Procedure) → slice_get verified.now.program task.now.procedure ≡ Some p
+            → started task.now.args p.registers ≡ Ok start.values) }
+        ensures texts { OnErr result (HasTexts verified.now.program task.now.procedure) }
+    {
+        let Rooms {
+            mut own,
+            mut lent,
+            ahead,
+        } = self;
+        match begin(alloc, &mut own.registers, task, verified) {
+            Ok(()) => {}
+            Err(_) => return Err(Rooms { own, lent, ahead }),
+        }
+        match lent.registers.copy_from(alloc, &own.registers) {
+            Ok(()) => Ok(Start {
+                verified,
+                procedure: task.procedure,
+                own,
+                lent,
+                ahead,
+            }),
+            Err(_) => Err(Rooms { own, lent, ahead }),
+        }
+    }
+}

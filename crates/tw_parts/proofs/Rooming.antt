@@ -1,0 +1,74 @@
+-- Each empty seat has room for a task, whoever comes and goes.
+use Rattle.std.proofs.Common.{◌≡◌, ◌<◌, ℕ, zero, suc, List, [], ◌∷◌, length, Option, Some, None, replicate, get_or, set, refl, sym, ap, subst, arith}
+use Rattle.std.specs.Prelude.{IsSome}
+use Rattle.tw_frame.specs.Jobs.{FrameView}
+use Rattle.tw_parts.specs.Seats.{AreKept}
+
+abbrev Seats : Type 0
+Seats = List (Option FrameView)
+
+abbrev Rooms : Type 0
+Rooms = List (Option (Unit {0}))
+
+pub as_many : (seats : Seats) (rooms : Rooms) → AreKept seats rooms → length rooms ≡ length seats
+as_many [] [] kept = refl
+as_many [] (room ∷ rooms) kept = absurd kept
+as_many (seat ∷ seats) [] kept = absurd kept
+as_many (None ∷ seats) (room ∷ rooms) kept = ap suc (as_many seats rooms kept.1)
+as_many (Some f ∷ seats) (room ∷ rooms) kept = ap suc (as_many seats rooms kept)
+
+-- in an empty one
+pub room_there : (seats : Seats) (rooms : Rooms) → AreKept seats rooms → (k : ℕ) → k < length seats → get_or seats k None ≡ None → IsSome (get_or rooms k None)
+room_there [] rooms kept k inside empty = absurd (omega (arith, inside))
+room_there (seat ∷ seats) [] kept k inside empty = absurd kept
+room_there (None ∷ seats) (room ∷ rooms) kept zero inside empty = kept.0
+room_there (Some f ∷ seats) (room ∷ rooms) kept zero inside empty = cc
+room_there (None ∷ seats) (room ∷ rooms) kept (suc k) inside empty = room_there seats rooms kept.1 k (omega (arith, inside)) empty
+room_there (Some f ∷ seats) (room ∷ rooms) kept (suc k) inside empty = room_there seats rooms kept k (omega (arith, inside)) empty
+
+-- somebody sits there
+pub kept_seated : (seats : Seats) (rooms : Rooms) → AreKept seats rooms → (k : ℕ) (f : FrameView) → AreKept (set seats k (Some f)) rooms
+kept_seated [] rooms kept k f = kept
+kept_seated (seat ∷ seats) [] kept k f = absurd kept
+kept_seated (None ∷ seats) (room ∷ rooms) kept zero f = kept.1
+kept_seated (Some g ∷ seats) (room ∷ rooms) kept zero f = kept
+kept_seated (None ∷ seats) (room ∷ rooms) kept (suc k) f = (kept.0, kept_seated seats rooms kept.1 k f)
+kept_seated (Some g ∷ seats) (room ∷ rooms) kept (suc k) f = kept_seated seats rooms kept k f
+
+pub still_kept : (seats : Seats) (rooms : Rooms) → AreKept seats rooms → (k : ℕ) (f : FrameView) (new : Seats) → new ≡ set seats k (Some f) → AreKept new rooms
+still_kept seats rooms kept k f new is = subst (λ (xs : Seats). AreKept xs rooms) (sym is) (kept_seated seats rooms kept k f)
+
+-- and takes the room
+pub kept_begun : (seats : Seats) (rooms : Rooms) → AreKept seats rooms → (k : ℕ) (f : FrameView) → AreKept (set seats k (Some f)) (set rooms k None)
+kept_begun [] [] kept k f = tt
+kept_begun [] (room ∷ rooms) kept k f = absurd kept
+kept_begun (seat ∷ seats) [] kept k f = absurd kept
+kept_begun (None ∷ seats) (room ∷ rooms) kept zero f = kept.1
+kept_begun (Some g ∷ seats) (room ∷ rooms) kept zero f = kept
+kept_begun (None ∷ seats) (room ∷ rooms) kept (suc k) f = (kept.0, kept_begun seats rooms kept.1 k f)
+kept_begun (Some g ∷ seats) (room ∷ rooms) kept (suc k) f = kept_begun seats rooms kept k f
+
+-- who sat there goes, and leaves room
+pub kept_ended : (seats : Seats) (rooms : Rooms) → AreKept seats rooms → (k : ℕ) → AreKept (set seats k None) (set rooms k (Some tt))
+kept_ended [] [] kept k = tt
+kept_ended [] (room ∷ rooms) kept k = absurd kept
+kept_ended (seat ∷ seats) [] kept k = absurd kept
+kept_ended (None ∷ seats) (room ∷ rooms) kept zero = (refl, kept.1)
+kept_ended (Some g ∷ seats) (room ∷ rooms) kept zero = (refl, kept)
+kept_ended (None ∷ seats) (room ∷ rooms) kept (suc k) = (kept.0, kept_ended seats rooms kept.1 k)
+kept_ended (Some g ∷ seats) (room ∷ rooms) kept (suc k) = kept_ended seats rooms kept k
+
+-- room that was lifted is laid there again
+pub kept_laid : (seats : Seats) (rooms : Rooms) → AreKept seats rooms → (k : ℕ) → AreKept seats (set (set rooms k None) k (Some tt))
+kept_laid [] [] kept k = tt
+kept_laid [] (room ∷ rooms) kept k = absurd kept
+kept_laid (seat ∷ seats) [] kept k = absurd kept
+kept_laid (None ∷ seats) (room ∷ rooms) kept zero = (refl, kept.1)
+kept_laid (Some g ∷ seats) (room ∷ rooms) kept zero = kept
+kept_laid (None ∷ seats) (room ∷ rooms) kept (suc k) = (kept.0, kept_laid seats rooms kept.1 k)
+kept_laid (Some g ∷ seats) (room ∷ rooms) kept (suc k) = kept_laid seats rooms kept k
+
+-- all are empty, and all have room
+pub kept_first : (n : ℕ) → AreKept (replicate n None) (replicate n (Some tt))
+kept_first zero = tt
+kept_first (suc n) = (refl, kept_first n)
