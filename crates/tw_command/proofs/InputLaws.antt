@@ -6,7 +6,7 @@ use Rattle.tw_types.specs.declared.input.Input.{Input}
 use Rattle.tw_types.specs.declared.input.Input.TheVariants as input
 use Rattle.tw_words.specs.Quoted.{SpellsQuoted}
 use Rattle.tw_command.specs.InputWords.{AreBehind, AreJoined, AreSpelled, IsRefusedWord, OneInput, OneRefusedWord, SpellsInput, SpellsInt, SpellsMember}
-use Rattle.tw_command.specs.CommandLine.{Asked, Assembles, Disassembles, Checks, Runs, Replays, IsAsked, IsRefusedInput}
+use Rattle.tw_command.specs.CommandLine.{Asked, Assembles, Disassembles, Checks, Explains, Runs, Replays, IsAsked, IsRefusedInput}
 use Rattle.tw_command.specs.declared.command.Order.{Order}
 use Rattle.tw_command.specs.reading.Members.{IsStop}
 use Rattle.tw_command.proofs.InputReading.{one_int, one_int_member, one_text_member}
@@ -163,14 +163,16 @@ refused_at inputs words i d lt h none =
 -- what is asked for is no refused word, and one word alone is refused
 pub never_refused : (asked : Asked) (order : Order) (number : ℕ) → IsAsked asked order → IsRefusedInput asked number → ⊥
 never_refused Assembles order number is_asked h = h
-never_refused Disassembles order number is_asked h = h
-never_refused Checks order number is_asked h = h
-never_refused (Runs layout most traced words) order number (run, is, layout_is, limit_is, trace_is, spelled) h = none_refused words run.inputs number spelled h
-never_refused (Replays answer layout words) order number (replay, is, answer_is, layout_is, spelled) h = none_refused words replay.inputs number spelled h
+never_refused (Disassembles source) order number is_asked h = h
+never_refused (Checks source) order number is_asked h = h
+never_refused (Runs source layout most traced words) order number (run, is, layout_is, limit_is, trace_is, spelled) h = none_refused words run.inputs number spelled h
+never_refused (Replays source answer layout words) order number (replay, is, answer_is, layout_is, spelled) h = none_refused words replay.inputs number spelled h
+never_refused (Explains explained) order number is_asked h = h
 
 pub one_number : (asked : Asked) (number other : ℕ) → IsRefusedInput asked number → IsRefusedInput asked other → number ≡ other
 one_number Assembles number other h k = absurd h
-one_number Disassembles number other h k = absurd h
-one_number Checks number other h k = absurd h
-one_number (Runs layout most traced words) number other h k = one_refused_word words number other h k
-one_number (Replays answer layout words) number other h k = one_refused_word words number other h k
+one_number (Disassembles source) number other h k = absurd h
+one_number (Checks source) number other h k = absurd h
+one_number (Runs source layout most traced words) number other h k = one_refused_word words number other h k
+one_number (Replays source answer layout words) number other h k = one_refused_word words number other h k
+one_number (Explains explained) number other h k = absurd h

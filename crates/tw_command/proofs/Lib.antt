@@ -1,5 +1,6 @@
 pub mod Members
 pub mod InputReading
 pub mod InputLaws
+pub mod Numbers
 pub mod Options
 pub mod Words

@@ -7,7 +7,7 @@ use Rattle.clap.specs.declared.Error.{Error}
 use Rattle.clap.specs.declared.error.ErrorKind.{ErrorKind}
 use Rattle.clap.proofs.OnLiterals.{clap_on_literals}
 use Rattle.tw_command.specs.declared.command.NoOrder.{NoOrder}
-use Rattle.tw_command.specs.declared.command.NoOrder.TheVariants.{Help, Refused, InputWord, NoMemory}
+use Rattle.tw_command.specs.declared.command.NoOrder.TheVariants.{Help, Refused, InputWord, Explanation, NoMemory}
 use Rattle.tw_command.specs.Order.{HasReason, IsReason}
 use Rattle.tw_command.specs.CommandLine.{Asked, asked_by_words, asked_of, command_line, faults_behind, word_faults}
 
@@ -62,3 +62,4 @@ refused a words e n asked line kinds reason =
     go Refused r (inl h) = absurd (r.1 h)
     go Refused r (inr h) = (kind_of e, among h, r.0)
     go (InputWord number) r h = absurd r
+    go (Explanation text) r h = absurd r

@@ -5,7 +5,8 @@ use Rattle.clap.specs.Lexer.{usize_max}
 use Rattle.clap.specs.Words.{App, Kinds, Row, Rule, Text, all_of, fault_of, new_app, new_rule, subcommand_of, with_rule, with_subcommand}
 use Rattle.tw_types.specs.Layout.{ActorCounts}
 use Rattle.tw_command.specs.InputWords.{AreSpelled, IsRefusedWord}
-use Rattle.tw_command.specs.Options.{NumberOption, actor_options, actors_told, flag_rule, is_given, limit, number_options, option_faults, option_rule, told, trace}
+use Rattle.tw_command.specs.Options.{NumberOption, actor_options, actors_told, flag_rule, is_given, limit, number_options, option_faults, option_rule, source_told, text, told, trace}
+use Rattle.tw_command.specs.Explanations.{IsExplanation, number_faults, number_rule, number_word}
 use Rattle.tw_command.specs.declared.command.Answer.{Answer}
 use Rattle.tw_command.specs.declared.command.Answer.TheVariants.{Report, Picture}
 use Rattle.tw_command.specs.declared.command.Order.{Order}
@@ -14,10 +15,19 @@ use Rattle.tw_command.specs.declared.command.ProgramOrder.TheVariants.{Disassemb
 use Rattle.tw_command.specs.declared.command.VerifiedOrder.TheVariants.{Check, Run}
 use Rattle.tw_command.specs.declared.command.ReplayOrder.{ReplayOrder}
 use Rattle.tw_command.specs.declared.command.RunOrder.{RunOrder}
+use Rattle.tw_command.specs.declared.command.Source.{Source}
+use Rattle.tw_command.specs.declared.command.Source.TheVariants.{Hex}
 
 -- a command without options
 abbrev pub plain_line : Text → App
 plain_line name = new_app name
+
+-- a command that reads a program and has no option but how it is written
+abbrev pub program_line : Text → App
+program_line name = with_rule (new_app name) (flag_rule text)
+
+abbrev pub explain_line : App
+explain_line = with_rule (new_app (codes "explain")) number_rule
 
 -- the words behind `run`, `replay` or `picture`, however many
 abbrev pub input_rule : Rule
@@ -29,11 +39,11 @@ options_line name options flags =
     with_rule (fold with_rule (new_app name) (map (λ o. option_rule o.name) options ++ map flag_rule flags)) input_rule
 
 abbrev pub run_line : App
-run_line = options_line (codes "run") number_options (trace ∷ [])
+run_line = options_line (codes "run") number_options (trace ∷ text ∷ [])
 
 -- a command that is given a history
 abbrev pub replay_line : Text → App
-replay_line name = options_line name actor_options []
+replay_line name = options_line name actor_options (text ∷ [])
 
 -- the words come without the program's own name, and a command must be among them
 abbrev pub bare_line : App
@@ -47,9 +57,9 @@ bare_line = record (new_app (codes "tw")) {
 
 -- the whole command line
 unfoldable pub command_line : App
-command_line = with_subcommand (with_subcommand (with_subcommand (with_subcommand (with_subcommand (with_subcommand bare_line
-    (plain_line (codes "asm")).top) (plain_line (codes "disasm")).top) (plain_line (codes "check")).top) run_line.top)
-    (replay_line (codes "replay")).top) (replay_line (codes "picture")).top
+command_line = fold (λ line command. with_subcommand line command.top) bare_line
+    (plain_line (codes "asm") ∷ program_line (codes "disasm") ∷ program_line (codes "check") ∷ run_line
+    ∷ replay_line (codes "replay") ∷ replay_line (codes "picture") ∷ explain_line ∷ [])
 
 -- ---- what the words ask for
 
@@ -57,32 +67,35 @@ command_line = with_subcommand (with_subcommand (with_subcommand (with_subcomman
 abbrev pub given_words : List Row → List Text
 given_words rows = unwrap_or (all_of (codes "input") rows) []
 
--- the command that was named; `run` with its actors, the most events of the run, whether its history is written, and the input
--- words; `replay` or `picture`, by what is written, with its actors and the input words
+-- the command that was named, and how the program is written that it reads; `run` with its actors, the most events of the
+-- run, whether its history is written, and the input words; `replay` or `picture`, by what is written, with its actors and the
+-- input words; `explain` with its number
 pub data Asked : Type 0 where
   Assembles : Asked
-  Disassembles : Asked
-  Checks : Asked
-  Runs : ActorCounts → ℕ → Bool → List Text → Asked
-  Replays : Answer → ActorCounts → List Text → Asked
+  Disassembles : Source → Asked
+  Checks : Source → Asked
+  Runs : Source → ActorCounts → ℕ → Bool → List Text → Asked
+  Replays : Source → Answer → ActorCounts → List Text → Asked
+  Explains : Text → Asked
 
 -- `run`, by what clap found behind it
 abbrev pub run_asked : List Row → Asked
-run_asked rows = Runs (actors_told rows) (told limit rows) (is_given trace rows) (given_words rows)
+run_asked rows = Runs (source_told rows) (actors_told rows) (told limit rows) (is_given trace rows) (given_words rows)
 
 -- `replay` or `picture`, by what clap found behind it
 abbrev pub replay_asked : Answer → List Row → Asked
-replay_asked answer rows = Replays answer (actors_told rows) (given_words rows)
+replay_asked answer rows = Replays (source_told rows) answer (actors_told rows) (given_words rows)
 
 abbrev pub asked_of : Option (Text × List Row) → Asked
-asked_of None = Checks
+asked_of None = Checks Hex
 asked_of (Some named) =
     if bytes_eq named.0 (codes "run") then run_asked named.1 else
     if bytes_eq named.0 (codes "replay") then replay_asked Report named.1 else
     if bytes_eq named.0 (codes "picture") then replay_asked Picture named.1 else
     if bytes_eq named.0 (codes "asm") then Assembles else
-    if bytes_eq named.0 (codes "disasm") then Disassembles else
-    Checks
+    if bytes_eq named.0 (codes "disasm") then Disassembles (source_told named.1) else
+    if bytes_eq named.0 (codes "explain") then Explains (number_word named.1) else
+    Checks (source_told named.1)
 
 -- what the program's words ask for
 abbrev pub asked_by_words : List Text → Asked
@@ -91,33 +104,45 @@ asked_by_words words = asked_of (subcommand_of command_line words)
 -- the order that is asked for: each input word spells its input
 abbrev pub IsAsked : Asked → Order → Type 0
 IsAsked Assembles order = order ≡ Assemble
-IsAsked Disassembles order = order ≡ Program Disassemble
-IsAsked Checks order = order ≡ Program (Verified Check)
-IsAsked (Runs layout most traced words) order =
-    (run : RunOrder) × (order ≡ Program (Verified (Run run)))
+IsAsked (Disassembles source) order = order ≡ Program source Disassemble
+IsAsked (Checks source) order = order ≡ Program source (Verified Check)
+IsAsked (Runs source layout most traced words) order =
+    (run : RunOrder) × (order ≡ Program source (Verified (Run run)))
     × (run.layout ≡ layout) × (run.limit ≡ most) × (run.trace ≡ traced) × AreSpelled run.inputs words
-IsAsked (Replays answer layout words) order =
-    (replay : ReplayOrder) × (order ≡ Replay replay) × (replay.answer ≡ answer) × (replay.layout ≡ layout) × AreSpelled replay.inputs words
+IsAsked (Replays source answer layout words) order =
+    (replay : ReplayOrder) × (order ≡ Replay source replay) × (replay.answer ≡ answer) × (replay.layout ≡ layout) × AreSpelled replay.inputs words
+IsAsked (Explains number) order = ⊥
 
 -- or the word of this number, counted from 1, is the first that spells no input
 abbrev pub IsRefusedInput : Asked → ℕ → Type 0
 IsRefusedInput Assembles number = ⊥
-IsRefusedInput Disassembles number = ⊥
-IsRefusedInput Checks number = ⊥
-IsRefusedInput (Runs layout most traced words) number = IsRefusedWord words number
-IsRefusedInput (Replays answer layout words) number = IsRefusedWord words number
+IsRefusedInput (Disassembles source) number = ⊥
+IsRefusedInput (Checks source) number = ⊥
+IsRefusedInput (Runs source layout most traced words) number = IsRefusedWord words number
+IsRefusedInput (Replays source answer layout words) number = IsRefusedWord words number
+IsRefusedInput (Explains other) number = ⊥
+
+-- or a number is to be explained, and this is its explanation
+abbrev pub IsExplained : Asked → List ℕ → Type 0
+IsExplained Assembles explanation = ⊥
+IsExplained (Disassembles source) explanation = ⊥
+IsExplained (Checks source) explanation = ⊥
+IsExplained (Runs source layout most traced words) explanation = ⊥
+IsExplained (Replays source answer layout words) explanation = ⊥
+IsExplained (Explains number) explanation = IsExplanation number explanation
 
 -- ---- what refuses the words
 
--- of the options
+-- of the options, or of the number behind `explain`
 abbrev pub faults_behind : Option (Text × List Row) → Kinds
 faults_behind None = []
 faults_behind (Some named) =
     if bytes_eq named.0 (codes "run") then option_faults number_options named.1 else
     if bytes_eq named.0 (codes "replay") then option_faults actor_options named.1 else
     if bytes_eq named.0 (codes "picture") then option_faults actor_options named.1 else
+    if bytes_eq named.0 (codes "explain") then number_faults (number_word named.1) else
     []
 
--- nothing where they are taken; the faults that clap finds go before an option's
+-- nothing where they are taken; the faults that clap finds go before these
 abbrev pub word_faults : List Text → Kinds
 word_faults words = or_else (fault_of command_line words) (faults_behind (subcommand_of command_line words))

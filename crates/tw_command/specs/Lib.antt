@@ -3,6 +3,7 @@
 -- themselves is in reading.
 pub mod InputWords
 pub mod Options
+pub mod Explanations
 pub mod CommandLine
 pub mod Order
 pub mod reading

@@ -5,6 +5,8 @@ use Rattle.std.specs.Option.{option_map_or}
 use Rattle.std.specs.Str.{bytes_eq}
 use Rattle.std.specs.Str.Parse.{digits_value}
 use Rattle.tw_types.specs.Layout.{ActorCounts}
+use Rattle.tw_command.specs.declared.command.Source.{Source}
+use Rattle.tw_command.specs.declared.command.Source.TheVariants.{Hex, Assembly}
 use Rattle.clap.specs.ValueTests.{is_numeral}
 use Rattle.clap.specs.Words.{Kinds, Row, Rule, Text, first_of, new_rule, one_of}
 use Rattle.clap.specs.declared.builder.action.ArgAction.TheVariants.{SetTrue}
@@ -40,6 +42,10 @@ number_options = engines ∷ servers ∷ workers ∷ limit ∷ []
 abbrev pub trace : Text
 trace = codes "trace"
 
+-- the flag of each command that reads a program: it is read as assembly text, and else as hex text
+abbrev pub text : Text
+text = codes "text"
+
 -- what clap is told of an option of this name
 abbrev pub option_rule : Text → Rule
 option_rule name = record (new_rule name) { long = Some name }
@@ -61,6 +67,10 @@ number_of o rows = option_map_or (number_in o.most) (first_of o.name rows) (Some
 -- whether a flag is given, by what clap found
 abbrev pub is_given : Text → List Row → Bool
 is_given name rows = option_map_or (λ text. bytes_eq text (codes "true")) (one_of name rows) false
+
+-- how the program is written that is read
+abbrev pub source_told : List Row → Source
+source_told rows = if is_given text rows then Assembly else Hex
 
 -- the fault where one of these options has none
 abbrev pub option_faults : List NumberOption → List Row → Kinds

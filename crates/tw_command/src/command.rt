@@ -4,20 +4,22 @@ ghost use Rattle.std.specs.Prelude.{◌≡◌, false, [], ◌∷◌, map, IfOk, 
 ghost use Rattle.clap.specs.Words.{app_of, found_of, kind_of, rows_of, rule_of, subcommand_rows_of};
 ghost use Rattle.clap.specs.declared.Command.TheViews.{out-Command};
 ghost use Rattle.clap.specs.declared.error.ErrorKind.TheVariants.{ValueValidation};
-ghost use Rattle.tw_command.specs.CommandLine.{IsAsked, asked_by_words, asked_of, faults_behind, given_words};
-ghost use Rattle.tw_command.specs.CommandLine.{bare_line, command_line, input_rule, plain_line, replay_asked, replay_line, run_asked, run_line, word_faults};
+ghost use Rattle.tw_command.specs.CommandLine.{Explains, IsAsked, asked_by_words, asked_of, faults_behind, given_words};
+ghost use Rattle.tw_command.specs.CommandLine.{bare_line, command_line, explain_line, input_rule, plain_line, program_line, replay_asked, replay_line, run_asked, run_line, word_faults};
 ghost use Rattle.tw_command.specs.declared.command.Order.TheVariants.{Program, Replay};
 ghost use Rattle.tw_command.specs.declared.command.ProgramOrder.TheVariants.{Verified};
 ghost use Rattle.tw_command.specs.declared.command.VerifiedOrder.TheVariants.{Run};
 ghost use Rattle.tw_command.specs.InputWords.{AreSpelled};
-ghost use Rattle.tw_command.specs.Options.{HasActors, actor_options, flag_rule, is_given, limit, number_of, number_options, option_faults, option_rule};
+ghost use Rattle.tw_command.specs.Options.{HasActors, actor_options, flag_rule, is_given, limit, number_of, number_options, option_faults, option_rule, source_told, text};
+ghost use Rattle.tw_command.specs.Explanations.{number_faults, number_rule, number_word};
 ghost use Rattle.std.specs.Int.{IsInRange};
 ghost use Rattle.tw_command.specs.Order.{HasReason, IsInputReason, IsReason};
 ghost use Rattle.tw_command.specs.declared.command.NoOrder.TheVariants.{NoMemory};
 
+use crate::explanations::explained;
 use crate::help::{
-    ABOUT, ASM_ABOUT, CHECK_ABOUT, DISASM_ABOUT, ENGINES_HELP, INPUT_HELP, LIMIT_HELP,
-    PICTURE_ABOUT, REPLAY_ABOUT, RUN_ABOUT, SERVERS_HELP, TRACE_HELP, WORKERS_HELP,
+    ABOUT, ASM, CHECK, CommandHelp, DISASM, ENGINES_HELP, EXPLAIN, INPUT_HELP, LIMIT_HELP,
+    NUMBER_HELP, PICTURE, REPLAY, RUN, SERVERS_HELP, TEXT_HELP, TRACE_HELP, WORKERS_HELP,
 };
 use crate::input_words::input_of;
 use crate::limit::EventLimit;
@@ -49,7 +51,16 @@ pub enum VerifiedOrder {
     Run(RunOrder),
 }
 
-/// What is asked for of a program that is read as hex text.
+/// How the program is written that is read.
+#[derive(Clone, Copy, PartialEq, Eq)]
+pub enum Source {
+    /// As hex text of its bytes.
+    Hex,
+    /// As assembly text.
+    Assembly,
+}
+
+/// What is asked for of a program that is read.
 #[derive(Drop)]
 pub enum ProgramOrder {
     /// Write its assembly text.
@@ -83,10 +94,10 @@ pub struct ReplayOrder {
 pub enum Order {
     /// Write the bytes of the program whose assembly text is read.
     Assemble,
-    /// Do this with the program whose hex text is read.
-    Program(ProgramOrder),
-    /// Replay the history that is read behind a program's hex text.
-    Replay(ReplayOrder),
+    /// Do this with the program that is read, which is written so.
+    Program(Source, ProgramOrder),
+    /// Replay the history that is read behind a program, which is written so.
+    Replay(Source, ReplayOrder),
 }
 
 /// Why the words give no order.
@@ -98,6 +109,8 @@ pub enum NoOrder {
     Refused,
     /// The input word of this number, counted from 1, is the first that spells no input; all else is taken.
     InputWord(usize),
+    /// They ask what a number means, and this is told of it.
+    Explanation(Vec<u8>),
     /// Memory was refused on the way.
     NoMemory,
 }
@@ -119,11 +132,13 @@ impl<T: Drop> From<AllocFailed<T>> for NoOrder {
 }
 
 /// A command without options.
-fn plain_command<'a>(alloc: Global, name: &'a str, about: &'a str) -> Command<'a>
+fn plain_command<'a>(alloc: Global, name: &'a str, help: &CommandHelp<'a>) -> Command<'a>
     ensures app { app_of result ≡ plain_line name.entry.now }
     ensures local { (out-Command result).has_globals ≡ false }
 {
-    Command::new(alloc, name).about(about)
+    Command::new(alloc, name)
+        .about(help.about)
+        .after_help(help.whole)
 }
 
 fn option_arg<'a>(alloc: Global, name: &'a str, help: &'a str) -> Arg<'a>
@@ -141,6 +156,45 @@ fn flag_arg<'a>(alloc: Global, name: &'a str, help: &'a str) -> Arg<'a>
     option_arg(alloc, name, help).action(ArgAction::SetTrue)
 }
 
+/// The option that says how the program is written.
+fn text_arg<'a>(alloc: Global) -> Arg<'a>
+    ensures rule { rule_of result ≡ flag_rule text }
+    ensures local { result.global ≡ false }
+{
+    flag_arg(alloc, "text", TEXT_HELP)
+}
+
+/// A command that reads a program and has no other option.
+fn program_command<'a>(
+    alloc: Global,
+    name: &'a str,
+    help: &CommandHelp<'a>,
+) -> Result<Command<'a>, AllocError>
+    ensures app { IfOk result (λ c. app_of c ≡ program_line name.entry.now) }
+    ensures local { IfOk result (λ c. (out-Command c).has_globals ≡ false) }
+{
+    let bare = plain_command(alloc, name, help);
+    let whole = bare.arg(text_arg(alloc))?;
+    Ok(whole)
+}
+
+/// The command that explains a number.
+fn explain_command<'a>(alloc: Global) -> Result<Command<'a>, AllocError>
+    ensures app { IfOk result (λ c. app_of c ≡ explain_line) }
+    ensures local { IfOk result (λ c. (out-Command c).has_globals ≡ false) }
+{
+    let bare = plain_command(alloc, "explain", &EXPLAIN);
+    let whole = bare.arg(number_arg(alloc))?;
+    Ok(whole)
+}
+
+fn number_arg<'a>(alloc: Global) -> Arg<'a>
+    ensures rule { rule_of result ≡ number_rule }
+    ensures local { result.global ≡ false }
+{
+    Arg::new(alloc, "number").required(true).help(NUMBER_HELP)
+}
+
 fn input_arg<'a>(alloc: Global) -> Arg<'a>
     ensures rule { rule_of result ≡ input_rule }
     ensures local { result.global ≡ false }
@@ -152,13 +206,14 @@ fn run_command<'a>(alloc: Global) -> Result<Command<'a>, AllocError>
     ensures app { IfOk result (λ c. app_of c ≡ run_line) }
     ensures local { IfOk result (λ c. (out-Command c).has_globals ≡ false) }
 {
-    let bare = plain_command(alloc, "run", RUN_ABOUT);
+    let bare = plain_command(alloc, "run", &RUN);
     let engines = bare.arg(option_arg(alloc, "engines", ENGINES_HELP))?;
     let servers = engines.arg(option_arg(alloc, "servers", SERVERS_HELP))?;
     let workers = servers.arg(option_arg(alloc, "workers", WORKERS_HELP))?;
     let limit = workers.arg(option_arg(alloc, "limit", LIMIT_HELP))?;
     let trace = limit.arg(flag_arg(alloc, "trace", TRACE_HELP))?;
-    let whole = trace.arg(input_arg(alloc))?;
+    let text = trace.arg(text_arg(alloc))?;
+    let whole = text.arg(input_arg(alloc))?;
     Ok(whole)
 }
 
@@ -166,16 +221,17 @@ fn run_command<'a>(alloc: Global) -> Result<Command<'a>, AllocError>
 fn replay_command<'a>(
     alloc: Global,
     name: &'a str,
-    about: &'a str,
+    help: &CommandHelp<'a>,
 ) -> Result<Command<'a>, AllocError>
     ensures app { IfOk result (λ c. app_of c ≡ replay_line name.entry.now) }
     ensures local { IfOk result (λ c. (out-Command c).has_globals ≡ false) }
 {
-    let bare = plain_command(alloc, name, about);
+    let bare = plain_command(alloc, name, help);
     let engines = bare.arg(option_arg(alloc, "engines", ENGINES_HELP))?;
     let servers = engines.arg(option_arg(alloc, "servers", SERVERS_HELP))?;
     let workers = servers.arg(option_arg(alloc, "workers", WORKERS_HELP))?;
-    let whole = workers.arg(input_arg(alloc))?;
+    let text = workers.arg(text_arg(alloc))?;
+    let whole = text.arg(input_arg(alloc))?;
     Ok(whole)
 }
 
@@ -196,15 +252,19 @@ fn command<'a>(alloc: Global) -> Result<Command<'a>, AllocError>
     ensures { IfOk result (λ c. app_of c ≡ command_line) }
 {
     let bare = bare_command(alloc)?;
-    let assembling = bare.subcommand(plain_command(alloc, "asm", ASM_ABOUT))?;
-    let both = assembling.subcommand(plain_command(alloc, "disasm", DISASM_ABOUT))?;
-    let checking = both.subcommand(plain_command(alloc, "check", CHECK_ABOUT))?;
+    let assembling = bare.subcommand(plain_command(alloc, "asm", &ASM))?;
+    let disassembling = program_command(alloc, "disasm", &DISASM)?;
+    let both = assembling.subcommand(disassembling)?;
+    let checking = program_command(alloc, "check", &CHECK)?;
+    let three = both.subcommand(checking)?;
     let running = run_command(alloc)?;
-    let four = checking.subcommand(running)?;
-    let replaying = replay_command(alloc, "replay", REPLAY_ABOUT)?;
+    let four = three.subcommand(running)?;
+    let replaying = replay_command(alloc, "replay", &REPLAY)?;
     let five = four.subcommand(replaying)?;
-    let drawing = replay_command(alloc, "picture", PICTURE_ABOUT)?;
-    let whole = five.subcommand(drawing)?;
+    let drawing = replay_command(alloc, "picture", &PICTURE)?;
+    let six = five.subcommand(drawing)?;
+    let explaining = explain_command(alloc)?;
+    let whole = six.subcommand(explaining)?;
     Ok(whole)
 }
 
@@ -261,6 +321,17 @@ fn flag_given(matches: &ArgMatches<'_>, name: &str) -> bool
     matches.get_one(name).unwrap_or(false)
 }
 
+/// How the program is written that is read.
+fn source_given(matches: &ArgMatches<'_>) -> Source
+    ensures { result ≡ source_told (rows_of (found_of matches.now)) }
+{
+    if flag_given(matches, "text") {
+        Source::Assembly
+    } else {
+        Source::Hex
+    }
+}
+
 /// The inputs that words spell.
 fn inputs_of(alloc: Global, words: &[&str]) -> Result<Items<Input>, NoOrder>
     ensures spelled { IfOk result (λ inputs. AreSpelled inputs (map (λ word. word.now) words.now)) }
@@ -290,7 +361,7 @@ fn inputs_given(alloc: Global, matches: &ArgMatches<'_>) -> Result<Items<Input>,
 /// The order to run, by what was found behind `run`.
 fn run_order(alloc: Global, matches: &ArgMatches<'_>) -> Result<RunOrder, NoOrder>
     ensures taken { IfOk result (λ order. (option_faults number_options (rows_of (found_of matches.now)) ≡ [])
-        × IsAsked (run_asked (rows_of (found_of matches.now))) (Program (Verified (Run order)))) }
+        × IsAsked (run_asked (rows_of (found_of matches.now))) (Program (source_told (rows_of (found_of matches.now))) (Verified (Run order)))) }
     ensures refused { IfErr result
         (HasReason (option_faults number_options (rows_of (found_of matches.now))) (run_asked (rows_of (found_of matches.now)))) }
 {
@@ -316,7 +387,7 @@ fn replay_order(
     matches: &ArgMatches<'_>,
 ) -> Result<ReplayOrder, NoOrder>
     ensures taken { IfOk result (λ order. (option_faults actor_options (rows_of (found_of matches.now)) ≡ [])
-        × IsAsked (replay_asked answer (rows_of (found_of matches.now))) (Replay order)) }
+        × IsAsked (replay_asked answer (rows_of (found_of matches.now))) (Replay (source_told (rows_of (found_of matches.now))) order)) }
     ensures refused { IfErr result
         (HasReason (option_faults actor_options (rows_of (found_of matches.now))) (replay_asked answer (rows_of (found_of matches.now)))) }
 {
@@ -331,10 +402,51 @@ fn replay_order(
     })
 }
 
-fn verified_order(order: VerifiedOrder) -> Order
-    ensures { result ≡ Program (Verified order) }
+fn explanation_of(alloc: Global, word: &str) -> NoOrder
+    ensures { HasReason (number_faults word.now) (Explains word.now) result }
 {
-    Order::Program(ProgramOrder::Verified(order))
+    match explained(alloc, word) {
+        Ok(Some(text)) => NoOrder::Explanation(text),
+        Ok(None) => NoOrder::Refused,
+        Err(_) => NoOrder::NoMemory,
+    }
+}
+
+/// What is told of the number behind `explain`.
+fn explanation_given(alloc: Global, matches: &ArgMatches<'_>) -> NoOrder
+    ensures { HasReason (number_faults (number_word (rows_of (found_of matches.now)))) (Explains (number_word (rows_of (found_of matches.now)))) result }
+{
+    match matches.get_str("number") {
+        Some(word) => explanation_of(alloc, word),
+        None => explanation_of(alloc, ""),
+    }
+}
+
+/// No order: what is told of the number behind `explain`.
+fn explained_order(alloc: Global, matches: &ArgMatches<'_>) -> Result<Order, NoOrder>
+    ensures taken { IfOk result (λ order. (number_faults (number_word (rows_of (found_of matches.now))) ≡ [])
+        × IsAsked (Explains (number_word (rows_of (found_of matches.now)))) order) }
+    ensures refused { IfErr result
+        (HasReason (number_faults (number_word (rows_of (found_of matches.now)))) (Explains (number_word (rows_of (found_of matches.now))))) }
+{
+    Err(explanation_given(alloc, matches))
+}
+
+fn verified_order(source: Source, order: VerifiedOrder) -> Order
+    ensures { result ≡ Program source (Verified order) }
+{
+    Order::Program(source, ProgramOrder::Verified(order))
+}
+
+/// The order to replay and write this, with the program's source.
+fn replayed_order(alloc: Global, answer: Answer, matches: &ArgMatches<'_>) -> Result<Order, NoOrder>
+    ensures taken { IfOk result (λ order. (option_faults actor_options (rows_of (found_of matches.now)) ≡ [])
+        × IsAsked (replay_asked answer (rows_of (found_of matches.now))) order) }
+    ensures refused { IfErr result
+        (HasReason (option_faults actor_options (rows_of (found_of matches.now))) (replay_asked answer (rows_of (found_of matches.now)))) }
+{
+    let order = replay_order(alloc, answer, matches)?;
+    Ok(Order::Replay(source_given(matches), order))
 }
 
 fn order_of(alloc: Global, matches: &ArgMatches<'_>) -> Result<Order, NoOrder>
@@ -346,13 +458,18 @@ fn order_of(alloc: Global, matches: &ArgMatches<'_>) -> Result<Order, NoOrder>
     match matches.subcommand() {
         Some(("run", given)) => {
             let order = run_order(alloc, given)?;
-            Ok(verified_order(VerifiedOrder::Run(order)))
+            Ok(verified_order(source_given(given), VerifiedOrder::Run(order)))
         }
-        Some(("replay", given)) => Ok(Order::Replay(replay_order(alloc, Answer::Report, given)?)),
-        Some(("picture", given)) => Ok(Order::Replay(replay_order(alloc, Answer::Picture, given)?)),
+        Some(("replay", given)) => replayed_order(alloc, Answer::Report, given),
+        Some(("picture", given)) => replayed_order(alloc, Answer::Picture, given),
         Some(("asm", _)) => Ok(Order::Assemble),
-        Some(("disasm", _)) => Ok(Order::Program(ProgramOrder::Disassemble)),
-        _ => Ok(verified_order(VerifiedOrder::Check)),
+        Some(("disasm", given)) => Ok(Order::Program(
+            source_given(given),
+            ProgramOrder::Disassemble,
+        )),
+        Some(("explain", given)) => explained_order(alloc, given),
+        Some((_, given)) => Ok(verified_order(source_given(given), VerifiedOrder::Check)),
+        None => Ok(verified_order(Source::Hex, VerifiedOrder::Check)),
     }
 }
 

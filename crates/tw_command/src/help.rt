@@ -1,42 +1,88 @@
 //! What the help texts say.
 
+/// What is said of a command.
+pub(crate) struct CommandHelp<'a> {
+    /// One line, which stands in the list of commands too.
+    pub about: &'a str,
+    /// What its own help says besides.
+    pub whole: &'a str,
+}
+
 pub(crate) const ABOUT: &str = "Assembles, checks and runs dataflow programs of the task host.";
 
-pub(crate) const RUN_ABOUT: &str = "Runs a program and reports its outputs.
+pub(crate) const ASM: CommandHelp<'static> = CommandHelp {
+    about: "Turns assembly text into hex text of a program",
+    whole: "The text is read from standard input. What is written is the program as hex text, two digits a byte, in one line: what the
+other commands read. A text that spells no program is refused with the number and the line of its first fault.
+Exit status: 0 assembled, 1 refused, 2 command line refused, 5 memory ran out, 7 a read or write failed.",
+};
 
-The program is read from standard input as hex text: two digits a byte; spaces, tabs and line ends are skipped.
+pub(crate) const DISASM: CommandHelp<'static> = CommandHelp {
+    about: "Writes a program as assembly text",
+    whole: "The program is read from standard input as hex text: two digits a byte; spaces, tabs and line ends are skipped.
+With --text it is read as assembly text, as `tw asm` reads it.
+It need not be one that is accepted. `tw asm` makes the same program of what is written.
+Exit status: 0 written, 1 refused, 2 command line refused, 5 memory ran out, 7 a read or write failed.",
+};
+
+pub(crate) const CHECK: CommandHelp<'static> = CommandHelp {
+    about: "Verifies a program and tells its budgets",
+    whole: "The program is read from standard input as hex text: two digits a byte; spaces, tabs and line ends are skipped.
+With --text it is read as assembly text, as `tw asm` reads it; a refusal of the program then tells the line of the text
+that the refused place comes from, as `at line 17: STORE d0 v0`.
+Where it is accepted, a line for each procedure tells how many instructions a task of it does at most, and a last
+line how many engines and workers its targets need. Exit status: 0 accepted, 1 refused, 2 command line refused,
+5 memory ran out, 7 a read or write failed.",
+};
+
+pub(crate) const RUN: CommandHelp<'static> = CommandHelp {
+    about: "Runs a program and reports its outputs",
+    whole: "The program is read from standard input as hex text: two digits a byte; spaces, tabs and line ends are skipped.
+With --text it is read as assembly text, as `tw asm` reads it; a refusal of the program then tells the line of the text
+that the refused place comes from, as `at line 17: STORE d0 v0`.
 Its inputs are the words behind the command, one word each, in the order of main's parameters. Examples: int:-7,
 text:abc, ints:1=7,5=-3 and texts:1=\"abc\",2=\"\"; the subscripts of a container rise, and it may have no member.
 Between quotes \\\", \\\\, \\n and \\x with two hex digits are read.
-Options stand before, behind or between the inputs. --trace takes no value; the others take a number in decimal digits.
+Options stand before, behind or between the inputs. --trace and --text take no
+value; the others take a number in decimal digits.
 The report has a line for each output, with a line for each member behind a container's, and then how the run ended.
 With --trace the history stands before the report: a line `events`, a line for each event, in their order, and a line
 `end`. The program isn't written: its hex text, a line end and then all of this can be piped into `tw replay`, which is
 given the same inputs and as many engines, servers and workers.
 Exit status: 0 quiet, 1 refused, 2 command line or input word refused, 3 stuck, 4 event limit, 5 memory ran out,
-6 trap, 7 a read or write failed.";
+6 trap, 7 a read or write failed.",
+};
 
-pub(crate) const REPLAY_ABOUT: &str =
-    "Makes the events of a history on the reference machine and reports the state that they leave.
-
-What is read from standard input is a program as hex text, a line `events`, a line for each event, and a line `end` or
-the end. Without a line `events` there are no events; what stands behind `end` isn't looked at. A history is what
-`tw run --trace` writes, or any other: take w0, local w0 3, call w0, end w0, ask e0 1 0, deliver s0 2 1 0, release e0 1.
+pub(crate) const REPLAY: CommandHelp<'static> = CommandHelp {
+    about: "Makes the events of a history and reports the state",
+    whole: "Makes the events of a history on the reference machine and reports the state that they leave.
+What is read from standard input is a program as hex text, or with --text as assembly text, a line `events`, a line for
+each event, and a line `end` or the end. Without a line `events` there are no events; what stands behind `end` isn't
+looked at. A history is what `tw run --trace` writes, or any other: take w0, local w0 3, call w0, end w0, ask e0 1 0, deliver s0 2 1 0, release e0 1.
 The program isn't verified first. Its inputs are words behind the command, as those of `tw run`.
 The report ends with a line that tells how the run ended, or with `running`.
 Exit status: 0 quiet or still running, 1 refused or an event that isn't enabled, 2 command line or input word refused,
-3 stuck, 5 memory ran out, 6 trap, 7 a read or write failed.";
+3 stuck, 5 memory ran out, 6 trap, 7 a read or write failed.",
+};
 
-pub(crate) const PICTURE_ABOUT: &str =
-    "Makes the events of a history on the reference machine and draws them as one SVG picture.
-
+pub(crate) const PICTURE: CommandHelp<'static> = CommandHelp {
+    about: "Draws the events of a history as an SVG picture",
+    whole: "Makes the events of a history on the reference machine and draws them as one SVG picture.
 It takes what `tw replay` takes, and refuses what that refuses, with the same line and status. Else what is written can be
 opened in a browser: a lane for each actor, with the events from left to right by their numbers; a mark for each event,
 which shows its line where the pointer rests on it; a bar for each task from its `take` to its `end`; a line from the
 event that made a task to its `take`; and above how the run ended. Where it is stuck in a circle of rules, the circle
 stands below: a box for each rule, and an arrow with the datum that it waits for to the rule that may write it.
 Exit status: 0 quiet or still running, 1 refused or an event that isn't enabled, 2 command line or input word refused,
-3 stuck, 5 memory ran out, 6 trap, 7 a read or write failed.";
+3 stuck, 5 memory ran out, 6 trap, 7 a read or write failed.",
+};
+
+pub(crate) const EXPLAIN: CommandHelp<'static> = CommandHelp {
+    about: "Tells what the number of a refusal or a trap means",
+    whole: "A number is what a line of another command names: H01 to H03, A01 to A07, F01 to F09, V01 to V18, O01 to O06, L01, E01, X01
+or C1 to C15. What is written says what it means, what was asked, the usual mistake and how that is mended.
+Exit status: 0 told, 2 command line refused or no such number, 5 memory ran out, 7 a write failed.",
+};
 
 pub(crate) const ENGINES_HELP: &str = "How many engines: 1 to 4 (default: 1)";
 
@@ -51,21 +97,6 @@ pub(crate) const TRACE_HELP: &str =
 
 pub(crate) const INPUT_HELP: &str = "An input: int:, text:, ints: or texts:, and its value";
 
-pub(crate) const CHECK_ABOUT: &str = "Verifies a program and reports its budgets.
+pub(crate) const TEXT_HELP: &str = "Read the program as assembly text, and not as hex text";
 
-The program is read from standard input as hex text: two digits a byte; spaces, tabs and line ends are skipped.
-Where it is accepted, a line for each procedure tells how many instructions a task of it does at most, and a last
-line how many engines and workers its targets need. Exit status: 0 accepted, 1 refused, 2 command line refused,
-5 memory ran out, 7 a read or write failed.";
-
-pub(crate) const ASM_ABOUT: &str = "Turns assembly text into a program.
-
-The text is read from standard input. What is written is the program as hex text, two digits a byte, in one line: what the
-other commands read. A text that spells no program is refused with the number and the line of its first fault.
-Exit status: 0 assembled, 1 refused, 2 command line refused, 5 memory ran out, 7 a read or write failed.";
-
-pub(crate) const DISASM_ABOUT: &str = "Writes a program as assembly text.
-
-The program is read from standard input as hex text: two digits a byte; spaces, tabs and line ends are skipped.
-It need not be one that is accepted. `tw asm` makes the same program of what is written.
-Exit status: 0 written, 1 refused, 2 command line refused, 5 memory ran out, 7 a read or write failed.";
+pub(crate) const NUMBER_HELP: &str = "The number, as A02, V04 or C5";

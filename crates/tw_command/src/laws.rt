@@ -2,50 +2,60 @@
 
 ghost use Rattle.std.specs.Prelude.{◌≡◌, ℕ, true, false, List, [], ◌∷◌, codes};
 ghost use Rattle.clap.specs.declared.error.ErrorKind.TheVariants.{ArgumentConflict, DisplayHelp, InvalidSubcommand};
-ghost use Rattle.clap.specs.declared.error.ErrorKind.TheVariants.{InvalidValue, TooManyValues, UnknownArgument, ValueValidation};
-ghost use Rattle.tw_command.specs.CommandLine.{Assembles, Checks, Disassembles, Replays, Runs, asked_by_words, word_faults};
+ghost use Rattle.clap.specs.declared.error.ErrorKind.TheVariants.{InvalidValue, MissingRequiredArgument, TooManyValues, UnknownArgument, ValueValidation};
+ghost use Rattle.tw_command.specs.CommandLine.{Assembles, Checks, Disassembles, Explains, Replays, Runs, asked_by_words, word_faults};
 ghost use Rattle.tw_command.specs.declared.command.Answer.TheVariants.{Picture, Report};
+ghost use Rattle.tw_command.specs.declared.command.Source.TheVariants.{Assembly, Hex};
 ghost use Rattle.tw_command.specs.Options.{actors};
 ghost use Rattle.tw_command.specs.InputWords.{OneInput, OneRefusedWord};
 
-/// Each command is taken, and asks for what its name says, with the options and words behind `run`, `replay` and `picture`.
+/// Each command is taken, and asks for what its name says, with the options and words behind it.
 pub fn commands_are_taken()
     ensures asm { (word_faults (codes "asm" ∷ []) ≡ []) × (asked_by_words (codes "asm" ∷ []) ≡ Assembles) }
-    ensures disasm { (word_faults (codes "disasm" ∷ []) ≡ []) × (asked_by_words (codes "disasm" ∷ []) ≡ Disassembles) }
-    ensures check { (word_faults (codes "check" ∷ []) ≡ []) × (asked_by_words (codes "check" ∷ []) ≡ Checks) }
+    ensures disasm { (word_faults (codes "disasm" ∷ []) ≡ []) × (asked_by_words (codes "disasm" ∷ []) ≡ Disassembles Hex) }
+    ensures check { (word_faults (codes "check" ∷ []) ≡ []) × (asked_by_words (codes "check" ∷ []) ≡ Checks Hex) }
     ensures run { (word_faults (codes "run" ∷ []) ≡ [])
-        × (asked_by_words (codes "run" ∷ []) ≡ Runs (actors 1 1 1) 10000 false []) }
+        × (asked_by_words (codes "run" ∷ []) ≡ Runs Hex (actors 1 1 1) 10000 false []) }
     ensures inputs { (word_faults (codes "run" ∷ codes "int:7" ∷ codes "text:a" ∷ []) ≡ [])
         × (asked_by_words (codes "run" ∷ codes "int:7" ∷ codes "text:a" ∷ [])
-        ≡ Runs (actors 1 1 1) 10000 false (codes "int:7" ∷ codes "text:a" ∷ [])) }
+        ≡ Runs Hex (actors 1 1 1) 10000 false (codes "int:7" ∷ codes "text:a" ∷ [])) }
     ensures first { (rest : List ℕ) → (word_faults (codes "run" ∷ (105 ∷ rest) ∷ []) ≡ [])
-        × (asked_by_words (codes "run" ∷ (105 ∷ rest) ∷ []) ≡ Runs (actors 1 1 1) 10000 false ((105 ∷ rest) ∷ [])) }
+        × (asked_by_words (codes "run" ∷ (105 ∷ rest) ∷ []) ≡ Runs Hex (actors 1 1 1) 10000 false ((105 ∷ rest) ∷ [])) }
     ensures before { (word_faults (codes "run" ∷ codes "--workers" ∷ codes "16" ∷ codes "int:7" ∷ []) ≡ [])
         × (asked_by_words (codes "run" ∷ codes "--workers" ∷ codes "16" ∷ codes "int:7" ∷ [])
-        ≡ Runs (actors 1 1 16) 10000 false (codes "int:7" ∷ [])) }
+        ≡ Runs Hex (actors 1 1 16) 10000 false (codes "int:7" ∷ [])) }
     ensures between { (word_faults (codes "run" ∷ codes "int:7" ∷ codes "--servers=3" ∷ codes "int:8" ∷ []) ≡ [])
         × (asked_by_words (codes "run" ∷ codes "int:7" ∷ codes "--servers=3" ∷ codes "int:8" ∷ [])
-        ≡ Runs (actors 1 3 1) 10000 false (codes "int:7" ∷ codes "int:8" ∷ [])) }
+        ≡ Runs Hex (actors 1 3 1) 10000 false (codes "int:7" ∷ codes "int:8" ∷ [])) }
     ensures behind { (word_faults (codes "run" ∷ codes "int:7" ∷ codes "--limit" ∷ codes "9" ∷ codes "--engines=2" ∷ [])
         ≡ [])
         × (asked_by_words (codes "run" ∷ codes "int:7" ∷ codes "--limit" ∷ codes "9" ∷ codes "--engines=2" ∷ [])
-        ≡ Runs (actors 2 1 1) 9 false (codes "int:7" ∷ [])) }
+        ≡ Runs Hex (actors 2 1 1) 9 false (codes "int:7" ∷ [])) }
     ensures trace { (word_faults (codes "run" ∷ codes "--trace" ∷ codes "int:7" ∷ []) ≡ [])
         × (asked_by_words (codes "run" ∷ codes "--trace" ∷ codes "int:7" ∷ [])
-        ≡ Runs (actors 1 1 1) 10000 true (codes "int:7" ∷ [])) }
+        ≡ Runs Hex (actors 1 1 1) 10000 true (codes "int:7" ∷ [])) }
     ensures last { (word_faults (codes "run" ∷ codes "int:7" ∷ codes "--limit" ∷ codes "100" ∷ codes "--trace" ∷ []) ≡ [])
         × (asked_by_words (codes "run" ∷ codes "int:7" ∷ codes "--limit" ∷ codes "100" ∷ codes "--trace" ∷ [])
-        ≡ Runs (actors 1 1 1) 100 true (codes "int:7" ∷ [])) }
+        ≡ Runs Hex (actors 1 1 1) 100 true (codes "int:7" ∷ [])) }
     ensures replay { (word_faults (codes "replay" ∷ codes "--workers" ∷ codes "2" ∷ codes "int:7" ∷ []) ≡ [])
         × (asked_by_words (codes "replay" ∷ codes "--workers" ∷ codes "2" ∷ codes "int:7" ∷ [])
-        ≡ Replays Report (actors 1 1 2) (codes "int:7" ∷ [])) }
+        ≡ Replays Hex Report (actors 1 1 2) (codes "int:7" ∷ [])) }
     ensures picture { (word_faults (codes "picture" ∷ codes "--workers" ∷ codes "2" ∷ codes "int:7" ∷ []) ≡ [])
         × (asked_by_words (codes "picture" ∷ codes "--workers" ∷ codes "2" ∷ codes "int:7" ∷ [])
-        ≡ Replays Picture (actors 1 1 2) (codes "int:7" ∷ [])) }
+        ≡ Replays Hex Picture (actors 1 1 2) (codes "int:7" ∷ [])) }
+    ensures text { (word_faults (codes "check" ∷ codes "--text" ∷ []) ≡ [])
+        × (asked_by_words (codes "check" ∷ codes "--text" ∷ []) ≡ Checks Assembly) }
+    ensures run_text { (word_faults (codes "run" ∷ codes "int:7" ∷ codes "--text" ∷ []) ≡ [])
+        × (asked_by_words (codes "run" ∷ codes "int:7" ∷ codes "--text" ∷ [])
+        ≡ Runs Assembly (actors 1 1 1) 10000 false (codes "int:7" ∷ [])) }
+    ensures replay_text { (word_faults (codes "replay" ∷ codes "--text" ∷ []) ≡ [])
+        × (asked_by_words (codes "replay" ∷ codes "--text" ∷ []) ≡ Replays Assembly Report (actors 1 1 1) []) }
+    ensures explain { (word_faults (codes "explain" ∷ codes "V04" ∷ []) ≡ [])
+        × (asked_by_words (codes "explain" ∷ codes "V04" ∷ []) ≡ Explains (codes "V04")) }
 {}
 
 /// Words are refused that name no command, or come after `check`; so is an option that isn't known, comes twice, or has
-/// no number in its range, and a flag with a value.
+/// no number in its range, a flag with a value, and a number that isn't one to be explained.
 pub fn strangers_are_refused()
     ensures command { word_faults (codes "walk" ∷ []) ≡ UnknownArgument ∷ InvalidSubcommand ∷ [] }
     ensures help { word_faults (codes "run" ∷ codes "--help" ∷ []) ≡ DisplayHelp ∷ [] }
@@ -60,6 +70,8 @@ pub fn strangers_are_refused()
     ensures trace { word_faults (codes "replay" ∷ codes "--trace" ∷ []) ≡ UnknownArgument ∷ [] }
     ensures traces { word_faults (codes "run" ∷ codes "--trace" ∷ codes "--trace" ∷ []) ≡ ArgumentConflict ∷ [] }
     ensures value { word_faults (codes "run" ∷ codes "--trace=true" ∷ []) ≡ TooManyValues ∷ [] }
+    ensures number { word_faults (codes "explain" ∷ codes "V19" ∷ []) ≡ ValueValidation ∷ [] }
+    ensures no_number { word_faults (codes "explain" ∷ []) ≡ MissingRequiredArgument ∷ [] }
     ensures word { word_faults (codes "run" ∷ codes "--engines" ∷ codes "+1" ∷ []) ≡ ValueValidation ∷ [] }
 {}
 

@@ -4,13 +4,14 @@
 #![tactic(auto)]
 
 mod command;
+mod explanations;
 mod help;
 mod input_words;
 mod laws;
 mod limit;
 
 pub use command::{
-    Answer, NoOrder, Order, ProgramOrder, ReplayOrder, RunOrder, VerifiedOrder, read_order,
+    Answer, NoOrder, Order, ProgramOrder, ReplayOrder, RunOrder, Source, VerifiedOrder, read_order,
 };
 pub use input_words::input_of;
 pub use laws::{commands_are_taken, strangers_are_refused, words_spell_one_input};

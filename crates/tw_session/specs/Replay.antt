@@ -1,5 +1,5 @@
 -- What `replay` and `picture` answer: the events of a history, one after the other, on the reference machine.
-use Rattle.std.specs.Prelude.{◌≡◌, ◌⊎◌, ℕ, suc, List, [], ◌∷◌, codes, IsUtf8, Option, Some, None, Result, Ok, Err}
+use Rattle.std.specs.Prelude.{◌≡◌, ◌⊎◌, ℕ, suc, List, [], ◌∷◌, codes, Option, Some, None, Result, Ok, Err}
 use Rattle.hex.specs.Hex.{decode_of}
 use Rattle.hex.specs.declared.FromHexError.{FromHexError}
 use Rattle.tw_types.specs.declared.ending.Ending.{Ending}
@@ -19,6 +19,8 @@ use Rattle.tw_code.specs.machine.State.{State}
 use Rattle.tw_command.specs.declared.command.Answer.{Answer}
 use Rattle.tw_command.specs.declared.command.Answer.TheVariants.{Report, Picture}
 use Rattle.tw_command.specs.declared.command.ReplayOrder.{ReplayOrder}
+use Rattle.tw_command.specs.declared.command.Source.{Source}
+use Rattle.tw_command.specs.declared.command.Source.TheVariants.{Hex, Assembly}
 use Rattle.tw_machine.specs.PlainView.{PlainView}
 use Rattle.tw_machine.specs.declared.refusal.OpenRefusal.{OpenRefusal}
 use Rattle.tw_machine.specs.Opening.{open_refusal_number, refusal_of}
@@ -31,6 +33,7 @@ use Rattle.tw_report.specs.Lines.{fault_line, history_line, not_enabled_line, op
 use Rattle.tw_report.specs.Report.{state_report}
 use Rattle.tw_session.specs.Input.{digits_in}
 use Rattle.tw_session.specs.Reply.{Reply, reply}
+use Rattle.tw_session.specs.Text.{RepliesByAssembly, RepliesByUtf8}
 use Rattle.tw_session.specs.declared.status.Close.{Close}
 use Rattle.tw_session.specs.declared.status.Close.TheVariants.{Success, Refused, Stuck, Trapped}
 
@@ -112,9 +115,12 @@ abbrev pub RepliesByDigits : ReplayOrder → List (List ℕ) → Result (List �
 RepliesByDigits order lines (Ok bytes) r = RepliesByCode order lines (program_of bytes) r
 RepliesByDigits order lines (Err e) r = r ≡ reply (codes "refused H01\n") Refused
 
--- The part behind the line `events` must be UTF-8; it is looked at behind the program.
-abbrev pub RepliesByReplay : ReplayOrder → List ℕ → Reply → Type 0
-RepliesByReplay order input r =
-    (before : List ℕ) × (after : List ℕ) × AreParts input before after
-    × ((IsUtf8 after × RepliesByDigits order (lines_in after) (decode_of (digits_in before)) r)
-    ⊎ ((IsUtf8 after → ⊥) × (r ≡ reply (codes "refused H03\n") Refused)))
+-- hex text, or assembly text
+abbrev pub RepliesBySource : Source → ReplayOrder → List (List ℕ) → List ℕ → Reply → Type 0
+RepliesBySource Hex order lines program r = RepliesByDigits order lines (decode_of (digits_in program)) r
+RepliesBySource Assembly order lines program r = RepliesByUtf8 program (RepliesByAssembly program (RepliesByLines order lines) r) r
+
+-- The part behind the line `events` must be UTF-8; the program before it is looked at then.
+abbrev pub RepliesByReplay : Source → ReplayOrder → List ℕ → Reply → Type 0
+RepliesByReplay source order input r =
+    (before : List ℕ) × (after : List ℕ) × AreParts input before after × RepliesByUtf8 after (RepliesBySource source order (lines_in after) before r) r

@@ -1,5 +1,5 @@
 -- What a session writes and how it ends, by the bytes that it reads.
-use Rattle.std.specs.Prelude.{◌≡◌, ◌⊎◌, ◌++◌, ℕ, List, length, codes, Result, Ok, Err, nat_lt, MatchBool, IsUtf8, Option, ⊤}
+use Rattle.std.specs.Prelude.{◌≡◌, ◌⊎◌, ◌++◌, ℕ, List, length, codes, Result, Ok, Err, nat_lt, MatchBool, Option, ⊤}
 use Rattle.hex.specs.Hex.{decode_of, encode_lower}
 use Rattle.hex.specs.declared.FromHexError.{FromHexError}
 use Rattle.tw_code.specs.declared.procedure.Procedure.{Procedure}
@@ -12,24 +12,23 @@ use Rattle.tw_command.specs.declared.command.Order.{Order}
 use Rattle.tw_command.specs.declared.command.Order.TheVariants.{Assemble, Program, Replay}
 use Rattle.tw_command.specs.declared.command.ProgramOrder.{ProgramOrder}
 use Rattle.tw_command.specs.declared.command.ProgramOrder.TheVariants.{Disassemble, Verified}
+use Rattle.tw_command.specs.declared.command.Source.{Source}
+use Rattle.tw_command.specs.declared.command.Source.TheVariants.{Hex, Assembly}
 use Rattle.tw_command.specs.declared.command.VerifiedOrder.{VerifiedOrder}
 use Rattle.tw_command.specs.declared.command.VerifiedOrder.TheVariants.{Check, Run}
 use Rattle.tw_session.specs.declared.status.Close.TheVariants.{Success, Refused, CommandLine}
 use Rattle.tw_session.specs.declared.status.Status.{Status}
 use Rattle.tw_session.specs.declared.status.Status.TheVariants.{Ended, NoMemory, ReadFailed, WriteFailed}
 use Rattle.std.specs.Io.KnownBytes.{Appends, Keeps}
-use Rattle.tw_asm.specs.declared.fault.FaultNo.{FaultNo}
-use Rattle.tw_asm.specs.Answers.{HasFault}
 use Rattle.tw_asm.specs.Disassembly.{disassembly}
-use Rattle.tw_asm.specs.Fault as asm
-use Rattle.tw_asm.specs.Spelling.{SpellsProgram}
 use Rattle.tw_session.specs.Input.{most_bytes, digits_in}
-use Rattle.tw_command.specs.CommandLine.{Asked, IsAsked, IsRefusedInput}
-use Rattle.tw_report.specs.Lines.{asm_line, fault_line, input_word_line, verify_line}
+use Rattle.tw_command.specs.CommandLine.{Asked, IsAsked, IsExplained, IsRefusedInput}
+use Rattle.tw_report.specs.Lines.{fault_line, input_word_line, verify_line}
 use Rattle.tw_session.specs.Reply.{Reply, reply}
 use Rattle.tw_session.specs.Check.{IsCheckText}
 use Rattle.tw_session.specs.Replay.{RepliesByReplay}
 use Rattle.tw_session.specs.Run.{RepliesByOpening}
+use Rattle.tw_session.specs.Text.{Behind, RepliesByAssembly, RepliesByUtf8, line_behind, nothing_behind}
 
 -- ---- a program
 
@@ -41,45 +40,55 @@ abbrev pub RepliesByAccepted : VerifiedOrder → List Procedure → Reply → Ty
 RepliesByAccepted Check program r = RepliesByCheck program r
 RepliesByAccepted (Run order) program r = RepliesByOpening program order r
 
--- the program is accepted; or it is refused, and this is the first refusal
-abbrev pub RepliesByVerified : VerifiedOrder → List Procedure → Reply → Type 0
-RepliesByVerified order program r =
-    (IsAccepted program × RepliesByAccepted order program r)
-    ⊎ ((number : ℕ) × (procedure : ℕ) × (place : ℕ) × IsFirstRefusal program number procedure place × (r ≡ reply (verify_line number procedure place) Refused))
+-- what is written of the first refusal, with what stands behind its line
+abbrev pub IsRefused : Behind → List Procedure → Reply → Type 0
+IsRefused behind program r =
+    (number : ℕ) × (procedure : ℕ) × (place : ℕ) × (more : List ℕ) × IsFirstRefusal program number procedure place × behind procedure place more
+    × (r ≡ reply (verify_line number procedure place ++ more) Refused)
+
+-- the program is accepted; or it is refused
+abbrev pub RepliesByVerified : Behind → VerifiedOrder → List Procedure → Reply → Type 0
+RepliesByVerified behind order program r = (IsAccepted program × RepliesByAccepted order program r) ⊎ IsRefused behind program r
 
 -- the program's assembly text is written, or the program is verified
-abbrev pub RepliesByProgram : ProgramOrder → List Procedure → Reply → Type 0
-RepliesByProgram Disassemble program r = r ≡ reply (disassembly program) Success
-RepliesByProgram (Verified order) program r = RepliesByVerified order program r
+abbrev pub RepliesByProgram : Behind → ProgramOrder → List Procedure → Reply → Type 0
+RepliesByProgram behind Disassemble program r = r ≡ reply (disassembly program) Success
+RepliesByProgram behind (Verified order) program r = RepliesByVerified behind order program r
 
 -- ---- the bytes
 
 -- the bytes spell a program, or have a first fault
 abbrev pub RepliesByBytes : ProgramOrder → Result (List Procedure) Fault → Reply → Type 0
-RepliesByBytes order (Ok program) r = RepliesByProgram order program r
+RepliesByBytes order (Ok program) r = RepliesByProgram nothing_behind order program r
 RepliesByBytes order (Err f) r = r ≡ reply (fault_line (fault.fault_number f.no) f.offset) Refused
 
 -- the text is hex digits, two a byte, or isn't
-abbrev pub RepliesByText : ProgramOrder → Result (List ℕ) FromHexError → Reply → Type 0
-RepliesByText order (Ok bytes) r = RepliesByBytes order (program_of bytes) r
-RepliesByText order (Err e) r = r ≡ reply (codes "refused H01\n") Refused
+abbrev pub RepliesByDigits : ProgramOrder → Result (List ℕ) FromHexError → Reply → Type 0
+RepliesByDigits order (Ok bytes) r = RepliesByBytes order (program_of bytes) r
+RepliesByDigits order (Err e) r = r ≡ reply (codes "refused H01\n") Refused
 
--- ---- assembly text
+-- ---- a text
 
--- The text spells a program, whose bytes are written in hex digits; or it spells none, and its first fault is told.
-abbrev pub RepliesByAssembly : List ℕ → Reply → Type 0
-RepliesByAssembly text r =
-    ((program : List Procedure) × SpellsProgram program text × (r ≡ reply (encode_lower (spelling program) ++ codes "\n") Success))
-    ⊎ ((which : FaultNo) × (line : ℕ) × HasFault text which line × (r ≡ reply (asm_line (asm.fault_number which) line) Refused))
+-- a program's bytes, in hex digits
+abbrev pub IsWritten : List Procedure → Reply → Type 0
+IsWritten program r = r ≡ reply (encode_lower (spelling program) ++ codes "\n") Success
+
+-- the text's program; a refusal tells the line of the text
+abbrev pub RepliesByText : ProgramOrder → List ℕ → Reply → Type 0
+RepliesByText order text r = RepliesByAssembly text (λ program. RepliesByProgram (line_behind text program) order program) r
+
+-- hex text, or assembly text
+abbrev pub RepliesBySource : Source → ProgramOrder → List ℕ → Reply → Type 0
+RepliesBySource Hex order input r = RepliesByDigits order (decode_of (digits_in input)) r
+RepliesBySource Assembly order input r = RepliesByUtf8 input (RepliesByText order input r) r
 
 -- ---- an order
 
--- what is read is assembly text, or the hex text of a program, with a history behind it where that is replayed
+-- what is read is assembly text, or a program, with a history behind it where that is replayed
 abbrev pub RepliesByInput : Order → List ℕ → Reply → Type 0
-RepliesByInput Assemble input r =
-    (IsUtf8 input × RepliesByAssembly input r) ⊎ ((IsUtf8 input → ⊥) × (r ≡ reply (codes "refused H03\n") Refused))
-RepliesByInput (Program order) input r = RepliesByText order (decode_of (digits_in input)) r
-RepliesByInput (Replay order) input r = RepliesByReplay order input r
+RepliesByInput Assemble input r = RepliesByUtf8 input (RepliesByAssembly input IsWritten r) r
+RepliesByInput (Program source order) input r = RepliesBySource source order input r
+RepliesByInput (Replay source order) input r = RepliesByReplay source order input r
 
 -- what a session may answer to an order and the bytes that it reads: too much input is refused before it is looked at
 abbrev pub MayReply : Order → List ℕ → Reply → Type 0
@@ -88,11 +97,12 @@ MayReply order input r = MatchBool (nat_lt most_bytes (length input)) (r ≡ rep
 -- ---- the words
 
 -- What may be written in answer to words that are taken and the bytes that the reader holds: a reply to the order that they
--- ask for; or, with the number of the first input word that spells no input, a line.
+-- ask for; or, with the number of the first input word that spells no input, a line; or the explanation that they ask for.
 abbrev pub MayAnswer : Asked → List ℕ → Reply → Type 0
 MayAnswer asked input r =
     ((order : Order) × IsAsked asked order × MayReply order input r)
-    ⊎ ((number : ℕ) × IsRefusedInput asked number × (r ≡ reply (input_word_line number) CommandLine))
+    ⊎ (((number : ℕ) × IsRefusedInput asked number × (r ≡ reply (input_word_line number) CommandLine))
+    ⊎ (IsExplained asked r.text × (r.close ≡ Success)))
 
 -- What may come of such words, the bytes that the reader held, a status, and what the writer held before and after: an
 -- answer is written, or want of memory; a read may fail only where there is an order, and nothing is written then; after a

@@ -10,6 +10,7 @@ mod replay;
 mod reply;
 mod run;
 mod shell;
+mod source;
 mod status;
 
 pub use reply::{Reply, reply_to};

@@ -1,32 +1,37 @@
 //! What a session answers to the bytes that it reads.
 
-ghost use Rattle.std.specs.Prelude.{◌≡◌, ◌<◌, ◌≤◌, ◌++◌, List, IfOk, codes, length};
+ghost use Rattle.std.specs.Prelude.{◌≡◌, ◌≢◌, ◌<◌, ◌≤◌, ◌++◌, ℕ, List, IfOk, length};
 ghost use Rattle.tw_command.specs.declared.command.Order.TheVariants.{Assemble, Replay};
-ghost use Rattle.tw_session.specs.Session.{MayReply, RepliesByAccepted, RepliesByAssembly, RepliesByBytes, RepliesByInput};
-ghost use Rattle.tw_session.specs.Session.{RepliesByProgram, RepliesByText, RepliesByVerified};
+ghost use Rattle.tw_command.specs.declared.command.Source.TheVariants.{Assembly};
+ghost use Rattle.tw_session.specs.Session.{IsWritten, MayReply, RepliesByAccepted, RepliesByBytes, RepliesByDigits};
+ghost use Rattle.tw_session.specs.Session.{RepliesByInput, RepliesByProgram, RepliesBySource, RepliesByText, RepliesByVerified};
 ghost use Rattle.tw_session.specs.Reply.{reply};
 ghost use Rattle.tw_session.specs.Input.{digits_in};
-ghost use Rattle.tw_report.specs.Lines.{opening_line, verify_line};
+ghost use Rattle.tw_session.specs.Source.{MayBeSource, behind_of};
+ghost use Rattle.tw_session.specs.Text.{RepliesByAssembly};
+ghost use Rattle.tw_asm.specs.Fault.{fault_number};
+ghost use Rattle.tw_asm.specs.declared.fault.FaultNo.TheVariants as asm;
+ghost use Rattle.tw_report.specs.Lines.{asm_line, opening_line, verify_line};
 ghost use Rattle.tw_code.specs.format.Reading.{program_of};
 ghost use Rattle.tw_code.specs.accepting.WellTyped.{IsAccepted};
-ghost use Rattle.tw_code.specs.format.Spelling.{spelling};
-ghost use Rattle.hex.specs.Hex.{decode_of, encode_lower};
+ghost use Rattle.hex.specs.Hex.{decode_of};
 
 use crate::check::check_text;
 use crate::input::{MOST_BYTES, digits};
 use crate::replay::replay_reply;
 use crate::run::run_of;
+use crate::source::{SourceText, put_behind};
 use crate::status::Close;
 use hex::FromHexError;
 use std::alloc::{AllocError, Global};
 use std::sync::Wait;
 use std::thread::Threads;
 use std::time::Clock;
-use tw_asm::{assemble, disassemble};
+use tw_asm::{AsmFault, LinedProgram, assemble, assemble_lined, disassemble};
 use tw_code::{FaultNo, Program, decode, encode};
-use tw_command::{Order, ProgramOrder, ReplayOrder, VerifiedOrder};
+use tw_command::{Order, ProgramOrder, ReplayOrder, Source, VerifiedOrder};
 use tw_report::{put, put_asm_line, put_fault_line, put_opening_line, put_verify_line};
-use tw_verify::{Verified, VerifyRefusal, verify};
+use tw_verify::{Refused, Verified, VerifyRefusal, verify};
 
 /// What a session writes, and how it ends.
 #[derive(Drop)]
@@ -78,15 +83,25 @@ fn accepted_reply<H: Threads + Wait + Clock + Sync>(
 /// The reply where a program isn't accepted.
 fn refusal_reply(
     alloc: Global,
+    source: &Option<SourceText<'_>>,
     number: u8,
-    procedure: usize,
-    place: usize,
+    refused: &Refused,
 ) -> Result<Reply, AllocError>
-    requires { number < 100 }
-    ensures { IfOk result (λ r. reply r.text.items r.close ≡ reply (verify_line number procedure place) Close.Refused) }
+    requires number { number < 100 }
+    requires source { MayBeSource source.now refused.now.program }
+    ensures { IfOk result (λ r. (more : List ℕ) × behind_of source.now refused.now.program refused.now.procedure refused.now.place more
+        × (reply r.text.items r.close ≡ reply (verify_line number refused.now.procedure refused.now.place ++ more) Close.Refused)) }
 {
     let mut text = Vec::new(alloc);
-    put_verify_line(alloc, &mut text, number, procedure, place)?;
+    put_verify_line(alloc, &mut text, number, refused.procedure, refused.place)?;
+    put_behind(
+        alloc,
+        &mut text,
+        source,
+        &refused.program,
+        refused.procedure,
+        refused.place,
+    )?;
     Ok(Reply {
         text,
         close: Close::Refused,
@@ -97,16 +112,18 @@ fn refusal_reply(
 fn verified_reply<H: Threads + Wait + Clock + Sync>(
     rt: &H,
     alloc: Global,
+    source: &Option<SourceText<'_>>,
     order: &VerifiedOrder,
     program: Program,
 ) -> Result<Reply, AllocError>
-    ensures { IfOk result (λ r. RepliesByVerified order.now program (reply r.text.items r.close)) }
+    requires { MayBeSource source.now program }
+    ensures { IfOk result (λ r. RepliesByVerified (behind_of source.now program) order.now program (reply r.text.items r.close)) }
 {
     match verify(alloc, program) {
         Ok(verified) => accepted_reply(rt, alloc, order, verified),
         Err(refused) => match refused.no {
             VerifyRefusal::NoMemory => Err(AllocError),
-            no => refusal_reply(alloc, no.number(), refused.procedure, refused.place),
+            no => refusal_reply(alloc, source, no.number(), &refused),
         },
     }
 }
@@ -115,10 +132,12 @@ fn verified_reply<H: Threads + Wait + Clock + Sync>(
 fn program_reply<H: Threads + Wait + Clock + Sync>(
     rt: &H,
     alloc: Global,
+    source: &Option<SourceText<'_>>,
     order: &ProgramOrder,
     program: Program,
 ) -> Result<Reply, AllocError>
-    ensures { IfOk result (λ r. RepliesByProgram order.now program (reply r.text.items r.close)) }
+    requires { MayBeSource source.now program }
+    ensures { IfOk result (λ r. RepliesByProgram (behind_of source.now program) order.now program (reply r.text.items r.close)) }
 {
     match order {
         ProgramOrder::Disassemble => match disassemble(alloc, &program) {
@@ -128,7 +147,7 @@ fn program_reply<H: Threads + Wait + Clock + Sync>(
             }),
             Err(_) => Err(AllocError),
         },
-        ProgramOrder::Verified(order) => verified_reply(rt, alloc, order, program),
+        ProgramOrder::Verified(order) => verified_reply(rt, alloc, source, order, program),
     }
 }
 
@@ -142,7 +161,7 @@ fn bytes_reply<H: Threads + Wait + Clock + Sync>(
     ensures { IfOk result (λ r. RepliesByBytes order.now (program_of bytes.now) (reply r.text.items r.close)) }
 {
     match decode(alloc, bytes) {
-        Ok(program) => program_reply(rt, alloc, order, program),
+        Ok(program) => program_reply(rt, alloc, &None, order, program),
         Err(fault) => match fault.no {
             FaultNo::NoMemory => Err(AllocError),
             no => {
@@ -158,14 +177,14 @@ fn bytes_reply<H: Threads + Wait + Clock + Sync>(
 }
 
 /// Turns hex text into bytes, and answers to these.
-fn text_reply<H: Threads + Wait + Clock + Sync>(
+fn digits_reply<H: Threads + Wait + Clock + Sync>(
     rt: &H,
     alloc: Global,
     order: &ProgramOrder,
     input: Vec<u8>,
 ) -> Result<Reply, AllocError>
     ensures { IfOk result (λ r.
-        RepliesByText order.now (decode_of (digits_in input.items)) (reply r.text.items r.close)) }
+        RepliesByDigits order.now (decode_of (digits_in input.items)) (reply r.text.items r.close)) }
 {
     match hex::decode(alloc, digits(input)) {
         Ok(bytes) => bytes_reply(rt, alloc, order, &bytes),
@@ -174,9 +193,75 @@ fn text_reply<H: Threads + Wait + Clock + Sync>(
     }
 }
 
+/// The reply where a text spells no program.
+pub fn text_fault_reply(alloc: Global, fault: AsmFault) -> Result<Reply, AllocError>
+    ensures { IfOk result (λ r. (fault.no ≢ asm.NoMemory) × (reply r.text.items r.close ≡ reply (asm_line (fault_number fault.no) fault.line) Close.Refused)) }
+{
+    match fault.no {
+        tw_asm::FaultNo::NoMemory => Err(AllocError),
+        no => {
+            let mut text = Vec::new(alloc);
+            put_asm_line(alloc, &mut text, no.number(), fault.line)?;
+            Ok(Reply {
+                text,
+                close: Close::Refused,
+            })
+        }
+    }
+}
+
+/// Assembles a text, and does what is ordered with its program.
+fn text_reply<H: Threads + Wait + Clock + Sync>(
+    rt: &H,
+    alloc: Global,
+    order: &ProgramOrder,
+    text: &str,
+) -> Result<Reply, AllocError>
+    ensures { IfOk result (λ r. RepliesByText order.now text.now (reply r.text.items r.close)) }
+{
+    match assemble_lined(alloc, text) {
+        Ok(LinedProgram { program, lines }) => {
+            let source = Some(SourceText { text, lines });
+            program_reply(rt, alloc, &source, order, program)
+        }
+        Err(fault) => text_fault_reply(alloc, fault),
+    }
+}
+
+/// The reply to bytes that are to be a program in assembly text.
+fn utf8_reply<H: Threads + Wait + Clock + Sync>(
+    rt: &H,
+    alloc: Global,
+    order: &ProgramOrder,
+    input: Vec<u8>,
+) -> Result<Reply, AllocError>
+    ensures { IfOk result (λ r. RepliesBySource Assembly order.now input.items (reply r.text.items r.close)) }
+{
+    match String::from_utf8(input) {
+        Ok(text) => text_reply(rt, alloc, order, &text),
+        Err(_) => fixed_reply(alloc, "refused H03\n", Close::Refused),
+    }
+}
+
+/// The reply to a program in hex text or in assembly text.
+fn source_reply<H: Threads + Wait + Clock + Sync>(
+    rt: &H,
+    alloc: Global,
+    source: Source,
+    order: &ProgramOrder,
+    input: Vec<u8>,
+) -> Result<Reply, AllocError>
+    ensures { IfOk result (λ r. RepliesBySource source order.now input.items (reply r.text.items r.close)) }
+{
+    match source {
+        Source::Hex => digits_reply(rt, alloc, order, input),
+        Source::Assembly => utf8_reply(rt, alloc, order, input),
+    }
+}
+
 /// A program as hex digits, in one line.
 fn hex_reply(alloc: Global, program: &Program) -> Result<Reply, AllocError>
-    ensures { IfOk result (λ r. reply r.text.items r.close ≡ reply (encode_lower (spelling program.now) ++ codes "\n") Close.Success) }
+    ensures { IfOk result (λ r. IsWritten program.now (reply r.text.items r.close)) }
 {
     let Ok(bytes) = encode(alloc, program) else {
         return Err(AllocError);
@@ -191,21 +276,11 @@ fn hex_reply(alloc: Global, program: &Program) -> Result<Reply, AllocError>
 
 /// The program of an assembly text as hex digits, or the text's first fault.
 fn assembly_reply(alloc: Global, text: &str) -> Result<Reply, AllocError>
-    ensures { IfOk result (λ r. RepliesByAssembly text.now (reply r.text.items r.close)) }
+    ensures { IfOk result (λ r. RepliesByAssembly text.now IsWritten (reply r.text.items r.close)) }
 {
     match assemble(alloc, text) {
         Ok(program) => hex_reply(alloc, &program),
-        Err(fault) => match fault.no {
-            tw_asm::FaultNo::NoMemory => Err(AllocError),
-            no => {
-                let mut text = Vec::new(alloc);
-                put_asm_line(alloc, &mut text, no.number(), fault.line)?;
-                Ok(Reply {
-                    text,
-                    close: Close::Refused,
-                })
-            }
-        },
+        Err(fault) => text_fault_reply(alloc, fault),
     }
 }
 
@@ -220,11 +295,16 @@ fn assembled_reply(alloc: Global, input: Vec<u8>) -> Result<Reply, AllocError>
 }
 
 /// The reply to what is to be a program with a history behind it.
-fn replayed_reply(alloc: Global, order: &ReplayOrder, input: Vec<u8>) -> Result<Reply, AllocError>
+fn replayed_reply(
+    alloc: Global,
+    source: Source,
+    order: &ReplayOrder,
+    input: Vec<u8>,
+) -> Result<Reply, AllocError>
     requires { length input.items ≤ 16777216 }
-    ensures { IfOk result (λ r. RepliesByInput (Replay order.now) input.items (reply r.text.items r.close)) }
+    ensures { IfOk result (λ r. RepliesByInput (Replay source order.now) input.items (reply r.text.items r.close)) }
 {
-    replay_reply(alloc, order, &input)
+    replay_reply(alloc, source, order, &input)
 }
 
 /// The whole reply to an order and the bytes that were read; refused where memory is.
@@ -241,7 +321,7 @@ pub fn reply_to<H: Threads + Wait + Clock + Sync>(
     }
     match order {
         Order::Assemble => assembled_reply(alloc, input),
-        Order::Program(order) => text_reply(rt, alloc, order, input),
-        Order::Replay(order) => replayed_reply(alloc, order, input),
+        Order::Program(source, order) => source_reply(rt, alloc, *source, order, input),
+        Order::Replay(source, order) => replayed_reply(alloc, *source, order, input),
     }
 }

@@ -1,28 +1,27 @@
-use Rattle.std.proofs.Common.{rules, ◌≡◌, ◌∙◌, ap, ap₂}
+use Rattle.std.proofs.Common.{◌≡◌, ◌∙◌, ap, ap₂}
 use Rattle.std.specs.Prelude.{codes}
 use Rattle.clap.specs.Words.{App, app_of, with_subcommand}
-use Rattle.tw_command.specs.CommandLine.{bare_line, command_line, plain_line, replay_line, run_line}
+use Rattle.tw_command.specs.CommandLine.{bare_line, command_line, explain_line, plain_line, program_line, replay_line, run_line}
 use Rattle.tw_command.proofs.command.command.Goals as goal
 
 abbrev with_asm : App
 with_asm = with_subcommand bare_line (plain_line (codes "asm")).top
-
-abbrev with_both : App
-with_both = with_subcommand with_asm (plain_line (codes "disasm")).top
 
 pub returns : goal.returns
 unfolding command_line
 returns c =
     let bare : app_of c.in_ok-bare.bare ≡ bare_line = c.in_ok-bare.ensures in
     let asm : app_of c.plain_command.result ≡ plain_line (codes "asm") = c.plain_command.ensures.app in
-    let disasm : app_of c.plain_command-2.result ≡ plain_line (codes "disasm") = c.plain_command-2.ensures.app in
-    let check : app_of c.plain_command-3.result ≡ plain_line (codes "check") = c.plain_command-3.ensures.app in
+    let disasm : app_of c.in_ok-disassembling.disassembling ≡ program_line (codes "disasm") = c.in_ok-disassembling.ensures.app in
+    let check : app_of c.in_ok-checking.checking ≡ program_line (codes "check") = c.in_ok-checking.ensures.app in
     let run : app_of c.in_ok-running.running ≡ run_line = c.in_ok-running.ensures.app in
-    let assembling : app_of c.in_ok-assembling.assembling ≡ with_asm = c.in_ok-assembling.ensures.shape (search rules) ∙ ap₂ with_subcommand bare (ap (λ (a : App). a.top) asm) in
-    let both : app_of c.in_ok-both.both ≡ with_both = c.in_ok-both.ensures.shape (search rules) ∙ ap₂ with_subcommand assembling (ap (λ (a : App). a.top) disasm) in
-    let checking : app_of c.in_ok-checking.checking ≡ with_subcommand with_both (plain_line (codes "check")).top = c.in_ok-checking.ensures.shape (search rules) ∙ ap₂ with_subcommand both (ap (λ (a : App). a.top) check) in
-    let four = c.in_ok-four.ensures.shape (search rules) ∙ ap₂ with_subcommand checking (ap (λ (a : App). a.top) run) in
     let replay : app_of c.in_ok-replaying.replaying ≡ replay_line (codes "replay") = c.in_ok-replaying.ensures.app in
-    let five = c.in_ok-five.ensures.shape (search rules) ∙ ap₂ with_subcommand four (ap (λ (a : App). a.top) replay) in
     let picture : app_of c.in_ok-drawing.drawing ≡ replay_line (codes "picture") = c.in_ok-drawing.ensures.app in
-    c.in_ok-whole.ensures.shape (search rules) ∙ ap₂ with_subcommand five (ap (λ (a : App). a.top) picture)
+    let explain : app_of c.in_ok-explaining.explaining ≡ explain_line = c.in_ok-explaining.ensures.app in
+    let assembling : app_of c.in_ok-assembling.assembling ≡ with_asm = c.in_ok-assembling.ensures.shape c.plain_command.ensures.local ∙ ap₂ with_subcommand bare (ap (λ (a : App). a.top) asm) in
+    let both = c.in_ok-both.ensures.shape c.in_ok-disassembling.ensures.local ∙ ap₂ with_subcommand assembling (ap (λ (a : App). a.top) disasm) in
+    let three = c.in_ok-three.ensures.shape c.in_ok-checking.ensures.local ∙ ap₂ with_subcommand both (ap (λ (a : App). a.top) check) in
+    let four = c.in_ok-four.ensures.shape c.in_ok-running.ensures.local ∙ ap₂ with_subcommand three (ap (λ (a : App). a.top) run) in
+    let five = c.in_ok-five.ensures.shape c.in_ok-replaying.ensures.local ∙ ap₂ with_subcommand four (ap (λ (a : App). a.top) replay) in
+    let six = c.in_ok-six.ensures.shape c.in_ok-drawing.ensures.local ∙ ap₂ with_subcommand five (ap (λ (a : App). a.top) picture) in
+    c.in_ok-whole.ensures.shape c.in_ok-explaining.ensures.local ∙ ap₂ with_subcommand six (ap (λ (a : App). a.top) explain)

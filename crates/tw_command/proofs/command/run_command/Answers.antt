@@ -12,4 +12,5 @@ returns-clause-app c =
     let workers = c.in_ok-workers.ensures.shape c.option_arg-3.ensures.local ∙ ap₂ with_rule servers c.option_arg-3.ensures.rule in
     let limit = c.in_ok-limit.ensures.shape c.option_arg-4.ensures.local ∙ ap₂ with_rule workers c.option_arg-4.ensures.rule in
     let trace = c.in_ok-trace.ensures.shape c.flag_arg.ensures.local ∙ ap₂ with_rule limit c.flag_arg.ensures.rule in
-    c.in_ok-whole.ensures.shape c.input_arg.ensures.local ∙ ap₂ with_rule trace c.input_arg.ensures.rule
+    let text = c.in_ok-text.ensures.shape c.text_arg.ensures.local ∙ ap₂ with_rule trace c.text_arg.ensures.rule in
+    c.in_ok-whole.ensures.shape c.input_arg.ensures.local ∙ ap₂ with_rule text c.input_arg.ensures.rule

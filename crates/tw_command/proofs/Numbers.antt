@@ -1,0 +1,33 @@
+-- What is found among rows.
+use Rattle.std.proofs.Common.{◌≡◌, Bool, true, false, List, [], ◌∷◌, IfSome, refl}
+use Rattle.std.specs.Prelude.{is_some, Option, Some, None}
+use Rattle.std.specs.Option.{option_map}
+use Rattle.std.specs.List.{find, list_any}
+
+pub some_found : {X : Type 0} (p : X → Bool) (xs : List X) → is_some (find p xs) ≡ list_any p xs
+some_found p [] = refl
+some_found p (x ∷ xs) = by (p x) refl (some_found p xs)
+  where
+    by : (b : Bool) → p x ≡ b → is_some (find p xs) ≡ list_any p xs → is_some (find p (x ∷ xs)) ≡ list_any p (x ∷ xs)
+    by true e h = rw e refl
+    by false e h = rw e h
+
+pub found_passes : {X : Type 0} (p : X → Bool) (xs : List X) → IfSome (find p xs) (λ x. p x ≡ true)
+found_passes p [] = tt
+found_passes {X} p (x ∷ xs) = by (p x) refl (found_passes p xs)
+  where
+    by : (b : Bool) → p x ≡ b → IfSome (find p xs) (λ (y : X). p y ≡ true) → IfSome (find p (x ∷ xs)) (λ (y : X). p y ≡ true)
+    by true e h = rw e e
+    by false e h = rw e h
+
+none_some : {X : Type 0} {x : X} {Z : Type 0} → Some x ≡ None → Z
+none_some e = absurd cc
+
+-- a name and rows that are had of one thing are had together
+pub both_had : {B N R : Type 0} (name : B → N) (rows : B → R) (o : Option B) (n : N) (r : R) → Some n ≡ option_map name o → Some r ≡ option_map (λ (p : N × R). p.1) (option_map {U = N × R} (λ (b : B). (name b, rows b)) o)
+    → option_map {U = N × R} (λ (b : B). (name b, rows b)) o ≡ Some (n, r)
+both_had name rows None n r a b = none_some a
+both_had name rows (Some x) n r a b =
+    let p : name x ≡ n = cc in
+    let q : rows x ≡ r = cc in
+    rw (p, q) refl

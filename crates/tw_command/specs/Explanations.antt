@@ -1,0 +1,61 @@
+-- The numbers of refusals and traps, which `explain` explains.
+use Rattle.std.specs.Prelude.{◌≡◌, ◌++◌, ◌||◌, ℕ, Bool, true, List, [], ◌∷◌, codes, if◌then◌else◌, unwrap_or}
+use Rattle.std.specs.List.{list_any}
+use Rattle.std.specs.Str.{bytes_eq}
+use Rattle.clap.specs.Words.{Kinds, Row, Rule, Text, first_of, new_rule}
+use Rattle.clap.specs.declared.error.ErrorKind.TheVariants.{ValueValidation}
+
+-- ---- all that there are, as refusals and traps name them
+
+-- of what is read, of openings, layouts, histories and runs
+abbrev pub session_numbers : List Text
+session_numbers =
+    codes "H01" ∷ codes "H02" ∷ codes "H03" ∷ codes "O01" ∷ codes "O02" ∷ codes "O03" ∷ codes "O04" ∷ codes "O05" ∷
+    codes "O06" ∷ codes "L01" ∷ codes "E01" ∷ codes "X01" ∷ []
+
+-- of assembly text
+abbrev pub assembly_numbers : List Text
+assembly_numbers =
+    codes "A01" ∷ codes "A02" ∷ codes "A03" ∷ codes "A04" ∷ codes "A05" ∷ codes "A06" ∷ codes "A07" ∷ []
+
+-- of a program's bytes
+abbrev pub byte_numbers : List Text
+byte_numbers =
+    codes "F01" ∷ codes "F02" ∷ codes "F03" ∷ codes "F04" ∷ codes "F05" ∷ codes "F06" ∷ codes "F07" ∷ codes "F08" ∷
+    codes "F09" ∷ []
+
+-- of the verifier
+abbrev pub verifier_numbers : List Text
+verifier_numbers =
+    codes "V01" ∷ codes "V02" ∷ codes "V03" ∷ codes "V04" ∷ codes "V05" ∷ codes "V06" ∷ codes "V07" ∷ codes "V08" ∷
+    codes "V09" ∷ codes "V10" ∷ codes "V11" ∷ codes "V12" ∷ codes "V13" ∷ codes "V14" ∷ codes "V15" ∷ codes "V16" ∷
+    codes "V17" ∷ codes "V18" ∷ []
+
+-- of traps
+abbrev pub trap_numbers : List Text
+trap_numbers =
+    codes "C1" ∷ codes "C2" ∷ codes "C3" ∷ codes "C4" ∷ codes "C5" ∷ codes "C6" ∷ codes "C7" ∷ codes "C8" ∷
+    codes "C9" ∷ codes "C10" ∷ codes "C11" ∷ codes "C12" ∷ codes "C13" ∷ codes "C14" ∷ codes "C15" ∷ []
+
+abbrev pub is_among : List Text → Text → Bool
+is_among numbers word = list_any (λ number. bytes_eq number word) numbers
+
+abbrev pub is_number : Text → Bool
+is_number word = is_among session_numbers word || (is_among assembly_numbers word || (is_among byte_numbers word || (is_among verifier_numbers word || is_among trap_numbers word)))
+
+-- ---- what is written
+
+-- what is written for a number: it stands first, and something follows
+abbrev pub IsExplanation : Text → List ℕ → Type 0
+IsExplanation number text = (more : List ℕ) × (text ≡ number ++ (codes ": " ++ more))
+
+-- the word behind `explain`
+abbrev pub number_rule : Rule
+number_rule = record (new_rule (codes "number")) { required = true }
+
+abbrev pub number_word : List Row → Text
+number_word rows = unwrap_or (first_of (codes "number") rows) []
+
+-- the fault where it is none of the numbers
+abbrev pub number_faults : Text → Kinds
+number_faults word = if is_number word then [] else ValueValidation ∷ []
