@@ -1,10 +1,11 @@
--- What comes of an explanation that is written.
-use Rattle.std.proofs.Common.{◌≡◌, ◌≢◌, ℕ, List, Option, Some, None, IfSome, inr, refl}
+-- What comes of an explanation that is written, and of an input word that is refused.
+use Rattle.std.proofs.Common.{◌≡◌, ◌≢◌, ℕ, List, Option, Some, None, IfSome, inl, inr, refl}
 use Rattle.std.specs.Io.KnownBytes.{Appends}
 use Rattle.clap.specs.Words.{Text}
 use Rattle.tw_command.specs.CommandLine.{Asked, Assembles, Checks, Disassembles, Explains, IsExplained, IsRefusedInput, Replays, Runs}
+use Rattle.tw_report.specs.Lines.{input_word_line}
 use Rattle.tw_session.specs.Session.{ComesOf}
-use Rattle.tw_session.specs.Status.{ComesOfExplained}
+use Rattle.tw_session.specs.Status.{ComesOfExplained, ComesOfRefusedInput}
 use Rattle.tw_session.specs.declared.status.Close.TheVariants.{CommandLine, Limit, Refused, Stuck, Success, Trapped}
 use Rattle.tw_session.specs.declared.status.Status.{Status}
 use Rattle.tw_session.specs.declared.status.Status.TheVariants.{Ended, NoMemory, ReadFailed, WriteFailed}
@@ -40,6 +41,22 @@ comes asked input WriteFailed old new h = tt
 pub comes_anyway : (asked : Asked) (known : Option (List ℕ)) (status : Status) (old new : Option (List ℕ)) → ComesOfExplained asked status old new → IfSome known (λ input. ComesOf asked input status old new)
 comes_anyway asked None status old new h = tt
 comes_anyway asked (Some input) status old new h = comes asked input status old new h
+
+refused_comes : (asked : Asked) (input : List ℕ) (number : ℕ) (status : Status) (old new : Option (List ℕ)) → IsRefusedInput asked number → ComesOfRefusedInput number status old new → ComesOf asked input status old new
+refused_comes asked input number (Ended Success) old new r h = absurd h
+refused_comes asked input number (Ended Refused) old new r h = absurd h
+refused_comes asked input number (Ended CommandLine) old new r h = (input_word_line number, inr (inl (number, r, refl)), h)
+refused_comes asked input number (Ended Stuck) old new r h = absurd h
+refused_comes asked input number (Ended Limit) old new r h = absurd h
+refused_comes asked input number (Ended Trapped) old new r h = absurd h
+refused_comes asked input number NoMemory old new r h = h
+refused_comes asked input number ReadFailed old new r h = absurd h
+refused_comes asked input number WriteFailed old new r h = tt
+
+pub refused_anyway : (asked : Asked) (known : Option (List ℕ)) (number : ℕ) (status : Status) (old new : Option (List ℕ)) → IsRefusedInput asked number → ComesOfRefusedInput number status old new
+    → IfSome known (λ input. ComesOf asked input status old new)
+refused_anyway asked None number status old new r h = tt
+refused_anyway asked (Some input) number status old new r h = refused_comes asked input number status old new r h
 
 -- where an explanation is asked for, no input word is refused
 pub not_refused : (asked : Asked) (text : List ℕ) (number : ℕ) → IsExplained asked text → IsRefusedInput asked number → ⊥

@@ -28,7 +28,7 @@ use std::alloc::{AllocError, Global};
 use std::sync::Wait;
 use std::thread::Threads;
 use std::time::Clock;
-use tw_asm::{AsmFault, LinedProgram, assemble, assemble_lined, disassemble};
+use tw_asm::{AsmFault, assemble, assemble_lined, disassemble};
 use tw_code::{FaultNo, Program, decode, encode};
 use tw_command::{Order, ProgramOrder, ReplayOrder, Source, VerifiedOrder};
 use tw_report::{put, put_asm_line, put_fault_line, put_opening_line, put_verify_line};
@@ -214,9 +214,12 @@ fn text_reply<H: Threads + Wait + Clock + Sync>(
     ensures { IfOk result (λ r. RepliesByText order.now text.now (reply r.text.items r.close)) }
 {
     match assemble_lined(alloc, text) {
-        Ok(LinedProgram { program, lines }) => {
-            let source = Some(SourceText { text, lines });
-            program_reply(rt, alloc, &source, order, program)
+        Ok(lined) => {
+            let source = Some(SourceText {
+                text,
+                lines: lined.lines,
+            });
+            program_reply(rt, alloc, &source, order, lined.program)
         }
         Err(fault) => text_fault_reply(alloc, fault),
     }
