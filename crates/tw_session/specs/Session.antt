@@ -75,7 +75,7 @@ IsWritten program r = r ≡ reply (encode_lower (spelling program) ++ codes "\n"
 
 -- the text's program; a refusal tells the line of the text
 abbrev pub RepliesByText : ProgramOrder → List ℕ → Reply → Type 0
-RepliesByText order text r = RepliesByAssembly text (λ program. RepliesByProgram (line_behind text program) order program) r
+RepliesByText order text r = RepliesByAssembly text (RepliesByProgram (line_behind text) order) r
 
 -- hex text, or assembly text
 abbrev pub RepliesBySource : Source → ProgramOrder → List ℕ → Reply → Type 0

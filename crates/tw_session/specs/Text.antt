@@ -1,12 +1,12 @@
 -- What a session answers to assembly text, and the line of the text that a refusal of its program tells.
-use Rattle.std.specs.Prelude.{◌≡◌, ◌⊎◌, ◌++◌, ◌-◌, ℕ, List, [], codes, decimal, slice_get, IsUtf8, Some, None}
+use Rattle.std.specs.Prelude.{◌≡◌, ◌⊎◌, ◌++◌, ◌-◌, ℕ, List, [], codes, decimal, slice_get, IsUtf8, Some}
 use Rattle.std.specs.Str.{IsTrimAscii}
 use Rattle.std.specs.Str.Lines.{lines}
 use Rattle.tw_code.specs.declared.procedure.Procedure.{Procedure}
 use Rattle.tw_asm.specs.declared.fault.FaultNo.{FaultNo}
 use Rattle.tw_asm.specs.Answers.{HasFault}
 use Rattle.tw_asm.specs.Fault as asm
-use Rattle.tw_asm.specs.Origins.{ComesFrom, instr_at}
+use Rattle.tw_asm.specs.Origins.{ComesFrom}
 use Rattle.tw_asm.specs.Spelling.{SpellsProgram}
 use Rattle.tw_report.specs.Lines.{asm_line}
 use Rattle.tw_session.specs.Reply.{Reply, reply}
@@ -41,8 +41,7 @@ text_line number line = codes "at line " ++ (decimal number ++ (codes ": " ++ (l
 abbrev pub IsLineOf : List ℕ → ℕ → List ℕ → Type 0
 IsLineOf text number trimmed = (line : List ℕ) × (slice_get (lines text) (number - 1) ≡ Some line) × IsTrimAscii line trimmed
 
--- the line from which the instruction at the place comes; nothing where the program has none there
-abbrev pub line_behind : List ℕ → List Procedure → Behind
-line_behind text program procedure place more =
-    ((number : ℕ) × (line : List ℕ) × ComesFrom text procedure place number × IsLineOf text number line × (more ≡ text_line number line))
-    ⊎ ((instr_at program procedure place ≡ None) × (more ≡ []))
+-- the line from which the instruction at the place comes
+abbrev pub line_behind : List ℕ → Behind
+line_behind text procedure place more =
+    (number : ℕ) × (line : List ℕ) × ComesFrom text procedure place number × IsLineOf text number line × (more ≡ text_line number line)

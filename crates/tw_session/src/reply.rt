@@ -7,11 +7,12 @@ ghost use Rattle.tw_session.specs.Session.{IsWritten, MayReply, RepliesByAccepte
 ghost use Rattle.tw_session.specs.Session.{RepliesByInput, RepliesByProgram, RepliesBySource, RepliesByText, RepliesByVerified};
 ghost use Rattle.tw_session.specs.Reply.{reply};
 ghost use Rattle.tw_session.specs.Input.{digits_in};
-ghost use Rattle.tw_session.specs.Source.{MayBeSource, behind_of};
+ghost use Rattle.tw_session.specs.Source.{MayBeSource, MayBeSourceAt, behind_of};
 ghost use Rattle.tw_session.specs.Text.{RepliesByAssembly};
 ghost use Rattle.tw_asm.specs.Fault.{fault_number};
 ghost use Rattle.tw_asm.specs.declared.fault.FaultNo.TheVariants as asm;
 ghost use Rattle.tw_report.specs.Lines.{asm_line, opening_line, verify_line};
+ghost use Rattle.tw_code.specs.declared.procedure.Procedure.{Procedure};
 ghost use Rattle.tw_code.specs.format.Reading.{program_of};
 ghost use Rattle.tw_code.specs.accepting.WellTyped.{IsAccepted};
 ghost use Rattle.hex.specs.Hex.{decode_of};
@@ -27,11 +28,11 @@ use std::alloc::{AllocError, Global};
 use std::sync::Wait;
 use std::thread::Threads;
 use std::time::Clock;
-use tw_asm::{AsmFault, LinedProgram, assemble, assemble_lined, disassemble};
+use tw_asm::{AsmFault, assemble, assemble_lined, disassemble};
 use tw_code::{FaultNo, Program, decode, encode};
 use tw_command::{Order, ProgramOrder, ReplayOrder, Source, VerifiedOrder};
 use tw_report::{put, put_asm_line, put_fault_line, put_opening_line, put_verify_line};
-use tw_verify::{Refused, Verified, VerifyRefusal, verify};
+use tw_verify::{Verified, VerifyRefusal, verify};
 
 /// What a session writes, and how it ends.
 #[derive(Drop)]
@@ -85,23 +86,16 @@ fn refusal_reply(
     alloc: Global,
     source: &Option<SourceText<'_>>,
     number: u8,
-    refused: &Refused,
+    procedure: usize,
+    place: usize,
 ) -> Result<Reply, AllocError>
-    requires number { number < 100 }
-    requires source { MayBeSource source.now refused.now.program }
-    ensures { IfOk result (λ r. (more : List ℕ) × behind_of source.now refused.now.program refused.now.procedure refused.now.place more
-        × (reply r.text.items r.close ≡ reply (verify_line number refused.now.procedure refused.now.place ++ more) Close.Refused)) }
+    requires { number < 100 }
+    ensures { IfOk result (λ r. (program : List Procedure) → MayBeSourceAt source.now program procedure place → (more : List ℕ) × behind_of source.now procedure place more
+        × (reply r.text.items r.close ≡ reply (verify_line number procedure place ++ more) Close.Refused)) }
 {
     let mut text = Vec::new(alloc);
-    put_verify_line(alloc, &mut text, number, refused.procedure, refused.place)?;
-    put_behind(
-        alloc,
-        &mut text,
-        source,
-        &refused.program,
-        refused.procedure,
-        refused.place,
-    )?;
+    put_verify_line(alloc, &mut text, number, procedure, place)?;
+    put_behind(alloc, &mut text, source, procedure, place)?;
     Ok(Reply {
         text,
         close: Close::Refused,
@@ -117,13 +111,13 @@ fn verified_reply<H: Threads + Wait + Clock + Sync>(
     program: Program,
 ) -> Result<Reply, AllocError>
     requires { MayBeSource source.now program }
-    ensures { IfOk result (λ r. RepliesByVerified (behind_of source.now program) order.now program (reply r.text.items r.close)) }
+    ensures { IfOk result (λ r. RepliesByVerified (behind_of source.now) order.now program (reply r.text.items r.close)) }
 {
     match verify(alloc, program) {
         Ok(verified) => accepted_reply(rt, alloc, order, verified),
         Err(refused) => match refused.no {
             VerifyRefusal::NoMemory => Err(AllocError),
-            no => refusal_reply(alloc, source, no.number(), &refused),
+            no => refusal_reply(alloc, source, no.number(), refused.procedure, refused.place),
         },
     }
 }
@@ -137,7 +131,7 @@ fn program_reply<H: Threads + Wait + Clock + Sync>(
     program: Program,
 ) -> Result<Reply, AllocError>
     requires { MayBeSource source.now program }
-    ensures { IfOk result (λ r. RepliesByProgram (behind_of source.now program) order.now program (reply r.text.items r.close)) }
+    ensures { IfOk result (λ r. RepliesByProgram (behind_of source.now) order.now program (reply r.text.items r.close)) }
 {
     match order {
         ProgramOrder::Disassemble => match disassemble(alloc, &program) {
@@ -220,9 +214,12 @@ fn text_reply<H: Threads + Wait + Clock + Sync>(
     ensures { IfOk result (λ r. RepliesByText order.now text.now (reply r.text.items r.close)) }
 {
     match assemble_lined(alloc, text) {
-        Ok(LinedProgram { program, lines }) => {
-            let source = Some(SourceText { text, lines });
-            program_reply(rt, alloc, &source, order, program)
+        Ok(lined) => {
+            let source = Some(SourceText {
+                text,
+                lines: lined.lines,
+            });
+            program_reply(rt, alloc, &source, order, lined.program)
         }
         Err(fault) => text_fault_reply(alloc, fault),
     }
