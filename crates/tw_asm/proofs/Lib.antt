@@ -8,6 +8,7 @@ pub mod Linked
 pub mod NamedLabels
 pub mod OneFault
 pub mod Origins
+pub mod OneLine
 pub mod Ones
 pub mod OwnLines
 pub mod Places

@@ -1,8 +1,9 @@
--- That a text spells one program, and that it has one first fault.
+-- That a text spells one program, that it has one first fault, and that an instruction comes from one line.
 use Rattle.std.specs.Prelude.{◌≡◌, ℕ, List}
 use Rattle.tw_code.specs.declared.procedure.Procedure.{Procedure}
 use Rattle.tw_asm.specs.declared.fault.FaultNo.{FaultNo}
 use Rattle.tw_asm.specs.Fault.{IsFirstFault}
+use Rattle.tw_asm.specs.Origins.{ComesFrom}
 use Rattle.tw_asm.specs.Spelling.{SpellsProgram}
 
 abbrev pub SpellsOnce : Type 0
@@ -11,3 +12,6 @@ SpellsOnce = (text : List ℕ) (p q : List Procedure) → SpellsProgram p text �
 -- one number, and one line
 abbrev pub OneFirstFault : Type 0
 OneFirstFault = (text : List ℕ) (which other : FaultNo) (line number : ℕ) → IsFirstFault text which line → IsFirstFault text other number → (which ≡ other) × (line ≡ number)
+
+abbrev pub OneLine : Type 0
+OneLine = (text : List ℕ) (procedure place number other : ℕ) → ComesFrom text procedure place number → ComesFrom text procedure place other → number ≡ other

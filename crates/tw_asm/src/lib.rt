@@ -29,5 +29,5 @@ mod write;
 pub use assembler::{LinedProgram, assemble, assemble_lined};
 pub use disassembler::disassemble;
 pub use fault::{AsmFault, FaultNo};
-pub use laws::{one_first_fault, spells_once};
+pub use laws::{one_first_fault, one_line_each, spells_once};
 pub use line_numbers::LineNumbers;
