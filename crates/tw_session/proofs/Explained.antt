@@ -1,7 +1,6 @@
 -- What comes of an explanation that is written, and of an input word that is refused.
 use Rattle.std.proofs.Common.{◌≡◌, ◌≢◌, ℕ, List, Option, Some, None, IfSome, inl, inr, refl}
 use Rattle.std.specs.Io.KnownBytes.{Appends}
-use Rattle.clap.specs.Words.{Text}
 use Rattle.tw_command.specs.CommandLine.{Asked, Assembles, Checks, Disassembles, Explains, IsExplained, IsRefusedInput, Replays, Runs}
 use Rattle.tw_report.specs.Lines.{input_word_line}
 use Rattle.tw_session.specs.Session.{ComesOf}
