@@ -13,4 +13,4 @@ pub lend-job-requires-clause-stands : goal.lend-job-requires-clause-stands
 lend-job-requires-clause-stands c =
     subst (λ (f : FrameView). MayStand f.program.program f.procedure f.position) (sym c.start-frame.ensures.is)
     (may_begin c.args.verified.now.program (typings_of c.args.verified.now) (subst (λ (program : List Procedure). IsProgram program) c.program.ensures.is c.procedures-procedures.ensures.within) c.program.ensures.right 0
-    c.new-2.result c.in-Ok.first.values c.in-Ok.ensures.started)
+    c.new-2.result c.in-Ok-start.start.values c.in-Ok-start.ensures.started)
