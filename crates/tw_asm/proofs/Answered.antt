@@ -8,11 +8,11 @@ use Rattle.tw_asm.proofs.Lined.{HasLine, MayLine, found, goals_by, label_named, 
 use Rattle.tw_asm.proofs.OperandWords.{IsFine}
 use Rattle.tw_asm.proofs.Readings.{Reads}
 use Rattle.tw_asm.proofs.Spelled.{bare_is, parts_more}
-use Rattle.tw_asm.proofs.Table.{draft_is, instr_of, line_of, made, named, named_back, no_colon, parts_are, within, within_back}
+use Rattle.tw_asm.proofs.Table.{draft_is, has_words, instr_of, line_of, made, named, named_back, no_colon, parts_are, within, within_back}
 use Rattle.tw_asm.specs.Parts.{Part, Name, instr_parts, kind_word, param_parts, register_part}
 use Rattle.tw_asm.specs.Seen.{IsRead, NoName, OnlyName, Read}
 use Rattle.tw_asm.specs.LineAnswers.{IsFlawed}
-use Rattle.tw_asm.specs.Statement.{AnyName, AnyShortName, Code, Goals, Head, IsInLimits, IsName, Label, Registers, SpellParts, Spells, Statement, statement_parts}
+use Rattle.tw_asm.specs.Statement.{AnyName, AnyShortName, Code, Goals, HasForm, Head, IsInLimits, IsName, Label, Registers, SpellParts, Spells, Statement, statement_parts}
 use Rattle.tw_code.specs.declared.opcode.Opcode.{Opcode}
 use Rattle.tw_asm.specs.declared.refusal.Flaw.{Flaw}
 use Rattle.tw_asm.specs.declared.refusal.Flaw.TheVariants.{Form, Limit}
@@ -65,18 +65,18 @@ code_parts G o p x word ws is h =
     at : (p o : Opcode) → p ≡ o → (x : LineContent (line_of p)) → SpellParts G (parts_of (line_of p) x) ws → IsCode G o ws (Code (instr_of p x))
     at p o same = subst (λ (q : Opcode). (x : LineContent (line_of p)) → SpellParts G (parts_of (line_of p) x) ws → IsCode G q ws (Code (instr_of p x))) same (λ x s. (x, refl, s))
 
-is_code : (G : Goals) (o : Opcode) (word : List ℕ) (ws : List Word) → opcode_of word ≡ Some o → (statement : Statement) → SpellParts G (statement_parts statement) (Bare word ∷ ws) → IsCode G o ws statement
-is_code G o word ws is (Head kind params) h =
+is_code : (G : Goals) (o : Opcode) (word : List ℕ) (ws : List Word) → opcode_of word ≡ Some o → (statement : Statement) → HasForm statement → SpellParts G (statement_parts statement) (Bare word ∷ ws) → IsCode G o ws statement
+is_code G o word ws is (Head kind params) form h =
     absurd (none_some o (sym proc_is_none ∙ (sym (ap opcode_of (bare_is word (codes "proc") (first_is G (codes "proc") (Name (kind_word kind) ∷ flat_map param_parts params) (Bare word) ws h).0)) ∙ is)))
-is_code G o word ws is (Registers registers) h =
+is_code G o word ws is (Registers registers) form h =
     absurd (none_some o (sym regs_is_none ∙ (sym (ap opcode_of (bare_is word (codes "regs") (first_is G (codes "regs") (map register_part registers) (Bare word) ws h).0)) ∙ is)))
-is_code G o word ws is (Label name) h =
+is_code G o word ws is (Label name) form h =
     let e : word ≡ name ++ codes ":" = bare_is word (name ++ codes ":") (first_is G (name ++ codes ":") [] (Bare word) ws h).0 in
     absurd (no_name (sym (no_colon o) ∙ (ap before_colon (sym (named_back word o is) ∙ e) ∙ before name)))
   where
     no_name : None ≡ Some name → ⊥
     no_name e = cc
-is_code G o word ws is (Code i) h = by (made i)
+is_code G o word ws is (Code i) form h = by (made i form)
   where
     by : (p : Opcode) × (x : LineContent (line_of p)) × (i ≡ instr_of p x) → IsCode G o ws (Code i)
     by (p, x, e) = subst (λ (j : Instr). IsCode G o ws (Code j)) (sym e) (code_parts G o p x word ws is (subst (λ (j : Instr). SpellParts G (instr_parts j) (Bare word ∷ ws)) e h))
@@ -89,7 +89,7 @@ short_is_name skip name h = h.0
 
 -- the whole line of an instruction
 with_name : (G : Goals) (o : Opcode) (x : LineContent (line_of o)) (word : List ℕ) (ws : List Word) → word ≡ word_of o → SpellParts G (parts_of (line_of o) x) ws → Spells G (Code (instr_of o x)) (Bare word ∷ ws)
-with_name G o x word ws is h = record { form = tt; parts = subst (λ (ps : List Part). SpellParts G ps (Bare word ∷ ws)) (sym (parts_are o x)) (Bare word ∷ [], ws, refl, ap (λ (t : List ℕ). Bare t ∷ []) is, h) }
+with_name G o x word ws is h = record { form = has_words o x; parts = subst (λ (ps : List Part). SpellParts G ps (Bare word ∷ ws)) (sym (parts_are o x)) (Bare word ∷ [], ws, refl, ap (λ (t : List ℕ). Bare t ∷ []) is, h) }
 
 code_read_so : (o : Opcode) (word : List ℕ) (ws : List Word) → opcode_of word ≡ Some o → (x : LineContent (line_of o)) → HasLine (line_of o) ws x → MayLine (line_of o) x
     → IsRead (code_read (instr_of o x, label_in (line_of o) x)) (Bare word ∷ ws)
@@ -109,7 +109,7 @@ code_read_so o word ws is x has may = by (label_in (line_of o) x) refl
             record {
               i = instr_of o x;
               spells = with_name (λ skip w. w ≡ name) o x word ws (named_back word o is) (parts_more (OnlyName name) (λ skip w. w ≡ name) (λ _ _ k. k.1) (parts_of (line_of o) x) ws parts);
-              names = λ other s. let c = is_code (λ _ _. ⊥) o word ws is (Code other) s.parts in unnumbered (line_of o) ws x c.0 name has e c.2;
+              names = λ other s. let c = is_code (λ _ _. ⊥) o word ws is (Code other) s.form s.parts in unnumbered (line_of o) ws x c.0 name has e c.2;
             },
           ),
         )
@@ -126,18 +126,18 @@ code_has_form o word ws is x has = by (label_in (line_of o) x) refl (spelled (li
 pub code_judged : (o : Opcode) (word : List ℕ) (ws : List Word) → opcode_of word ≡ Some o → (r : Result (LineContent (line_of o)) Flaw) → Reads (HasLine (line_of o) ws) (MayLine (line_of o)) r
     → Judged (as_is code_read (as_is (λ x. (instr_of o x, label_in (line_of o) x)) r)) (Bare word ∷ ws)
 code_judged o word ws is (Ok x) h = code_read_so o word ws is x h.0 h.1
-code_judged o word ws is (Err Form) h = λ form. no_form form.0 form.1.parts
+code_judged o word ws is (Err Form) h = λ form. no_form form.0 form.1.form form.1.parts
   where
-    no_form : (statement : Statement) → SpellParts AnyName (statement_parts statement) (Bare word ∷ ws) → ⊥
-    no_form statement s =
-        let c = is_code AnyName o word ws is statement s in
+    no_form : (statement : Statement) → HasForm statement → SpellParts AnyName (statement_parts statement) (Bare word ∷ ws) → ⊥
+    no_form statement form s =
+        let c = is_code AnyName o word ws is statement form s in
         let y = found AnyName any_is_name (line_of o) ws c.0 c.2 in
         h y.0 y.1
-code_judged o word ws is (Err Limit) h = ((Code (instr_of o h.0.0), code_has_form o word ws is h.0.0 h.0.1), λ statement say. none statement say.0.parts say.1)
+code_judged o word ws is (Err Limit) h = ((Code (instr_of o h.0.0), code_has_form o word ws is h.0.0 h.0.1), λ statement say. none statement say.0.form say.0.parts say.1)
   where
-    none : (statement : Statement) → SpellParts AnyShortName (statement_parts statement) (Bare word ∷ ws) → IsInLimits statement → ⊥
-    none statement s limits =
-        let c = is_code AnyShortName o word ws is statement s in
+    none : (statement : Statement) → HasForm statement → SpellParts AnyShortName (statement_parts statement) (Bare word ∷ ws) → IsInLimits statement → ⊥
+    none statement form s limits =
+        let c = is_code AnyShortName o word ws is statement form s in
         let y = found AnyShortName short_is_name (line_of o) ws c.0 c.2 in
         h.1 y.0 y.1 (y.2 (λ _ _ k. k.1) (within_back o c.0 (subst IsInLimits c.1 limits)))
 

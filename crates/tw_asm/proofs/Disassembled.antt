@@ -15,7 +15,8 @@ use Rattle.tw_types.specs.declared.param.Mode.TheVariants.{Val, Closed, Ref, Wri
 use Rattle.tw_types.specs.declared.param.Param.{Param}
 use Rattle.tw_code.specs.declared.instr.Instr.{Instr}
 use Rattle.tw_code.specs.declared.procedure.Procedure.{Procedure}
-use Rattle.tw_code.specs.format.Program.{IsInstr, IsParam, IsProcedure, IsProgram, IsTypeUnder}
+use Rattle.tw_code.specs.declared.version.Version.TheVariants.{One}
+use Rattle.tw_code.specs.format.Program.{IsInstrOf, IsParam, IsProcedureOf, IsProgramOf, IsTypeUnder}
 use Rattle.tw_words.specs.Words.{Bare, IsLine, Word}
 use Rattle.tw_words.proofs.Breaks.{IsOneLine, one_lines_back, with_line_feed}
 use Rattle.tw_asm.specs.Parts.{skip_of}
@@ -173,14 +174,14 @@ module _ (labels : List ℕ) (few : AreNumbered labels) (all : List Placed) (sta
   goal_stands place skip None e = tt
   goal_stands place skip (Some number) e = (few (place + 1 + skip) number e, stand (place + 1 + skip) number e)
 
-  written_instr : (place : ℕ) (i : Instr) → IsInstr i → IsLineOf (GoesTo all place) (Code i) (bare_line (λ skip. goal_word (label_at labels (place + 1 + skip)) skip) (Code i))
+  written_instr : (place : ℕ) (i : Instr) → IsInstrOf One i → IsLineOf (GoesTo all place) (Code i) (bare_line (λ skip. goal_word (label_at labels (place + 1 + skip)) skip) (Code i))
   written_instr place i limits =
       let to : ℕ → Option ℕ = λ skip. label_at labels (place + 1 + skip) in
       let label = option_and_then to (skip_of i) in
       subst (IsLineOf (GoesTo all place) (Code i)) (ap (join_with_byte 32) (words_of_goal labels place label i refl))
       (instr_written (GoesTo all place) label i limits (λ skip e. subst (λ (s : Option ℕ). IsGoal (GoesTo all place) (option_and_then to s) skip) (sym e) (goal_stands place skip (to skip) refl)))
 
-  written_code : (place : ℕ) (code : List Instr) → AllByRecursion IsInstr code → IsWrittenCode all place (placed_from labels place code) code (code_lines labels place code)
+  written_code : (place : ℕ) (code : List Instr) → AllByRecursion (IsInstrOf One) code → IsWrittenCode all place (placed_from labels place code) code (code_lines labels place code)
   written_code place [] h =
       let w = with_label place (label_at labels place) [] [] [] refl (record { words = []; are = AreCode.end place; writes = writes_nothing }) in
       subst (λ (ls : List Placed). IsWrittenCode all place ls [] (label_line (label_at labels place))) (append-nil (here place (label_at labels place)))
@@ -215,7 +216,7 @@ record IsWrittenProcedure (p : Procedure) (text : List ℕ) : Type 0 where
   pub spells : SpellsProcedure p words
   pub writes : Writes text words
 
-written_procedure : (p : Procedure) → IsProcedure p → IsWrittenProcedure p (procedure_lines p)
+written_procedure : (p : Procedure) → IsProcedureOf One p → IsWrittenProcedure p (procedure_lines p)
 written_procedure p h =
     let labels = label_places p.code in
     let few = numbered p h in
@@ -250,7 +251,7 @@ record IsWrittenProgram (program : List Procedure) (text : List ℕ) : Type 0 wh
   pub spell : SpellProcedures program words
   pub writes : Writes text words
 
-written_program : (program : List Procedure) → AllByRecursion IsProcedure program → IsWrittenProgram program (disassembly program)
+written_program : (program : List Procedure) → AllByRecursion (IsProcedureOf One) program → IsWrittenProgram program (disassembly program)
 written_program [] h = record { words = []; spell = SpellProcedures.end; writes = writes_nothing }
 written_program (p ∷ program) h =
     let first = written_procedure p h.0 in
@@ -261,12 +262,12 @@ written_program (p ∷ program) h =
       writes = writes_both (procedure_lines p) (disassembly program) first.words others.words first.writes others.writes;
     }
 
-whole_text : (program : List Procedure) (h : AllByRecursion IsProcedure program) → IsWritten (disassembly program) (written_program program h).words
+whole_text : (program : List Procedure) (h : AllByRecursion (IsProcedureOf One) program) → IsWritten (disassembly program) (written_program program h).words
 whole_text program h =
     let w = written_program program h in
     subst (λ (text : List ℕ). IsWritten text w.words) (append-nil (disassembly program)) (subst (λ (words : List (List Word)). IsWritten (disassembly program ++ []) words) (append-nil w.words) (w.writes [] [] nothing))
 
-pub disassembly_spells : (program : List Procedure) → IsProgram program → SpellsProgram program (disassembly program)
+pub disassembly_spells : (program : List Procedure) → IsProgramOf One program → SpellsProgram program (disassembly program)
 disassembly_spells program h =
     let w = written_program program h.1 in
     let t = whole_text program h.1 in
@@ -277,5 +278,5 @@ disassembly_spells program h =
       is_program = h;
     }
 
-pub disassembly_text : (program : List Procedure) → IsProgram program → IsUtf8 (disassembly program)
+pub disassembly_text : (program : List Procedure) → IsProgramOf One program → IsUtf8 (disassembly program)
 disassembly_text program h = (whole_text program h.1).utf8

@@ -1,14 +1,16 @@
 -- What a first word lets expect.
 use Rattle.std.proofs.Common.{◌≡◌, ◌≢◌, ℕ, pos, Bool, true, false, List, [], ◌∷◌, ◌++◌, codes, Option, Some, None, sym, ap, subst, ◌∙◌, refl}
 use Rattle.std.specs.Prelude.{◌↔◌, IsTrue}
+use Rattle.std.specs.List.{flat_map}
 use Rattle.std.specs.Option.{is_some}
 use Rattle.std.proofs.lemmas.List.{append_cancel_right}
 use Rattle.tw_asm.proofs.Lined.{parts_of}
 use Rattle.tw_asm.proofs.Names.{name_decide}
-use Rattle.tw_asm.proofs.Table.{IsMade, instr_of, line_of, made, named, named_back, parts_are}
-use Rattle.tw_asm.specs.Parts.{Part, Name, instr_parts}
+use Rattle.tw_asm.proofs.Table.{instr_of, line_of, named, named_back, parts_are}
+use Rattle.tw_asm.specs.Parts.{Part, Name, instr_parts, operand_parts}
 use Rattle.tw_asm.specs.Statement.{IsInstrWord, IsLabelWord, IsName}
 use Rattle.tw_code.specs.declared.opcode.Opcode.{Opcode}
+use Rattle.tw_code.specs.format.Table.{row}
 use Rattle.tw_asm.specs.Names.{opcode_of, word_of}
 use Rattle.tw_asm.specs.reading.Lines.{Content, Line, LineContent, Operand, args, goal, literal, more, natural, nothing, number, one, right, target, type, value}
 use Rattle.tw_asm.specs.reading.Operands.{further, is_name}
@@ -54,12 +56,9 @@ named_word word r is = (λ t. there (opcode_of word) refl (sym is ∙ t), λ h. 
         (instr_of o x, parts_of (line_of o) x, parts_are o x ∙ ap (λ (name : List ℕ). Name name ∷ parts_of (line_of o) x) (sym (named_back word o e)))
 
     back : IsInstrWord word → is_some (opcode_of word) ≡ true
-    back (i, operands, e) = by (made i)
+    back (i, operands, e) =
+        let same : word ≡ word_of (row i).0 = one_name word (word_of (row i).0) operands (flat_map operand_parts (row i).1) (sym e) in
+        ap (λ (name : List ℕ). is_some (opcode_of name)) same ∙ ap (λ (found : Option Opcode). is_some found) (named (row i).0)
       where
         one_name : (a b : List ℕ) (ps qs : List Part) → Name a ∷ ps ≡ Name b ∷ qs → a ≡ b
         one_name a b ps qs e = cc
-
-        by : IsMade i → is_some (opcode_of word) ≡ true
-        by (p, x, is) =
-            let same : word ≡ word_of p = one_name word (word_of p) operands (parts_of (line_of p) x) (sym e ∙ (ap instr_parts is ∙ parts_are p x)) in
-            ap (λ (name : List ℕ). is_some (opcode_of name)) same ∙ ap (λ (found : Option Opcode). is_some found) (named p)

@@ -60,8 +60,8 @@ named_goal goals i name words n s =
     both (last_named (λ skip word. word ≡ name) (instr_parts n.i) words (row n.i).last n.spells.parts) (last_named goals (instr_parts i) words (row i).last s.parts)
   where
     both : LastNamed (λ skip word. word ≡ name) (instr_parts n.i) words → LastNamed goals (instr_parts i) words → (skip : ℕ) × goals skip name
-    both (none_named h) k = absurd (n.names n.i (record { form = tt; parts = h }))
-    both (named_last skip word front is e) (none_named k) = absurd (n.names i (record { form = tt; parts = k }))
+    both (none_named h) k = absurd (n.names n.i (record { form = n.spells.form; parts = h }))
+    both (named_last skip word front is e) (none_named k) = absurd (n.names i (record { form = s.form; parts = k }))
     both (named_last skip word front is e) (named_last other_skip other back goal f) = (other_skip, subst (goals other_skip) (last_same other word words back front f e ∙ is) goal)
 
 pub named_once : (name other : List ℕ) (words : List Word) → NamesLabel name words → NamesLabel other words → name ≡ other

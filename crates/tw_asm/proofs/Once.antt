@@ -4,6 +4,7 @@ use Rattle.std.specs.Prelude.{if◌then◌else◌, ◌==◌}
 use Rattle.std.specs.List.{flat_map}
 use Rattle.std.proofs.lemmas.List.{append_cancel_right}
 use Rattle.tw_code.specs.declared.instr.Instr.{Instr}
+use Rattle.tw_code.specs.declared.instr.Instr.TheVariants as instr
 use Rattle.tw_words.specs.Words.{Word, Bare}
 use Rattle.tw_types.specs.declared.actor.Kind.{Kind}
 use Rattle.tw_types.specs.declared.actor.Kind.TheVariants.{Control, Leaf}
@@ -14,7 +15,7 @@ use Rattle.tw_types.specs.declared.param.Mode.TheVariants.{Val, Closed, Ref, Wri
 use Rattle.tw_types.specs.declared.param.Param.{Param}
 use Rattle.tw_asm.specs.Parts.{Part, Name, TypeOf, head_parts, instr_parts, kind_word, mode_word, param_parts, register_part, registers_parts, scalar_word}
 use Rattle.tw_asm.specs.Seen.{IsRead, NoName, OnlyName, with_skip}
-use Rattle.tw_asm.specs.Statement.{Code, Goals, HasForm, Head, IsExpected, Label, Registers, SpellParts, Spells, Statement, statement_parts}
+use Rattle.tw_asm.specs.Statement.{Code, Goals, HasForm, HasWords, Head, IsExpected, Label, Registers, SpellParts, Spells, Statement, statement_parts}
 use Rattle.tw_asm.specs.declared.statement.First.{First}
 use Rattle.tw_asm.specs.declared.statement.First.TheVariants as first
 use Rattle.tw_asm.proofs.Rows.{AreAlike, alike_by_sorts, behind_first, class_of_word, different, ends_in_colon, first_name, have_sorts, name_of, operands_of, row, row_among, rows, same}
@@ -168,11 +169,11 @@ registers_alike [] ss = tt
 registers_alike (r ∷ rs) [] = tt
 registers_alike (r ∷ rs) (s ∷ ss) = (refl, registers_alike rs ss)
 
-pub instrs_alike : (i j : Instr) → name_of i ≡ name_of j → AreAlike (instr_parts i) (instr_parts j)
-instrs_alike i j e =
+pub instrs_alike : (i j : Instr) → HasWords i → HasWords j → name_of i ≡ name_of j → AreAlike (instr_parts i) (instr_parts j)
+instrs_alike i j m n e =
     subst (λ (ps : List Part). AreAlike ps (instr_parts j)) (sym (row i).parts)
     (subst (λ (qs : List Part). AreAlike (Name (name_of i) ∷ operands_of i) qs) (sym (row j).parts)
-    (refl, alike_by_sorts (row_among (name_of j) rows).sorts (operands_of i) (operands_of j) (subst (λ (name : List ℕ). have_sorts (row_among name rows).sorts (operands_of i) ≡ true) e (row i).sorts) (row j).sorts))
+    (refl, alike_by_sorts (row_among (name_of j) rows).sorts (operands_of i) (operands_of j) (subst (λ (name : List ℕ). have_sorts (row_among name rows).sorts (operands_of i) ≡ true) e ((row i).sorts m)) ((row j).sorts n)))
 
 module _ (a b : Goals) (names : AreNames a) (others : AreNames b) (alone : (n m : ℕ) (name : List ℕ) → a n name → b m name → n ≡ m) where
   parts_are : (ps qs : List Part) (words : List Word) → AreAlike ps qs → SpellParts a ps words → SpellParts b qs words → ps ≡ qs
@@ -183,14 +184,14 @@ module _ (a b : Goals) (names : AreNames a) (others : AreNames b) (alone : (n m 
 
   -- words spell one statement alone, where a name stands for one skip alone
   pub spelled_once : (s t : Statement) (words : List Word) → Spells a s words → Spells b t words → s ≡ t
-  spelled_once s t words h k = by s t h.parts k.parts (same_class a b s t words h k) (same_word a b s t words h k)
+  spelled_once s t words h k = by s t h.form k.form h.parts k.parts (same_class a b s t words h k) (same_word a b s t words h k)
     where
-      by : (u v : Statement) → SpellParts a (statement_parts u) words → SpellParts b (statement_parts v) words → class_of u ≡ class_of v → (begins u).word ≡ (begins v).word → u ≡ v
-      by (Head m ps) (Head n qs) f g c w = one_head m n ps qs (parts_are (head_parts m ps) (head_parts n qs) words (refl, (refl, params_alike ps qs)) f g)
-      by (Registers rs) (Registers ss) f g c w = one_registers rs ss (parts_are (registers_parts rs) (registers_parts ss) words (refl, registers_alike rs ss) f g)
-      by (Label x) (Label y) f g c w = ap Label (label_is x y (parts_are (Name (x ++ codes ":") ∷ []) (Name (y ++ codes ":") ∷ []) words (refl, tt) f g))
-      by (Code i) (Code j) f g c w = ap Code (one_instr i j (parts_are (instr_parts i) (instr_parts j) words (instrs_alike i j w) f g))
-      by u v f g c w = different (class_of u) (class_of v) c refl
+      by : (u v : Statement) → HasForm u → HasForm v → SpellParts a (statement_parts u) words → SpellParts b (statement_parts v) words → class_of u ≡ class_of v → (begins u).word ≡ (begins v).word → u ≡ v
+      by (Head m ps) (Head n qs) x y f g c w = one_head m n ps qs (parts_are (head_parts m ps) (head_parts n qs) words (refl, (refl, params_alike ps qs)) f g)
+      by (Registers rs) (Registers ss) x y f g c w = one_registers rs ss (parts_are (registers_parts rs) (registers_parts ss) words (refl, registers_alike rs ss) f g)
+      by (Label x) (Label y) m n f g c w = ap Label (label_is x y (parts_are (Name (x ++ codes ":") ∷ []) (Name (y ++ codes ":") ∷ []) words (refl, tt) f g))
+      by (Code i) (Code j) m n f g c w = ap Code (one_instr i j (parts_are (instr_parts i) (instr_parts j) words (instrs_alike i j m n w) f g))
+      by u v m n f g c w = different (class_of u) (class_of v) c refl
 
 -- ---- what is read, where goals are known
 
@@ -201,13 +202,18 @@ no_names skip name h = absurd h
 pub spells_more : (a b : Goals) → ((skip : ℕ) (name : List ℕ) → a skip name → b skip name) → (s : Statement) (words : List Word) → Spells a s words → Spells b s words
 spells_more a b more s words h = record { form = h.form; parts = parts_more a b more (statement_parts s) words h.parts }
 
+words_kept : (skip : ℕ) (i : Instr) → HasWords i → HasWords (with_skip skip i)
+words_kept skip (instr.Local i) h = tt
+words_kept skip (instr.Data i) h = tt
+words_kept skip i h = h
+
 -- an instruction that names a label, with the skip for which that stands
 pub resolved_spells : (goals : Goals) (name : List ℕ) (skip : ℕ) (i : Instr) (words : List Word) → IsRead (record { statement = Code i; goal = Some name }) words → goals skip name
     → Spells goals (Code (with_skip skip i)) words
-resolved_spells goals name skip i words read goal = record { form = tt; parts = by (resolved goals name skip goal (instr_parts i) words (row i).last read.1.1.parts) }
+resolved_spells goals name skip i words read goal = record { form = words_kept skip i read.1.1.form; parts = by (resolved goals name skip goal (instr_parts i) words (row i).last read.1.1.parts) }
   where
     by : Resolved goals skip (instr_parts i) words → SpellParts goals (instr_parts (with_skip skip i)) words
-    by (as_is h) = absurd (read.1.2.names i (record { form = tt; parts = h }))
+    by (as_is h) = absurd (read.1.2.names i (record { form = read.1.1.form; parts = h }))
     by (with_goal h) = subst (λ (ps : List Part). SpellParts goals ps words) (sym ((row i).reskipped skip)) h
 
 -- one that names none
@@ -224,8 +230,8 @@ resolved_once goals names name i j words read h =
     by (by_name goals name names read.1.0.0 (instr_parts i) (instr_parts j) words words (row i).last alike refl read.1.1.parts h.parts)
   where
     alike : AreAlike (instr_parts i) (instr_parts j)
-    alike = instrs_alike i j (same_word (OnlyName name) goals (Code i) (Code j) words read.1.1 h)
+    alike = instrs_alike i j read.1.1.form h.form (same_word (OnlyName name) goals (Code i) (Code j) words read.1.1 h)
 
     by : ByName goals name (instr_parts i) (instr_parts j) words → (skip : ℕ) × goals skip name × (j ≡ with_skip skip i)
-    by (unnamed none) = absurd (read.1.2.names i (record { form = tt; parts = none }))
+    by (unnamed none) = absurd (read.1.2.names i (record { form = read.1.1.form; parts = none }))
     by (named skip goal is) = (skip, goal, one_instr j (with_skip skip i) (is ∙ sym ((row i).reskipped skip)))

@@ -11,10 +11,13 @@ use Rattle.tw_code.specs.declared.instr.Instr.{Instr}
 use Rattle.tw_code.specs.declared.instr.Instr.TheVariants as instr
 use Rattle.tw_code.specs.declared.instr.LocalInstr.{LocalInstr}
 use Rattle.tw_code.specs.declared.instr.LocalInstr.TheVariants as local
+use Rattle.tw_code.specs.declared.instr.Priority.{Priority}
+use Rattle.tw_code.specs.declared.instr.Priority.TheVariants.{Constant, Computed}
 use Rattle.tw_types.specs.Nesting.{NestedScalar}
 use Rattle.tw_types.specs.declared.data_type.Scalar.TheVariants.{Int}
 use Rattle.tw_asm.specs.Parts.{Part, Name, Value, Right, Number, Natural, Literal, TypeOf, Skip, Target, instr_parts}
 use Rattle.tw_asm.specs.Seen.{with_skip}
+use Rattle.tw_asm.specs.Statement.{HasWords}
 
 -- ---- a word among names
 
@@ -104,8 +107,13 @@ abbrev behind_three : List Part → List Part
 behind_three (a ∷ b ∷ c ∷ parts) = parts
 behind_three parts = []
 
+abbrev priority_in : Part → Priority
+priority_in (Number number) = Constant number
+priority_in (Value register) = Computed register
+priority_in part = Constant (pos 0)
+
 abbrev action_from : List Part → Action
-action_from parts = record { procedure = size (at parts 0); priority = signed (at parts 1); target = target_in (at parts 2); args = map size (behind_three parts) }
+action_from parts = record { procedure = size (at parts 0); priority = priority_in (at parts 1); target = target_in (at parts 2); args = map size (behind_three parts) }
 
 -- ---- the rows
 
@@ -210,7 +218,7 @@ pub record IsRow (i : Instr) : Type 0 where
   pub parts : instr_parts i ≡ Name (name_of i) ∷ operands_of i
   pub known : is_in (name_of i) names ≡ true
   pub class : class_of_word (name_of i) ≡ 3
-  pub sorts : have_sorts (row_among (name_of i) rows).sorts (operands_of i) ≡ true
+  pub sorts : HasWords i → have_sorts (row_among (name_of i) rows).sorts (operands_of i) ≡ true
   pub made : (row_among (name_of i) rows).make (operands_of i) ≡ i
   pub reskipped : (skip : ℕ) → instr_parts (with_skip skip i) ≡ map (reskip skip) (instr_parts i)
   pub last : skips_last (instr_parts i) ≡ true
@@ -235,43 +243,64 @@ args_last (arg ∷ args) = args_last args
 
 -- ---- row by row
 
-abbrev with_args : Action → List ℕ → Action
-with_args action args = record { procedure = action.procedure; priority = action.priority; target = action.target; args = args }
-
 local_row : (i : LocalInstr) → IsRow (instr.Local i)
-local_row (local.Compute Add to left right skip) = record { parts = refl; known = refl; class = refl; sorts = refl; made = refl; reskipped = λ skip. refl; last = refl }
-local_row (local.Compute Subtract to left right skip) = record { parts = refl; known = refl; class = refl; sorts = refl; made = refl; reskipped = λ skip. refl; last = refl }
-local_row (local.Compute Multiply to left right skip) = record { parts = refl; known = refl; class = refl; sorts = refl; made = refl; reskipped = λ skip. refl; last = refl }
-local_row (local.Compute Divide to left right skip) = record { parts = refl; known = refl; class = refl; sorts = refl; made = refl; reskipped = λ skip. refl; last = refl }
-local_row (local.Compute Remainder to left right skip) = record { parts = refl; known = refl; class = refl; sorts = refl; made = refl; reskipped = λ skip. refl; last = refl }
-local_row i = record { parts = refl; known = refl; class = refl; sorts = refl; made = refl; reskipped = λ skip. refl; last = refl }
+local_row (local.Compute Add to left right skip) = record { parts = refl; known = refl; class = refl; sorts = λ _. refl; made = refl; reskipped = λ skip. refl; last = refl }
+local_row (local.Compute Subtract to left right skip) = record { parts = refl; known = refl; class = refl; sorts = λ _. refl; made = refl; reskipped = λ skip. refl; last = refl }
+local_row (local.Compute Multiply to left right skip) = record { parts = refl; known = refl; class = refl; sorts = λ _. refl; made = refl; reskipped = λ skip. refl; last = refl }
+local_row (local.Compute Divide to left right skip) = record { parts = refl; known = refl; class = refl; sorts = λ _. refl; made = refl; reskipped = λ skip. refl; last = refl }
+local_row (local.Compute Remainder to left right skip) = record { parts = refl; known = refl; class = refl; sorts = λ _. refl; made = refl; reskipped = λ skip. refl; last = refl }
+local_row i = record { parts = refl; known = refl; class = refl; sorts = λ _. refl; made = refl; reskipped = λ skip. refl; last = refl }
 
 data_row : (i : DataInstr) → IsRow (instr.Data i)
-data_row (on_data.New write read ty) = record { parts = refl; known = refl; class = refl; sorts = refl; made = refl; reskipped = λ skip. refl; last = refl }
-data_row i = record { parts = refl; known = refl; class = refl; sorts = refl; made = refl; reskipped = λ skip. refl; last = refl }
+data_row (on_data.New write read ty) = record { parts = refl; known = refl; class = refl; sorts = λ _. refl; made = refl; reskipped = λ skip. refl; last = refl }
+data_row i = record { parts = refl; known = refl; class = refl; sorts = λ _. refl; made = refl; reskipped = λ skip. refl; last = refl }
+
+rule_row : (procedure : ℕ) (priority : Priority) (target : Option ℕ) (args : List ℕ) → IsRow (instr.Rule (record { procedure = procedure; priority = priority; target = target; args = args }))
+rule_row procedure (Constant number) target args = record {
+  parts = refl;
+  known = refl;
+  class = refl;
+  sorts = λ _. args_sorts args;
+  made = ap (λ (xs : List ℕ). instr.Rule (record { procedure = procedure; priority = Constant number; target = target; args = xs })) (args_made args);
+  reskipped = λ skip. ap (λ (ps : List Part). Name (codes "RULE") ∷ Natural procedure ∷ Number number ∷ Target target ∷ ps) (args_reskipped skip args);
+  last = args_last args;
+}
+rule_row procedure (Computed register) target args = record {
+  parts = refl;
+  known = refl;
+  class = refl;
+  sorts = λ h. absurd h;
+  made = ap (λ (xs : List ℕ). instr.Rule (record { procedure = procedure; priority = Computed register; target = target; args = xs })) (args_made args);
+  reskipped = λ skip. ap (λ (ps : List Part). Name (codes "RULE") ∷ Natural procedure ∷ Value register ∷ Target target ∷ ps) (args_reskipped skip args);
+  last = args_last args;
+}
+
+put_row : (procedure : ℕ) (priority : Priority) (target : Option ℕ) (args : List ℕ) → IsRow (instr.Put (record { procedure = procedure; priority = priority; target = target; args = args }))
+put_row procedure (Constant number) target args = record {
+  parts = refl;
+  known = refl;
+  class = refl;
+  sorts = λ _. args_sorts args;
+  made = ap (λ (xs : List ℕ). instr.Put (record { procedure = procedure; priority = Constant number; target = target; args = xs })) (args_made args);
+  reskipped = λ skip. ap (λ (ps : List Part). Name (codes "PUT") ∷ Natural procedure ∷ Number number ∷ Target target ∷ ps) (args_reskipped skip args);
+  last = args_last args;
+}
+put_row procedure (Computed register) target args = record {
+  parts = refl;
+  known = refl;
+  class = refl;
+  sorts = λ h. absurd h;
+  made = ap (λ (xs : List ℕ). instr.Put (record { procedure = procedure; priority = Computed register; target = target; args = xs })) (args_made args);
+  reskipped = λ skip. ap (λ (ps : List Part). Name (codes "PUT") ∷ Natural procedure ∷ Value register ∷ Target target ∷ ps) (args_reskipped skip args);
+  last = args_last args;
+}
 
 pub row : (i : Instr) → IsRow i
 row (instr.Local i) = local_row i
 row (instr.Data i) = data_row i
-row (instr.Rule action) = record {
-  parts = refl;
-  known = refl;
-  class = refl;
-  sorts = args_sorts action.args;
-  made = ap (λ (args : List ℕ). instr.Rule (with_args action args)) (args_made action.args);
-  reskipped = λ skip. ap (λ (ps : List Part). Name (codes "RULE") ∷ Natural action.procedure ∷ Number action.priority ∷ Target action.target ∷ ps) (args_reskipped skip action.args);
-  last = args_last action.args;
-}
-row (instr.Put action) = record {
-  parts = refl;
-  known = refl;
-  class = refl;
-  sorts = args_sorts action.args;
-  made = ap (λ (args : List ℕ). instr.Put (with_args action args)) (args_made action.args);
-  reskipped = λ skip. ap (λ (ps : List Part). Name (codes "PUT") ∷ Natural action.procedure ∷ Number action.priority ∷ Target action.target ∷ ps) (args_reskipped skip action.args);
-  last = args_last action.args;
-}
-row instr.Ret = record { parts = refl; known = refl; class = refl; sorts = refl; made = refl; reskipped = λ skip. refl; last = refl }
+row (instr.Rule action) = rule_row action.procedure action.priority action.target action.args
+row (instr.Put action) = put_row action.procedure action.priority action.target action.args
+row instr.Ret = record { parts = refl; known = refl; class = refl; sorts = λ _. refl; made = refl; reskipped = λ skip. refl; last = refl }
 
 -- ---- names
 

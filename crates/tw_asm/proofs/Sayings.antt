@@ -6,33 +6,29 @@ use Rattle.tw_code.specs.format.Program.{IsList}
 use Rattle.tw_words.specs.Words.{Word, Bare}
 use Rattle.tw_asm.proofs.Answered.{Judged, first_is, none_some, regs_is_none}
 use Rattle.tw_asm.proofs.Colons.{before, found_before}
-use Rattle.tw_asm.proofs.Lined.{parts_of}
 use Rattle.tw_asm.proofs.Names.{IsThisName, name_read}
 use Rattle.tw_asm.proofs.OperandWords.{Free, other_bytes, scalar_read}
 use Rattle.tw_asm.proofs.Readings.{Reads}
 use Rattle.tw_asm.proofs.Sequences.{HaveEach, each_long, each_read, few_read}
 use Rattle.tw_asm.proofs.Spelled.{bare_is}
-use Rattle.tw_asm.proofs.Table.{instr_of, line_of, made, named, parts_are}
-use Rattle.tw_asm.specs.Parts.{Part, Name, instr_parts, kind_word, param_parts, register_part, scalar_word}
+use Rattle.tw_asm.proofs.Table.{named}
+use Rattle.tw_asm.specs.Parts.{Part, Name, instr_parts, kind_word, operand_parts, param_parts, register_part, scalar_word}
 use Rattle.tw_asm.specs.Seen.{NoName}
 use Rattle.tw_asm.specs.Statement.{AnyName, AnyShortName, Code, Goals, HasForm, Head, IsInLimits, IsName, Label, Registers, SpellParts, Spells, Statement, statement_parts}
 use Rattle.tw_code.specs.declared.opcode.Opcode.{Opcode}
+use Rattle.tw_code.specs.format.Table.{row}
 use Rattle.tw_asm.specs.declared.refusal.Flaw.{Flaw}
 use Rattle.tw_asm.specs.declared.refusal.Flaw.TheVariants.{Form, Limit}
 use Rattle.tw_asm.specs.Names.{opcode_of, word_of}
-use Rattle.tw_asm.specs.reading.Lines.{LineContent, before_colon, each, few, label_line, label_read, named_in, registers_in, registers_read}
+use Rattle.tw_asm.specs.reading.Lines.{before_colon, each, few, label_line, label_read, named_in, registers_in, registers_read}
 use Rattle.tw_asm.specs.reading.Operands.{as_is, name_in, scalar_in}
 use Rattle.tw_types.specs.declared.data_type.Scalar.{Scalar}
 
 -- an instruction's name is what the table finds
 pub code_first : (G : Goals) (i : Instr) (word : List ℕ) (ws : List Word) → SpellParts G (instr_parts i) (Bare word ∷ ws) → (o : Opcode) × (opcode_of word ≡ Some o)
-code_first G i word ws h = by (made i)
-  where
-    by : (p : Opcode) × (x : LineContent (line_of p)) × (i ≡ instr_of p x) → (o : Opcode) × (opcode_of word ≡ Some o)
-    by (p, x, e) =
-        let parts = subst (λ (j : Instr). SpellParts G (instr_parts j) (Bare word ∷ ws)) e h in
-        let k = first_is G (word_of p) (parts_of (line_of p) x) (Bare word) ws (subst (λ (ps : List Part). SpellParts G ps (Bare word ∷ ws)) (parts_are p x) parts) in
-        (p, ap opcode_of (bare_is word (word_of p) k.0) ∙ named p)
+code_first G i word ws h =
+    let k = first_is G (word_of (row i).0) (flat_map operand_parts (row i).1) (Bare word) ws h in
+    ((row i).0, ap opcode_of (bare_is word (word_of (row i).0) k.0) ∙ named (row i).0)
 
 pub nonempty : (G : Goals) (name : List ℕ) (parts : List Part) → SpellParts G (Name name ∷ parts) [] → ⊥
 nonempty G name parts (first, others, cut, h, rest) = no_word (cut ∙ ap (λ (vs : List Word). vs ++ others) h)

@@ -1,5 +1,5 @@
 -- The skips of instructions.
-use Rattle.std.proofs.Common.{◌≡◌, ℕ, List, [], ◌∷◌, ◌++◌, map, None, refl, sym, ap, ◌∙◌}
+use Rattle.std.proofs.Common.{◌≡◌, ℕ, List, [], ◌∷◌, ◌++◌, map, Option, None, refl, sym, ap, ◌∙◌}
 use Rattle.tw_code.specs.accepting.Flow.{data_flow, flow_of, local_flow}
 use Rattle.tw_code.specs.declared.flow.Flow.{Flow}
 use Rattle.tw_code.specs.declared.instr.DataInstr.{DataInstr}
@@ -8,12 +8,19 @@ use Rattle.tw_code.specs.declared.instr.Instr.{Instr}
 use Rattle.tw_code.specs.declared.instr.Instr.TheVariants as instr
 use Rattle.tw_code.specs.declared.instr.LocalInstr.{LocalInstr}
 use Rattle.tw_code.specs.declared.instr.LocalInstr.TheVariants as local
+use Rattle.tw_code.specs.declared.instr.Priority.{Priority}
+use Rattle.tw_code.specs.declared.instr.Priority.TheVariants.{Constant, Computed}
+use Rattle.tw_code.specs.format.Table.{priority_operand}
 use Rattle.tw_asm.specs.words.Skips.{skip_in}
-use Rattle.tw_asm.specs.Parts.{Natural, skip_among, skip_of}
+use Rattle.tw_asm.specs.Parts.{Natural, Target, operand_parts, skip_among, skip_of}
 
 args_without : (args : List ℕ) → skip_among (map Natural args ++ []) ≡ None
 args_without [] = refl
 args_without (arg ∷ args) = args_without args
+
+action_without : (priority : Priority) (target : Option ℕ) (args : List ℕ) → skip_among (operand_parts (priority_operand priority) ++ (Target target ∷ (map Natural args ++ []))) ≡ None
+action_without (Constant n) target args = args_without args
+action_without (Computed register) target args = args_without args
 
 local_skip : (i : LocalInstr) → skip_of (instr.Local i) ≡ skip_in (local_flow i)
 local_skip (local.Int to value) = refl
@@ -26,8 +33,8 @@ data_skip i = refl
 pub skip_is : (i : Instr) → skip_of i ≡ skip_in (flow_of i)
 skip_is (instr.Local i) = local_skip i
 skip_is (instr.Data i) = data_skip i
-skip_is (instr.Rule action) = args_without action.args
-skip_is (instr.Put action) = args_without action.args
+skip_is (instr.Rule action) = action_without action.priority action.target action.args
+skip_is (instr.Put action) = action_without action.priority action.target action.args
 skip_is instr.Ret = refl
 
 -- as the code finds it

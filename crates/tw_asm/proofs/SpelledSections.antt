@@ -14,7 +14,8 @@ use Rattle.tw_code.specs.declared.instr.Instr.TheVariants as instr
 use Rattle.tw_code.specs.declared.instr.LocalInstr.{LocalInstr}
 use Rattle.tw_code.specs.declared.instr.LocalInstr.TheVariants as local
 use Rattle.tw_code.specs.declared.procedure.Procedure.{Procedure}
-use Rattle.tw_code.specs.format.Program.{IsDataInstr, IsInstr, IsLocalInstr, IsProcedure, IsProgram}
+use Rattle.tw_code.specs.declared.version.Version.TheVariants.{One}
+use Rattle.tw_code.specs.format.Program.{IsDataInstr, IsInstrOf, IsLocalInstr, IsProcedureOf, IsProgramOf}
 use Rattle.tw_words.specs.Words.{Bare, IsLine, Word}
 use Rattle.tw_asm.specs.Seen.{IsRead, NoName, Read, data_with_skip, local_with_skip, with_skip}
 use Rattle.tw_asm.specs.Statement.{Statement, Head, Registers, Label, Code, AnyShortName, Goals, IsInLimits, Spells}
@@ -106,21 +107,21 @@ data_fits skip (on_data.Look member container subscript old) f l = (l.0, l.1, l.
 data_fits skip (on_data.SubscriptAt to container index old) f l = (l.0, l.1, l.2, (omega arith, f))
 data_fits skip i f l = l
 
-skip_fits : (skip : ℕ) (i : Instr) → skip ≤ 65535 → IsInstr i → IsInstr (with_skip skip i)
+skip_fits : (skip : ℕ) (i : Instr) → skip ≤ 65535 → IsInstrOf One i → IsInstrOf One (with_skip skip i)
 skip_fits skip (instr.Local i) f l = local_fits skip i f l
 skip_fits skip (instr.Data i) f l = data_fits skip i f l
 skip_fits skip i f l = l
 
-linked_fits : (all : List Placed) (place : ℕ) (draft : Instr) (goal : Option (List ℕ)) (i : Instr) → IsInstr draft → IsLinkedTo all place goal draft i → IsInstr i
-linked_fits all place draft None i f l = subst IsInstr (sym l) f
-linked_fits all place draft (Some name) i f l = subst IsInstr (sym l.3) (skip_fits l.0 draft (omega (arith, l.2)) f)
+linked_fits : (all : List Placed) (place : ℕ) (draft : Instr) (goal : Option (List ℕ)) (i : Instr) → IsInstrOf One draft → IsLinkedTo all place goal draft i → IsInstrOf One i
+linked_fits all place draft None i f l = subst (IsInstrOf One) (sym l) f
+linked_fits all place draft (Some name) i f l = subst (IsInstrOf One) (sym l.3) (skip_fits l.0 draft (omega (arith, l.2)) f)
 
 read_limits : (statement : Statement) (goal : Option (List ℕ)) (words : List Word) → IsRead (record { statement = statement; goal = goal }) words → IsInLimits statement
 read_limits statement None words r = r.0
 read_limits statement (Some name) words r = r.0
 
 pub linked_limits : (all : List Placed) (place : ℕ) (labels : List Placed) (drafts : List Drafted) (body : List (List Word)) (is : List Instr)
-    → AreDrafts place labels drafts body → AreLinkedCode (goals_in all place drafts) is → AllByRecursion IsInstr is × (length is ≡ length drafts)
+    → AreDrafts place labels drafts body → AreLinkedCode (goals_in all place drafts) is → AllByRecursion (IsInstrOf One) is × (length is ≡ length drafts)
 linked_limits all place _ _ _ [] (no_drafts _) l = (tt, refl)
 linked_limits all place _ _ _ (i ∷ is) (no_drafts _) l = absurd l
 linked_limits all place _ _ _ is (a_label _ n ws labels drafts others a b more) l = linked_limits all place labels drafts others is more l
@@ -158,7 +159,7 @@ linked_procedure section words procedure s l = record {
   once = s.once;
 }
 
-linked_within : (section : Section) (words : List (List Word)) (procedure : Procedure) → IsSection section words → 0 < length section.drafts → IsLinkedProcedure section procedure → IsProcedure procedure
+linked_within : (section : Section) (words : List (List Word)) (procedure : Procedure) → IsSection section words → 0 < length section.drafts → IsLinkedProcedure section procedure → IsProcedureOf One procedure
 linked_within section words procedure s some l =
     let m = linked_limits section.labels 0 section.labels section.drafts s.body procedure.code s.drafts_are l.code in
     record {
@@ -187,7 +188,7 @@ linked_sections _ _ (p ∷ ps) (a_section x others first after a n more) l =
     SpellProcedures.one_more p ps first after (linked_procedure x first p a l.0) (linked_sections others after ps more l.1)
 
 pub linked_procedures : (sections : List Section) (words : List (List Word)) (procedures : List Procedure) → AreSections sections words → AreLinkedProcedures sections procedures
-    → AllByRecursion IsProcedure procedures × (length procedures ≡ length sections)
+    → AllByRecursion (IsProcedureOf One) procedures × (length procedures ≡ length sections)
 linked_procedures _ _ [] no_sections l = (tt, refl)
 linked_procedures _ _ (p ∷ ps) no_sections l = absurd l
 linked_procedures _ _ [] (a_section x others first after a n more) l = absurd l
@@ -398,7 +399,7 @@ sections_spelled text all h =
       ended = subst (λ (x : List Section). AreEnded x t.words) (sym h.sections_are) (ended_at h.p.sections h.p.head_line h.p.place t.words s h.whole);
     }
 
-pub is_program : (text : List ℕ) (all : List Section) (procedures : List Procedure) → HasSections text all → AreLinkedProcedures all procedures → IsProgram procedures
+pub is_program : (text : List ℕ) (all : List Section) (procedures : List Procedure) → HasSections text all → AreLinkedProcedures all procedures → IsProgramOf One procedures
 is_program text all procedures h l =
     let s = sections_spelled text all h in
     let m = linked_procedures all s.words procedures s.ended.sections_are l in

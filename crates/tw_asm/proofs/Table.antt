@@ -1,16 +1,21 @@
 -- The table of instructions, as it is read and as it is defined.
-use Rattle.std.proofs.Common.{◌≡◌, ℕ, Bool, true, false, cond, List, [], ◌∷◌, append-nil, map, Option, Some, None, refl, sym, ap, ◌∙◌}
+use Rattle.std.proofs.Common.{◌≡◌, ℕ, ℤ, Bool, true, false, cond, List, [], ◌∷◌, append-nil, map, Option, Some, None, refl, sym, ap, ◌∙◌}
 use Rattle.std.specs.List.{find}
 use Rattle.std.specs.Str.{bytes_eq}
 use Rattle.std.proofs.lemmas.Slice.Eq.{bytes_eq-Decides}
+use Rattle.tw_code.specs.declared.instr.Action.{Action}
 use Rattle.tw_code.specs.declared.instr.Arithmetic.TheVariants.{Add, Subtract, Multiply, Divide, Remainder}
 use Rattle.tw_code.specs.declared.instr.DataInstr.TheVariants as on_data
 use Rattle.tw_code.specs.declared.instr.Instr.{Instr}
 use Rattle.tw_code.specs.declared.instr.Instr.TheVariants as instr
 use Rattle.tw_code.specs.declared.instr.LocalInstr.TheVariants as local
-use Rattle.tw_code.specs.format.Program.{IsInstr}
+use Rattle.tw_code.specs.declared.instr.Priority.{Priority}
+use Rattle.tw_code.specs.declared.instr.Priority.TheVariants.{Constant, Computed}
+use Rattle.tw_code.specs.declared.version.Version.TheVariants.{One}
+use Rattle.tw_code.specs.format.Program.{IsInstrOf}
 use Rattle.tw_words.specs.Words.{Word}
 use Rattle.tw_asm.proofs.Lined.{MayParts, parts_of}
+use Rattle.tw_asm.specs.Statement.{HasWords, IsWritten}
 use Rattle.tw_asm.specs.Parts.{Part, Name, Natural, Number, Target, instr_parts}
 use Rattle.tw_code.specs.declared.opcode.Opcode.{Opcode}
 use Rattle.tw_code.specs.declared.opcode.Opcode.TheVariants as op
@@ -42,45 +47,57 @@ draft_is o ws = by (row_of o)
 abbrev pub IsMade : Instr → Type 0
 IsMade i = (o : Opcode) × (x : LineContent (line_of o)) × (i ≡ instr_of o x)
 
-pub made : (i : Instr) → IsMade i
-made (instr.Local (local.Int to value)) = (op.Int, (to, value), refl)
-made (instr.Local (local.Text to text)) = (op.Text, (to, text), refl)
-made (instr.Local (local.Copy to from)) = (op.Copy, (to, from), refl)
-made (instr.Local (local.Compute Add to left right skip)) = (op.Add, (to, (left, (right, further skip))), refl)
-made (instr.Local (local.Compute Subtract to left right skip)) = (op.Subtract, (to, (left, (right, further skip))), refl)
-made (instr.Local (local.Compute Multiply to left right skip)) = (op.Multiply, (to, (left, (right, further skip))), refl)
-made (instr.Local (local.Compute Divide to left right skip)) = (op.Divide, (to, (left, (right, further skip))), refl)
-made (instr.Local (local.Compute Remainder to left right skip)) = (op.Remainder, (to, (left, (right, further skip))), refl)
-made (instr.Local (local.Concatenate to left right skip)) = (op.Concatenate, (to, (left, (right, further skip))), refl)
-made (instr.Local (local.Length to from)) = (op.Length, (to, from), refl)
-made (instr.Local (local.Show to from)) = (op.Show, (to, from), refl)
-made (instr.Local (local.ReadInt to from skip)) = (op.ReadInt, (to, (from, further skip)), refl)
-made (instr.Local (local.Jump skip)) = (op.Jump, further skip, refl)
-made (instr.Local (local.JumpEqual left right skip)) = (op.JumpEqual, (left, (right, further skip)), refl)
-made (instr.Local (local.JumpLess left right skip)) = (op.JumpLess, (left, (right, further skip)), refl)
-made (instr.Local (local.Repeat turns)) = (op.Repeat, turns, refl)
-made (instr.Local local.End) = (op.End, tt, refl)
-made (instr.Data (on_data.New write read ty)) = (op.New, (write, (read, ty)), refl)
-made (instr.Data (on_data.Store datum from)) = (op.Store, (datum, from), refl)
-made (instr.Data (on_data.Get to datum)) = (op.Get, (to, datum), refl)
-made (instr.Data (on_data.Insert container subscript member skip)) = (op.Insert, (container, (subscript, (member, further skip))), refl)
-made (instr.Data (on_data.Look member container subscript skip)) = (op.Look, (member, (container, (subscript, further skip))), refl)
-made (instr.Data (on_data.Size to container)) = (op.Size, (to, container), refl)
-made (instr.Data (on_data.SubscriptAt to container index skip)) = (op.SubscriptAt, (to, (container, (index, further skip))), refl)
-made (instr.Data (on_data.CopyRead to from)) = (op.CopyRead, (to, from), refl)
-made (instr.Data (on_data.CopyWrite to from)) = (op.CopyWrite, (to, from), refl)
-made (instr.Data (on_data.DropRead right)) = (op.DropRead, right, refl)
-made (instr.Data (on_data.DropWrite right)) = (op.DropWrite, right, refl)
-made (instr.Rule action) = (op.Rule, (action.procedure, (action.priority, (action.target, action.args))), refl)
-made (instr.Put action) = (op.Put, (action.procedure, (action.priority, (action.target, action.args))), refl)
-made instr.Ret = (op.Ret, tt, refl)
+written_so : (action : Action) → IsWritten action.priority → (n : ℤ) × (action ≡ record { procedure = action.procedure; priority = Constant n; target = action.target; args = action.args })
+written_so action h = by action.priority refl h
+  where
+    by : (priority : Priority) → action.priority ≡ priority → IsWritten priority → (n : ℤ) × (action ≡ record { procedure = action.procedure; priority = Constant n; target = action.target; args = action.args })
+    by (Constant n) e h = (n, ap (λ (priority : Priority). record action { priority = priority }) e)
+    by (Computed register) e h = absurd h
+
+-- each instruction that has words
+pub made : (i : Instr) → HasWords i → IsMade i
+made (instr.Local (local.Int to value)) h = (op.Int, (to, value), refl)
+made (instr.Local (local.Text to text)) h = (op.Text, (to, text), refl)
+made (instr.Local (local.Copy to from)) h = (op.Copy, (to, from), refl)
+made (instr.Local (local.Compute Add to left right skip)) h = (op.Add, (to, (left, (right, further skip))), refl)
+made (instr.Local (local.Compute Subtract to left right skip)) h = (op.Subtract, (to, (left, (right, further skip))), refl)
+made (instr.Local (local.Compute Multiply to left right skip)) h = (op.Multiply, (to, (left, (right, further skip))), refl)
+made (instr.Local (local.Compute Divide to left right skip)) h = (op.Divide, (to, (left, (right, further skip))), refl)
+made (instr.Local (local.Compute Remainder to left right skip)) h = (op.Remainder, (to, (left, (right, further skip))), refl)
+made (instr.Local (local.Concatenate to left right skip)) h = (op.Concatenate, (to, (left, (right, further skip))), refl)
+made (instr.Local (local.Length to from)) h = (op.Length, (to, from), refl)
+made (instr.Local (local.Show to from)) h = (op.Show, (to, from), refl)
+made (instr.Local (local.ReadInt to from skip)) h = (op.ReadInt, (to, (from, further skip)), refl)
+made (instr.Local (local.Jump skip)) h = (op.Jump, further skip, refl)
+made (instr.Local (local.JumpEqual left right skip)) h = (op.JumpEqual, (left, (right, further skip)), refl)
+made (instr.Local (local.JumpLess left right skip)) h = (op.JumpLess, (left, (right, further skip)), refl)
+made (instr.Local (local.Repeat turns)) h = (op.Repeat, turns, refl)
+made (instr.Local local.End) h = (op.End, tt, refl)
+made (instr.Data (on_data.New write read ty)) h = (op.New, (write, (read, ty)), refl)
+made (instr.Data (on_data.Store datum from)) h = (op.Store, (datum, from), refl)
+made (instr.Data (on_data.Get to datum)) h = (op.Get, (to, datum), refl)
+made (instr.Data (on_data.Insert container subscript member skip)) h = (op.Insert, (container, (subscript, (member, further skip))), refl)
+made (instr.Data (on_data.Look member container subscript skip)) h = (op.Look, (member, (container, (subscript, further skip))), refl)
+made (instr.Data (on_data.Size to container)) h = (op.Size, (to, container), refl)
+made (instr.Data (on_data.SubscriptAt to container index skip)) h = (op.SubscriptAt, (to, (container, (index, further skip))), refl)
+made (instr.Data (on_data.CopyRead to from)) h = (op.CopyRead, (to, from), refl)
+made (instr.Data (on_data.CopyWrite to from)) h = (op.CopyWrite, (to, from), refl)
+made (instr.Data (on_data.DropRead right)) h = (op.DropRead, right, refl)
+made (instr.Data (on_data.DropWrite right)) h = (op.DropWrite, right, refl)
+made (instr.Rule action) h = let m = written_so action h in (op.Rule, (action.procedure, (m.0, (action.target, action.args))), ap instr.Rule m.1)
+made (instr.Put action) h = let m = written_so action h in (op.Put, (action.procedure, (m.0, (action.target, action.args))), ap instr.Put m.1)
+made instr.Ret h = (op.Ret, tt, refl)
+
+pub has_words : (o : Opcode) (x : LineContent (line_of o)) → HasWords (instr_of o x)
+has_words op.Rule x = tt
+has_words o x = tt
 
 pub parts_are : (o : Opcode) (x : LineContent (line_of o)) → instr_parts (instr_of o x) ≡ Name (word_of o) ∷ parts_of (line_of o) x
 parts_are op.Rule x = ap (λ (ps : List Part). Name (word_of op.Rule) ∷ Natural x.0 ∷ Number x.1.0 ∷ Target x.1.1.0 ∷ ps) (append-nil (map Natural x.1.1.1))
 parts_are op.Put x = ap (λ (ps : List Part). Name (word_of op.Put) ∷ Natural x.0 ∷ Number x.1.0 ∷ Target x.1.1.0 ∷ ps) (append-nil (map Natural x.1.1.1))
 parts_are o x = refl
 
-pub within : (o : Opcode) (x : LineContent (line_of o)) → MayParts (line_of o) x → IsInstr (instr_of o x)
+pub within : (o : Opcode) (x : LineContent (line_of o)) → MayParts (line_of o) x → IsInstrOf One (instr_of o x)
 within op.Add x m = (m.0, m.1.0, m.1.1.0, m.1.1.1)
 within op.Subtract x m = (m.0, m.1.0, m.1.1.0, m.1.1.1)
 within op.Multiply x m = (m.0, m.1.0, m.1.1.0, m.1.1.1)
@@ -98,7 +115,7 @@ within op.Rule x m = record { procedure = m.0; priority = m.1.0; target = m.1.1.
 within op.Put x m = record { procedure = m.0; priority = m.1.0; target = m.1.1.0; args = m.1.1.1 }
 within o x m = m
 
-pub within_back : (o : Opcode) (x : LineContent (line_of o)) → IsInstr (instr_of o x) → MayParts (line_of o) x
+pub within_back : (o : Opcode) (x : LineContent (line_of o)) → IsInstrOf One (instr_of o x) → MayParts (line_of o) x
 within_back op.Add x m = (m.0, (m.1, (m.2, m.3)))
 within_back op.Subtract x m = (m.0, (m.1, (m.2, m.3)))
 within_back op.Multiply x m = (m.0, (m.1, (m.2, m.3)))

@@ -4,7 +4,8 @@ use Rattle.std.proofs.lemmas.List.Elements.{All-contains, All-from_recursion, Co
 use Rattle.std.specs.List.{AllByRecursion, AllPairs, Contains, slice_index_or}
 use Rattle.tw_code.specs.declared.instr.Instr.{Instr}
 use Rattle.tw_code.specs.declared.procedure.Procedure.{Procedure}
-use Rattle.tw_code.specs.format.Program.{IsInstr, IsProcedure}
+use Rattle.tw_code.specs.declared.version.Version.TheVariants.{One}
+use Rattle.tw_code.specs.format.Program.{IsInstrOf, IsProcedureOf}
 use Rattle.tw_words.specs.Words.{IsLine, Word}
 use Rattle.tw_asm.specs.Statement.{Statement, Head, Registers, Label, Code, AnyShortName, Goals, IsShortName, NamesLabel, Say, Spells}
 use Rattle.tw_asm.specs.Fault.{Start, InBody, IsWhole, LineSays, MayStand, Situation, after, after_line, labels_ahead}
@@ -173,7 +174,7 @@ goal_ahead all place labels count i words s ahead w h is name n =
     ]
 
 code_says : (all : List Placed) (place : ℕ) (labels : List Placed) (code : List Instr) (body : List (List Word)) (c : AreCode all place labels code body) (s : Situation) (behind : List (List Word)) (rest : List Statement)
-    → Within all place labels (length code) s → AllByRecursion IsInstr code → ahead_of rest ≡ []
+    → Within all place labels (length code) s → AllByRecursion (IsInstrOf One) code → ahead_of rest ≡ []
     → ((t : Situation) → t.stage ≡ InBody → t.instructions ≡ place + length code → t.procedures ≡ s.procedures → WordsSay t behind rest)
     → WordsSay s (body ++ behind) (said_in all place labels code body c ++ rest)
 code_says all _ _ _ _ (AreCode.end place) s behind rest w fits none then =
@@ -202,7 +203,7 @@ procedure_said p words h = Head p.kind p.params ∷ Registers p.registers ∷ sa
 says_plain : (statement : Statement) (words : List Word) → Spells (GoesTo [] 0) statement words → Spells AnyShortName statement words
 says_plain statement words h = spells_more (GoesTo [] 0) AnyShortName (λ skip name goal. contains_none {X = Placed} (record { name = name; place = 0 + 1 + skip }) goal) statement words h
 
-within_start : (p : Procedure) (words : List (List Word)) (h : SpellsProcedure p words) (s : Situation) (number other : ℕ) → IsProcedure p
+within_start : (p : Procedure) (words : List (List Word)) (h : SpellsProcedure p words) (s : Situation) (number other : ℕ) → IsProcedureOf One p
     → Within h.labels 0 h.labels (length p.code) (after other (Registers p.registers) (after number (Head p.kind p.params) s))
 within_start p words h s number other fits = record {
   stage = refl;
@@ -214,7 +215,7 @@ within_start p words h s number other fits = record {
   once = once_by_pairs (names_of h.labels) h.once;
 }
 
-procedure_says : (p : Procedure) (words : List (List Word)) (h : SpellsProcedure p words) (s : Situation) (behind : List (List Word)) (rest : List Statement) → IsProcedure p → (s.stage ≡ Start) ⊎ IsWhole s
+procedure_says : (p : Procedure) (words : List (List Word)) (h : SpellsProcedure p words) (s : Situation) (behind : List (List Word)) (rest : List Statement) → IsProcedureOf One p → (s.stage ≡ Start) ⊎ IsWhole s
     → s.procedures < 64 → ahead_of rest ≡ [] → ((t : Situation) → IsWhole t → t.procedures ≡ s.procedures + 1 → WordsSay t behind rest) → WordsSay s (words ++ behind) (procedure_said p words h ++ rest)
 procedure_says p words h s behind rest fits may few none then =
     subst (λ (x : List (List Word)). WordsSay s (x ++ behind) (procedure_said p words h ++ rest)) (sym h.parts) (
@@ -241,7 +242,7 @@ none_ahead : (program : List Procedure) (words : List (List Word)) (h : SpellPro
 none_ahead _ _ SpellProcedures.end = refl
 none_ahead _ _ (SpellProcedures.one_more p others first behind h more) = refl
 
-pub program_says : (program : List Procedure) (words : List (List Word)) (h : SpellProcedures program words) (s : Situation) → AllByRecursion IsProcedure program → s.procedures + length program ≤ 64
+pub program_says : (program : List Procedure) (words : List (List Word)) (h : SpellProcedures program words) (s : Situation) → AllByRecursion (IsProcedureOf One) program → s.procedures + length program ≤ 64
     → IsWhole s ⊎ ((s.stage ≡ Start) × (1 ≤ length program)) → WordsSay s words (program_said program words h)
 program_says _ _ SpellProcedures.end s fits few (inl whole) = whole
 program_says _ _ SpellProcedures.end s fits few (inr start) = absurd (omega (arith, start.1))

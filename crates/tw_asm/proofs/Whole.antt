@@ -10,31 +10,27 @@ use Rattle.tw_words.specs.declared.word.Word as words
 use Rattle.tw_words.specs.declared.word.Word.TheVariants as word
 use Rattle.tw_asm.proofs.Answered.{Judged, code_answered, first_is}
 use Rattle.tw_asm.proofs.HeadWords.{head_answered}
-use Rattle.tw_asm.proofs.Lined.{parts_of}
 use Rattle.tw_asm.proofs.OperandWords.{IsFine}
 use Rattle.tw_asm.proofs.Sayings.{label_answered, nonempty, registers_answered}
-use Rattle.tw_asm.proofs.Table.{instr_of, line_of, made, parts_are}
-use Rattle.tw_asm.specs.Parts.{Part, Name, instr_parts, kind_word, param_parts, register_part}
+use Rattle.tw_asm.specs.Parts.{Part, Name, instr_parts, kind_word, operand_parts, param_parts, register_part}
 use Rattle.tw_asm.specs.Seen.{Read, seen}
 use Rattle.tw_asm.specs.LineAnswers.{Answers}
 use Rattle.tw_asm.specs.Statement.{AnyName, Code, Goals, Head, Label, Registers, SpellParts, Statement, statement_parts}
 use Rattle.tw_code.specs.declared.opcode.Opcode.{Opcode}
+use Rattle.tw_code.specs.format.Table.{row}
 use Rattle.tw_asm.specs.declared.refusal.Flaw.{Flaw}
 use Rattle.tw_asm.specs.declared.refusal.Refusal.{Refusal}
 use Rattle.tw_asm.specs.declared.refusal.Refusal.TheVariants as refusal
 use Rattle.tw_asm.specs.declared.statement.Statement as statements
 use Rattle.tw_asm.specs.Names.{opcode_of, word_of}
-use Rattle.tw_asm.specs.reading.Lines.{Gives, LineContent, body_in, head_in, registers_in, statement_in}
+use Rattle.tw_asm.specs.reading.Lines.{Gives, body_in, head_in, registers_in, statement_in}
 
 -- each statement begins with a word that stands as it is
 begins : (statement : Statement) → (name : List ℕ) × (rest : List Part) × (statement_parts statement ≡ Name name ∷ rest)
 begins (Head kind params) = (codes "proc", Name (kind_word kind) ∷ flat_map param_parts params, refl)
 begins (Registers rs) = (codes "regs", map register_part rs, refl)
 begins (Label name) = (name ++ codes ":", [], refl)
-begins (Code i) = by (made i)
-  where
-    by : (p : Opcode) × (x : LineContent (line_of p)) × (i ≡ instr_of p x) → (name : List ℕ) × (rest : List Part) × (instr_parts i ≡ Name name ∷ rest)
-    by (p, x, e) = (word_of p, parts_of (line_of p) x, ap instr_parts e ∙ parts_are p x)
+begins (Code i) = (word_of (row i).0, flat_map operand_parts (row i).1, refl)
 
 bare_first : (G : Goals) (text : List ℕ) (ws : List Word) (statement : Statement) → SpellParts G (statement_parts statement) (Quoted text ∷ ws) → ⊥
 bare_first G text ws statement h =

@@ -22,8 +22,11 @@ use Rattle.tw_code.specs.declared.instr.Instr.{Instr}
 use Rattle.tw_code.specs.declared.instr.Instr.TheVariants as instr
 use Rattle.tw_code.specs.declared.instr.LocalInstr.{LocalInstr}
 use Rattle.tw_code.specs.declared.instr.LocalInstr.TheVariants as local
-use Rattle.tw_code.specs.format.Table.{opcode_of_operation}
-use Rattle.tw_code.specs.format.Program.{IsAction, IsDataInstr, IsInstr, IsLocalInstr, IsRegister, IsSkip, IsTarget}
+use Rattle.tw_code.specs.declared.instr.Priority.{Priority}
+use Rattle.tw_code.specs.declared.instr.Priority.TheVariants.{Constant, Computed}
+use Rattle.tw_code.specs.declared.version.Version.TheVariants.{One}
+use Rattle.tw_code.specs.format.Table.{action_operands, opcode_of_operation}
+use Rattle.tw_code.specs.format.Program.{IsActionOf, IsDataInstr, IsInstrOf, IsLocalInstr, IsPriorityOf, IsRegister, IsSkip, IsTarget}
 use Rattle.tw_words.specs.Words.{Bare, IsLine, IsWord, Quoted, Word, is_edge}
 use Rattle.tw_types.specs.declared.actor.Kind.{Kind}
 use Rattle.tw_types.specs.declared.actor.Kind.TheVariants.{Control, Leaf}
@@ -38,8 +41,8 @@ use Rattle.tw_words.proofs.Written.{quoted_spells}
 use Rattle.tw_words.proofs.Breaks.{IsOneLine}
 use Rattle.tw_words.proofs.Writing.{AreWords, joined_line, joined_one_line, quoted_one_line}
 use Rattle.tw_asm.specs.Names.{word_of}
-use Rattle.tw_asm.specs.Parts.{Literal, Name, Natural, Number, Part, Right, Skip, Target, TypeOf, Value, kind_word, mode_word, param_parts, register_part, scalar_word, skip_among, skip_of, instr_parts}
-use Rattle.tw_asm.specs.Statement.{Code, Goals, HasForm, Head, IsInLimits, IsInName, IsName, Label, Registers, SpellParts, Spells, SpellsPart, SpellsWith, Statement, statement_parts}
+use Rattle.tw_asm.specs.Parts.{Literal, Name, Natural, Number, Part, Right, Skip, Target, TypeOf, Value, kind_word, mode_word, operand_parts, param_parts, register_part, scalar_word, skip_among, skip_of, instr_parts}
+use Rattle.tw_asm.specs.Statement.{Code, Goals, HasForm, HasWords, Head, IsInLimits, IsInName, IsName, IsWritten, Label, Registers, SpellParts, Spells, SpellsPart, SpellsWith, Statement, statement_parts}
 use Rattle.tw_asm.specs.Written.{goal_word, part_words}
 use Rattle.tw_asm.proofs.Quotes.{after_ascii, quoted_utf8}
 use Rattle.tw_asm.proofs.Rows.{both_true, different, is_last, row, skips_last, sort_of}
@@ -332,18 +335,34 @@ args_in (arg ∷ args) h = (few h.0.1, args_in args h.1)
     few : arg ≤ 15 → arg ≤ 65535
     few high = omega arith
 
-action_in : (word : List ℕ) (action : Action) → IsClearWord word → IsAction action → AllByRecursion IsInPart (Name word ∷ Natural action.procedure ∷ Number action.priority ∷ Target action.target ∷ map Natural action.args ++ [])
-action_in word action clear h = (clear, (few h.procedure.1, (h.priority, (h.target, args_in action.args h.args.1))))
+action_in : (word : List ℕ) (action : Action) → IsClearWord word → IsActionOf One action → AllByRecursion IsInPart (Name word ∷ flat_map operand_parts (action_operands action))
+action_in word action clear h = by action.priority h.priority
   where
     few : action.procedure ≤ 255 → action.procedure ≤ 65535
     few high = omega arith
 
-instr_in : (i : Instr) → IsInstr i → AllByRecursion IsInPart (statement_parts (Code i))
+    by : (priority : Priority) → IsPriorityOf One priority → AllByRecursion IsInPart (Name word ∷ flat_map operand_parts (action_operands (record action { priority = priority })))
+    by (Constant n) fits = (clear, (few h.procedure.1, (fits, (h.target, args_in action.args h.args.1))))
+    by (Computed register) fits = absurd fits
+
+instr_in : (i : Instr) → IsInstrOf One i → AllByRecursion IsInPart (statement_parts (Code i))
 instr_in (instr.Local i) h = local_in i h
 instr_in (instr.Data i) h = data_in i h
 instr_in (instr.Rule action) h = action_in (codes "RULE") action (clear_word (codes "RULE") refl) h
 instr_in (instr.Put action) h = action_in (codes "PUT") action (clear_word (codes "PUT") refl) h
 instr_in instr.Ret h = (clear_word (codes "RET") refl, tt)
+
+-- what is of version 1 has words
+words_of_priority : (priority : Priority) → IsPriorityOf One priority → IsWritten priority
+words_of_priority (Constant n) h = tt
+words_of_priority (Computed register) h = h
+
+words_there : (i : Instr) → IsInstrOf One i → HasWords i
+words_there (instr.Local i) h = tt
+words_there (instr.Data i) h = tt
+words_there (instr.Rule action) h = words_of_priority action.priority h.priority
+words_there (instr.Put action) h = words_of_priority action.priority h.priority
+words_there instr.Ret h = tt
 
 kind_clear : (kind : Kind) → IsClearWord (kind_word kind)
 kind_clear Control = clear_word (codes "control") refl
@@ -439,9 +458,9 @@ module _ (P : ℕ → Type 0) where
   skip_alone (part ∷ parts) last h = (no_skip part (λ seven. different (sort_of part) 7 seven refl), skip_alone parts last h)
 
 -- what is written of an instruction: its goal by this label, or as a number
-pub instr_written : (goals : Goals) (label : Option ℕ) (i : Instr) → IsInstr i → ((skip : ℕ) → skip_of i ≡ Some skip → IsGoal goals label skip) → IsLineOf goals (Code i) (bare_line (goal_word label) (Code i))
+pub instr_written : (goals : Goals) (label : Option ℕ) (i : Instr) → IsInstrOf One i → ((skip : ℕ) → skip_of i ≡ Some skip → IsGoal goals label skip) → IsLineOf goals (Code i) (bare_line (goal_word label) (Code i))
 instr_written goals label i limits goal =
-    written_spells goals (goal_word label) (Code i) tt limits (all_goals goals label (instr_parts i) (instr_in i limits) (skip_alone (IsGoal goals label) (instr_parts i) (row i).last goal))
+    written_spells goals (goal_word label) (Code i) (words_there i limits) limits (all_goals goals label (instr_parts i) (instr_in i limits) (skip_alone (IsGoal goals label) (instr_parts i) (row i).last goal))
 
 -- what is written of a statement without a skip, whatever the goals
 params_without : (P : ℕ → Type 0) (params : List Param) → AllByRecursion (λ part. (skip : ℕ) → part ≡ Skip skip → P skip) (flat_map param_parts params)

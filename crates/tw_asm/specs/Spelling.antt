@@ -4,7 +4,8 @@ use Rattle.std.specs.List.{AllPairs, Contains}
 use Rattle.std.specs.Str.Lines.{lines}
 use Rattle.tw_code.specs.declared.instr.Instr.{Instr}
 use Rattle.tw_code.specs.declared.procedure.Procedure.{Procedure}
-use Rattle.tw_code.specs.format.Program.{IsProgram}
+use Rattle.tw_code.specs.declared.version.Version.TheVariants.{One}
+use Rattle.tw_code.specs.format.Program.{IsProgramOf}
 use Rattle.tw_words.specs.Words.{Word, IsLine}
 use Rattle.tw_asm.specs.Statement.{Code, Goals, Head, IsInLimits, Label, Registers, Spells}
 
@@ -59,4 +60,4 @@ pub record SpellsProgram (program : List Procedure) (text : List ℕ) : Type 0 w
   pub words : List (List Word)
   pub lines_are : HaveWords (lines text) words
   pub procedures_are : SpellProcedures program words
-  pub is_program : IsProgram program
+  pub is_program : IsProgramOf One program

@@ -9,7 +9,11 @@ use Rattle.tw_types.specs.declared.param.Mode.{Mode}
 use Rattle.tw_types.specs.declared.param.Mode.TheVariants.{Val, Closed, Ref, Write}
 use Rattle.tw_types.specs.declared.param.Param.{Param}
 use Rattle.tw_code.specs.declared.instr.Instr.{Instr}
-use Rattle.tw_code.specs.format.Program.{IsInstr, IsList, IsParam, IsWithin}
+use Rattle.tw_code.specs.declared.instr.Instr.TheVariants as instr
+use Rattle.tw_code.specs.declared.instr.Priority.{Priority}
+use Rattle.tw_code.specs.declared.instr.Priority.TheVariants.{Constant, Computed}
+use Rattle.tw_code.specs.declared.version.Version.TheVariants.{One}
+use Rattle.tw_code.specs.format.Program.{IsInstrOf, IsList, IsParam, IsWithin}
 use Rattle.tw_words.specs.Number.{SpellsDigits, SpellsNumber}
 use Rattle.tw_words.specs.Words.{Word, Bare, Quoted}
 use Rattle.tw_asm.specs.declared.statement.First.{First}
@@ -85,12 +89,24 @@ IsTypeOfMode Closed scalar = Unit {0}
 IsTypeOfMode Ref scalar = Unit {0}
 IsTypeOfMode Write scalar = Unit {0}
 
+-- a computed priority has no words
+abbrev pub IsWritten : Priority → Type 0
+IsWritten (Constant n) = Unit {0}
+IsWritten (Computed register) = ⊥
+
+abbrev pub HasWords : Instr → Type 0
+HasWords (instr.Local i) = Unit {0}
+HasWords (instr.Data i) = Unit {0}
+HasWords (instr.Rule action) = IsWritten action.priority
+HasWords (instr.Put action) = IsWritten action.priority
+HasWords instr.Ret = Unit {0}
+
 -- what stands in a statement but for limits
 abbrev pub HasForm : Statement → Type 0
 HasForm (Head kind params) = AllByRecursion (λ param. IsTypeOfMode param.mode (is_scalar param.ty)) params
 HasForm (Registers registers) = Unit {0}
 HasForm (Label name) = IsName name
-HasForm (Code i) = Unit {0}
+HasForm (Code i) = HasWords i
 
 -- these words spell the statement, whatever its limits
 pub record Spells (goals : Goals) (statement : Statement) (words : List Word) : Type 0 where
@@ -102,7 +118,7 @@ abbrev pub IsInLimits : Statement → Type 0
 IsInLimits (Head kind params) = IsList 0 8 IsParam params
 IsInLimits (Registers registers) = IsWithin 0 16 (length registers)
 IsInLimits (Label name) = length name ≤ 64
-IsInLimits (Code i) = IsInstr i
+IsInLimits (Code i) = IsInstrOf One i
 
 -- ---- where labels aren't known yet
 

@@ -4,6 +4,7 @@ ghost use Rattle.std.specs.Prelude.{◌≡◌, None, map};
 ghost use Rattle.tw_words.specs.Seen.{seen as seen_word};
 ghost use Rattle.tw_code.specs.declared.instr.Instr.TheVariants as instr;
 ghost use Rattle.tw_code.specs.declared.instr.LocalInstr.TheVariants as local;
+ghost use Rattle.tw_code.specs.declared.instr.Priority.TheVariants.{Constant};
 ghost use Rattle.tw_asm.specs.reading.Lines.{Gives, action_line, draft_in, drafted, goal, line_in, literal, more, one, value};
 ghost use Rattle.tw_asm.specs.reading.Operands.{as_is};
 
@@ -13,8 +14,8 @@ use crate::refusal::{Flaw, Refusal};
 use crate::shapes::*;
 use crate::statement::Unlinked;
 use std::alloc::Global;
-use tw_code::{Action, Arithmetic, DataInstr, Instr, LocalInstr, Opcode};
-use tw_types::Text;
+use tw_code::{Action, Arithmetic, DataInstr, Instr, LocalInstr, Opcode, Priority};
+use tw_types::{Items, Text};
 use tw_words::Word;
 
 /// An instruction that names no label.
@@ -47,26 +48,36 @@ fn value_and_literal(alloc: Global, words: &[Word<'_>]) -> Result<(u8, Text), Re
     }
 }
 
-/// The operands of RULE, and of PUT.
-fn action_of(alloc: Global, words: &[Word<'_>]) -> Result<Action, Refusal>
-    ensures { Gives (λ action. (action.procedure, (action.priority, (action.target, action.args)))) result (line_in action_line (map seen_word words.now)) }
+/// The operands of RULE, and of PUT: the procedure, the priority, the target and the arguments.
+fn action_parts(
+    alloc: Global,
+    words: &[Word<'_>],
+) -> Result<(u8, (i64, (Option<u8>, Items<u8>))), Refusal>
+    ensures { Gives (λ x. x) result (line_in action_line (map seen_word words.now)) }
 {
     match words {
         [procedure, priority, target, args @ ..] => {
             let args = args_of(alloc, args)?;
             let front = byte_of(0, 255, procedure);
-            let (procedure, (priority, (target, args))) = both_of(
+            Ok(both_of(
                 front,
                 both_of(number_of(priority), both_of(target_of(target), args)),
-            )?;
-            Ok(Action {
-                procedure,
-                priority,
-                target,
-                args,
-            })
+            )?)
         }
         _ => Err(Refusal::Flawed(Flaw::Form)),
+    }
+}
+
+/// An action whose priority is a constant.
+fn constant(parts: (u8, (i64, (Option<u8>, Items<u8>)))) -> Action
+    ensures { result ≡ record { procedure = parts.0; priority = Constant parts.1.0; target = parts.1.1.0; args = parts.1.1.1 } }
+{
+    let (procedure, (priority, (target, args))) = parts;
+    Action {
+        procedure,
+        priority: Priority::Constant(priority),
+        target,
+        args,
     }
 }
 
@@ -120,8 +131,8 @@ pub fn draft_of<'a>(alloc: Global, opcode: Opcode, words: &[Word<'a>]) -> Result
         Opcode::CopyWrite => { let (to, from) = two_rights(words)?; Ok(straight(Instr::Data(DataInstr::CopyWrite { to, from }))) }
         Opcode::DropRead => { let right = only_right(words)?; Ok(straight(Instr::Data(DataInstr::DropRead { right }))) }
         Opcode::DropWrite => { let right = only_right(words)?; Ok(straight(Instr::Data(DataInstr::DropWrite { right }))) }
-        Opcode::Rule => Ok(straight(Instr::Rule(action_of(alloc, words)?))),
-        Opcode::Put => Ok(straight(Instr::Put(action_of(alloc, words)?))),
+        Opcode::Rule => { let parts = action_parts(alloc, words)?; Ok(straight(Instr::Rule(constant(parts)))) }
+        Opcode::Put => { let parts = action_parts(alloc, words)?; Ok(straight(Instr::Put(constant(parts)))) }
         Opcode::Ret => { nothing_of(words)?; Ok(straight(Instr::Ret)) }
     }
 }

@@ -1,5 +1,5 @@
 -- Instructions: each is read as it was written, and where it is wrong or cut off the reading says so.
-use Rattle.std.proofs.Common.{◌≡◌, ℕ, ℤ, zero, suc, Option, Some, None, ◌⊎◌, true, false, eqb, List, [], ◌∷◌, ◌++◌, length, Ok, Err, refl, sym, ap, subst, ◌∙◌, drop, arith, inl, inr}
+use Rattle.std.proofs.Common.{◌≡◌, ℕ, ℤ, pos, zero, suc, Option, Some, None, ◌⊎◌, true, false, eqb, List, [], ◌∷◌, ◌++◌, length, Ok, Err, refl, sym, ap, subst, ◌∙◌, drop, arith, inl, inr}
 use Rattle.std.specs.Prelude.{FitsSigned}
 use Rattle.std.specs.Int.{w64}
 use Rattle.std.specs.List.{concat, flat_map}
@@ -13,12 +13,15 @@ use Rattle.tw_code.specs.declared.instr.DataInstr.TheVariants as on_data
 use Rattle.tw_code.specs.declared.instr.Instr.{Instr}
 use Rattle.tw_code.specs.declared.instr.Instr.TheVariants as instr
 use Rattle.tw_code.specs.declared.instr.LocalInstr.TheVariants as local
+use Rattle.tw_code.specs.declared.instr.Priority.{Priority}
+use Rattle.tw_code.specs.declared.instr.Priority.TheVariants.{Constant, Computed}
 use Rattle.tw_code.specs.declared.opcode.Opcode.{Opcode}
 use Rattle.tw_code.specs.declared.opcode.Opcode.TheVariants as opcode
+use Rattle.tw_code.specs.declared.version.Version.TheVariants.{One}
 use Rattle.tw_types.specs.DataType.{IsDataType}
 use Rattle.tw_types.specs.Nesting.{NestedScalar}
 use Rattle.tw_types.specs.Text.{IsText}
-use Rattle.tw_code.specs.format.Program.{IsAction, IsInstr, IsList, IsRegister, IsSkip, IsTarget, IsWithin}
+use Rattle.tw_code.specs.format.Program.{IsActionOf, IsInstrOf, IsPriorityOf, IsList, IsRegister, IsSkip, IsTarget, IsWithin}
 use Rattle.tw_code.specs.format.Spelling.{Item, byte, number, text_items, type_items, counted_items, register_items, target_code, operand_items, instr_items}
 use Rattle.tw_code.specs.format.Table.{action_operands, code_of}
 use Rattle.tw_code.specs.format.Reading.{Reading, as_is, both, counted, byte_at, type_at, target_in, target_at, action_at, on, register_at, number_at, wide_at, skip_at, text_at, two_registers_at, two_registers_and_skip_at, three_registers_and_skip_at, nothing_at, no_other, operands_at, instr_at}
@@ -44,7 +47,7 @@ nothing_strict = record {
 
 -- an instruction of this code
 abbrev HasCode : ℕ → Instr → Type 0
-HasCode c x = IsInstr x × (instr_items x ≡ byte c ∷ drop 1 (instr_items x))
+HasCode c x = IsInstrOf One x × (instr_items x ≡ byte c ∷ drop 1 (instr_items x))
 
 abbrev behind_code : Instr → List Item
 behind_code x = drop 1 (instr_items x)
@@ -57,7 +60,7 @@ CodeFailsAt operands c bytes f =
 
 -- behind each code a reading takes the operands of an instruction of that code, or says where they fail
 record AreOperands (operands : ℕ → Reading Instr) : Type 0 where
-  takes : (c : ℕ) (bytes : List ℕ) (x : Instr) (rest : List ℕ) → IsBytes (c ∷ bytes) → operands c bytes ≡ Ok (x, rest) → Takes (c ∷ bytes) (concat (instr_items x)) rest × IsInstr x
+  takes : (c : ℕ) (bytes : List ℕ) (x : Instr) (rest : List ℕ) → IsBytes (c ∷ bytes) → operands c bytes ≡ Ok (x, rest) → Takes (c ∷ bytes) (concat (instr_items x)) rest × IsInstrOf One x
   fails : (c : ℕ) (bytes : List ℕ) (f : Broken) → IsBytes bytes → operands c bytes ≡ Err f → CodeFailsAt operands c bytes f
 
 no_others : AreOperands no_other
@@ -65,25 +68,25 @@ no_others = record { takes = λ c bytes x rest fits e. absurd (no_instr c bytes 
   no_instr : (c : ℕ) (bytes : List ℕ) (x : Instr) (rest : List ℕ) → no_other c bytes ≡ Ok (x, rest) → ⊥
   no_instr c bytes x rest e = cc
 
-module _ {A : Type 0} {F : A → Type 0} {w : A → List Item} {r : Reading A} {others : ℕ → Reading Instr} (o : Opcode) (strict : IsStrict F w r) (make : A → Instr) (spelled : (a : A) → instr_items (make a) ≡ byte (code_of o) ∷ w a) (fit : (a : A) → F a → IsInstr (make a)) (on_others : AreOperands others) where
-  on_takes : (c : ℕ) (bytes : List ℕ) (x : Instr) (rest : List ℕ) → IsBytes (c ∷ bytes) → on o r make others c bytes ≡ Ok (x, rest) → Takes (c ∷ bytes) (concat (instr_items x)) rest × IsInstr x
+module _ {A : Type 0} {F : A → Type 0} {w : A → List Item} {r : Reading A} {others : ℕ → Reading Instr} (o : Opcode) (strict : IsStrict F w r) (make : A → Instr) (spelled : (a : A) → F a → instr_items (make a) ≡ byte (code_of o) ∷ w a) (fit : (a : A) → F a → IsInstrOf One (make a)) (on_others : AreOperands others) where
+  on_takes : (c : ℕ) (bytes : List ℕ) (x : Instr) (rest : List ℕ) → IsBytes (c ∷ bytes) → on o r make others c bytes ≡ Ok (x, rest) → Takes (c ∷ bytes) (concat (instr_items x)) rest × IsInstrOf One x
   on_takes c bytes x rest fits e =
       elim (chosen (eqb c (code_of o)) (as_is make r bytes) (others c bytes) (Ok (x, rest)) e) [
         | inl h ↦
             let a = as_is_takes strict.format make bytes x rest (IsBytes-rest c bytes fits) h.1 in
             let text : Takes (c ∷ bytes) (concat (byte c ∷ w a.0)) rest = record { parts = ap (λ (t : List ℕ). c ∷ t) a.1.parts; rest_fits = a.1.rest_fits } in
-            let so : byte c ∷ w a.0 ≡ instr_items (make a.0) = ap (λ (k : ℕ). byte k ∷ w a.0) (eqb-true c (code_of o) h.0) ∙ sym (spelled a.0) in
-            subst (λ (y : Instr). Takes (c ∷ bytes) (concat (instr_items y)) rest × IsInstr y) a.3 (subst (λ (t : List Item). Takes (c ∷ bytes) (concat t) rest) so text, fit a.0 a.2)
+            let so : byte c ∷ w a.0 ≡ instr_items (make a.0) = ap (λ (k : ℕ). byte k ∷ w a.0) (eqb-true c (code_of o) h.0) ∙ sym (spelled a.0 a.2) in
+            subst (λ (y : Instr). Takes (c ∷ bytes) (concat (instr_items y)) rest × IsInstrOf One y) a.3 (subst (λ (t : List Item). Takes (c ∷ bytes) (concat t) rest) so text, fit a.0 a.2)
         | inr h ↦ on_others.takes c bytes x rest fits h.1
       ]
 
   here : (c : ℕ) → eqb c (code_of o) ≡ true → GoesOn F w r (HasCode c) behind_code (on o r make others c) []
   here c is = record {
-    due = due_after make (λ a h. (fit a h, has_code a)) [] (λ a h. ap (drop 1) (spelled a));
+    due = due_after make (λ a h. (fit a h, has_code a h)) [] (λ a h. ap (drop 1) (spelled a h));
     fails = λ rest d h. rw (is, h) refl;
   } where
-    has_code : (a : A) → instr_items (make a) ≡ byte c ∷ drop 1 (instr_items (make a))
-    has_code a = spelled a ∙ ap (λ (t : List Item). byte (code_of o) ∷ t) (sym (ap (drop 1) (spelled a))) ∙ ap (λ (k : ℕ). byte k ∷ drop 1 (instr_items (make a))) (sym (eqb-true c (code_of o) is))
+    has_code : (a : A) → F a → instr_items (make a) ≡ byte c ∷ drop 1 (instr_items (make a))
+    has_code a h = spelled a h ∙ ap (λ (t : List Item). byte (code_of o) ∷ t) (sym (ap (drop 1) (spelled a h))) ∙ ap (λ (k : ℕ). byte k ∷ drop 1 (instr_items (make a))) (sym (eqb-true c (code_of o) is))
 
   further : (c : ℕ) → eqb c (code_of o) ≡ false → GoesOn (HasCode c) behind_code (others c) (HasCode c) behind_code (on o r make others c) []
   further c isnt = record { due = λ before size d. d; fails = λ rest d h. rw isnt h }
@@ -103,8 +106,21 @@ module _ {A : Type 0} {F : A → Type 0} {w : A → List Item} {r : Reading A} {
 
 -- ---- the instructions
 
+-- of a computed priority nothing is said here
+abbrev number_of : Priority → ℤ
+number_of (Constant n) = n
+number_of (Computed register) = pos 0
+
+constant_is : (priority : Priority) → IsPriorityOf One priority → Constant (number_of priority) ≡ priority
+constant_is (Constant n) h = refl
+constant_is (Computed register) h = absurd h
+
+number_fits : (priority : Priority) → IsPriorityOf One priority → FitsSigned w64 (number_of priority)
+number_fits (Constant n) h = h
+number_fits (Computed register) h = absurd h
+
 abbrev action_items : Action → List Item
-action_items action = byte action.procedure ∷ number action.priority ∷ byte (target_code action.target) ∷ counted_items byte register_items action.args
+action_items action = byte action.procedure ∷ number (number_of action.priority) ∷ byte (target_code action.target) ∷ counted_items byte register_items action.args
 
 -- an operand of several items, behind others
 last : (others items : List Item) → others ++ (items ++ []) ≡ others ++ items
@@ -113,8 +129,10 @@ last others items = ap (λ (xs : List Item). others ++ xs) (append-nil items)
 new_spelled : (write read : ℕ) (ty : NestedScalar) → instr_items (instr.Data (on_data.New write read ty)) ≡ byte (code_of opcode.New) ∷ byte write ∷ byte read ∷ type_items ty
 new_spelled write read ty = last (byte (code_of opcode.New) ∷ byte write ∷ byte read ∷ []) (type_items ty)
 
-action_spelled : (code : ℕ) (action : Action) → byte code ∷ flat_map operand_items (action_operands action) ≡ byte code ∷ action_items action
-action_spelled code action = last (byte code ∷ byte action.procedure ∷ number action.priority ∷ byte (target_code action.target) ∷ []) (counted_items byte register_items action.args)
+action_spelled : (code : ℕ) (action : Action) → IsActionOf One action → byte code ∷ flat_map operand_items (action_operands action) ≡ byte code ∷ action_items action
+action_spelled code action h =
+    subst (λ (priority : Priority). byte code ∷ flat_map operand_items (action_operands (record action { priority = priority })) ≡ byte code ∷ action_items action) (constant_is action.priority h.priority)
+    (last (byte code ∷ byte action.procedure ∷ number (number_of action.priority) ∷ byte (target_code action.target) ∷ []) (counted_items byte register_items action.args))
 
 -- the operands, by their shape
 
@@ -144,9 +162,9 @@ new_strict = both_strict register_strict (both_strict register_strict (type_stri
 
 target_made : IsMade (IsWithin 0 16) IsTarget target_in target_code
 target_made = record { made = made; undone = undone; fits = fits; parts_fit = parts_fit } where
-  made : (t : Option ℕ) → target_in (target_code t) ≡ t
-  made None = refl
-  made (Some number) = refl
+  made : (t : Option ℕ) → IsTarget t → target_in (target_code t) ≡ t
+  made None h = refl
+  made (Some number) h = refl
 
   undone : (n : ℕ) → IsWithin 0 16 n → target_code (target_in n) ≡ n
   undone zero h = refl
@@ -169,59 +187,59 @@ args_strict = counted_strict register_strict (byte_strict 0 8 (omega arith))
 abbrev ActionParts : Type 0
 ActionParts = ℕ × (ℤ × (Option ℕ × List ℕ))
 
-action_made : IsMade (λ (x : ActionParts). IsWithin 0 255 x.0 × (FitsSigned w64 x.1.0 × (IsTarget x.1.1.0 × IsList 0 8 IsRegister x.1.1.1))) IsAction
-    (λ x. record { procedure = x.0; priority = x.1.0; target = x.1.1.0; args = x.1.1.1 }) (λ a. (a.procedure, (a.priority, (a.target, a.args))))
+action_made : IsMade (λ (x : ActionParts). IsWithin 0 255 x.0 × (FitsSigned w64 x.1.0 × (IsTarget x.1.1.0 × IsList 0 8 IsRegister x.1.1.1))) (IsActionOf One)
+    (λ x. record { procedure = x.0; priority = Constant x.1.0; target = x.1.1.0; args = x.1.1.1 }) (λ a. (a.procedure, (number_of a.priority, (a.target, a.args))))
 action_made = record {
-  made = λ a. refl;
+  made = λ a h. ap (λ (priority : Priority). record a { priority = priority }) (constant_is a.priority h.priority);
   undone = λ x h. refl;
   fits = λ x h. record { procedure = h.0; priority = h.1.0; target = h.1.1.0; args = h.1.1.1 };
-  parts_fit = λ a h. (h.procedure, (h.priority, (h.target, h.args)));
+  parts_fit = λ a h. (h.procedure, (number_fits a.priority h.priority, (h.target, h.args)));
 }
 
-action_strict : IsStrict IsAction action_items action_at
+action_strict : IsStrict (IsActionOf One) action_items action_at
 action_strict = as_is_strict action_made (both_strict (byte_strict 0 255 (omega arith)) (both_strict number_strict (both_strict target_strict args_strict)))
 
 -- a line an instruction
 operands : AreOperands operands_at
 operands =
-    on_operands opcode.Int register_and_number (λ x. instr.Local (local.Int x.0 x.1)) (λ _. refl) (λ _ h. h) (
-    on_operands opcode.Text register_and_text (λ x. instr.Local (local.Text x.0 x.1)) (λ _. refl) (λ _ h. h) (
-    on_operands opcode.Copy two_registers (λ x. instr.Local (local.Copy x.0 x.1)) (λ _. refl) (λ _ h. h) (
-    on_operands opcode.Add three_registers_and_skip (λ x. instr.Local (local.Compute Add x.0 x.1.0 x.1.1.0 x.1.1.1)) (λ _. refl) (λ _ h. (h.0, h.1.0, h.1.1.0, h.1.1.1)) (
-    on_operands opcode.Subtract three_registers_and_skip (λ x. instr.Local (local.Compute Subtract x.0 x.1.0 x.1.1.0 x.1.1.1)) (λ _. refl) (λ _ h. (h.0, h.1.0, h.1.1.0, h.1.1.1)) (
-    on_operands opcode.Multiply three_registers_and_skip (λ x. instr.Local (local.Compute Multiply x.0 x.1.0 x.1.1.0 x.1.1.1)) (λ _. refl) (λ _ h. (h.0, h.1.0, h.1.1.0, h.1.1.1)) (
-    on_operands opcode.Divide three_registers_and_skip (λ x. instr.Local (local.Compute Divide x.0 x.1.0 x.1.1.0 x.1.1.1)) (λ _. refl) (λ _ h. (h.0, h.1.0, h.1.1.0, h.1.1.1)) (
-    on_operands opcode.Remainder three_registers_and_skip (λ x. instr.Local (local.Compute Remainder x.0 x.1.0 x.1.1.0 x.1.1.1)) (λ _. refl) (λ _ h. (h.0, h.1.0, h.1.1.0, h.1.1.1)) (
-    on_operands opcode.Concatenate three_registers_and_skip (λ x. instr.Local (local.Concatenate x.0 x.1.0 x.1.1.0 x.1.1.1)) (λ _. refl) (λ _ h. (h.0, h.1.0, h.1.1.0, h.1.1.1)) (
-    on_operands opcode.Length two_registers (λ x. instr.Local (local.Length x.0 x.1)) (λ _. refl) (λ _ h. h) (
-    on_operands opcode.Show two_registers (λ x. instr.Local (local.Show x.0 x.1)) (λ _. refl) (λ _ h. h) (
-    on_operands opcode.ReadInt two_registers_and_skip (λ x. instr.Local (local.ReadInt x.0 x.1.0 x.1.1)) (λ _. refl) (λ _ h. (h.0, h.1.0, h.1.1)) (
-    on_operands opcode.Jump skip_strict (λ x. instr.Local (local.Jump x)) (λ _. refl) (λ _ h. h) (
-    on_operands opcode.JumpEqual two_registers_and_skip (λ x. instr.Local (local.JumpEqual x.0 x.1.0 x.1.1)) (λ _. refl) (λ _ h. (h.0, h.1.0, h.1.1)) (
-    on_operands opcode.JumpLess two_registers_and_skip (λ x. instr.Local (local.JumpLess x.0 x.1.0 x.1.1)) (λ _. refl) (λ _ h. (h.0, h.1.0, h.1.1)) (
-    on_operands opcode.Repeat turns_strict (λ x. instr.Local (local.Repeat x)) (λ _. refl) (λ _ h. h) (
-    on_operands opcode.End nothing_strict (λ _. instr.Local local.End) (λ _. refl) (λ _ h. h) (
-    on_operands opcode.New new_strict (λ x. instr.Data (on_data.New x.0 x.1.0 x.1.1)) (λ x. new_spelled x.0 x.1.0 x.1.1) (λ _ h. (h.0, h.1.0, h.1.1)) (
-    on_operands opcode.Store two_registers (λ x. instr.Data (on_data.Store x.0 x.1)) (λ _. refl) (λ _ h. h) (
-    on_operands opcode.Get two_registers (λ x. instr.Data (on_data.Get x.0 x.1)) (λ _. refl) (λ _ h. h) (
-    on_operands opcode.Insert three_registers_and_skip (λ x. instr.Data (on_data.Insert x.0 x.1.0 x.1.1.0 x.1.1.1)) (λ _. refl) (λ _ h. (h.0, h.1.0, h.1.1.0, h.1.1.1)) (
-    on_operands opcode.Look three_registers_and_skip (λ x. instr.Data (on_data.Look x.0 x.1.0 x.1.1.0 x.1.1.1)) (λ _. refl) (λ _ h. (h.0, h.1.0, h.1.1.0, h.1.1.1)) (
-    on_operands opcode.Size two_registers (λ x. instr.Data (on_data.Size x.0 x.1)) (λ _. refl) (λ _ h. h) (
-    on_operands opcode.SubscriptAt three_registers_and_skip (λ x. instr.Data (on_data.SubscriptAt x.0 x.1.0 x.1.1.0 x.1.1.1)) (λ _. refl) (λ _ h. (h.0, h.1.0, h.1.1.0, h.1.1.1)) (
-    on_operands opcode.CopyRead two_registers (λ x. instr.Data (on_data.CopyRead x.0 x.1)) (λ _. refl) (λ _ h. h) (
-    on_operands opcode.CopyWrite two_registers (λ x. instr.Data (on_data.CopyWrite x.0 x.1)) (λ _. refl) (λ _ h. h) (
-    on_operands opcode.DropRead register_strict (λ x. instr.Data (on_data.DropRead x)) (λ _. refl) (λ _ h. h) (
-    on_operands opcode.DropWrite register_strict (λ x. instr.Data (on_data.DropWrite x)) (λ _. refl) (λ _ h. h) (
+    on_operands opcode.Int register_and_number (λ x. instr.Local (local.Int x.0 x.1)) (λ _ _. refl) (λ _ h. h) (
+    on_operands opcode.Text register_and_text (λ x. instr.Local (local.Text x.0 x.1)) (λ _ _. refl) (λ _ h. h) (
+    on_operands opcode.Copy two_registers (λ x. instr.Local (local.Copy x.0 x.1)) (λ _ _. refl) (λ _ h. h) (
+    on_operands opcode.Add three_registers_and_skip (λ x. instr.Local (local.Compute Add x.0 x.1.0 x.1.1.0 x.1.1.1)) (λ _ _. refl) (λ _ h. (h.0, h.1.0, h.1.1.0, h.1.1.1)) (
+    on_operands opcode.Subtract three_registers_and_skip (λ x. instr.Local (local.Compute Subtract x.0 x.1.0 x.1.1.0 x.1.1.1)) (λ _ _. refl) (λ _ h. (h.0, h.1.0, h.1.1.0, h.1.1.1)) (
+    on_operands opcode.Multiply three_registers_and_skip (λ x. instr.Local (local.Compute Multiply x.0 x.1.0 x.1.1.0 x.1.1.1)) (λ _ _. refl) (λ _ h. (h.0, h.1.0, h.1.1.0, h.1.1.1)) (
+    on_operands opcode.Divide three_registers_and_skip (λ x. instr.Local (local.Compute Divide x.0 x.1.0 x.1.1.0 x.1.1.1)) (λ _ _. refl) (λ _ h. (h.0, h.1.0, h.1.1.0, h.1.1.1)) (
+    on_operands opcode.Remainder three_registers_and_skip (λ x. instr.Local (local.Compute Remainder x.0 x.1.0 x.1.1.0 x.1.1.1)) (λ _ _. refl) (λ _ h. (h.0, h.1.0, h.1.1.0, h.1.1.1)) (
+    on_operands opcode.Concatenate three_registers_and_skip (λ x. instr.Local (local.Concatenate x.0 x.1.0 x.1.1.0 x.1.1.1)) (λ _ _. refl) (λ _ h. (h.0, h.1.0, h.1.1.0, h.1.1.1)) (
+    on_operands opcode.Length two_registers (λ x. instr.Local (local.Length x.0 x.1)) (λ _ _. refl) (λ _ h. h) (
+    on_operands opcode.Show two_registers (λ x. instr.Local (local.Show x.0 x.1)) (λ _ _. refl) (λ _ h. h) (
+    on_operands opcode.ReadInt two_registers_and_skip (λ x. instr.Local (local.ReadInt x.0 x.1.0 x.1.1)) (λ _ _. refl) (λ _ h. (h.0, h.1.0, h.1.1)) (
+    on_operands opcode.Jump skip_strict (λ x. instr.Local (local.Jump x)) (λ _ _. refl) (λ _ h. h) (
+    on_operands opcode.JumpEqual two_registers_and_skip (λ x. instr.Local (local.JumpEqual x.0 x.1.0 x.1.1)) (λ _ _. refl) (λ _ h. (h.0, h.1.0, h.1.1)) (
+    on_operands opcode.JumpLess two_registers_and_skip (λ x. instr.Local (local.JumpLess x.0 x.1.0 x.1.1)) (λ _ _. refl) (λ _ h. (h.0, h.1.0, h.1.1)) (
+    on_operands opcode.Repeat turns_strict (λ x. instr.Local (local.Repeat x)) (λ _ _. refl) (λ _ h. h) (
+    on_operands opcode.End nothing_strict (λ _. instr.Local local.End) (λ _ _. refl) (λ _ h. h) (
+    on_operands opcode.New new_strict (λ x. instr.Data (on_data.New x.0 x.1.0 x.1.1)) (λ x _. new_spelled x.0 x.1.0 x.1.1) (λ _ h. (h.0, h.1.0, h.1.1)) (
+    on_operands opcode.Store two_registers (λ x. instr.Data (on_data.Store x.0 x.1)) (λ _ _. refl) (λ _ h. h) (
+    on_operands opcode.Get two_registers (λ x. instr.Data (on_data.Get x.0 x.1)) (λ _ _. refl) (λ _ h. h) (
+    on_operands opcode.Insert three_registers_and_skip (λ x. instr.Data (on_data.Insert x.0 x.1.0 x.1.1.0 x.1.1.1)) (λ _ _. refl) (λ _ h. (h.0, h.1.0, h.1.1.0, h.1.1.1)) (
+    on_operands opcode.Look three_registers_and_skip (λ x. instr.Data (on_data.Look x.0 x.1.0 x.1.1.0 x.1.1.1)) (λ _ _. refl) (λ _ h. (h.0, h.1.0, h.1.1.0, h.1.1.1)) (
+    on_operands opcode.Size two_registers (λ x. instr.Data (on_data.Size x.0 x.1)) (λ _ _. refl) (λ _ h. h) (
+    on_operands opcode.SubscriptAt three_registers_and_skip (λ x. instr.Data (on_data.SubscriptAt x.0 x.1.0 x.1.1.0 x.1.1.1)) (λ _ _. refl) (λ _ h. (h.0, h.1.0, h.1.1.0, h.1.1.1)) (
+    on_operands opcode.CopyRead two_registers (λ x. instr.Data (on_data.CopyRead x.0 x.1)) (λ _ _. refl) (λ _ h. h) (
+    on_operands opcode.CopyWrite two_registers (λ x. instr.Data (on_data.CopyWrite x.0 x.1)) (λ _ _. refl) (λ _ h. h) (
+    on_operands opcode.DropRead register_strict (λ x. instr.Data (on_data.DropRead x)) (λ _ _. refl) (λ _ h. h) (
+    on_operands opcode.DropWrite register_strict (λ x. instr.Data (on_data.DropWrite x)) (λ _ _. refl) (λ _ h. h) (
     on_operands opcode.Rule action_strict (λ x. instr.Rule x) (action_spelled (code_of opcode.Rule)) (λ _ h. h) (
     on_operands opcode.Put action_strict (λ x. instr.Put x) (action_spelled (code_of opcode.Put)) (λ _ h. h) (
-    on_operands opcode.Ret nothing_strict (λ _. instr.Ret) (λ _. refl) (λ _ h. h) (
+    on_operands opcode.Ret nothing_strict (λ _. instr.Ret) (λ _ _. refl) (λ _ h. h) (
     no_others)))))))))))))))))))))))))))))))
 
 abbrev IsReadAgain : Instr → List ℕ → List Item → Type 0
 IsReadAgain x rest items = instr_at (concat items ++ rest) ≡ Ok (x, rest)
 
 -- a line an instruction
-instr_again : (x : Instr) (rest : List ℕ) → IsInstr x → instr_at (concat (instr_items x) ++ rest) ≡ Ok (x, rest)
+instr_again : (x : Instr) (rest : List ℕ) → IsInstrOf One x → instr_at (concat (instr_items x) ++ rest) ≡ Ok (x, rest)
 unfolding instr_at
 instr_again (instr.Local (local.Int to value)) rest h = as_is_again register_and_number.format (λ x. instr.Local (local.Int x.0 x.1)) (to, value) rest h
 instr_again (instr.Local (local.Text to text)) rest h = as_is_again register_and_text.format (λ x. instr.Local (local.Text x.0 x.1)) (to, text) rest h
@@ -252,23 +270,23 @@ instr_again (instr.Data (on_data.CopyRead to from)) rest h = as_is_again two_reg
 instr_again (instr.Data (on_data.CopyWrite to from)) rest h = as_is_again two_registers.format (λ x. instr.Data (on_data.CopyWrite x.0 x.1)) (to, from) rest h
 instr_again (instr.Data (on_data.DropRead right)) rest h = as_is_again register_strict.format (λ x. instr.Data (on_data.DropRead x)) right rest h
 instr_again (instr.Data (on_data.DropWrite right)) rest h = as_is_again register_strict.format (λ x. instr.Data (on_data.DropWrite x)) right rest h
-instr_again (instr.Rule action) rest h = subst (IsReadAgain (instr.Rule action) rest) (sym (action_spelled (code_of opcode.Rule) action)) (as_is_again action_strict.format (λ x. instr.Rule x) action rest h)
-instr_again (instr.Put action) rest h = subst (IsReadAgain (instr.Put action) rest) (sym (action_spelled (code_of opcode.Put) action)) (as_is_again action_strict.format (λ x. instr.Put x) action rest h)
+instr_again (instr.Rule action) rest h = subst (IsReadAgain (instr.Rule action) rest) (sym (action_spelled (code_of opcode.Rule) action h)) (as_is_again action_strict.format (λ x. instr.Rule x) action rest h)
+instr_again (instr.Put action) rest h = subst (IsReadAgain (instr.Put action) rest) (sym (action_spelled (code_of opcode.Put) action h)) (as_is_again action_strict.format (λ x. instr.Put x) action rest h)
 instr_again instr.Ret rest h = refl
 
 -- behind a code that is known
-in_operands : (c : ℕ) → GoesOn (HasCode c) behind_code (operands_at c) IsInstr instr_items instr_at (concat (byte c ∷ []))
+in_operands : (c : ℕ) → GoesOn (HasCode c) behind_code (operands_at c) (IsInstrOf One) instr_items instr_at (concat (byte c ∷ []))
 unfolding instr_at
 in_operands c = record { due = due_after (λ x. x) (λ x h. h.0) (byte c ∷ []) (λ x h. h.1); fails = λ rest d h. h }
 
-pub instr_strict : IsStrict IsInstr instr_items instr_at
+pub instr_strict : IsStrict (IsInstrOf One) instr_items instr_at
 unfolding instr_at
 instr_strict = record { format = record { takes = takes; again = instr_again }; some = instr.Ret; some_fits = tt; fails = fails } where
-  takes : (bytes : List ℕ) (x : Instr) (rest : List ℕ) → IsBytes bytes → instr_at bytes ≡ Ok (x, rest) → Takes bytes (concat (instr_items x)) rest × IsInstr x
+  takes : (bytes : List ℕ) (x : Instr) (rest : List ℕ) → IsBytes bytes → instr_at bytes ≡ Ok (x, rest) → Takes bytes (concat (instr_items x)) rest × IsInstrOf One x
   takes [] x rest fits e = absurd cc
   takes (c ∷ bytes) x rest fits e = operands.takes c bytes x rest fits e
 
-  fails : (bytes : List ℕ) (f : Broken) → IsBytes bytes → instr_at bytes ≡ Err f → FailsAt IsInstr instr_items instr_at bytes f
+  fails : (bytes : List ℕ) (f : Broken) → IsBytes bytes → instr_at bytes ≡ Err f → FailsAt (IsInstrOf One) instr_items instr_at bytes f
   fails [] f fits e = inl (nothing_left f instr.Ret tt 0x42 [] refl (err_is {Z = Instr × List ℕ} _ f e))
   fails (c ∷ bytes) f fits e =
       elim (operands.fails c bytes f (IsBytes-rest c bytes fits) e) [

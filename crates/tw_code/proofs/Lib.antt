@@ -26,3 +26,4 @@ pub mod Subscribed
 pub mod Taken
 pub mod TextFormat
 pub mod Types
+pub mod Widening

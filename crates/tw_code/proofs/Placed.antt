@@ -42,7 +42,7 @@ use Rattle.tw_code.specs.declared.instr.Action.{Action}
 use Rattle.tw_code.specs.declared.instr.Instr.{Instr}
 use Rattle.tw_code.specs.declared.instr.Instr.TheVariants as instr
 use Rattle.tw_code.specs.declared.procedure.Procedure.{Procedure}
-use Rattle.tw_code.specs.machine.Arguments.{HandedOver, handed_over, with_arg, values_suit, all_pass, is_live, is_of_type, is_closed_if_asked, Called, called, put_called}
+use Rattle.tw_code.specs.machine.Arguments.{HandedOver, handed_over, with_arg, priority_at, values_suit, all_pass, is_live, is_of_type, is_closed_if_asked, Called, called, put_called}
 use Rattle.tw_code.specs.machine.Data.{Context, data_instr}
 use Rattle.tw_code.specs.machine.Machine.{Standing, standing_of, call_by, call_event, own_rule, id_in, ask_event, ready_at, deliver_event, release_event, is_ret, local_steps, step, run}
 use Rattle.tw_code.specs.machine.Opening.{opening, reached}
@@ -100,6 +100,7 @@ called_is program kind c action =
     ok_then (must (length action.args == length p.params) WrongCall) (λ few.
     ok_then (must (is_control kind) WrongCall) (λ control.
     ok_then (must (values_suit c.position.values p.params action.args) WrongRegister) (λ _.
+    ok_both (priority_at c.position action.priority) (λ priority _.
     ok_both (handed_over c.position.values c.rights p.params action.args) (λ given e.
     ok_then (must (all_pass is_live c.store.live p.params given.args) FreedDatum) (λ _.
     ok_then (must (all_pass is_of_type c.store.live p.params given.args) WrongType) (λ _.
@@ -113,7 +114,7 @@ called_is program kind c action =
         target = refl;
         asks = ok_of (handed_over c.position.values c.rights p.params action.args) _ given (handed_asks c.position.values c.rights p.params action.args (eqb-true (length action.args) (length p.params) (must_ok (length action.args == length p.params) WrongCall few))) e;
       };
-    })))))))
+    }))))))))
 
 put_called_is : (program : List Procedure) (kind : Kind) (c : Context) (action : Action) → WhereOk (put_called program kind c action) (IsCalled program kind action)
 put_called_is program kind c action =

@@ -4,7 +4,7 @@ ghost use Rattle.std.specs.Prelude.{◌≡◌};
 ghost use Rattle.tw_code.specs.format.Reading.{Gives, byte_at, register_at, target_at, action_at, counted};
 
 use crate::fault::Stop;
-use crate::instr::Action;
+use crate::instr::{Action, Priority};
 use crate::items::*;
 use crate::many::many;
 use crate::procedure::Procedure;
@@ -44,7 +44,7 @@ pub fn action_of(alloc: Global, bytes: &[u8]) -> Result<(Action, &[u8]), Stop>
         Ok((args, rest)) => {
             let action = Action {
                 procedure,
-                priority,
+                priority: Priority::Constant(priority),
                 target,
                 args,
             };

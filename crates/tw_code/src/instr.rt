@@ -17,12 +17,20 @@ pub enum Arithmetic {
     Remainder,
 }
 
+/// Where a task's priority comes from.
+#[derive(Clone, Copy)]
+pub enum Priority {
+    Constant(i64),
+    /// The integer of a value register.
+    Computed(u8),
+}
+
 /// The task that RULE and PUT name.
 #[derive(Drop)]
 pub struct Action {
     /// The number of its procedure in the program.
     pub procedure: u8,
-    pub priority: i64,
+    pub priority: Priority,
     /// The number of the one actor that may take it, if not any.
     pub target: Option<u8>,
     /// A register for each parameter; the parameter's mode says of which bank.

@@ -2,10 +2,11 @@
 
 ghost use Rattle.std.specs.Prelude.{◌≡◌, List, IfOk, IfErr, Ok};
 ghost use Rattle.tw_code.specs.format.Fault.{IsFirstFault};
-ghost use Rattle.tw_code.specs.format.Program.{IsProgram};
+ghost use Rattle.tw_code.specs.format.Program.{IsProgramOf};
 ghost use Rattle.tw_code.specs.format.Reading.{Gives, procedure_at, header_at, counted, byte_at, whole, program_of, Answers};
 ghost use Rattle.tw_code.specs.format.Spelling.{spelling};
 ghost use Rattle.tw_code.specs.declared.procedure.Procedure.{Procedure};
+ghost use Rattle.tw_code.specs.declared.version.Version.TheVariants.{One};
 
 use crate::fault::{Fault, FaultNo, Stop};
 use crate::items::*;
@@ -82,10 +83,10 @@ fn whole_of(alloc: Global, bytes: &[u8]) -> Result<Vec<Procedure>, Stop>
 /// The program that the bytes spell, all of them; or the first fault from the left.
 pub fn decode(alloc: Global, bytes: &[u8]) -> Result<Program, Fault>
     // What is read is spelled so.
-    ensures found { IfOk result (λ p. IsProgram p × (bytes.now ≡ spelling p)) }
+    ensures found { IfOk result (λ p. IsProgramOf One p × (bytes.now ≡ spelling p)) }
     // What is spelled so is read, unless memory runs out.
     ensures only { (p : List Procedure)
-        → IsProgram p → bytes.now ≡ spelling p → Answers result (Ok p) }
+        → IsProgramOf One p → bytes.now ≡ spelling p → Answers result (Ok p) }
     // A refusal is the first fault, by the spellings of programs alone: the item that is due
     // is wrong or cut off, or bytes follow a whole program.
     ensures first { IfErr result (λ f. IsFirstFault f.no bytes.now f.offset) }

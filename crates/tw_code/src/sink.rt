@@ -4,9 +4,9 @@ ghost use Rattle.std.specs.Prelude.{◌≡◌, List, OnOk, map};
 ghost use Rattle.tw_code.specs.declared.opcode.Opcode.{Opcode};
 ghost use Rattle.tw_code.specs.format.Program.{IsAction, IsDataInstr, IsInstr, IsLocalInstr};
 ghost use Rattle.tw_code.specs.format.Sink.{AreOperands, seen};
-ghost use Rattle.tw_code.specs.format.Table.{Operand, action_operands, data_row, local_row, opcode_of_operation, row};
+ghost use Rattle.tw_code.specs.format.Table.{Operand, action_operands, data_row, local_row, opcode_of_operation, priority_operand, row};
 
-use crate::instr::{Action, Arithmetic, DataInstr, Instr, LocalInstr};
+use crate::instr::{Action, Arithmetic, DataInstr, Instr, LocalInstr, Priority};
 use crate::opcode::Opcode;
 use std::alloc::AllocError;
 use tw_types::DataType;
@@ -97,12 +97,21 @@ fn put_data<S: Sink>(sink: &mut S, instr: DataInstr) -> Result<(), AllocError>
     }
 }
 
+fn operand_of_priority<'a>(priority: Priority) -> Operand<'a>
+    ensures { seen result ≡ priority_operand priority }
+{
+    match priority {
+        Priority::Constant(number) => Number(number),
+        Priority::Computed(register) => Value(register),
+    }
+}
+
 #[rattlefmt::skip]
 fn put_action<S: Sink>(sink: &mut S, opcode: Opcode, action: &Action) -> Result<(), AllocError>
     requires { IsAction action.now }
     ensures { OnOk result (S.puts sink.old opcode (action_operands action.now) sink.new) }
 {
-    sink.put(opcode, &[Callee(action.procedure), Number(action.priority), Target(action.target), Args(action.args.as_slice())])
+    sink.put(opcode, &[Callee(action.procedure), operand_of_priority(action.priority), Target(action.target), Args(action.args.as_slice())])
 }
 
 /// Puts an instruction: its opcode and its operands.

@@ -4,7 +4,7 @@ ghost use Rattle.std.specs.Prelude.{◌≡◌, ◌≤◌, length, map, slice_get
 ghost use Rattle.std.specs.Option.{option_copied};
 ghost use Rattle.tw_types.specs.Notices.{Notices};
 ghost use Rattle.tw_code.specs.format.Program.{IsProgram};
-ghost use Rattle.tw_code.specs.machine.Arguments.{all_pass, called, handed_over, has_type, put_called, values_suit};
+ghost use Rattle.tw_code.specs.machine.Arguments.{all_pass, called, handed_over, has_type, priority_at, put_called, values_suit};
 ghost use Rattle.tw_code.specs.machine.Rights.{held};
 ghost use Rattle.tw_datum.specs.Kept.{datum_if};
 ghost use Rattle.tw_instr.specs.Arguments.{arg_of, test_of};
@@ -18,10 +18,10 @@ use crate::failure::{Failure, must};
 use crate::frame::Frame;
 use crate::position::Position;
 use crate::task::Task;
-use crate::value_registers::copy_at;
+use crate::value_registers::{copy_at, int_at};
 use std::alloc::{AllocError, Global};
 use std::marker::Model;
-use tw_code::{Action, Procedure};
+use tw_code::{Action, Priority, Procedure};
 use tw_types::{Cause, DatumId, Kind, Mode, Param, Value, keep};
 
 /// An argument: a value, or a right on a datum.
@@ -62,6 +62,16 @@ impl<'a> Model for Named<'a> {
     ghost invariant = { λ n. length n.params.now ≤ 8 };
 }
 
+/// The constant, or the integer of the register.
+fn priority_of(position: &Position, priority: Priority) -> Result<i64, Cause>
+    ensures { result ≡ priority_at position.now priority }
+{
+    match priority {
+        Priority::Constant(number) => Ok(number),
+        Priority::Computed(register) => int_at(position, register),
+    }
+}
+
 /// What RULE names, of the task that does it; the frame is as it was.
 pub fn called<'a>(
     alloc: Global,
@@ -83,6 +93,7 @@ pub fn called<'a>(
         values_suit(frame.position(), params, registers),
         Cause::WrongRegister,
     )?;
+    let priority = priority_of(frame.position(), action.priority)?;
     let mut rights = frame.rights();
     let args = hand_over(alloc, frame.position(), &mut rights, params, registers)?;
     must(
@@ -94,7 +105,7 @@ pub fn called<'a>(
         Cause::WrongType,
     )?;
     Ok(Named {
-        task: Task::of(procedure.kind, action, args),
+        task: Task::of(procedure.kind, action, priority, args),
         params,
         rights,
     })

@@ -60,15 +60,15 @@ impl Task {
         })
     }
 
-    /// The task of an action on a procedure of this kind, with these arguments.
-    pub fn of(kind: Kind, action: &Action, args: Vec<Arg>) -> Task
+    /// The task of an action on a procedure of this kind, with this priority and these arguments.
+    pub fn of(kind: Kind, action: &Action, priority: i64, args: Vec<Arg>) -> Task
         requires { length args.items ≤ 8 }
-        ensures { result ≡ record { kind = kind; procedure = action.now.procedure; priority = action.now.priority; target = action.now.target; args = map arg_of args.items } }
+        ensures { result ≡ record { kind = kind; procedure = action.now.procedure; priority = priority; target = action.now.target; args = map arg_of args.items } }
     {
         Task {
             kind,
             procedure: action.procedure,
-            priority: action.priority,
+            priority,
             target: action.target,
             args,
         }

@@ -1,25 +1,29 @@
 -- RULE and PUT don't trap where they are asked for.
-use Rattle.std.proofs.Common.{◌≡◌, ℕ, ◌+◌, ◌<◌, ◌==◌, Bool, true, false, if◌then◌else◌, List, [], ◌∷◌, length, slice_get, Option, Some, None, refl, ap, ◌∙◌, arith}
+use Rattle.std.proofs.Common.{◌≡◌, ℕ, ℤ, ◌+◌, ◌<◌, ◌==◌, Bool, true, false, if◌then◌else◌, List, [], ◌∷◌, length, slice_get, Option, Some, None, refl, ap, ◌∙◌, arith}
 use Rattle.std.proofs.lemmas.Bool.{eqb-true, eq-eqb}
 use Rattle.std.specs.FinMap.{get}
 use Rattle.tw_types.specs.declared.cause.Cause.TheVariants.{FreedDatum, WrongType, WrongRegister, ArgumentNotClosed, WrongCall}
+use Rattle.std.specs.Prelude.{Ok}
 use Rattle.tw_types.specs.declared.data_type.Scalar.{Scalar}
+use Rattle.tw_types.specs.declared.data_type.Scalar.TheVariants as scalar
 use Rattle.tw_types.specs.declared.param.Param.{Param}
 use Rattle.tw_types.specs.Actor.{is_control}
 use Rattle.std.specs.Option.{ok_or}
 use Rattle.tw_types.specs.Store.{Datum}
 use Rattle.tw_code.specs.declared.instr.Action.{Action}
+use Rattle.tw_code.specs.declared.instr.Priority.{Priority}
+use Rattle.tw_code.specs.declared.instr.Priority.TheVariants.{Constant, Computed}
 use Rattle.tw_code.specs.declared.procedure.Procedure.{Procedure}
-use Rattle.tw_code.specs.machine.Arguments.{procedure_of, HandedOver, handed_over, Called, called, put_called, values_suit, all_pass, is_live, is_of_type, is_closed_if_asked}
+use Rattle.tw_code.specs.machine.Arguments.{procedure_of, HandedOver, handed_over, Called, called, priority_at, put_called, values_suit, all_pass, is_live, is_of_type, is_closed_if_asked}
 use Rattle.tw_code.specs.machine.Data.{Context}
 use Rattle.tw_code.specs.machine.Rights.{Typing}
-use Rattle.tw_code.specs.accepting.Typing.{asks_args, asks_callee, asks_action, without_args}
+use Rattle.tw_code.specs.accepting.Typing.{asks_args, asks_callee, asks_action, asks_priority, without_args}
 use Rattle.tw_code.specs.machine.Holders.{read_by, write_by, over}
 use Rattle.tw_no_trap.proofs.Over.{over_params}
 use Rattle.tw_no_trap.specs.Invariant.{ValuesFit}
 use Rattle.tw_types.proofs.Freeing.{held_is_there}
 use Rattle.tw_no_trap.proofs.Given.{GivenSo, moved_goes, values_met, all_live, all_typed, all_closed}
-use Rattle.tw_no_trap.proofs.Values.{AllYes}
+use Rattle.tw_no_trap.proofs.Values.{AllYes, declared_as, int_there, yes_before, yes_behind}
 use Rattle.tw_no_trap.proofs.Registers.{Fits}
 use Rattle.tw_no_trap.proofs.Steps.{Goes, goes, goes_must, goes_more}
 
@@ -39,6 +43,11 @@ callee_met waits registers (Some p) args typing met = by (length args == length 
     by false e met = let z : false ≡ true = met.0 in cc
 
 module _ (program : List Procedure) (p : Procedure) (c : Context) (typing : Typing) (r w : ℕ → ℕ) (action : Action) (fits : Fits typing c r w) (values : ValuesFit p.registers c.position.values) where
+  -- the register of a computed one holds an integer
+  priority_there : (priority : Priority) → AllYes (asks_priority p.registers priority) → (n : ℤ) × (priority_at c.position priority ≡ Ok n)
+  priority_there (Constant n) met = (n, refl)
+  priority_there (Computed register) met = int_there p.registers c.position values register (declared_as (slice_get p.registers register) scalar.Int met.1.0)
+
   -- what was called, and what was given away for it
   pub record CalledSo (waits : Bool) (call : Called) : Type 0 where
     pub callee : Procedure
@@ -56,17 +65,19 @@ module _ (program : List Procedure) (p : Procedure) (c : Context) (typing : Typi
 
   pub called_goes : (waits : Bool) → AllYes (asks_action waits program p action typing) → Goes (called program p.kind c action) (CalledSo waits)
   called_goes waits met =
-      let callee = callee_met waits p.registers (slice_get program action.procedure) action.args typing met.1 in
+      let callee = callee_met waits p.registers (slice_get program action.procedure) action.args typing (yes_behind (asks_priority p.registers action.priority) _ met.1) in
+      let priority = priority_there action.priority (yes_before (asks_priority p.registers action.priority) _ met.1) in
       let q = callee.procedure in
       goes (procedure_of program action.procedure) _ _ q (ap (λ o. ok_or o WrongCall) callee.is)
       (goes_must (length action.args == length q.params) WrongCall _ _ (eq-eqb (length action.args) (length q.params) callee.long)
       (goes_must (is_control p.kind) WrongCall _ _ met.0
       (goes_must (values_suit c.position.values q.params action.args) WrongRegister _ _ (values_met waits c.store p.registers c.position.values values q.params action.args typing callee.met)
+      (goes (priority_at c.position action.priority) _ _ priority.0 priority.1
       (goes_more (handed_over c.position.values c.rights q.params action.args) _ _ _ (moved_goes waits c.store p.registers c.position.values values q.params action.args typing c.rights fits.rights callee.met callee.long)
       (λ given so.
       goes_must (all_pass is_live c.store.live q.params given.args) FreedDatum _ _ (all_live waits c.store q.params given.args so.args (live_so waits q.params _ given so))
       (goes_must (all_pass is_of_type c.store.live q.params given.args) WrongType _ _ (all_typed waits c.store q.params given.args so.args)
-      (record { callee = q; is = callee.is; procedure = refl; params = refl; so = so })))))))
+      (record { callee = q; is = callee.is; procedure = refl; params = refl; so = so }))))))))
 
   pub put_goes : AllYes (asks_action false program p action typing) → Goes (put_called program p.kind c action) (CalledSo false)
   put_goes met = goes_more (called program p.kind c action) _ _ _ (called_goes false met)

@@ -44,6 +44,10 @@ pub yes_behind : (first second : List Question) → AllYes (first ++ second) →
 yes_behind [] second h = h
 yes_behind (q ∷ first) second h = yes_behind first second h.1
 
+pub yes_before : (first second : List Question) → AllYes (first ++ second) → AllYes first
+yes_before [] second h = tt
+yes_before (q ∷ first) second h = (h.0, yes_before first second h.1)
+
 -- what passes is there
 pub passed : {A : Type 0} (test : A → Bool) (o : Option A) → passes test o ≡ true → (x : A) × (o ≡ Some x) × (test x ≡ true)
 passed test None e = cc

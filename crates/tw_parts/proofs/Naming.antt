@@ -1,5 +1,5 @@
 -- RULE and PUT: what the law says of them, where a task stands at one.
-use Rattle.std.proofs.Common.{◌≡◌, ◌==◌, Bool, true, false, List, Some, Result, Ok, Err, refl, sym, ap, subst, ◌∙◌, length, slice_get}
+use Rattle.std.proofs.Common.{◌≡◌, ◌==◌, ℤ, Bool, true, false, List, Some, Result, Ok, Err, refl, sym, ap, subst, ◌∙◌, length, slice_get}
 use Rattle.std.proofs.lemmas.Option.{same_Some}
 use Rattle.std.specs.FinMap.{get}
 use Rattle.tw_types.specs.declared.actor.Actor.{Actor}
@@ -15,11 +15,11 @@ use Rattle.tw_types.specs.Outcome.{Trap}
 use Rattle.tw_types.proofs.Results.{must_then, ok_first, there_then}
 use Rattle.tw_rights.specs.declared.held.Held.{Held}
 use Rattle.std.specs.declared.option.Option.{Option}
-use Rattle.tw_code.specs.accepting.Typing.{asks_callee}
+use Rattle.tw_code.specs.accepting.Typing.{asks_callee, asks_priority}
 use Rattle.tw_code.specs.declared.instr.Action.{Action}
 use Rattle.tw_code.specs.declared.instr.Instr.TheVariants as instr
 use Rattle.tw_code.specs.declared.procedure.Procedure.{Procedure}
-use Rattle.tw_code.specs.machine.Arguments.{Called, HandedOver, all_pass, called, handed_over, is_closed_if_asked, is_live, is_of_type, put_called, values_suit}
+use Rattle.tw_code.specs.machine.Arguments.{Called, HandedOver, all_pass, called, handed_over, is_closed_if_asked, is_live, is_of_type, priority_at, put_called, values_suit}
 use Rattle.tw_code.specs.machine.Data.{Context}
 use Rattle.tw_code.specs.machine.Holders.{typing_at}
 use Rattle.tw_code.specs.machine.Machine.{step}
@@ -28,7 +28,7 @@ use Rattle.tw_code.specs.machine.State.{context_of}
 use Rattle.tw_no_trap.proofs.Called.{callee_met}
 use Rattle.tw_no_trap.proofs.Running.{asked_at}
 use Rattle.tw_no_trap.proofs.Safe.{safe}
-use Rattle.tw_no_trap.proofs.Values.{AllYes}
+use Rattle.tw_no_trap.proofs.Values.{AllYes, yes_behind}
 use Rattle.tw_verify.specs.Typed.{TypedProgram, typings_of}
 use Rattle.tw_frame.specs.Jobs.{FrameView, bare_frame}
 use Rattle.tw_parts.specs.Fits.{AreParts}
@@ -47,10 +47,12 @@ pub record IsNamed (program : List Procedure) (kind : Kind) (c : Context) (actio
   pub control : is_control kind ≡ true
   pub suits : AreSuited file procedure.params action.args
   pub values : values_suit c.position.values procedure.params action.args ≡ true
+  pub priority : ℤ
+  pub priority_is : priority_at c.position action.priority ≡ Ok priority
   pub given : HandedOver
   pub handed : handed_over c.position.values c.rights procedure.params action.args ≡ Ok given
   pub goes : called program kind c action ≡ Ok (record {
-    task = record { kind = procedure.kind; procedure = action.procedure; priority = action.priority; target = action.target; args = given.args };
+    task = record { kind = procedure.kind; procedure = action.procedure; priority = priority; target = action.target; args = given.args };
     params = procedure.params;
     rights = given.rights;
   })
@@ -73,7 +75,8 @@ module _ (verified : TypedProgram) (layout : ActorCounts) (old : Parts) (notices
       let count = must_then (length action.args == length known.0.params) WrongCall _ call known.2 in
       let control = must_then (is_control p.kind) WrongCall _ call count.1 in
       let values = must_then (values_suit f.position.values known.0.params action.args) WrongRegister _ call control.1 in
-      let given = ok_first (handed_over f.position.values context.rights known.0.params action.args) _ call values.1 in
+      let number = ok_first (priority_at f.position action.priority) _ call values.1 in
+      let given = ok_first (handed_over f.position.values context.rights known.0.params action.args) _ call number.2 in
       let live = must_then (all_pass is_live old.store.store.live known.0.params given.0.args) FreedDatum _ call given.2 in
       let typed = must_then (all_pass is_of_type old.store.store.live known.0.params given.0.args) WrongType _ call live.1 in
       let same : callee.procedure ≡ known.0 = same_Some callee.procedure known.0 (sym callee.is ∙ known.1) in
@@ -85,6 +88,8 @@ module _ (verified : TypedProgram) (layout : ActorCounts) (old : Parts) (notices
         suits = subst (λ (q : Procedure). AreSuited f.held q.params action.args) same
             (suited waits p.registers callee.procedure.params action.args f.held typing (h.stand.frames actor f runs).kinds callee.met);
         values = values.0;
+        priority = number.0;
+        priority_is = number.1;
         given = given.0;
         handed = given.1;
         goes = ok ∙ sym typed.1;
@@ -101,7 +106,7 @@ module _ (verified : TypedProgram) (layout : ActorCounts) (old : Parts) (notices
     rules = by (called verified.program p.kind context action) refl
       where
         by : (o : Result Called Cause) → called verified.program p.kind context action ≡ o → IsNamed verified.program p.kind context action f.held
-        by (Ok call) ok = named true (asked_at verified.program (typings_of verified) h.runnable.is h.runnable.right f.procedure p here f.position.place (instr.Rule action) at).1 call ok
+        by (Ok call) ok = named true (yes_behind (asks_priority p.registers action.priority) _ (asked_at verified.program (typings_of verified) h.runnable.is h.runnable.right f.procedure p here f.position.place (instr.Rule action) at).1) call ok
         by (Err why) err = absurd ((safe verified.program (typings_of verified) h.runnable.is h.runnable.right layout (state_of old notices) (held verified layout old notices h)).no_trap (Call actor) why (rule_trapped why err))
 
   -- ---- PUT
@@ -124,7 +129,7 @@ module _ (verified : TypedProgram) (layout : ActorCounts) (old : Parts) (notices
             let outer = ok_first (called verified.program p.kind context action) _ call ok in
             let closed = must_then (all_pass is_closed_if_asked old.store.store.live outer.0.params outer.0.task.args) ArgumentNotClosed _ call outer.2 in
             record {
-              is_named = named false (asked_at verified.program (typings_of verified) h.runnable.is h.runnable.right f.procedure p here f.position.place (instr.Put action) at).1 outer.0 outer.1;
+              is_named = named false (yes_behind (asks_priority p.registers action.priority) _ (asked_at verified.program (typings_of verified) h.runnable.is h.runnable.right f.procedure p here f.position.place (instr.Put action) at).1) outer.0 outer.1;
               is_closed = ok ∙ sym closed.1 ∙ sym outer.1;
             }
         by (Err why) err = absurd ((safe verified.program (typings_of verified) h.runnable.is h.runnable.right layout (state_of old notices) (held verified layout old notices h)).no_trap (Call actor) why (put_trapped why err))

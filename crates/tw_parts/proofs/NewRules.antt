@@ -49,10 +49,10 @@ module _ (verified : TypedProgram) (layout : ActorCounts) (old : Parts) (notices
   module _ (vals : List Value) (are : each Some vals ≡ named_values f.position.values rule_named.procedure.params action.args)
       (args : List Arg) (file : List (Option Held)) (over : bundled f.held rule_named.procedure.params action.args vals ≡ Some (record { args = args; file = file })) where
     abbrev pub rule : RuleOf Arg
-    rule = table.new_rule (number_in_kind actor) rule_named.procedure.params (record { procedure = action.procedure; priority = action.priority; target = action.target }) args
+    rule = table.new_rule (number_in_kind actor) rule_named.procedure.params (record { procedure = action.procedure; priority = rule_named.priority; target = action.target }) args
 
-    bare_is : bare_rule rule ≡ new_rule (number_in_kind actor) rule_named.procedure.params (record { kind = rule_named.procedure.kind; procedure = action.procedure; priority = action.priority; target = action.target; args = rule_named.given.args })
-    bare_is = ap (λ xs. new_rule (number_in_kind actor) rule_named.procedure.params (record { kind = rule_named.procedure.kind; procedure = action.procedure; priority = action.priority; target = action.target; args = xs }))
+    bare_is : bare_rule rule ≡ new_rule (number_in_kind actor) rule_named.procedure.params (record { kind = rule_named.procedure.kind; procedure = action.procedure; priority = rule_named.priority; target = action.target; args = rule_named.given.args })
+    bare_is = ap (λ xs. new_rule (number_in_kind actor) rule_named.procedure.params (record { kind = rule_named.procedure.kind; procedure = action.procedure; priority = rule_named.priority; target = action.target; args = xs }))
         (bare_args verified layout old notices h actor f p action runs rule_named vals are args file over)
 
     goes : step verified.program layout (Call actor) (state_of old notices) ≡ Went (with_frame (with_rule (state_of old notices) (bare_rule rule)) actor (bare_frame (gone_on f file)))

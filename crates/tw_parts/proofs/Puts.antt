@@ -47,10 +47,10 @@ module _ (verified : TypedProgram) (layout : ActorCounts) (old : Parts) (notices
   module _ (vals : List Value) (are : each Some vals ≡ named_values f.position.values put_named.procedure.params action.args)
       (args : List Arg) (file : List (Option Held)) (over : bundled f.held put_named.procedure.params action.args vals ≡ Some (record { args = args; file = file })) where
     abbrev task : TaskOf Arg
-    task = record { kind = put_named.procedure.kind; procedure = action.procedure; priority = action.priority; target = action.target; args = args }
+    task = record { kind = put_named.procedure.kind; procedure = action.procedure; priority = put_named.priority; target = action.target; args = args }
 
-    bare_is : bare_task task ≡ record { kind = put_named.procedure.kind; procedure = action.procedure; priority = action.priority; target = action.target; args = put_named.given.args }
-    bare_is = ap (λ xs. record { kind = put_named.procedure.kind; procedure = action.procedure; priority = action.priority; target = action.target; args = xs })
+    bare_is : bare_task task ≡ record { kind = put_named.procedure.kind; procedure = action.procedure; priority = put_named.priority; target = action.target; args = put_named.given.args }
+    bare_is = ap (λ xs. record { kind = put_named.procedure.kind; procedure = action.procedure; priority = put_named.priority; target = action.target; args = xs })
         (bare_args verified layout old notices h actor f p action runs put_named vals are args file over)
 
     goes : step verified.program layout (Call actor) (state_of old notices) ≡ Went (with_frame (with_task (state_of old notices) (bare_task task)) actor (bare_frame (gone_on f file)))

@@ -29,7 +29,7 @@ int_is at register n e =
 pub int_known : (at : Position) (register : ℕ) (n : ℤ) → slice_get at.values register ≡ Some (value.Int n) → int_at at register ≡ Ok n
 int_known at register n e = rw e refl
 
-ok_ints : (a b : ℤ) → ◌≡◌ {A = Result ℤ Cause} (Ok a) (Ok b) → a ≡ b
+pub ok_ints : (a b : ℤ) → ◌≡◌ {A = Result ℤ Cause} (Ok a) (Ok b) → a ≡ b
 ok_ints a b e = cc
 
 pub int_same : (at : Position) (register : ℕ) (k n : ℤ) → int_at at register ≡ Ok k → slice_get at.values register ≡ Some (value.Int n) → k ≡ n

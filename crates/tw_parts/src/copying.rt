@@ -1,12 +1,25 @@
 //! What RULE and PUT have in common.
 
-ghost use Rattle.std.specs.Prelude.{◌≡◌, IfOk, Some, true, length, map as each};
-ghost use Rattle.tw_code.specs.machine.Arguments.{values_suit};
+ghost use Rattle.std.specs.Prelude.{◌≡◌, ℤ, IfOk, Ok, Some, true, length, map as each};
+ghost use Rattle.tw_code.specs.machine.Arguments.{priority_at, values_suit};
 ghost use Rattle.tw_parts.specs.Copies.{named_values};
 
+use crate::data::give::number_at;
 use std::alloc::{AllocError, Global};
+use tw_code::Priority;
 use tw_frame::Done;
 use tw_types::{Param, Value};
+
+/// The constant, or the number in its register, as far as the Done came.
+pub(crate) fn priority_of(done: &Done<'_>, priority: Priority) -> i64
+    requires { (n : ℤ) × (priority_at done.now.after priority ≡ Ok n) }
+    ensures { priority_at done.now.after priority ≡ Ok result }
+{
+    match priority {
+        Priority::Constant(number) => number,
+        Priority::Computed(register) => number_at(done, register),
+    }
+}
 
 /// Copies of the values in the registers that are named for value parameters, as they are where the Done came to.
 pub(crate) fn values_of(

@@ -10,7 +10,7 @@ ghost use Rattle.tw_parts.specs.Memory.{TakesMemory};
 ghost use Rattle.tw_parts.specs.Events.{IsDrafted, IsOwed, MakesBehind, StandsAt, Untouched};
 
 mod containers;
-mod give;
+pub(crate) mod give;
 mod rights;
 mod scalars;
 

@@ -5,7 +5,7 @@ ghost use Rattle.tw_types.specs.declared.event.Event.TheVariants as event;
 ghost use Rattle.tw_code.specs.declared.instr.Instr.TheVariants as instr;
 ghost use Rattle.tw_parts.specs.Events.{IsDrafted, MakesBehind, StandsAt, Untouched};
 
-use crate::copying::values_of;
+use crate::copying::{priority_of, values_of};
 use crate::parts::Parts;
 use crate::release::procedure_at;
 use std::alloc::Global;
@@ -35,6 +35,7 @@ impl<'a> Parts<'a> {
         let params = callee.params.as_slice();
         let registers = action.args.as_slice();
         let kind = callee.kind;
+        let priority = priority_of(&done, action.priority);
         let Ok(vals) = values_of(alloc, &done, params, registers) else {
             return Err(done);
         };
@@ -49,7 +50,7 @@ impl<'a> Parts<'a> {
             procedure: action.procedure,
             args,
         };
-        match self.tasks.put(kind, action.priority, action.target, task) {
+        match self.tasks.put(kind, priority, action.target, task) {
             Ok(()) => {}
             Err(_task) => unreachable!(),
         }

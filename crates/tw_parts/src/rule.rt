@@ -5,7 +5,7 @@ ghost use Rattle.tw_types.specs.declared.event.Event.TheVariants as event;
 ghost use Rattle.tw_code.specs.declared.instr.Instr.TheVariants as instr;
 ghost use Rattle.tw_parts.specs.Events.{IsDrafted, MakesBehind, StandsAt, Untouched};
 
-use crate::copying::values_of;
+use crate::copying::{priority_of, values_of};
 use crate::parts::Parts;
 use crate::release::procedure_at;
 use std::alloc::Global;
@@ -35,6 +35,7 @@ impl<'a> Parts<'a> {
         let params = callee.params.as_slice();
         let registers = action.args.as_slice();
         let engine = actor.number();
+        let priority = priority_of(&done, action.priority);
         let Ok(vals) = values_of(alloc, &done, params, registers) else {
             return Err(done);
         };
@@ -45,7 +46,7 @@ impl<'a> Parts<'a> {
         let (args, draft) = over;
         let planned = PlannedTask {
             procedure: action.procedure,
-            priority: action.priority,
+            priority,
             target: action.target,
         };
         match self.rules.add(engine, params, planned, args) {

@@ -6,13 +6,13 @@ ghost use Rattle.std.specs.Option.{option_map};
 ghost use Rattle.tw_types.specs.Actor.{is_control};
 ghost use Rattle.tw_code.specs.format.Program.{IsAction, IsRegister};
 ghost use Rattle.tw_code.specs.accepting.Question.{refusal_in};
-ghost use Rattle.tw_code.specs.accepting.Typing.{asks_args, asks_callee, asks_action};
+ghost use Rattle.tw_code.specs.accepting.Typing.{asks_args, asks_callee, asks_action, asks_priority};
 ghost use Rattle.tw_verify.specs.Refusal.{verify_refusal_number};
 
 use crate::questions::{beside, lowest, value_refusal};
 use crate::refusal::VerifyRefusal;
 use crate::typing::Typing;
-use tw_code::{Action, Procedure};
+use tw_code::{Action, Priority, Procedure};
 use tw_types::{Kind, Param, Scalar};
 
 /// What is asked of one argument: a value of the parameter's type, or a right that may stand for it.
@@ -84,6 +84,16 @@ fn callee_refusal(
     arguments_refusal(waits, procedure.registers.as_slice(), params, args, typing)
 }
 
+/// A computed priority must be an integer.
+fn priority_refusal(registers: &[Scalar], priority: Priority) -> Option<VerifyRefusal>
+    ensures { option_map verify_refusal_number result ≡ refusal_in (asks_priority registers.now priority) }
+{
+    match priority {
+        Priority::Constant(_) => None,
+        Priority::Computed(register) => value_refusal(registers, register, Scalar::Int),
+    }
+}
+
 fn is_control(procedure: &Procedure) -> bool
     ensures { result ≡ is_control procedure.now.kind }
 {
@@ -102,6 +112,8 @@ pub(crate) fn action_refusal(
     ensures { option_map verify_refusal_number result
         ≡ refusal_in (asks_action waits procedures.now procedure.now action.now typing.now) }
 {
-    let others = callee_refusal(waits, procedures, procedure, action, typing);
+    let priority = priority_refusal(procedure.registers.as_slice(), action.priority);
+    let callee = callee_refusal(waits, procedures, procedure, action, typing);
+    let others = lowest(priority, callee);
     beside(is_control(procedure), VerifyRefusal::ActionInLeaf, others)
 }

@@ -6,6 +6,7 @@ use Rattle.tw_code.specs.declared.instr.DataInstr.TheVariants as on_data
 use Rattle.tw_code.specs.declared.instr.Instr.{Instr}
 use Rattle.tw_code.specs.declared.instr.Instr.TheVariants as instr
 use Rattle.tw_code.specs.declared.instr.LocalInstr.TheVariants as local
+use Rattle.tw_code.specs.declared.instr.Priority.TheVariants.{Constant}
 use Rattle.tw_code.specs.declared.opcode.Opcode.{Opcode}
 use Rattle.tw_code.specs.declared.opcode.Opcode.TheVariants as op
 use Rattle.tw_words.specs.Words.{Word, Bare, Quoted}
@@ -230,8 +231,8 @@ row_of op.CopyRead = row (more right (one right)) (λ x. instr.Data (on_data.Cop
 row_of op.CopyWrite = row (more right (one right)) (λ x. instr.Data (on_data.CopyWrite x.0 x.1))
 row_of op.DropRead = row (one right) (λ x. instr.Data (on_data.DropRead x))
 row_of op.DropWrite = row (one right) (λ x. instr.Data (on_data.DropWrite x))
-row_of op.Rule = row action_line (λ x. instr.Rule (record { procedure = x.0; priority = x.1.0; target = x.1.1.0; args = x.1.1.1 }))
-row_of op.Put = row action_line (λ x. instr.Put (record { procedure = x.0; priority = x.1.0; target = x.1.1.0; args = x.1.1.1 }))
+row_of op.Rule = row action_line (λ x. instr.Rule (record { procedure = x.0; priority = Constant x.1.0; target = x.1.1.0; args = x.1.1.1 }))
+row_of op.Put = row action_line (λ x. instr.Put (record { procedure = x.0; priority = Constant x.1.0; target = x.1.1.0; args = x.1.1.1 }))
 row_of op.Ret = row nothing (λ x. instr.Ret)
 
 -- an instruction, and the label that it names

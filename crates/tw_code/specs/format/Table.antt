@@ -9,6 +9,8 @@ use Rattle.tw_code.specs.declared.instr.DataInstr.TheVariants as on_data
 use Rattle.tw_code.specs.declared.instr.Instr.{Instr}
 use Rattle.tw_code.specs.declared.instr.Instr.TheVariants as instr
 use Rattle.tw_code.specs.declared.instr.LocalInstr.{LocalInstr}
+use Rattle.tw_code.specs.declared.instr.Priority.{Priority}
+use Rattle.tw_code.specs.declared.instr.Priority.TheVariants.{Constant, Computed}
 use Rattle.tw_code.specs.declared.instr.LocalInstr.TheVariants as local
 use Rattle.tw_code.specs.declared.opcode.Opcode.{Opcode}
 use Rattle.tw_code.specs.declared.opcode.Opcode.TheVariants as opcode
@@ -103,8 +105,13 @@ data_row (on_data.CopyWrite to from) = (opcode.CopyWrite, Right to ∷ Right fro
 data_row (on_data.DropRead right) = (opcode.DropRead, Right right ∷ [])
 data_row (on_data.DropWrite right) = (opcode.DropWrite, Right right ∷ [])
 
+-- a computed priority is its register
+abbrev pub priority_operand : Priority → Operand
+priority_operand (Constant n) = Number n
+priority_operand (Computed register) = Value register
+
 abbrev pub action_operands : Action → List Operand
-action_operands action = Callee action.procedure ∷ Number action.priority ∷ Target action.target ∷ Args action.args ∷ []
+action_operands action = Callee action.procedure ∷ priority_operand action.priority ∷ Target action.target ∷ Args action.args ∷ []
 
 abbrev pub row : Instr → Opcode × List Operand
 row (instr.Local i) = local_row i

@@ -1,4 +1,4 @@
-use Rattle.std.proofs.Common.{◌≡◌, ◌∙◌, Some, IsSome, refl, sym, ap, subst, slice_get, to_z, of_z, w64}
+use Rattle.std.proofs.Common.{◌≡◌, ◌∙◌, Some, IsSome, refl, sym, ap, subst, slice_get, arith, to_z, of_z, w64}
 use Rattle.std.proofs.lemmas.Int.{to_z-of_z}
 use Rattle.std.specs.FinMap.{get, insert}
 use Rattle.tw_code.specs.declared.instr.Instr.TheVariants as instr
@@ -10,6 +10,7 @@ use Rattle.tw_parts.proofs.Behind.{few, here_too, in_queue, kind_of_callee, long
 use Rattle.tw_parts.proofs.Puts.{put_goes, put_named}
 use Rattle.tw_parts.proofs.Releases.{fresh}
 use Rattle.tw_parts.proofs.Seating.{again, get_own}
+use Rattle.tw_parts.proofs.ValueRegisters.{ok_ints}
 use Rattle.tw_parts.proofs.parts.Parts.put.Goals as goal
 
 pub procedure_at-callee-requires : goal.procedure_at-callee-requires
@@ -18,6 +19,12 @@ procedure_at-callee-requires c =
     let u = put_named c.args.done.before.program s.layout (there c.args.self.now c.args.actor c.args.done (instr.Put c.args.action.now) c.requires.stands) s.notices s.parts c.args.actor (come s.f c.args.done) s.q c.args.action.now (runs_there c.args.self.now c.args.actor c.args.done (instr.Put c.args.action.now) c.requires.stands) s.here s.behind in
     let procedures : c.procedures.result.now ≡ c.args.done.before.program.program = c.procedures.ensures.is ∙ c.program-program.ensures.is ∙ ap (λ (v : TypedProgram). v.program) (c.program.ensures ∙ ap (λ (j : JobView). j.program) c.before-2.ensures) in
     subst IsSome (sym (ap (λ ps. slice_get ps c.args.action.now.procedure) procedures ∙ u.is)) refl
+
+pub priority_of-priority-requires : goal.priority_of-priority-requires
+priority_of-priority-requires c =
+    let s = c.requires.stands in
+    let u = put_named c.args.done.before.program s.layout (there c.args.self.now c.args.actor c.args.done (instr.Put c.args.action.now) c.requires.stands) s.notices s.parts c.args.actor (come s.f c.args.done) s.q c.args.action.now (runs_there c.args.self.now c.args.actor c.args.done (instr.Put c.args.action.now) c.requires.stands) s.here s.behind in
+    (u.priority, u.priority_is)
 
 pub values_of-requires-clause-long : goal.values_of-requires-clause-long
 values_of-requires-clause-long c =
@@ -79,14 +86,15 @@ returns-clause-put c = λ layout f owed notices h.
     let vals = so_valued c.args.done.after.values c.as_slice-params.result.now u.procedure.params params c.as_slice-registers.result.now action.args c.as_slice-registers.ensures c.in-Ok.vals.items c.in-Ok.ensures in
     let bundle = so_bundled f.held c.as_slice-params.result.now u.procedure.params params c.as_slice-registers.result.now action.args c.as_slice-registers.ensures c.in-Ok.vals.items (Some (record { args = c.hand_over-over.result.0; file = over.0 })) over.1 in
     let seats = over.2 ∙ sym (again old.seats c.args.actor (come f c.args.done) (gone_on (come f c.args.done) over.0)) in
-    let key : to_z w64 (of_z w64 action.priority) ≡ action.priority = to_z-of_z w64 action.priority (operands program.program h.runnable.is f.procedure s.q here c.args.done.after.place (instr.Put c.args.action.now) s.behind).priority in
+    let bits : to_z w64 (of_z w64 c.priority_of-priority.result) ≡ c.priority_of-priority.result = grind (arith, to_z-of_z) in
+    let key : to_z w64 (of_z w64 c.priority_of-priority.result) ≡ u.priority = bits ∙ ok_ints c.priority_of-priority.result u.priority (sym c.priority_of-priority.ensures ∙ u.priority_is) in
     let kind = kind_of_callee c.args.done.before.program.program c.procedures.result.now procedures c.args.action.now.procedure c.procedure_at-callee.result.now c.procedure_at-callee.ensures u.procedure u.is in
     put_goes program layout (with_done old c.args.actor f c.args.done) notices h c.args.actor (come f c.args.done) s.q action runs here s.behind c.in-Ok.vals.items vals c.hand_over-over.result.0 over.0 bundle _
     (c.in-Ok-put.ensures.put
     ∙ ap (λ z. insert c.reserve.new.self.tasks c.new.result (record { kind = c.procedure_at-callee.result.now.kind; procedure = action.procedure; priority = z; target = action.target; args = c.hand_over-over.result.0 })) key
-    ∙ ap (λ k. insert c.reserve.new.self.tasks c.new.result (record { kind = k; procedure = action.procedure; priority = action.priority; target = action.target; args = c.hand_over-over.result.0 })) kind
-    ∙ ap (λ ts. insert ts c.new.result (record { kind = u.procedure.kind; procedure = action.procedure; priority = action.priority; target = action.target; args = c.hand_over-over.result.0 })) c.in-Ok-reserve.ensures.same
-    ∙ ap (λ n. insert old.tasks.tasks n (record { kind = u.procedure.kind; procedure = action.procedure; priority = action.priority; target = action.target; args = c.hand_over-over.result.0 })) c.new.ensures)
+    ∙ ap (λ k. insert c.reserve.new.self.tasks c.new.result (record { kind = k; procedure = action.procedure; priority = u.priority; target = action.target; args = c.hand_over-over.result.0 })) kind
+    ∙ ap (λ ts. insert ts c.new.result (record { kind = u.procedure.kind; procedure = action.procedure; priority = u.priority; target = action.target; args = c.hand_over-over.result.0 })) c.in-Ok-reserve.ensures.same
+    ∙ ap (λ n. insert old.tasks.tasks n (record { kind = u.procedure.kind; procedure = action.procedure; priority = u.priority; target = action.target; args = c.hand_over-over.result.0 })) c.new.ensures)
     refl seats refl refl refl
 
 pub returns-clause-drafted : goal.returns-clause-drafted

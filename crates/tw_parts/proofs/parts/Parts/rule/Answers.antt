@@ -1,4 +1,4 @@
-use Rattle.std.proofs.Common.{◌≡◌, ◌∙◌, ◌+◌, Some, IsSome, refl, sym, ap, subst, slice_get, to_z, of_z, w64}
+use Rattle.std.proofs.Common.{◌≡◌, ◌∙◌, ◌+◌, Some, IsSome, refl, sym, ap, subst, slice_get, arith, to_z, of_z, w64}
 use Rattle.std.proofs.lemmas.Int.{to_z-of_z}
 use Rattle.std.specs.FinMap.{get, insert}
 use Rattle.tw_types.specs.Actor.{number_in_kind}
@@ -9,10 +9,11 @@ use Rattle.tw_verify.specs.Typed.{TypedProgram}
 use Rattle.tw_frame.specs.Jobs.{JobView}
 use Rattle.tw_parts.specs.Coming.{come, gone_on}
 use Rattle.tw_parts.specs.Events.{with_done}
-use Rattle.tw_parts.proofs.Behind.{few, here_too, long, operands, params_of_callee, runs_there, runs_too, seat_there, sits_ready, so_bundled, so_valued, suit, there}
+use Rattle.tw_parts.proofs.Behind.{few, here_too, long, params_of_callee, runs_there, runs_too, seat_there, sits_ready, so_bundled, so_valued, suit, there}
 use Rattle.tw_parts.proofs.Law.{engine_low}
 use Rattle.tw_parts.proofs.NewRules.{rule, rule_goes, rule_named}
 use Rattle.tw_parts.proofs.Seating.{again, get_own}
+use Rattle.tw_parts.proofs.ValueRegisters.{ok_ints}
 use Rattle.tw_parts.proofs.parts.Parts.rule.Goals as goal
 
 pub procedure_at-callee-requires : goal.procedure_at-callee-requires
@@ -21,6 +22,12 @@ procedure_at-callee-requires c =
     let u = rule_named c.args.done.before.program s.layout (there c.args.self.now c.args.actor c.args.done (instr.Rule c.args.action.now) c.requires.stands) s.notices s.parts c.args.actor (come s.f c.args.done) s.q c.args.action.now (runs_there c.args.self.now c.args.actor c.args.done (instr.Rule c.args.action.now) c.requires.stands) s.here s.behind in
     let procedures : c.procedures.result.now ≡ c.args.done.before.program.program = c.procedures.ensures.is ∙ c.program-program.ensures.is ∙ ap (λ (v : TypedProgram). v.program) (c.program.ensures ∙ ap (λ (j : JobView). j.program) c.before-2.ensures) in
     subst IsSome (sym (ap (λ ps. slice_get ps c.args.action.now.procedure) procedures ∙ u.is)) refl
+
+pub priority_of-priority-requires : goal.priority_of-priority-requires
+priority_of-priority-requires c =
+    let s = c.requires.stands in
+    let u = rule_named c.args.done.before.program s.layout (there c.args.self.now c.args.actor c.args.done (instr.Rule c.args.action.now) c.requires.stands) s.notices s.parts c.args.actor (come s.f c.args.done) s.q c.args.action.now (runs_there c.args.self.now c.args.actor c.args.done (instr.Rule c.args.action.now) c.requires.stands) s.here s.behind in
+    (u.priority, u.priority_is)
 
 pub values_of-requires-clause-long : goal.values_of-requires-clause-long
 values_of-requires-clause-long c =
@@ -98,14 +105,15 @@ returns-clause-rule c = λ layout f owed notices h.
     let vals = so_valued c.args.done.after.values c.as_slice-params.result.now u.procedure.params params c.as_slice-registers.result.now action.args c.as_slice-registers.ensures c.in-Ok.vals.items c.in-Ok.ensures in
     let bundle = so_bundled f.held c.as_slice-params.result.now u.procedure.params params c.as_slice-registers.result.now action.args c.as_slice-registers.ensures c.in-Ok.vals.items (Some (record { args = c.hand_over-over.result.0; file = over.0 })) over.1 in
     let seats = over.2 ∙ sym (again old.seats c.args.actor (come f c.args.done) (gone_on (come f c.args.done) over.0)) in
-    let key : to_z w64 (of_z w64 action.priority) ≡ action.priority = to_z-of_z w64 action.priority (operands program.program h.runnable.is f.procedure s.q here c.args.done.after.place (instr.Rule c.args.action.now) s.behind).priority in
+    let bits : to_z w64 (of_z w64 c.priority_of-priority.result) ≡ c.priority_of-priority.result = grind (arith, to_z-of_z) in
+    let key : to_z w64 (of_z w64 c.priority_of-priority.result) ≡ u.priority = bits ∙ ok_ints c.priority_of-priority.result u.priority (sym c.priority_of-priority.ensures ∙ u.priority_is) in
     let made : c.add.new.self.rules ≡ insert old.rules.rules old.rules.next (rule program layout (with_done old c.args.actor f c.args.done) notices h c.args.actor (come f c.args.done) s.q action runs here s.behind c.in-Ok.vals.items vals c.hand_over-over.result.0 over.0 bundle) =
     c.in-Ok-add.ensures.added
     ∙ ap (λ z. insert c.reserve.new.self.rules c.reserve.new.self.next (new_rule c.number-engine.result c.as_slice-params.result.now (record { procedure = action.procedure; priority = z; target = action.target }) c.hand_over-over.result.0)) key
-    ∙ ap (λ e. insert c.reserve.new.self.rules c.reserve.new.self.next (new_rule e c.as_slice-params.result.now (record { procedure = action.procedure; priority = action.priority; target = action.target }) c.hand_over-over.result.0)) c.number-engine.ensures
-    ∙ ap (λ ps. insert c.reserve.new.self.rules c.reserve.new.self.next (new_rule (number_in_kind c.args.actor) ps (record { procedure = action.procedure; priority = action.priority; target = action.target }) c.hand_over-over.result.0)) params
-    ∙ ap (λ rs. insert rs c.reserve.new.self.next (new_rule (number_in_kind c.args.actor) u.procedure.params (record { procedure = action.procedure; priority = action.priority; target = action.target }) c.hand_over-over.result.0)) c.in-Ok-reserve.ensures.rules
-    ∙ ap (λ n. insert old.rules.rules n (new_rule (number_in_kind c.args.actor) u.procedure.params (record { procedure = action.procedure; priority = action.priority; target = action.target }) c.hand_over-over.result.0)) c.in-Ok-reserve.ensures.next in
+    ∙ ap (λ e. insert c.reserve.new.self.rules c.reserve.new.self.next (new_rule e c.as_slice-params.result.now (record { procedure = action.procedure; priority = u.priority; target = action.target }) c.hand_over-over.result.0)) c.number-engine.ensures
+    ∙ ap (λ ps. insert c.reserve.new.self.rules c.reserve.new.self.next (new_rule (number_in_kind c.args.actor) ps (record { procedure = action.procedure; priority = u.priority; target = action.target }) c.hand_over-over.result.0)) params
+    ∙ ap (λ rs. insert rs c.reserve.new.self.next (new_rule (number_in_kind c.args.actor) u.procedure.params (record { procedure = action.procedure; priority = u.priority; target = action.target }) c.hand_over-over.result.0)) c.in-Ok-reserve.ensures.rules
+    ∙ ap (λ n. insert old.rules.rules n (new_rule (number_in_kind c.args.actor) u.procedure.params (record { procedure = action.procedure; priority = u.priority; target = action.target }) c.hand_over-over.result.0)) c.in-Ok-reserve.ensures.next in
     rule_goes program layout (with_done old c.args.actor f c.args.done) notices h c.args.actor (come f c.args.done) s.q action runs here s.behind c.in-Ok.vals.items vals c.hand_over-over.result.0 over.0 bundle _
     made (c.in-Ok-add.ensures.next ∙ ap (λ n. n + 1) c.in-Ok-reserve.ensures.next) seats refl refl refl refl
 

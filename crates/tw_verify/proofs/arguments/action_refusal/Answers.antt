@@ -1,0 +1,23 @@
+use Rattle.std.proofs.Common.{◌∙◌, ap, sym, Bool, List, ℕ, Option, slice_get}
+use Rattle.std.specs.Option.{option_map}
+use Rattle.tw_types.specs.Actor.{is_control}
+use Rattle.tw_types.specs.declared.data_type.Scalar.{Scalar}
+use Rattle.tw_code.specs.accepting.Question.{refusal_in}
+use Rattle.tw_code.specs.accepting.Typing.{asks_callee, asks_priority}
+use Rattle.tw_verify.specs.Refusal.{lowest_of, refusal_with, verify_refusal_number}
+use Rattle.tw_verify.proofs.Numbers.{refusal_in-append}
+use Rattle.tw_verify.proofs.arguments.action_refusal.Goals as goal
+
+pub returns : goal.returns
+returns c =
+    let p = c.args.procedure.now in
+    let action = c.args.action.now in
+    let priority = asks_priority p.registers action.priority in
+    let callee = asks_callee c.args.waits p.registers (slice_get c.args.procedures.now action.procedure) action.args c.args.typing.now in
+    c.beside.ensures
+    ∙ ap (λ (b : Bool). refusal_with (14, b) (option_map verify_refusal_number c.lowest-others.result)) c.is_control.ensures
+    ∙ ap (refusal_with (14, is_control p.kind))
+    (c.lowest-others.ensures
+    ∙ ap (λ (o : Option ℕ). lowest_of o (option_map verify_refusal_number c.callee_refusal-callee.result)) (c.priority_refusal-priority.ensures ∙ ap (λ (registers : List Scalar). refusal_in (asks_priority registers action.priority)) c.as_slice.ensures)
+    ∙ ap (lowest_of (refusal_in priority)) c.callee_refusal-callee.ensures
+    ∙ sym (refusal_in-append priority callee))
