@@ -23,7 +23,7 @@ pub(crate) fn steps_alone(alloc: Global, verified: &Verified) -> Result<u64, All
     let task = Task {
         no: TaskNo::new(1),
         procedure: 0,
-        args: Bundle::new(),
+        args: Bundle::new(alloc),
     };
     let Ok(rooms) = Rooms::new(alloc) else {
         shut(task);

@@ -7,6 +7,7 @@ ghost use Rattle.tw_code.specs.machine.Position.{at_goal, at_next_place, with_va
 ghost use Rattle.tw_rights.specs.Bundled.{bundled};
 ghost use Rattle.tw_rights.specs.Filed.{filed, rights_in};
 ghost use Rattle.tw_rights.specs.Kinds.{kind_at};
+ghost use Rattle.tw_rights.specs.Roomy.{IsRoom};
 ghost use Rattle.tw_rights.specs.declared.held.Held.TheVariants.{Read as ReadOf, Write as WriteOf};
 ghost use Rattle.tw_frame.specs.Drafts.{MaySet, StartsAsMachine};
 ghost use Rattle.tw_frame.specs.Seen.{seen};
@@ -22,7 +23,7 @@ use crate::value_ref::ValueRef;
 use std::alloc::{AllocError, Global};
 use std::marker::Model;
 use tw_queue::Task;
-use tw_rights::{Bundle, Held, ReadRight, RightFile, WriteRight};
+use tw_rights::{Arg, Bundle, Held, ReadRight, RightFile, WriteRight};
 use tw_types::{Actor, Param, TaskNo, Value};
 use tw_verify::Verified;
 
@@ -358,16 +359,23 @@ impl<'a> Frame<'a> {
         self.rights.place(register, right);
     }
 
-    /// Hands over arguments, and goes on to the next place.
-    pub fn hand_over(&mut self, params: &[Param], args: &[u8], vals: Vec<Value>) -> Bundle
+    /// Hands over arguments, in memory that has room for them, and goes on to the next place.
+    pub fn hand_over(
+        &mut self,
+        params: &[Param],
+        args: &[u8],
+        vals: Vec<Value>,
+        room: Vec<Arg>,
+    ) -> Bundle
         requires few { length params.now ≤ 8 }
+        requires room { IsRoom (length params.now) room }
         requires fit { IsSome (bundled self.old.held params.now args.now vals.items) }
         requires place { self.old.position.place < 2 ^ 63 }
         requires spent { self.old.spent < 2 ^ 63 }
         ensures handed { bundled self.old.held params.now args.now vals.items ≡ Some (record { args = result; file = self.new.held }) }
         ensures rest { self.new ≡ record self.old { held = self.new.held; position = at_next_place self.old.position; spent = self.old.spent + 1 } }
     {
-        let bundle = self.rights.bundle(params, args, vals);
+        let bundle = self.rights.bundle(params, args, vals, room);
         self.go_on();
         bundle
     }

@@ -131,8 +131,8 @@ bare_more args ids arg id same one =
     map-append bare_arg args (arg ∷ []) ∙ (λ i. same i ++ one i ∷ []) ∙ sym (map-append RightArg ids (id ∷ []))
 
 module _ (servers : ℕ) (params : List Param) (o : OpenedParts) (made : Opened) (h : IsMade servers params o made) (p : Param) where
-  pub has_place : length params < 8 → length o.args ≢ 8
-  has_place few full = omega (arith, few, full, same_count o.store.places params o.args h.stand)
+  pub has_place : length params < 8 → length o.args < 8
+  has_place few = omega (arith, few, same_count o.store.places params o.args h.stand)
 
   longer : length (params ++ p ∷ []) ≡ length params + 1
   longer = length-append params (p ∷ [])

@@ -3,11 +3,12 @@
 ghost use Rattle.std.specs.Prelude.{◌≡◌, ◌<◌, ◌≤◌, ◌+◌, ◌^◌, List, Option, IsSome, None, Some, length, slice_index_or, slice_set};
 ghost use Rattle.tw_rights.specs.declared.held.Held.{Held};
 ghost use Rattle.tw_rights.specs.Bundled.{bundled};
+ghost use Rattle.tw_rights.specs.Roomy.{IsRoom};
 ghost use Rattle.tw_frame.specs.Jobs.{FrameView, draft_of, job_of};
 ghost use Rattle.tw_parts.specs.Coming.{MayLend, come, gone_on};
 
 use tw_frame::{Done, Draft, Frame, Job};
-use tw_rights::Bundle;
+use tw_rights::{Arg, Bundle};
 use tw_types::{Param, Value};
 
 /// The task comes as far as the Done says, which is of the job that was lent last; a draft of its values.
@@ -49,9 +50,11 @@ pub(crate) fn hand_over_in<'a>(
     params: &[Param],
     args: &[u8],
     vals: Vec<Value>,
+    room: Vec<Arg>,
 ) -> (Bundle, Draft<'a>)
     requires inside { seat < length seats.old.items }
     requires few { length params.now ≤ 8 }
+    requires room { IsRoom (length params.now) room }
     requires sits { (f : FrameView) × (slice_index_or seats.old.items seat None ≡ Some f) × (done.before ≡ job_of f) × (f.spent + done.steps < 2 ^ 63)
         × (done.after.place < 2 ^ 63) × IsSome (bundled f.held params.now args.now vals.items) }
     ensures { (f : FrameView) → slice_index_or seats.old.items seat None ≡ Some f → (file : List (Option Held))
@@ -62,7 +65,7 @@ pub(crate) fn hand_over_in<'a>(
     match place {
         Some(frame) => {
             let draft = come(frame, done);
-            (frame.hand_over(params, args, vals), draft)
+            (frame.hand_over(params, args, vals, room), draft)
         }
         None => unreachable!(),
     }

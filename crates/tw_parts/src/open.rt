@@ -29,7 +29,7 @@ use tw_verify::Verified;
 /// outputs with their ids.
 struct Opened {
     store: Store,
-    args: Bundle,
+    args: Vec<Arg>,
     rights: Vec<ReadRight>,
     ids: Vec<DatumId>,
 }
@@ -49,12 +49,12 @@ impl Model for Opened {
       code {R = nat_cmp} coded_ℕ coded_ℕ,
     ) };
 
-    ghost use Rattle.std.specs.Prelude.{◌≡◌, ◌≤◌, map as each, vec_capacity};
+    ghost use Rattle.std.specs.Prelude.{◌≡◌, ◌≤◌, length, map as each, vec_capacity};
     ghost use Rattle.tw_rights.specs.Rights.{Right};
 
-    ghost view = { λ o. record { store = o.store; args = o.args; outputs = o.rights.items } };
+    ghost view = { λ o. record { store = o.store; args = o.args.items; outputs = o.rights.items } };
 
-    ghost invariant = { λ o. (o.ids.items ≡ each (λ (r : Right). r.id) o.rights.items) × (8 ≤ vec_capacity o.rights) × (8 ≤ vec_capacity o.ids) };
+    ghost invariant = { λ o. (o.ids.items ≡ each (λ (r : Right). r.id) o.rights.items) × (length o.args.items ≤ 8) × (8 ≤ vec_capacity o.args) × (8 ≤ vec_capacity o.rights) × (8 ≤ vec_capacity o.ids) };
 }
 
 impl Opened {
@@ -66,9 +66,13 @@ impl Opened {
         let store = Store::new(alloc, servers)?;
         let ids = Vec::with_capacity(alloc, Bundle::MAX_LEN)?;
         let rights = Vec::with_capacity(alloc, Bundle::MAX_LEN)?;
+        let Ok(args) = Vec::with_capacity(alloc, Bundle::MAX_LEN) else {
+            rights.destroy_empty();
+            return Err(AllocError);
+        };
         Ok(Opened {
             store,
-            args: Bundle::new(),
+            args,
             rights,
             ids,
         })
@@ -133,10 +137,8 @@ impl Opened {
         let id = read.id();
         self.rights.push_reserved(read);
         self.ids.push_reserved(id);
-        match self.args.push(Arg::Write(write)) {
-            Ok(()) => Ok(()),
-            Err(_arg) => unreachable!(),
-        }
+        self.args.push_reserved(Arg::Write(write));
+        Ok(())
     }
 
     /// Makes the data of an input: main gets the right to read it.
@@ -150,10 +152,8 @@ impl Opened {
         let Ok(right) = add_input(alloc, &mut self.store, param.ty, input) else {
             return Err(AllocError);
         };
-        match self.args.push(Arg::Read(right)) {
-            Ok(()) => Ok(()),
-            Err(_arg) => unreachable!(),
-        }
+        self.args.push_reserved(Arg::Read(right));
+        Ok(())
     }
 
     /// Spends every right.
@@ -164,7 +164,7 @@ impl Opened {
             rights,
             ids,
         } = self;
-        args.shut();
+        Bundle::of(args).shut();
         let _ids = Outputs::new(rights, ids).shut();
     }
 }
@@ -225,7 +225,7 @@ impl<'a> Parts<'a> {
         let main = Task {
             no: TaskNo::new(1),
             procedure: 0,
-            args,
+            args: Bundle::of(args),
         };
         match queues.put(Kind::Control, 0, None, main) {
             Ok(()) => {}

@@ -42,7 +42,12 @@ impl<'a> Parts<'a> {
         let Ok(()) = self.rules.reserve(engine) else {
             return Err(done);
         };
-        let over = self.seats.hand_over(actor, done, params, registers, vals);
+        let Ok(room) = Vec::with_capacity(alloc, params.len()) else {
+            return Err(done);
+        };
+        let over = self
+            .seats
+            .hand_over(actor, done, params, registers, vals, room);
         let (args, draft) = over;
         let planned = PlannedTask {
             procedure: action.procedure,

@@ -6,6 +6,7 @@ ghost use Rattle.std.specs.FinMap.{get, insert, remove, len};
 ghost use Rattle.std.specs.Option.{option_copied};
 ghost use Rattle.tw_rights.specs.declared.held.Held.{Held};
 ghost use Rattle.tw_rights.specs.Bundled.{bundled};
+ghost use Rattle.tw_rights.specs.Roomy.{IsRoom};
 ghost use Rattle.tw_types.specs.Task.{TaskOf, best};
 ghost use Rattle.tw_rights.specs.declared.arg.Arg.{Arg};
 ghost use Rattle.tw_frame.specs.Drafts.{MayStart};
@@ -21,7 +22,7 @@ use std::marker::Model;
 use tw_code::DataInstr;
 use tw_frame::{Done, Draft, Frame, Job, Rooms};
 use tw_queue::TaskQueues;
-use tw_rights::Bundle;
+use tw_rights::{Arg, Bundle};
 use tw_store::Store;
 use tw_types::{Actor, Param, Value};
 use tw_verify::Verified;
@@ -245,16 +246,26 @@ impl<'a> Seats<'a> {
         params: &[Param],
         args: &[u8],
         vals: Vec<Value>,
+        room: Vec<Arg>,
     ) -> (Bundle, Draft<'a>)
         requires seat { HasSeat actor }
         requires few { length params.now ≤ 8 }
+        requires room { IsRoom (length params.now) room }
         requires sits { (f : FrameView) × (get self.old actor ≡ Some f) × (done.before ≡ job_of f) × (f.spent + done.steps < 2 ^ 63)
             × (done.after.place < 2 ^ 63) × IsSome (bundled f.held params.now args.now vals.items) }
         ensures { (f : FrameView) → get self.old actor ≡ Some f → (file : List (Option Held))
             × (bundled f.held params.now args.now vals.items ≡ Some (record { args = result.0; file = file }))
             × (self.new ≡ insert self.old actor (gone_on (come f done.entry) file)) × (result.1 ≡ draft_of (come f done.entry)) }
     {
-        hand_over_in(&mut self.seats, seat_of(actor), done, params, args, vals)
+        hand_over_in(
+            &mut self.seats,
+            seat_of(actor),
+            done,
+            params,
+            args,
+            vals,
+            room,
+        )
     }
 
     /// Lends the actor's task by the number of its events. The draft has the task's values.

@@ -1,5 +1,6 @@
 //! Files and bundles of rights.
 
+use std::alloc::{AllocError, Global};
 use tw_rights::{Arg, Bundle, Held, ReadRight, RightFile, WriteRight};
 use tw_types::{DatumId, Value};
 
@@ -34,26 +35,21 @@ fn a_file_keeps_what_is_placed(rt: HostRuntime) {
     assert_eq!(rt; taken, (Some((4, false)), None, None, Some((9, true))));
 }
 
-/// Whether an argument was taken; what comes back is spent.
-fn is_pushed(bundle: &mut Bundle, arg: Arg) -> bool {
-    match bundle.push(arg) {
-        Ok(()) => true,
-        Err(back) => {
-            back.spend();
-            false
-        }
+/// A bundle of read rights on the data of eight ids from 0 on.
+fn eight(alloc: Global) -> Result<Bundle, AllocError> {
+    let mut args = Vec::with_capacity(alloc, Bundle::MAX_LEN)?;
+    for id in 0..Bundle::MAX_LEN {
+        args.push_reserved(Arg::Read(read(id as u64)));
     }
+    Ok(Bundle::of(args))
 }
 
-/// Pushes so many read rights and counts those that were taken.
-fn pushed(bundle: &mut Bundle, count: u64) -> u64 {
-    let mut taken = 0_u64;
-    for id in 0..count {
-        if is_pushed(bundle, Arg::Read(read(id))) {
-            taken = taken.wrapping_add(1);
-        }
-    }
-    taken
+/// A bundle of 7 and a read right on datum 3.
+fn two(alloc: Global) -> Result<Bundle, AllocError> {
+    let mut args = Vec::with_capacity(alloc, 2)?;
+    args.push_reserved(Arg::Val(Value::Int(7)));
+    args.push_reserved(Arg::Read(read(3)));
+    Ok(Bundle::of(args))
 }
 
 /// The id of a read right.
@@ -64,15 +60,19 @@ fn id_read(arg: Option<&Arg>) -> Option<u64> {
     }
 }
 
-#[test]
-fn a_bundle_has_eight_arguments_at_most(rt: HostRuntime) {
-    let mut bundle = Bundle::new();
-    let taken = pushed(&mut bundle, 10);
+/// How many arguments eight are, the id of the third, and whether there is a ninth.
+fn of_eight(alloc: Global) -> Result<(usize, Option<u64>, bool), AllocError> {
+    let bundle = eight(alloc)?;
     let len = bundle.len();
     let third = id_read(bundle.get(2));
     let has_ninth = bundle.get(8).is_some();
     bundle.shut();
-    assert_eq!(rt; (taken, len, third, has_ninth), (8, 8, Some(2), false));
+    Ok((len, third, has_ninth))
+}
+
+#[test]
+fn a_bundle_has_its_arguments(rt: HostRuntime) {
+    assert_eq!(rt; of_eight(rt.alloc()).ok(), Some((8, Some(2), false)));
 }
 
 /// A number, or the id of a right, of what was popped.
@@ -85,22 +85,22 @@ fn popped(arg: Option<Arg>) -> Option<i64> {
     }
 }
 
+/// What is popped of two arguments in three times.
+fn popped_of_two(alloc: Global) -> Result<[Option<i64>; 3], AllocError> {
+    let mut bundle = two(alloc)?;
+    let last = [
+        popped(bundle.pop()),
+        popped(bundle.pop()),
+        popped(bundle.pop()),
+    ];
+    bundle.shut();
+    Ok(last)
+}
+
 #[test]
 fn the_last_argument_is_popped(rt: HostRuntime) {
-    let mut bundle = Bundle::new();
-    let taken = (
-        is_pushed(&mut bundle, Arg::Val(Value::Int(7))),
-        is_pushed(&mut bundle, Arg::Read(read(3))),
-    );
-    let last = (
-        popped(bundle.pop()),
-        popped(bundle.pop()),
-        popped(bundle.pop()),
-    );
-    let len = bundle.len();
-    bundle.shut();
     assert_eq!(rt;
-        (taken, last, len),
-        ((true, true), (Some(3), Some(7), None), 0)
+        popped_of_two(rt.alloc()).ok(),
+        Some([Some(3), Some(7), None])
     );
 }

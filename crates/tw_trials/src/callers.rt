@@ -16,7 +16,7 @@ ghost use Rattle.tw_rules.specs.Table.{new_rule};
 ghost use Rattle.tw_queue.specs.Queues.{IsTarget, handed_out, without};
 ghost use Rattle.tw_trials.specs.Callers.{AreHere, IsAdded, IsAsking, IsDelivering, IsReleasing, MayDeliver};
 
-use std::alloc::AllocError;
+use std::alloc::{AllocError, Global};
 use tw_queue::{Task, TaskQueues};
 use tw_rights::{Bundle, RightFile, WriteRight};
 use tw_rules::{PlannedTask, RuleTable};
@@ -73,6 +73,7 @@ pub fn deliver(store: &mut Store, rules: &mut RuleTable, server: u8) -> Option<N
 
 /// A rule of an engine, whose arguments leave their registers.
 pub fn add(
+    alloc: Global,
     rules: &mut RuleTable,
     file: &mut RightFile,
     engine: u8,
@@ -92,7 +93,10 @@ pub fn add(
     let Ok(()) = rules.reserve(engine) else {
         return Err(vals);
     };
-    let args = file.bundle(params, registers, vals);
+    let Ok(room) = Vec::with_capacity(alloc, params.len()) else {
+        return Err(vals);
+    };
+    let args = file.bundle(params, registers, vals, room);
     match rules.add(engine, params, action, args) {
         Ok(number) => Ok(number),
         Err(_args) => unreachable!(),

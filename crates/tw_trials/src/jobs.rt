@@ -60,7 +60,7 @@ pub(crate) fn stretch_of(
     let task = Task {
         no: TaskNo::new(1),
         procedure: 0,
-        args: Bundle::new(),
+        args: Bundle::new(alloc),
     };
     let Ok(rooms) = Rooms::new(alloc) else {
         shut(task);

@@ -1,7 +1,8 @@
 //! Queues whose tasks get the numbers 1, 2 and so on.
 
-ghost use Rattle.std.specs.Prelude.{◌≡◌, ◌≤◌, ℕ, is_none, true};
+ghost use Rattle.std.specs.Prelude.{◌≡◌, ◌≤◌, ℕ, IfOk, is_none, true};
 ghost use Rattle.std.specs.FinMap.{get};
+ghost use Rattle.tw_rights.specs.Roomy.{IsRoom};
 ghost use Rattle.tw_queue.specs.Queues.{IsTarget};
 
 use std::alloc::{AllocError, Global};
@@ -29,17 +30,32 @@ pub enum Put {
     Strange,
 }
 
+/// Room for so many arguments, asked for again where it is refused once.
+pub(crate) fn room(alloc: Global, count: usize) -> Result<Vec<Arg>, AllocError>
+    ensures { IfOk result (λ room. IsRoom count room) }
+{
+    match Vec::with_capacity(alloc, count) {
+        Ok(room) => Ok(room),
+        Err(_) => Vec::with_capacity(alloc, count),
+    }
+}
+
 /// The queues, and the number of the next task, which is greater than that of each task.
 pub struct Numbered {
     queues: TaskQueues,
     next: u64,
+    alloc: Global,
     ghost fresh: { (number : ℕ) → next ≤ number → is_none (get queues.tasks number) ≡ true },
 }
 
 impl Numbered {
     pub fn new(alloc: Global) -> Result<Numbered, AllocError> {
         let queues = TaskQueues::new(alloc)?;
-        Ok(Numbered { queues, next: 1 })
+        Ok(Numbered {
+            queues,
+            next: 1,
+            alloc,
+        })
     }
 
     pub fn len(&self) -> usize {
@@ -59,7 +75,13 @@ impl Numbered {
         if number == u64::MAX {
             return Put::Strange;
         }
-        match self.queues.put(kind, priority, target, task_of(number)) {
+        let Ok(room) = room(self.alloc, 1) else {
+            return Put::Strange;
+        };
+        match self
+            .queues
+            .put(kind, priority, target, task_of(room, number))
+        {
             Ok(()) => {
                 self.next = number + 1;
                 Put::Done(number)
@@ -94,29 +116,30 @@ impl Numbered {
 
     /// Spends the rights of the tasks that are left.
     pub fn shut(self) {
-        let Numbered { queues, next: _ } = self;
+        let Numbered {
+            queues,
+            next: _,
+            alloc: _,
+        } = self;
         queues.shut();
     }
 }
 
 /// A task of this number. One in three has a read right on the datum of its number, and one in three a write right.
-fn task_of(number: u64) -> Task
+fn task_of(mut room: Vec<Arg>, number: u64) -> Task
+    requires { IsRoom 1 room }
     ensures { result.no ≡ number }
 {
     let id = DatumId::new(number);
-    let mut args = Bundle::new();
-    let pushed = args.push(match number % 3 {
+    room.push_reserved(match number % 3 {
         0 => Arg::Read(ReadRight::of(id, 0)),
         1 => Arg::Write(WriteRight::of(id, 0)),
         _ => Arg::Val(Value::Int(7)),
     });
-    if let Err(arg) = pushed {
-        arg.spend();
-    }
     Task {
         no: TaskNo::new(number),
         procedure: procedure_of(number),
-        args,
+        args: Bundle::of(room),
     }
 }
 

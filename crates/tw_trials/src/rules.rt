@@ -1,12 +1,13 @@
 //! Rules: worked calls of their table, and calls by chance compared with a plain list that is searched whole. Where memory
 //! is refused the arguments come back, nothing has changed, and the call goes when it is made again.
 
-ghost use Rattle.std.specs.Prelude.{◌≡◌, ◌<◌, [], ◌∷◌, ◌++◌, length};
+ghost use Rattle.std.specs.Prelude.{[], ◌∷◌};
 ghost use Rattle.std.specs.List.{AllZip};
+ghost use Rattle.tw_rights.specs.Roomy.{IsRoom};
 ghost use Rattle.tw_rules.specs.Table.{SuitsMode};
 
 use crate::draw::draw;
-use crate::numbered::Put;
+use crate::numbered::{Put, room};
 use std::alloc::{AllocError, Global};
 use tw_rights::{Arg, Bundle, ReadRight, WriteRight};
 use tw_rules::{PlainArg, PlainRule, PlannedTask, RuleTable};
@@ -107,25 +108,15 @@ fn arg_of(mode: Mode, id: DatumId) -> Arg
     }
 }
 
-fn push(args: &mut Bundle, arg: Arg)
-    requires { length args.old < 8 }
-    ensures { args.new ≡ args.old ++ arg ∷ [] }
-{
-    match args.push(arg) {
-        Ok(()) => {}
-        Err(_arg) => unreachable!(),
-    }
-}
-
 /// Three arguments of these modes.
-fn args_of(number: u64, first: Mode, second: Mode, third: Mode) -> Bundle
+fn args_of(mut room: Vec<Arg>, number: u64, first: Mode, second: Mode, third: Mode) -> Bundle
+    requires { IsRoom 3 room }
     ensures { AllZip SuitsMode (first ∷ second ∷ third ∷ []) result }
 {
-    let mut args = Bundle::new();
-    push(&mut args, arg_of(first, datum_of(number, 0)));
-    push(&mut args, arg_of(second, datum_of(number, 1)));
-    push(&mut args, arg_of(third, datum_of(number, 2)));
-    args
+    room.push_reserved(arg_of(first, datum_of(number, 0)));
+    room.push_reserved(arg_of(second, datum_of(number, 1)));
+    room.push_reserved(arg_of(third, datum_of(number, 2)));
+    Bundle::of(room)
 }
 
 fn action_of(number: u64) -> PlannedTask {
@@ -181,7 +172,7 @@ fn come_back(args: Bundle, number: u64, modes: [Mode; 3]) -> Put {
 }
 
 /// Adds the next rule, for an engine from 0 to 3.
-fn add(table: &mut RuleTable, engine: u8, modes: [Mode; 3]) -> Put {
+fn add(alloc: Global, table: &mut RuleTable, engine: u8, modes: [Mode; 3]) -> Put {
     let number = table.next().number();
     if engine >= 4 || number >= 1_000_000 {
         return Put::Strange;
@@ -193,7 +184,10 @@ fn add(table: &mut RuleTable, engine: u8, modes: [Mode; 3]) -> Put {
         Param { mode: second, ty },
         Param { mode: third, ty },
     ];
-    let args = args_of(number, first, second, third);
+    let Ok(room) = room(alloc, 3) else {
+        return Put::Strange;
+    };
+    let args = args_of(room, number, first, second, third);
     match table.add(engine, &params, action_of(number), args) {
         Ok(added) => Put::Done(added.number()),
         Err(args) => come_back(args, number, modes),
@@ -311,9 +305,9 @@ fn is_told_of(list: &[Listed], told: &PlainRule) -> bool {
 // ---- the worked calls
 
 /// Whether rule 1 of engine 0 over (`closed`, `write`, `closed`) is asked for and released in order.
-fn one_rule_goes(table: &mut RuleTable) -> bool {
+fn one_rule_goes(alloc: Global, table: &mut RuleTable) -> bool {
     let modes = [Mode::Closed, Mode::Write, Mode::Closed];
-    add(table, 0, modes) == Put::Done(1)
+    add(alloc, table, 0, modes) == Put::Done(1)
         && asked_of(table, 0) == Some((1, 0))
         && mark_asked(table, 1, 0)
         && asked_of(table, 0) == Some((1, 2))
@@ -330,7 +324,7 @@ fn one_rule_goes(table: &mut RuleTable) -> bool {
 /// The worked calls go, and nothing is left that is told.
 pub fn worked_calls_go(alloc: Global) -> bool {
     let mut table = RuleTable::new(alloc);
-    let goes = one_rule_goes(&mut table);
+    let goes = one_rule_goes(alloc, &mut table);
     table.shut().is_empty() && goes
 }
 
@@ -344,7 +338,7 @@ fn reserve_agrees(table: &mut RuleTable, list: &[Listed], engine: u8) -> bool {
 }
 
 /// Adds a rule to both, with room made before or in the same way; whether that went.
-fn add_both(table: &mut RuleTable, list: &mut Vec<Listed>, seed: &mut u64) -> bool {
+fn add_both(alloc: Global, table: &mut RuleTable, list: &mut Vec<Listed>, seed: &mut u64) -> bool {
     let engine = draw(seed, 4);
     let modes = [mode_of(seed), mode_of(seed), mode_of(seed)];
     let has_room = draw(seed, 2) == 0;
@@ -352,9 +346,9 @@ fn add_both(table: &mut RuleTable, list: &mut Vec<Listed>, seed: &mut u64) -> bo
         return false;
     }
     let number = table.next().number();
-    let mut added = add(table, engine, modes);
+    let mut added = add(alloc, table, engine, modes);
     if added == Put::Refused && !has_room && are_listed(table, list, number) {
-        added = add(table, engine, modes);
+        added = add(alloc, table, engine, modes);
     }
     let rule = Listed {
         number,
@@ -436,9 +430,14 @@ fn rule_to_release(list: &[Listed], seed: &mut u64) -> Option<u64> {
 }
 
 /// One call of both; whether they agree after it.
-fn call_agrees(table: &mut RuleTable, list: &mut Vec<Listed>, seed: &mut u64) -> bool {
+fn call_agrees(
+    alloc: Global,
+    table: &mut RuleTable,
+    list: &mut Vec<Listed>,
+    seed: &mut u64,
+) -> bool {
     let goes = match draw(seed, 7) {
-        0 => add_both(table, list, seed),
+        0 => add_both(alloc, table, list, seed),
         1 | 2 => ask_both(table, list, seed),
         3 | 4 => mark_both(table, list, seed),
         _ => match rule_to_release(list, seed) {
@@ -450,10 +449,15 @@ fn call_agrees(table: &mut RuleTable, list: &mut Vec<Listed>, seed: &mut u64) ->
 }
 
 /// The number of the first call that differs, if one does.
-fn first_difference(table: &mut RuleTable, list: &mut Vec<Listed>, calls: u16) -> Option<u64> {
+fn first_difference(
+    alloc: Global,
+    table: &mut RuleTable,
+    list: &mut Vec<Listed>,
+    calls: u16,
+) -> Option<u64> {
     let mut seed = 20_261_123;
     for number in 0..calls {
-        if !call_agrees(table, list, &mut seed) {
+        if !call_agrees(alloc, table, list, &mut seed) {
             return Some(u64::from(number));
         }
     }
@@ -470,7 +474,7 @@ pub fn calls_are_the_lists(alloc: Global, calls: u16) -> Option<(&'static str, u
         return Some(("memory ran out at list", 0));
     };
     let mut table = RuleTable::new(alloc);
-    let difference = first_difference(&mut table, &mut list, calls);
+    let difference = first_difference(alloc, &mut table, &mut list, calls);
     let told = table.shut();
     if let Some(call) = difference {
         Some(("call", call))
