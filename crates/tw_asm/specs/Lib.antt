@@ -1,5 +1,5 @@
 -- Assembly text: Spelling says which texts spell a program, Fault which fault of a text is the first, Origins which line an
--- instruction comes from, and Disassembly which text a program has. They stand on statements: Parts is the table of what each has, Statement says which words spell it,
+-- instruction comes from, Disassembly which text a program has, and Listing the pieces of that text. They stand on statements: Parts is the table of what each has, Statement says which words spell it,
 -- and Written how it is written. Laws has a law on spellings and one on faults.
 pub mod Parts
 pub mod Statement
@@ -8,6 +8,7 @@ pub mod Spelling
 pub mod Fault
 pub mod Origins
 pub mod Disassembly
+pub mod Listing
 pub mod Laws
 -- How the code's results and statements are seen: Answers, LineAnswers, Seen. Names is for the parser alone: the names of
 -- Parts once more, by opcode. What the readers keep is in reading and words.

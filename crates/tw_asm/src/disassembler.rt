@@ -17,7 +17,7 @@ use std::alloc::{AllocError, Global};
 use tw_code::{Instr, NoMemory, Procedure, Program};
 
 /// The places of the labels of a procedure's code, in the order in which they are first named.
-fn label_places(alloc: Global, code: &[Instr]) -> Result<IndexSet<usize>, AllocError>
+pub fn label_places(alloc: Global, code: &[Instr]) -> Result<IndexSet<usize>, AllocError>
     ensures { IfOk result (λ places. places.keys ≡ label_places code.now) }
 {
     let mut places = IndexSet::new(alloc);
@@ -61,7 +61,7 @@ fn goal_label(places: &IndexSet<usize>, place: usize, instr: &Instr) -> Option<u
 }
 
 /// Adds the line of the instruction at a place.
-fn put_instr_at(
+pub fn put_instr_at(
     lines: &mut Lines,
     places: &IndexSet<usize>,
     place: usize,

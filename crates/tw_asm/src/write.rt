@@ -63,7 +63,7 @@ fn put_both(out: &mut Vec<u8>, front: &str, back: &str) -> Result<(), AllocError
     put(out, back)
 }
 
-fn put_numbered(
+pub fn put_numbered(
     alloc: Global,
     out: &mut Vec<u8>,
     front: &str,
@@ -107,7 +107,7 @@ fn put_scalar(out: &mut Vec<u8>, scalar: Scalar) -> Result<(), AllocError>
 }
 
 #[tactic(auto, using(crate::proofs::Lines::param_behind))]
-fn put_param(out: &mut Vec<u8>, param: Param) -> Result<(), AllocError>
+pub fn put_param(out: &mut Vec<u8>, param: Param) -> Result<(), AllocError>
     ensures { OnOk result (out.new.items ≡ out.old.items ++ behind (flat_map (part_words (goal_word None)) (param_parts param))) }
 {
     put_name(out, mode_word(param.mode))?;

@@ -5,12 +5,14 @@ use Rattle.clap.specs.Lexer.{usize_max}
 use Rattle.clap.specs.Words.{App, Kinds, Row, Rule, Text, all_of, fault_of, new_app, new_rule, subcommand_of, with_rule, with_subcommand}
 use Rattle.tw_types.specs.Layout.{ActorCounts}
 use Rattle.tw_command.specs.InputWords.{AreSpelled, IsRefusedWord}
-use Rattle.tw_command.specs.Options.{NumberOption, actor_options, actors_told, flag_rule, is_given, limit, number_options, option_faults, option_rule, source_told, text, told, trace}
+use Rattle.tw_command.specs.Options.{NumberOption, actor_options, actors_told, flag_rule, is_given, limit, number_options, option_faults, option_rule, places, places_told, source_told, text, told, trace}
 use Rattle.tw_command.specs.Explanations.{IsExplanation, number_faults, number_rule, number_word}
 use Rattle.tw_command.specs.declared.command.Answer.{Answer}
 use Rattle.tw_command.specs.declared.command.Answer.TheVariants.{Report, Picture}
 use Rattle.tw_command.specs.declared.command.Order.{Order}
 use Rattle.tw_command.specs.declared.command.Order.TheVariants.{Assemble, Program, Replay}
+use Rattle.tw_command.specs.declared.command.Places.{Places}
+use Rattle.tw_command.specs.declared.command.Places.TheVariants.{Hidden}
 use Rattle.tw_command.specs.declared.command.ProgramOrder.TheVariants.{Disassemble, Verified}
 use Rattle.tw_command.specs.declared.command.VerifiedOrder.TheVariants.{Check, Run}
 use Rattle.tw_command.specs.declared.command.ReplayOrder.{ReplayOrder}
@@ -22,9 +24,9 @@ use Rattle.tw_command.specs.declared.command.Source.TheVariants.{Hex}
 abbrev pub plain_line : Text → App
 plain_line name = new_app name
 
--- a command that reads a program and has no option but how it is written
+-- a command that reads a program, and has no options but how that is written and whether places are listed
 abbrev pub program_line : Text → App
-program_line name = with_rule (new_app name) (flag_rule text)
+program_line name = with_rule (with_rule (new_app name) (flag_rule text)) (flag_rule places)
 
 abbrev pub explain_line : App
 explain_line = with_rule (new_app (codes "explain")) number_rule
@@ -67,13 +69,13 @@ command_line = fold (λ line command. with_subcommand line command.top) bare_lin
 abbrev pub given_words : List Row → List Text
 given_words rows = unwrap_or (all_of (codes "input") rows) []
 
--- the command that was named, and how the program is written that it reads; `run` with its actors, the most events of the
--- run, whether its history is written, and the input words; `replay` or `picture`, by what is written, with its actors and the
--- input words; `explain` with its number
+-- the command that was named, and how the program is written that it reads; `disasm` and `check` with whether places are
+-- listed; `run` with its actors, the most events of the run, whether its history is written, and the input words; `replay` or
+-- `picture`, by what is written, with its actors and the input words; `explain` with its number
 pub data Asked : Type 0 where
   Assembles : Asked
-  Disassembles : Source → Asked
-  Checks : Source → Asked
+  Disassembles : Source → Places → Asked
+  Checks : Source → Places → Asked
   Runs : Source → ActorCounts → ℕ → Bool → List Text → Asked
   Replays : Source → Answer → ActorCounts → List Text → Asked
   Explains : Text → Asked
@@ -87,15 +89,15 @@ abbrev pub replay_asked : Answer → List Row → Asked
 replay_asked answer rows = Replays (source_told rows) answer (actors_told rows) (given_words rows)
 
 abbrev pub asked_of : Option (Text × List Row) → Asked
-asked_of None = Checks Hex
+asked_of None = Checks Hex Hidden
 asked_of (Some named) =
     if bytes_eq named.0 (codes "run") then run_asked named.1 else
     if bytes_eq named.0 (codes "replay") then replay_asked Report named.1 else
     if bytes_eq named.0 (codes "picture") then replay_asked Picture named.1 else
     if bytes_eq named.0 (codes "asm") then Assembles else
-    if bytes_eq named.0 (codes "disasm") then Disassembles (source_told named.1) else
+    if bytes_eq named.0 (codes "disasm") then Disassembles (source_told named.1) (places_told named.1) else
     if bytes_eq named.0 (codes "explain") then Explains (number_word named.1) else
-    Checks (source_told named.1)
+    Checks (source_told named.1) (places_told named.1)
 
 -- what the program's words ask for
 abbrev pub asked_by_words : List Text → Asked
@@ -104,8 +106,8 @@ asked_by_words words = asked_of (subcommand_of command_line words)
 -- the order that is asked for: each input word spells its input
 abbrev pub IsAsked : Asked → Order → Type 0
 IsAsked Assembles order = order ≡ Assemble
-IsAsked (Disassembles source) order = order ≡ Program source Disassemble
-IsAsked (Checks source) order = order ≡ Program source (Verified Check)
+IsAsked (Disassembles source listed) order = order ≡ Program source (Disassemble listed)
+IsAsked (Checks source listed) order = order ≡ Program source (Verified (Check listed))
 IsAsked (Runs source layout most traced words) order =
     (run : RunOrder) × (order ≡ Program source (Verified (Run run)))
     × (run.layout ≡ layout) × (run.limit ≡ most) × (run.trace ≡ traced) × AreSpelled run.inputs words
@@ -116,8 +118,8 @@ IsAsked (Explains number) order = ⊥
 -- or the word of this number, counted from 1, is the first that spells no input
 abbrev pub IsRefusedInput : Asked → ℕ → Type 0
 IsRefusedInput Assembles number = ⊥
-IsRefusedInput (Disassembles source) number = ⊥
-IsRefusedInput (Checks source) number = ⊥
+IsRefusedInput (Disassembles source listed) number = ⊥
+IsRefusedInput (Checks source listed) number = ⊥
 IsRefusedInput (Runs source layout most traced words) number = IsRefusedWord words number
 IsRefusedInput (Replays source answer layout words) number = IsRefusedWord words number
 IsRefusedInput (Explains other) number = ⊥
@@ -125,8 +127,8 @@ IsRefusedInput (Explains other) number = ⊥
 -- or a number is to be explained, and this is its explanation
 abbrev pub IsExplained : Asked → List ℕ → Type 0
 IsExplained Assembles explanation = ⊥
-IsExplained (Disassembles source) explanation = ⊥
-IsExplained (Checks source) explanation = ⊥
+IsExplained (Disassembles source listed) explanation = ⊥
+IsExplained (Checks source listed) explanation = ⊥
 IsExplained (Runs source layout most traced words) explanation = ⊥
 IsExplained (Replays source answer layout words) explanation = ⊥
 IsExplained (Explains number) explanation = IsExplanation number explanation

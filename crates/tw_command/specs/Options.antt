@@ -1,10 +1,12 @@
--- The options of `run`, `replay` and `picture`. Each takes a number, but for a flag, which takes none.
+-- The options of the commands that read a program. Each takes a number, but for a flag, which takes none.
 use Rattle.std.specs.Prelude.{◌≡◌, ◌&&◌, ℕ, Bool, false, List, [], ◌∷◌, Option, Some, None, codes, if◌then◌else◌, is_some, nat_le, unwrap_or}
 use Rattle.std.specs.List.{list_all}
 use Rattle.std.specs.Option.{option_map_or}
 use Rattle.std.specs.Str.{bytes_eq}
 use Rattle.std.specs.Str.Parse.{digits_value}
 use Rattle.tw_types.specs.Layout.{ActorCounts}
+use Rattle.tw_command.specs.declared.command.Places.{Places}
+use Rattle.tw_command.specs.declared.command.Places.TheVariants.{Hidden, Shown}
 use Rattle.tw_command.specs.declared.command.Source.{Source}
 use Rattle.tw_command.specs.declared.command.Source.TheVariants.{Hex, Assembly}
 use Rattle.clap.specs.ValueTests.{is_numeral}
@@ -46,6 +48,10 @@ trace = codes "trace"
 abbrev pub text : Text
 text = codes "text"
 
+-- the flag of `disasm` and `check`: each instruction is listed with its place
+abbrev pub places : Text
+places = codes "places"
+
 -- what clap is told of an option of this name
 abbrev pub option_rule : Text → Rule
 option_rule name = record (new_rule name) { long = Some name }
@@ -71,6 +77,10 @@ is_given name rows = option_map_or (λ text. bytes_eq text (codes "true")) (one_
 -- how the program is written that is read
 abbrev pub source_told : List Row → Source
 source_told rows = if is_given text rows then Assembly else Hex
+
+-- whether the places of instructions are listed
+abbrev pub places_told : List Row → Places
+places_told rows = if is_given places rows then Shown else Hidden
 
 -- the fault where one of these options has none
 abbrev pub option_faults : List NumberOption → List Row → Kinds

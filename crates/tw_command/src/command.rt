@@ -10,7 +10,7 @@ ghost use Rattle.tw_command.specs.declared.command.Order.TheVariants.{Program, R
 ghost use Rattle.tw_command.specs.declared.command.ProgramOrder.TheVariants.{Verified};
 ghost use Rattle.tw_command.specs.declared.command.VerifiedOrder.TheVariants.{Run};
 ghost use Rattle.tw_command.specs.InputWords.{AreSpelled};
-ghost use Rattle.tw_command.specs.Options.{HasActors, actor_options, flag_rule, is_given, limit, number_of, number_options, option_faults, option_rule, source_told, text};
+ghost use Rattle.tw_command.specs.Options.{HasActors, actor_options, flag_rule, is_given, limit, number_of, number_options, option_faults, option_rule, places, places_told, source_told, text};
 ghost use Rattle.tw_command.specs.Explanations.{number_faults, number_rule, number_word};
 ghost use Rattle.std.specs.Int.{IsInRange};
 ghost use Rattle.tw_command.specs.Order.{HasReason, IsInputReason, IsReason};
@@ -19,7 +19,8 @@ ghost use Rattle.tw_command.specs.declared.command.NoOrder.TheVariants.{NoMemory
 use crate::explanations::explained;
 use crate::help::{
     ABOUT, ASM, CHECK, CommandHelp, DISASM, ENGINES_HELP, EXPLAIN, INPUT_HELP, LIMIT_HELP,
-    NUMBER_HELP, PICTURE, REPLAY, RUN, SERVERS_HELP, TEXT_HELP, TRACE_HELP, WORKERS_HELP,
+    NUMBER_HELP, PICTURE, PLACES_HELP, REPLAY, RUN, SERVERS_HELP, TEXT_HELP, TRACE_HELP,
+    WORKERS_HELP,
 };
 use crate::input_words::input_of;
 use crate::limit::EventLimit;
@@ -42,11 +43,18 @@ pub struct RunOrder {
     pub inputs: Items<Input>,
 }
 
+/// Whether a program's instructions are listed by their places.
+#[derive(Clone, Copy, PartialEq, Eq)]
+pub enum Places {
+    Hidden,
+    Shown,
+}
+
 /// What is asked for of a program that is accepted.
 #[derive(Drop)]
 pub enum VerifiedOrder {
-    /// Tell its budgets.
-    Check,
+    /// Tell its budgets, behind the listing where that is shown.
+    Check(Places),
     /// Run it.
     Run(RunOrder),
 }
@@ -63,8 +71,8 @@ pub enum Source {
 /// What is asked for of a program that is read.
 #[derive(Drop)]
 pub enum ProgramOrder {
-    /// Write its assembly text.
-    Disassemble,
+    /// Write its assembly text, with the number of each place where they are shown.
+    Disassemble(Places),
     /// Verify it, and where it is accepted do this.
     Verified(VerifiedOrder),
 }
@@ -164,7 +172,15 @@ fn text_arg<'a>(alloc: Global) -> Arg<'a>
     flag_arg(alloc, "text", TEXT_HELP)
 }
 
-/// A command that reads a program and has no other option.
+/// The option that asks for the places of instructions.
+fn places_arg<'a>(alloc: Global) -> Arg<'a>
+    ensures rule { rule_of result ≡ flag_rule places }
+    ensures local { result.global ≡ false }
+{
+    flag_arg(alloc, "places", PLACES_HELP)
+}
+
+/// A command that reads a program and writes something of it.
 fn program_command<'a>(
     alloc: Global,
     name: &'a str,
@@ -174,7 +190,8 @@ fn program_command<'a>(
     ensures local { IfOk result (λ c. (out-Command c).has_globals ≡ false) }
 {
     let bare = plain_command(alloc, name, help);
-    let whole = bare.arg(text_arg(alloc))?;
+    let text = bare.arg(text_arg(alloc))?;
+    let whole = text.arg(places_arg(alloc))?;
     Ok(whole)
 }
 
@@ -332,6 +349,17 @@ fn source_given(matches: &ArgMatches<'_>) -> Source
     }
 }
 
+/// Whether the places of instructions are listed.
+fn places_given(matches: &ArgMatches<'_>) -> Places
+    ensures { result ≡ places_told (rows_of (found_of matches.now)) }
+{
+    if flag_given(matches, "places") {
+        Places::Shown
+    } else {
+        Places::Hidden
+    }
+}
+
 /// The inputs that words spell.
 fn inputs_of(alloc: Global, words: &[&str]) -> Result<Items<Input>, NoOrder>
     ensures spelled { IfOk result (λ inputs. AreSpelled inputs (map (λ word. word.now) words.now)) }
@@ -465,11 +493,14 @@ fn order_of(alloc: Global, matches: &ArgMatches<'_>) -> Result<Order, NoOrder>
         Some(("asm", _)) => Ok(Order::Assemble),
         Some(("disasm", given)) => Ok(Order::Program(
             source_given(given),
-            ProgramOrder::Disassemble,
+            ProgramOrder::Disassemble(places_given(given)),
         )),
         Some(("explain", given)) => explained_order(alloc, given),
-        Some((_, given)) => Ok(verified_order(source_given(given), VerifiedOrder::Check)),
-        None => Ok(verified_order(Source::Hex, VerifiedOrder::Check)),
+        Some((_, given)) => Ok(verified_order(
+            source_given(given),
+            VerifiedOrder::Check(places_given(given)),
+        )),
+        None => Ok(verified_order(Source::Hex, VerifiedOrder::Check(Places::Hidden))),
     }
 }
 

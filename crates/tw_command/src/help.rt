@@ -22,6 +22,8 @@ pub(crate) const DISASM: CommandHelp<'static> = CommandHelp {
     whole: "The program is read from standard input as hex text: two digits a byte; spaces, tabs and line ends are skipped.
 With --text it is read as assembly text, as `tw asm` reads it.
 It need not be one that is accepted. `tw asm` makes the same program of what is written.
+With --places a line `procedure` and its number stands before each procedure, and its place before each instruction;
+`tw asm` doesn't read that.
 Exit status: 0 written, 1 refused, 2 command line refused, 5 memory ran out, 7 a read or write failed.",
 };
 
@@ -31,8 +33,10 @@ pub(crate) const CHECK: CommandHelp<'static> = CommandHelp {
 With --text it is read as assembly text, as `tw asm` reads it; a refusal of the program then tells the line of the text
 that the refused place comes from, as `at line 17: STORE d0 v0`.
 Where it is accepted, a line for each procedure tells how many instructions a task of it does at most, and a last
-line how many engines and workers its targets need. Exit status: 0 accepted, 1 refused, 2 command line refused,
-5 memory ran out, 7 a read or write failed.",
+line how many engines and workers its targets need.
+With --places the program is listed before these lines as `tw disasm --places` lists it, and behind each instruction
+stands what the right registers hold there, as `d0 write int`.
+Exit status: 0 accepted, 1 refused, 2 command line refused, 5 memory ran out, 7 a read or write failed.",
 };
 
 pub(crate) const RUN: CommandHelp<'static> = CommandHelp {
@@ -43,8 +47,8 @@ that the refused place comes from, as `at line 17: STORE d0 v0`.
 Its inputs are the words behind the command, one word each, in the order of main's parameters. Examples: int:-7,
 text:abc, ints:1=7,5=-3 and texts:1=\"abc\",2=\"\"; the subscripts of a container rise, and it may have no member.
 Between quotes \\\", \\\\, \\n and \\x with two hex digits are read.
-Options stand before, behind or between the inputs. --trace and --text take no
-value; the others take a number in decimal digits.
+Options stand before, behind or between the inputs. --trace and --text take no value; the others take a number in
+decimal digits.
 The report has a line for each output, with a line for each member behind a container's, and then how the run ended.
 With --trace the history stands before the report: a line `events`, a line for each event, in their order, and a line
 `end`. The program isn't written: its hex text, a line end and then all of this can be piped into `tw replay`, which is
@@ -98,5 +102,7 @@ pub(crate) const TRACE_HELP: &str =
 pub(crate) const INPUT_HELP: &str = "An input: int:, text:, ints: or texts:, and its value";
 
 pub(crate) const TEXT_HELP: &str = "Read the program as assembly text, and not as hex text";
+
+pub(crate) const PLACES_HELP: &str = "List the instructions, each with its place";
 
 pub(crate) const NUMBER_HELP: &str = "The number, as A02, V04 or C5";

@@ -5,6 +5,7 @@ ghost use Rattle.clap.specs.declared.error.ErrorKind.TheVariants.{ArgumentConfli
 ghost use Rattle.clap.specs.declared.error.ErrorKind.TheVariants.{InvalidValue, MissingRequiredArgument, TooManyValues, UnknownArgument, ValueValidation};
 ghost use Rattle.tw_command.specs.CommandLine.{Assembles, Checks, Disassembles, Explains, Replays, Runs, asked_by_words, word_faults};
 ghost use Rattle.tw_command.specs.declared.command.Answer.TheVariants.{Picture, Report};
+ghost use Rattle.tw_command.specs.declared.command.Places.TheVariants.{Hidden, Shown};
 ghost use Rattle.tw_command.specs.declared.command.Source.TheVariants.{Assembly, Hex};
 ghost use Rattle.tw_command.specs.Options.{actors};
 ghost use Rattle.tw_command.specs.InputWords.{OneInput, OneRefusedWord};
@@ -12,8 +13,8 @@ ghost use Rattle.tw_command.specs.InputWords.{OneInput, OneRefusedWord};
 /// Each command is taken, and asks for what its name says, with the options and words behind it.
 pub fn commands_are_taken()
     ensures asm { (word_faults (codes "asm" ∷ []) ≡ []) × (asked_by_words (codes "asm" ∷ []) ≡ Assembles) }
-    ensures disasm { (word_faults (codes "disasm" ∷ []) ≡ []) × (asked_by_words (codes "disasm" ∷ []) ≡ Disassembles Hex) }
-    ensures check { (word_faults (codes "check" ∷ []) ≡ []) × (asked_by_words (codes "check" ∷ []) ≡ Checks Hex) }
+    ensures disasm { (word_faults (codes "disasm" ∷ []) ≡ []) × (asked_by_words (codes "disasm" ∷ []) ≡ Disassembles Hex Hidden) }
+    ensures check { (word_faults (codes "check" ∷ []) ≡ []) × (asked_by_words (codes "check" ∷ []) ≡ Checks Hex Hidden) }
     ensures run { (word_faults (codes "run" ∷ []) ≡ [])
         × (asked_by_words (codes "run" ∷ []) ≡ Runs Hex (actors 1 1 1) 10000 false []) }
     ensures inputs { (word_faults (codes "run" ∷ codes "int:7" ∷ codes "text:a" ∷ []) ≡ [])
@@ -44,7 +45,11 @@ pub fn commands_are_taken()
         × (asked_by_words (codes "picture" ∷ codes "--workers" ∷ codes "2" ∷ codes "int:7" ∷ [])
         ≡ Replays Hex Picture (actors 1 1 2) (codes "int:7" ∷ [])) }
     ensures text { (word_faults (codes "check" ∷ codes "--text" ∷ []) ≡ [])
-        × (asked_by_words (codes "check" ∷ codes "--text" ∷ []) ≡ Checks Assembly) }
+        × (asked_by_words (codes "check" ∷ codes "--text" ∷ []) ≡ Checks Assembly Hidden) }
+    ensures places { (word_faults (codes "check" ∷ codes "--places" ∷ codes "--text" ∷ []) ≡ [])
+        × (asked_by_words (codes "check" ∷ codes "--places" ∷ codes "--text" ∷ []) ≡ Checks Assembly Shown) }
+    ensures disasm_places { (word_faults (codes "disasm" ∷ codes "--places" ∷ []) ≡ [])
+        × (asked_by_words (codes "disasm" ∷ codes "--places" ∷ []) ≡ Disassembles Hex Shown) }
     ensures run_text { (word_faults (codes "run" ∷ codes "int:7" ∷ codes "--text" ∷ []) ≡ [])
         × (asked_by_words (codes "run" ∷ codes "int:7" ∷ codes "--text" ∷ [])
         ≡ Runs Assembly (actors 1 1 1) 10000 false (codes "int:7" ∷ [])) }
@@ -68,6 +73,7 @@ pub fn strangers_are_refused()
     ensures past { word_faults (codes "run" ∷ codes "--workers" ∷ codes "17" ∷ codes "7" ∷ []) ≡ ValueValidation ∷ [] }
     ensures limit { word_faults (codes "replay" ∷ codes "--limit" ∷ codes "9" ∷ []) ≡ UnknownArgument ∷ [] }
     ensures trace { word_faults (codes "replay" ∷ codes "--trace" ∷ []) ≡ UnknownArgument ∷ [] }
+    ensures places { word_faults (codes "run" ∷ codes "--places" ∷ []) ≡ UnknownArgument ∷ [] }
     ensures traces { word_faults (codes "run" ∷ codes "--trace" ∷ codes "--trace" ∷ []) ≡ ArgumentConflict ∷ [] }
     ensures value { word_faults (codes "run" ∷ codes "--trace=true" ∷ []) ≡ TooManyValues ∷ [] }
     ensures number { word_faults (codes "explain" ∷ codes "V19" ∷ []) ≡ ValueValidation ∷ [] }

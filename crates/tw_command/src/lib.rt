@@ -11,7 +11,8 @@ mod laws;
 mod limit;
 
 pub use command::{
-    Answer, NoOrder, Order, ProgramOrder, ReplayOrder, RunOrder, Source, VerifiedOrder, read_order,
+    Answer, NoOrder, Order, Places, ProgramOrder, ReplayOrder, RunOrder, Source, VerifiedOrder,
+    read_order,
 };
 pub use input_words::input_of;
 pub use laws::{commands_are_taken, strangers_are_refused, words_spell_one_input};

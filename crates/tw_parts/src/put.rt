@@ -34,12 +34,11 @@ impl<'a> Parts<'a> {
         let callee = procedure_at(program.procedures(), action.procedure);
         let params = callee.params.as_slice();
         let registers = action.args.as_slice();
-        let kind = callee.kind;
         let priority = priority_of(&done, action.priority);
         let Ok(vals) = values_of(alloc, &done, params, registers) else {
             return Err(done);
         };
-        let Ok(()) = self.tasks.reserve(kind) else {
+        let Ok(()) = self.tasks.reserve(callee.kind) else {
             return Err(done);
         };
         let Ok(room) = Vec::with_capacity(alloc, params.len()) else {
@@ -55,7 +54,7 @@ impl<'a> Parts<'a> {
             procedure: action.procedure,
             args,
         };
-        match self.tasks.put(kind, priority, action.target, task) {
+        match self.tasks.put(callee.kind, priority, action.target, task) {
             Ok(()) => {}
             Err(_task) => unreachable!(),
         }

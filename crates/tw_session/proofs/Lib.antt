@@ -4,5 +4,6 @@ pub mod Places
 pub mod Sources
 pub mod Tracing
 pub mod Checks
+pub mod Listings
 pub mod Replies
 pub mod Playing

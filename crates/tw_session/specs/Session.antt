@@ -10,6 +10,8 @@ use Rattle.tw_code.specs.format.Spelling.{spelling}
 use Rattle.tw_code.specs.accepting.WellTyped.{IsAccepted, IsFirstRefusal}
 use Rattle.tw_command.specs.declared.command.Order.{Order}
 use Rattle.tw_command.specs.declared.command.Order.TheVariants.{Assemble, Program, Replay}
+use Rattle.tw_command.specs.declared.command.Places.{Places}
+use Rattle.tw_command.specs.declared.command.Places.TheVariants.{Hidden, Shown}
 use Rattle.tw_command.specs.declared.command.ProgramOrder.{ProgramOrder}
 use Rattle.tw_command.specs.declared.command.ProgramOrder.TheVariants.{Disassemble, Verified}
 use Rattle.tw_command.specs.declared.command.Source.{Source}
@@ -20,24 +22,29 @@ use Rattle.tw_session.specs.declared.status.Close.TheVariants.{Success, Refused,
 use Rattle.tw_session.specs.declared.status.Status.{Status}
 use Rattle.tw_session.specs.declared.status.Status.TheVariants.{Ended, NoMemory, ReadFailed, WriteFailed}
 use Rattle.std.specs.Io.KnownBytes.{Appends, Keeps}
-use Rattle.tw_asm.specs.Disassembly.{disassembly}
 use Rattle.tw_session.specs.Input.{most_bytes, digits_in}
 use Rattle.tw_command.specs.CommandLine.{Asked, IsAsked, IsExplained, IsRefusedInput}
 use Rattle.tw_report.specs.Lines.{fault_line, input_word_line, verify_line}
 use Rattle.tw_session.specs.Reply.{Reply, reply}
 use Rattle.tw_session.specs.Check.{IsCheckText}
+use Rattle.tw_session.specs.Listing.{IsListing, disassembled}
 use Rattle.tw_session.specs.Replay.{RepliesByReplay}
 use Rattle.tw_session.specs.Run.{RepliesByOpening}
 use Rattle.tw_session.specs.Text.{Behind, RepliesByAssembly, RepliesByUtf8, line_behind, nothing_behind}
 
 -- ---- a program
 
-abbrev pub RepliesByCheck : List Procedure → Reply → Type 0
-RepliesByCheck program r = (text : List ℕ) × IsCheckText program text × (r ≡ reply text Success)
+-- what a check tells of an accepted program, behind its listing where that is asked for
+abbrev pub IsChecked : Places → List Procedure → List ℕ → Type 0
+IsChecked Hidden program text = IsCheckText program text
+IsChecked Shown program text = (listing : List ℕ) × (told : List ℕ) × IsListing program listing × IsCheckText program told × (text ≡ listing ++ told)
+
+abbrev pub RepliesByCheck : Places → List Procedure → Reply → Type 0
+RepliesByCheck places program r = (text : List ℕ) × IsChecked places program text × (r ≡ reply text Success)
 
 -- an accepted program is checked, or opened and run
 abbrev pub RepliesByAccepted : VerifiedOrder → List Procedure → Reply → Type 0
-RepliesByAccepted Check program r = RepliesByCheck program r
+RepliesByAccepted (Check places) program r = RepliesByCheck places program r
 RepliesByAccepted (Run order) program r = RepliesByOpening program order r
 
 -- what is written of the first refusal, with what stands behind its line
@@ -50,9 +57,9 @@ IsRefused behind program r =
 abbrev pub RepliesByVerified : Behind → VerifiedOrder → List Procedure → Reply → Type 0
 RepliesByVerified behind order program r = (IsAccepted program × RepliesByAccepted order program r) ⊎ IsRefused behind program r
 
--- the program's assembly text is written, or the program is verified
+-- the program's assembly text is written, or its listing; or the program is verified
 abbrev pub RepliesByProgram : Behind → ProgramOrder → List Procedure → Reply → Type 0
-RepliesByProgram behind Disassemble program r = r ≡ reply (disassembly program) Success
+RepliesByProgram behind (Disassemble places) program r = r ≡ reply (disassembled places program) Success
 RepliesByProgram behind (Verified order) program r = RepliesByVerified behind order program r
 
 -- ---- the bytes

@@ -6,6 +6,7 @@
 mod check;
 mod drawn;
 mod input;
+mod listing;
 mod replay;
 mod reply;
 mod run;

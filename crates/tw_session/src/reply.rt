@@ -3,8 +3,9 @@
 ghost use Rattle.std.specs.Prelude.{◌≡◌, ◌≢◌, ◌<◌, ◌≤◌, ◌++◌, ℕ, List, IfOk, length};
 ghost use Rattle.tw_command.specs.declared.command.Order.TheVariants.{Assemble, Replay};
 ghost use Rattle.tw_command.specs.declared.command.Source.TheVariants.{Assembly};
-ghost use Rattle.tw_session.specs.Session.{IsWritten, MayReply, RepliesByAccepted, RepliesByBytes, RepliesByDigits};
+ghost use Rattle.tw_session.specs.Session.{IsChecked, IsWritten, MayReply, RepliesByAccepted, RepliesByBytes, RepliesByDigits};
 ghost use Rattle.tw_session.specs.Session.{RepliesByInput, RepliesByProgram, RepliesBySource, RepliesByText, RepliesByVerified};
+ghost use Rattle.tw_session.specs.Listing.{disassembled};
 ghost use Rattle.tw_session.specs.Reply.{reply};
 ghost use Rattle.tw_session.specs.Input.{digits_in};
 ghost use Rattle.tw_session.specs.Source.{MayBeSource, MayBeSourceAt, behind_of};
@@ -19,6 +20,7 @@ ghost use Rattle.hex.specs.Hex.{decode_of};
 
 use crate::check::check_text;
 use crate::input::{MOST_BYTES, digits};
+use crate::listing::{places_text, typed_text};
 use crate::replay::replay_reply;
 use crate::run::run_of;
 use crate::source::{SourceText, put_behind};
@@ -30,7 +32,7 @@ use std::thread::Threads;
 use std::time::Clock;
 use tw_asm::{AsmFault, assemble, assemble_lined, disassemble};
 use tw_code::{FaultNo, Program, decode, encode};
-use tw_command::{Order, ProgramOrder, ReplayOrder, Source, VerifiedOrder};
+use tw_command::{Order, Places, ProgramOrder, ReplayOrder, Source, VerifiedOrder};
 use tw_report::{put, put_asm_line, put_fault_line, put_opening_line, put_verify_line};
 use tw_verify::{Verified, VerifyRefusal, verify};
 
@@ -62,6 +64,21 @@ pub fn opening_reply(alloc: Global, number: u8) -> Result<Reply, AllocError>
     })
 }
 
+/// What a check tells of an accepted program, behind its listing where that is asked for.
+fn checked_text(alloc: Global, places: Places, verified: &Verified) -> Result<Vec<u8>, AllocError>
+    ensures { IfOk result (λ text. IsChecked places verified.now.program text.items) }
+{
+    match places {
+        Places::Hidden => check_text(alloc, verified),
+        Places::Shown => {
+            let mut text = typed_text(alloc, verified)?;
+            let told = check_text(alloc, verified)?;
+            text.extend_from_slice(&told)?;
+            Ok(text)
+        }
+    }
+}
+
 /// Does what is ordered with an accepted program.
 fn accepted_reply<H: Threads + Wait + Clock + Sync>(
     rt: &H,
@@ -73,8 +90,8 @@ fn accepted_reply<H: Threads + Wait + Clock + Sync>(
     ensures { IfOk result (λ r. RepliesByAccepted order.now verified.program (reply r.text.items r.close)) }
 {
     match order {
-        VerifiedOrder::Check => Ok(Reply {
-            text: check_text(alloc, &verified)?,
+        VerifiedOrder::Check(places) => Ok(Reply {
+            text: checked_text(alloc, *places, &verified)?,
             close: Close::Success,
         }),
         VerifiedOrder::Run(order) => run_of(rt, alloc, order, &verified),
@@ -122,7 +139,20 @@ fn verified_reply<H: Threads + Wait + Clock + Sync>(
     }
 }
 
-/// Writes a program's assembly text, or verifies the program.
+/// A program's assembly text, or its listing where that is asked for.
+fn disassembled(alloc: Global, places: Places, program: &Program) -> Result<Vec<u8>, AllocError>
+    ensures { IfOk result (λ text. text.items ≡ disassembled places program.now) }
+{
+    match places {
+        Places::Hidden => match disassemble(alloc, program) {
+            Ok(text) => Ok(text.into_bytes()),
+            Err(_) => Err(AllocError),
+        },
+        Places::Shown => places_text(alloc, program),
+    }
+}
+
+/// Writes a program's assembly text or its listing, or verifies the program.
 fn program_reply<H: Threads + Wait + Clock + Sync>(
     rt: &H,
     alloc: Global,
@@ -134,13 +164,10 @@ fn program_reply<H: Threads + Wait + Clock + Sync>(
     ensures { IfOk result (λ r. RepliesByProgram (behind_of source.now) order.now program (reply r.text.items r.close)) }
 {
     match order {
-        ProgramOrder::Disassemble => match disassemble(alloc, &program) {
-            Ok(text) => Ok(Reply {
-                text: text.into_bytes(),
-                close: Close::Success,
-            }),
-            Err(_) => Err(AllocError),
-        },
+        ProgramOrder::Disassemble(places) => Ok(Reply {
+            text: disassembled(alloc, *places, &program)?,
+            close: Close::Success,
+        }),
         ProgramOrder::Verified(order) => verified_reply(rt, alloc, source, order, program),
     }
 }

@@ -1,6 +1,6 @@
 //! Queues whose tasks get the numbers 1, 2 and so on.
 
-ghost use Rattle.std.specs.Prelude.{◌≡◌, ◌≤◌, ℕ, IfOk, is_none, true};
+ghost use Rattle.std.specs.Prelude.{◌≡◌, ◌<◌, ◌≤◌, ◌+◌, ◌^◌, ℕ, IfOk, is_none, true};
 ghost use Rattle.std.specs.FinMap.{get};
 ghost use Rattle.tw_rights.specs.Roomy.{IsRoom};
 ghost use Rattle.tw_queue.specs.Queues.{IsTarget};
@@ -71,13 +71,22 @@ impl Numbered {
     pub fn put(&mut self, kind: Kind, priority: i64, target: Option<u8>) -> Put
         requires { IsTarget target }
     {
-        let number = self.next;
-        if number == u64::MAX {
+        if self.next == u64::MAX {
             return Put::Strange;
         }
         let Ok(room) = room(self.alloc, 1) else {
             return Put::Strange;
         };
+        self.put_in(room, kind, priority, target)
+    }
+
+    /// Puts the next task, with its arguments in this memory.
+    fn put_in(&mut self, room: Vec<Arg>, kind: Kind, priority: i64, target: Option<u8>) -> Put
+        requires number { self.old.next + 1 < 2 ^ 64 }
+        requires room { IsRoom 1 room }
+        requires target { IsTarget target }
+    {
+        let number = self.next;
         match self
             .queues
             .put(kind, priority, target, task_of(room, number))
