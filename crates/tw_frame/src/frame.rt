@@ -17,7 +17,7 @@ use crate::context::Context;
 use crate::draft::Draft;
 use crate::job::{Came, Done, Job, Lent};
 use crate::loops::Loops;
-use crate::rooms::{Ahead, Rooms};
+use crate::rooms::{Ahead, EmptyFile, Rooms};
 use crate::start::Start;
 use crate::value_ref::ValueRef;
 use std::alloc::{AllocError, Global};
@@ -37,7 +37,7 @@ pub struct Frame<'a> {
     spent: u64,
     own: Box<Context<'a>>,
     /// Its right registers.
-    pub rights: RightFile,
+    rights: Box<RightFile>,
 }
 
 impl<'a> Model for Frame<'a> {
@@ -45,7 +45,7 @@ impl<'a> Model for Frame<'a> {
 
     ghost Value = { FrameView };
 
-    ghost view = { λ f. record { program = f.verified.now; task = f.task; procedure = f.procedure; actor = f.actor; event_no = f.event_no; position = position_of f.own.value; held = f.rights; spent = f.spent } };
+    ghost view = { λ f. record { program = f.verified.now; task = f.task; procedure = f.procedure; actor = f.actor; event_no = f.event_no; position = position_of f.own.value; held = f.rights.value; spent = f.spent } };
 
     ghost invariant = { λ f. AreOf f.verified.now.program f.procedure f.own.value.registers.types };
 }
@@ -85,6 +85,7 @@ impl<'a> Frame<'a> {
             mut own,
             lent,
             ahead,
+            rights,
         } = start;
         own.stand_at(0, Loops::new());
         let draft = Draft {
@@ -101,7 +102,7 @@ impl<'a> Frame<'a> {
             event_no: 0,
             spent: 0,
             own,
-            rights: args.into_file(),
+            rights: rights.fill(args),
         };
         (frame, draft)
     }
@@ -382,7 +383,8 @@ impl<'a> Frame<'a> {
 
     /// Spends every right.
     pub fn shut(self) {
-        let _own = self.spend();
+        let (_own, rights) = self.spend();
+        rights.shut();
     }
 
     /// Spends every right, and gives its memory and that of a Done for the seat's next task.
@@ -397,18 +399,19 @@ impl<'a> Frame<'a> {
             Came::Nowhere(ahead) => ahead,
             Came::There(ahead) => ahead,
         };
-        let own = self.spend();
+        let (own, rights) = self.spend();
         let mut rooms = Rooms {
             own,
             lent: before.at,
             ahead,
+            rights,
         };
         rooms.empty(alloc);
         rooms
     }
 
-    /// Spends every right; the context is left.
-    fn spend(self) -> Box<Context<'a>> {
+    /// Spends every right; the context and the empty right registers are left.
+    fn spend(self) -> (Box<Context<'a>>, EmptyFile) {
         let Frame {
             verified: _,
             task: _,
@@ -419,7 +422,6 @@ impl<'a> Frame<'a> {
             own,
             rights,
         } = self;
-        rights.shut();
-        own
+        (own, EmptyFile::of(rights))
     }
 }

@@ -1,8 +1,12 @@
 //! The memory for those who sit in a seat, one after the other.
 
+ghost use Rattle.std.specs.Prelude.{◌≡◌};
+ghost use Rattle.tw_rights.specs.Filed.{filed, rights_in};
+
 use crate::context::Context;
-use std::alloc::{AllocError, Global};
+use std::alloc::{AllocError, AllocFailed, Global};
 use std::marker::Model;
+use tw_rights::{Bundle, RightFile};
 
 /// Two contexts that go with a job, for its run: what it comes to, and the same again for the next job.
 #[derive(Drop)]
@@ -11,13 +15,62 @@ pub(crate) struct Ahead<'a> {
     pub(crate) again: Box<Context<'a>>,
 }
 
-/// Room for a task's contexts: that of its frame, that of its job, and two that the job's run fills. What an earlier task
-/// left in them means nothing.
-#[derive(Drop)]
+/// Right registers in which nothing stands, for the next task.
+pub(crate) struct EmptyFile {
+    file: Box<RightFile>,
+}
+
+impl Model for EmptyFile {
+    ghost use Rattle.std.specs.Prelude.{◌≡◌, []};
+    ghost use Rattle.tw_rights.specs.Filed.{filed};
+
+    ghost Value = { Unit {0} };
+
+    ghost view = { λ empty. tt };
+
+    ghost invariant = { λ empty. empty.file.value ≡ filed [] };
+}
+
+impl EmptyFile {
+    fn new(alloc: Global) -> Result<EmptyFile, AllocError> {
+        match Box::new(alloc, RightFile::new()) {
+            Ok(file) => Ok(EmptyFile { file }),
+            Err(refused) => {
+                let AllocFailed { value } = refused;
+                value.shut();
+                Err(AllocError)
+            }
+        }
+    }
+
+    /// Spends what stands in these.
+    pub(crate) fn of(mut file: Box<RightFile>) -> EmptyFile {
+        file.spend_all();
+        EmptyFile { file }
+    }
+
+    /// The right registers of a task that starts with these arguments.
+    pub(crate) fn fill(self, args: Bundle) -> Box<RightFile>
+        ensures { result.value ≡ filed (rights_in args) }
+    {
+        let EmptyFile { mut file } = self;
+        args.fill(&mut file);
+        file
+    }
+
+    pub(crate) fn shut(self) {
+        let EmptyFile { file } = self;
+        Box::into_inner(file).shut();
+    }
+}
+
+/// Room for a task's contexts: that of its frame, that of its job, and two that the job's run fills; and for its rights. What
+/// an earlier task left in the contexts means nothing.
 pub struct Rooms<'a> {
     pub(crate) own: Box<Context<'a>>,
     pub(crate) lent: Box<Context<'a>>,
     pub(crate) ahead: Ahead<'a>,
+    pub(crate) rights: EmptyFile,
 }
 
 impl<'a> Model for Rooms<'a> {
@@ -29,14 +82,28 @@ impl<'a> Model for Rooms<'a> {
 impl<'a> Rooms<'a> {
     /// Room for one task at a time.
     pub fn new(alloc: Global) -> Result<Rooms<'a>, AllocError> {
+        let own = Context::boxed(alloc)?;
+        let lent = Context::boxed(alloc)?;
+        let after = Context::boxed(alloc)?;
+        let again = Context::boxed(alloc)?;
+        let rights = EmptyFile::new(alloc)?;
         Ok(Rooms {
-            own: Context::boxed(alloc)?,
-            lent: Context::boxed(alloc)?,
-            ahead: Ahead {
-                after: Context::boxed(alloc)?,
-                again: Context::boxed(alloc)?,
-            },
+            own,
+            lent,
+            ahead: Ahead { after, again },
+            rights,
         })
+    }
+
+    /// Gives its memory back.
+    pub fn shut(self) {
+        let Rooms {
+            own: _,
+            lent: _,
+            ahead: _,
+            rights,
+        } = self;
+        rights.shut();
     }
 
     /// Gives back the memory of texts.

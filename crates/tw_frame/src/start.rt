@@ -10,7 +10,7 @@ ghost use Rattle.tw_frame.specs.Drafts.{HasTexts, MayStart, started, value_in};
 
 use crate::context::Context;
 use crate::registers::Registers;
-use crate::rooms::{Ahead, Rooms};
+use crate::rooms::{Ahead, EmptyFile, Rooms};
 use std::alloc::{AllocError, Global};
 use std::marker::Model;
 use tw_queue::Task;
@@ -19,13 +19,13 @@ use tw_types::Value;
 use tw_verify::Verified;
 
 /// The values with which a task starts, made where memory may be refused: once for its frame, and once for its first job.
-#[derive(Drop)]
 pub struct Start<'a> {
     pub(crate) verified: &'a Verified,
     pub(crate) procedure: u8,
     pub(crate) own: Box<Context<'a>>,
     pub(crate) lent: Box<Context<'a>>,
     pub(crate) ahead: Ahead<'a>,
+    pub(crate) rights: EmptyFile,
 }
 
 impl<'a> Model for Start<'a> {
@@ -88,6 +88,25 @@ fn begin<'a>(
     fill(alloc, registers, &task.args)
 }
 
+/// These values twice: in registers for the frame, and in others for its job.
+fn begin_both<'a>(
+    alloc: Global,
+    own: &mut Registers<'a>,
+    lent: &mut Registers<'a>,
+    task: &Task,
+    verified: &'a Verified,
+) -> Result<(), AllocError>
+    requires { MayStart verified.now.program task.now.procedure task.now.args }
+    ensures same { OnOk result (lent.new ≡ own.new) }
+    ensures types { OnOk result ((p : Procedure) → slice_get verified.now.program task.now.procedure ≡ Some p → own.new.types ≡ p.registers) }
+    ensures started { OnOk result ((p : Procedure) → slice_get verified.now.program task.now.procedure ≡ Some p
+        → started task.now.args p.registers ≡ Ok own.new.values) }
+    ensures texts { OnErr result (HasTexts verified.now.program task.now.procedure) }
+{
+    begin(alloc, own, task, verified)?;
+    lent.copy_from(alloc, own)
+}
+
 impl<'a> Rooms<'a> {
     /// The values with which the task starts: those among its arguments in the first registers, the others blank. Where
     /// no register is a text no memory is taken; where memory is refused the rooms come back.
@@ -108,20 +127,30 @@ impl<'a> Rooms<'a> {
             mut own,
             mut lent,
             ahead,
+            rights,
         } = self;
-        match begin(alloc, &mut own.registers, task, verified) {
-            Ok(()) => {}
-            Err(_) => return Err(Rooms { own, lent, ahead }),
-        }
-        match lent.registers.copy_from(alloc, &own.registers) {
+        let began = begin_both(
+            alloc,
+            &mut own.registers,
+            &mut lent.registers,
+            task,
+            verified,
+        );
+        match began {
             Ok(()) => Ok(Start {
                 verified,
                 procedure: task.procedure,
                 own,
                 lent,
                 ahead,
+                rights,
             }),
-            Err(_) => Err(Rooms { own, lent, ahead }),
+            Err(_) => Err(Rooms {
+                own,
+                lent,
+                ahead,
+                rights,
+            }),
         }
     }
 }

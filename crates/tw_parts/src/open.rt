@@ -1,6 +1,6 @@
 //! A program is opened.
 
-ghost use Rattle.std.specs.Prelude.{◌≡◌, ◌<◌, ℕ, true, false, IfOk, OnOk, Some, []};
+ghost use Rattle.std.specs.Prelude.{◌≡◌, ◌<◌, ℕ, true, false, IfOk, None, OnOk, Some, []};
 ghost use Rattle.std.specs.FinMap as map;
 ghost use Rattle.tw_types.specs.declared.actor.Kind.TheVariants.{Control};
 ghost use Rattle.tw_types.specs.Mode.{is_val, is_write};
@@ -172,10 +172,10 @@ impl Opened {
 /// Queues without a task, with room for main.
 fn queues_for_main(alloc: Global) -> Result<TaskQueues, AllocError>
     ensures empty { IfOk result (λ queues. queues.tasks ≡ map.empty) }
-    ensures room { IfOk result (λ queues. room_for Control queues ≡ true) }
+    ensures room { IfOk result (λ queues. room_for Control None queues ≡ true) }
 {
     let mut queues = TaskQueues::new(alloc)?;
-    match queues.reserve(Kind::Control) {
+    match queues.reserve(Kind::Control, None) {
         Ok(()) => Ok(queues),
         Err(_) => {
             queues.shut();
@@ -213,7 +213,7 @@ impl<'a> Parts<'a> {
     /// The parts in which main waits with what was made for it, and nobody runs.
     fn begun(alloc: Global, seats: Seats<'a>, mut queues: TaskQueues, opened: Opened) -> Parts<'a>
         requires tasks { queues.tasks ≡ map.empty }
-        requires room { room_for Control queues ≡ true }
+        requires room { room_for Control None queues ≡ true }
         ensures { MainWaits seats.entry opened result }
     {
         let Opened {

@@ -38,7 +38,7 @@ impl<'a> Parts<'a> {
         let Ok(vals) = values_of(alloc, &done, params, registers) else {
             return Err(done);
         };
-        let Ok(()) = self.tasks.reserve(callee.kind) else {
+        let Ok(()) = self.tasks.reserve(callee.kind, action.target) else {
             return Err(done);
         };
         let Ok(room) = Vec::with_capacity(alloc, params.len()) else {

@@ -41,7 +41,7 @@ impl<'a> Parts<'a> {
         let action = self.rules.action(rule);
         let callee = procedure_at(verified.program().procedures(), action.procedure);
         let kind = callee.kind;
-        let Ok(()) = self.tasks.reserve(kind) else {
+        let Ok(()) = self.tasks.reserve(kind, action.target) else {
             return Err(AllocError);
         };
         let args = self.rules.release(rule);

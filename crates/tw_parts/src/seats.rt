@@ -108,12 +108,16 @@ fn lift<'a>(rooms: &mut Vec<Option<Rooms<'a>>>, seat: usize) -> Rooms<'a>
     }
 }
 
-/// Lays room there.
+/// Lays room there, in place of what was there.
 fn lay<'a>(rooms: &mut Vec<Option<Rooms<'a>>>, seat: usize, room: Rooms<'a>)
     requires { seat < length rooms.old.items }
     ensures { rooms.new.items ≡ slice_set rooms.old.items seat (Some tt) }
 {
-    rooms[seat] = Some(room);
+    let place = &mut rooms[seat];
+    match std::mem::replace(place, Some(room)) {
+        None => {}
+        Some(before) => before.shut(),
+    }
 }
 
 /// Room for each seat.
@@ -122,9 +126,23 @@ fn rooms_for_all<'a>(alloc: Global) -> Result<Vec<Option<Rooms<'a>>>, AllocError
 {
     let mut rooms = Vec::with_capacity(alloc, Seats::COUNT)?;
     for _index in 0..Seats::COUNT {
-        rooms.push_reserved(Some(Rooms::new(alloc)?));
+        let Ok(room) = Rooms::new(alloc) else {
+            shut_rooms(rooms);
+            return Err(AllocError);
+        };
+        rooms.push_reserved(Some(room));
     }
     Ok(rooms)
+}
+
+/// Gives their memory back.
+fn shut_rooms<'a>(mut rooms: Vec<Option<Rooms<'a>>>) {
+    while let Some(room) = rooms.pop() {
+        if let Some(room) = room {
+            room.shut();
+        }
+    }
+    rooms.destroy_empty();
 }
 
 /// Spends every right of those who sit there.
@@ -146,7 +164,10 @@ impl<'a> Seats<'a> {
         ensures { IfOk result (λ seats. seats ≡ map.empty) }
     {
         let rooms = rooms_for_all(alloc)?;
-        let mut seats = Vec::with_capacity(alloc, Seats::COUNT)?;
+        let Ok(mut seats) = Vec::with_capacity(alloc, Seats::COUNT) else {
+            shut_rooms(rooms);
+            return Err(AllocError);
+        };
         for _index in 0..Seats::COUNT {
             seats.push_reserved(None);
         }
@@ -161,10 +182,11 @@ impl<'a> Seats<'a> {
     pub fn shut(self) {
         let Seats {
             seats,
-            rooms: _,
+            rooms,
             taken: _,
         } = self;
         shut_all(seats);
+        shut_rooms(rooms);
     }
 
     /// The number of tasks that run.

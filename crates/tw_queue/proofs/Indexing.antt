@@ -10,9 +10,8 @@ use Rattle.std.proofs.lemmas.Bool.Decides.{nat_tests}
 use Rattle.tw_types.specs.declared.actor.Kind.{Kind}
 use Rattle.tw_queue.specs.declared.rank.Rank.{Rank}
 use Rattle.tw_queue.specs.declared.waiting.Waiting.{Waiting}
-use Rattle.tw_queue.specs.Lists.{lane_of}
 use Rattle.tw_queue.specs.Index.{Ranking, IsHereOrSame}
-use Rattle.tw_queue.specs.Queues.{IsTarget}
+use Rattle.tw_queue.specs.Queues.{IsTarget, lane_of}
 use Rattle.tw_queue.specs.Indexed.{AreApart, IsIndex, IsEntryAt, rank_of}
 use Rattle.tw_queue.proofs.Members.{contains_none, contains_here, contains_later, contains_cases, all_mapped, all_at, mapped_has}
 

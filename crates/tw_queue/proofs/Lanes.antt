@@ -1,5 +1,5 @@
 -- The ranks of one kind, where one lane changes.
-use Rattle.std.proofs.Common.{◌≡◌, ◌≢◌, ◌⊎◌, inl, inr, nat_eq, ℕ, zero, suc, ◌<◌, Bool, true, false, ◌+◌, List, [], ◌∷◌, ◌++◌, take, refl, sym, ap, subst, ◌∙◌, length, get_or, slice_set, arith}
+use Rattle.std.proofs.Common.{◌≡◌, ◌≢◌, ◌⊎◌, inl, inr, nat_eq, ℕ, zero, suc, ◌<◌, Bool, true, false, List, [], ◌∷◌, ◌++◌, map, refl, sym, ap, subst, ◌∙◌, length, get_or, slice_set, arith}
 use Rattle.std.specs.declared.result.Result.{Result}
 use Rattle.std.specs.declared.result.Result.TheVariants.{Ok, Err}
 use Rattle.std.specs.Result.{OnErr, OnOk}
@@ -7,17 +7,16 @@ use Rattle.std.specs.declared.option.Option.{Option}
 use Rattle.std.specs.declared.option.Option.TheVariants.{None, Some}
 use Rattle.std.specs.Option.{IfSome}
 use Rattle.std.specs.Ordering.{is_lt}
-use Rattle.std.specs.List.{AllByRecursion, Contains, list_all}
+use Rattle.std.specs.List.{AllByRecursion, Contains}
 use Rattle.std.specs.List.Sorted.{IsPermutation}
-use Rattle.std.proofs.lemmas.List.{map-set, get_or-map, length-map, get_or-set_same, get_or-set_other, take_more_set}
-use Rattle.std.proofs.lemmas.List.Folds.{list_all-append}
-use Rattle.std.proofs.lemmas.Bool.{and_from, and_parts}
+use Rattle.std.proofs.lemmas.List.{map-set, get_or-map, length-map, get_or-set_same, get_or-set_other}
 use Rattle.std.proofs.lemmas.Bool.Decides.{nat_tests}
 use Rattle.std.proofs.Math.Seq.{map-set_same}
 use Rattle.tw_queue.specs.declared.rank.Rank.{Rank}
 use Rattle.tw_queue.specs.Ranks.{rank_cmp}
 use Rattle.tw_queue.specs.Lanes.{IsFirst, LaneSeen}
-use Rattle.tw_queue.specs.Lists.{ranks_in, ranks_at, has_room_in, IsAheadOfAll, IsBest, IsChangedAt, IsOwnLane, IsPushed, IsTaken}
+use Rattle.tw_queue.specs.Lists.{ranks_in, rooms_in, ranks_at, AreRoomsKept, IsAheadOfAll, IsBest, IsChangedAt, IsOwnLane, IsPushed, IsTaken}
+use Rattle.tw_queue.specs.Queues.{room_at}
 use Rattle.tw_queue.proofs.Members.{all_at, contains_none}
 use Rattle.tw_queue.proofs.Order.{upper_over}
 
@@ -35,18 +34,11 @@ module _ {X : Type 0} where
   each_at P (x ∷ xs) zero d all low = all.0
   each_at P (x ∷ xs) (suc k) d all low = each_at P xs k d all.1 (omega arith)
 
-  pub all_set : (p : X → Bool) (xs : List X) (k : ℕ) (w : X) → list_all p xs ≡ true → p w ≡ true → list_all p (slice_set xs k w) ≡ true
-  all_set p [] k w all e = all
-  all_set p (x ∷ xs) zero w all e = and_from (p w) (list_all p xs) e (and_parts (p x) _ all).1
-  all_set p (x ∷ xs) (suc k) w all e = and_from (p x) _ (and_parts (p x) _ all).0 (all_set p xs k w (and_parts (p x) _ all).1 e)
-
-  pub all_get : (p : X → Bool) (xs : List X) (k : ℕ) (d : X) → list_all p xs ≡ true → k < length xs → p (get_or xs k d) ≡ true
-  all_get p [] k d all low = absurd (omega arith)
-  all_get p (x ∷ xs) zero d all low = (and_parts (p x) _ all).0
-  all_get p (x ∷ xs) (suc k) d all low = all_get p xs k d (and_parts (p x) _ all).1 (omega arith)
-
 abbrev ranks_of_lane : LaneSeen → List Rank
 ranks_of_lane lane = lane.ranks
+
+abbrev has_room : LaneSeen → Bool
+has_room lane = lane.has_room
 
 nat_same : (a b : ℕ) → nat_eq a b ≡ true → a ≡ b
 nat_same a b h = grind (arith, nat_tests)
@@ -55,20 +47,29 @@ nat_other : (a b : ℕ) → nat_eq a b ≡ false → a ≢ b
 nat_other a b h e = grind (arith, nat_tests)
 
 module _ (ps : List LaneSeen) (lane : ℕ) (low : lane < length ps) (p w : LaneSeen) (at : p ≡ get_or ps lane p) where
+  part_was : {X : Type 0} (part : LaneSeen → X) (none : X) → get_or (map part ps) lane none ≡ part p
+  part_was part none = get_or-map part ps lane p none low ∙ ap part (sym at)
+
+  part_now : {X : Type 0} (part : LaneSeen → X) (none : X) → get_or (map part (slice_set ps lane w)) lane none ≡ part w
+  part_now part none =
+      let inside : lane < length (map part ps) = subst (λ n. lane < n) (sym (length-map ps part)) low in
+      ap (λ xs. get_or xs lane none) (map-set part ps lane w) ∙ get_or-set_same (map part ps) lane (part w) none inside
+
+  part_changed : {X : Type 0} (part : LaneSeen → X) (none : X) (q : ℕ) → (q ≡ lane) ⊎ (get_or (map part (slice_set ps lane w)) q none ≡ get_or (map part ps) q none)
+  part_changed part none q = by (nat_eq q lane) refl
+    where
+      by : (b : Bool) → nat_eq q lane ≡ b → (q ≡ lane) ⊎ (get_or (map part (slice_set ps lane w)) q none ≡ get_or (map part ps) q none)
+      by true e = inl (nat_same q lane e)
+      by false e = inr (ap (λ xs. get_or xs q none) (map-set part ps lane w) ∙ get_or-set_other (map part ps) lane q (part w) none (nat_other q lane e))
+
   pub was_at : ranks_at (ranks_in ps) lane ≡ p.ranks
-  was_at = get_or-map ranks_of_lane ps lane p [] low ∙ ap ranks_of_lane (sym at)
+  was_at = part_was ranks_of_lane []
 
   pub now_at : ranks_at (ranks_in (slice_set ps lane w)) lane ≡ w.ranks
-  now_at =
-      let inside : lane < length (ranks_in ps) = subst (λ n. lane < n) (sym (length-map ps ranks_of_lane)) low in
-      ap (λ xs. ranks_at xs lane) (map-set ranks_of_lane ps lane w) ∙ get_or-set_same (ranks_in ps) lane w.ranks [] inside
+  now_at = part_now ranks_of_lane []
 
   pub changed_at : IsChangedAt lane (ranks_at (ranks_in ps)) (ranks_at (ranks_in (slice_set ps lane w)))
-  changed_at q = by (nat_eq q lane) refl
-    where
-      by : (b : Bool) → nat_eq q lane ≡ b → (q ≡ lane) ⊎ (ranks_at (ranks_in (slice_set ps lane w)) q ≡ ranks_at (ranks_in ps) q)
-      by true e = inl (nat_same q lane e)
-      by false e = inr (ap (λ xs. ranks_at xs q) (map-set ranks_of_lane ps lane w) ∙ get_or-set_other (ranks_in ps) lane q w.ranks [] (nat_other q lane e))
+  changed_at q = part_changed ranks_of_lane [] q
 
   pub pushed_at : (rank : Rank) → IsPermutation (rank ∷ p.ranks) w.ranks → IsPushed lane rank (ranks_at (ranks_in ps)) (ranks_at (ranks_in (slice_set ps lane w)))
   pushed_at rank moved = (subst (λ xs. IsPermutation (rank ∷ xs) (ranks_at (ranks_in (slice_set ps lane w)) lane)) (sym was_at) (subst (IsPermutation (rank ∷ p.ranks)) (sym now_at) moved), changed_at)
@@ -79,15 +80,18 @@ module _ (ps : List LaneSeen) (lane : ℕ) (low : lane < length ps) (p w : LaneS
   pub same_ranks : w.ranks ≡ p.ranks → ranks_in (slice_set ps lane w) ≡ ranks_in ps
   same_ranks e = map-set_same ranks_of_lane ps lane w p (e ∙ ap ranks_of_lane at)
 
-  pub room_at : list_all has_room_in ps ≡ true → p.has_room ≡ true
-  room_at all = subst (λ x. has_room_in x ≡ true) (sym at) (all_get has_room_in ps lane p all low)
+  pub room_was : room_at (rooms_in ps) lane ≡ p.has_room
+  room_was = part_was has_room false
 
-  pub room_kept : list_all has_room_in ps ≡ true → w.has_room ≡ true → list_all has_room_in (slice_set ps lane w) ≡ true
-  room_kept all more = all_set has_room_in ps lane w all more
+  pub room_now : room_at (rooms_in (slice_set ps lane w)) lane ≡ w.has_room
+  room_now = part_now has_room false
 
-  pub room_more : list_all has_room_in (take lane ps) ≡ true → w.has_room ≡ true → list_all has_room_in (take (lane + 1) (slice_set ps lane w)) ≡ true
-  room_more all more = ap (list_all has_room_in) (take_more_set ps lane w low) ∙ list_all-append has_room_in (take lane ps) (w ∷ [])
-      ∙ and_from _ _ all (and_from _ _ more refl)
+  pub rooms_kept : (p.has_room ≡ true → w.has_room ≡ true) → AreRoomsKept (rooms_in ps) (rooms_in (slice_set ps lane w))
+  rooms_kept kept q room = by (part_changed has_room false q)
+    where
+      by : (q ≡ lane) ⊎ (room_at (rooms_in (slice_set ps lane w)) q ≡ room_at (rooms_in ps) q) → room_at (rooms_in (slice_set ps lane w)) q ≡ true
+      by (inl here) = ap (room_at (rooms_in (slice_set ps lane w))) here ∙ room_now ∙ kept (sym room_was ∙ ap (room_at (rooms_in ps)) (sym here) ∙ room)
+      by (inr same) = same ∙ room
 
   pub taken_at : (r : Option Rank) → IfSome r (λ rank. IsPermutation p.ranks (rank ∷ w.ranks)) → IfSome r (λ rank. IsTaken rank (ranks_at (ranks_in ps)) (ranks_at (ranks_in (slice_set ps lane w))))
   taken_at None moved = tt

@@ -1,30 +1,46 @@
--- Whether a task of a kind can be put for sure.
-use Rattle.std.proofs.Common.{◌≡◌, Bool, true, ◌&&◌}
+-- Whether a task can be put for sure.
+use Rattle.std.proofs.Common.{◌≡◌, ℕ, zero, suc, Bool, true, false, List, [], ◌∷◌, Option, refl, sym, ◌∙◌, ◌&&◌}
 use Rattle.std.proofs.lemmas.Bool.{and_from, and_parts}
 use Rattle.tw_types.specs.declared.actor.Kind.{Kind}
 use Rattle.tw_types.specs.declared.actor.Kind.TheVariants.{Control, Leaf}
 use Rattle.tw_types.specs.Task.{TasksOf}
 use Rattle.tw_rights.specs.declared.arg.Arg.{Arg}
 use Rattle.tw_queue.specs.declared.index.Index.{Index}
-use Rattle.tw_queue.specs.Index.{has_room_for}
-use Rattle.tw_queue.specs.Queues.{Queues, room_for}
+use Rattle.tw_queue.specs.Index.{has_room_for, rooms_with, IsRankRoomKept}
+use Rattle.tw_queue.specs.Queues.{Queues, IsRoomKept, lane_of, room_at, room_for}
 
 abbrev queues_with : TasksOf Arg → Bool → Index → Queues
-queues_with tasks room index = record { tasks = tasks; control_room = room && index.control.has_room; leaf_room = room && index.leaf.has_room }
+queues_with tasks has_slot index = record {
+  tasks = tasks;
+  control_rooms = rooms_with has_slot index.control.rooms;
+  leaf_rooms = rooms_with has_slot index.leaf.rooms;
+}
 
-pub slot_room : (kind : Kind) (tasks : TasksOf Arg) (room : Bool) (index : Index) → room_for kind (queues_with tasks room index) ≡ true → room ≡ true
-slot_room Control tasks room index all = (and_parts room _ all).0
-slot_room Leaf tasks room index all = (and_parts room _ all).0
+both_at : (has_slot : Bool) (rooms : List Bool) (lane : ℕ) → room_at (rooms_with has_slot rooms) lane ≡ (has_slot && room_at rooms lane)
+both_at true [] lane = refl
+both_at false [] lane = refl
+both_at has_slot (room ∷ rooms) zero = refl
+both_at has_slot (room ∷ rooms) (suc lane) = both_at has_slot rooms lane
 
-pub rank_room : (kind : Kind) (tasks : TasksOf Arg) (room : Bool) (index : Index) → room_for kind (queues_with tasks room index) ≡ true → has_room_for kind index ≡ true
-rank_room Control tasks room index all = (and_parts room _ all).1
-rank_room Leaf tasks room index all = (and_parts room _ all).1
+-- a slot, and room for the rank
+both_for : (kind : Kind) (target : Option ℕ) (tasks : TasksOf Arg) (has_slot : Bool) (index : Index)
+    → room_for kind target (queues_with tasks has_slot index) ≡ (has_slot && has_room_for kind (lane_of target) index)
+both_for Control target tasks has_slot index = both_at has_slot index.control.rooms (lane_of target)
+both_for Leaf target tasks has_slot index = both_at has_slot index.leaf.rooms (lane_of target)
 
-pub room_of : (kind : Kind) (tasks : TasksOf Arg) (room : Bool) (index : Index) → room ≡ true → has_room_for kind index ≡ true → room_for kind (queues_with tasks room index) ≡ true
-room_of Control tasks room index more has = and_from _ _ more has
-room_of Leaf tasks room index more has = and_from _ _ more has
+pub slot_room : (kind : Kind) (target : Option ℕ) (tasks : TasksOf Arg) (has_slot : Bool) (index : Index)
+    → room_for kind target (queues_with tasks has_slot index) ≡ true → has_slot ≡ true
+slot_room kind target tasks has_slot index room = (and_parts has_slot _ (sym (both_for kind target tasks has_slot index) ∙ room)).0
 
-pub room_still : (kind : Kind) (old new : TasksOf Arg) (before after : Bool) (index next : Index) → (before ≡ true → after ≡ true) → (has_room_for kind index ≡ true → has_room_for kind next ≡ true)
-    → room_for kind (queues_with old before index) ≡ true → room_for kind (queues_with new after next) ≡ true
-room_still kind old new before after index next more kept all =
-    room_of kind new after next (more (slot_room kind old before index all)) (kept (rank_room kind old before index all))
+pub rank_room : (kind : Kind) (target : Option ℕ) (tasks : TasksOf Arg) (has_slot : Bool) (index : Index)
+    → room_for kind target (queues_with tasks has_slot index) ≡ true → has_room_for kind (lane_of target) index ≡ true
+rank_room kind target tasks has_slot index room = (and_parts has_slot _ (sym (both_for kind target tasks has_slot index) ∙ room)).1
+
+pub room_of : (kind : Kind) (target : Option ℕ) (tasks : TasksOf Arg) (has_slot : Bool) (index : Index)
+    → has_slot ≡ true → has_room_for kind (lane_of target) index ≡ true → room_for kind target (queues_with tasks has_slot index) ≡ true
+room_of kind target tasks has_slot index slot rank = both_for kind target tasks has_slot index ∙ and_from _ _ slot rank
+
+pub room_still : (old new : TasksOf Arg) (before after : Bool) (index next : Index) → (before ≡ true → after ≡ true) → IsRankRoomKept index next
+    → IsRoomKept (queues_with old before index) (queues_with new after next)
+room_still old new before after index next more kept kind target room =
+    room_of kind target new after next (more (slot_room kind target old before index room)) (kept kind (lane_of target) (rank_room kind target old before index room))

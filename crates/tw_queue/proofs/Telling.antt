@@ -17,8 +17,8 @@ use Rattle.tw_rights.specs.declared.arg.Arg.{Arg}
 use Rattle.tw_queue.specs.declared.rank.Rank.{Rank}
 use Rattle.tw_queue.specs.declared.waiting.Waiting.{Waiting}
 use Rattle.tw_queue.specs.Ranks.{rank_cmp}
-use Rattle.tw_queue.specs.Lists.{lane_of, IsBest, IsOwnLane}
-use Rattle.tw_queue.specs.Queues.{IsTarget, handed_out}
+use Rattle.tw_queue.specs.Lists.{IsBest, IsOwnLane}
+use Rattle.tw_queue.specs.Queues.{IsTarget, handed_out, lane_of}
 use Rattle.tw_queue.specs.Index.{Ranking, IsRankBest}
 use Rattle.tw_queue.specs.Indexed.{IsIndex, IsEntryAt, rank_of, task_in}
 use Rattle.tw_queue.proofs.Bests.{IsAhead, best_is, best_none}

@@ -8,8 +8,7 @@ use Rattle.tw_rights.specs.declared.arg.Arg.{Arg}
 use Rattle.tw_queue.specs.declared.rank.Rank.{Rank}
 use Rattle.tw_queue.specs.declared.waiting.Waiting.{Waiting}
 use Rattle.tw_queue.specs.Index.{Ranking}
-use Rattle.tw_queue.specs.Lists.{lane_of}
-use Rattle.tw_queue.specs.Queues.{IsTarget, waiting}
+use Rattle.tw_queue.specs.Queues.{IsTarget, lane_of, waiting}
 
 -- a task as it waits in a slot
 abbrev pub task_in : Waiting → TaskOf Arg

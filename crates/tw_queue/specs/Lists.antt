@@ -1,30 +1,30 @@
 -- What is seen of the ranks of one kind.
-use Rattle.std.specs.Prelude.{◌≡◌, ℕ, ◌<◌, ◌⊎◌, Bool, List, [], ◌∷◌, map, Option, Some, None, IfSome, slice_index_or}
-use Rattle.std.specs.List.{Contains, list_all}
+use Rattle.std.specs.Prelude.{◌≡◌, ℕ, ◌<◌, ◌⊎◌, Bool, true, List, [], ◌∷◌, map, Option, Some, None, IfSome, slice_index_or}
+use Rattle.std.specs.List.{Contains}
 use Rattle.std.specs.List.Sorted.{IsPermutation}
 use Rattle.std.specs.BinaryHeap.{IsUpperBound}
 use Rattle.tw_queue.specs.declared.rank.Rank.{Rank}
 use Rattle.tw_queue.specs.Lanes.{LaneSeen, IsFirst}
 use Rattle.tw_queue.specs.Ranks.{rank_cmp}
+use Rattle.tw_queue.specs.Queues.{room_at}
 
--- the ranks at each lane, in no order that matters; and whether each lane has room for one more
+-- the ranks at each lane, in no order that matters; and for each lane whether it has room for one more
 pub record Listed : Type 0 where
   pub lanes : List (List Rank)
-  pub has_room : Bool
+  pub rooms : List Bool
 
 abbrev pub ranks_in : List LaneSeen → List (List Rank)
 ranks_in lanes = map (λ lane. lane.ranks) lanes
 
-abbrev pub has_room_in : LaneSeen → Bool
-has_room_in lane = lane.has_room
+abbrev pub rooms_in : List LaneSeen → List Bool
+rooms_in lanes = map (λ lane. lane.has_room) lanes
 
 abbrev pub seen : List LaneSeen → Listed
-seen lanes = record { lanes = ranks_in lanes; has_room = list_all has_room_in lanes }
+seen lanes = record { lanes = ranks_in lanes; rooms = rooms_in lanes }
 
--- the lane of the tasks for any actor is behind those of the targets
-abbrev pub lane_of : Option ℕ → ℕ
-lane_of None = 16
-lane_of (Some target) = target
+-- where there was room there still is
+abbrev pub AreRoomsKept : List Bool → List Bool → Type 0
+AreRoomsKept old new = (lane : ℕ) → room_at old lane ≡ true → room_at new lane ≡ true
 
 abbrev pub ranks_at : List (List Rank) → ℕ → List Rank
 ranks_at lanes lane = slice_index_or lanes lane []

@@ -1,5 +1,5 @@
 -- What contracts see of the queues.
-use Rattle.std.specs.Prelude.{ℕ, ◌<◌, ℤ, Bool, Option, Some, None, IfSome}
+use Rattle.std.specs.Prelude.{◌≡◌, ℕ, ◌<◌, ℤ, Bool, true, false, List, Option, Some, None, IfSome, slice_index_or}
 use Rattle.std.specs.FinMap as map
 use Rattle.tw_types.specs.declared.actor.Kind.{Kind}
 use Rattle.tw_types.specs.declared.actor.Kind.TheVariants.{Control, Leaf}
@@ -7,16 +7,28 @@ use Rattle.tw_types.specs.Task.{TaskOf, TasksOf}
 use Rattle.tw_rights.specs.declared.arg.Arg.{Arg}
 use Rattle.tw_queue.specs.declared.task.Task.{Task}
 
--- the tasks that wait, by their numbers; and for each kind whether one can be put for sure
+-- the tasks that wait, by their numbers; and for each kind, lane by lane, whether one can be put there for sure
 pub record Queues : Type 0 where
   pub tasks : TasksOf Arg
-  pub control_room : Bool
-  pub leaf_room : Bool
+  pub control_rooms : List Bool
+  pub leaf_rooms : List Bool
 
--- whether a task of this kind can be put without memory
-abbrev pub room_for : Kind → Queues → Bool
-room_for Control queues = queues.control_room
-room_for Leaf queues = queues.leaf_room
+-- the lane of the tasks for any actor is behind those of the targets
+abbrev pub lane_of : Option ℕ → ℕ
+lane_of None = 16
+lane_of (Some target) = target
+
+abbrev pub room_at : List Bool → ℕ → Bool
+room_at rooms lane = slice_index_or rooms lane false
+
+-- whether a task of this kind for this target can be put without memory
+abbrev pub room_for : Kind → Option ℕ → Queues → Bool
+room_for Control target queues = room_at queues.control_rooms (lane_of target)
+room_for Leaf target queues = room_at queues.leaf_rooms (lane_of target)
+
+-- what could be put for sure still can
+abbrev pub IsRoomKept : Queues → Queues → Type 0
+IsRoomKept old new = (kind : Kind) (target : Option ℕ) → room_for kind target old ≡ true → room_for kind target new ≡ true
 
 -- a task as it waits
 abbrev pub waiting : Kind → ℤ → Option ℕ → Task → TaskOf Arg

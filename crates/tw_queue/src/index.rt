@@ -2,9 +2,8 @@
 
 ghost use Rattle.std.specs.Prelude.{◌≡◌, ℕ, [], IfNone, IfOk, IfSome, IsOk, OnErr, OnOk, true};
 ghost use Rattle.tw_types.specs.declared.actor.Kind.{Kind};
-ghost use Rattle.tw_queue.specs.Lists.{lane_of};
-ghost use Rattle.tw_queue.specs.Index.{ranks_of, has_room_for, IsRankBest, IsRankAdded, IsRankGone};
-ghost use Rattle.tw_queue.specs.Queues.{IsTarget};
+ghost use Rattle.tw_queue.specs.Index.{ranks_of, has_room_for, IsRankBest, IsRankAdded, IsRankGone, IsRankRoomKept};
+ghost use Rattle.tw_queue.specs.Queues.{IsTarget, lane_of};
 
 use crate::lists::Lists;
 use crate::rank::Rank;
@@ -28,16 +27,17 @@ impl Index {
         Ok(Index { control, leaf })
     }
 
-    /// Makes room for one rank of a kind, for whatever target.
-    pub fn reserve(&mut self, kind: Kind) -> Result<(), AllocError>
+    /// Makes room for the rank of one task of this kind and this target.
+    pub fn reserve(&mut self, kind: Kind, target: Option<u8>) -> Result<(), AllocError>
+        requires { IsTarget target }
         ensures same { ranks_of self.new ≡ ranks_of self.old }
-        ensures room { OnOk result (has_room_for kind self.new ≡ true) }
-        ensures kept { (other : Kind) → has_room_for other self.old ≡ true → has_room_for other self.new ≡ true }
-        ensures reserved { has_room_for kind self.old ≡ true → IsOk result }
+        ensures room { OnOk result (has_room_for kind (lane_of target) self.new ≡ true) }
+        ensures kept { IsRankRoomKept self.old self.new }
+        ensures reserved { has_room_for kind (lane_of target) self.old ≡ true → IsOk result }
     {
         match kind {
-            Kind::Control => self.control.reserve(),
-            Kind::Leaf => self.leaf.reserve(),
+            Kind::Control => self.control.reserve(target),
+            Kind::Leaf => self.leaf.reserve(target),
         }
     }
 
@@ -46,8 +46,8 @@ impl Index {
         requires { IsTarget target }
         ensures pushed { OnOk result (IsRankAdded kind (lane_of target) rank (ranks_of self.new) (ranks_of self.old)) }
         ensures refused { OnErr result (ranks_of self.new ≡ ranks_of self.old) }
-        ensures room { OnErr result ((other : Kind) → has_room_for other self.old ≡ true → has_room_for other self.new ≡ true) }
-        ensures reserved { has_room_for kind self.old ≡ true → IsOk result }
+        ensures room { OnErr result (IsRankRoomKept self.old self.new) }
+        ensures reserved { has_room_for kind (lane_of target) self.old ≡ true → IsOk result }
     {
         match kind {
             Kind::Control => self.control.push(target, rank),
@@ -71,7 +71,7 @@ impl Index {
         ensures best { IsRankBest actor (ranks_of self.old) result }
         ensures taken { IfSome result (λ rank. IsRankGone rank (ranks_of self.old) (ranks_of self.new)) }
         ensures none { IfNone result (ranks_of self.new ≡ ranks_of self.old) }
-        ensures room { (kind : Kind) → has_room_for kind self.old ≡ true → has_room_for kind self.new ≡ true }
+        ensures room { IsRankRoomKept self.old self.new }
     {
         match actor {
             Actor::Engine(number) => self.control.take(number),

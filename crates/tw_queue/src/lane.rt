@@ -64,6 +64,7 @@ impl Lane {
     pub fn push(&mut self, rank: Rank) -> Result<(), AllocError>
         ensures pushed { OnOk result (IsPermutation (rank ∷ self.old.ranks) self.new.ranks) }
         ensures refused { OnErr result (self.new.ranks ≡ self.old.ranks) }
+        ensures room { OnErr result (self.old.has_room ≡ true → self.new.has_room ≡ true) }
         ensures reserved { self.old.has_room ≡ true → IsOk result }
     {
         if is_next(&self.run, rank) {

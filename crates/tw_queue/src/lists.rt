@@ -1,7 +1,8 @@
 //! The ranks of the tasks of one kind.
 
 ghost use Rattle.std.specs.Prelude.{◌≡◌, ◌<◌, ◌≤◌, [], IsOk, IfOk, IfSome, IfNone, OnOk, OnErr, replicate, true};
-ghost use Rattle.tw_queue.specs.Lists.{lane_of, ranks_at, IsPushed, IsFirstAt, IsBestLane, IsBest, IsTaken};
+ghost use Rattle.tw_queue.specs.Lists.{ranks_at, AreRoomsKept, IsPushed, IsFirstAt, IsBestLane, IsBest, IsTaken};
+ghost use Rattle.tw_queue.specs.Queues.{lane_of, room_at};
 
 use crate::lane::Lane;
 use crate::rank::Rank;
@@ -42,18 +43,16 @@ impl Lists {
         Ok(Lists { lanes })
     }
 
-    /// Makes room for one rank at every lane.
-    pub fn reserve(&mut self) -> Result<(), AllocError>
+    /// Makes room for the rank of one task for this target.
+    pub fn reserve(&mut self, target: Option<u8>) -> Result<(), AllocError>
+        requires { lane_of target < 17 }
         ensures same { self.new.lanes ≡ self.old.lanes }
-        ensures room { OnOk result (self.new.has_room ≡ true) }
-        ensures kept { self.old.has_room ≡ true → self.new.has_room ≡ true }
-        ensures reserved { self.old.has_room ≡ true → IsOk result }
+        ensures room { OnOk result (room_at self.new.rooms (lane_of target) ≡ true) }
+        ensures kept { AreRoomsKept self.old.rooms self.new.rooms }
+        ensures reserved { room_at self.old.rooms (lane_of target) ≡ true → IsOk result }
     {
-        for index in 0..self.lanes.len() {
-            let lane = &mut self.lanes[index];
-            lane.reserve()?;
-        }
-        Ok(())
+        let lane = &mut self.lanes[lane_of(target)];
+        lane.reserve()
     }
 
     /// Puts the rank of a task for this target.
@@ -61,7 +60,8 @@ impl Lists {
         requires { lane_of target < 17 }
         ensures pushed { OnOk result (IsPushed (lane_of target) rank (ranks_at self.old.lanes) (ranks_at self.new.lanes)) }
         ensures refused { OnErr result (self.new.lanes ≡ self.old.lanes) }
-        ensures reserved { self.old.has_room ≡ true → IsOk result }
+        ensures room { OnErr result (AreRoomsKept self.old.rooms self.new.rooms) }
+        ensures reserved { room_at self.old.rooms (lane_of target) ≡ true → IsOk result }
     {
         let lane = &mut self.lanes[lane_of(target)];
         lane.push(rank)
@@ -80,7 +80,7 @@ impl Lists {
         ensures best { IsBest number (ranks_at self.old.lanes) result }
         ensures taken { IfSome result (λ rank. IsTaken rank (ranks_at self.old.lanes) (ranks_at self.new.lanes)) }
         ensures none { IfNone result (self.new.lanes ≡ self.old.lanes) }
-        ensures room { self.old.has_room ≡ true → self.new.has_room ≡ true }
+        ensures room { AreRoomsKept self.old.rooms self.new.rooms }
     {
         let (index, _) = self.best_lane(number)?;
         let lane = &mut self.lanes[index];

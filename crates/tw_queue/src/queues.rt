@@ -5,8 +5,7 @@ ghost use Rattle.std.specs.FinMap as map;
 ghost use Rattle.std.specs.FinMap.{get};
 ghost use Rattle.std.specs.Option.{option_copied};
 ghost use Rattle.tw_types.specs.Task.{best};
-ghost use Rattle.tw_types.specs.declared.actor.Kind.{Kind};
-ghost use Rattle.tw_queue.specs.Queues.{IsTarget, handed_out, room_for, waiting, without};
+ghost use Rattle.tw_queue.specs.Queues.{IsRoomKept, IsTarget, handed_out, room_for, waiting, without};
 
 use crate::index::Index;
 use crate::rank::Rank;
@@ -24,7 +23,6 @@ pub struct TaskQueues {
 }
 
 impl Model for TaskQueues {
-    ghost use Rattle.std.specs.Prelude.{◌&&◌};
     ghost use Rattle.tw_queue.specs.Queues.{Queues};
     ghost use Rattle.std.specs.Coded.{codes, coded_ℕ};
     ghost use Rattle.std.specs.FinMap.{code};
@@ -36,14 +34,14 @@ impl Model for TaskQueues {
 
     ghost coded = { Prim.hlevel (codes, code {X = TaskOf Arg} {R = nat_cmp} coded_ℕ (Prim.hlevel codes)) };
 
-    ghost use Rattle.tw_queue.specs.Index.{ranks_of};
+    ghost use Rattle.tw_queue.specs.Index.{ranks_of, rooms_with};
     ghost use Rattle.tw_queue.specs.Slots.{slot_at};
     ghost use Rattle.tw_queue.specs.Indexed.{tasks_in, IsIndex};
 
     ghost view = { λ q. record {
       tasks = tasks_in q.tasks.slots;
-      control_room = q.tasks.has_room && q.index.control.has_room;
-      leaf_room = q.tasks.has_room && q.index.leaf.has_room;
+      control_rooms = rooms_with q.tasks.has_room q.index.control.rooms;
+      leaf_rooms = rooms_with q.tasks.has_room q.index.leaf.rooms;
     } };
 
     ghost invariant = { λ q. IsIndex (slot_at q.tasks.slots) (ranks_of q.index) };
@@ -68,15 +66,16 @@ impl TaskQueues {
         self.tasks.len()
     }
 
-    /// Makes room for one task of a kind, for whatever target.
-    pub fn reserve(&mut self, kind: Kind) -> Result<(), AllocError>
+    /// Makes room for one task of this kind and this target.
+    pub fn reserve(&mut self, kind: Kind, target: Option<u8>) -> Result<(), AllocError>
+        requires { IsTarget target }
         ensures same { self.new.tasks ≡ self.old.tasks }
-        ensures room { OnOk result (room_for kind self.new ≡ true) }
-        ensures kept { (other : Kind) → room_for other self.old ≡ true → room_for other self.new ≡ true }
-        ensures reserved { room_for kind self.old ≡ true → IsOk result }
+        ensures room { OnOk result (room_for kind target self.new ≡ true) }
+        ensures kept { IsRoomKept self.old self.new }
+        ensures reserved { room_for kind target self.old ≡ true → IsOk result }
     {
         self.tasks.reserve()?;
-        self.index.reserve(kind)
+        self.index.reserve(kind, target)
     }
 
     /// Puts a task, or hands it back where memory is refused.
@@ -91,9 +90,9 @@ impl TaskQueues {
         requires target { IsTarget target }
         ensures put { OnOk result (self.new.tasks ≡ map.insert self.old.tasks task.no (waiting kind priority target task)) }
         ensures refused { OnErr result (self.new.tasks ≡ self.old.tasks) }
-        ensures room { OnErr result ((other : Kind) → room_for other self.old ≡ true → room_for other self.new ≡ true) }
+        ensures room { OnErr result (IsRoomKept self.old self.new) }
         ensures back { IfErr result (λ back. back ≡ task) }
-        ensures reserved { room_for kind self.old ≡ true → IsOk result }
+        ensures reserved { room_for kind target self.old ≡ true → IsOk result }
     {
         let number = task.no.number();
         let Ok(()) = self.tasks.reserve() else {
@@ -132,7 +131,7 @@ impl TaskQueues {
     pub fn take(&mut self, actor: Actor) -> Option<Task>
         ensures taken { result ≡ option_map handed_out (best actor self.old.tasks) }
         ensures rest { self.new.tasks ≡ without (best actor self.old.tasks) self.old.tasks }
-        ensures room { (kind : Kind) → room_for kind self.old ≡ true → room_for kind self.new ≡ true }
+        ensures room { IsRoomKept self.old self.new }
     {
         let rank = self.index.take(actor)?;
         let Waiting {

@@ -1,5 +1,5 @@
 -- How the rights of a bundle come into the first registers of a file.
-use Rattle.std.proofs.Common.{◌≡◌, ◌<◌, ◌≤◌, ◌+◌, ◌-◌, ◌∙◌, ℕ, suc, zero, List, [], ◌∷◌, ◌++◌, Option, Some, None, refl, sym, ap, arith, map as each, get_or, set, length, length-append, replicate}
+use Rattle.std.proofs.Common.{◌≡◌, ◌<◌, ◌≤◌, ◌-◌, ◌∙◌, ℕ, suc, zero, List, [], ◌∷◌, ◌++◌, Option, Some, None, refl, sym, ap, arith, map as each, get_or, set, length, length-append, replicate}
 use Rattle.tw_types.specs.declared.value.Value.{Value}
 use Rattle.tw_rights.specs.declared.arg.Arg.{Arg}
 use Rattle.tw_rights.specs.declared.arg.Arg.TheVariants as arg

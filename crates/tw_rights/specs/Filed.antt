@@ -1,5 +1,5 @@
 -- The rights among arguments, and the file whose first registers have them.
-use Rattle.std.specs.Prelude.{ℕ, ◌-◌, List, [], ◌∷◌, ◌++◌, map as each, length, replicate, Option, Some, None}
+use Rattle.std.specs.Prelude.{◌-◌, List, [], ◌∷◌, ◌++◌, map as each, length, replicate, Option, Some, None}
 use Rattle.tw_rights.specs.declared.arg.Arg.{Arg}
 use Rattle.tw_rights.specs.declared.arg.Arg.TheVariants as arg
 use Rattle.tw_rights.specs.declared.held.Held.{Held}

@@ -118,8 +118,8 @@ pub fn release(
     let Some(rule) = rules.next_release(engine) else {
         return Ok(None);
     };
-    tasks.reserve(kind)?;
     let action = rules.action(rule);
+    tasks.reserve(kind, action.target)?;
     let task = Task {
         no,
         procedure: action.procedure,

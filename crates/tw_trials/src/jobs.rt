@@ -66,9 +66,13 @@ pub(crate) fn stretch_of(
         shut(task);
         return Err(AllocError);
     };
-    let Ok(start) = rooms.start(alloc, &task, verified) else {
-        shut(task);
-        return Err(AllocError);
+    let start = match rooms.start(alloc, &task, verified) {
+        Ok(start) => start,
+        Err(rooms) => {
+            rooms.shut();
+            shut(task);
+            return Err(AllocError);
+        }
     };
     let (mut frame, draft) = Frame::start(task, Actor::Engine(0), verified, start);
     let job = frame.lend(0, draft);

@@ -62,9 +62,11 @@ impl Numbered {
         self.queues.len()
     }
 
-    /// Makes room for one task of a kind.
-    pub fn reserve(&mut self, kind: Kind) -> Result<(), AllocError> {
-        self.queues.reserve(kind)
+    /// Makes room for one task of this kind and this target.
+    pub fn reserve(&mut self, kind: Kind, target: Option<u8>) -> Result<(), AllocError>
+        requires { IsTarget target }
+    {
+        self.queues.reserve(kind, target)
     }
 
     /// Puts the next task.

@@ -157,15 +157,18 @@ fn target_of(seed: &mut u64) -> Option<u8>
 
 /// Makes room for a task, at the second time if memory is refused at the first; whether that went, and a refusal
 /// changed nothing.
-fn reserve_agrees(queues: &mut Numbered, plains: &[Plain], kind: Kind) -> bool {
-    queues.reserve(kind).is_ok() || are_listed(queues, plains) && queues.reserve(kind).is_ok()
+fn reserve_agrees(queues: &mut Numbered, plains: &[Plain], kind: Kind, target: Option<u8>) -> bool
+    requires { IsTarget target }
+{
+    queues.reserve(kind, target).is_ok()
+        || are_listed(queues, plains) && queues.reserve(kind, target).is_ok()
 }
 
 /// Puts a task into both, with room made before or in the same way; whether that went.
 fn put_agrees(queues: &mut Numbered, plains: &mut Vec<Plain>, seed: &mut u64) -> bool {
     let (kind, priority, target) = (kind_of(seed), priority_of(seed), target_of(seed));
     let has_room = draw(seed, 2) == 0;
-    if has_room && !reserve_agrees(queues, plains, kind) {
+    if has_room && !reserve_agrees(queues, plains, kind, target) {
         return false;
     }
     let mut put = queues.put(kind, priority, target);

@@ -1,5 +1,4 @@
-use Rattle.std.proofs.Common.{◌≡◌, ◌<◌, ◌++◌, ◌∷◌, [], ◌∙◌, sym, ap, arith, length, length-append}
-use Rattle.tw_rights.specs.declared.arg.Arg.{Arg}
+use Rattle.std.proofs.Common.{◌∷◌, [], ◌∙◌, ap, arith, length, length-append}
 use Rattle.tw_rights.specs.declared.held.Held.TheVariants.{Read, Write}
 use Rattle.tw_rights.specs.Filed.{filed, rights_in}
 use Rattle.tw_rights.proofs.Filing.{few_left, filed_one, read_last, value_last, write_last}

@@ -42,6 +42,11 @@ values_of-requires-clause-suit c =
     let params = params_of_callee c.args.done.before.program.program c.procedures.result.now procedures c.args.action.now.procedure c.procedure_at-callee.result.now c.procedure_at-callee.ensures u.procedure u.is c.as_slice-params.result.now c.as_slice-params.ensures in
     suit c.args.self.now c.args.actor c.args.done (instr.Put c.args.action.now) c.requires.stands c.args.action.now u c.as_slice-params.result.now params c.as_slice-registers.result.now c.as_slice-registers.ensures
 
+pub reserve-requires : goal.reserve-requires
+reserve-requires c =
+    let s = c.requires.stands in
+    in_queue c.args.action.now.target (operands c.args.done.before.program.program s.parts.runnable.is s.f.procedure s.q s.here c.args.done.after.place (instr.Put c.args.action.now) s.behind).target
+
 pub hand_over-over-requires-clause-seat : goal.hand_over-over-requires-clause-seat
 hand_over-over-requires-clause-seat c = seat_there c.args.self.now c.args.actor c.args.done (instr.Put c.args.action.now) c.requires.stands
 

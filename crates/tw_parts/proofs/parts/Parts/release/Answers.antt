@@ -35,6 +35,13 @@ procedure_at-callee-requires c =
     let a = its_action _ it.x c.action-action.result it.there c.action-action.ensures in
     subst IsSome (sym (callee_is c.procedures.result.now c.args.verified.now.program it.x c.action-action.result q.0 (c.procedures.ensures.is ∙ c.program.ensures.is) a q.1)) refl
 
+pub reserve-requires : goal.reserve-requires
+reserve-requires c =
+    let p = c.requires.parts in
+    let it = its c.args.verified.now p.0 c.args.self.now p.1 p.2 c.args.engine c.in-Some.rule (sym c.in-Some.ensures) in
+    let a = its_action _ it.x c.action-action.result it.there c.action-action.ensures in
+    subst (λ (x : PlannedTask). IsTarget x.target) a (target c.args.verified.now p.0 c.args.self.now p.1 p.2 c.args.engine c.in-Some.rule (sym c.in-Some.ensures))
+
 pub release-args-requires : goal.release-args-requires
 release-args-requires c =
     let p = c.requires.parts in

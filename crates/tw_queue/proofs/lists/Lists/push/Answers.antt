@@ -1,7 +1,8 @@
-use Rattle.std.proofs.Common.{◌≡◌, ◌<◌, ap, subst, ◌∙◌, length, slice_set, arith}
+use Rattle.std.proofs.Common.{◌≡◌, ◌<◌, ap, sym, subst, ◌∙◌, length, slice_set, arith}
 use Rattle.std.specs.Result.{OnOk}
-use Rattle.tw_queue.specs.Lists.{IsPushed, lane_of, ranks_at, ranks_in}
-use Rattle.tw_queue.proofs.Lanes.{if_err, if_ok, pushed_at, same_ranks}
+use Rattle.tw_queue.specs.Lists.{IsPushed, ranks_at, ranks_in}
+use Rattle.tw_queue.specs.Queues.{lane_of, room_at}
+use Rattle.tw_queue.proofs.Lanes.{if_err, if_ok, pushed_at, room_was, rooms_kept, same_ranks}
 use Rattle.tw_queue.proofs.lists.Lists.push.Goals as goal
 
 pub returns-clause-pushed : goal.returns-clause-pushed
@@ -24,3 +25,22 @@ returns-clause-refused c =
     if_err c.push.result
     (λ same. same_ranks lanes c.lane_of.result low c.index_mut-lane.result.now c.push.new.self c.index_mut-lane.ensures.value same ∙ ap (λ l. l.lanes) c.self.view_is)
     c.push.ensures.refused
+
+pub returns-clause-room : goal.returns-clause-room
+returns-clause-room c =
+    let lanes = c.self.inside.lanes.items in
+    let count : length lanes ≡ 17 = c.self.invariant in
+    let at : c.lane_of.result ≡ lane_of c.args.target = c.lane_of.ensures in
+    let low : c.lane_of.result < length lanes = omega (arith, c.requires) in
+    if_err c.push.result
+    (λ kept lane room. rooms_kept lanes c.lane_of.result low c.index_mut-lane.result.now c.push.new.self c.index_mut-lane.ensures.value kept lane (ap (λ l. room_at l.rooms lane) c.self.view_is ∙ room))
+    c.push.ensures.room
+
+pub returns-clause-reserved : goal.returns-clause-reserved
+returns-clause-reserved c = λ room.
+    let lanes = c.self.inside.lanes.items in
+    let count : length lanes ≡ 17 = c.self.invariant in
+    let at : c.lane_of.result ≡ lane_of c.args.target = c.lane_of.ensures in
+    let low : c.lane_of.result < length lanes = omega (arith, c.requires) in
+    let was = room_was lanes c.lane_of.result low c.index_mut-lane.result.now c.push.new.self c.index_mut-lane.ensures.value in
+    c.push.ensures.reserved (sym was ∙ ap (room_at _) at ∙ ap (λ l. room_at l.rooms (lane_of c.args.target)) c.self.view_is ∙ room)

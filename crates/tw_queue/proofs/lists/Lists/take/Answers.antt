@@ -2,7 +2,8 @@ use Rattle.std.proofs.Common.{◌≡◌, ◌<◌, ap, sym, subst, ◌∙◌, len
 use Rattle.std.specs.Option.{IfSome}
 use Rattle.std.specs.List.{Contains}
 use Rattle.tw_queue.specs.Lists.{IsAheadOfAll, IsBest, IsTaken, ranks_at, ranks_in}
-use Rattle.tw_queue.proofs.Lanes.{best_at, room_at, room_kept, taken_at}
+use Rattle.tw_queue.specs.Queues.{room_at}
+use Rattle.tw_queue.proofs.Lanes.{best_at, rooms_kept, taken_at}
 use Rattle.tw_queue.proofs.lists.Lists.take.Goals as goal
 
 pub returns-clause-best : goal.returns-clause-best
@@ -27,11 +28,9 @@ returns-clause-taken c =
     (taken_at lanes c.in_ok-index.index low c.index_mut-lane.result.now c.pop.new.self c.index_mut-lane.ensures.value c.pop.result c.pop.ensures.popped)
 
 pub returns-clause-room : goal.returns-clause-room
-returns-clause-room c = λ all.
+returns-clause-room c = λ lane room.
     let lanes = c.self.inside.lanes.items in
     let count : length lanes ≡ 17 = c.self.invariant in
     let low : c.in_ok-index.index < length lanes = omega (arith, c.in_ok-index.ensures.0) in
-    let whole = ap (λ l. l.has_room) c.self.view_is ∙ all in
     let at = c.index_mut-lane.ensures.value in
-    room_kept lanes c.in_ok-index.index low c.index_mut-lane.result.now c.pop.new.self at whole
-    (c.pop.ensures.room (room_at lanes c.in_ok-index.index low c.index_mut-lane.result.now c.pop.new.self at whole))
+    rooms_kept lanes c.in_ok-index.index low c.index_mut-lane.result.now c.pop.new.self at c.pop.ensures.room lane (ap (λ l. room_at l.rooms lane) c.self.view_is ∙ room)

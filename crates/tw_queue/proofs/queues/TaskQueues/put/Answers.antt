@@ -5,18 +5,32 @@ use Rattle.std.specs.List.Sorted.{IsPermutation}
 use Rattle.tw_queue.specs.declared.waiting.Waiting.{Waiting}
 use Rattle.tw_queue.specs.Index.{ranks_of}
 use Rattle.tw_queue.specs.Indexed.{IsIndex, tasks_in}
-use Rattle.tw_queue.specs.Lists.{lane_of}
 use Rattle.tw_queue.specs.Slots.{IsChangedAt, slot_at}
-use Rattle.tw_queue.specs.Queues.{room_for, waiting}
+use Rattle.tw_queue.specs.Queues.{lane_of, room_for, waiting}
 use Rattle.tw_queue.proofs.Entries.{apart_put, fresh, tasks_put, updated}
 use Rattle.tw_queue.proofs.Indexing.{put_index, ranked}
-use Rattle.tw_queue.proofs.Rooms.{room_still}
+use Rattle.tw_queue.proofs.Rooms.{rank_room, room_still, slot_room}
 use Rattle.tw_queue.proofs.queues.TaskQueues.put.Goals as goal
 
+pub returns-in_default-clause-room : goal.returns-in_default-clause-room
+returns-in_default-clause-room c = λ kind target room.
+    room_still (tasks_in c.self.inside.tasks.slots) (tasks_in c.reserve.new.self.slots) c.self.inside.tasks.has_room c.reserve.new.self.has_room c.self.inside.index c.self.inside.index
+    c.reserve.ensures.kept (λ k lane there. there) kind target (subst (λ q. room_for kind target q ≡ true) (sym c.self.view_is) room)
+
+pub returns-in_default-clause-reserved : goal.returns-in_default-clause-reserved
+returns-in_default-clause-reserved c = λ room.
+    c.in_default.ensures.reserved (slot_room c.args.kind c.args.target (tasks_in c.self.inside.tasks.slots) c.self.inside.tasks.has_room c.self.inside.index
+    (subst (λ q. room_for c.args.kind c.args.target q ≡ true) (sym c.self.view_is) room))
+
+pub returns-in_default-push-clause-reserved : goal.returns-in_default-push-clause-reserved
+returns-in_default-push-clause-reserved c = λ room.
+    c.in_default-push.ensures.reserved (rank_room c.args.kind c.args.target (tasks_in c.self.inside.tasks.slots) c.self.inside.tasks.has_room c.self.inside.index
+    (subst (λ q. room_for c.args.kind c.args.target q ≡ true) (sym c.self.view_is) room))
+
 pub returns-in_default-push-clause-room : goal.returns-in_default-push-clause-room
-returns-in_default-push-clause-room c = λ other all.
-    room_still other (tasks_in c.self.inside.tasks.slots) (tasks_in c.reserve.new.self.slots) c.self.inside.tasks.has_room c.reserve.new.self.has_room c.self.inside.index c.push.new.self
-    c.reserve.ensures.kept (c.in_default-push.ensures.room other) (subst (λ q. room_for other q ≡ true) (sym c.self.view_is) all)
+returns-in_default-push-clause-room c = λ kind target room.
+    room_still (tasks_in c.self.inside.tasks.slots) (tasks_in c.reserve.new.self.slots) c.self.inside.tasks.has_room c.reserve.new.self.has_room c.self.inside.index c.push.new.self
+    c.reserve.ensures.kept c.in_default-push.ensures.room kind target (subst (λ q. room_for kind target q ≡ true) (sym c.self.view_is) room)
 
 pub invariant_of-self-2 : goal.invariant_of-self-2
 invariant_of-self-2 c =

@@ -1,10 +1,28 @@
-use Rattle.std.proofs.Common.{◌≡◌, true, sym, subst}
+use Rattle.std.proofs.Common.{◌≡◌, true, false, sym, subst}
 use Rattle.tw_queue.specs.Indexed.{tasks_in}
 use Rattle.tw_queue.specs.Queues.{room_for}
-use Rattle.tw_queue.proofs.Rooms.{room_still}
+use Rattle.tw_queue.proofs.Rooms.{rank_room, room_still, slot_room}
 use Rattle.tw_queue.proofs.queues.TaskQueues.reserve.Goals as goal
 
+no_room : false ≡ true → ⊥
+no_room e = cc
+
+pub returns-in_err-reserve-clause-kept : goal.returns-in_err-reserve-clause-kept
+returns-in_err-reserve-clause-kept c = λ kind target room.
+    room_still (tasks_in c.self.inside.tasks.slots) (tasks_in c.reserve.new.self.slots) c.self.inside.tasks.has_room c.reserve.new.self.has_room c.self.inside.index c.self.inside.index
+    c.reserve.ensures.kept (λ k lane there. there) kind target (subst (λ q. room_for kind target q ≡ true) (sym c.self.view_is) room)
+
+pub returns-in_err-reserve-clause-reserved : goal.returns-in_err-reserve-clause-reserved
+returns-in_err-reserve-clause-reserved c = λ room.
+    absurd (no_room (c.in_err-reserve.ensures.reserved (slot_room c.args.kind c.args.target (tasks_in c.self.inside.tasks.slots) c.self.inside.tasks.has_room c.self.inside.index
+    (subst (λ q. room_for c.args.kind c.args.target q ≡ true) (sym c.self.view_is) room))))
+
+pub returns-clause-reserved : goal.returns-clause-reserved
+returns-clause-reserved c = λ room.
+    c.reserve-2.ensures.reserved (rank_room c.args.kind c.args.target (tasks_in c.self.inside.tasks.slots) c.self.inside.tasks.has_room c.self.inside.index
+    (subst (λ q. room_for c.args.kind c.args.target q ≡ true) (sym c.self.view_is) room))
+
 pub returns-clause-kept : goal.returns-clause-kept
-returns-clause-kept c = λ other all.
-    room_still other (tasks_in c.self.inside.tasks.slots) (tasks_in c.reserve.new.self.slots) c.self.inside.tasks.has_room c.reserve.new.self.has_room c.self.inside.index c.reserve-2.new.self
-    c.reserve.ensures.kept (c.reserve-2.ensures.kept other) (subst (λ q. room_for other q ≡ true) (sym c.self.view_is) all)
+returns-clause-kept c = λ kind target room.
+    room_still (tasks_in c.self.inside.tasks.slots) (tasks_in c.reserve.new.self.slots) c.self.inside.tasks.has_room c.reserve.new.self.has_room c.self.inside.index c.reserve-2.new.self
+    c.reserve.ensures.kept c.reserve-2.ensures.kept kind target (subst (λ q. room_for kind target q ≡ true) (sym c.self.view_is) room)

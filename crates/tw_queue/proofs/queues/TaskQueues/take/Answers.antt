@@ -24,11 +24,11 @@ returns-in_err-rank-clause-rest c =
     subst (λ q. tasks_in slots ≡ without (best c.args.actor q.tasks) q.tasks) c.self.view_is (ap (λ o. without o (tasks_in slots)) (sym none))
 
 pub returns-in_err-rank-clause-room : goal.returns-in_err-rank-clause-room
-returns-in_err-rank-clause-room c = λ kind all.
+returns-in_err-rank-clause-room c = λ kind target all.
     let tasks = tasks_in c.self.inside.tasks.slots in
     let room = c.self.inside.tasks.has_room in
-    room_still kind tasks tasks room room c.self.inside.index c.take.new.self (λ e. e) (c.take.ensures.room kind)
-    (subst (λ q. room_for kind q ≡ true) (sym c.self.view_is) all)
+    room_still tasks tasks room room c.self.inside.index c.take.new.self (λ e. e) c.take.ensures.room kind target
+    (subst (λ q. room_for kind target q ≡ true) (sym c.self.view_is) all)
 
 pub take-task-requires : goal.take-task-requires
 take-task-requires c =
@@ -65,6 +65,6 @@ returns-clause-rest c =
     (tasks_gone rank.slot told.waiting old new c.self.invariant.apart told.there c.take-task.ensures.rest ∙ ap (λ o. without o (tasks_in old)) (sym told.best_is))
 
 pub returns-clause-room : goal.returns-clause-room
-returns-clause-room c = λ kind all.
-    room_still kind (tasks_in c.self.inside.tasks.slots) (tasks_in c.take-task.new.self.slots) c.self.inside.tasks.has_room c.take-task.new.self.has_room c.self.inside.index c.take.new.self
-    (λ e. c.take-task.ensures.room) (c.take.ensures.room kind) (subst (λ q. room_for kind q ≡ true) (sym c.self.view_is) all)
+returns-clause-room c = λ kind target all.
+    room_still (tasks_in c.self.inside.tasks.slots) (tasks_in c.take-task.new.self.slots) c.self.inside.tasks.has_room c.take-task.new.self.has_room c.self.inside.index c.take.new.self
+    (λ e. c.take-task.ensures.room) c.take.ensures.room kind target (subst (λ q. room_for kind target q ≡ true) (sym c.self.view_is) all)
