@@ -17,7 +17,7 @@ compare() {
     [ -n "$command" ] || return 0
     shown=$((shown + 1))
     sh -c "$command" >printed 2>told </dev/null
-    number=$(sed -n '1s/^refused \([A-Z][0-9]*\).*/\1/p' printed)
+    number=$(sed -n '/^refused /{s/^refused \([A-Z][0-9]*\).*/\1/p;q;}' printed)
     cmp -s printed wanted && { [ -z "$number" ] || grep -qF "./tw explain $number says more" told; } && return
     differ=$((differ + 1))
     echo "\$ $command"

@@ -35,7 +35,7 @@ that the refused place comes from, as `at line 17: STORE d0 v0`.
 Where it is accepted, a line for each procedure tells how many instructions a task of it does at most, and a last
 line how many engines and workers its targets need.
 With --places the program is listed before these lines as `tw disasm --places` lists it, and behind each instruction
-stands what the right registers hold there, as `d0 write int`.
+stands what the right registers hold there, as `d0 write int`; before a refusal, up to the refused place.
 Exit status: 0 accepted, 1 refused, 2 command line refused, 5 memory ran out, 7 a read or write failed.",
 };
 

@@ -1,6 +1,6 @@
--- What `--places` lists of a program: each instruction with its place, and of an accepted program what the right registers
--- hold there.
-use Rattle.std.specs.Prelude.{◌≡◌, ℕ, zero, suc, ◌+◌, ◌-◌, List, [], ◌∷◌, ◌++◌, codes, decimal, length, replicate, Option, Some, None, slice_get}
+-- What `--places` lists of a program: each instruction with its place, and where the program is checked, with what the right
+-- registers hold there, as far as that is known.
+use Rattle.std.specs.Prelude.{◌≡◌, ℕ, zero, suc, ◌+◌, ◌-◌, ◌<◌, List, [], ◌∷◌, ◌++◌, codes, decimal, length, replicate, Option, Some, None, slice_get}
 use Rattle.tw_code.specs.declared.instr.Instr.{Instr}
 use Rattle.tw_code.specs.declared.procedure.Procedure.{Procedure}
 use Rattle.tw_code.specs.machine.Holders.{Typings}
@@ -10,6 +10,7 @@ use Rattle.tw_asm.specs.Disassembly.{disassembly, label_at, label_line, label_pl
 use Rattle.tw_asm.specs.Listing.{head_lines, instr_text, right_text}
 use Rattle.tw_command.specs.declared.command.Places.{Places}
 use Rattle.tw_command.specs.declared.command.Places.TheVariants.{Hidden, Shown}
+use Rattle.tw_verify.specs.Known.{AreFound}
 
 -- ---- columns
 
@@ -77,3 +78,8 @@ disassembled Shown program = listing_from no_typings 0 program
 -- with what the registers of an accepted program hold
 abbrev pub IsListing : List Procedure → List ℕ → Type 0
 IsListing program text = (typings : Typings) × AreRight program typings × (text ≡ listing_from typings 0 program)
+
+-- with what is known of the registers of one that is refused with a number in a procedure
+abbrev pub IsRefusedListing : List Procedure → ℕ → ℕ → List ℕ → Type 0
+IsRefusedListing program number refused text =
+    (typings : Typings) × ((procedure : ℕ) → procedure < length program → AreFound program number refused procedure (typings procedure)) × (text ≡ listing_from typings 0 program)

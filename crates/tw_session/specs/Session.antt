@@ -1,5 +1,5 @@
 -- What a session writes and how it ends, by the bytes that it reads.
-use Rattle.std.specs.Prelude.{◌≡◌, ◌⊎◌, ◌++◌, ℕ, List, length, codes, Result, Ok, Err, nat_lt, MatchBool, Option, ⊤}
+use Rattle.std.specs.Prelude.{◌≡◌, ◌⊎◌, ◌++◌, ℕ, List, [], length, codes, Result, Ok, Err, nat_lt, MatchBool, Option, ⊤}
 use Rattle.hex.specs.Hex.{decode_of, encode_lower}
 use Rattle.hex.specs.declared.FromHexError.{FromHexError}
 use Rattle.tw_code.specs.declared.procedure.Procedure.{Procedure}
@@ -27,7 +27,7 @@ use Rattle.tw_command.specs.CommandLine.{Asked, IsAsked, IsExplained, IsRefusedI
 use Rattle.tw_report.specs.Lines.{fault_line, input_word_line, verify_line}
 use Rattle.tw_session.specs.Reply.{Reply, reply}
 use Rattle.tw_session.specs.Check.{IsCheckText}
-use Rattle.tw_session.specs.Listing.{IsListing, disassembled}
+use Rattle.tw_session.specs.Listing.{IsListing, IsRefusedListing, disassembled}
 use Rattle.tw_session.specs.Replay.{RepliesByReplay}
 use Rattle.tw_session.specs.Run.{RepliesByOpening}
 use Rattle.tw_session.specs.Text.{Behind, RepliesByAssembly, RepliesByUtf8, line_behind, nothing_behind}
@@ -47,15 +47,25 @@ abbrev pub RepliesByAccepted : VerifiedOrder → List Procedure → Reply → Ty
 RepliesByAccepted (Check places) program r = RepliesByCheck places program r
 RepliesByAccepted (Run order) program r = RepliesByOpening program order r
 
--- what is written of the first refusal, with what stands behind its line
-abbrev pub IsRefused : Behind → List Procedure → Reply → Type 0
-IsRefused behind program r =
-    (number : ℕ) × (procedure : ℕ) × (place : ℕ) × (more : List ℕ) × IsFirstRefusal program number procedure place × behind procedure place more
-    × (r ≡ reply (verify_line number procedure place ++ more) Refused)
+-- whether a listing is asked for
+abbrev pub places_of : VerifiedOrder → Places
+places_of (Check places) = places
+places_of (Run order) = Hidden
+
+-- what stands before a refusal: the program's listing where that is asked for
+abbrev pub StandsBefore : Places → List Procedure → ℕ → ℕ → List ℕ → Type 0
+StandsBefore Hidden program number procedure before = before ≡ []
+StandsBefore Shown program number procedure before = IsRefusedListing program number procedure before
+
+-- what is written of the first refusal, with what stands before and behind its line
+abbrev pub IsRefused : Places → Behind → List Procedure → Reply → Type 0
+IsRefused places behind program r =
+    (number : ℕ) × (procedure : ℕ) × (place : ℕ) × (before : List ℕ) × (more : List ℕ) × IsFirstRefusal program number procedure place
+    × StandsBefore places program number procedure before × behind procedure place more × (r ≡ reply (before ++ (verify_line number procedure place ++ more)) Refused)
 
 -- the program is accepted; or it is refused
 abbrev pub RepliesByVerified : Behind → VerifiedOrder → List Procedure → Reply → Type 0
-RepliesByVerified behind order program r = (IsAccepted program × RepliesByAccepted order program r) ⊎ IsRefused behind program r
+RepliesByVerified behind order program r = (IsAccepted program × RepliesByAccepted order program r) ⊎ IsRefused (places_of order) behind program r
 
 -- the program's assembly text is written, or its listing; or the program is verified
 abbrev pub RepliesByProgram : Behind → ProgramOrder → List Procedure → Reply → Type 0

@@ -5,8 +5,9 @@ ghost use Rattle.std.specs.List.{AllByRecursion};
 ghost use Rattle.tw_asm.specs.Disassembly.{label_places};
 ghost use Rattle.tw_code.specs.format.Program.{IsInstr, IsProcedure};
 ghost use Rattle.tw_code.specs.machine.Rights.{right_at};
-ghost use Rattle.tw_session.specs.Listing.{IsListing, beside, listing_from, no_typings, place_column, place_line, place_lines, procedure_listing};
+ghost use Rattle.tw_session.specs.Listing.{IsListing, IsRefusedListing, beside, listing_from, no_typings, place_column, place_line, place_lines, procedure_listing};
 ghost use Rattle.tw_session.specs.Listing.{right_column, rights_below, rights_text};
+ghost use Rattle.tw_verify.specs.Refusal.{verify_refusal_number};
 ghost use Rattle.tw_verify.specs.Typed.{typings_of};
 ghost use Rattle.std.specs.Prelude.{slice_get, Option};
 
@@ -15,7 +16,7 @@ use tw_asm::{LabelPlaces, put_head_lines, put_right};
 use tw_code::{Instr, Procedure, Program};
 use tw_report::{put, put_numbered};
 use tw_types::Param;
-use tw_verify::{RightType, Typing, Verified};
+use tw_verify::{Refused, RightType, Typing, Verified};
 
 /// How many columns a place has.
 const PLACE_COLUMNS: usize = 5;
@@ -170,6 +171,18 @@ pub fn typed_text(alloc: Global, verified: &Verified) -> Result<Vec<u8>, AllocEr
     for (number, procedure) in verified.program().procedures().iter().enumerate() {
         let typings = verified.typings(number);
         put_procedure(alloc, &mut text, number, procedure, typings)?;
+    }
+    Ok(text)
+}
+
+/// The listing of a refused program.
+pub fn refused_text(alloc: Global, refused: &Refused) -> Result<Vec<u8>, AllocError>
+    ensures { IfOk result (λ text. IsRefusedListing refused.now.program (verify_refusal_number refused.now.no) refused.now.procedure text.items) }
+{
+    let mut text = Vec::new(alloc);
+    for (number, procedure) in refused.program.procedures().iter().enumerate() {
+        let typings = refused.typings(alloc, number)?;
+        put_procedure(alloc, &mut text, number, procedure, typings.as_slice())?;
     }
     Ok(text)
 }

@@ -1,26 +1,26 @@
 //! What a session answers to the bytes that it reads.
 
-ghost use Rattle.std.specs.Prelude.{◌≡◌, ◌≢◌, ◌<◌, ◌≤◌, ◌++◌, ℕ, List, IfOk, length};
+ghost use Rattle.std.specs.Prelude.{◌≡◌, ◌≢◌, ◌<◌, ◌≤◌, IfOk, length};
 ghost use Rattle.tw_command.specs.declared.command.Order.TheVariants.{Assemble, Replay};
 ghost use Rattle.tw_command.specs.declared.command.Source.TheVariants.{Assembly};
-ghost use Rattle.tw_session.specs.Session.{IsChecked, IsWritten, MayReply, RepliesByAccepted, RepliesByBytes, RepliesByDigits};
-ghost use Rattle.tw_session.specs.Session.{RepliesByInput, RepliesByProgram, RepliesBySource, RepliesByText, RepliesByVerified};
+ghost use Rattle.tw_session.specs.Session.{IsChecked, IsRefused, IsWritten, MayReply, RepliesByAccepted, RepliesByBytes, RepliesByDigits};
+ghost use Rattle.tw_session.specs.Session.{RepliesByInput, RepliesByProgram, RepliesBySource, RepliesByText, RepliesByVerified, StandsBefore, places_of};
 ghost use Rattle.tw_session.specs.Listing.{disassembled};
 ghost use Rattle.tw_session.specs.Reply.{reply};
 ghost use Rattle.tw_session.specs.Input.{digits_in};
-ghost use Rattle.tw_session.specs.Source.{MayBeSource, MayBeSourceAt, behind_of};
+ghost use Rattle.tw_session.specs.Source.{MayBeSource, behind_of};
 ghost use Rattle.tw_session.specs.Text.{RepliesByAssembly};
 ghost use Rattle.tw_asm.specs.Fault.{fault_number};
 ghost use Rattle.tw_asm.specs.declared.fault.FaultNo.TheVariants as asm;
-ghost use Rattle.tw_report.specs.Lines.{asm_line, opening_line, verify_line};
-ghost use Rattle.tw_code.specs.declared.procedure.Procedure.{Procedure};
+ghost use Rattle.tw_report.specs.Lines.{asm_line, opening_line};
 ghost use Rattle.tw_code.specs.format.Reading.{program_of};
-ghost use Rattle.tw_code.specs.accepting.WellTyped.{IsAccepted};
+ghost use Rattle.tw_code.specs.accepting.WellTyped.{IsAccepted, IsFirstRefusal};
+ghost use Rattle.tw_verify.specs.Refusal.{verify_refusal_number};
 ghost use Rattle.hex.specs.Hex.{decode_of};
 
 use crate::check::check_text;
 use crate::input::{MOST_BYTES, digits};
-use crate::listing::{places_text, typed_text};
+use crate::listing::{places_text, refused_text, typed_text};
 use crate::replay::replay_reply;
 use crate::run::run_of;
 use crate::source::{SourceText, put_behind};
@@ -34,7 +34,7 @@ use tw_asm::{AsmFault, assemble, assemble_lined, disassemble};
 use tw_code::{FaultNo, Program, decode, encode};
 use tw_command::{Order, Places, ProgramOrder, ReplayOrder, Source, VerifiedOrder};
 use tw_report::{put, put_asm_line, put_fault_line, put_opening_line, put_verify_line};
-use tw_verify::{Verified, VerifyRefusal, verify};
+use tw_verify::{Refused, Verified, VerifyRefusal, verify};
 
 /// What a session writes, and how it ends.
 #[derive(Drop)]
@@ -98,21 +98,46 @@ fn accepted_reply<H: Threads + Wait + Clock + Sync>(
     }
 }
 
+/// Whether a listing is asked for.
+fn places_of(order: &VerifiedOrder) -> Places
+    ensures { result ≡ places_of order.now }
+{
+    match order {
+        VerifiedOrder::Check(places) => *places,
+        VerifiedOrder::Run(_) => Places::Hidden,
+    }
+}
+
+/// What stands before a refusal.
+fn text_before(alloc: Global, places: Places, refused: &Refused) -> Result<Vec<u8>, AllocError>
+    ensures { IfOk result (λ text. StandsBefore places refused.now.program (verify_refusal_number refused.now.no) refused.now.procedure text.items) }
+{
+    match places {
+        Places::Hidden => Ok(Vec::new(alloc)),
+        Places::Shown => refused_text(alloc, refused),
+    }
+}
+
 /// The reply where a program isn't accepted.
 fn refusal_reply(
     alloc: Global,
     source: &Option<SourceText<'_>>,
-    number: u8,
-    procedure: usize,
-    place: usize,
+    places: Places,
+    refused: &Refused,
 ) -> Result<Reply, AllocError>
-    requires { number < 100 }
-    ensures { IfOk result (λ r. (program : List Procedure) → MayBeSourceAt source.now program procedure place → (more : List ℕ) × behind_of source.now procedure place more
-        × (reply r.text.items r.close ≡ reply (verify_line number procedure place ++ more) Close.Refused)) }
+    requires source { MayBeSource source.now refused.now.program }
+    requires first { IsFirstRefusal refused.now.program (verify_refusal_number refused.now.no) refused.now.procedure refused.now.place }
+    ensures { IfOk result (λ r. IsRefused places (behind_of source.now) refused.now.program (reply r.text.items r.close)) }
 {
-    let mut text = Vec::new(alloc);
-    put_verify_line(alloc, &mut text, number, procedure, place)?;
-    put_behind(alloc, &mut text, source, procedure, place)?;
+    let mut text = text_before(alloc, places, refused)?;
+    put_verify_line(
+        alloc,
+        &mut text,
+        refused.no.number(),
+        refused.procedure,
+        refused.place,
+    )?;
+    put_behind(alloc, &mut text, source, refused.procedure, refused.place)?;
     Ok(Reply {
         text,
         close: Close::Refused,
@@ -134,7 +159,7 @@ fn verified_reply<H: Threads + Wait + Clock + Sync>(
         Ok(verified) => accepted_reply(rt, alloc, order, verified),
         Err(refused) => match refused.no {
             VerifyRefusal::NoMemory => Err(AllocError),
-            no => refusal_reply(alloc, source, no.number(), refused.procedure, refused.place),
+            _ => refusal_reply(alloc, source, places_of(order), &refused),
         },
     }
 }

@@ -6,6 +6,7 @@ pub mod Places
 pub mod Programs
 pub mod QuickCode
 pub mod Reaching
+pub mod Stops
 pub mod RightTypings
 pub mod Typings
 pub mod Asking

@@ -9,10 +9,11 @@ ghost use Rattle.tw_code.specs.accepting.Structure.{IsStructured};
 ghost use Rattle.tw_code.specs.machine.Rights.{Typing};
 ghost use Rattle.tw_code.specs.accepting.Typing.{asks_at};
 ghost use Rattle.tw_code.specs.accepting.Walk.{IsBudget, greatest_budget};
-ghost use Rattle.tw_code.specs.accepting.WellTyped.{IsEndOf, IsWellTyped, IsTypingRefusal, IsBudgetRefusal, IsProcedureRefusal};
+ghost use Rattle.tw_code.specs.accepting.WellTyped.{IsEndOf, IsBudgetRefusal, IsProcedureRefusal};
 ghost use Rattle.tw_verify.specs.Refusal.{verify_refusal_number};
 ghost use Rattle.tw_verify.specs.Loops.{AreLoops};
-ghost use Rattle.tw_verify.specs.Passes.{IfFault, HasChanged, lowest_at};
+ghost use Rattle.tw_verify.specs.Known.{AreKnown};
+ghost use Rattle.tw_verify.specs.Passes.{IfFault, HasChanged, IsPass, lowest_at};
 ghost use Rattle.tw_verify.specs.Verified.{AreFindings};
 
 use crate::fault::Fault;
@@ -25,7 +26,7 @@ use crate::reached::{Reached, first_rows, row_at, send_both};
 use crate::refusal::VerifyRefusal;
 use crate::structure::ask_structure;
 use crate::typing::Typing;
-use std::alloc::Global;
+use std::alloc::{AllocError, Global};
 use tw_budget::{BudgetRefusal, budgets};
 use tw_code::{Instr, Procedure};
 use tw_types::{Items, keep};
@@ -79,20 +80,25 @@ fn typing_refusal(
     lowest(lowest(own, differs), changed)
 }
 
-/// The typing of each place, by one pass from the first place to the last.
-fn typings(
+/// How a pass over a procedure ends, with the typing of each place to which it came.
+#[derive(Drop)]
+pub(crate) enum Pass {
+    /// Behind the last place.
+    Through(Items<Typing>),
+    /// At a place that is refused; it has its typing too, unless nothing leads there.
+    Stopped(Items<Typing>, Fault),
+}
+
+/// Goes from the first place to the last, or to the first one that is refused for its typing.
+fn typing_pass(
     alloc: Global,
     procedures: &[Procedure],
     procedure: &Procedure,
     loops: &Loops,
-) -> Result<Vec<Typing>, Fault>
+) -> Result<Pass, AllocError>
     requires operands { IsProcedure procedure.now }
     requires known { AreLoops procedure.now.code loops.now }
-    ensures accepted { IfOk result
-        (λ typings. IsWellTyped procedures.now procedure.now
-        typings.items (length procedure.now.code)) }
-    ensures refused { IfErr result
-        (λ fault. IfFault fault (IsTypingRefusal procedures.now procedure.now)) }
+    ensures { IfOk result (IsPass procedures.now procedure.now) }
 {
     let code = procedure.code.as_slice();
     let mut rows = first_rows(
@@ -103,19 +109,36 @@ fn typings(
     let mut all = Vec::new(alloc);
     for (place, instr) in code.iter().enumerate() {
         let Some(reached) = row_at(&rows, place) else {
-            return Err(Fault {
-                no: VerifyRefusal::Unreached,
-                place,
-            });
+            let no = VerifyRefusal::Unreached;
+            return Ok(Pass::Stopped(Items::from(all), Fault { no, place }));
         };
         let changed = is_changed(code, loops, &all, place, &reached.typing);
-        if let Some(no) = typing_refusal(procedures, procedure, place, instr, &reached, changed) {
-            return Err(Fault { no, place });
-        }
         keep(&mut all, reached.typing)?;
+        if let Some(no) = typing_refusal(procedures, procedure, place, instr, &reached, changed) {
+            return Ok(Pass::Stopped(Items::from(all), Fault { no, place }));
+        }
         send_both(&mut rows, procedures, place, instr, reached.typing);
     }
-    Ok(all)
+    Ok(Pass::Through(Items::from(all)))
+}
+
+/// What is known of the typings of a procedure, whether it is accepted or not.
+pub(crate) fn known_typings(
+    alloc: Global,
+    procedures: &[Procedure],
+    procedure: &Procedure,
+) -> Result<Items<Typing>, AllocError>
+    requires { IsProcedure procedure.now }
+    ensures { IfOk result (AreKnown procedures.now procedure.now) }
+{
+    let code = procedure.code.as_slice();
+    let loops = Loops::new(alloc, code)?;
+    if let Err(_) = ask_structure(code, &loops) {
+        return Ok(Items::from(Vec::new(alloc)));
+    }
+    match typing_pass(alloc, procedures, procedure, &loops)? {
+        Pass::Through(typings) | Pass::Stopped(typings, _) => Ok(typings),
+    }
 }
 
 /// How many instructions a task of the procedure may do.
@@ -150,11 +173,14 @@ pub(crate) fn procedure_findings(
     let code = procedure.code.as_slice();
     let loops = Loops::new(alloc, code)?;
     ask_structure(code, &loops)?;
-    let typings = typings(alloc, procedures, procedure, &loops)?;
+    let typings = match typing_pass(alloc, procedures, procedure, &loops)? {
+        Pass::Through(typings) => typings,
+        Pass::Stopped(_, fault) => return Err(fault),
+    };
     let budget = budget(alloc, procedure)?;
     let quick = all_quick(alloc, procedure.registers.as_slice(), code)?;
     Ok(Findings {
-        typings: Items::from(typings),
+        typings,
         budget,
         quick: Items::from(quick),
     })

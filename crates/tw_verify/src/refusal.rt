@@ -1,6 +1,6 @@
 //! Why a program is refused.
 
-ghost use Rattle.std.specs.Prelude.{◌≡◌};
+ghost use Rattle.std.specs.Prelude.{◌≡◌, ◌==◌};
 ghost use Rattle.tw_verify.specs.Refusal.{is_memory, verify_refusal_number};
 
 /// Why a program isn't accepted, by rising numbers.
@@ -50,6 +50,13 @@ impl VerifyRefusal {
         ensures { result ≡ is_memory self }
     {
         matches!(self, VerifyRefusal::NoMemory)
+    }
+
+    /// Whether it is told before any procedure is looked at.
+    pub(crate) fn is_main_shape(self) -> bool
+        ensures { result ≡ (verify_refusal_number self == 16) }
+    {
+        matches!(self, VerifyRefusal::MainShape)
     }
 
     /// The number behind the letter V.

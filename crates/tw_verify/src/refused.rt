@@ -1,9 +1,17 @@
 //! A program that is refused.
 
+ghost use Rattle.std.specs.Prelude.{◌<◌, length, IfOk};
+ghost use Rattle.tw_verify.specs.Known.{AreFound};
+ghost use Rattle.tw_verify.specs.Refusal.{verify_refusal_number};
+
+use crate::pass::known_typings;
 use crate::refusal::VerifyRefusal;
+use crate::typing::Typing;
+use std::alloc::{AllocError, Global};
 use std::fmt;
 use thiserror::Error;
 use tw_code::Program;
+use tw_types::Items;
 
 /// A program that isn't accepted, with its first refusal.
 #[derive(Drop, Error)]
@@ -13,6 +21,21 @@ pub struct Refused {
     pub no: VerifyRefusal,
     pub procedure: usize,
     pub place: usize,
+}
+
+impl Refused {
+    /// What the right registers hold at each place of the procedure to which `verify` came: the refused place is the last,
+    /// or the one before it where nothing leads there.
+    pub fn typings(&self, alloc: Global, procedure: usize) -> Result<Items<Typing>, AllocError>
+        requires { procedure < length self.now.program }
+        ensures { IfOk result (AreFound self.now.program (verify_refusal_number self.now.no) self.now.procedure procedure) }
+    {
+        if self.no.is_main_shape() || self.procedure < procedure {
+            return Ok(Items::from(Vec::new(alloc)));
+        }
+        let procedures = self.program.procedures();
+        known_typings(alloc, procedures, &procedures[procedure])
+    }
 }
 
 /// As it is displayed, without the program.

@@ -6,7 +6,6 @@ ghost use Rattle.tw_code.specs.accepting.Flow.{flows};
 ghost use Rattle.tw_code.specs.accepting.Structure.{same_block, is_in_block, skips_in_block, is_matched, ends_well, structure_refusal_at, IsStructured, IsStructureRefusal};
 ghost use Rattle.tw_verify.specs.Refusal.{verify_refusal_number};
 ghost use Rattle.tw_verify.specs.Loops.{AreLoops};
-ghost use Rattle.tw_verify.specs.Passes.{IfFault};
 
 use crate::fault::Fault;
 use crate::loops::Loops;
@@ -97,7 +96,8 @@ pub(crate) fn ask_structure(code: &[Instr], loops: &Loops) -> Result<(), Fault>
     requires known { AreLoops code.now loops.now }
     requires short { length code.now < 2 ^ 32 }
     ensures accepted { OnOk result (IsStructured code.now) }
-    ensures refused { IfErr result (λ fault. IfFault fault (IsStructureRefusal code.now)) }
+    ensures refused { IfErr result
+        (λ fault. IsStructureRefusal code.now (verify_refusal_number fault.no) fault.place) }
 {
     for place in 0..code.len() {
         if let Some(no) = structure_refusal(code, loops, place) {

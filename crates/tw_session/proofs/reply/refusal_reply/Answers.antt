@@ -1,11 +1,20 @@
-use Rattle.std.proofs.Common.{◌∙◌, ◌++◌, ℕ, List, ap}
+use Rattle.std.proofs.Common.{◌∙◌, ◌++◌, ℕ, List, ap, append_assoc}
 use Rattle.tw_report.specs.Lines.{verify_line}
+use Rattle.tw_verify.specs.Refusal.{verify_refusal_number}
 use Rattle.tw_session.specs.Reply.{reply}
 use Rattle.tw_session.specs.declared.status.Close.TheVariants.{Refused}
+use Rattle.tw_session.proofs.Places.{placed}
 use Rattle.tw_session.proofs.reply.refusal_reply.Goals as goal
 
 pub returns : goal.returns
-returns c = λ program is.
-    let told = c.in_ok-put_behind.ensures program is in
-    let line = verify_line c.args.number c.args.procedure c.args.place in
-    (told.0, told.1, ap (λ (t : List ℕ). reply t Refused) (told.2 ∙ ap (λ (t : List ℕ). t ++ told.0) (c.in_ok-put_verify_line.ensures ∙ ap (λ (t : List ℕ). t ++ line) c.new-text.ensures.items)))
+returns c =
+    let refused = c.args.refused.now in
+    let number = verify_refusal_number refused.no in
+    let before = c.in_ok-text.text.items in
+    let line = verify_line number refused.procedure refused.place in
+    let told = c.in_ok-put_behind.ensures refused.program (placed c.args.source.now refused.program number refused.procedure refused.place c.requires.source c.requires.first) in
+    let text =
+    told.2
+    ∙ ap (λ (t : List ℕ). t ++ told.0) (c.in_ok-put_verify_line.ensures ∙ ap (λ (n : ℕ). before ++ verify_line n refused.procedure refused.place) c.number.ensures)
+    ∙ append_assoc before line told.0 in
+    (number, refused.procedure, refused.place, before, told.0, c.requires.first, c.in_ok-text.ensures, told.1, ap (λ (t : List ℕ). reply t Refused) text)

@@ -7,13 +7,15 @@ use Rattle.tw_code.specs.accepting.Question.{refusal_in}
 use Rattle.tw_code.specs.machine.Rights.{Typing}
 use Rattle.tw_code.specs.accepting.Typing.{start_typing, asks_at}
 use Rattle.tw_code.specs.accepting.WellTyped.{IsEndOf, IsWellTyped}
+use Rattle.tw_verify.specs.Known.{AreUpTo}
 use Rattle.tw_verify.specs.Refusal.{verify_refusal_number}
 use Rattle.tw_verify.specs.declared.reached.Reached.{Reached}
 use Rattle.tw_verify.specs.Passes.{first_row, HasChanged, lowest_at}
 use Rattle.tw_verify.proofs.Causes.{nothing_at}
 use Rattle.tw_verify.proofs.Mistakes.{none_typed, typed_more, unreached, refusal_at}
 use Rattle.tw_verify.proofs.Reaching.{IsRow, HasReached, start_row, rows_more, whole_slice}
-use Rattle.tw_verify.proofs.pass.typings.Goals as goal
+use Rattle.tw_verify.proofs.Stops.{up_to_reached, up_to_unreached}
+use Rattle.tw_verify.proofs.pass.typing_pass.Goals as goal
 
 pub loop-place-init : goal.loop-place-init
 loop-place-init c =
@@ -28,22 +30,26 @@ loop-place-init c =
           subst (λ (xs : List Typing). IsRow program p xs 0 k row) (sym c.new-all.ensures.items) (subst (λ (x : Option Reached). IsRow program p [] 0 k x) (sym is) (start_row program p k));
     }
 
-pub returns-in_default-clause-refused : goal.returns-in_default-clause-refused
-returns-in_default-clause-refused c =
+pub returns-in_default : goal.returns-in_default
+returns-in_default c =
     let program = c.args.procedures.now in
     let p = c.args.procedure.now in
     let all = c.loop-place.all.items in
     let place = c.loop-place.place in
+    let typed = c.loop-place.invariant.typed in
     let at = subst (λ (xs : List (Option Reached)). slice_get xs place ≡ Some c.row_at.result) c.deref.ensures.value c.row_at.ensures in
-    let row = subst (λ (x : Option Reached). IsRow program p all (place + place) place x) c.in_default.is (c.loop-place.invariant.rows place c.row_at.result at) in
-    λ real. unreached program p all place c.loop-place.invariant.typed row (omega (arith, ap (length {A = Instr}) c.as_slice-code.ensures))
+    let row = subst (λ (x : Option Reached). IsRow program p all (place + place) place x) c.in_default.is (c.loop-place.invariant.rows place c.row_at.result at) in (
+      unreached program p all place typed row (omega (arith, ap (length {A = Instr}) c.as_slice-code.ensures)),
+      subst (λ (ts : List Typing). AreUpTo program p place ts) (sym c.from.ensures) (up_to_unreached program p all place typed row),
+    )
 
-pub returns-in-Some-typing_refusal-clause-refused : goal.returns-in-Some-typing_refusal-clause-refused
-returns-in-Some-typing_refusal-clause-refused c =
+pub returns-in-Some-typing_refusal : goal.returns-in-Some-typing_refusal
+returns-in-Some-typing_refusal c =
     let program = c.args.procedures.now in
     let p = c.args.procedure.now in
     let all = c.loop-place.all.items in
     let place = c.loop-place.place in
+    let typed = c.loop-place.invariant.typed in
     let r = c.in-Some.reached in
     let code = c.as_slice-code.result.now in
     let i = c.index-code-place.result in
@@ -51,11 +57,13 @@ returns-in-Some-typing_refusal-clause-refused c =
     let at = subst (λ (xs : List (Option Reached)). slice_get xs place ≡ Some c.row_at.result) c.deref.ensures.value c.row_at.ensures in
     let row : HasReached program p all (place + place) place r = subst (λ (x : Option Reached). IsRow program p all (place + place) place x) c.in-Some.is (c.loop-place.invariant.rows place c.row_at.result at) in
     let here : slice_get p.code place ≡ Some i = ap (λ (xs : List Instr). slice_get xs place) (sym c.as_slice-code.ensures) ∙ slice_get_read code (length code) place i refl c.loop-place-test.true c.index-code-place.is in
-    let is : lowest_at (refusal_in (asks_at program p place i r.typing)) r.differs changed ≡ Some (verify_refusal_number c.in-Some-typing_refusal.no) = sym c.typing_refusal.ensures ∙ ap (option_map verify_refusal_number) c.in-Some-typing_refusal.is in
-    λ real. refusal_at program p all place (verify_refusal_number c.in-Some-typing_refusal.no) r i changed c.loop-place.invariant.typed row here
-    (λ e. subst (λ (ts : List Typing). HasChanged p.code ts place r.typing) c.deref-in-loop-place.ensures.value (subst (λ (xs : List Instr). HasChanged xs c.deref-in-loop-place.result.now place r.typing) c.as_slice-code.ensures (c.is_changed-changed.ensures.found e)))
-    (λ first begun e end there. c.is_changed-changed.ensures.all first begun e (subst (λ (xs : List Instr). IsEndOf xs first place) (sym c.as_slice-code.ensures) end) (subst (λ (ts : List Typing). slice_get ts first ≡ Some begun) (sym c.deref-in-loop-place.ensures.value) there))
-    is
+    let is : lowest_at (refusal_in (asks_at program p place i r.typing)) r.differs changed ≡ Some (verify_refusal_number c.in-Some-typing_refusal.no) = sym c.typing_refusal.ensures ∙ ap (option_map verify_refusal_number) c.in-Some-typing_refusal.is in (
+      refusal_at program p all place (verify_refusal_number c.in-Some-typing_refusal.no) r i changed typed row here
+          (λ e. subst (λ (ts : List Typing). HasChanged p.code ts place r.typing) c.deref-in-loop-place.ensures.value (subst (λ (xs : List Instr). HasChanged xs c.deref-in-loop-place.result.now place r.typing) c.as_slice-code.ensures (c.is_changed-changed.ensures.found e)))
+          (λ first begun e end there. c.is_changed-changed.ensures.all first begun e (subst (λ (xs : List Instr). IsEndOf xs first place) (sym c.as_slice-code.ensures) end) (subst (λ (ts : List Typing). slice_get ts first ≡ Some begun) (sym c.deref-in-loop-place.ensures.value) there))
+          is,
+      up_to_reached program p all c.from-in-Some-typing_refusal.result place r.typing typed row.first (c.from-in-Some-typing_refusal.ensures ∙ c.in_ok-keep.ensures),
+    )
 
 pub loop-place-preserved : goal.loop-place-preserved
 loop-place-preserved c =

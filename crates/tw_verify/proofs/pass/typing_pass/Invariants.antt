@@ -3,7 +3,7 @@ use Rattle.std.specs.Prelude.{slice_get}
 use Rattle.tw_code.specs.accepting.WellTyped.{IsWellTyped}
 use Rattle.tw_verify.specs.declared.reached.Reached.{Reached}
 use Rattle.tw_verify.proofs.Reaching.{IsRow}
-use Rattle.tw_verify.proofs.pass.typings.Given as goal
+use Rattle.tw_verify.proofs.pass.typing_pass.Given as goal
 
 -- the places so far have their typings, and each row says what both outcomes of these brought
 abbrev pub invariant-loop-place : goal.invariant-loop-place
