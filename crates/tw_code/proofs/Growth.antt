@@ -1,16 +1,13 @@
 -- Numbers and counts start small, and each event makes them larger by at most its size.
-use Rattle.std.proofs.Common.{◌≡◌, ◌<◌, ◌≤◌, ◌+◌, ◌-◌, ◌*◌, ◌==◌, ℕ, zero, suc, ℤ, Bool, true, false, cond, if◌then◌else◌, not, ◌&&◌, List, [], ◌∷◌, length, map, fold, drop, slice_get, Option, Some, None, refl, arith, subst, sym}
+use Rattle.std.proofs.Common.{◌≡◌, ◌<◌, ◌≤◌, ◌+◌, ◌-◌, ◌*◌, ◌==◌, ℕ, zero, suc, Bool, true, false, cond, if◌then◌else◌, not, List, [], ◌∷◌, length, fold, drop, slice_get, nat_le, Option, Some, None, refl, arith, subst, sym}
 use Rattle.std.specs.Prelude.{Ok}
 use Rattle.std.specs.Option.{ok_or}
 use Rattle.std.proofs.lemmas.Bool.{and_parts}
 use Rattle.std.proofs.lemmas.Bool.Decides.{nat_tests}
-use Rattle.std.proofs.lemmas.List.{length-map}
-use Rattle.std.specs.List.{list_all}
 use Rattle.std.specs.Cmp.{nat_cmp_total}
 use Rattle.std.specs.FinMap as fin
 use Rattle.std.specs.FinMap.{contains_key, get, insert, remove, len, len-empty, len-insert}
-use Rattle.std.specs.Ordering.{nat_cmp, int_cmp}
-use Rattle.std.specs.Cmp.{int_cmp_total}
+use Rattle.std.specs.Ordering.{nat_cmp}
 use Rattle.tw_types.specs.declared.actor.Actor.{Actor}
 use Rattle.tw_types.specs.declared.cause.Cause.TheVariants.{UnsetDatum, WrongRegister}
 use Rattle.tw_types.specs.declared.data_type.Scalar.{Scalar}
@@ -18,21 +15,22 @@ use Rattle.tw_types.specs.declared.data_type.Scalar.TheVariants as scalar
 use Rattle.tw_types.specs.declared.event.Event.{Event}
 use Rattle.tw_types.specs.declared.event.Event.TheVariants.{Take, Local, Call, End, Ask, Deliver, Release}
 use Rattle.tw_types.specs.declared.input.Input.{Input}
-use Rattle.tw_types.specs.declared.input.Input.TheVariants as input
 use Rattle.tw_types.specs.declared.param.Param.{Param}
 use Rattle.tw_types.specs.declared.value.Value.{Value}
-use Rattle.tw_types.specs.declared.value.Value.TheVariants as value
 use Rattle.tw_types.specs.Actor.{actor_cmp, number_in_kind}
 use Rattle.tw_types.specs.DataType.{container_of, is_scalar, same_type, scalar_type}
+use Rattle.tw_types.specs.Given.{Given, Single, Container, given_by}
 use Rattle.tw_types.specs.Layout.{ActorCounts}
 use Rattle.tw_types.specs.Mode.{is_write}
+use Rattle.tw_types.specs.ValueOrder.{Subscript, value_cmp}
+use Rattle.tw_types.proofs.ValueOrder.{value_cmp_total}
 use Rattle.tw_types.specs.Nesting.{NestedScalar}
 use Rattle.tw_types.specs.Outcome.{Went}
 use Rattle.tw_types.specs.Result.{must}
 use Rattle.tw_types.specs.Store.{Members, Unset, Contains, Datum, Data, Store, added, drop_read_within, is_closed, is_unheld, members_of, new_datum, read_taken_by, settled_by, subscribers_cleared}
 use Rattle.tw_types.specs.StoreCalls as store
 use Rattle.tw_types.specs.StoreCalls.{changed, created, inserted, member_at, members_in, one_read_more, one_write_less, one_write_more, read_copied, read_dropped, set_to, store_after, stored, with_member, write_copied, write_dropped, subscribed, with_subscriber}
-use Rattle.tw_types.specs.StoreChecks.{may_be_read, may_copy_write, may_drop_read, may_drop_write, may_insert, may_look, may_read_members, may_retrieve, may_store}
+use Rattle.tw_types.specs.StoreChecks.{may_be_read, may_copy_write, may_drop_read, may_drop_write, may_insert, may_look, may_read_members, may_read_members_by, may_retrieve, may_store}
 use Rattle.tw_types.specs.Task.{Task}
 use Rattle.tw_types.specs.declared.notice.Subscriber.{Subscriber}
 use Rattle.tw_types.proofs.ActorOrder.{actor_cmp_total}
@@ -46,10 +44,10 @@ use Rattle.tw_code.specs.format.Program.{IsProgram}
 use Rattle.tw_code.specs.machine.Arguments.{procedure_of}
 use Rattle.tw_code.specs.machine.Bounds.{AreBelow, AreNumbersBelow, OpeningIsSmall, StepGrows, opening_bound, size_of}
 use Rattle.tw_code.specs.machine.Data.{Context, after_insert, after_look, data_instr, datum_at, datum_of, suits}
-use Rattle.tw_code.specs.machine.Inputs.{are_inputs_of, are_few, input_params, is_input_of, is_short, rises}
+use Rattle.tw_code.specs.machine.Inputs.{are_inputs_of, are_members, input_params, is_given_for, is_input_of}
 use Rattle.tw_code.specs.machine.Machine.{Standing, step}
-use Rattle.tw_code.specs.machine.Opening.{Opened, closed_scalar, main_params, nothing_opened, numbered, opened, opening, with_container, with_given, with_input, with_output}
-use Rattle.tw_code.specs.machine.Position.{int_at, must_have_type, value_at}
+use Rattle.tw_code.specs.machine.Opening.{Opened, closed_scalar, main_params, nothing_opened, numbered, opened, opening, with_container, with_given, added_given, with_output}
+use Rattle.tw_code.specs.machine.Position.{int_at, must_have_type, of_type_at, value_at}
 use Rattle.tw_code.specs.machine.Rights.{Rights, held, must_be_empty}
 use Rattle.tw_code.specs.machine.State.{Frame, Frames, State, context_of, filled, frame_of, values_in, gone_behind, with_frame, with_rule, with_task, new_rule}
 use Rattle.tw_code.proofs.Leaving.{take_leaves, local_leaves, call_leaves, end_leaves, ask_leaves, deliver_leaves, release_leaves}
@@ -60,16 +58,16 @@ use Rattle.tw_code.proofs.Leaving.{take_leaves, local_leaves, call_leaves, end_l
 abbrev HasCounts : ℕ → Datum → Type 0
 HasCounts bound x = (x.reads < bound) × (x.writes < bound) × (len (members_in x.content) < bound)
 
-one_more_member : (members : Members) (subscript : ℤ) (member : ℕ) → len (insert members subscript member) ≤ len members + 1
-one_more_member members subscript member = let l = len-insert int_cmp_total members subscript member in omega (arith, l, either (contains_key members subscript) (len members))
+one_more_member : (members : Members) (subscript : Subscript) (member : ℕ) → len (insert members subscript member) ≤ len members + 1
+one_more_member members subscript member = let l = len-insert value_cmp_total members subscript member in omega (arith, l, either (contains_key members subscript) (len members))
   where
     either : (b : Bool) (n : ℕ) → cond b n (n + 1) ≤ n + 1
     either true n = omega arith
     either false n = omega arith
 
 no_members : (b : Bool) → len (members_in (if b then Unset else Contains fin.empty)) ≡ 0
-no_members true = len-empty int_cmp ℕ
-no_members false = len-empty int_cmp ℕ
+no_members true = len-empty value_cmp ℕ
+no_members false = len-empty value_cmp ℕ
 
 -- a store comes of one call
 record StoreGrown (s t : Store) : Type 0 where
@@ -157,9 +155,9 @@ created_grown s ty = record {
 }
 
 stored_grown : (s : Store) (id : ℕ) (x : Value) → StoreGrown s (stored s id x)
-stored_grown s id x = after_grown s id (set_to x) (λ bound d few. (omega (arith, few.0), omega (arith, few.1), omega (arith, len-empty int_cmp ℕ)))
+stored_grown s id x = after_grown s id (set_to x) (λ bound d few. (omega (arith, few.0), omega (arith, few.1), omega (arith, len-empty value_cmp ℕ)))
 
-inserted_grown : (s : Store) (id : ℕ) (subscript : ℤ) (member : ℕ) → StoreGrown s (inserted s id subscript member)
+inserted_grown : (s : Store) (id : ℕ) (subscript : Subscript) (member : ℕ) → StoreGrown s (inserted s id subscript member)
 inserted_grown s id subscript member = changed_grown s id (with_member subscript member) (λ bound d few. (omega (arith, few.0), omega (arith, few.1), omega (arith, one_more_member (members_in d.content) subscript member, few.2)))
 
 read_copied_grown : (s : Store) (id : ℕ) → StoreGrown s (read_copied s id)
@@ -176,7 +174,7 @@ write_dropped_grown s id = after_grown s id one_write_less (λ bound d few. (ome
 
 -- ---- the instructions on data
 
-insert_grown : (c : Context) (id : ℕ) (at : ℤ) (member register skip : ℕ) (found : Option ℕ) → StoreGrown c.store (after_insert c id at member register skip found).store
+insert_grown : (c : Context) (id : ℕ) (at : Subscript) (member register skip : ℕ) (found : Option ℕ) → StoreGrown c.store (after_insert c id at member register skip found).store
 insert_grown c id at member register skip None = inserted_grown c.store id at member
 insert_grown c id at member register skip (Some other) = same_store c.store
 
@@ -192,14 +190,14 @@ data_grown (on_data.Store datum from) c =
     ok_both (value_at c.position from) (λ x _. ok_then (must (suits x (datum_at c datum)) WrongRegister) (λ _. ok_both (held c.rights datum) (λ id _. ok_then (may_store x (datum_of c id)) (λ _. record { is = stored_grown c.store id x }))))
 data_grown (on_data.Get to datum) c =
     ok_both (value_at c.position to) (λ old _. ok_then (must (suits old (datum_at c datum)) WrongRegister) (λ _. ok_both (held c.rights datum) (λ id _. ok_then (may_retrieve (datum_of c id)) (λ _. ok_both (ok_or (store.value_at c.store id) UnsetDatum) (λ x _. record { is = same_store c.store })))))
-data_grown (on_data.Insert container subscript member skip) c =
-    ok_both (int_at c.position subscript) (λ at _. ok_both (held c.rights container) (λ id _. ok_both (held c.rights member) (λ inner _. ok_then (may_insert (datum_of c id) (datum_of c inner)) (λ _. record { is = insert_grown c id at inner member skip (member_at c.store id at) }))))
-data_grown (on_data.Look member container subscript skip) c =
-    ok_both (int_at c.position subscript) (λ at _. ok_then (must_be_empty c.rights member) (λ _. ok_both (held c.rights container) (λ id _. ok_then (may_look c.store id at) (λ _. record { is = look_grown c member skip (member_at c.store id at) }))))
+data_grown (on_data.Insert by container subscript member skip) c =
+    ok_both (of_type_at c.position subscript by) (λ at _. ok_both (held c.rights container) (λ id _. ok_both (held c.rights member) (λ inner _. ok_then (may_insert by (datum_of c id) (datum_of c inner)) (λ _. record { is = insert_grown c id at inner member skip (member_at c.store id at) }))))
+data_grown (on_data.Look by member container subscript skip) c =
+    ok_both (of_type_at c.position subscript by) (λ at _. ok_then (must_be_empty c.rights member) (λ _. ok_both (held c.rights container) (λ id _. ok_then (may_look c.store id at) (λ _. record { is = look_grown c member skip (member_at c.store id at) }))))
 data_grown (on_data.Size to container) c =
     ok_then (must_have_type c.position to scalar.Int) (λ _. ok_both (held c.rights container) (λ id _. ok_then (may_read_members (datum_of c id)) (λ _. record { is = same_store c.store })))
-data_grown (on_data.SubscriptAt to container index skip) c =
-    ok_then (must_have_type c.position to scalar.Int) (λ _. ok_both (int_at c.position index) (λ count _. ok_both (held c.rights container) (λ id _. ok_then (may_read_members (datum_of c id)) (λ _. record { is = same_store c.store }))))
+data_grown (on_data.SubscriptAt by to container index skip) c =
+    ok_then (must_have_type c.position to by) (λ _. ok_both (int_at c.position index) (λ count _. ok_both (held c.rights container) (λ id _. ok_then (may_read_members_by by (datum_of c id)) (λ _. record { is = same_store c.store }))))
 data_grown (on_data.CopyRead to from) c =
     ok_then (must_be_empty c.rights to) (λ _. ok_both (held c.rights from) (λ id _. ok_then (may_be_read (datum_of c id)) (λ _. record { is = read_copied_grown c.store id })))
 data_grown (on_data.CopyWrite to from) c =
@@ -354,32 +352,25 @@ fresh_added : (made : ℕ) (s : Store) (x : Datum) → IsFew x → IsFresh made 
 fresh_added made s x few fresh = record { next = omega (arith, fresh.next); few = each_insert nat_cmp_total IsFew s.live fresh.few s.next x few }
 
 scalar_few : (x : Value) → IsFew (closed_scalar x)
-scalar_few x = (omega arith, omega arith, omega (arith, len-empty int_cmp ℕ))
+scalar_few x = (omega arith, omega arith, omega (arith, len-empty value_cmp ℕ))
 
-fresh_scalars : (es : List (ℤ × Value)) (made : ℕ) (s : Store) → IsFresh made s → IsFresh (made + length es) (fold (λ (t : Store) (e : ℤ × Value). added t (closed_scalar e.1)) s es)
+fresh_scalars : (es : List (Subscript × Value)) (made : ℕ) (s : Store) → IsFresh made s → IsFresh (made + length es) (fold (λ (t : Store) (e : Subscript × Value). added t (closed_scalar e.1)) s es)
 fresh_scalars [] made s fresh = fresh_wider made (made + 0) s (omega arith) fresh
 fresh_scalars (e ∷ es) made s fresh = fresh_wider (made + 1 + length es) (made + length (e ∷ es)) _ (omega arith) (fresh_scalars es (made + 1) (added s (closed_scalar e.1)) (fresh_added made s (closed_scalar e.1) (scalar_few e.1) fresh))
 
-numbered_few : (es : List (ℤ × Value)) (id : ℕ) → len (numbered id es) ≤ length es
-numbered_few [] id = omega (arith, len-empty int_cmp ℕ)
+numbered_few : (es : List (Subscript × Value)) (id : ℕ) → len (numbered id es) ≤ length es
+numbered_few [] id = omega (arith, len-empty value_cmp ℕ)
 numbered_few (e ∷ es) id = omega (arith, one_more_member (numbered (id + 1) es) e.0 id, numbered_few es (id + 1))
 
-fresh_container : (made : ℕ) (s : Store) (ty : Scalar) (es : List (ℤ × Value)) → length es ≤ 1000 → IsFresh made s → IsFresh (made + 1001) (with_container s ty es)
-fresh_container made s ty es short fresh =
+fresh_container : (made : ℕ) (s : Store) (by ty : Scalar) (es : List (Subscript × Value)) → length es ≤ 1000 → IsFresh made s → IsFresh (made + 1001) (with_container s by ty es)
+fresh_container made s by ty es short fresh =
     fresh_wider (made + 1 + length es) (made + 1001) _ (omega arith) (fresh_scalars es (made + 1) _ (fresh_added made s _ (omega arith, omega arith, omega (arith, numbered_few es (s.next + 1))) fresh))
 
-few_members : {A : Type 0} (f : ℤ × A → ℤ × Value) (es : List (ℤ × A)) → are_few es ≡ true → length (map f es) ≤ 1000
-few_members f es few = grind (arith, nat_tests, few, length-map es f)
-
-fresh_input : (made : ℕ) (s : Store) (ty : NestedScalar) (i : Input) → is_input_of ty i ≡ true → IsFresh made s → IsFresh (made + 1001) (with_input s i)
-fresh_input made s ty (input.Int n) h fresh = fresh_wider (made + 1) (made + 1001) _ (omega arith) (fresh_added made s _ (scalar_few (value.Int n)) fresh)
-fresh_input made s ty (input.Text text) h fresh = fresh_wider (made + 1) (made + 1001) _ (omega arith) (fresh_added made s _ (scalar_few (value.Text text)) fresh)
-fresh_input made s ty (input.Ints es) h fresh =
-    let few = (and_parts (are_few es) (rises es) (and_parts (same_type ty (container_of (scalar_type scalar.Int))) (are_few es && rises es) h).1).0 in
-    fresh_container made s scalar.Int _ (few_members (λ e. (e.0, value.Int e.1)) es few) fresh
-fresh_input made s ty (input.Texts es) h fresh =
-    let few = (and_parts (are_few es) (rises es && list_all (λ (e : ℤ × List ℕ). is_short e.1) es) (and_parts (same_type ty (container_of (scalar_type scalar.Text))) (are_few es && (rises es && list_all (λ (e : ℤ × List ℕ). is_short e.1) es)) h).1).0 in
-    fresh_container made s scalar.Text _ (few_members (λ e. (e.0, value.Text e.1)) es few) fresh
+fresh_given : (made : ℕ) (s : Store) (ty : NestedScalar) (given : Given) → is_given_for ty given ≡ true → IsFresh made s → IsFresh (made + 1001) (added_given s given)
+fresh_given made s ty (Single x) h fresh = fresh_wider (made + 1) (made + 1001) _ (omega arith) (fresh_added made s _ (scalar_few x) fresh)
+fresh_given made s ty (Container by scalar es) h fresh =
+    let few = (and_parts (nat_le (length es) 1000) _ (and_parts (same_type ty (container_of by (scalar_type scalar))) (are_members es) h).1).0 in
+    fresh_container made s by scalar es (grind (arith, nat_tests, few)) fresh
 
 fresh_output : (made : ℕ) (o : Opened) (ty : NestedScalar) → IsFresh made o.store → IsFresh (made + 1001) (with_output o ty).store
 fresh_output made o ty fresh = fresh_wider (made + 1) (made + 1001) _ (omega arith) (fresh_added made o.store (new_datum ty) (omega arith, omega arith, omega (arith, no_members (is_scalar ty))) fresh)
@@ -405,7 +396,7 @@ module _ (p : Param) (params : List Param) (rest : AreFresh params) (made : ℕ)
   given [] fit = more made _ (omega arith) (rest [] made o (none_fit (input_params params)) fresh)
   given (i ∷ inputs) fit =
       let parts = and_parts (is_input_of p.ty i) (are_inputs_of (input_params params) inputs) fit in
-      more (made + 1001) _ (omega arith) (rest inputs (made + 1001) (with_given o (Some i)) parts.1 (fresh_input made o.store p.ty i parts.0 fresh))
+      more (made + 1001) _ (omega arith) (rest inputs (made + 1001) (with_given o (Some i)) parts.1 (fresh_given made o.store p.ty (given_by i) parts.0 fresh))
 
   by_mode : (inputs : List Input) (b : Bool) → are_inputs_of (cond (not b) (p ∷ input_params params) (input_params params)) inputs ≡ true
       → IsFresh (made + room_of (p ∷ params)) (cond b (opened (with_output o p.ty) params inputs) (opened (with_given o (slice_get inputs 0)) params (drop 1 inputs))).store

@@ -26,4 +26,5 @@ pub mod Subscribed
 pub mod Taken
 pub mod TextFormat
 pub mod Types
+pub mod VersionOne
 pub mod Widening

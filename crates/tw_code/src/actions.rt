@@ -1,7 +1,8 @@
 //! The tasks that RULE and PUT name, from bytes.
 
 ghost use Rattle.std.specs.Prelude.{◌≡◌};
-ghost use Rattle.tw_code.specs.format.Reading.{Gives, byte_at, register_at, target_at, action_at, counted};
+ghost use Rattle.tw_code.specs.declared.instr.Priority.TheVariants.{Constant, Computed};
+ghost use Rattle.tw_code.specs.format.Reading.{Gives, byte_at, number_at, register_at, target_at, target_and_args_at, action_at, action_of, as_is, counted};
 
 use crate::fault::Stop;
 use crate::instr::{Action, Priority};
@@ -33,18 +34,22 @@ fn args_of(alloc: Global, bytes: &[u8]) -> Result<(Items<u8>, &[u8]), Stop>
     }
 }
 
-/// The operands of RULE, and of PUT.
-pub fn action_of(alloc: Global, bytes: &[u8]) -> Result<(Action, &[u8]), Stop>
-    ensures { Gives (λ x. (x.0, x.1.now)) result (action_at bytes.now) }
+/// The task of this procedure and priority: its target and its arguments.
+fn action_from(
+    alloc: Global,
+    procedure: u8,
+    priority: Priority,
+    bytes: &[u8],
+) -> Result<(Action, &[u8]), Stop>
+    ensures { Gives (λ x. (x.0, x.1.now)) result
+        (as_is (λ x. record { procedure = procedure; priority = priority; target = x.0; args = x.1 }) target_and_args_at bytes.now) }
 {
-    let (procedure, rest) = byte_of(0, u8::MAX, bytes)?;
-    let (priority, rest) = number_of(rest)?;
-    let (target, rest) = target_of(rest)?;
+    let (target, rest) = target_of(bytes)?;
     match args_of(alloc, rest) {
         Ok((args, rest)) => {
             let action = Action {
                 procedure,
-                priority: Priority::Constant(priority),
+                priority,
                 target,
                 args,
             };
@@ -52,4 +57,24 @@ pub fn action_of(alloc: Global, bytes: &[u8]) -> Result<(Action, &[u8]), Stop>
         }
         Err(e) => Err(e),
     }
+}
+
+/// The operands of RULE, and of PUT.
+pub fn constant_action_of(alloc: Global, bytes: &[u8]) -> Result<(Action, &[u8]), Stop>
+    ensures { Gives (λ x. (x.0, x.1.now)) result
+        (as_is (action_of (λ n. Constant n)) (action_at number_at) bytes.now) }
+{
+    let (procedure, rest) = byte_of(0, u8::MAX, bytes)?;
+    let (priority, rest) = number_of(rest)?;
+    action_from(alloc, procedure, Priority::Constant(priority), rest)
+}
+
+/// The operands of RULEV, and of PUTV.
+pub fn computed_action_of(alloc: Global, bytes: &[u8]) -> Result<(Action, &[u8]), Stop>
+    ensures { Gives (λ x. (x.0, x.1.now)) result
+        (as_is (action_of (λ r. Computed r)) (action_at register_at) bytes.now) }
+{
+    let (procedure, rest) = byte_of(0, u8::MAX, bytes)?;
+    let (priority, rest) = register_of(rest)?;
+    action_from(alloc, procedure, Priority::Computed(priority), rest)
 }

@@ -1,13 +1,16 @@
 //! Which inputs a program may be given.
 
 ghost use Rattle.std.specs.Prelude.{◌≡◌, ◌&&◌, length};
-ghost use Rattle.tw_code.specs.machine.Inputs.{are_few, are_inputs_of, has_fitting_inputs, has_input_count, input_params, is_input_of, is_short, rises, rises_from};
+ghost use Rattle.tw_code.specs.machine.Inputs.{are_inputs_of, are_members, has_fitting_inputs, has_input_count, input_params, is_input_of, rises, rises_from};
 ghost use Rattle.std.specs.List.{list_all};
-ghost use Rattle.tw_types.specs.DataType.{same_type};
+ghost use Rattle.tw_types.specs.DataType.{container_of, same_type, scalar_type};
+ghost use Rattle.tw_types.specs.Given.{members_by};
+ghost use Rattle.tw_types.specs.Value.{is_short};
+ghost use Rattle.tw_types.specs.ValueOrder.{named};
 
 use crate::main_shape::main_params;
 use crate::procedure::Procedure;
-use tw_types::{DataType, Input, InputText, Param, Scalar, Text};
+use tw_types::{AsValue, DataType, Input, Param, Scalar, Text, ValueRef};
 
 /// The greatest number of members that an input may have.
 const MAX_MEMBERS: usize = 1000;
@@ -57,70 +60,83 @@ fn is_input_of(ty: DataType, input: &Input) -> bool
     ensures { result ≡ is_input_of ty input.now }
 {
     match input {
-        Input::Int(_) => is_nested(ty, 0, Scalar::Int),
-        Input::Text(text) => is_nested(ty, 0, Scalar::Text) && is_short(text),
-        Input::Ints(members) => is_nested(ty, 1, Scalar::Int) && are_ints(members.as_slice()),
-        Input::Texts(members) => is_nested(ty, 1, Scalar::Text) && are_texts(members.as_slice()),
+        Input::Int(_) => is_scalar_of(ty, Scalar::Int),
+        Input::Text(text) => is_scalar_of(ty, Scalar::Text) && is_short(text.as_value()),
+        Input::Ints(members) => {
+            is_container_of(ty, Scalar::Int, Scalar::Int) && are_members(members.as_slice())
+        }
+        Input::Texts(members) => {
+            is_container_of(ty, Scalar::Int, Scalar::Text) && are_members(members.as_slice())
+        }
+        Input::IntsByText(members) => {
+            is_container_of(ty, Scalar::Text, Scalar::Int) && are_members(members.as_slice())
+        }
+        Input::TextsByText(members) => {
+            is_container_of(ty, Scalar::Text, Scalar::Text) && are_members(members.as_slice())
+        }
     }
 }
 
-/// Whether a type is the scalar inside so many containers.
-fn is_nested(ty: DataType, depth: u8, scalar: Scalar) -> bool
-    ensures { result ≡ same_type ty (record { depth = depth; scalar = scalar }) }
+fn is_scalar_of(ty: DataType, scalar: Scalar) -> bool
+    ensures { result ≡ same_type ty (scalar_type scalar) }
 {
-    ty.depth() == depth && ty.scalar() == scalar
+    ty.is_scalar() && ty.scalar() == scalar
 }
 
-fn are_ints(members: &[(i64, i64)]) -> bool
-    ensures { result ≡ are_few members.now && rises members.now }
+/// Whether a type is a container of such scalars, with such subscripts.
+fn is_container_of(ty: DataType, by: Scalar, scalar: Scalar) -> bool
+    ensures { result ≡ same_type ty (container_of by (scalar_type scalar)) }
 {
-    are_few(members) && rises(members)
+    ty.is_flat() && ty.is_container_by(by) && ty.scalar() == scalar
 }
 
-fn are_texts(members: &[(i64, InputText)]) -> bool
-    ensures { result ≡ are_few members.now && (rises members.now && list_all (λ e. is_short e.1) members.now) }
+/// Whether members are not too many and rise, and no text of them is too long.
+fn are_members<K: AsValue, V: AsValue>(members: &[(K, V)]) -> bool
+    ensures { result ≡ are_members (members_by K.value V.value members.now) }
 {
-    are_few(members) && rises(members) && are_short(members)
-}
-
-/// Whether members are so many at most.
-fn are_few<T>(members: &[(i64, T)]) -> bool
-    ensures { result ≡ are_few members.now }
-{
-    members.len() <= MAX_MEMBERS
+    members.len() <= MAX_MEMBERS && rises(members) && are_short(members)
 }
 
 /// Whether each subscript is greater than the one before.
-fn rises<T>(members: &[(i64, T)]) -> bool
-    ensures { result ≡ rises members.now }
+fn rises<K: AsValue, V: AsValue>(members: &[(K, V)]) -> bool
+    ensures { result ≡ rises (members_by K.value V.value members.now) }
 {
     match members.split_first() {
-        Some((first, others)) => rises_from(first.0, others),
+        Some((first, others)) => rises_from(&first.0, others),
         None => true,
     }
 }
 
-fn rises_from<T>(first: i64, members: &[(i64, T)]) -> bool
-    ensures { result ≡ rises_from first members.now }
+fn rises_from<K: AsValue, V: AsValue>(first: &K, members: &[(K, V)]) -> bool
+    ensures { result ≡ rises_from (K.value first.now) (members_by K.value V.value members.now) }
 {
     let mut before = first;
     for (subscript, _) in members {
-        if *subscript <= before {
+        if !before.as_value().is_before(subscript.as_value()) {
             return false;
         }
-        before = *subscript;
+        before = subscript;
     }
     true
 }
 
-fn are_short(members: &[(i64, InputText)]) -> bool
-    ensures { result ≡ list_all (λ e. is_short e.1) members.now }
+fn are_short<K: AsValue, V: AsValue>(members: &[(K, V)]) -> bool
+    ensures { result ≡ list_all (λ e. is_short e.0 && is_short e.1) (members_by K.value V.value members.now) }
 {
-    members.iter().all(|(_, text)| is_short(text))
+    for (subscript, value) in members {
+        if !is_short(subscript.as_value()) || !is_short(value.as_value()) {
+            return false;
+        }
+    }
+    true
 }
 
-fn is_short(text: &InputText) -> bool
-    ensures { result ≡ is_short text.now }
+/// Whether its text, if it is one, is one that a datum may have.
+fn is_short(value: ValueRef<'_>) -> bool
+    ensures { result ≡ is_short (named value.entry) }
 {
-    text.as_str().len() <= Text::MAX_LEN
+    match value {
+        ValueRef::Int(_) => true,
+        ValueRef::Text(text) => text.len() <= Text::MAX_LEN,
+    }
 }

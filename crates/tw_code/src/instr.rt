@@ -1,6 +1,6 @@
 //! Instructions.
 
-use tw_types::{DataType, Items, Text};
+use tw_types::{DataType, Items, Scalar, Text};
 
 /// What an instruction computes of two integers. The order is that of the opcodes.
 #[derive(Clone, Copy)]
@@ -138,8 +138,9 @@ pub enum DataInstr {
         datum: u8,
     },
     /// INS: the container whose write right is in `container` gets the datum of `member` at the subscript that the
-    /// value register `subscript` has. Refused where that subscript is there.
+    /// value register `subscript` has. Refused where that subscript is there. The subscripts are of the type `by`.
     Insert {
+        by: Scalar,
         container: u8,
         subscript: u8,
         member: u8,
@@ -147,6 +148,7 @@ pub enum DataInstr {
     },
     /// LOOK: `member` gets a read right on the member at a subscript. Refused where there is none.
     Look {
+        by: Scalar,
         member: u8,
         container: u8,
         subscript: u8,
@@ -159,6 +161,7 @@ pub enum DataInstr {
     },
     /// SUBAT: `to` gets the subscript with exactly as many smaller ones as `index` says. Refused where there is none.
     SubscriptAt {
+        by: Scalar,
         to: u8,
         container: u8,
         index: u8,

@@ -1,11 +1,12 @@
 //! The items of a program's bytes, and types, from the front of what is left.
 
 ghost use Rattle.std.specs.Prelude.{◌≡◌, ◌≤◌, IfOk};
-ghost use Rattle.tw_code.specs.format.Reading.{Gives, byte_at, register_at, wide_at, number_at, exactly_at, kind_at, mode_at, scalar_at, type_at, as_is};
-ghost use Rattle.tw_types.specs.DataType.{scalar_type};
+ghost use Rattle.tw_code.specs.format.Reading.{Gives, byte_at, register_at, wide_at, number_at, exactly_at, kind_at, mode_at, scalar_at, version_at, container_in, type_at, as_is};
+ghost use Rattle.tw_types.specs.DataType.{depth_of, scalar_type};
 
 use crate::fault::{FaultNo, Stop};
 use crate::procedure::Procedure;
+use crate::version::Version;
 use tw_types::{DataType, Kind, Mode, Scalar};
 
 /// One byte from `low` to `high`.
@@ -72,6 +73,18 @@ pub fn exactly(wanted: u8, no: FaultNo, bytes: &[u8]) -> Result<(u8, &[u8]), Sto
     }
 }
 
+#[tactic(auto, unfolding(crate::specs::format::Reading::version_at))]
+pub fn version_of(bytes: &[u8]) -> Result<(Version, &[u8]), Stop>
+    ensures { Gives (λ x. (x.0, x.1.now)) result (version_at bytes.now) }
+{
+    match bytes {
+        [] => Err(Stop::missing()),
+        [1, rest @ ..] => Ok((Version::One, rest)),
+        [2, rest @ ..] => Ok((Version::Two, rest)),
+        _ => Err(Stop::wrong(FaultNo::Version, bytes)),
+    }
+}
+
 #[tactic(auto, unfolding(crate::specs::format::Reading::kind_at))]
 pub fn kind_of(bytes: &[u8]) -> Result<(Kind, &[u8]), Stop>
     ensures { Gives (λ x. (x.0, x.1.now)) result (kind_at bytes.now) }
@@ -118,20 +131,38 @@ pub fn scalar_type_of(bytes: &[u8]) -> Result<(DataType, &[u8]), Stop>
     Ok((DataType::from(scalar), rest))
 }
 
-/// A type with room for so many containers.
-#[tactic(auto, unfolding(crate::specs::format::Reading::type_at))]
-pub fn type_of(room: u8, bytes: &[u8]) -> Result<(DataType, &[u8]), Stop>
-    requires { room ≤ 3 }
-    ensures reads { Gives (λ x. (x.0, x.1.now)) result (type_at room bytes.now) }
-    ensures within { IfOk result (λ x. x.0.depth ≤ room) }
+/// The type of the subscripts, where this byte begins a container.
+fn container_of(version: Version, code: u8) -> Option<Scalar>
+    ensures { result ≡ container_in version code }
 {
-    match bytes {
-        [] => Err(Stop::missing()),
-        [3, _rest @ ..] if room == 0 => Err(Stop::wrong(FaultNo::Nesting, bytes)),
-        [3, rest @ ..] => match type_of(room - 1, rest) {
-            Ok((element, rest)) => Ok((element.cont().unwrap(), rest)),
-            Err(e) => Err(e),
+    match code {
+        3 => Some(Scalar::Int),
+        4 => match version {
+            Version::One => None,
+            Version::Two => Some(Scalar::Text),
         },
-        _ => scalar_type_of(bytes),
+        _ => None,
+    }
+}
+
+/// A type with room for so many containers.
+#[tactic(auto, using(crate::proofs::Types::none_left))]
+pub fn type_of(version: Version, room: u8, bytes: &[u8]) -> Result<(DataType, &[u8]), Stop>
+    requires { room ≤ 3 }
+    ensures reads { Gives (λ x. (x.0, x.1.now)) result (type_at version room bytes.now) }
+    ensures within { IfOk result (λ x. depth_of x.0 ≤ room) }
+{
+    let Some((code, rest)) = bytes.split_first() else {
+        return Err(Stop::missing());
+    };
+    let Some(by) = container_of(version, *code) else {
+        return scalar_type_of(bytes);
+    };
+    if room == 0 {
+        return Err(Stop::wrong(FaultNo::Nesting, bytes));
+    }
+    match type_of(version, room - 1, rest) {
+        Ok((element, rest)) => Ok((element.container(by).unwrap(), rest)),
+        Err(e) => Err(e),
     }
 }

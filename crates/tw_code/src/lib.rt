@@ -28,7 +28,7 @@ pub use fault::{Fault, FaultNo, NoMemory};
 pub use flow::{Flow, Way, flow_at};
 pub use inputs::{has_fitting_inputs, has_input_count};
 pub use instr::{Action, Arithmetic, DataInstr, Instr, LocalInstr, Priority};
-pub use laws::{numbers_grow, shown_and_read, some_enabled, takes_once};
+pub use laws::{keeps_version_one, numbers_grow, shown_and_read, some_enabled, takes_once};
 pub use main_shape::{has_main_shape, main_params};
 pub use opcode::Opcode;
 pub use procedure::Procedure;

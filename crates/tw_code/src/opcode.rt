@@ -4,6 +4,8 @@ ghost use Rattle.std.specs.Prelude.{◌≡◌};
 ghost use Rattle.tw_code.specs.format.Reading.{HasCode};
 ghost use Rattle.tw_code.specs.format.Table.{code_of};
 
+use crate::version::Version;
+
 /// An instruction without its operands, by its code.
 #[derive(Clone, Copy)]
 pub enum Opcode {
@@ -38,6 +40,11 @@ pub enum Opcode {
     Rule = 0x40,
     Put = 0x41,
     Ret = 0x42,
+    InsertByText = 0x50,
+    LookByText = 0x51,
+    SubscriptAtByText = 0x52,
+    RuleComputed = 0x53,
+    PutComputed = 0x54,
 }
 
 impl Opcode {
@@ -49,11 +56,15 @@ impl Opcode {
     }
 }
 
-/// The instruction of this code.
+/// The instruction of this code, if the version has one.
+#[tactic(auto, unfolding(crate::specs::format::Reading::instr_at))]
 #[rattlefmt::skip]
-pub fn opcode_of(code: u8) -> Option<Opcode>
-    ensures { HasCode result code }
+pub fn opcode_of(version: Version, code: u8) -> Option<Opcode>
+    ensures { HasCode version result code }
 {
+    if !version.has_code(code) {
+        return None;
+    }
     match code {
         0x01 => Some(Opcode::Int),
         0x02 => Some(Opcode::Text),
@@ -86,6 +97,11 @@ pub fn opcode_of(code: u8) -> Option<Opcode>
         0x40 => Some(Opcode::Rule),
         0x41 => Some(Opcode::Put),
         0x42 => Some(Opcode::Ret),
+        0x50 => Some(Opcode::InsertByText),
+        0x51 => Some(Opcode::LookByText),
+        0x52 => Some(Opcode::SubscriptAtByText),
+        0x53 => Some(Opcode::RuleComputed),
+        0x54 => Some(Opcode::PutComputed),
         _ => None,
     }
 }

@@ -1,29 +1,27 @@
 //! Programs.
 
 ghost use Rattle.std.specs.Prelude.{◌≡◌};
-ghost use Rattle.tw_code.specs.declared.version.Version.TheVariants.{One};
 ghost use Rattle.tw_code.specs.format.Program.{IsProgram, IsProgramOf};
 
 use crate::procedure::Procedure;
+use crate::version::Version;
 use std::marker::Model;
 
-/// Procedures within the limits; procedure 0 is main.
+/// Procedures within the limits, which have only what the version has; procedure 0 is main.
 #[derive(Drop)]
 pub struct Program {
+    version: Version,
     procedures: Vec<Procedure>,
 }
 
 impl Model for Program {
-    ghost use Rattle.std.specs.Prelude.{List};
-    ghost use Rattle.tw_code.specs.declared.procedure.Procedure.{Procedure};
-    ghost use Rattle.tw_code.specs.declared.version.Version.TheVariants.{One};
-    ghost use Rattle.tw_code.specs.format.Program.{IsProgramOf};
+    ghost use Rattle.tw_code.specs.format.Program.{IsProgramOf, Versioned};
 
-    ghost Value = { List Procedure };
+    ghost Value = { Versioned };
 
-    ghost view = { λ p. p.procedures.items };
+    ghost view = { λ p. record { version = p.version; procedures = p.procedures.items } };
 
-    ghost invariant = { λ p. IsProgramOf One p.procedures.items };
+    ghost invariant = { λ p. IsProgramOf p.version p.procedures.items };
 }
 
 impl Program {
@@ -31,18 +29,27 @@ impl Program {
     pub const MAX_PROCEDURES: u8 = 64;
 
     /// A program of these procedures, in this order.
-    pub fn new(procedures: Vec<Procedure>) -> Program
-        requires { IsProgramOf One procedures.items }
-        ensures { result ≡ procedures.items }
+    pub fn new(version: Version, procedures: Vec<Procedure>) -> Program
+        requires { IsProgramOf version procedures.items }
+        ensures { result ≡ record { version = version; procedures = procedures.items } }
     {
-        Program { procedures }
+        Program {
+            version,
+            procedures,
+        }
+    }
+
+    pub fn version(&self) -> Version
+        ensures { result ≡ self.now.version }
+    {
+        self.version
     }
 
     #[tactic(auto, using(crate::proofs::Widening::widened))]
     pub fn procedures(&self) -> &[Procedure]
-        ensures is { result.now ≡ self.now }
-        ensures version { IsProgramOf One self.now }
-        ensures within { IsProgram self.now }
+        ensures is { result.now ≡ self.now.procedures }
+        ensures version { IsProgramOf self.now.version self.now.procedures }
+        ensures within { IsProgram self.now.procedures }
     {
         &self.procedures
     }

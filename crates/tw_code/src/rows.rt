@@ -2,17 +2,19 @@
 
 ghost use Rattle.std.specs.Prelude.{◌≡◌};
 ghost use Rattle.tw_code.specs.declared.instr.LocalInstr.TheVariants as local;
-ghost use Rattle.tw_code.specs.format.Reading.{Gives, action_at, as_is, instr_at, number_at, operands_at, register_at, skip_at, text_at, three_registers_and_skip_at, type_at, wide_at};
+ghost use Rattle.tw_code.specs.declared.instr.Priority.TheVariants.{Constant, Computed};
+ghost use Rattle.tw_code.specs.format.Reading.{Gives, action_at, action_of, as_is, instr_at, number_at, operands_at, register_at, skip_at, text_at, three_registers_and_skip_at, type_at, wide_at};
 ghost use Rattle.tw_code.specs.format.Table.{code_of};
 
-use crate::actions::action_of;
+use crate::actions::{computed_action_of, constant_action_of};
 use crate::fault::{FaultNo, Stop};
 use crate::instr::{Action, Arithmetic, DataInstr, Instr, LocalInstr};
 use crate::items::*;
 use crate::opcode::{Opcode, opcode_of};
 use crate::texts::text_of;
+use crate::version::Version;
 use std::alloc::Global;
-use tw_types::{DataType, Text};
+use tw_types::{DataType, Scalar, Text};
 
 fn register<'a>(bytes: &mut &'a [u8]) -> Result<u8, Stop>
     ensures { Gives (λ x. (x, bytes.new.now)) result (register_at bytes.old.now) }
@@ -54,10 +56,10 @@ fn text<'a>(alloc: Global, bytes: &mut &'a [u8]) -> Result<Text, Stop>
     Ok(text)
 }
 
-fn data_type<'a>(bytes: &mut &'a [u8]) -> Result<DataType, Stop>
-    ensures { Gives (λ x. (x, bytes.new.now)) result (type_at 3 bytes.old.now) }
+fn data_type<'a>(version: Version, bytes: &mut &'a [u8]) -> Result<DataType, Stop>
+    ensures { Gives (λ x. (x, bytes.new.now)) result (type_at version 3 bytes.old.now) }
 {
-    match type_of(DataType::MAX_DEPTH, bytes) {
+    match type_of(version, DataType::MAX_DEPTH, bytes) {
         Ok((ty, rest)) => {
             *bytes = rest;
             Ok(ty)
@@ -66,10 +68,20 @@ fn data_type<'a>(bytes: &mut &'a [u8]) -> Result<DataType, Stop>
     }
 }
 
-fn action<'a>(alloc: Global, bytes: &mut &'a [u8]) -> Result<Action, Stop>
-    ensures { Gives (λ x. (x, bytes.new.now)) result (action_at bytes.old.now) }
+fn constant_action<'a>(alloc: Global, bytes: &mut &'a [u8]) -> Result<Action, Stop>
+    ensures { Gives (λ x. (x, bytes.new.now)) result
+        (as_is (action_of (λ n. Constant n)) (action_at number_at) bytes.old.now) }
 {
-    let (action, rest) = action_of(alloc, bytes)?;
+    let (action, rest) = constant_action_of(alloc, bytes)?;
+    *bytes = rest;
+    Ok(action)
+}
+
+fn computed_action<'a>(alloc: Global, bytes: &mut &'a [u8]) -> Result<Action, Stop>
+    ensures { Gives (λ x. (x, bytes.new.now)) result
+        (as_is (action_of (λ r. Computed r)) (action_at register_at) bytes.old.now) }
+{
+    let (action, rest) = computed_action_of(alloc, bytes)?;
     *bytes = rest;
     Ok(action)
 }
@@ -89,8 +101,8 @@ fn compute<'a>(operation: Arithmetic, bytes: &mut &'a [u8]) -> Result<LocalInstr
 
 /// The operands of an instruction, a row each.
 #[rattlefmt::skip]
-fn operands_of<'a>(alloc: Global, opcode: Opcode, bytes: &mut &'a [u8]) -> Result<Instr, Stop>
-    ensures { Gives (λ x. (x, bytes.new.now)) result (operands_at (code_of opcode) bytes.old.now) }
+fn operands_of<'a>(alloc: Global, version: Version, opcode: Opcode, bytes: &mut &'a [u8]) -> Result<Instr, Stop>
+    ensures { Gives (λ x. (x, bytes.new.now)) result (operands_at version (code_of opcode) bytes.old.now) }
 {
     match opcode {
         Opcode::Int => Ok(Instr::Local(LocalInstr::Int { to: register(bytes)?, value: number(bytes)? })),
@@ -110,34 +122,39 @@ fn operands_of<'a>(alloc: Global, opcode: Opcode, bytes: &mut &'a [u8]) -> Resul
         Opcode::JumpLess => Ok(Instr::Local(LocalInstr::JumpLess { left: register(bytes)?, right: register(bytes)?, skip: skip(bytes)? })),
         Opcode::Repeat => Ok(Instr::Local(LocalInstr::Repeat { turns: turns(bytes)? })),
         Opcode::End => Ok(Instr::Local(LocalInstr::End)),
-        Opcode::New => Ok(Instr::Data(DataInstr::New { write: register(bytes)?, read: register(bytes)?, ty: data_type(bytes)? })),
+        Opcode::New => Ok(Instr::Data(DataInstr::New { write: register(bytes)?, read: register(bytes)?, ty: data_type(version, bytes)? })),
         Opcode::Store => Ok(Instr::Data(DataInstr::Store { datum: register(bytes)?, from: register(bytes)? })),
         Opcode::Get => Ok(Instr::Data(DataInstr::Get { to: register(bytes)?, datum: register(bytes)? })),
-        Opcode::Insert => Ok(Instr::Data(DataInstr::Insert { container: register(bytes)?, subscript: register(bytes)?, member: register(bytes)?, skip: skip(bytes)? })),
-        Opcode::Look => Ok(Instr::Data(DataInstr::Look { member: register(bytes)?, container: register(bytes)?, subscript: register(bytes)?, skip: skip(bytes)? })),
+        Opcode::Insert => Ok(Instr::Data(DataInstr::Insert { by: Scalar::Int, container: register(bytes)?, subscript: register(bytes)?, member: register(bytes)?, skip: skip(bytes)? })),
+        Opcode::Look => Ok(Instr::Data(DataInstr::Look { by: Scalar::Int, member: register(bytes)?, container: register(bytes)?, subscript: register(bytes)?, skip: skip(bytes)? })),
         Opcode::Size => Ok(Instr::Data(DataInstr::Size { to: register(bytes)?, container: register(bytes)? })),
-        Opcode::SubscriptAt => Ok(Instr::Data(DataInstr::SubscriptAt { to: register(bytes)?, container: register(bytes)?, index: register(bytes)?, skip: skip(bytes)? })),
+        Opcode::SubscriptAt => Ok(Instr::Data(DataInstr::SubscriptAt { by: Scalar::Int, to: register(bytes)?, container: register(bytes)?, index: register(bytes)?, skip: skip(bytes)? })),
         Opcode::CopyRead => Ok(Instr::Data(DataInstr::CopyRead { to: register(bytes)?, from: register(bytes)? })),
         Opcode::CopyWrite => Ok(Instr::Data(DataInstr::CopyWrite { to: register(bytes)?, from: register(bytes)? })),
         Opcode::DropRead => Ok(Instr::Data(DataInstr::DropRead { right: register(bytes)? })),
         Opcode::DropWrite => Ok(Instr::Data(DataInstr::DropWrite { right: register(bytes)? })),
-        Opcode::Rule => Ok(Instr::Rule(action(alloc, bytes)?)),
-        Opcode::Put => Ok(Instr::Put(action(alloc, bytes)?)),
+        Opcode::Rule => Ok(Instr::Rule(constant_action(alloc, bytes)?)),
+        Opcode::Put => Ok(Instr::Put(constant_action(alloc, bytes)?)),
         Opcode::Ret => Ok(Instr::Ret),
+        Opcode::InsertByText => Ok(Instr::Data(DataInstr::Insert { by: Scalar::Text, container: register(bytes)?, subscript: register(bytes)?, member: register(bytes)?, skip: skip(bytes)? })),
+        Opcode::LookByText => Ok(Instr::Data(DataInstr::Look { by: Scalar::Text, member: register(bytes)?, container: register(bytes)?, subscript: register(bytes)?, skip: skip(bytes)? })),
+        Opcode::SubscriptAtByText => Ok(Instr::Data(DataInstr::SubscriptAt { by: Scalar::Text, to: register(bytes)?, container: register(bytes)?, index: register(bytes)?, skip: skip(bytes)? })),
+        Opcode::RuleComputed => Ok(Instr::Rule(computed_action(alloc, bytes)?)),
+        Opcode::PutComputed => Ok(Instr::Put(computed_action(alloc, bytes)?)),
     }
 }
 
 /// An instruction: its code, and behind it its operands. Only a text and a list of arguments take memory.
 #[tactic(auto, unfolding(crate::specs::format::Reading::instr_at))]
-pub fn instr_of(alloc: Global, bytes: &[u8]) -> Result<(Instr, &[u8]), Stop>
-    ensures { Gives (λ x. (x.0, x.1.now)) result (instr_at bytes.now) }
+pub fn instr_of(alloc: Global, version: Version, bytes: &[u8]) -> Result<(Instr, &[u8]), Stop>
+    ensures { Gives (λ x. (x.0, x.1.now)) result (instr_at version bytes.now) }
 {
     match bytes {
         [] => Err(Stop::missing()),
-        [code, rest @ ..] => match opcode_of(*code) {
+        [code, rest @ ..] => match opcode_of(version, *code) {
             Some(opcode) => {
                 let mut left = rest;
-                let instr = operands_of(alloc, opcode, &mut left)?;
+                let instr = operands_of(alloc, version, opcode, &mut left)?;
                 Ok((instr, left))
             }
             None => Err(Stop::wrong(FaultNo::Unknown, bytes)),

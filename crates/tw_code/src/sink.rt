@@ -4,12 +4,12 @@ ghost use Rattle.std.specs.Prelude.{◌≡◌, List, OnOk, map};
 ghost use Rattle.tw_code.specs.declared.opcode.Opcode.{Opcode};
 ghost use Rattle.tw_code.specs.format.Program.{IsAction, IsDataInstr, IsInstr, IsLocalInstr};
 ghost use Rattle.tw_code.specs.format.Sink.{AreOperands, seen};
-ghost use Rattle.tw_code.specs.format.Table.{Operand, action_operands, data_row, local_row, opcode_of_operation, priority_operand, row};
+ghost use Rattle.tw_code.specs.format.Table.{Operand, action_operands, data_row, local_row, opcode_by, opcode_of_operation, opcode_of_priority, priority_operand, row};
 
 use crate::instr::{Action, Arithmetic, DataInstr, Instr, LocalInstr, Priority};
 use crate::opcode::Opcode;
 use std::alloc::AllocError;
-use tw_types::DataType;
+use tw_types::{DataType, Scalar};
 
 /// What follows an instruction's code or name.
 #[derive(Drop)]
@@ -76,6 +76,15 @@ fn put_local<S: Sink>(sink: &mut S, instr: &LocalInstr) -> Result<(), AllocError
     }
 }
 
+fn opcode_by(for_integers: Opcode, for_texts: Opcode, by: Scalar) -> Opcode
+    ensures { result ≡ opcode_by for_integers for_texts by }
+{
+    match by {
+        Scalar::Int => for_integers,
+        Scalar::Text => for_texts,
+    }
+}
+
 /// A row an instruction: its opcode and its operands.
 #[rattlefmt::skip]
 fn put_data<S: Sink>(sink: &mut S, instr: DataInstr) -> Result<(), AllocError>
@@ -86,14 +95,23 @@ fn put_data<S: Sink>(sink: &mut S, instr: DataInstr) -> Result<(), AllocError>
         DataInstr::New { write, read, ty } => sink.put(Opcode::New, &[Right(write), Right(read), TypeOf(ty)]),
         DataInstr::Store { datum, from } => sink.put(Opcode::Store, &[Right(datum), Value(from)]),
         DataInstr::Get { to, datum } => sink.put(Opcode::Get, &[Value(to), Right(datum)]),
-        DataInstr::Insert { container, subscript, member, skip } => sink.put(Opcode::Insert, &[Right(container), Value(subscript), Right(member), Skip(skip)]),
-        DataInstr::Look { member, container, subscript, skip } => sink.put(Opcode::Look, &[Right(member), Right(container), Value(subscript), Skip(skip)]),
+        DataInstr::Insert { by, container, subscript, member, skip } => sink.put(opcode_by(Opcode::Insert, Opcode::InsertByText, by), &[Right(container), Value(subscript), Right(member), Skip(skip)]),
+        DataInstr::Look { by, member, container, subscript, skip } => sink.put(opcode_by(Opcode::Look, Opcode::LookByText, by), &[Right(member), Right(container), Value(subscript), Skip(skip)]),
         DataInstr::Size { to, container } => sink.put(Opcode::Size, &[Value(to), Right(container)]),
-        DataInstr::SubscriptAt { to, container, index, skip } => sink.put(Opcode::SubscriptAt, &[Value(to), Right(container), Value(index), Skip(skip)]),
+        DataInstr::SubscriptAt { by, to, container, index, skip } => sink.put(opcode_by(Opcode::SubscriptAt, Opcode::SubscriptAtByText, by), &[Value(to), Right(container), Value(index), Skip(skip)]),
         DataInstr::CopyRead { to, from } => sink.put(Opcode::CopyRead, &[Right(to), Right(from)]),
         DataInstr::CopyWrite { to, from } => sink.put(Opcode::CopyWrite, &[Right(to), Right(from)]),
         DataInstr::DropRead { right } => sink.put(Opcode::DropRead, &[Right(right)]),
         DataInstr::DropWrite { right } => sink.put(Opcode::DropWrite, &[Right(right)]),
+    }
+}
+
+fn opcode_of_priority(constant: Opcode, computed: Opcode, priority: Priority) -> Opcode
+    ensures { result ≡ opcode_of_priority constant computed priority }
+{
+    match priority {
+        Priority::Constant(_) => constant,
+        Priority::Computed(_) => computed,
     }
 }
 
@@ -107,10 +125,11 @@ fn operand_of_priority<'a>(priority: Priority) -> Operand<'a>
 }
 
 #[rattlefmt::skip]
-fn put_action<S: Sink>(sink: &mut S, opcode: Opcode, action: &Action) -> Result<(), AllocError>
+fn put_action<S: Sink>(sink: &mut S, constant: Opcode, computed: Opcode, action: &Action) -> Result<(), AllocError>
     requires { IsAction action.now }
-    ensures { OnOk result (S.puts sink.old opcode (action_operands action.now) sink.new) }
+    ensures { OnOk result (S.puts sink.old (opcode_of_priority constant computed action.now.priority) (action_operands action.now) sink.new) }
 {
+    let opcode = opcode_of_priority(constant, computed, action.priority);
     sink.put(opcode, &[Callee(action.procedure), operand_of_priority(action.priority), Target(action.target), Args(action.args.as_slice())])
 }
 
@@ -122,8 +141,8 @@ pub fn put_instr<S: Sink>(sink: &mut S, instr: &Instr) -> Result<(), AllocError>
     match instr {
         Instr::Local(instr) => put_local(sink, instr),
         Instr::Data(instr) => put_data(sink, *instr),
-        Instr::Rule(action) => put_action(sink, Opcode::Rule, action),
-        Instr::Put(action) => put_action(sink, Opcode::Put, action),
+        Instr::Rule(action) => put_action(sink, Opcode::Rule, Opcode::RuleComputed, action),
+        Instr::Put(action) => put_action(sink, Opcode::Put, Opcode::PutComputed, action),
         Instr::Ret => sink.put(Opcode::Ret, &[]),
     }
 }

@@ -1,10 +1,12 @@
 //! Programs as bytes.
 
-ghost use Rattle.std.specs.Prelude.{◌≡◌, ◌++◌, ◌≤◌, length, OnOk, IfOk};
+ghost use Rattle.std.specs.Prelude.{◌≡◌, ◌++◌, ◌≤◌, if◌then◌else◌, length, OnOk, IfOk};
 ghost use Rattle.std.specs.List.{concat};
 ghost use Rattle.tw_code.specs.format.Program.{IsInstr, IsList, IsOperand, IsProcedure, IsTarget};
 ghost use Rattle.tw_code.specs.format.Sink.{seen};
-ghost use Rattle.tw_code.specs.format.Spelling.{kind_code, mode_code, scalar_code, target_code, byte, wide, text_items, type_items, param_items, scalar_items, register_items, operand_items, instr_items, counted_items, procedure_items, spelling};
+ghost use Rattle.tw_code.specs.format.Spelling.{kind_code, mode_code, scalar_code, container_code, version_code, target_code, byte, wide, text_items, type_items, param_items, scalar_items, register_items, operand_items, instr_items, counted_items, procedure_items, spelling};
+ghost use Rattle.tw_types.specs.DataType.{is_container_by};
+ghost use Rattle.tw_types.specs.declared.data_type.Scalar.TheVariants.{Int, Text};
 
 use crate::fault::NoMemory;
 use crate::instr::Instr;
@@ -12,6 +14,7 @@ use crate::opcode::Opcode;
 use crate::procedure::Procedure;
 use crate::program::Program;
 use crate::sink::{Operand, Sink, put_instr};
+use crate::version::Version;
 use std::alloc::{AllocError, Global};
 use tw_types::{DataType, Kind, Mode, Param, Scalar};
 
@@ -44,6 +47,26 @@ fn code_of_scalar(scalar: Scalar) -> u8
     }
 }
 
+/// The byte with which a container begins.
+fn code_of_container(ty: DataType) -> u8
+    ensures { result ≡ (if is_container_by Text ty then container_code Text else container_code Int) }
+{
+    if ty.is_container_by(Scalar::Text) {
+        4
+    } else {
+        3
+    }
+}
+
+fn code_of_version(version: Version) -> u8
+    ensures { result ≡ version_code version }
+{
+    match version {
+        Version::One => 1,
+        Version::Two => 2,
+    }
+}
+
 /// 0 for any actor, else one more than its number.
 fn code_of_target(target: Option<u8>) -> u8
     requires { IsTarget target }
@@ -60,7 +83,7 @@ fn put_type(out: &mut Vec<u8>, ty: DataType) -> Result<(), AllocError>
 {
     match ty.element() {
         Some(element) => {
-            out.push(3)?;
+            out.push(code_of_container(ty))?;
             put_type(out, element)
         }
         None => {
@@ -188,7 +211,8 @@ pub fn encode(alloc: Global, program: &Program) -> Result<Vec<u8>, NoMemory>
 {
     let procedures = program.procedures();
     let mut out = Vec::new(alloc);
-    out.extend_from_slice(&[0x54, 0x57, 0x42, 1, procedures.len() as u8])?;
+    let version = code_of_version(program.version());
+    out.extend_from_slice(&[0x54, 0x57, 0x42, version, procedures.len() as u8])?;
     for procedure in procedures {
         put_procedure(&mut out, procedure)?;
     }

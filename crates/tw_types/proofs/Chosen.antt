@@ -1,6 +1,6 @@
 -- The best task, and what an engine does next, don't look at the arguments.
-use Rattle.std.proofs.Common.{◌≡◌, ℕ, ◌==◌, ◌&&◌, Bool, true, false, if◌then◌else◌, int_lt, List, [], ◌∷◌, Option, Some, None, refl, sym, ap, ◌∙◌, map as each, option_map, nat_cmp}
-use Rattle.std.specs.FinMap.{FinMap, entries}
+use Rattle.std.proofs.Common.{◌≡◌, ℕ, ◌==◌, ◌&&◌, Bool, true, false, if◌then◌else◌, int_lt, List, [], ◌∷◌, Option, Some, None, refl, ap, ◌∙◌, map as each, option_map}
+use Rattle.std.specs.FinMap.{entries}
 use Rattle.tw_types.specs.declared.actor.Actor.{Actor}
 use Rattle.tw_types.specs.Mapped.{entry_by, mapped, rule_by, task_by}
 use Rattle.tw_types.specs.Rule.{RuleOf, RulesOf, ask_or, first_unasked, is_releasable, next_ask, next_ask_of, next_release, next_release_of}

@@ -4,6 +4,7 @@
 -- and Circle serve the laws of the crates above.
 pub mod Nesting
 pub mod DataType
+pub mod Nest
 pub mod Text
 pub mod Layout
 pub mod Cause
@@ -12,6 +13,8 @@ pub mod Outcome
 pub mod Mode
 pub mod Actor
 pub mod Value
+pub mod ValueOrder
+pub mod Given
 pub mod Store
 pub mod StoreCalls
 pub mod StoreChecks

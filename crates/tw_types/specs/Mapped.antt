@@ -1,5 +1,5 @@
 -- A finite map with something else at each key; tasks and rules with other arguments.
-use Rattle.std.specs.Prelude.{List, map as each}
+use Rattle.std.specs.Prelude.{map as each}
 use Rattle.std.specs.declared.cmp.Ordering.{Ordering}
 use Rattle.std.specs.FinMap as map
 use Rattle.std.specs.FinMap.{FinMap}

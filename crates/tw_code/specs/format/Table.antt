@@ -15,6 +15,8 @@ use Rattle.tw_code.specs.declared.instr.LocalInstr.TheVariants as local
 use Rattle.tw_code.specs.declared.opcode.Opcode.{Opcode}
 use Rattle.tw_code.specs.declared.opcode.Opcode.TheVariants as opcode
 use Rattle.tw_types.specs.Nesting.{NestedScalar}
+use Rattle.tw_types.specs.declared.data_type.Scalar.{Scalar}
+use Rattle.tw_types.specs.declared.data_type.Scalar.TheVariants.{Int, Text}
 
 abbrev pub code_of : Opcode → ℕ
 code_of opcode.Int = 0x01
@@ -48,6 +50,11 @@ code_of opcode.DropWrite = 0x3a
 code_of opcode.Rule = 0x40
 code_of opcode.Put = 0x41
 code_of opcode.Ret = 0x42
+code_of opcode.InsertByText = 0x50
+code_of opcode.LookByText = 0x51
+code_of opcode.SubscriptAtByText = 0x52
+code_of opcode.RuleComputed = 0x53
+code_of opcode.PutComputed = 0x54
 
 pub data Operand : Type 0 where
   -- a value register, a right register
@@ -92,18 +99,28 @@ local_row (local.JumpLess left right skip) = (opcode.JumpLess, Value left ∷ Va
 local_row (local.Repeat turns) = (opcode.Repeat, Turns turns ∷ [])
 local_row local.End = (opcode.End, [])
 
+-- one opcode where subscripts are integers, and another where they are texts
+abbrev pub opcode_by : Opcode → Opcode → Scalar → Opcode
+opcode_by for_integers for_texts Int = for_integers
+opcode_by for_integers for_texts Text = for_texts
+
 abbrev pub data_row : DataInstr → Opcode × List Operand
 data_row (on_data.New write read ty) = (opcode.New, Right write ∷ Right read ∷ TypeOf ty ∷ [])
 data_row (on_data.Store datum from) = (opcode.Store, Right datum ∷ Value from ∷ [])
 data_row (on_data.Get to datum) = (opcode.Get, Value to ∷ Right datum ∷ [])
-data_row (on_data.Insert container subscript member skip) = (opcode.Insert, Right container ∷ Value subscript ∷ Right member ∷ Skip skip ∷ [])
-data_row (on_data.Look member container subscript skip) = (opcode.Look, Right member ∷ Right container ∷ Value subscript ∷ Skip skip ∷ [])
+data_row (on_data.Insert by container subscript member skip) = (opcode_by opcode.Insert opcode.InsertByText by, Right container ∷ Value subscript ∷ Right member ∷ Skip skip ∷ [])
+data_row (on_data.Look by member container subscript skip) = (opcode_by opcode.Look opcode.LookByText by, Right member ∷ Right container ∷ Value subscript ∷ Skip skip ∷ [])
 data_row (on_data.Size to container) = (opcode.Size, Value to ∷ Right container ∷ [])
-data_row (on_data.SubscriptAt to container index skip) = (opcode.SubscriptAt, Value to ∷ Right container ∷ Value index ∷ Skip skip ∷ [])
+data_row (on_data.SubscriptAt by to container index skip) = (opcode_by opcode.SubscriptAt opcode.SubscriptAtByText by, Value to ∷ Right container ∷ Value index ∷ Skip skip ∷ [])
 data_row (on_data.CopyRead to from) = (opcode.CopyRead, Right to ∷ Right from ∷ [])
 data_row (on_data.CopyWrite to from) = (opcode.CopyWrite, Right to ∷ Right from ∷ [])
 data_row (on_data.DropRead right) = (opcode.DropRead, Right right ∷ [])
 data_row (on_data.DropWrite right) = (opcode.DropWrite, Right right ∷ [])
+
+-- one opcode where the priority is a constant, and another where it is computed
+abbrev pub opcode_of_priority : Opcode → Opcode → Priority → Opcode
+opcode_of_priority constant computed (Constant n) = constant
+opcode_of_priority constant computed (Computed register) = computed
 
 -- a computed priority is its register
 abbrev pub priority_operand : Priority → Operand
@@ -116,6 +133,6 @@ action_operands action = Callee action.procedure ∷ priority_operand action.pri
 abbrev pub row : Instr → Opcode × List Operand
 row (instr.Local i) = local_row i
 row (instr.Data i) = data_row i
-row (instr.Rule action) = (opcode.Rule, action_operands action)
-row (instr.Put action) = (opcode.Put, action_operands action)
+row (instr.Rule action) = (opcode_of_priority opcode.Rule opcode.RuleComputed action.priority, action_operands action)
+row (instr.Put action) = (opcode_of_priority opcode.Put opcode.PutComputed action.priority, action_operands action)
 row instr.Ret = (opcode.Ret, [])
