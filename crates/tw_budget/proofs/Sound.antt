@@ -47,10 +47,10 @@ no_turns : (i : DataInstr) (turns : ℕ) → data_flow i ≡ Begin turns → ⊥
 no_turns (on_data.New write read ty) turns e = cc
 no_turns (on_data.Store datum from) turns e = cc
 no_turns (on_data.Get to datum) turns e = cc
-no_turns (on_data.Insert container subscript member skip) turns e = cc
-no_turns (on_data.Look member container subscript skip) turns e = cc
+no_turns (on_data.Insert by container subscript member skip) turns e = cc
+no_turns (on_data.Look by member container subscript skip) turns e = cc
 no_turns (on_data.Size to container) turns e = cc
-no_turns (on_data.SubscriptAt to container index skip) turns e = cc
+no_turns (on_data.SubscriptAt by to container index skip) turns e = cc
 no_turns (on_data.CopyRead to from) turns e = cc
 no_turns (on_data.CopyWrite to from) turns e = cc
 no_turns (on_data.DropRead right) turns e = cc

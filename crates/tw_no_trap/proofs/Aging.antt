@@ -7,6 +7,7 @@ use Rattle.tw_types.specs.Store.{Datum, Data, is_closed, members_of, settled_by,
 use Rattle.tw_types.specs.TypedStore.{IsOfType}
 use Rattle.tw_types.proofs.Parts.{put_or_before}
 use Rattle.tw_types.proofs.Freeing as freeing
+use Rattle.tw_types.specs.DataType.{depth_of}
 use Rattle.tw_types.proofs.Freeing.{IsAging}
 
 -- y is what x has become
@@ -52,7 +53,7 @@ pub drops : (depth : ℕ) → Drops (suc depth) (drop_read_within depth)
 drops depth = freeing.drops Aged aging depth
 
 pub settled_balanced : (depth : ℕ) (drop : Data → ℕ → Data) → Drops depth drop → (m : Data) (id : ℕ) (x y : Datum) (r w s v : ℕ → ℕ) → AreNested m → get m id ≡ Some x → Balanced m r w
-    → x.ty.depth ≤ depth → Aged x y
+    → depth_of x.ty ≤ depth → Aged x y
     → ((d : ℕ) → (d ≡ id → ⊥) → (s d ≡ r d) × (v d ≡ w d)) → y.reads ≡ inside m id + s id → y.writes ≡ v id
     → Freed (settled_by drop m id y) m s v
 settled_balanced depth drop by m id x y r w s v t is b shallow aged other reads writes = freeing.settled_balanced Aged aging depth drop by m id x y r w s v t is b shallow aged other reads writes

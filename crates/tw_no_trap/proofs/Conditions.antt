@@ -4,13 +4,15 @@ use Rattle.std.specs.Prelude.{Result, Ok, Err}
 use Rattle.tw_types.specs.declared.cause.Cause.{Cause}
 use Rattle.tw_types.specs.declared.cause.Cause.TheVariants.{EmptyRegister, WrongRegister}
 use Rattle.tw_types.specs.declared.value.Value.{Value}
-use Rattle.tw_types.specs.StoreChecks.{may_store, may_retrieve, may_insert, may_look, may_read_members, may_be_read, may_copy_write, may_drop_read, may_drop_write}
+use Rattle.tw_types.specs.StoreChecks.{may_store, may_retrieve, may_insert, may_look, may_read_members, may_read_members_by, may_be_read, may_copy_write, may_drop_read, may_drop_write}
 use Rattle.tw_types.proofs.Results.{must_ok, must_then, ok_after, ok_first, there_then}
 use Rattle.tw_code.specs.declared.instr.DataInstr.TheVariants as on_data
+use Rattle.tw_types.specs.declared.data_type.Scalar.{Scalar}
 use Rattle.tw_types.specs.declared.data_type.Scalar.TheVariants as scalar
+use Rattle.tw_types.specs.ValueOrder.{Subscript}
 use Rattle.tw_types.specs.Nesting.{NestedScalar}
 use Rattle.tw_code.specs.machine.Data.{Context, data_instr, datum_of, datum_at, suits}
-use Rattle.tw_code.specs.machine.Position.{int_at, must_have_type}
+use Rattle.tw_code.specs.machine.Position.{int_at, must_have_type, of_type_at}
 use Rattle.tw_code.specs.machine.Rights.{must_be_empty, right_at}
 use Rattle.tw_no_trap.proofs.Steps.{Goes}
 
@@ -38,24 +40,24 @@ module _ (c k : Context) where
       let m = ok_after (may_retrieve (datum_of c h.0)) _ k h.2 in
       (h.0, h.1, m.0)
 
-  pub insert_asks : (container subscript member skip : ℕ) → data_instr (on_data.Insert container subscript member skip) c ≡ Ok k
-      → (at : ℤ) × (id inner : ℕ) × (int_at c.position subscript ≡ Ok at) × (right_at c.rights container ≡ Some id) × (right_at c.rights member ≡ Some inner)
-      × (may_insert (datum_of c id) (datum_of c inner) ≡ Ok tt)
-  insert_asks container subscript member skip e =
-      let v = ok_first (int_at c.position subscript) _ k e in
+  pub insert_asks : (by : Scalar) (container subscript member skip : ℕ) → data_instr (on_data.Insert by container subscript member skip) c ≡ Ok k
+      → (at : Subscript) × (id inner : ℕ) × (of_type_at c.position subscript by ≡ Ok at) × (right_at c.rights container ≡ Some id) × (right_at c.rights member ≡ Some inner)
+      × (may_insert by (datum_of c id) (datum_of c inner) ≡ Ok tt)
+  insert_asks by container subscript member skip e =
+      let v = ok_first (of_type_at c.position subscript by) _ k e in
       let h = there_then (right_at c.rights container) EmptyRegister _ k v.2 in
       let g = there_then (right_at c.rights member) EmptyRegister _ k h.2 in
-      let m = ok_after (may_insert (datum_of c h.0) (datum_of c g.0)) _ k g.2 in
+      let m = ok_after (may_insert by (datum_of c h.0) (datum_of c g.0)) _ k g.2 in
       (v.0, h.0, g.0, v.1, h.1, g.1, m.0)
 
   -- a register that is filled is empty before
   empty_asks : (register : ℕ) → must_be_empty c.rights register ≡ Ok tt → is_none (right_at c.rights register) ≡ true
   empty_asks register e = must_ok (is_none (right_at c.rights register)) WrongRegister e
 
-  pub look_asks : (member container subscript skip : ℕ) → data_instr (on_data.Look member container subscript skip) c ≡ Ok k
-      → (at : ℤ) × (id : ℕ) × (int_at c.position subscript ≡ Ok at) × (is_none (right_at c.rights member) ≡ true) × (right_at c.rights container ≡ Some id) × (may_look c.store id at ≡ Ok tt)
-  look_asks member container subscript skip e =
-      let v = ok_first (int_at c.position subscript) _ k e in
+  pub look_asks : (by : Scalar) (member container subscript skip : ℕ) → data_instr (on_data.Look by member container subscript skip) c ≡ Ok k
+      → (at : Subscript) × (id : ℕ) × (of_type_at c.position subscript by ≡ Ok at) × (is_none (right_at c.rights member) ≡ true) × (right_at c.rights container ≡ Some id) × (may_look c.store id at ≡ Ok tt)
+  look_asks by member container subscript skip e =
+      let v = ok_first (of_type_at c.position subscript by) _ k e in
       let free = ok_after (must_be_empty c.rights member) _ k v.2 in
       let h = there_then (right_at c.rights container) EmptyRegister _ k free.1 in
       let m = ok_after (may_look c.store h.0 v.0) _ k h.2 in
@@ -69,13 +71,13 @@ module _ (c k : Context) where
       let m = ok_after (may_read_members (datum_of c h.0)) _ k h.2 in
       (h.0, h.1, m.0)
 
-  pub subscript_asks : (to container index skip : ℕ) → data_instr (on_data.SubscriptAt to container index skip) c ≡ Ok k
-      → (count : ℤ) × (id : ℕ) × (int_at c.position index ≡ Ok count) × (right_at c.rights container ≡ Some id) × (may_read_members (datum_of c id) ≡ Ok tt)
-  subscript_asks to container index skip e =
-      let v = ok_after (must_have_type c.position to scalar.Int) _ k e in
+  pub subscript_asks : (by : Scalar) (to container index skip : ℕ) → data_instr (on_data.SubscriptAt by to container index skip) c ≡ Ok k
+      → (count : ℤ) × (id : ℕ) × (int_at c.position index ≡ Ok count) × (right_at c.rights container ≡ Some id) × (may_read_members_by by (datum_of c id) ≡ Ok tt)
+  subscript_asks by to container index skip e =
+      let v = ok_after (must_have_type c.position to by) _ k e in
       let n = ok_first (int_at c.position index) _ k v.1 in
       let h = there_then (right_at c.rights container) EmptyRegister _ k n.2 in
-      let m = ok_after (may_read_members (datum_of c h.0)) _ k h.2 in
+      let m = ok_after (may_read_members_by by (datum_of c h.0)) _ k h.2 in
       (n.0, h.0, n.1, h.1, m.0)
 
   pub copy_read_asks : (to from : ℕ) → data_instr (on_data.CopyRead to from) c ≡ Ok k

@@ -1,12 +1,14 @@
 -- A member goes into a container, with its read: what INSERT leaves fits.
-use Rattle.std.proofs.Common.{◌≡◌, ℕ, ◌+◌, ◌<◌, ◌≤◌, ℤ, true, false, List, [], ◌∷◌, map, slice_set, Option, Some, None, refl, sym, ap, subst, ◌∙◌, arith, inl, inr, nat_cmp}
+use Rattle.std.proofs.Common.{◌≡◌, ℕ, ◌+◌, ◌<◌, ◌≤◌, true, false, List, [], ◌∷◌, map, slice_set, Option, Some, None, refl, sym, ap, subst, ◌∙◌, arith, inl, inr, nat_cmp}
 use Rattle.std.proofs.lemmas.Bool.{cases_eq, eqb-true}
 use Rattle.std.proofs.lemmas.Option.{same_Some}
-use Rattle.std.specs.Cmp.{nat_cmp_total, int_cmp_total}
-use Rattle.std.specs.FinMap.{get-empty, get, insert, entries, nat_cmp-IsAntisymmetric, int_cmp-IsAntisymmetric}
+use Rattle.std.specs.Cmp.{nat_cmp_total}
+use Rattle.std.specs.FinMap.{get-empty, get, insert, entries, nat_cmp-IsAntisymmetric}
 use Rattle.std.specs.FinMap as fin
-use Rattle.std.specs.Ordering.{int_cmp}
-use Rattle.tw_types.specs.DataType.{IsDataType, container_of, is_scalar, is_element_of}
+use Rattle.tw_types.specs.Value.{scalar_of}
+use Rattle.tw_types.specs.ValueOrder.{Subscript, value_cmp}
+use Rattle.tw_types.proofs.ValueOrder.{value_cmp_total, value_cmp-IsAntisymmetric}
+use Rattle.tw_types.specs.DataType.{IsDataType, element_of, is_container_by, is_element_of, is_scalar}
 use Rattle.tw_types.specs.Mode.{is_write}
 use Rattle.tw_types.specs.Store.{Members, Content, Unset, Set, Contains, Datum, Store, is_closed, members_of}
 use Rattle.tw_types.specs.StoreCalls.{with_member, members_in}
@@ -15,17 +17,18 @@ use Rattle.tw_code.specs.machine.Data.{Context}
 use Rattle.tw_code.specs.machine.Rights.{RightType, Typing}
 use Rattle.tw_types.specs.Counts.{hits, count_of, subscripts_in, inside, HasWriters}
 use Rattle.tw_code.specs.machine.Holders.{read_by, write_by, over}
-use Rattle.tw_types.specs.TypedStore.{IsOfType, IsTypedStore}
+use Rattle.tw_types.specs.TypedStore.{AreSubscriptsFor, IsOfType, IsTypedStore}
 use Rattle.tw_types.proofs.Freeing.{put_balanced, hits_other, hits_same, balanced_none}
 use Rattle.tw_types.proofs.Totals.{part, part-le-total}
+use Rattle.tw_types.proofs.Subscripts.{members_kinds, one_more_kind}
 use Rattle.tw_types.proofs.Parts.{put_or_before}
 use Rattle.tw_no_trap.proofs.Registers.{Fits, Settles, At, Undisturbed, holds_undisturbed, rights_kept, emptied, rights_set}
-use Rattle.tw_no_trap.proofs.Scalars.{element_is}
+use Rattle.tw_types.proofs.SameTypes.{element_is}
 use Rattle.tw_no_trap.proofs.Sums.{sum_new}
 
 -- ---- how often a datum stands in a map of members
 
-count_values : (d : ℕ) (es : List (ℤ × ℕ)) → count_of d (map (λ e. e.1) es) ≡ sum_of (hits d) es
+count_values : (d : ℕ) (es : List (Subscript × ℕ)) → count_of d (map (λ e. e.1) es) ≡ sum_of (hits d) es
 count_values d [] = refl
 count_values d (e ∷ es) = let h = count_values d es in omega arith
 
@@ -34,11 +37,11 @@ unfolding total
 count_total d ms = count_values d (entries ms)
 
 -- one more under a new subscript
-pub values_insert : (ms : Members) (k : ℤ) (v d : ℕ) → get ms k ≡ None → count_of d (fin.values (insert ms k v)) ≡ count_of d (fin.values ms) + hits d v
+pub values_insert : (ms : Members) (k : Subscript) (v d : ℕ) → get ms k ≡ None → count_of d (fin.values (insert ms k v)) ≡ count_of d (fin.values ms) + hits d v
 values_insert ms k v d none =
     let a = count_total d (insert ms k v) in
     let b = count_total d ms in
-    let s = sum_new int_cmp int_cmp_total int_cmp-IsAntisymmetric (hits d) ms k v none in
+    let s = sum_new value_cmp value_cmp_total value_cmp-IsAntisymmetric (hits d) ms k v none in
     omega arith
 
 -- ---- the container and its member
@@ -53,12 +56,12 @@ has_members x deep of = at x.content of
     at (Contains members) h = refl
 
 module _ (typing : Typing) (c : Context) (r w : ℕ → ℕ) (fits : Fits typing c r w) (container member : ℕ) (q p : RightType) (h : At typing c r w container q) (g : At typing c r w member p)
-    (mode : is_write q.mode ≡ true) (deep : is_scalar q.ty ≡ false) (reads : is_write p.mode ≡ false) (element : is_element_of p.ty q.ty ≡ true) (subscript : ℤ) (free : get (members_in h.x.content) subscript ≡ None) where
+    (mode : is_write q.mode ≡ true) (deep : is_scalar q.ty ≡ false) (reads : is_write p.mode ≡ false) (element : is_element_of p.ty q.ty ≡ true) (subscript : Subscript) (kind : is_container_by (scalar_of subscript) q.ty ≡ true) (free : get (members_in h.x.content) subscript ≡ None) where
   abbrev fuller : Datum
   fuller = with_member subscript g.id h.x
 
-  of_member : h.x.ty ≡ container_of g.x.ty
-  of_member = h.ty ∙ element_is p.ty q.ty element ∙ ap container_of (sym g.ty)
+  of_member : element_of h.x.ty ≡ Some g.x.ty
+  of_member = ap element_of h.ty ∙ element_is p.ty q.ty element ∙ ap Some (sym g.ty)
 
   content_is : h.x.content ≡ Contains (members_in h.x.content)
   content_is = has_members h.x (ap is_scalar h.ty ∙ deep) (fits.store.contents h.id h.x h.live)
@@ -99,10 +102,14 @@ module _ (typing : Typing) (c : Context) (r w : ℕ → ℕ) (fits : Fits typing
     | inr old ↦ (y, old, refl)
   ]
 
+  -- the subscripts are still of the type that the container says
+  kinds : AreSubscriptsFor h.x.ty (insert (members_in h.x.content) subscript g.id)
+  kinds = one_more_kind h.x.ty (members_in h.x.content) subscript g.id (members_kinds h.x (fits.store.contents h.id h.x h.live)) (ap (is_container_by (scalar_of subscript)) h.ty ∙ kind)
+
   insert_typed : IsTypedStore after
   insert_typed = record {
     contents = λ d z at. elim (put_or_before nat_cmp_total nat_cmp-IsAntisymmetric c.store.live h.id fuller d z at) [
-      | inl e ↦ subst (λ (x : Datum). IsOfType x.ty x.content) e.1 (ap is_scalar h.ty ∙ deep)
+      | inl e ↦ subst (λ (x : Datum). IsOfType x.ty x.content) e.1 (ap is_scalar h.ty ∙ deep, kinds)
       | inr old ↦ fits.store.contents d z old
     ];
     nested = record {
@@ -116,12 +123,12 @@ module _ (typing : Typing) (c : Context) (r w : ℕ → ℕ) (fits : Fits typing
                 elim (cases_eq g.id m) [
                   | inl here ↦
                       let z_is : g.x ≡ o.0 = same_Some g.x o.0 (sym g.live ∙ ap (get c.store.live) here ∙ o.1) in
-                      x_ty ∙ of_member ∙ ap (λ (z : Datum). container_of z.ty) z_is ∙ ap container_of o.2
+                      ap element_of x_ty ∙ of_member ∙ ap (λ (z : Datum). Some z.ty) z_is ∙ ap Some o.2
                   | inr other ↦
                       let no_hit = hits_other m g.id other in
-                      x_ty ∙ fits.store.nested.members h.id m h.x o.0 h.live o.1 (omega arith) ∙ ap container_of o.2
+                      ap element_of x_ty ∙ fits.store.nested.members h.id m h.x o.0 h.live o.1 (omega arith) ∙ ap Some o.2
                 ]
-            | inr old ↦ fits.store.nested.members d m x o.0 old o.1 some ∙ ap container_of o.2
+            | inr old ↦ fits.store.nested.members d m x o.0 old o.1 some ∙ ap Some o.2
           ];
     };
     fresh = λ d z at. let o = type_was d z at in fits.store.fresh d o.0 o.1;
@@ -158,24 +165,24 @@ same_settles typing c k r w fits s t =
     subst (λ (m : Store). Settles typing c r w (record k { store = m })) (sym s) (subst (λ (u : List (Option ℕ)). Settles typing c r w (record k { store = c.store; rights = u })) (sym t) done)
 
 -- a member stands in its container
-pub found_inside : (x : Datum) (k : ℤ) (m : ℕ) → get (members_in x.content) k ≡ Some m → 0 < subscripts_in m x
+pub found_inside : (x : Datum) (k : Subscript) (m : ℕ) → get (members_in x.content) k ≡ Some m → 0 < subscripts_in m x
 found_inside x k m at = by x.content at
   where
     by : (content : Content) → get (members_in content) k ≡ Some m → 0 < count_of m (members_of content)
-    by Unset e = let z : None ≡ Some m = sym (get-empty int_cmp k) ∙ e in cc
-    by (Set v) e = let z : None ≡ Some m = sym (get-empty int_cmp k) ∙ e in cc
+    by Unset e = let z : None ≡ Some m = sym (get-empty value_cmp k) ∙ e in cc
+    by (Set v) e = let z : None ≡ Some m = sym (get-empty value_cmp k) ∙ e in cc
     by (Contains ms) e =
-        let l : hits m m ≤ total (hits m) ms = subst (λ o. part (hits m) o ≤ total (hits m) ms) e (part-le-total int_cmp int_cmp_total int_cmp-IsAntisymmetric (hits m) ms k) in
+        let l : hits m m ≤ total (hits m) ms = subst (λ o. part (hits m) o ≤ total (hits m) ms) e (part-le-total value_cmp value_cmp_total value_cmp-IsAntisymmetric (hits m) ms k) in
         let one = hits_same m in
         let t = count_total m ms in
         omega arith
 
 -- what LOOK finds is live, and of the type that the container says
 module _ (typing : Typing) (c : Context) (r w : ℕ → ℕ) (fits : Fits typing c r w) where
-  pub member_there : (id : ℕ) (x : Datum) (k : ℤ) (m : ℕ) → get c.store.live id ≡ Some x → get (members_in x.content) k ≡ Some m → (y : Datum) × (get c.store.live m ≡ Some y) × (x.ty ≡ container_of y.ty)
+  pub member_there : (id : ℕ) (x : Datum) (k : Subscript) (m : ℕ) → get c.store.live id ≡ Some x → get (members_in x.content) k ≡ Some m → (y : Datum) × (get c.store.live m ≡ Some y) × (element_of x.ty ≡ Some y.ty)
   member_there id x k m is at = by (get c.store.live m) refl
     where
-      by : (o : Option Datum) → get c.store.live m ≡ o → (y : Datum) × (get c.store.live m ≡ Some y) × (x.ty ≡ container_of y.ty)
+      by : (o : Option Datum) → get c.store.live m ≡ o → (y : Datum) × (get c.store.live m ≡ Some y) × (element_of x.ty ≡ Some y.ty)
       by None e =
           let some = found_inside x k m at in
           let l : subscripts_in m x ≤ inside c.store.live m = subst (λ o. part (subscripts_in m) o ≤ inside c.store.live m) is (part-le-total nat_cmp nat_cmp_total nat_cmp-IsAntisymmetric (subscripts_in m) c.store.live id) in

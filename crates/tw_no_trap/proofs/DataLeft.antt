@@ -7,7 +7,7 @@ use Rattle.tw_types.specs.Nesting.{NestedScalar}
 use Rattle.tw_types.specs.declared.value.Value.{Value}
 use Rattle.tw_types.specs.DataType.{same_scalar, is_scalar}
 use Rattle.tw_types.specs.Value.{scalar_of}
-use Rattle.tw_no_trap.proofs.Scalars.{scalar_itself}
+use Rattle.tw_types.proofs.SameTypes.{scalar_itself}
 use Rattle.tw_types.specs.declared.cause.Cause.TheVariants.{EmptyRegister, WrongRegister}
 use Rattle.tw_types.specs.declared.data_type.Scalar.{Scalar}
 use Rattle.tw_types.specs.Mode.{is_write, is_read}
@@ -137,7 +137,7 @@ module _ (p : Procedure) (typing : Typing) (c : Context) (r w : ℕ → ℕ) (fi
   still_unset : (ty : NestedScalar) (content : Content) (writes : ℕ) → IsOfType ty content → HasWriters content writes → is_scalar ty ≡ true → 0 < writes → (content ≡ Unset) × (writes ≡ 1)
   still_unset ty Unset writes s w scalar some = (refl, w)
   still_unset ty (Set x) writes s w scalar some = absurd (omega arith)
-  still_unset ty (Contains members) writes s w scalar some = cc (s, scalar)
+  still_unset ty (Contains members) writes s w scalar some = cc (s.0, scalar)
 
   store_at : (d from : ℕ) (q : RightType) (x : Value) → is_write q.mode ≡ true → is_scalar q.ty ≡ true → slice_get c.position.values from ≡ Some x → scalar_of x ≡ q.ty.scalar → At typing c r w d q
       → Goes (data_instr (on_data.Store d from) c) (Leaves p.registers (on_data.Store d from) typing c r w)

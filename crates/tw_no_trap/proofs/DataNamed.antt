@@ -1,6 +1,6 @@
 -- An instruction on data keeps that just what waits is named.
-use Rattle.std.proofs.Common.{◌≡◌, ℕ, ◌+◌, ◌<◌, ℤ, ◌==◌, true, false, not, [], Option, Some, None, refl, sym, ap, subst, ◌∙◌, arith, inl, inr}
-use Rattle.std.proofs.lemmas.Bool.{cases_eq, not-true, ne_eqb}
+use Rattle.std.proofs.Common.{◌≡◌, ℕ, ◌+◌, ◌<◌, ◌==◌, true, false, not, ◌&&◌, [], Option, Some, None, refl, sym, ap, subst, ◌∙◌, arith, inl, inr}
+use Rattle.std.proofs.lemmas.Bool.{and_parts, cases_eq, not-true, ne_eqb}
 use Rattle.std.proofs.lemmas.Option.{same_Some}
 use Rattle.std.specs.FinMap.{get, insert}
 use Rattle.tw_types.specs.declared.cause.Cause.{Cause}
@@ -9,21 +9,23 @@ use Rattle.std.specs.Option.{ok_or}
 use Rattle.tw_types.specs.Result.{must}
 use Rattle.tw_types.specs.Rule.{Rules}
 use Rattle.tw_types.specs.Store.{Members, Content, Unset, Set, Contains, Datum, Data, Store, is_closed, subscribers_cleared, settled, new_datum, notices_of}
-use Rattle.tw_types.specs.DataType.{is_scalar, is_element_of}
+use Rattle.tw_types.specs.DataType.{is_container_by, is_element_of, is_scalar}
 use Rattle.tw_types.specs.StoreCalls.{set_to, one_write_less, one_write_more, one_read_more, with_member, members_in, member_at, created, changed, store_after, notices_after, read_dropped}
 use Rattle.tw_types.specs.StoreCalls as store
-use Rattle.tw_types.specs.StoreChecks.{is_unset, may_store, may_retrieve, may_insert, may_look, may_read_members, may_be_read, may_copy_write, may_drop_read, may_drop_write}
+use Rattle.tw_types.specs.StoreChecks.{is_unset, may_store, may_retrieve, may_insert, may_look, may_read_members, may_read_members_by, may_be_read, may_copy_write, may_drop_read, may_drop_write}
 use Rattle.tw_types.specs.Value.{is_of}
 use Rattle.tw_types.specs.Notices.{with_notices}
+use Rattle.tw_types.specs.declared.data_type.Scalar.{Scalar}
 use Rattle.tw_types.specs.declared.data_type.Scalar.TheVariants as scalar
+use Rattle.tw_types.specs.ValueOrder.{Subscript}
 use Rattle.tw_types.specs.declared.value.Value.{Value}
 use Rattle.tw_code.specs.declared.instr.DataInstr.{DataInstr}
 use Rattle.tw_code.specs.declared.instr.DataInstr.TheVariants as on_data
-use Rattle.tw_no_trap.proofs.Scalars.{element_deep}
+use Rattle.tw_types.proofs.SameTypes.{by_deep}
 use Rattle.std.specs.Prelude.{Ok}
 use Rattle.tw_code.specs.machine.Data.{Context, datum_of, datum_at, suits, after_insert, after_look, data_instr}
 use Rattle.tw_code.specs.machine.Rights.{right_at, held, must_be_empty}
-use Rattle.tw_code.specs.machine.Position.{value_at, int_at, must_have_type}
+use Rattle.tw_code.specs.machine.Position.{value_at, int_at, must_have_type, of_type_at}
 use Rattle.tw_types.specs.TypedStore.{IsOfType, IsTypedStore}
 use Rattle.tw_no_trap.specs.Noticed.{AreNamed}
 use Rattle.tw_types.proofs.Freeing.{data_insert_same, data_insert_other}
@@ -126,7 +128,7 @@ module _ (rules : Rules) where
     dropped_from : (id d : ℕ) (y : Datum) → get (read_dropped c.store id).live d ≡ Some y → IsFrom (get c.store.live d) y
     dropped_from id d y e = kept_from (get c.store.live d) y (within_kept 3 c.store.live id d y e)
 
-    inserted_stays : (id : ℕ) (subscript : ℤ) (member register skip : ℕ) (o : Option ℕ) → ((x : Datum) → get c.store.live id ≡ Some x → (is_closed (with_member subscript member x) ≡ is_closed x)) → StaysNamed (after_insert c id subscript member register skip o)
+    inserted_stays : (id : ℕ) (subscript : Subscript) (member register skip : ℕ) (o : Option ℕ) → ((x : Datum) → get c.store.live id ≡ Some x → (is_closed (with_member subscript member x) ≡ is_closed x)) → StaysNamed (after_insert c id subscript member register skip o)
     inserted_stays id subscript member register skip None alike = stays_from (after_insert c id subscript member register skip None) refl (changed_from id (with_member subscript member) (λ x e. (refl, alike x e)))
     inserted_stays id subscript member register skip (Some other) alike = stays_same (after_insert c id subscript member register skip (Some other)) refl refl
 
@@ -152,10 +154,11 @@ module _ (rules : Rules) where
         let container = must_ok (not (is_scalar d.ty)) WrongType e in
         container_content d (not-true _ container) of (λ w. 0 < w.writes → is_closed (one_write_more w) ≡ is_closed w) (λ members n. ne_eqb (d.writes + 1) 0 (λ z. omega arith) ∙ sym (ne_eqb d.writes 0 (λ z. omega arith))) some
 
-    member_alike : (d e : Datum) (subscript : ℤ) (member : ℕ) → IsOfType d.ty d.content → may_insert (Some d) (Some e) ≡ Ok tt → is_closed (with_member subscript member d) ≡ is_closed d
-    member_alike d e subscript member of m =
-        let element = must_then (is_element_of e.ty d.ty) WrongType _ tt m in
-        container_content d (element_deep e.ty d.ty element.0) of (λ w. is_closed (with_member subscript member w) ≡ is_closed w) (λ members. refl)
+    member_alike : (by : Scalar) (d e : Datum) (subscript : Subscript) (member : ℕ) → IsOfType d.ty d.content → may_insert by (Some d) (Some e) ≡ Ok tt → is_closed (with_member subscript member d) ≡ is_closed d
+    member_alike by d e subscript member of m =
+        let fits = must_then (is_container_by by d.ty && is_element_of e.ty d.ty) WrongType _ tt m in
+        let deep = by_deep by d.ty (and_parts (is_container_by by d.ty) (is_element_of e.ty d.ty) fits.0).0 in
+        container_content d deep of (λ w. is_closed (with_member subscript member w) ≡ is_closed w) (λ members. refl)
 
     went_same : (k : Context) → k.notices ≡ c.notices → k.store ≡ c.store → WhereOk {E = Cause} (Ok k) StaysNamed
     went_same k a b = record { is = stays_same k a b }
@@ -167,7 +170,7 @@ module _ (rules : Rules) where
         → k.store ≡ store_after c.store id f → k.notices ≡ with_notices c.notices (notices_after c.store id f) → WhereOk {E = Cause} (Ok k) StaysNamed
     went_left id f x k a b d e g = record { is = left_stays id f x k a b d e g }
 
-    went_inserted : (id : ℕ) (subscript : ℤ) (member register skip : ℕ) (o : Option ℕ) → ((x : Datum) → get c.store.live id ≡ Some x → (is_closed (with_member subscript member x) ≡ is_closed x)) → WhereOk {E = Cause} (Ok (after_insert c id subscript member register skip o)) StaysNamed
+    went_inserted : (id : ℕ) (subscript : Subscript) (member register skip : ℕ) (o : Option ℕ) → ((x : Datum) → get c.store.live id ≡ Some x → (is_closed (with_member subscript member x) ≡ is_closed x)) → WhereOk {E = Cause} (Ok (after_insert c id subscript member register skip o)) StaysNamed
     went_inserted id subscript member register skip o a = record { is = inserted_stays id subscript member register skip o a }
 
     went_looked : (register skip : ℕ) (o : Option ℕ) → WhereOk {E = Cause} (Ok (after_look c register skip o)) StaysNamed
@@ -188,25 +191,25 @@ module _ (rules : Rules) where
         ok_both (held c.rights datum) (λ id _.
         ok_then (may_retrieve (datum_of c id)) (λ m.
         ok_both (ok_or (store.value_at c.store id) UnsetDatum) (λ x _. went_same _ refl refl)))))
-    data_named (on_data.Insert container subscript member skip) w =
-        ok_both (int_at c.position subscript) (λ at _.
+    data_named (on_data.Insert by container subscript member skip) w =
+        ok_both (of_type_at c.position subscript by) (λ at _.
         ok_both (held c.rights container) (λ id _.
         ok_both (held c.rights member) (λ inner _.
-        ok_then (may_insert (datum_of c id) (datum_of c inner)) (λ m.
+        ok_then (may_insert by (datum_of c id) (datum_of c inner)) (λ m.
         let d = there_then (datum_of c id) FreedDatum _ tt m in
         let e = there_then (datum_of c inner) FreedDatum _ tt d.2 in
         went_inserted id at inner member skip (member_at c.store id at) (λ x is.
         let x_is : d.0 ≡ x = same_Some d.0 x (sym d.1 ∙ is) in
-        subst (λ y. is_closed (with_member at inner y) ≡ is_closed y) x_is (member_alike d.0 e.0 at inner (typed.contents id d.0 d.1) e.2))))))
-    data_named (on_data.Look member container subscript skip) w =
-        ok_both (int_at c.position subscript) (λ at _.
+        subst (λ y. is_closed (with_member at inner y) ≡ is_closed y) x_is (member_alike by d.0 e.0 at inner (typed.contents id d.0 d.1) e.2))))))
+    data_named (on_data.Look by member container subscript skip) w =
+        ok_both (of_type_at c.position subscript by) (λ at _.
         ok_then (must_be_empty c.rights member) (λ _.
         ok_both (held c.rights container) (λ id _.
         ok_then (may_look c.store id at) (λ m. went_looked member skip (member_at c.store id at)))))
     data_named (on_data.Size to container) w =
         ok_then (must_have_type c.position to scalar.Int) (λ _. ok_both (held c.rights container) (λ id _. ok_then (may_read_members (datum_of c id)) (λ m. went_same _ refl refl)))
-    data_named (on_data.SubscriptAt to container index skip) w =
-        ok_then (must_have_type c.position to scalar.Int) (λ _. ok_both (int_at c.position index) (λ count _. ok_both (held c.rights container) (λ id _. ok_then (may_read_members (datum_of c id)) (λ m. went_same _ refl refl))))
+    data_named (on_data.SubscriptAt by to container index skip) w =
+        ok_then (must_have_type c.position to by) (λ _. ok_both (int_at c.position index) (λ count _. ok_both (held c.rights container) (λ id _. ok_then (may_read_members_by by (datum_of c id)) (λ m. went_same _ refl refl))))
     data_named (on_data.CopyRead to from) w =
         ok_then (must_be_empty c.rights to) (λ _. ok_both (held c.rights from) (λ id _. ok_then (may_be_read (datum_of c id)) (λ m. went_from _ refl (changed_from id one_read_more (λ x e. (refl, refl))))))
     data_named (on_data.CopyWrite to from) w =

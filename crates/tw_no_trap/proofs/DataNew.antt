@@ -4,13 +4,13 @@ use Rattle.std.proofs.lemmas.Bool.{cases_Bool, eqb-false, not-true}
 use Rattle.std.proofs.lemmas.Option.{same_Some}
 use Rattle.std.specs.Cmp.{nat_cmp_total}
 use Rattle.std.specs.FinMap as fin
-use Rattle.std.specs.FinMap.{get, entries, len-entries, len-empty, nat_cmp-IsAntisymmetric}
+use Rattle.std.specs.FinMap.{get, get-empty, entries, len-entries, len-empty, nat_cmp-IsAntisymmetric}
 use Rattle.std.specs.Option.{option_flatten}
-use Rattle.std.specs.Ordering.{int_cmp}
 use Rattle.tw_types.specs.declared.cause.Cause.TheVariants.{WrongRegister}
 use Rattle.tw_types.specs.declared.param.Mode.TheVariants.{Write, Ref}
 use Rattle.tw_types.specs.DataType.{IsDataType, is_scalar}
 use Rattle.tw_types.specs.Mode.{is_closed_mode}
+use Rattle.tw_types.specs.ValueOrder.{value_cmp}
 use Rattle.tw_types.specs.Nesting.{NestedScalar}
 use Rattle.tw_types.specs.Result.{must}
 use Rattle.tw_types.specs.Store.{Unset, Contains, Datum, Store, empty_content, new_datum, members_of}
@@ -44,12 +44,12 @@ no_members ty = by (is_scalar ty)
   where
     by : (b : Bool) → members_of (if b then Unset else Contains fin.empty) ≡ []
     by true = refl
-    by false = ap (map (λ e. e.1)) (no_items (entries (fin.empty {X = ℕ} {R = int_cmp})) (sym (len-entries (fin.empty {X = ℕ} {R = int_cmp})) ∙ len-empty int_cmp ℕ))
+    by false = ap (map (λ e. e.1)) (no_items (entries (fin.empty {X = ℕ} {R = value_cmp})) (sym (len-entries (fin.empty {X = ℕ} {R = value_cmp})) ∙ len-empty value_cmp ℕ))
 
 pub new_content : (ty : NestedScalar) → IsOfType ty (empty_content ty)
 new_content ty = elim (cases_Bool (is_scalar ty)) [
   | inl t ↦ subst (λ b. IsOfType ty (if b then Unset else Contains fin.empty)) (sym t) t
-  | inr u ↦ subst (λ b. IsOfType ty (if b then Unset else Contains fin.empty)) (sym u) u
+  | inr u ↦ subst (λ b. IsOfType ty (if b then Unset else Contains fin.empty)) (sym u) (u, λ subscript id at. let none : None ≡ Some id = sym (get-empty value_cmp subscript) ∙ at in cc)
 ]
 
 pub new_writers : (ty : NestedScalar) → HasWriters (empty_content ty) 1

@@ -1,10 +1,10 @@
 -- Instructions that read data, or put a member into a container, go where they are asked for, and leave what fits.
-use Rattle.std.proofs.Common.{◌≡◌, ℕ, ◌+◌, ◌<◌, ◌==◌, ℤ, pos, true, false, not, ◌||◌, length, is_none, slice_get, slice_set, Option, Some, None, refl, sym, ap, subst, ◌∙◌, arith}
+use Rattle.std.proofs.Common.{◌≡◌, ℕ, ◌+◌, ◌<◌, ◌==◌, pos, true, false, not, ◌||◌, length, is_none, slice_get, slice_set, Option, Some, None, refl, sym, ap, subst, ◌∙◌, arith}
 use Rattle.std.proofs.lemmas.Bool.{and_parts, ne_eqb, not-true}
 use Rattle.std.proofs.lemmas.Option.{same_Some}
 use Rattle.std.specs.FinMap as map
 use Rattle.std.specs.FinMap.{get, insert}
-use Rattle.std.specs.Option.{option_and_then, option_flatten, option_map, ok_or}
+use Rattle.std.specs.Option.{option_and_then, option_flatten, ok_or}
 use Rattle.std.specs.Prelude.{Ok}
 use Rattle.tw_types.specs.declared.cause.Cause.TheVariants.{EmptyRegister, FreedDatum, UnsetDatum, WrongRegister}
 use Rattle.tw_types.specs.declared.data_type.Scalar.{Scalar}
@@ -13,25 +13,26 @@ use Rattle.tw_types.specs.declared.param.Mode.TheVariants.{Ref}
 use Rattle.tw_types.specs.declared.value.Value.{Value}
 use Rattle.tw_types.specs.declared.value.Value.TheVariants as value
 use Rattle.tw_types.specs.Counts.{hits}
-use Rattle.tw_types.specs.DataType.{container_of, element_of, is_element_of, is_scalar, same_scalar}
+use Rattle.tw_types.specs.DataType.{element_of, is_container_by, is_element_of, is_scalar, same_scalar}
 use Rattle.tw_types.specs.Mode.{is_closed_mode, is_read, is_write}
 use Rattle.tw_types.specs.Nesting.{NestedScalar}
 use Rattle.tw_types.specs.Result.{must}
 use Rattle.tw_types.specs.Store.{Content, Unset, Set, Contains, Datum, Store, is_closed}
 use Rattle.tw_types.specs.StoreCalls as store
 use Rattle.tw_types.specs.StoreCalls.{changed, inserted, member_at, members_at, members_in, one_read_more, read_copied, subscript_after, value_in, with_member}
-use Rattle.tw_types.specs.StoreChecks.{is_kept, may_insert, may_look, may_read_members, may_retrieve}
+use Rattle.tw_types.specs.StoreChecks.{is_kept, may_insert, may_look, may_read_members, may_read_members_by, may_retrieve}
 use Rattle.tw_types.specs.TypedStore.{IsOfType}
 use Rattle.tw_types.specs.Value.{scalar_of}
+use Rattle.tw_types.specs.ValueOrder.{Subscript}
 use Rattle.tw_types.proofs.Freeing.{balanced_some, hits_other, hits_same}
 use Rattle.tw_code.specs.declared.flow.Way.TheVariants.{Completed, Skipped}
 use Rattle.tw_code.specs.declared.instr.DataInstr.TheVariants as on_data
 use Rattle.tw_code.specs.declared.procedure.Procedure.{Procedure}
 use Rattle.tw_code.specs.accepting.Question.{passes}
-use Rattle.tw_code.specs.accepting.Typing.{a_member_read, a_read, asks_data, reads_closed_container, reads_closed_scalar, reads_member_of, writes_container}
+use Rattle.tw_code.specs.accepting.Typing.{a_member_read, a_read, asks_data, reads_closed_container, reads_closed_container_by, reads_closed_scalar, reads_member_of, writes_container_by}
 use Rattle.tw_code.specs.machine.Data.{Context, after_insert, after_look, data_instr, datum_at, datum_of, given, suits}
 use Rattle.tw_code.specs.machine.Holders.{over, read_by, write_by}
-use Rattle.tw_code.specs.machine.Position.{int_at, must_have_type, value_at, with_result}
+use Rattle.tw_code.specs.machine.Position.{int_at, must_have_type, of_type_at, value_at, with_result}
 use Rattle.tw_code.specs.machine.Rights.{RightType, Typing, held, must_be_empty, right_at}
 use Rattle.tw_no_trap.specs.Invariant.{Holds, ValuesFit}
 use Rattle.tw_no_trap.proofs.DataInsert.{insert_settles, member_there, same_settles}
@@ -39,9 +40,10 @@ use Rattle.tw_no_trap.proofs.DataLeft.{Leaves, read_no_write}
 use Rattle.tw_no_trap.proofs.DataMade.{put_context}
 use Rattle.tw_no_trap.proofs.Long.{empty_there, free_there}
 use Rattle.tw_no_trap.proofs.Registers.{At, Fits, Settles, Undisturbed, at_right, over-set, rights_set}
-use Rattle.tw_no_trap.proofs.Scalars.{scalar_itself}
+use Rattle.tw_types.proofs.Subscripts.{members_kinds, subscript_kind}
+use Rattle.tw_types.proofs.SameTypes.{by_deep, scalar_itself}
 use Rattle.tw_no_trap.proofs.Steps.{Goes, at_some, goes, goes_must, goes_then}
-use Rattle.tw_no_trap.proofs.Values.{AllYes, declared_as, has_type, int_there, result_moves, value_found, values_set, passed}
+use Rattle.tw_no_trap.proofs.Values.{AllYes, declared_as, found_moves, has_type, int_there, value_found, value_there, values_set, passed}
 
 -- a closed scalar has a value of its type
 closed_value : (x : Datum) → is_scalar x.ty ≡ true → IsOfType x.ty x.content → is_closed x ≡ true → (v : Value) × (value_in x.content ≡ Some v) × (scalar_of v ≡ x.ty.scalar)
@@ -50,11 +52,11 @@ closed_value x scalar of closed = at x.content of closed
     at : (content : Content) → IsOfType x.ty content → is_closed (record x { content = content }) ≡ true → (v : Value) × (value_in content ≡ Some v) × (scalar_of v ≡ x.ty.scalar)
     at Unset h c = cc
     at (Set v) h c = (v, refl, h.1)
-    at (Contains members) h c = let z : true ≡ false = sym scalar ∙ h in cc
+    at (Contains members) h c = let z : true ≡ false = sym scalar ∙ h.0 in cc
 
 -- what is a member of the type has a read on it after LOOK
-member_read : (ty element : NestedScalar) → ty ≡ container_of element → option_and_then a_read (element_of ty) ≡ a_read element
-member_read ty element e = ap (λ (t : NestedScalar). option_and_then a_read (element_of t)) e
+member_read : (ty element : NestedScalar) → element_of ty ≡ Some element → option_and_then a_read (element_of ty) ≡ a_read element
+member_read ty element e = ap (option_and_then a_read) e
 
 module _ (p : Procedure) (typing : Typing) (c : Context) (r w : ℕ → ℕ) (fits : Fits typing c r w) (values : ValuesFit p.registers c.position.values) where
   held_goes : (d : ℕ) (q : RightType) (h : At typing c r w d q) → held c.rights d ≡ Ok h.id
@@ -65,6 +67,12 @@ module _ (p : Procedure) (typing : Typing) (c : Context) (r w : ℕ → ℕ) (fi
       let deep_x : is_scalar h.x.ty ≡ false = ap is_scalar h.ty ∙ deep in
       let shut = h.closed mode in
       rw (h.live, deep_x, shut) refl
+
+  members_read_by : (by : Scalar) (d : ℕ) (q : RightType) → is_closed_mode q.mode ≡ true → is_container_by by q.ty ≡ true → (h : At typing c r w d q) → may_read_members_by by (datum_of c h.id) ≡ Ok tt
+  members_read_by by d q mode kind h =
+      let kind_x : is_container_by by h.x.ty ≡ true = ap (is_container_by by) h.ty ∙ kind in
+      let shut = h.closed mode in
+      rw (h.live, kind_x, shut) refl
 
   -- a value register gets a value of its type, and the rest stays
   given_leaves : (to : ℕ) (ty : Scalar) (x : Value) → slice_get p.registers to ≡ Some ty → scalar_of x ≡ ty → (Settles typing c r w (given c to x)) × ValuesFit p.registers (given c to x).position.values
@@ -123,26 +131,29 @@ module _ (p : Procedure) (typing : Typing) (c : Context) (r w : ℕ → ℕ) (fi
       let both = and_parts (is_closed_mode q.0.mode) (not (is_scalar q.0.ty)) q.2 in
       size_at to d q.0 both.0 (not-true _ both.1) (declared_as (slice_get p.registers to) scalar.Int met.1.1.0) (at_right d typing c r w q.0 fits q.1)
 
-  subscript_at : (to d index skip : ℕ) (q : RightType) → is_closed_mode q.mode ≡ true → is_scalar q.ty ≡ false → slice_get p.registers to ≡ Some scalar.Int → slice_get p.registers index ≡ Some scalar.Int → At typing c r w d q
-      → Goes (data_instr (on_data.SubscriptAt to d index skip) c) (Leaves p.registers (on_data.SubscriptAt to d index skip) typing c r w)
-  subscript_at to d index skip q mode deep declared indexed h =
+  subscript_at : (by : Scalar) (to d index skip : ℕ) (q : RightType) → is_closed_mode q.mode ≡ true → is_container_by by q.ty ≡ true → slice_get p.registers to ≡ Some by → slice_get p.registers index ≡ Some scalar.Int → At typing c r w d q
+      → Goes (data_instr (on_data.SubscriptAt by to d index skip) c) (Leaves p.registers (on_data.SubscriptAt by to d index skip) typing c r w)
+  subscript_at by to d index skip q mode kind declared indexed h =
       let count = int_there p.registers c.position values index indexed in
-      let found : Option ℤ = subscript_after count.0 (map.keys (members_at c.store h.id)) in
-      goes_then (must_have_type c.position to scalar.Int) _ _ (has_type p.registers c.position values to scalar.Int declared)
+      let found : Option Subscript = subscript_after count.0 (map.keys (members_at c.store h.id)) in
+      let kind_x : is_container_by by h.x.ty ≡ true = ap (is_container_by by) h.ty ∙ kind in
+      let members_are : members_at c.store h.id ≡ members_in h.x.content = rw h.live refl in
+      goes_then (must_have_type c.position to by) _ _ (has_type p.registers c.position values to by declared)
       (goes (int_at c.position index) _ _ count.0 count.1
       (goes (held c.rights d) _ _ h.id (held_goes d q h)
-      (goes_then (may_read_members (datum_of c h.id)) _ _ (members_read d q mode deep h)
+      (goes_then (may_read_members_by by (datum_of c h.id)) _ _ (members_read_by by d q mode kind h)
       (record {
-        moves = result_moves p.registers c.position values value.Int found to skip scalar.Int declared (λ n. refl);
-        settles = same_settles typing c (record c { position = with_result c.position to skip (option_map value.Int found) }) r w fits refl refl;
+        moves = found_moves p.registers c.position values found to skip by declared (λ k is.
+            subscript_kind h.x.ty (members_in h.x.content) by (members_kinds h.x (fits.store.contents h.id h.x h.live)) kind_x count.0 k (sym (ap (λ ms. subscript_after count.0 (map.keys ms)) members_are) ∙ is));
+        settles = same_settles typing c (record c { position = with_result c.position to skip found }) r w fits refl refl;
       }))))
 
-  pub subscript_leaves : (to d index skip : ℕ) → AllYes (asks_data p.registers (on_data.SubscriptAt to d index skip) typing)
-      → Goes (data_instr (on_data.SubscriptAt to d index skip) c) (Leaves p.registers (on_data.SubscriptAt to d index skip) typing c r w)
-  subscript_leaves to d index skip met =
-      let q = passed reads_closed_container (right_at typing d) met.0 in
-      let both = and_parts (is_closed_mode q.0.mode) (not (is_scalar q.0.ty)) q.2 in
-      subscript_at to d index skip q.0 both.0 (not-true _ both.1) (declared_as (slice_get p.registers to) scalar.Int met.1.1.0) (declared_as (slice_get p.registers index) scalar.Int met.1.1.1.1.0) (at_right d typing c r w q.0 fits q.1)
+  pub subscript_leaves : (by : Scalar) (to d index skip : ℕ) → AllYes (asks_data p.registers (on_data.SubscriptAt by to d index skip) typing)
+      → Goes (data_instr (on_data.SubscriptAt by to d index skip) c) (Leaves p.registers (on_data.SubscriptAt by to d index skip) typing c r w)
+  subscript_leaves by to d index skip met =
+      let q = passed (reads_closed_container_by by) (right_at typing d) met.0 in
+      let both = and_parts (is_closed_mode q.0.mode) (is_container_by by q.0.ty) q.2 in
+      subscript_at by to d index skip q.0 both.0 both.1 (declared_as (slice_get p.registers to) by met.1.1.0) (declared_as (slice_get p.registers index) scalar.Int met.1.1.1.1.0) (at_right d typing c r w q.0 fits q.1)
 
   -- ---- INSERT
 
@@ -157,28 +168,30 @@ module _ (p : Procedure) (typing : Typing) (c : Context) (r w : ℕ → ℕ) (fi
           ne_zero : (n : ℕ) → 0 < n → (n == 0) ≡ false
           ne_zero n l = ne_eqb n 0 (λ e. omega arith)
 
-  insert_at : (container subscript member skip : ℕ) (q m : RightType) → is_write q.mode ≡ true → is_scalar q.ty ≡ false → is_write m.mode ≡ false → is_element_of m.ty q.ty ≡ true → slice_get p.registers subscript ≡ Some scalar.Int
+  insert_at : (by : Scalar) (container subscript member skip : ℕ) (q m : RightType) → is_write q.mode ≡ true → is_container_by by q.ty ≡ true → is_write m.mode ≡ false → is_element_of m.ty q.ty ≡ true → slice_get p.registers subscript ≡ Some by
       → At typing c r w container q → At typing c r w member m
-      → Goes (data_instr (on_data.Insert container subscript member skip) c) (Leaves p.registers (on_data.Insert container subscript member skip) typing c r w)
-  insert_at container subscript member skip q m mode deep reads element declared h g =
+      → Goes (data_instr (on_data.Insert by container subscript member skip) c) (Leaves p.registers (on_data.Insert by container subscript member skip) typing c r w)
+  insert_at by container subscript member skip q m mode kind reads element declared h g =
+      let deep = by_deep by q.ty kind in
       let deep_x : is_scalar h.x.ty ≡ false = ap is_scalar h.ty ∙ deep in
-      let at = int_there p.registers c.position values subscript declared in
+      let at = value_there p.registers c.position values subscript by declared in
+      let kind_x : is_container_by by h.x.ty ≡ true = ap (is_container_by by) h.ty ∙ kind in
       let some = h.has_write mode in
       let more : 0 < h.x.writes = (let e = h.writes in omega arith) in
       let element_x : is_element_of g.x.ty h.x.ty ≡ true = ap (λ (t : NestedScalar). is_element_of t h.x.ty) g.ty ∙ ap (is_element_of m.ty) h.ty ∙ element in
       let opened = open_container h.x deep_x (fits.store.contents h.id h.x h.live) more in
-      let may : may_insert (datum_of c h.id) (datum_of c g.id) ≡ Ok tt = rw (h.live, g.live, element_x, opened) refl in
+      let may : may_insert by (datum_of c h.id) (datum_of c g.id) ≡ Ok tt = rw (h.live, g.live, kind_x, element_x, opened) refl in
       let found : member_at c.store h.id at.0 ≡ get (members_in h.x.content) at.0 = ap (option_and_then (λ (x : Datum). get (members_in x.content) at.0)) h.live in
-      goes (int_at c.position subscript) _ _ at.0 at.1
+      goes (of_type_at c.position subscript by) _ _ at.0 at.1
       (goes (held c.rights container) _ _ h.id (held_goes container q h)
       (goes (held c.rights member) _ _ g.id (held_goes member m g)
-      (goes_then (may_insert (datum_of c h.id) (datum_of c g.id)) _ _ may
-      (by at.0 (member_at c.store h.id at.0) (sym found)))))
+      (goes_then (may_insert by (datum_of c h.id) (datum_of c g.id)) _ _ may
+      (left at.0 deep (ap (λ (u : Scalar). is_container_by u q.ty) at.2 ∙ kind) (member_at c.store h.id at.0) (sym found)))))
     where
-      by : (at : ℤ) (o : Option ℕ) → get (members_in h.x.content) at ≡ o → Leaves p.registers (on_data.Insert container subscript member skip) typing c r w (after_insert c h.id at g.id member skip o)
-      by at (Some other) e = record { moves = record { way = Skipped; goes_on = refl; values = values }; settles = same_settles typing c (after_insert c h.id at g.id member skip (Some other)) r w fits refl refl }
-      by at None e =
-          let done = insert_settles typing c r w fits container member q m h g mode deep reads element at e in
+      left : (at : Subscript) → is_scalar q.ty ≡ false → is_container_by (scalar_of at) q.ty ≡ true → (o : Option ℕ) → get (members_in h.x.content) at ≡ o → Leaves p.registers (on_data.Insert by container subscript member skip) typing c r w (after_insert c h.id at g.id member skip o)
+      left at deep kind (Some other) e = record { moves = record { way = Skipped; goes_on = refl; values = values }; settles = same_settles typing c (after_insert c h.id at g.id member skip (Some other)) r w fits refl refl }
+      left at deep kind None e =
+          let done = insert_settles typing c r w fits container member q m h g mode deep reads element at kind e in
           let store_is : inserted c.store h.id at g.id ≡ record c.store { live = insert c.store.live h.id (with_member at g.id h.x) } = rw h.live refl in
           record {
             moves = record { way = Completed; goes_on = refl; values = values };
@@ -189,15 +202,15 @@ module _ (p : Procedure) (typing : Typing) (c : Context) (r w : ℕ → ℕ) (fi
             };
           }
 
-  pub insert_leaves : (container subscript member skip : ℕ) → AllYes (asks_data p.registers (on_data.Insert container subscript member skip) typing)
-      → Goes (data_instr (on_data.Insert container subscript member skip) c) (Leaves p.registers (on_data.Insert container subscript member skip) typing c r w)
-  insert_leaves container subscript member skip met =
-      let q = passed writes_container (right_at typing container) met.0 in
-      let both = and_parts (is_write q.0.mode) (not (is_scalar q.0.ty)) q.2 in
+  pub insert_leaves : (by : Scalar) (container subscript member skip : ℕ) → AllYes (asks_data p.registers (on_data.Insert by container subscript member skip) typing)
+      → Goes (data_instr (on_data.Insert by container subscript member skip) c) (Leaves p.registers (on_data.Insert by container subscript member skip) typing c r w)
+  insert_leaves by container subscript member skip met =
+      let q = passed (writes_container_by by) (right_at typing container) met.0 in
+      let both = and_parts (is_write q.0.mode) (is_container_by by q.0.ty) q.2 in
       let member_met : passes (reads_member_of q.0) (right_at typing member) ≡ true = sym (ap (passes (λ right. passes (reads_member_of right) (right_at typing member))) q.1) ∙ met.1.0 in
       let m = passed (reads_member_of q.0) (right_at typing member) member_met in
       let two = and_parts (is_read m.0.mode) (is_element_of m.0.ty q.0.ty) m.2 in
-      insert_at container subscript member skip q.0 m.0 both.0 (not-true _ both.1) (read_no_write m.0.mode two.0) two.1 (declared_as (slice_get p.registers subscript) scalar.Int met.1.1.1.0)
+      insert_at by container subscript member skip q.0 m.0 both.0 both.1 (read_no_write m.0.mode two.0) two.1 (declared_as (slice_get p.registers subscript) by met.1.1.1.0)
       (at_right container typing c r w q.0 fits q.1) (at_right member typing c r w m.0 fits m.1)
 
   -- ---- LOOK
@@ -225,20 +238,20 @@ module _ (p : Procedure) (typing : Typing) (c : Context) (r w : ℕ → ℕ) (fi
         (omega (arith, counts.0)) (omega (arith, counts.1)) (omega arith) store_is
         (rights_set c.store typing c.rights member (a_read y.ty) (Some m) fits.rights holds)
 
-    look_at : (member d subscript skip : ℕ) (q : RightType) → right_at typing d ≡ Some q → is_closed_mode q.mode ≡ true → is_scalar q.ty ≡ false → slice_get p.registers subscript ≡ Some scalar.Int
+    look_at : (by : Scalar) (member d subscript skip : ℕ) (q : RightType) → right_at typing d ≡ Some q → is_closed_mode q.mode ≡ true → is_container_by by q.ty ≡ true → slice_get p.registers subscript ≡ Some by
         → slice_get typing member ≡ Some None → slice_get c.rights member ≡ Some None → At typing c r w d q
-        → Goes (data_instr (on_data.Look member d subscript skip) c) (Leaves p.registers (on_data.Look member d subscript skip) typing c r w)
-    look_at member d subscript skip q there_is mode deep declared a b h =
-        let at = int_there p.registers c.position values subscript declared in
+        → Goes (data_instr (on_data.Look by member d subscript skip) c) (Leaves p.registers (on_data.Look by member d subscript skip) typing c r w)
+    look_at by member d subscript skip q there_is mode kind declared a b h =
+        let at = value_there p.registers c.position values subscript by declared in
         let found : member_at c.store h.id at.0 ≡ get (members_in h.x.content) at.0 = ap (option_and_then (λ (x : Datum). get (members_in x.content) at.0)) h.live in
-        let read = members_read d q mode deep h in
-        goes (int_at c.position subscript) _ _ at.0 at.1
+        let read = members_read_by (scalar_of at.0) d q mode (ap (λ (u : Scalar). is_container_by u q.ty) at.2 ∙ kind) h in
+        goes (of_type_at c.position subscript by) _ _ at.0 at.1
         (goes_then (must_be_empty c.rights member) _ _ (ap (λ o. must (is_none (option_flatten o)) WrongRegister) b)
         (goes (held c.rights d) _ _ h.id (held_goes d q h)
         (goes_then (may_look c.store h.id at.0) _ _ (may at.0 (member_at c.store h.id at.0) refl (sym found) read)
-        (by at.0 (member_at c.store h.id at.0) (sym found)))))
+        (left at.0 (member_at c.store h.id at.0) (sym found)))))
       where
-        may : (at : ℤ) (o : Option ℕ) → member_at c.store h.id at ≡ o → get (members_in h.x.content) at ≡ member_at c.store h.id at → may_read_members (datum_of c h.id) ≡ Ok tt → may_look c.store h.id at ≡ Ok tt
+        may : (at : Subscript) (o : Option ℕ) → member_at c.store h.id at ≡ o → get (members_in h.x.content) at ≡ member_at c.store h.id at → may_read_members_by (scalar_of at) (datum_of c h.id) ≡ Ok tt → may_look c.store h.id at ≡ Ok tt
         may at None e found read = rw (read, e) refl
         may at (Some m) e found read =
             let y = member_there typing c r w fits h.id h.x at m h.live (found ∙ e) in
@@ -247,20 +260,20 @@ module _ (p : Procedure) (typing : Typing) (c : Context) (r w : ℕ → ℕ) (fi
             kept : (m : ℕ) (y : Datum) → get c.store.live m ≡ Some y → is_kept c.store.live (Some m) ≡ true
             kept m y e = rw e refl
 
-        by : (at : ℤ) (o : Option ℕ) → get (members_in h.x.content) at ≡ o → Leaves p.registers (on_data.Look member d subscript skip) typing c r w (after_look c member skip o)
-        by at None e = record { moves = record { way = Skipped; goes_on = refl; values = values }; settles = same_settles typing c (after_look c member skip None) r w fits refl refl }
-        by at (Some m) e =
+        left : (at : Subscript) (o : Option ℕ) → get (members_in h.x.content) at ≡ o → Leaves p.registers (on_data.Look by member d subscript skip) typing c r w (after_look c member skip o)
+        left at None e = record { moves = record { way = Skipped; goes_on = refl; values = values }; settles = same_settles typing c (after_look c member skip None) r w fits refl refl }
+        left at (Some m) e =
             let y = member_there typing c r w fits h.id h.x at m h.live e in
-            let read : a_member_read (right_at typing d) ≡ a_read y.0.ty = ap a_member_read there_is ∙ member_read q.ty y.0.ty (sym h.ty ∙ y.2) in
+            let read : a_member_read (right_at typing d) ≡ a_read y.0.ty = ap a_member_read there_is ∙ member_read q.ty y.0.ty (ap element_of (sym h.ty) ∙ y.2) in
             record {
               moves = record { way = Completed; goes_on = refl; values = values };
               settles = subst (λ o. Settles (slice_set typing member o) c r w (after_look c member skip (Some m))) (sym read) (look_settles member d skip m y.0 y.1 a b);
             }
 
-    pub look_leaves : (member d subscript skip : ℕ) → member < 16 → AllYes (asks_data p.registers (on_data.Look member d subscript skip) typing)
-        → Goes (data_instr (on_data.Look member d subscript skip) c) (Leaves p.registers (on_data.Look member d subscript skip) typing c r w)
-    look_leaves member d subscript skip l met =
-        let q = passed reads_closed_container (right_at typing d) met.1.0 in
-        let both = and_parts (is_closed_mode q.0.mode) (not (is_scalar q.0.ty)) q.2 in
+    pub look_leaves : (by : Scalar) (member d subscript skip : ℕ) → member < 16 → AllYes (asks_data p.registers (on_data.Look by member d subscript skip) typing)
+        → Goes (data_instr (on_data.Look by member d subscript skip) c) (Leaves p.registers (on_data.Look by member d subscript skip) typing c r w)
+    look_leaves by member d subscript skip l met =
+        let q = passed (reads_closed_container_by by) (right_at typing d) met.1.0 in
+        let both = and_parts (is_closed_mode q.0.mode) (is_container_by by q.0.ty) q.2 in
         let a = free_there typing member (omega arith) met.0 in
-        look_at member d subscript skip q.0 q.1 both.0 (not-true _ both.1) (declared_as (slice_get p.registers subscript) scalar.Int met.1.1.1.0) a (empty_there c.store typing c.rights member fits.rights a) (at_right d typing c r w q.0 fits q.1)
+        look_at by member d subscript skip q.0 q.1 both.0 both.1 (declared_as (slice_get p.registers subscript) by met.1.1.1.0) a (empty_there c.store typing c.rights member fits.rights a) (at_right d typing c r w q.0 fits q.1)

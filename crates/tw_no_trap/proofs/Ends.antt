@@ -15,8 +15,8 @@ use Rattle.tw_types.specs.declared.pending.Pending.{Pending}
 use Rattle.tw_types.specs.Actor.{actor_cmp}
 use Rattle.tw_types.specs.Circle.{IsCircle, circle_of, has_rule}
 use Rattle.tw_types.specs.Counts.{count_of, inside, subscripts_in, HasWriters}
-use Rattle.tw_types.specs.DataType.{container_of}
-use Rattle.tw_types.specs.Nesting.{NestedScalar}
+use Rattle.tw_types.specs.DataType.{depth_of, element_of}
+use Rattle.tw_types.proofs.Depths.{element_depth}
 use Rattle.tw_types.specs.Notices.{notice_cmp}
 use Rattle.tw_types.specs.Rule.{Rule, has_unasked, is_releasable}
 use Rattle.tw_types.specs.Store.{Content, Unset, Set, Contains, Datum, is_closed}
@@ -147,28 +147,28 @@ module _ (program : List Procedure) (typings : Typings) (s : State) (held : IsHe
       y : Datum
       live : get s.store.live container ≡ Some y
       has : 0 < subscripts_in d y
-      deeper : y.ty.depth ≡ suc depth
-      few : y.ty.depth ≤ 3
+      deeper : depth_of y.ty ≡ suc depth
+      few : depth_of y.ty ≤ 3
 
-    member_of : (d : ℕ) (x : Datum) → get s.store.live d ≡ Some x → count_of d s.outputs ≡ 0 → IsMember d x.ty.depth
+    member_of : (d : ℕ) (x : Datum) → get s.store.live d ≡ Some x → count_of d s.outputs ≡ 0 → IsMember d (depth_of x.ty)
     member_of d x is no_output =
         let c = counts d x is in
         let w = no_writes d x is in
         let r = no_reads d in
         let some : 0 < inside s.store.live d = omega (arith, c.0, c.2) in
         let p = some_part nat_cmp nat_cmp_total (subscripts_in d) s.store.live some in
-        let of : p.1.ty ≡ container_of x.ty = held.types.store.nested.members p.0 d p.1 x p.2 is p.3 in
-        record { container = p.0; y = p.1; live = p.2; has = p.3; deeper = ap (λ (t : NestedScalar). t.depth) of; few = held.types.store.nested.types p.0 p.1 p.2 }
+        let of : element_of p.1.ty ≡ Some x.ty = held.types.store.nested.members p.0 d p.1 x p.2 is p.3 in
+        record { container = p.0; y = p.1; live = p.2; has = p.3; deeper = element_depth p.1.ty x.ty of; few = held.types.store.nested.types p.0 p.1 p.2 }
 
     -- so it is an output or is held by one, by recursion on how much deeper a type may be
-    kept_within : (more d : ℕ) (x : Datum) → get s.store.live d ≡ Some x → 3 ≤ x.ty.depth + more → IsKept s d
+    kept_within : (more d : ℕ) (x : Datum) → get s.store.live d ≡ Some x → 3 ≤ depth_of x.ty + more → IsKept s d
     kept_within zero d x is deep = elim (cases_eq (count_of d s.outputs) 0) [
       | inr some ↦ output (omega arith)
       | inl no_output ↦ let m = member_of d x is no_output in absurd (omega (arith, m.deeper, m.few))
     ]
     kept_within (suc more) d x is deep = by (cases_eq (count_of d s.outputs) 0) (λ d' x' is' deep'. kept_within more d' x' is' deep')
       where
-        by : (count_of d s.outputs ≡ 0) ⊎ (count_of d s.outputs ≡ 0 → ⊥) → ((d' : ℕ) (x' : Datum) → get s.store.live d' ≡ Some x' → 3 ≤ x'.ty.depth + more → IsKept s d') → IsKept s d
+        by : (count_of d s.outputs ≡ 0) ⊎ (count_of d s.outputs ≡ 0 → ⊥) → ((d' : ℕ) (x' : Datum) → get s.store.live d' ≡ Some x' → 3 ≤ depth_of x'.ty + more → IsKept s d') → IsKept s d
         by (inr some) later = output (omega arith)
         by (inl no_output) later = let m = member_of d x is no_output in member m.container m.y (later m.container m.y m.live (omega (arith, m.deeper))) m.live m.has
 

@@ -5,7 +5,7 @@ use Rattle.std.specs.Cmp.{nat_cmp_total}
 use Rattle.std.specs.FinMap.{get, insert, nat_cmp-IsAntisymmetric}
 use Rattle.tw_types.specs.declared.data_type.Scalar.{Scalar}
 use Rattle.tw_types.specs.Counts.{Balanced, BalancedAt, HasWriters, HaveWriters, count_of, inside, subscripts_in}
-use Rattle.tw_types.specs.DataType.{IsDataType, container_of, scalar_type}
+use Rattle.tw_types.specs.DataType.{IsDataType, element_of, scalar_type}
 use Rattle.tw_types.specs.Store.{Datum, Store, added, members_of}
 use Rattle.tw_types.specs.TypedStore.{IsOfType, IsTypedStore}
 use Rattle.tw_types.proofs.Freeing.{data_insert_other, data_insert_same}
@@ -20,8 +20,8 @@ pub record IsFilling (t : Store) (ty : Scalar) (left : ℕ) (r w : ℕ → ℕ) 
   pub contents : (d : ℕ) (x : Datum) → get t.live d ≡ Some x → IsOfType x.ty x.content
   pub types : (d : ℕ) (x : Datum) → get t.live d ≡ Some x → IsDataType x.ty
   pub writers : HaveWriters t.live
-  pub members : (c d : ℕ) (x y : Datum) → get t.live c ≡ Some x → get t.live d ≡ Some y → 0 < subscripts_in d x → x.ty ≡ container_of y.ty
-  pub awaited : (c d : ℕ) (x : Datum) → get t.live c ≡ Some x → t.next ≤ d → 0 < subscripts_in d x → x.ty ≡ container_of (scalar_type ty)
+  pub members : (c d : ℕ) (x y : Datum) → get t.live c ≡ Some x → get t.live d ≡ Some y → 0 < subscripts_in d x → element_of x.ty ≡ Some y.ty
+  pub awaited : (c d : ℕ) (x : Datum) → get t.live c ≡ Some x → t.next ≤ d → 0 < subscripts_in d x → element_of x.ty ≡ Some (scalar_type ty)
   pub counts : (d : ℕ) (x : Datum) → get t.live d ≡ Some x → (x.reads ≡ inside t.live d + r d) × (x.writes ≡ w d) × (0 < x.reads + x.writes)
   pub unheld : (d : ℕ) → get t.live d ≡ None → (r d ≡ 0) × (w d ≡ 0)
   pub freed : (d : ℕ) → d < t.next → get t.live d ≡ None → inside t.live d ≡ 0
@@ -36,9 +36,9 @@ pub record IsNext (t : Store) (y : Datum) (ty : Scalar) (left : ℕ) (r w s v : 
   pub content : IsOfType y.ty y.content
   pub shallow : IsDataType y.ty
   pub writers : HasWriters y.content y.writes
-  pub mine : (c : ℕ) (x : Datum) → get t.live c ≡ Some x → 0 < subscripts_in t.next x → x.ty ≡ container_of y.ty
-  pub awaited : (c d : ℕ) (x : Datum) → get t.live c ≡ Some x → t.next < d → 0 < subscripts_in d x → x.ty ≡ container_of (scalar_type ty)
-  pub own : (d : ℕ) → t.next < d → 0 < subscripts_in d y → y.ty ≡ container_of (scalar_type ty)
+  pub mine : (c : ℕ) (x : Datum) → get t.live c ≡ Some x → 0 < subscripts_in t.next x → element_of x.ty ≡ Some y.ty
+  pub awaited : (c d : ℕ) (x : Datum) → get t.live c ≡ Some x → t.next < d → 0 < subscripts_in d x → element_of x.ty ≡ Some (scalar_type ty)
+  pub own : (d : ℕ) → t.next < d → 0 < subscripts_in d y → element_of y.ty ≡ Some (scalar_type ty)
   pub none : (d : ℕ) → d ≤ t.next → subscripts_in d y ≡ 0
   pub soon : (d : ℕ) → t.next < d → d < t.next + 1 + left → subscripts_in d y + inside t.live d ≡ 1
   pub never : (d : ℕ) → t.next + 1 + left ≤ d → subscripts_in d y + inside t.live d ≡ 0
@@ -77,16 +77,16 @@ module _ (t : Store) (of : Scalar) (before : ℕ) (r w : ℕ → ℕ) (f : IsFil
     fresh d x (inl new) = let e = new.0 in omega arith
     fresh d x (inr old) = let l = f.fresh d x old in omega arith
 
-    members : (c d : ℕ) (x z : Datum) → Either c x → Either d z → 0 < subscripts_in d x → x.ty ≡ container_of z.ty
+    members : (c d : ℕ) (x z : Datum) → Either c x → Either d z → 0 < subscripts_in d x → element_of x.ty ≡ Some z.ty
     members c d x z (inl new) at_d some =
         let l = fresh d z at_d in
         let zero : subscripts_in d x ≡ 0 = ap (subscripts_in d) (sym new.1) ∙ n.none d (omega arith) in
         absurd (omega arith)
-    members c d x z (inr old) (inl new) some = n.mine c x old (subst (λ k. 0 < subscripts_in k x) new.0 some) ∙ ap (λ (u : Datum). container_of u.ty) new.1
+    members c d x z (inr old) (inl new) some = n.mine c x old (subst (λ k. 0 < subscripts_in k x) new.0 some) ∙ ap (λ (u : Datum). Some u.ty) new.1
     members c d x z (inr old) (inr older) some = f.members c d x z old older some
 
-    awaited : (c d : ℕ) (x : Datum) → Either c x → t.next + 1 ≤ d → 0 < subscripts_in d x → x.ty ≡ container_of (scalar_type ty)
-    awaited c d x (inl new) l some = ap (λ (u : Datum). u.ty) (sym new.1) ∙ n.own d (omega arith) (subst (λ (u : Datum). 0 < subscripts_in d u) (sym new.1) some)
+    awaited : (c d : ℕ) (x : Datum) → Either c x → t.next + 1 ≤ d → 0 < subscripts_in d x → element_of x.ty ≡ Some (scalar_type ty)
+    awaited c d x (inl new) l some = ap (λ (u : Datum). element_of u.ty) (sym new.1) ∙ n.own d (omega arith) (subst (λ (u : Datum). 0 < subscripts_in d u) (sym new.1) some)
     awaited c d x (inr old) l some = n.awaited c d x old (omega arith) some
 
     counts : (d : ℕ) (x : Datum) → Either d x → (x.reads ≡ inside (insert t.live t.next y) d + s d) × (x.writes ≡ v d) × (0 < x.reads + x.writes)

@@ -31,7 +31,7 @@ use Rattle.tw_no_trap.specs.Invariant.{Holds, RightsFit, ValuesFit, ArgFits, Arg
 use Rattle.tw_no_trap.specs.InOrder.{right_until, is_asked_for}
 use Rattle.tw_types.proofs.Freeing.{hits_same}
 use Rattle.tw_no_trap.proofs.Registers.{Found, found, emptied, rights_set}
-use Rattle.tw_no_trap.proofs.Scalars.{scalar_itself, same_types, type_itself}
+use Rattle.tw_types.proofs.SameTypes.{scalar_itself, same_types, type_itself}
 use Rattle.tw_no_trap.proofs.Steps.{Goes, goes_more, goes}
 use Rattle.tw_no_trap.proofs.Values.{AllYes, declared_as, value_found, passed}
 

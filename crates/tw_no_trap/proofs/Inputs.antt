@@ -1,13 +1,14 @@
 -- Each input that main is given makes a store that is right: closed, with one read, which main holds.
-use Rattle.std.proofs.Common.{◌≡◌, ℕ, ◌+◌, ◌<◌, ◌≤◌, ◌⊎◌, inl, inr, ℤ, Bool, true, false, ◌&&◌, List, [], ◌∷◌, map, fold, length, Some, None, refl, sym, ap, subst, ◌∙◌, arith}
-use Rattle.std.proofs.lemmas.Bool.{and_parts, cases_eq, ne_eqb}
-use Rattle.std.proofs.lemmas.Int.{ints}
+use Rattle.std.proofs.Common.{◌≡◌, ℕ, ◌+◌, ◌<◌, ◌≤◌, ◌⊎◌, inl, inr, Bool, true, false, List, [], ◌∷◌, fold, length, Some, None, refl, sym, ap, subst, ◌∙◌, arith}
+use Rattle.std.proofs.lemmas.Bool.{and_parts, cases_eq}
 use Rattle.std.proofs.lemmas.Option.{same_Some}
-use Rattle.std.specs.Cmp.{int_cmp_total}
+use Rattle.std.specs.declared.cmp.Ordering.{Ordering}
+use Rattle.std.specs.declared.cmp.Ordering.TheVariants.{Less, Equal, Greater}
+use Rattle.std.specs.Cmp.{tied_itself}
 use Rattle.std.specs.FinMap as fin
-use Rattle.std.specs.FinMap.{get, get-empty, insert, int_cmp-IsAntisymmetric}
-use Rattle.std.specs.Ordering.{int_cmp}
-use Rattle.std.specs.Prelude.{int_lt}
+use Rattle.std.specs.FinMap.{get, get-empty, insert}
+use Rattle.std.specs.Ordering.{is_lt}
+use Rattle.std.specs.Prelude.{nat_le}
 use Rattle.tw_types.specs.declared.data_type.Scalar.{Scalar}
 use Rattle.tw_types.specs.declared.data_type.Scalar.TheVariants as scalar
 use Rattle.tw_types.specs.declared.input.Input.{Input}
@@ -16,53 +17,59 @@ use Rattle.tw_types.specs.declared.param.Mode.{Mode}
 use Rattle.tw_types.specs.declared.value.Value.{Value}
 use Rattle.tw_types.specs.declared.value.Value.TheVariants as value
 use Rattle.tw_types.specs.Counts.{Balanced, HaveWriters, count_of, hits, subscripts_in}
-use Rattle.tw_types.specs.DataType.{container_of, same_type, scalar_type}
+use Rattle.tw_types.specs.DataType.{container_of, same_scalar, same_type, scalar_type}
+use Rattle.tw_types.specs.Given.{Given, Single, Container, given_by, members_by}
 use Rattle.tw_types.specs.Nesting.{NestedScalar}
 use Rattle.tw_types.specs.Store.{Contains, Datum, Store, added, is_closed}
 use Rattle.tw_types.specs.TypedStore.{IsTypedStore}
-use Rattle.tw_types.specs.Value.{scalar_of}
+use Rattle.tw_types.specs.Value.{is_short, scalar_of}
+use Rattle.tw_types.specs.ValueOrder.{Subscript, value_cmp}
+use Rattle.tw_types.proofs.ValueOrder.{value_cmp_total, value_cmp-IsAntisymmetric}
+use Rattle.tw_types.proofs.Parts.{put_or_before}
 use Rattle.tw_types.proofs.Freeing.{data_insert_same, hits_other, hits_same}
 use Rattle.tw_types.proofs.Totals.{insert_other, total-empty}
-use Rattle.tw_code.specs.machine.Inputs.{are_few, is_input_of, is_short, rises, rises_from}
-use Rattle.std.specs.List.{list_all}
-use Rattle.tw_code.specs.machine.Opening.{closed_scalar, numbered, with_container, with_input}
+use Rattle.tw_code.specs.machine.Inputs.{are_members, is_given_for, is_input_of, rises, rises_from}
+use Rattle.tw_code.specs.machine.Opening.{added_given, closed_scalar, numbered, with_container, with_input}
 use Rattle.tw_no_trap.specs.Invariant.{Holds}
 use Rattle.tw_no_trap.proofs.DataInsert.{count_total, values_insert}
 use Rattle.tw_no_trap.proofs.Filling.{IsFilling, IsNext, added_filling, filled, filled_balanced, filled_typed, inside-le, not_yet, plain_next, undisturbed_added}
 use Rattle.tw_no_trap.proofs.Registers.{Undisturbed, holds_undisturbed, undisturbed_after, undisturbed_itself}
-use Rattle.tw_no_trap.proofs.Scalars.{same_types}
+use Rattle.tw_types.proofs.SameTypes.{same_types, scalar_itself}
 
 -- ---- subscripts that rise
 
-rises_on : {A : Type 0} (e : ℤ × A) (es : List (ℤ × A)) → rises (e ∷ es) ≡ true → rises es ≡ true
+rises_on : (e : Subscript × Value) (es : List (Subscript × Value)) → rises (e ∷ es) ≡ true → rises es ≡ true
 rises_on e [] h = refl
-rises_on e (f ∷ es) h = (and_parts (int_lt e.0 f.0) (rises_from f.0 es) h).1
+rises_on e (f ∷ es) h = (and_parts (is_lt (value_cmp e.0 f.0)) (rises_from f.0 es) h).1
+
+below : (r : Ordering) → is_lt r ≡ true → r ≡ Less
+below Less h = refl
+below Equal h = cc
+below Greater h = cc
 
 -- no later subscript is one that isn't above
-not_numbered : (es : List (ℤ × Value)) (id : ℕ) (before k : ℤ) → rises_from before es ≡ true → int_lt before k ≡ false → get (numbered id es) k ≡ None
-not_numbered [] id before k h low = get-empty int_cmp k
+not_numbered : (es : List (Subscript × Value)) (id : ℕ) (before k : Subscript) → rises_from before es ≡ true → is_lt (value_cmp before k) ≡ false → get (numbered id es) k ≡ None
+not_numbered [] id before k h low = get-empty value_cmp k
 not_numbered (e ∷ es) id before k h low =
-    let both = and_parts (int_lt before e.0) (rises_from e.0 es) h in
-    insert_other int_cmp int_cmp_total int_cmp-IsAntisymmetric (numbered (id + 1) es) e.0 id k (λ z. different z both.0) ∙ not_numbered es (id + 1) e.0 k both.1 (lower both.0 (int_lt e.0 k) refl)
+    let both = and_parts (is_lt (value_cmp before e.0)) (rises_from e.0 es) h in
+    insert_other value_cmp value_cmp_total value_cmp-IsAntisymmetric (numbered (id + 1) es) e.0 id k (λ z. different z both.0) ∙ not_numbered es (id + 1) e.0 k both.1 (lower both.0 (is_lt (value_cmp e.0 k)) refl)
   where
-    different : k ≡ e.0 → int_lt before e.0 ≡ true → ⊥
-    different z above = let t : true ≡ false = sym above ∙ ap (int_lt before) (sym z) ∙ low in cc
+    different : k ≡ e.0 → is_lt (value_cmp before e.0) ≡ true → ⊥
+    different z above = let t : true ≡ false = sym above ∙ ap (λ (j : Subscript). is_lt (value_cmp before j)) (sym z) ∙ low in cc
 
-    lower : int_lt before e.0 ≡ true → (b : Bool) → int_lt e.0 k ≡ b → int_lt e.0 k ≡ false
+    lower : is_lt (value_cmp before e.0) ≡ true → (b : Bool) → is_lt (value_cmp e.0 k) ≡ b → is_lt (value_cmp e.0 k) ≡ false
     lower above false is = is
-    lower above true is = absurd (omega (arith, ints))
+    lower above true is =
+        let through : value_cmp before k ≡ Less = value_cmp_total.trans before e.0 k (below (value_cmp before e.0) above) (below (value_cmp e.0 k) is) in
+        let t : true ≡ false = sym (ap is_lt through) ∙ low in cc
 
-new_subscript : (e : ℤ × Value) (es : List (ℤ × Value)) (id : ℕ) → rises (e ∷ es) ≡ true → get (numbered id es) e.0 ≡ None
-new_subscript e es id h = not_numbered es id e.0 e.0 h (itself (int_lt e.0 e.0) refl)
-  where
-    itself : (b : Bool) → int_lt e.0 e.0 ≡ b → int_lt e.0 e.0 ≡ false
-    itself false is = is
-    itself true is = absurd (omega (arith, ints))
+new_subscript : (e : Subscript × Value) (es : List (Subscript × Value)) (id : ℕ) → rises (e ∷ es) ≡ true → get (numbered id es) e.0 ≡ None
+new_subscript e es id h = not_numbered es id e.0 e.0 h (ap is_lt (tied_itself value_cmp_total e.0))
 
 -- ---- the ids of the members
 
-out_of_range : (es : List (ℤ × Value)) (id d : ℕ) → rises es ≡ true → (d < id) ⊎ (id + length es ≤ d) → count_of d (fin.values (numbered id es)) ≡ 0
-out_of_range [] id d h out = count_total d fin.empty ∙ total-empty int_cmp (hits d)
+out_of_range : (es : List (Subscript × Value)) (id d : ℕ) → rises es ≡ true → (d < id) ⊎ (id + length es ≤ d) → count_of d (fin.values (numbered id es)) ≡ 0
+out_of_range [] id d h out = count_total d fin.empty ∙ total-empty value_cmp (hits d)
 out_of_range (e ∷ es) id d h out =
     let one = values_insert (numbered (id + 1) es) e.0 id d (new_subscript e es (id + 1) h) in
     let hit = hits_other d id (λ z. not_here z out) in
@@ -77,7 +84,7 @@ out_of_range (e ∷ es) id d h out =
     further (inl low) = inl (omega arith)
     further (inr high) = inr (omega arith)
 
-in_range : (es : List (ℤ × Value)) (id d : ℕ) → rises es ≡ true → id ≤ d → d < id + length es → count_of d (fin.values (numbered id es)) ≡ 1
+in_range : (es : List (Subscript × Value)) (id d : ℕ) → rises es ≡ true → id ≤ d → d < id + length es → count_of d (fin.values (numbered id es)) ≡ 1
 in_range [] id d h low high = absurd (omega arith)
 in_range (e ∷ es) id d h low high =
     let one = values_insert (numbered (id + 1) es) e.0 id d (new_subscript e es (id + 1) h) in
@@ -114,12 +121,13 @@ pub record IsGiven (s t : Store) (ty : NestedScalar) (r w : ℕ → ℕ) : Type 
 
 -- ---- members
 
-abbrev add_member : Store → ℤ × Value → Store
+abbrev add_member : Store → Subscript × Value → Store
 add_member t e = added t (closed_scalar e.1)
 
-abbrev AreOf : Scalar → List (ℤ × Value) → Type 0
-AreOf ty [] = Unit {0}
-AreOf ty (e ∷ es) = (scalar_of e.1 ≡ ty) × AreOf ty es
+-- their subscripts are of the first type, and their values of the second
+abbrev AreTyped : Scalar → Scalar → List (Subscript × Value) → Type 0
+AreTyped by ty [] = Unit {0}
+AreTyped by ty (e ∷ es) = (scalar_of e.0 ≡ by) × (scalar_of e.1 ≡ ty) × AreTyped by ty es
 
 member_next : (t : Store) (ty : Scalar) (left : ℕ) (r w : ℕ → ℕ) (v : Value) → IsFilling t ty (left + 1) r w → scalar_of v ≡ ty → IsNext t (closed_scalar v) ty left r w r w
 member_next t ty left r w v f of =
@@ -129,7 +137,7 @@ member_next t ty left r w v f of =
       content = (refl, refl);
       shallow = omega arith;
       writers = refl;
-      mine = λ c x at some. f.awaited c t.next x at (omega arith) some ∙ ap (λ u. container_of (scalar_type u)) (sym of);
+      mine = λ c x at some. f.awaited c t.next x at (omega arith) some ∙ ap (λ (u : Scalar). Some (scalar_type u)) (sym of);
       awaited = λ c d x at l some. f.awaited c d x at (omega arith) some;
       own = λ d l some. absurd (omega arith);
       none = λ d l. refl;
@@ -141,11 +149,11 @@ member_next t ty left r w v f of =
       some = omega arith;
     }
 
-fill_members : (es : List (ℤ × Value)) (t : Store) (ty : Scalar) (r w : ℕ → ℕ) → IsFilling t ty (length es) r w → AreOf ty es → IsFilling (fold add_member t es) ty 0 r w × Undisturbed t (fold add_member t es)
-fill_members [] t ty r w f of = (f, undisturbed_itself t)
-fill_members (e ∷ es) t ty r w f of =
+fill_members : (es : List (Subscript × Value)) (t : Store) (by ty : Scalar) (r w : ℕ → ℕ) → IsFilling t ty (length es) r w → AreTyped by ty es → IsFilling (fold add_member t es) ty 0 r w × Undisturbed t (fold add_member t es)
+fill_members [] t by ty r w f of = (f, undisturbed_itself t)
+fill_members (e ∷ es) t by ty r w f of =
     let g : IsFilling t ty (length es + 1) r w = subst (λ n. IsFilling t ty n r w) (omega arith) f in
-    let rest = fill_members es (added t (closed_scalar e.1)) ty r w (added_filling t ty (length es + 1) r w g (closed_scalar e.1) ty (length es) r w (member_next t ty (length es) r w e.1 g of.0)) of.1 in
+    let rest = fill_members es (added t (closed_scalar e.1)) by ty r w (added_filling t ty (length es + 1) r w g (closed_scalar e.1) ty (length es) r w (member_next t ty (length es) r w e.1 g of.1)) of.2 in
     (rest.0, undisturbed_after t (added t (closed_scalar e.1)) (fold add_member (added t (closed_scalar e.1)) es) (undisturbed_added t ty (length es + 1) r w g (closed_scalar e.1)) rest.1)
 
 -- ---- a datum that stands at the next id, closed
@@ -162,18 +170,45 @@ closed_holds s y mode closed = record {
 
 -- ---- containers
 
-module _ (s : Store) (r w : ℕ → ℕ) (h : IsRight s r w) where
-  abbrev container : Scalar → List (ℤ × Value) → Datum
-  container ty es = record { ty = container_of (scalar_type ty); content = Contains (numbered (s.next + 1) es); reads = 1; writes = 0; subscribers = [] }
+-- each member stands at a subscript of the container's type
+numbered_by : (es : List (Subscript × Value)) (id : ℕ) (by ty : Scalar) (k : Subscript) (m : ℕ) → AreTyped by ty es → get (numbered id es) k ≡ Some m → same_scalar (scalar_of k) by ≡ true
+numbered_by [] id by ty k m of at = let z : None ≡ Some m = sym (get-empty value_cmp k) ∙ at in cc
+numbered_by (e ∷ es) id by ty k m of at = elim (put_or_before value_cmp_total value_cmp-IsAntisymmetric (numbered (id + 1) es) e.0 id k m at) [
+  | inl here ↦ ap (λ (j : Subscript). same_scalar (scalar_of j) by) here.0 ∙ ap (λ (u : Scalar). same_scalar u by) of.0 ∙ scalar_itself by
+  | inr later ↦ numbered_by es (id + 1) by ty k m of.2 later
+]
 
-  container_next : (ty : Scalar) (es : List (ℤ × Value)) → rises es ≡ true → IsNext s (container ty es) ty (length es) r w (λ d. r d + hits d s.next) w
-  container_next ty es up =
+-- ---- inputs
+
+abbrev IsTyped : Given → Type 0
+IsTyped (Single x) = Unit {0}
+IsTyped (Container by scalar es) = AreTyped by scalar es
+
+each_typed : {K V : Type 0} (subscript : K → Subscript) (value : V → Value) (by ty : Scalar) → ((k : K) → scalar_of (subscript k) ≡ by) → ((v : V) → scalar_of (value v) ≡ ty)
+    → (es : List (K × V)) → AreTyped by ty (members_by subscript value es)
+each_typed subscript value by ty named of [] = tt
+each_typed subscript value by ty named of (e ∷ es) = (named e.0, of e.1, each_typed subscript value by ty named of es)
+
+all_typed : (i : Input) → IsTyped (given_by i)
+all_typed (input.Int n) = tt
+all_typed (input.Text text) = tt
+all_typed (input.Ints es) = each_typed value.Int value.Int scalar.Int scalar.Int (λ n. refl) (λ n. refl) es
+all_typed (input.Texts es) = each_typed value.Int value.Text scalar.Int scalar.Text (λ n. refl) (λ text. refl) es
+all_typed (input.IntsByText es) = each_typed value.Text value.Int scalar.Text scalar.Int (λ text. refl) (λ n. refl) es
+all_typed (input.TextsByText es) = each_typed value.Text value.Text scalar.Text scalar.Text (λ text. refl) (λ text. refl) es
+
+module _ (s : Store) (r w : ℕ → ℕ) (h : IsRight s r w) where
+  abbrev container : Scalar → Scalar → List (Subscript × Value) → Datum
+  container by ty es = record { ty = container_of by (scalar_type ty); content = Contains (numbered (s.next + 1) es); reads = 1; writes = 0; subscribers = [] }
+
+  container_next : (by ty : Scalar) (es : List (Subscript × Value)) → rises es ≡ true → AreTyped by ty es → IsNext s (container by ty es) ty (length es) r w (λ d. r d + hits d s.next) w
+  container_next by ty es up of =
       let f = right_filled s ty r w h in
       let none = f.unheld s.next (not_yet s ty 0 r w f) in
       let one = hits_same s.next in
       let zero = f.never s.next (omega arith) in
       record {
-        content = ne_eqb 1 0 (λ e. omega arith);
+        content = (refl, λ k m at. numbered_by es (s.next + 1) by ty k m of at);
         shallow = omega arith;
         writers = tt;
         mine = λ c x at some. absurd (nothing_yet f c s.next x at (omega arith) some);
@@ -191,15 +226,15 @@ module _ (s : Store) (r w : ℕ → ℕ) (h : IsRight s r w) where
       nothing_yet : IsFilling s ty 0 r w → (c d : ℕ) (x : Datum) → get s.live c ≡ Some x → s.next ≤ d → 0 < subscripts_in d x → ⊥
       nothing_yet f c d x at l some = let le = inside-le s c d x at in let zero = f.never d (omega arith) in omega arith
 
-  container_given : (ty : Scalar) (es : List (ℤ × Value)) → rises es ≡ true → AreOf ty es → IsGiven s (with_container s ty es) (container_of (scalar_type ty)) r w
-  container_given ty es up of =
+  container_given : (by ty : Scalar) (es : List (Subscript × Value)) → rises es ≡ true → AreTyped by ty es → IsGiven s (with_container s by ty es) (container_of by (scalar_type ty)) r w
+  container_given by ty es up of =
       let f = right_filled s ty r w h in
-      let first = added_filling s ty 0 r w f (container ty es) ty (length es) (λ d. r d + hits d s.next) w (container_next ty es up) in
-      let all = fill_members es (added s (container ty es)) ty (λ d. r d + hits d s.next) w first of in
+      let first = added_filling s ty 0 r w f (container by ty es) ty (length es) (λ d. r d + hits d s.next) w (container_next by ty es up of) in
+      let all = fill_members es (added s (container by ty es)) by ty (λ d. r d + hits d s.next) w first of in
       record {
-        right = filled_right (with_container s ty es) ty (λ d. r d + hits d s.next) w all.0;
-        others = undisturbed_after s (added s (container ty es)) (with_container s ty es) (undisturbed_added s ty 0 r w f (container ty es)) all.1;
-        holds = λ mode. holds_undisturbed (added s (container ty es)) (with_container s ty es) all.1 (record { mode = mode; ty = container_of (scalar_type ty) }) s.next (closed_holds s (container ty es) mode refl);
+        right = filled_right (with_container s by ty es) ty (λ d. r d + hits d s.next) w all.0;
+        others = undisturbed_after s (added s (container by ty es)) (with_container s by ty es) (undisturbed_added s ty 0 r w f (container by ty es)) all.1;
+        holds = λ mode. holds_undisturbed (added s (container by ty es)) (with_container s by ty es) all.1 (record { mode = mode; ty = container_of by (scalar_type ty) }) s.next (closed_holds s (container by ty es) mode refl);
       }
 
   scalar_given : (v : Value) → IsGiven s (added s (closed_scalar v)) (scalar_type (scalar_of v)) r w
@@ -215,33 +250,16 @@ module _ (s : Store) (r w : ℕ → ℕ) (h : IsRight s r w) where
         holds = λ mode. closed_holds s (closed_scalar v) mode refl;
       }
 
-  -- ---- each form of input
+  -- ---- what an input gives
 
-  rises_made : {A : Type 0} (make : A → Value) (before : ℤ) (es : List (ℤ × A)) → rises_from before (map (λ e. (e.0, make e.1)) es) ≡ rises_from before es
-  rises_made make before [] = refl
-  rises_made make before (e ∷ es) = ap (λ b. int_lt before e.0 && b) (rises_made make e.0 es)
-
-  all_rise : {A : Type 0} (make : A → Value) (es : List (ℤ × A)) → rises es ≡ true → rises (map (λ e. (e.0, make e.1)) es) ≡ true
-  all_rise make [] up = refl
-  all_rise make (e ∷ es) up = rises_made make e.0 es ∙ up
-
-  all_of : {A : Type 0} (make : A → Value) (ty : Scalar) → ((a : A) → scalar_of (make a) ≡ ty) → (es : List (ℤ × A)) → AreOf ty (map (λ e. (e.0, make e.1)) es)
-  all_of make ty is [] = tt
-  all_of make ty is (e ∷ es) = (is e.1, all_of make ty is es)
+  given_right : (given : Given) (ty : NestedScalar) → IsTyped given → is_given_for ty given ≡ true → IsGiven s (added_given s given) ty r w
+  given_right (Single x) ty of fit =
+      let both = and_parts (same_type ty (scalar_type (scalar_of x))) (is_short x) fit in
+      subst (λ t. IsGiven s (added_given s (Single x)) t r w) (sym (same_types ty (scalar_type (scalar_of x)) both.0)) (scalar_given x)
+  given_right (Container by scalar es) ty of fit =
+      let both = and_parts (same_type ty (container_of by (scalar_type scalar))) (are_members es) fit in
+      let up = (and_parts (rises es) _ (and_parts (nat_le (length es) 1000) _ both.1).1).0 in
+      subst (λ t. IsGiven s (added_given s (Container by scalar es)) t r w) (sym (same_types ty (container_of by (scalar_type scalar)) both.0)) (container_given by scalar es up of)
 
   pub input_given : (i : Input) (ty : NestedScalar) → is_input_of ty i ≡ true → IsGiven s (with_input s i) ty r w
-  input_given (input.Int n) ty fit = subst (λ t. IsGiven s (with_input s (input.Int n)) t r w) (sym (same_types ty (scalar_type scalar.Int) fit)) (scalar_given (value.Int n))
-  input_given (input.Text text) ty fit =
-      let both = and_parts (same_type ty (scalar_type scalar.Text)) (is_short text) fit in
-      subst (λ t. IsGiven s (with_input s (input.Text text)) t r w) (sym (same_types ty (scalar_type scalar.Text) both.0)) (scalar_given (value.Text text))
-  input_given (input.Ints es) ty fit =
-      let both = and_parts (same_type ty (container_of (scalar_type scalar.Int))) (are_few es && rises es) fit in
-      let up = (and_parts (are_few es) (rises es) both.1).1 in
-      subst (λ t. IsGiven s (with_input s (input.Ints es)) t r w) (sym (same_types ty (container_of (scalar_type scalar.Int)) both.0))
-      (container_given scalar.Int (map (λ e. (e.0, value.Int e.1)) es) (all_rise value.Int es up) (all_of value.Int scalar.Int (λ n. refl) es))
-  input_given (input.Texts es) ty fit =
-      let both = and_parts (same_type ty (container_of (scalar_type scalar.Text))) (are_few es && (rises es && list_all (λ (e : ℤ × List ℕ). is_short e.1) es)) fit in
-      let rest = (and_parts (are_few es) (rises es && list_all (λ (e : ℤ × List ℕ). is_short e.1) es) both.1).1 in
-      let up = (and_parts (rises es) (list_all (λ (e : ℤ × List ℕ). is_short e.1) es) rest).0 in
-      subst (λ t. IsGiven s (with_input s (input.Texts es)) t r w) (sym (same_types ty (container_of (scalar_type scalar.Text)) both.0))
-      (container_given scalar.Text (map (λ e. (e.0, value.Text e.1)) es) (all_rise value.Text es up) (all_of value.Text scalar.Text (λ text. refl) es))
+  input_given i ty fit = given_right (given_by i) ty (all_typed i) fit

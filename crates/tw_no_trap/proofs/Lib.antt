@@ -2,7 +2,6 @@ pub mod Sums
 pub mod Over
 pub mod Aging
 pub mod Steps
-pub mod Scalars
 pub mod Values
 pub mod Registers
 pub mod Named

@@ -1,5 +1,5 @@
 -- What is held is live: by a register, an argument of a task or of a rule, an output, a container and a notice.
-use Rattle.std.proofs.Common.{◌≡◌, ℕ, ℤ, zero, suc, ◌+◌, ◌≤◌, Bool, true, false, List, [], ◌∷◌, slice_get, if◌then◌else◌, Option, Some, None, refl, sym, ap, subst, ◌∙◌, arith, nat_cmp}
+use Rattle.std.proofs.Common.{◌≡◌, ℕ, zero, suc, ◌+◌, ◌≤◌, Bool, true, false, List, [], ◌∷◌, slice_get, if◌then◌else◌, Option, Some, None, refl, sym, ap, subst, ◌∙◌, arith, nat_cmp}
 use Rattle.std.proofs.lemmas.Option.{same_Some}
 use Rattle.std.specs.Cmp.{nat_cmp_total}
 use Rattle.std.specs.FinMap.{get, nat_cmp-IsAntisymmetric}
@@ -15,6 +15,7 @@ use Rattle.tw_types.specs.Counts.{count_of, hits, inside, subscripts_in}
 use Rattle.tw_types.specs.Mode.{is_val, is_write}
 use Rattle.tw_types.specs.Rule.{Rule}
 use Rattle.tw_types.specs.Store.{Datum, Store}
+use Rattle.tw_types.specs.ValueOrder.{Subscript}
 use Rattle.tw_types.specs.StoreCalls.{members_in}
 use Rattle.tw_types.specs.Task.{Arg, RightArg, Task}
 use Rattle.tw_types.specs.Totals.{total}
@@ -140,7 +141,7 @@ module _ (program : List Procedure) (typings : Typings) (s : State) (held : IsHe
   output_is_live k d at = let one = output_counts s.outputs k d at in there d (omega arith)
 
   -- a member of a container that is live
-  pub member_is_live : (id : ℕ) (x : Datum) (subscript : ℤ) (d : ℕ) → get s.store.live id ≡ Some x → get (members_in x.content) subscript ≡ Some d → IsLive d
+  pub member_is_live : (id : ℕ) (x : Datum) (subscript : Subscript) (d : ℕ) → get s.store.live id ≡ Some x → get (members_in x.content) subscript ≡ Some d → IsLive d
   member_is_live id x subscript d is at = by (get s.store.live d) refl
     where
       by : (o : Option Datum) → get s.store.live d ≡ o → IsLive d

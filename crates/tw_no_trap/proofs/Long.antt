@@ -38,12 +38,12 @@ data_long : (way : Way) (i : DataInstr) (typing : Typing) → length (after_data
 data_long way (on_data.New write read ty) typing = set_long (slice_set typing write (a_write ty)) read (a_read ty) ∙ set_long typing write (a_write ty)
 data_long way (on_data.Store datum from) typing = set_long typing datum None
 data_long way (on_data.Get to datum) typing = refl
-data_long Completed (on_data.Insert container subscript member skip) typing = set_long typing member None
-data_long Skipped (on_data.Insert container subscript member skip) typing = refl
-data_long Completed (on_data.Look member container subscript skip) typing = set_long typing member (a_member_read (right_at typing container))
-data_long Skipped (on_data.Look member container subscript skip) typing = refl
+data_long Completed (on_data.Insert by container subscript member skip) typing = set_long typing member None
+data_long Skipped (on_data.Insert by container subscript member skip) typing = refl
+data_long Completed (on_data.Look by member container subscript skip) typing = set_long typing member (a_member_read (right_at typing container))
+data_long Skipped (on_data.Look by member container subscript skip) typing = refl
 data_long way (on_data.Size to container) typing = refl
-data_long way (on_data.SubscriptAt to container index skip) typing = refl
+data_long way (on_data.SubscriptAt by to container index skip) typing = refl
 data_long way (on_data.CopyRead to from) typing = set_long typing to (right_at typing from)
 data_long way (on_data.CopyWrite to from) typing = set_long typing to (right_at typing from)
 data_long way (on_data.DropRead right) typing = set_long typing right None

@@ -87,10 +87,10 @@ no_close : (i : DataInstr) → data_flow i ≡ Close → ⊥
 no_close (on_data.New write read ty) e = cc
 no_close (on_data.Store datum from) e = cc
 no_close (on_data.Get to datum) e = cc
-no_close (on_data.Insert container subscript member skip) e = cc
-no_close (on_data.Look member container subscript skip) e = cc
+no_close (on_data.Insert by container subscript member skip) e = cc
+no_close (on_data.Look by member container subscript skip) e = cc
 no_close (on_data.Size to container) e = cc
-no_close (on_data.SubscriptAt to container index skip) e = cc
+no_close (on_data.SubscriptAt by to container index skip) e = cc
 no_close (on_data.CopyRead to from) e = cc
 no_close (on_data.CopyWrite to from) e = cc
 no_close (on_data.DropRead right) e = cc

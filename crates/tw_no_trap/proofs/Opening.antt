@@ -50,9 +50,9 @@ right_is p e = ap (λ b. if b then None else Some (record { mode = p.mode; ty = 
 
 param_type : (m : Mode) (ty : NestedScalar) → is_val m ≡ false → IsTypeUnder m ty → IsDataType ty
 param_type Val ty e h = cc
-param_type Closed ty e h = h
-param_type Ref ty e h = h
-param_type Write ty e h = h
+param_type Closed ty e h = h.0
+param_type Ref ty e h = h.0
+param_type Write ty e h = h.0
 
 not_closed : (m : Mode) → is_write m ≡ true → is_closed_mode m ≡ true → ⊥
 not_closed Val e f = cc

@@ -2,6 +2,7 @@
 use Rattle.std.proofs.Common.{◌≡◌, ℕ, zero, suc, ◌+◌, ◌<◌, ◌≤◌, true, false, [], ◌∷◌, slice_get, slice_set, Option, Some, None, refl, ap, subst, ◌∙◌, arith, inl, inr}
 use Rattle.std.proofs.lemmas.Bool.{cases_Bool}
 use Rattle.std.specs.FinMap.{get}
+use Rattle.tw_types.specs.DataType.{depth_of}
 use Rattle.tw_types.specs.Store.{Datum, Store, is_closed, settled, drop_read_within}
 use Rattle.tw_code.specs.machine.Rights.{Rights, RightType, Typing, right_at}
 use Rattle.tw_code.specs.machine.Data.{Context}
@@ -122,7 +123,7 @@ pub aged_context : (ts us : Typing) (k l : Context) (r w : ℕ → ℕ) (id : �
     → Settles us k r w l
 aged_context ts us k l r w id x y fits is aged other reads writes live next fit =
     let m = k.store.live in
-    let shallow : x.ty.depth ≤ 3 = fits.store.nested.types id x is in
+    let shallow : depth_of x.ty ≤ 3 = fits.store.nested.types id x is in
     let done : Freed (settled m id y) m (λ d. over (read_by d) us l.rights + r d) (λ d. over (write_by d) us l.rights + w d) =
     settled_balanced 3 (drop_read_within 2) (drops 2) m id x y _ _ _ _ fits.store.nested is fits.balanced shallow aged (λ d h. (ap (λ n. n + r d) (other d h).0, ap (λ n. n + w d) (other d h).1)) reads writes in
     let free : Freed l.store.live m (λ d. over (read_by d) us l.rights + r d) (λ d. over (write_by d) us l.rights + w d) = rw live done in

@@ -25,7 +25,7 @@ use Rattle.tw_code.specs.machine.Holders.{over, id_of}
 use Rattle.tw_no_trap.proofs.Over.{over_params}
 use Rattle.tw_no_trap.specs.Invariant.{RightsFit, ValuesFit, ArgFits, ArgsFit}
 use Rattle.tw_types.proofs.Totals.{IsEntry, get_entry}
-use Rattle.tw_no_trap.proofs.Scalars.{same_scalars, scalar_itself}
+use Rattle.tw_types.proofs.SameTypes.{same_scalars, scalar_itself}
 
 -- ---- the best task is one of those that wait
 

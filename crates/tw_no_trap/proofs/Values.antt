@@ -18,14 +18,14 @@ use Rattle.tw_code.specs.declared.flow.Way.TheVariants.{Completed, Skipped}
 use Rattle.tw_code.specs.declared.instr.Arithmetic.{Arithmetic}
 use Rattle.tw_code.specs.declared.instr.LocalInstr.{LocalInstr}
 use Rattle.tw_code.specs.declared.instr.LocalInstr.TheVariants as local
-use Rattle.tw_code.specs.machine.Position.{Position, value_at, int_in, text_in, int_at, text_at, must_have_type, at_next_place, at_goal, with_value, with_result, Cursor, after_end}
+use Rattle.tw_code.specs.machine.Position.{Position, value_at, int_in, text_in, int_at, text_at, must_have_type, of_type_at, at_next_place, at_goal, with_value, with_result, Cursor, after_end}
 use Rattle.tw_code.specs.machine.Local.{result_of, joined, int_shown_as, same_value, local_instr}
 use Rattle.tw_code.specs.accepting.Question.{Question, refusal_in, passes}
 use Rattle.tw_code.specs.accepting.Typing.{asks_value, asks_alike, asks_values, asks_local}
 use Rattle.tw_code.specs.accepting.Flow.{local_flow}
 use Rattle.tw_code.specs.accepting.Walk.{moved}
 use Rattle.tw_no_trap.specs.Invariant.{ValuesFit}
-use Rattle.tw_no_trap.proofs.Scalars.{same_scalars, scalar_itself}
+use Rattle.tw_types.proofs.SameTypes.{same_scalars, scalar_itself}
 use Rattle.tw_no_trap.proofs.Steps.{Goes, goes, goes_then, at_some}
 
 -- ---- questions
@@ -112,12 +112,22 @@ module _ (registers : List Scalar) (at : Position) (fits : ValuesFit registers a
       let is = text_goes found.0 found.2 in
       (is.0, rw found.1 is.1)
 
+  pub value_there : (register : ℕ) (ty : Scalar) → slice_get registers register ≡ Some ty → (x : Value) × (of_type_at at register ty ≡ Ok x) × (scalar_of x ≡ ty)
+  value_there register ty e =
+      let found = value_found registers at.values register ty fits e in
+      let same : same_scalar (scalar_of found.0) ty ≡ true = ap (λ (u : Scalar). same_scalar u ty) found.2 ∙ scalar_itself ty in
+      (found.0, rw found.1 (rw same refl), found.2)
+
   pub set_moves : (register : ℕ) (ty : Scalar) (x : Value) → slice_get registers register ≡ Some ty → scalar_of x ≡ ty → Moves registers Straight at (at_next_place (with_value at register x))
   set_moves register ty x e is = record { way = Completed; goes_on = refl; values = values_set registers at.values register ty x fits e is }
 
   pub result_moves : {A : Type 0} (make : A → Value) (o : Option A) (register skip : ℕ) (ty : Scalar) → slice_get registers register ≡ Some ty → ((a : A) → scalar_of (make a) ≡ ty) → Moves registers (Branch skip) at (with_result at register skip (option_map make o))
   result_moves make None register skip ty e is = record { way = Skipped; goes_on = refl; values = fits }
   result_moves make (Some a) register skip ty e is = record { way = Completed; goes_on = refl; values = values_set registers at.values register ty (make a) fits e (is a) }
+
+  pub found_moves : (o : Option Value) (register skip : ℕ) (ty : Scalar) → slice_get registers register ≡ Some ty → ((x : Value) → o ≡ Some x → scalar_of x ≡ ty) → Moves registers (Branch skip) at (with_result at register skip o)
+  found_moves None register skip ty e is = record { way = Skipped; goes_on = refl; values = fits }
+  found_moves (Some x) register skip ty e is = record { way = Completed; goes_on = refl; values = values_set registers at.values register ty x fits e (is x refl) }
 
   branch_moves : (b : Bool) (skip : ℕ) → Moves registers (Branch skip) at (if b then at_goal at skip else at_next_place at)
   branch_moves true skip = record { way = Skipped; goes_on = refl; values = fits }

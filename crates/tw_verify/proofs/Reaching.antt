@@ -25,7 +25,7 @@ use Rattle.tw_verify.specs.Same.{mode_rank, same_right, same_typing}
 use Rattle.tw_verify.specs.declared.reached.Reached.{Reached}
 use Rattle.tw_verify.specs.Passes.{is_place, noted, sent, first_row}
 use Rattle.tw_verify.proofs.Lists.{get_front, get_last}
-use Rattle.tw_no_trap.proofs.Scalars.{same_types, type_itself}
+use Rattle.tw_types.proofs.SameTypes.{same_types, type_itself}
 use Rattle.tw_verify.proofs.Typings.{onward_later}
 
 -- ---- the same typing

@@ -11,8 +11,8 @@ ghost use Rattle.tw_verify.specs.Refusal.{verify_refusal_number};
 use crate::arguments::action_refusal;
 use crate::questions::{
     alike_refusal, beside, both_refusal, container_write_refusal, empty_pair_refusal,
-    is_container_write, is_member_read, lowest, members_refusal, read_refusal, value_of_refusal,
-    value_refusal, values_refusal,
+    is_member_read, lowest, members_by_refusal, members_refusal, read_refusal, value_of_refusal,
+    value_refusal, values_refusal, writes_container_by,
 };
 use crate::refusal::VerifyRefusal;
 use crate::typing::{RightType, Typing};
@@ -92,10 +92,11 @@ fn get_refusal(registers: &[Scalar], typing: &Typing, to: u8, datum: u8) -> Opti
     value_of_refusal(registers, to, &right, fits)
 }
 
-/// INS: a write of a container, a read of what that has as members, and an integer.
+/// INS: a write of a container, a read of what that has as members, and a subscript of the container's type.
 fn insert_refusal(
     registers: &[Scalar],
     typing: &Typing,
+    by: Scalar,
     container: u8,
     subscript: u8,
     member: u8,
@@ -103,19 +104,20 @@ fn insert_refusal(
     requires container { container < 16 }
     requires member { member < 16 }
     ensures { option_map verify_refusal_number result
-        ≡ refusal_in (asks_data registers.now (DataInstr.Insert container subscript member 0) typing.now) }
+        ≡ refusal_in (asks_data registers.now (DataInstr.Insert by container subscript member 0) typing.now) }
 {
-    let others = value_refusal(registers, subscript, Scalar::Int);
+    let others = value_refusal(registers, subscript, by);
     let fits = is_member_read(typing, container, member);
     let others = beside(fits, VerifyRefusal::WrongRight, others);
-    let writes = is_container_write(typing, container);
+    let writes = writes_container_by(typing, container, by);
     beside(writes, VerifyRefusal::WrongRight, others)
 }
 
-/// LOOK: a register for the member, a read of a closed container, and an integer.
+/// LOOK: a register for the member, a read of a closed container, and a subscript of its type.
 fn look_refusal(
     registers: &[Scalar],
     typing: &Typing,
+    by: Scalar,
     member: u8,
     container: u8,
     subscript: u8,
@@ -123,27 +125,28 @@ fn look_refusal(
     requires member { member < 16 }
     requires container { container < 16 }
     ensures { option_map verify_refusal_number result
-        ≡ refusal_in (asks_data registers.now (DataInstr.Look member container subscript 0) typing.now) }
+        ≡ refusal_in (asks_data registers.now (DataInstr.Look by member container subscript 0) typing.now) }
 {
-    let others = value_refusal(registers, subscript, Scalar::Int);
-    let others = members_refusal(typing, container, others);
+    let others = value_refusal(registers, subscript, by);
+    let others = members_by_refusal(typing, container, by, others);
     beside(typing.is_free(member), VerifyRefusal::RightNotEmpty, others)
 }
 
-/// Two integers, and a read of a closed container.
+/// SUBAT: a register for a subscript of a closed container's type, a read of that, and an integer.
 fn subscript_refusal(
     registers: &[Scalar],
     typing: &Typing,
+    by: Scalar,
     to: u8,
     container: u8,
     index: u8,
 ) -> Option<VerifyRefusal>
     requires { container < 16 }
     ensures { option_map verify_refusal_number result
-        ≡ refusal_in (asks_data registers.now (DataInstr.SubscriptAt to container index 0) typing.now) }
+        ≡ refusal_in (asks_data registers.now (DataInstr.SubscriptAt by to container index 0) typing.now) }
 {
-    let others = both_refusal(registers, to, Scalar::Int, index, Scalar::Int);
-    members_refusal(typing, container, others)
+    let others = both_refusal(registers, to, by, index, Scalar::Int);
+    members_by_refusal(typing, container, by, others)
 }
 
 /// SIZE: an integer, and a read of a closed container.
@@ -193,24 +196,27 @@ fn data_refusal(registers: &[Scalar], instr: DataInstr, typing: &Typing) -> Opti
         DataInstr::Store { datum, from } => store_refusal(registers, typing, datum, from),
         DataInstr::Get { to, datum } => get_refusal(registers, typing, to, datum),
         DataInstr::Insert {
+            by,
             container,
             subscript,
             member,
             ..
-        } => insert_refusal(registers, typing, container, subscript, member),
+        } => insert_refusal(registers, typing, by, container, subscript, member),
         DataInstr::Look {
+            by,
             member,
             container,
             subscript,
             ..
-        } => look_refusal(registers, typing, member, container, subscript),
+        } => look_refusal(registers, typing, by, member, container, subscript),
         DataInstr::Size { to, container } => size_refusal(registers, typing, to, container),
         DataInstr::SubscriptAt {
+            by,
             to,
             container,
             index,
             ..
-        } => subscript_refusal(registers, typing, to, container, index),
+        } => subscript_refusal(registers, typing, by, to, container, index),
         DataInstr::CopyRead { to, from } => copy_read_refusal(typing, to, from),
         DataInstr::CopyWrite { to, from } => copy_write_refusal(typing, to, from),
         DataInstr::DropRead { right } => read_refusal(typing, right),

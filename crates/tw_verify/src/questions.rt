@@ -5,7 +5,7 @@ ghost use Rattle.std.specs.Prelude.{◌≡◌, ◌<◌, ◌∷◌, [], ◌++◌,
 ghost use Rattle.std.specs.Option.{option_map};
 ghost use Rattle.tw_code.specs.accepting.Question.{passes, refusal_in};
 ghost use Rattle.tw_code.specs.machine.Rights.{RightType, right_at};
-ghost use Rattle.tw_code.specs.accepting.Typing.{asks_value, asks_alike, asks_values, asks_value_of, asks_empty_pair, asks_container_write, writes_container, reads, reads_closed_container, reads_member_of};
+ghost use Rattle.tw_code.specs.accepting.Typing.{asks_value, asks_alike, asks_values, asks_value_of, asks_empty_pair, asks_container_write, writes_container_by, reads, reads_closed_container, reads_closed_container_by, reads_member_of};
 ghost use Rattle.tw_verify.specs.Refusal.{lowest_of, refusal_with, verify_refusal_number};
 
 use crate::refusal::VerifyRefusal;
@@ -168,14 +168,34 @@ pub(crate) fn members_refusal(
     beside(fits, VerifyRefusal::WrongRight, others)
 }
 
-/// Whether a right register has a right to write a container.
-pub(crate) fn is_container_write(typing: &Typing, register: u8) -> bool
+/// The same, for a container by such subscripts.
+pub(crate) fn members_by_refusal(
+    typing: &Typing,
+    register: u8,
+    by: Scalar,
+    others: Option<VerifyRefusal>,
+) -> Option<VerifyRefusal>
     requires { register < 16 }
-    ensures { result ≡ passes writes_container (right_at typing.now register) }
+    ensures { option_map verify_refusal_number result
+        ≡ refusal_with (4, passes (reads_closed_container_by by) (right_at typing.now register))
+        (option_map verify_refusal_number others) }
 {
-    typing
-        .right_at(register)
-        .is_some_and(RightType::writes_container)
+    let fits = match typing.right_at(register) {
+        Some(right) => right.reads_closed_container_by(by),
+        None => false,
+    };
+    beside(fits, VerifyRefusal::WrongRight, others)
+}
+
+/// Whether a right register has a right to write a container by such subscripts.
+pub(crate) fn writes_container_by(typing: &Typing, register: u8, by: Scalar) -> bool
+    requires { register < 16 }
+    ensures { result ≡ passes (writes_container_by by) (right_at typing.now register) }
+{
+    match typing.right_at(register) {
+        Some(right) => right.writes_container_by(by),
+        None => false,
+    }
 }
 
 /// Whether a right register has a read of what the datum of another one has as members.

@@ -27,8 +27,8 @@ impl Refused {
     /// What the right registers hold at each place of the procedure to which `verify` came: the refused place is the last,
     /// or the one before it where nothing leads there.
     pub fn typings(&self, alloc: Global, procedure: usize) -> Result<Items<Typing>, AllocError>
-        requires { procedure < length self.now.program }
-        ensures { IfOk result (AreFound self.now.program (verify_refusal_number self.now.no) self.now.procedure procedure) }
+        requires { procedure < length self.now.program.procedures }
+        ensures { IfOk result (AreFound self.now.program.procedures (verify_refusal_number self.now.no) self.now.procedure procedure) }
     {
         if self.no.is_main_shape() || self.procedure < procedure {
             return Ok(Items::from(Vec::new(alloc)));

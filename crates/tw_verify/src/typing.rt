@@ -7,12 +7,12 @@ ghost use Rattle.tw_types.specs.DataType.{element_of};
 ghost use Rattle.tw_code.specs.format.Program.{IsAction, IsDataInstr, IsInstr, IsRegister};
 ghost use Rattle.tw_code.specs.machine.Arguments.{params_of};
 ghost use Rattle.tw_code.specs.machine.Rights.{right_at};
-ghost use Rattle.tw_code.specs.accepting.Typing.{start_typing, is_free, writes, writes_scalar, writes_container, reads, reads_closed_scalar, reads_closed_container, reads_member_of, a_write, a_read, may_stand_for, after_data, without_args, after};
+ghost use Rattle.tw_code.specs.accepting.Typing.{start_typing, is_free, writes, writes_scalar, writes_container_by, reads, reads_closed_scalar, reads_closed_container, reads_closed_container_by, reads_member_of, a_write, a_read, may_stand_for, after_data, without_args, after};
 ghost use Rattle.tw_verify.specs.Same.{same_typing};
 
 use std::marker::Model;
 use tw_code::{Action, DataInstr, Instr, Procedure, Way};
-use tw_types::{DataType, Mode, Param};
+use tw_types::{DataType, Mode, Param, Scalar};
 
 /// A right on a datum of a type.
 #[derive(Clone, Copy, PartialEq, Eq)]
@@ -85,10 +85,10 @@ impl RightType {
         self.mode.is_write() && self.ty.is_scalar()
     }
 
-    pub(crate) fn writes_container(self) -> bool
-        ensures { result ≡ writes_container self }
+    pub(crate) fn writes_container_by(self, by: Scalar) -> bool
+        ensures { result ≡ writes_container_by by self }
     {
-        self.mode.is_write() && !self.ty.is_scalar()
+        self.mode.is_write() && self.ty.is_container_by(by)
     }
 
     pub(crate) fn reads(self) -> bool
@@ -107,6 +107,12 @@ impl RightType {
         ensures { result ≡ reads_closed_container self }
     {
         self.mode == Mode::Closed && !self.ty.is_scalar()
+    }
+
+    pub(crate) fn reads_closed_container_by(self, by: Scalar) -> bool
+        ensures { result ≡ reads_closed_container_by by self }
+    {
+        self.mode == Mode::Closed && self.ty.is_container_by(by)
     }
 
     /// Whether it may be given for a parameter. For a `closed` one any read may be, if the task waits for its data.

@@ -46,15 +46,16 @@ fn all_findings(alloc: Global, procedures: &[Procedure]) -> Result<Items<Finding
 /// in order its structure, then its typings, then its budget.
 pub fn verify(alloc: Global, program: Program) -> Result<Verified, Refused>
     // An accepted program is answered `Ok`, unless memory runs out.
-    ensures complete { IsAccepted program → IfErr result (λ refused. refused.no ≡ NoMemory) }
+    ensures complete { IsAccepted program.procedures → IfErr result (λ refused. refused.no ≡ NoMemory) }
     // No other program is.
-    ensures sound { OnOk result (IsAccepted program) }
+    ensures sound { OnOk result (IsAccepted program.procedures) }
     // What is accepted is the program that was given.
-    ensures kept { IfOk result (λ verified. verified.program ≡ program) }
+    ensures kept { IfOk result (λ verified. verified.program ≡ program.procedures) }
+    ensures version { IfOk result (λ verified. verified.version ≡ program.version) }
 
     // A refusal is the program's first one, unless memory ran out.
     ensures first { IfErr result (λ refused. refused.no ≢ NoMemory
-        → IsFirstRefusal program (verify_refusal_number refused.no) refused.procedure refused.place) }
+        → IsFirstRefusal program.procedures (verify_refusal_number refused.no) refused.procedure refused.place) }
     // Where memory ran out, no place is told.
     ensures memory { IfErr result (λ refused. refused.no ≡ NoMemory
         → (refused.procedure ≡ 0) × (refused.place ≡ 0)) }

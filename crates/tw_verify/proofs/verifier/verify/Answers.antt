@@ -11,7 +11,7 @@ returns-in-Ok-clause-sound c = subst IsAccepted c.procedures.ensures.is (accepte
 pub returns-in-Err-clause-complete : goal.returns-in-Err-clause-complete
 returns-in-Err-clause-complete c = λ a.
     let r = c.in-Err.refusal in
-    refusal_is_memory c.args.program r.no r.procedure r.place (subst (λ (program : List Procedure). IsRefusal program r.no r.procedure r.place) c.procedures.ensures.is c.in-Err.ensures.refused) a
+    refusal_is_memory c.args.program.procedures r.no r.procedure r.place (subst (λ (program : List Procedure). IsRefusal program r.no r.procedure r.place) c.procedures.ensures.is c.in-Err.ensures.refused) a
 
 pub returns-in-Err-clause-first : goal.returns-in-Err-clause-first
 returns-in-Err-clause-first c =
