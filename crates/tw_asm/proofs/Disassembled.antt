@@ -1,35 +1,33 @@
 -- The text of a program spells it.
 use Rattle.std.proofs.Common.{◌≡◌, ◌≢◌, ◌==◌, ◌≤◌, ◌<◌, ℕ, zero, suc, ◌+◌, Bool, true, false, List, [], ◌∷◌, ◌++◌, length, get_or, map, codes, Option, Some, None, refl, sym, ap, subst, ◌∙◌, append_assoc, append-nil, arith}
 use Rattle.std.specs.Prelude.{IsUtf8, decimal, slice_index_or}
-use Rattle.std.specs.List.{AllByRecursion, AllPairs, Contains, concat, join_with_byte}
+use Rattle.std.specs.List.{AllByRecursion, AllPairs, Contains, concat, flat_map, join_with_byte}
 use Rattle.std.specs.Option.{option_and_then}
 use Rattle.std.specs.Str.Lines.{lines}
 use Rattle.std.proofs.lemmas.Bool.{eqb-true}
 use Rattle.std.proofs.lemmas.Bool.Decides.{nat_tests}
 use Rattle.std.proofs.lemmas.List.Elements.{Contains-append_left, Contains-append_right}
 use Rattle.std.proofs.lemmas.Str.{IsUtf8-append, IsUtf8-nil}
-use Rattle.tw_types.specs.DataType.{is_scalar}
-use Rattle.tw_types.specs.Nesting.{NestedScalar}
-use Rattle.tw_types.specs.declared.param.Mode.{Mode}
-use Rattle.tw_types.specs.declared.param.Mode.TheVariants.{Val, Closed, Ref, Write}
-use Rattle.tw_types.specs.declared.param.Param.{Param}
 use Rattle.tw_code.specs.declared.instr.Instr.{Instr}
 use Rattle.tw_code.specs.declared.procedure.Procedure.{Procedure}
-use Rattle.tw_code.specs.declared.version.Version.TheVariants.{One}
-use Rattle.tw_code.specs.format.Program.{IsInstrOf, IsParam, IsProcedureOf, IsProgramOf, IsTypeUnder}
+use Rattle.tw_code.specs.declared.version.Version.{Version}
+use Rattle.tw_code.specs.declared.version.Version.TheVariants.{One, Two}
+use Rattle.tw_code.specs.format.Program.{IsInstrOf, IsProcedure, IsProcedureOf, IsVersioned, Versioned}
+use Rattle.tw_code.proofs.Widening.{instr_widened, widened}
 use Rattle.tw_words.specs.Words.{Bare, IsLine, Word}
 use Rattle.tw_words.proofs.Breaks.{IsOneLine, one_lines_back, with_line_feed}
 use Rattle.tw_asm.specs.Parts.{skip_of}
-use Rattle.tw_asm.specs.Statement.{Code, Goals, Head, IsTypeOfMode, Label, Registers, Statement}
+use Rattle.tw_asm.specs.Statement.{Code, Goals, Head, Label, OfVersion, Registers, Statement}
 use Rattle.tw_asm.specs.Written.{goal_word, line_of}
 use Rattle.tw_asm.proofs.Labels.{numbered_name, one_numbered}
 use Rattle.tw_asm.proofs.Once.{begins, first_word}
 use Rattle.tw_asm.proofs.Quotes.{after_ascii}
-use Rattle.tw_asm.proofs.Written.{IsGoal, IsLineOf, all_append, bare_line, head_written, instr_written, label_written, registers_written}
-use Rattle.tw_asm.specs.Disassembly.{code_lines, disassembly, label_at, label_line, label_places, procedure_lines}
-use Rattle.tw_asm.specs.Spelling.{AreCode, GoesTo, HaveWords, Placed, SpellProcedures, SpellsProcedure, SpellsProgram}
+use Rattle.tw_asm.proofs.Written.{IsGoal, IsLineOf, all_append, bare_line, head_written, instr_written, label_written, registers_written, version_written}
+use Rattle.tw_asm.specs.Disassembly.{code_lines, disassembly, label_at, label_line, label_places, procedure_lines, version_line}
+use Rattle.tw_asm.specs.Spelling.{AreCode, GoesTo, HaveWords, Placed, SpellProcedures, SpellsProcedure, SpellsProgram, SpellsVersion}
 use Rattle.tw_asm.proofs.OwnLines.{words_of_goal}
 use Rattle.tw_asm.proofs.Places.{AreNumbered, label_is, label_within, numbered}
+use Rattle.tw_asm.proofs.Versions.{had, had_params, number_within}
 
 -- ---- texts of lines
 
@@ -56,7 +54,7 @@ writes_both a b u v h k rest others w =
     subst (λ (text : List ℕ). IsWritten text ((u ++ v) ++ others)) (sym (append_assoc a b rest))
     (subst (λ (words : List (List Word)). IsWritten (a ++ (b ++ rest)) words) (sym (append_assoc u v others)) (h (b ++ rest) (v ++ others) (k rest others w)))
 
-writes_line : (goals : Goals) (s : Statement) (line : List ℕ) (l : IsLineOf goals s line) → Writes (line ++ codes "\n") (l.words ∷ [])
+writes_line : {version : Version} (goals : Goals) (s : Statement) (line : List ℕ) (l : IsLineOf version goals s line) → Writes (line ++ codes "\n") (l.words ∷ [])
 writes_line goals s line l rest others w =
     let begin = first_word goals s l.words l.spells in
     record {
@@ -152,18 +150,18 @@ module _ (labels : List ℕ) where
 -- ---- code
 
 -- code that is written as this text
-record IsWrittenCode (all : List Placed) (place : ℕ) (labels : List Placed) (code : List Instr) (text : List ℕ) : Type 0 where
+record IsWrittenCode (version : Version) (all : List Placed) (place : ℕ) (labels : List Placed) (code : List Instr) (text : List ℕ) : Type 0 where
   pub words : List (List Word)
-  pub are : AreCode all place labels code words
+  pub are : AreCode version all place labels code words
   pub writes : Writes text words
 
-module _ (labels : List ℕ) (few : AreNumbered labels) (all : List Placed) (stand : (goal number : ℕ) → label_at labels goal ≡ Some number → Contains all (placed number goal)) where
+module _ (version : Version) (labels : List ℕ) (few : AreNumbered labels) (all : List Placed) (stand : (goal number : ℕ) → label_at labels goal ≡ Some number → Contains all (placed number goal)) where
   -- a label before code
-  with_label : (place : ℕ) (label : Option ℕ) (others : List Placed) (code : List Instr) (text : List ℕ) → label_at labels place ≡ label → IsWrittenCode all place others code text → IsWrittenCode all place (here place label ++ others) code (label_line label ++ text)
+  with_label : (place : ℕ) (label : Option ℕ) (others : List Placed) (code : List Instr) (text : List ℕ) → label_at labels place ≡ label → IsWrittenCode version all place others code text → IsWrittenCode version all place (here place label ++ others) code (label_line label ++ text)
   with_label place None others code text e w = w
   with_label place (Some number) others code text e w =
       let name = numbered_name number (few place number e) in
-      let l = label_written (GoesTo all place) (goal_word None) (name_of number) name.0 name.1 in
+      let l = label_written version (GoesTo all place) (goal_word None) (name_of number) name.0 name.1 in
       record {
         words = l.words ∷ w.words;
         are = AreCode.label place (name_of number) l.words others code w.words l.spells name.1 w.are;
@@ -174,18 +172,18 @@ module _ (labels : List ℕ) (few : AreNumbered labels) (all : List Placed) (sta
   goal_stands place skip None e = tt
   goal_stands place skip (Some number) e = (few (place + 1 + skip) number e, stand (place + 1 + skip) number e)
 
-  written_instr : (place : ℕ) (i : Instr) → IsInstrOf One i → IsLineOf (GoesTo all place) (Code i) (bare_line (λ skip. goal_word (label_at labels (place + 1 + skip)) skip) (Code i))
+  written_instr : (place : ℕ) (i : Instr) → IsInstrOf version i → IsLineOf version (GoesTo all place) (Code i) (bare_line (λ skip. goal_word (label_at labels (place + 1 + skip)) skip) (Code i))
   written_instr place i limits =
       let to : ℕ → Option ℕ = λ skip. label_at labels (place + 1 + skip) in
       let label = option_and_then to (skip_of i) in
-      subst (IsLineOf (GoesTo all place) (Code i)) (ap (join_with_byte 32) (words_of_goal labels place label i refl))
-      (instr_written (GoesTo all place) label i limits (λ skip e. subst (λ (s : Option ℕ). IsGoal (GoesTo all place) (option_and_then to s) skip) (sym e) (goal_stands place skip (to skip) refl)))
+      subst (IsLineOf version (GoesTo all place) (Code i)) (ap (join_with_byte 32) (words_of_goal labels place label i refl))
+      (instr_written version (GoesTo all place) label i (had version i limits) (instr_widened version i limits) (λ skip e. subst (λ (s : Option ℕ). IsGoal (GoesTo all place) (option_and_then to s) skip) (sym e) (goal_stands place skip (to skip) refl)))
 
-  written_code : (place : ℕ) (code : List Instr) → AllByRecursion (IsInstrOf One) code → IsWrittenCode all place (placed_from labels place code) code (code_lines labels place code)
+  written_code : (place : ℕ) (code : List Instr) → AllByRecursion (IsInstrOf version) code → IsWrittenCode version all place (placed_from labels place code) code (code_lines labels place code)
   written_code place [] h =
       let w = with_label place (label_at labels place) [] [] [] refl (record { words = []; are = AreCode.end place; writes = writes_nothing }) in
-      subst (λ (ls : List Placed). IsWrittenCode all place ls [] (label_line (label_at labels place))) (append-nil (here place (label_at labels place)))
-      (subst (λ (text : List ℕ). IsWrittenCode all place (here place (label_at labels place) ++ []) [] text) (append-nil (label_line (label_at labels place))) w)
+      subst (λ (ls : List Placed). IsWrittenCode version all place ls [] (label_line (label_at labels place))) (append-nil (here place (label_at labels place)))
+      (subst (λ (text : List ℕ). IsWrittenCode version all place (here place (label_at labels place) ++ []) [] text) (append-nil (label_line (label_at labels place))) w)
   written_code place (i ∷ others) h =
       let w = written_code (place + 1) others h.1 in
       let skip_word : ℕ → List ℕ = λ skip. goal_word (label_at labels (place + 1 + skip)) skip in
@@ -201,30 +199,20 @@ module _ (labels : List ℕ) (few : AreNumbered labels) (all : List Placed) (sta
 
 -- ---- programs
 
-type_of_mode : (mode : Mode) (ty : NestedScalar) → IsTypeUnder mode ty → IsTypeOfMode mode (is_scalar ty)
-type_of_mode Val ty h = h
-type_of_mode Closed ty h = tt
-type_of_mode Ref ty h = tt
-type_of_mode Write ty h = tt
-
-params_form : (params : List Param) → AllByRecursion IsParam params → AllByRecursion (λ param. IsTypeOfMode param.mode (is_scalar param.ty)) params
-params_form [] h = tt
-params_form (param ∷ params) h = (type_of_mode param.mode param.ty h.0, params_form params h.1)
-
-record IsWrittenProcedure (p : Procedure) (text : List ℕ) : Type 0 where
+record IsWrittenProcedure (version : Version) (p : Procedure) (text : List ℕ) : Type 0 where
   pub words : List (List Word)
-  pub spells : SpellsProcedure p words
+  pub spells : SpellsProcedure version p words
   pub writes : Writes text words
 
-written_procedure : (p : Procedure) → IsProcedureOf One p → IsWrittenProcedure p (procedure_lines p)
-written_procedure p h =
+written_procedure : (version : Version) (p : Procedure) → IsProcedureOf version p → IsProcedure p → IsWrittenProcedure version p (procedure_lines p)
+written_procedure version p h wide =
     let labels = label_places p.code in
-    let few = numbered p h in
+    let few = numbered p wide in
     let all = placed_from labels 0 p.code in
     let stand : (goal number : ℕ) → label_at labels goal ≡ Some number → Contains all (placed number goal) = λ goal number e. label_stands labels 0 p.code goal number (omega arith) (omega (arith, label_within p.code goal number e)) e in
-    let code = written_code labels few all stand 0 p.code h.code.1 in
-    let head = head_written (GoesTo [] 0) (goal_word None) p.kind p.params (params_form p.params h.params.1) h.params in
-    let registers = registers_written (GoesTo [] 0) (goal_word None) p.registers h.registers in
+    let code = written_code version labels few all stand 0 p.code h.code.1 in
+    let head = head_written version (GoesTo [] 0) (goal_word None) p.kind p.params (had_params version p.params h.params.1) wide.params in
+    let registers = registers_written version (GoesTo [] 0) (goal_word None) p.registers h.registers in
     let head_line = line_of (goal_word None) (Head p.kind p.params) in
     let registers_line = line_of (goal_word None) (Registers p.registers) in
     let first = writes_line (GoesTo [] 0) (Head p.kind p.params) (bare_line (goal_word None) (Head p.kind p.params)) head in
@@ -246,37 +234,71 @@ written_procedure p h =
           (writes_both registers_line (code_lines labels 0 p.code) (registers.words ∷ []) code.words second code.writes);
     }
 
-record IsWrittenProgram (program : List Procedure) (text : List ℕ) : Type 0 where
+record AreWritten (version : Version) (procedures : List Procedure) (text : List ℕ) : Type 0 where
   pub words : List (List Word)
-  pub spell : SpellProcedures program words
+  pub spell : SpellProcedures version procedures words
   pub writes : Writes text words
 
-written_program : (program : List Procedure) → AllByRecursion (IsProcedureOf One) program → IsWrittenProgram program (disassembly program)
-written_program [] h = record { words = []; spell = SpellProcedures.end; writes = writes_nothing }
-written_program (p ∷ program) h =
-    let first = written_procedure p h.0 in
-    let others = written_program program h.1 in
+written_procedures : (version : Version) (procedures : List Procedure) → AllByRecursion (IsProcedureOf version) procedures → AllByRecursion IsProcedure procedures → AreWritten version procedures (flat_map procedure_lines procedures)
+written_procedures version [] h wide = record { words = []; spell = SpellProcedures.end; writes = writes_nothing }
+written_procedures version (p ∷ procedures) h wide =
+    let first = written_procedure version p h.0 wide.0 in
+    let others = written_procedures version procedures h.1 wide.1 in
     record {
       words = first.words ++ others.words;
-      spell = SpellProcedures.one_more p program first.words others.words first.spells others.spell;
-      writes = writes_both (procedure_lines p) (disassembly program) first.words others.words first.writes others.writes;
+      spell = SpellProcedures.one_more p procedures first.words others.words first.spells others.spell;
+      writes = writes_both (procedure_lines p) (flat_map procedure_lines procedures) first.words others.words first.writes others.writes;
     }
 
-whole_text : (program : List Procedure) (h : AllByRecursion (IsProcedureOf One) program) → IsWritten (disassembly program) (written_program program h).words
-whole_text program h =
-    let w = written_program program h in
-    subst (λ (text : List ℕ). IsWritten text w.words) (append-nil (disassembly program)) (subst (λ (words : List (List Word)). IsWritten (disassembly program ++ []) words) (append-nil w.words) (w.writes [] [] nothing))
+-- the version's line
+record IsFrontWritten (version : Version) (text : List ℕ) : Type 0 where
+  pub words : List (List Word)
+  pub spells : SpellsVersion version words
+  pub writes : Writes text words
 
-pub disassembly_spells : (program : List Procedure) → IsProgramOf One program → SpellsProgram program (disassembly program)
-disassembly_spells program h =
-    let w = written_program program h.1 in
-    let t = whole_text program h.1 in
+written_version : (version : Version) → IsFrontWritten version (version_line version)
+written_version One = record { words = []; spells = SpellsVersion.unsaid; writes = writes_nothing }
+written_version Two =
+    let l = version_written One (GoesTo [] 0) (goal_word None) 2 (number_within Two) in
     record {
+      words = l.words ∷ [];
+      spells = SpellsVersion.said Two l.words l.spells;
+      writes = writes_line (GoesTo [] 0) (OfVersion 2) (bare_line (goal_word None) (OfVersion 2)) l;
+    }
+
+record IsProgramWritten (program : Versioned) : Type 0 where
+  pub front : List (List Word)
+  pub words : List (List Word)
+  pub version_is : SpellsVersion program.version front
+  pub spell : SpellProcedures program.version program.procedures words
+  pub written : IsWritten (disassembly program) (front ++ words)
+
+written_program : (program : Versioned) → IsVersioned program → IsProgramWritten program
+written_program program h =
+    let first = written_version program.version in
+    let others = written_procedures program.version program.procedures h.1 (widened program.version program.procedures h).1 in
+    let all = writes_both (version_line program.version) (flat_map procedure_lines program.procedures) first.words others.words first.writes others.writes in
+    record {
+      front = first.words;
+      words = others.words;
+      version_is = first.spells;
+      spell = others.spell;
+      written = subst (λ (text : List ℕ). IsWritten text (first.words ++ others.words)) (append-nil (disassembly program))
+          (subst (λ (words : List (List Word)). IsWritten (disassembly program ++ []) words) (append-nil (first.words ++ others.words)) (all [] [] nothing));
+    }
+
+pub disassembly_spells : (program : Versioned) → IsVersioned program → SpellsProgram program (disassembly program)
+disassembly_spells program h =
+    let w = written_program program h in
+    let t = w.written in
+    record {
+      front = w.front;
       words = w.words;
-      lines_are = subst (λ (ls : List (List ℕ)). HaveWords ls w.words) (sym (ap lines t.parts ∙ one_lines_back t.each_line t.single)) t.have;
+      lines_are = subst (λ (ls : List (List ℕ)). HaveWords ls (w.front ++ w.words)) (sym (ap lines t.parts ∙ one_lines_back t.each_line t.single)) t.have;
+      version_is = w.version_is;
       procedures_are = w.spell;
       is_program = h;
     }
 
-pub disassembly_text : (program : List Procedure) → IsProgramOf One program → IsUtf8 (disassembly program)
-disassembly_text program h = (whole_text program h.1).utf8
+pub disassembly_text : (program : Versioned) → IsVersioned program → IsUtf8 (disassembly program)
+disassembly_text program h = (written_program program h).written.utf8

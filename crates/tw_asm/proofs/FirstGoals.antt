@@ -5,9 +5,10 @@ use Rattle.std.proofs.lemmas.List.Elements.{Contains-append_cases, Contains-appe
 use Rattle.std.specs.List.{AllByRecursion, Contains, flat_map, slice_get, slice_index_or}
 use Rattle.std.specs.Str.Lines.{lines}
 use Rattle.tw_code.specs.declared.instr.Instr.{Instr}
+use Rattle.tw_code.specs.declared.version.Version.{Version}
 use Rattle.tw_words.specs.Words.{IsLine, Word}
 use Rattle.tw_asm.specs.Seen.{IsRead, Read}
-use Rattle.tw_asm.specs.Statement.{Statement, Head, Registers, Label, Code, AnyShortName, NamesLabel}
+use Rattle.tw_asm.specs.Statement.{Statement, OfVersion, Head, Registers, Label, Code, AnyShortName, NamesLabel}
 use Rattle.tw_asm.specs.declared.fault.AsmFault.{AsmFault}
 use Rattle.tw_asm.specs.declared.fault.FaultNo.{FaultNo}
 use Rattle.tw_asm.specs.Fault.{GoalFault, IsFirstGoalFault, IsWhole, LineSays, LinesSay, MayStand, Situation, after, after_line, at_start, labels_ahead, not_forward, situation_from, unknown}
@@ -46,6 +47,7 @@ are_read number p (line ∷ more) (read ∷ others) r =
 
 names_by : (statement : Statement) (place : ℕ) (same next : List Placed) (said : List (Option Statement)) → map (λ (label : Placed). label.name) same ≡ labels_ahead said → map (λ (label : Placed). label.name) next ≡ labels_ahead said
     → map (λ (label : Placed). label.name) (ahead_by statement place same next) ≡ labels_ahead (Some statement ∷ said)
+names_by (OfVersion version) place same next said a b = a
 names_by (Head kind params) place same next said a b = refl
 names_by (Registers registers) place same next said a b = a
 names_by (Label name) place same next said a b = ap (λ (names : List (List ℕ)). name ∷ names) a
@@ -62,6 +64,7 @@ lower k n (l ∷ labels) le a = (omega (arith, le, a.0), lower k n labels le a.1
 
 above_by : (statement : Statement) (place : ℕ) (same next : List Placed) → AllByRecursion (λ label. place ≤ label.place) same → AllByRecursion (λ label. place + 1 ≤ label.place) next
     → AllByRecursion (λ label. place ≤ label.place) (ahead_by statement place same next)
+above_by (OfVersion version) place same next a b = a
 above_by (Head kind params) place same next a b = tt
 above_by (Registers registers) place same next a b = a
 above_by (Label name) place same next a b = (omega arith, a)
@@ -84,6 +87,7 @@ low_more name place [] a = (omega arith, tt)
 low_more name place (l ∷ labels) a = (a.0, low_more name place labels a.1)
 
 behind_more : (number : ℕ) (statement : Statement) (labels : List Placed) (place : ℕ) (s : Situation) → Behind labels place s → Behind (labels_after statement place labels) (place_after statement place) (after number statement s)
+behind_more number (OfVersion version) labels place s b = record { names = b.names; low = b.low }
 behind_more number (Head kind params) labels place s b = record { names = refl; low = tt }
 behind_more number (Registers registers) labels place s b = record { names = b.names; low = b.low }
 behind_more number (Label name) labels place s b = record {
@@ -100,6 +104,7 @@ label_again s other said name new others c (suc k) low e = others (Contains-appe
 
 again_by : (number : ℕ) (s : Situation) (statement : Statement) (said : List (Option Statement)) (name : List ℕ) → MayStand statement s
     → (Contains (after number statement s).labels name → Contains (labels_ahead said) name → ⊥) → Contains s.labels name → Contains (labels_ahead (Some statement ∷ said)) name → ⊥
+again_by number s (OfVersion version) said name m others c d = others c d
 again_by number s (Head kind params) said name m others c d = contains_none name d
 again_by number s (Registers registers) said name m others c d = others c d
 again_by number s (Code i) said name m others c d = others c d
@@ -127,7 +132,7 @@ reads_say number s (line ∷ more) (read ∷ others) r = (line_says s line read 
 -- ---- a goal that isn't found
 
 no_goal_fault : (s : Situation) (labels : List Placed) (place : ℕ) (others : List (Option Read)) (line : List ℕ) (name : List ℕ) (words : List Word) (which : FaultNo) → Behind labels place s
-    → IsLine words line → NamesLabel name words → IsNoGoal (labels ++ ahead (place + 1) others) place name which → GoalFault s (labels_ahead (said_by others)) line which
+    → IsLine words line → NamesLabel s.version name words → IsNoGoal (labels ++ ahead (place + 1) others) place name which → GoalFault s (labels_ahead (said_by others)) line which
 no_goal_fault s labels place others line name words which b l n (inl u) =
     let names = λ (label : Placed). label.name in
     let split : map names (labels ++ ahead (place + 1) others) ≡ s.labels ++ labels_ahead (said_by others) =
@@ -179,16 +184,17 @@ located_more number s line x ls said f l =
       wrong = subst (λ (k : ℕ). GoalFault (situation_from (number + 1) (after_line number x s) (take l.index said)) (labels_ahead (drop k (x ∷ said))) l.line f.no) (sym (one_on l.index)) l.wrong;
     }
 
-names_it : (i : Instr) (goal : Option (List ℕ)) (words : List Word) (name : List ℕ) → goal ≡ Some name → IsRead (record { statement = Code i; goal = goal }) words → NamesLabel name words
-names_it i None words name e r = absurd cc
-names_it i (Some other) words name e r = subst (λ (n : List ℕ). NamesLabel n words) (some_is other name e) r.1.2 where
+names_it : (version : Version) (i : Instr) (goal : Option (List ℕ)) (words : List Word) (name : List ℕ) → goal ≡ Some name → IsRead version (record { statement = Code i; goal = goal }) words → NamesLabel version name words
+names_it version i None words name e r = absurd cc
+names_it version i (Some other) words name e r = subst (λ (n : List ℕ). NamesLabel version n words) (some_is other name e) r.1.2 where
   some_is : (a b : List ℕ) → ◌≡◌ {A = Option (List ℕ)} (Some a) (Some b) → a ≡ b
   some_is a b p = cc
 
 located_at : (number : ℕ) (s : Situation) (labels : List Placed) (place : ℕ) (line : List ℕ) (more : List (List ℕ)) (others : List (Option Read)) (f : AsmFault) (statement : Statement) (goal : Option (List ℕ)) (words : List Word)
-    → Behind labels place s → IsLine words line → IsRead (record { statement = statement; goal = goal }) words
+    → Behind labels place s → IsLine words line → IsRead s.version (record { statement = statement; goal = goal }) words
     → (FirstUnlinked (goals_from (number + 1) (labels_after statement place labels) (place_after statement place) others) f → Located (number + 1) (after number statement s) more (said_by others) f)
     → FirstUnlinked (goals_from number labels place (Some (record { statement = statement; goal = goal }) ∷ others)) f → Located number s (line ∷ more) (Some statement ∷ said_by others) f
+located_at number s labels place line more others f (OfVersion version) goal words b l q later u = located_more number s line (Some (OfVersion version)) more (said_by others) f (later u)
 located_at number s labels place line more others f (Head kind params) goal words b l q later u = located_more number s line (Some (Head kind params)) more (said_by others) f (later u)
 located_at number s labels place line more others f (Registers registers) goal words b l q later u = located_more number s line (Some (Registers registers)) more (said_by others) f (later u)
 located_at number s labels place line more others f (Label name) goal words b l q later u = located_more number s line (Some (Label name)) more (said_by others) f (later u)
@@ -198,7 +204,7 @@ located_at number s labels place line more others f (Code i) goal words b l q la
   at_is = omega (arith, u.3);
   line = line;
   line_is = refl;
-  wrong = no_goal_fault s labels place others line u.0 words f.no b l (names_it i goal words u.0 u.1 q) u.2;
+  wrong = no_goal_fault s labels place others line u.0 words f.no b l (names_it s.version i goal words u.0 u.1 q) u.2;
 }
 
 pub located : (number : ℕ) (s : Situation) (labels : List Placed) (place : ℕ) (ls : List (List ℕ)) (reads : List (Option Read)) (f : AsmFault) → AreRead number s ls reads → Behind labels place s
@@ -215,47 +221,49 @@ located number s labels place (line ∷ more) (Some read ∷ others) f r b u =
 -- ---- no goal before it has a fault
 
 found_no_fault : (s : Situation) (labels : List Placed) (place skip : ℕ) (number : ℕ) (more : List (List ℕ)) (others : List (Option Read)) (ahead_said : List (List ℕ)) (line : List ℕ) (name : List ℕ) (words : List Word) (which : FaultNo) → Behind labels place s
-    → IsLine words line → NamesLabel name words → StandsAt (labels ++ ahead (place + 1) others) name (place + 1 + skip) → ahead_said ≡ labels_ahead (said_by others)
+    → IsLine words line → NamesLabel s.version name words → StandsAt (labels ++ ahead (place + 1) others) name (place + 1 + skip) → ahead_said ≡ labels_ahead (said_by others)
     → (Contains s.labels name → Contains (labels_ahead (said_by others)) name → ⊥) → GoalFault s ahead_said line which → ⊥
 found_no_fault s labels place skip number more others ahead_said line name words _ b l n at same once (unknown other ws k m behind forward) =
-    let e : name ≡ other = named_once name other words n (subst (NamesLabel other) (line_once ws words line k l) m) in
+    let e : name ≡ other = named_once name other words n (subst (λ (n : List Word). NamesLabel s.version other n) (line_once ws words line k l) m) in
     elim (Contains-append_cases labels (ahead (place + 1) others) (record { name = name; place = place + 1 + skip }) at) [
       | inl c ↦ behind (subst (Contains s.labels) e (subst (λ (x : List (List ℕ)). Contains x name) b.names (name_in labels name (place + 1 + skip) c)))
       | inr c ↦ forward (subst (λ (x : List (List ℕ)). Contains x other) (sym same) (subst (Contains (labels_ahead (said_by others))) e (subst (λ (x : List (List ℕ)). Contains x name) (names_ahead (place + 1) others) (name_in (ahead (place + 1) others) name (place + 1 + skip) c))))
     ]
 found_no_fault s labels place skip number more others ahead_said line name words _ b l n at same once (not_forward other ws k m behind) =
-    let e : name ≡ other = named_once name other words n (subst (NamesLabel other) (line_once ws words line k l) m) in
+    let e : name ≡ other = named_once name other words n (subst (λ (n : List Word). NamesLabel s.version other n) (line_once ws words line k l) m) in
     elim (Contains-append_cases labels (ahead (place + 1) others) (record { name = name; place = place + 1 + skip }) at) [
       | inl c ↦ absurd (omega (arith, all_of (λ (label : Placed). label.place ≤ place) labels (record { name = name; place = place + 1 + skip }) b.low c))
       | inr c ↦ once (subst (Contains s.labels) (sym e) behind) (subst (λ (x : List (List ℕ)). Contains x name) (names_ahead (place + 1) others) (name_in (ahead (place + 1) others) name (place + 1 + skip) c))
     ]
 
 -- the line of a fault names a label
-record AtName (line : List ℕ) : Type 0 where
+record AtName (version : Version) (line : List ℕ) : Type 0 where
   name : List ℕ
   words : List Word
   is_line : IsLine words line
-  names : NamesLabel name words
+  names : NamesLabel version name words
 
-at_name : (s : Situation) (said : List (List ℕ)) (line : List ℕ) (which : FaultNo) → GoalFault s said line which → AtName line
+at_name : (s : Situation) (said : List (List ℕ)) (line : List ℕ) (which : FaultNo) → GoalFault s said line which → AtName s.version line
 at_name s said line _ (unknown name words l n behind forward) = record { name = name; words = words; is_line = l; names = n }
 at_name s said line _ (not_forward name words l n behind) = record { name = name; words = words; is_line = l; names = n }
 
-other_statement : (statement : Statement) (goal : Option (List ℕ)) (words : List Word) (line : List ℕ) → IsLine words line → IsRead (record { statement = statement; goal = goal }) words → AtName line → (i : Instr) × AreAlike statement (Code i)
-other_statement statement goal words line l q a =
-    let n = subst (NamesLabel a.name) (line_once a.words words line a.is_line l) a.names in
-    (n.i, alike AnyShortName (λ skip word. word ≡ a.name) statement (Code n.i) words (read_says (record { statement = statement; goal = goal }) words q).0 n.spells)
+other_statement : (version : Version) (statement : Statement) (goal : Option (List ℕ)) (words : List Word) (line : List ℕ) → IsLine words line → IsRead version (record { statement = statement; goal = goal }) words → AtName version line
+    → (i : Instr) × AreAlike statement (Code i)
+other_statement version statement goal words line l q a =
+    let n = subst (λ (ws : List Word). NamesLabel version a.name ws) (line_once a.words words line a.is_line l) a.names in
+    (n.i, alike AnyShortName (λ skip word. word ≡ a.name) statement (Code n.i) words (read_says version (record { statement = statement; goal = goal }) words q).0 n.spells)
 
-no_label_named : (i : Instr) (words : List Word) (line : List ℕ) → IsLine words line → IsRead (record { statement = Code i; goal = None }) words → AtName line → ⊥
-no_label_named i words line l q a = (subst (NamesLabel a.name) (line_once a.words words line a.is_line l) a.names).names i q.1
+no_label_named : (version : Version) (i : Instr) (words : List Word) (line : List ℕ) → IsLine words line → IsRead version (record { statement = Code i; goal = None }) words → AtName version line → ⊥
+no_label_named version i words line l q a = (subst (λ (ws : List Word). NamesLabel version a.name ws) (line_once a.words words line a.is_line l) a.names).names i q.1
 
 first_here : (number : ℕ) (s : Situation) (labels : List Placed) (place : ℕ) (line : List ℕ) (more : List (List ℕ)) (others : List (Option Read)) (ahead_said : List (List ℕ)) (f : AsmFault) (which : FaultNo) (statement : Statement) (goal : Option (List ℕ)) (words : List Word)
-    → Behind labels place s → IsLine words line → IsRead (record { statement = statement; goal = goal }) words → ahead_said ≡ labels_ahead (said_by others) → AreRead (number + 1) (after number statement s) more others
+    → Behind labels place s → IsLine words line → IsRead s.version (record { statement = statement; goal = goal }) words → ahead_said ≡ labels_ahead (said_by others) → AreRead (number + 1) (after number statement s) more others
     → FirstUnlinked (goals_from number labels place (Some (record { statement = statement; goal = goal }) ∷ others)) f → GoalFault s ahead_said line which → f.line ≤ number
-first_here number s labels place line more others ahead_said f which (Head kind params) goal words b l q same a u g = absurd ((other_statement (Head kind params) goal words line l q (at_name s ahead_said line which g)).1)
-first_here number s labels place line more others ahead_said f which (Registers registers) goal words b l q same a u g = absurd ((other_statement (Registers registers) goal words line l q (at_name s ahead_said line which g)).1)
-first_here number s labels place line more others ahead_said f which (Label name) goal words b l q same a u g = absurd ((other_statement (Label name) goal words line l q (at_name s ahead_said line which g)).1)
-first_here number s labels place line more others ahead_said f which (Code i) None words b l q same a u g = absurd (no_label_named i words line l q (at_name s ahead_said line which g))
+first_here number s labels place line more others ahead_said f which (OfVersion version) goal words b l q same a u g = absurd ((other_statement s.version (OfVersion version) goal words line l q (at_name s ahead_said line which g)).1)
+first_here number s labels place line more others ahead_said f which (Head kind params) goal words b l q same a u g = absurd ((other_statement s.version (Head kind params) goal words line l q (at_name s ahead_said line which g)).1)
+first_here number s labels place line more others ahead_said f which (Registers registers) goal words b l q same a u g = absurd ((other_statement s.version (Registers registers) goal words line l q (at_name s ahead_said line which g)).1)
+first_here number s labels place line more others ahead_said f which (Label name) goal words b l q same a u g = absurd ((other_statement s.version (Label name) goal words line l q (at_name s ahead_said line which g)).1)
+first_here number s labels place line more others ahead_said f which (Code i) None words b l q same a u g = absurd (no_label_named s.version i words line l q (at_name s ahead_said line which g))
 first_here number s labels place line more others ahead_said f which (Code i) (Some name) words b l q same a (inl u) g = at_first f.line number u.3
 first_here number s labels place line more others ahead_said f which (Code i) (Some name) words b l q same a (inr u) g =
     absurd (found_no_fault s labels place u.0.1.0 number more others ahead_said line name words which b l q.1.2 u.0.1.1 same (λ c d. not_again (number + 1) (after number (Code i) s) more others name a c d) g)
@@ -263,6 +271,7 @@ first_here number s labels place line more others ahead_said f which (Code i) (S
 first_later : (number k : ℕ) (labels : List Placed) (place : ℕ) (others : List (Option Read)) (f : AsmFault) (statement : Statement) (goal : Option (List ℕ))
     → (FirstUnlinked (goals_from (number + 1) (labels_after statement place labels) (place_after statement place) others) f → f.line ≤ (number + 1) + k)
     → FirstUnlinked (goals_from number labels place (Some (record { statement = statement; goal = goal }) ∷ others)) f → f.line ≤ number + suc k
+first_later number k labels place others f (OfVersion version) goal later u = one_later f.line number k (later u)
 first_later number k labels place others f (Head kind params) goal later u = one_later f.line number k (later u)
 first_later number k labels place others f (Registers registers) goal later u = one_later f.line number k (later u)
 first_later number k labels place others f (Label name) goal later u = one_later f.line number k (later u)
@@ -297,8 +306,8 @@ first_at number s labels place (x ∷ more) (Some read ∷ others) (y ∷ said) 
 
 -- ---- the whole text
 
-pub first_goal_fault : (text : List ℕ) (all : List Section) (f : AsmFault) → HasSections text all → FirstUnlinked (flat_map section_goals all) f → IsFirstGoalFault text f.no f.line
-first_goal_fault text all f h u =
+pub first_goal_fault : (text : List ℕ) (version : Version) (all : List Section) (f : AsmFault) → HasSections text version all → FirstUnlinked (flat_map section_goals all) f → IsFirstGoalFault text f.no f.line
+first_goal_fault text version all f h u =
     let reads = h.read.reads in
     let are = are_read 1 outset (lines text) h.read.reads h.read.are_read in
     let none : Behind [] 0 at_start = record { names = refl; low = tt } in

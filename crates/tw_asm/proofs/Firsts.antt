@@ -4,16 +4,18 @@ use Rattle.std.specs.Prelude.{◌↔◌, IsTrue}
 use Rattle.std.specs.List.{flat_map}
 use Rattle.std.specs.Option.{is_some}
 use Rattle.std.proofs.lemmas.List.{append_cancel_right}
-use Rattle.tw_asm.proofs.Lined.{parts_of}
+use Rattle.tw_asm.proofs.Lined.{Had, parts_of}
 use Rattle.tw_asm.proofs.Names.{name_decide}
-use Rattle.tw_asm.proofs.Table.{instr_of, line_of, named, named_back, parts_are}
-use Rattle.tw_asm.specs.Parts.{Part, Name, instr_parts, operand_parts}
+use Rattle.tw_asm.proofs.Table.{code_had, found_back, instr_of, line_of, made_had, named_in, parts_are}
+use Rattle.tw_asm.specs.Parts.{Part, Name, operand_parts}
 use Rattle.tw_asm.specs.Statement.{IsInstrWord, IsLabelWord, IsName}
 use Rattle.tw_code.specs.declared.opcode.Opcode.{Opcode}
+use Rattle.tw_code.specs.declared.version.Version.{Version}
 use Rattle.tw_code.specs.format.Table.{row}
-use Rattle.tw_asm.specs.Names.{opcode_of, word_of}
-use Rattle.tw_asm.specs.reading.Lines.{Content, Line, LineContent, Operand, args, goal, literal, more, natural, nothing, number, one, right, target, type, value}
+use Rattle.tw_asm.specs.Names.{word_of}
+use Rattle.tw_asm.specs.reading.Lines.{Content, Line, LineContent, Operand, args, goal, literal, more, natural, nothing, number, one, opcode_in, right, target, type, value}
 use Rattle.tw_asm.specs.reading.Operands.{further, is_name}
+use Rattle.tw_types.specs.DataType.{scalar_type}
 use Rattle.tw_types.specs.declared.data_type.Scalar.TheVariants.{Int}
 
 pub label_by : (word name : List ℕ) (r : Bool) → word ≡ name ++ codes ":" → r ≡ is_name name → IsTrue r ↔ IsLabelWord word
@@ -27,7 +29,7 @@ no_label word none h = none h.0 h.2
 
 -- ---- names of instructions
 
-some_operand : (o : Operand) → Content o
+abbrev some_operand : (o : Operand) → Content o
 some_operand value = 0
 some_operand right = 0
 some_operand number = pos 0
@@ -35,30 +37,43 @@ some_operand (natural low high) = 0
 some_operand literal = []
 some_operand target = None
 
-some_content : (l : Line) → LineContent l
+abbrev some_content : (l : Line) → LineContent l
 some_content nothing = tt
 some_content (one o) = some_operand o
 some_content goal = further 0
-some_content type = record { depth = 0; scalar = Int }
+some_content (type version) = scalar_type Int
 some_content args = []
 some_content (more o l) = (some_operand o, some_content l)
 
-pub named_word : (word : List ℕ) (r : Bool) → r ≡ is_some (opcode_of word) → IsTrue r ↔ IsInstrWord word
-named_word word r is = (λ t. there (opcode_of word) refl (sym is ∙ t), λ h. is ∙ back h)
+some_had : (l : Line) → Had l (some_content l)
+some_had nothing = tt
+some_had (one o) = tt
+some_had goal = tt
+some_had (type version) = tt
+some_had args = tt
+some_had (more o l) = some_had l
+
+pub named_word : (version : Version) (word : List ℕ) (r : Bool) → r ≡ is_some (opcode_in version word) → IsTrue r ↔ IsInstrWord version word
+named_word version word r is = (λ t. there (opcode_in version word) refl (sym is ∙ t), λ h. is ∙ back h)
   where
-    there : (found : Option Opcode) → opcode_of word ≡ found → is_some found ≡ true → IsInstrWord word
+    there : (found : Option Opcode) → opcode_in version word ≡ found → is_some found ≡ true → IsInstrWord version word
     there None e t = absurd (no t)
       where
         no : false ≡ true → ⊥
         no t = cc
     there (Some o) e t =
-        let x = some_content (line_of o) in
-        (instr_of o x, parts_of (line_of o) x, parts_are o x ∙ ap (λ (name : List ℕ). Name name ∷ parts_of (line_of o) x) (sym (named_back word o e)))
+        let x = some_content (line_of version o) in
+        let name = found_back version word o e in (
+          instr_of version o x,
+          parts_of (line_of version o) x,
+          made_had version o x name.1 (some_had (line_of version o)),
+          parts_are version o x ∙ ap (λ (name : List ℕ). Name name ∷ parts_of (line_of version o) x) (sym name.0),
+        )
 
-    back : IsInstrWord word → is_some (opcode_of word) ≡ true
-    back (i, operands, e) =
+    back : IsInstrWord version word → is_some (opcode_in version word) ≡ true
+    back (i, operands, had, e) =
         let same : word ≡ word_of (row i).0 = one_name word (word_of (row i).0) operands (flat_map operand_parts (row i).1) (sym e) in
-        ap (λ (name : List ℕ). is_some (opcode_of name)) same ∙ ap (λ (found : Option Opcode). is_some found) (named (row i).0)
+        ap (λ (name : List ℕ). is_some (opcode_in version name)) same ∙ ap (λ (found : Option Opcode). is_some found) (named_in version (row i).0 (code_had version i had))
       where
         one_name : (a b : List ℕ) (ps qs : List Part) → Name a ∷ ps ≡ Name b ∷ qs → a ≡ b
         one_name a b ps qs e = cc

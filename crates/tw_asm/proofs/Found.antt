@@ -4,18 +4,20 @@ use Rattle.std.proofs.lemmas.Grind.{flat_map-append}
 use Rattle.std.proofs.lemmas.List.{append-nil, length-append}
 use Rattle.std.specs.List.{flat_map}
 use Rattle.tw_code.specs.declared.instr.Instr.{Instr}
+use Rattle.tw_code.specs.declared.version.Version.{Version}
 use Rattle.tw_asm.specs.Seen.{Read}
-use Rattle.tw_asm.specs.Statement.{Statement, Head, Registers, Label, Code}
+use Rattle.tw_asm.specs.Statement.{Statement, OfVersion, Head, Registers, Label, Code}
 use Rattle.tw_asm.specs.Fault.{MayStand}
 use Rattle.tw_asm.specs.Spelling.{Placed}
 use Rattle.tw_asm.specs.reading.Goals.{Goal, goals_in, section_goals}
-use Rattle.tw_asm.specs.reading.Progress.{AtStart, BehindHead, Within, Drafted, LinesRead, Place, Progress, Section, drafts_at, ended, labels_at, line_step, progress_from, situation_of, step}
-use Rattle.tw_asm.proofs.Stages.{body_head, head_body, progress, start_body, start_head}
+use Rattle.tw_asm.specs.reading.Progress.{AtStart, BehindHead, BehindVersion, Within, Drafted, LinesRead, Place, Progress, Section, drafts_at, ended, labels_at, line_step, progress_from, situation_of, step}
+use Rattle.tw_asm.proofs.Stages.{body_head, body_start, head_body, head_start, progress, start_body, start_head, version_body, version_head, version_start}
 
 -- ---- labels and goals line by line
 
 -- what a statement adds to the labels ahead
 abbrev pub ahead_by : Statement → ℕ → List Placed → List Placed → List Placed
+ahead_by (OfVersion version) place same next = same
 ahead_by (Head kind params) place same next = []
 ahead_by (Registers registers) place same next = same
 ahead_by (Label name) place same next = record { name = name; place = place } ∷ same
@@ -28,18 +30,21 @@ ahead place (None ∷ others) = ahead place others
 ahead place (Some read ∷ others) = ahead_by read.statement place (ahead place others) (ahead (place + 1) others)
 
 abbrev pub labels_after : Statement → ℕ → List Placed → List Placed
+labels_after (OfVersion version) place labels = labels
 labels_after (Head kind params) place labels = []
 labels_after (Registers registers) place labels = labels
 labels_after (Label name) place labels = labels ++ (record { name = name; place = place } ∷ [])
 labels_after (Code i) place labels = labels
 
 abbrev pub place_after : Statement → ℕ → ℕ
+place_after (OfVersion version) place = place
 place_after (Head kind params) place = 0
 place_after (Registers registers) place = place
 place_after (Label name) place = place
 place_after (Code i) place = place + 1
 
 abbrev pub goal_here : Statement → Option (List ℕ) → ℕ → List Placed → ℕ → List Goal
+goal_here (OfVersion version) goal number labels place = []
 goal_here (Head kind params) goal number labels place = []
 goal_here (Registers registers) goal number labels place = []
 goal_here (Label name) goal number labels place = []
@@ -69,6 +74,7 @@ abbrev open_goals : Place → List Placed → List Goal
 open_goals place labels = goals_in (labels_at place ++ labels) 0 (drafts_at place)
 
 ended_goals : (sections : List Section) (place : Place) → flat_map section_goals (ended sections place) ≡ flat_map section_goals sections ++ open_goals place []
+ended_goals sections BehindVersion = sym (append-nil (flat_map section_goals sections))
 ended_goals sections AtStart = sym (append-nil (flat_map section_goals sections))
 ended_goals sections (BehindHead kind params) = sym (append-nil (flat_map section_goals sections))
 ended_goals sections (Within section) =
@@ -83,23 +89,30 @@ abbrev pub goals_by : ℕ → Progress → List (Option Read) → List Goal
 goals_by number p reads = flat_map section_goals p.sections ++ (open_goals p.place (ahead (length (drafts_at p.place)) reads) ++ goals_from number (labels_at p.place) (length (drafts_at p.place)) reads)
 
 -- one line on, the same goals
-goals_step : (number : ℕ) (statement : Statement) (goal : Option (List ℕ)) (sections : List Section) (head_line : ℕ) (place : Place) (others : List (Option Read)) → MayStand statement (situation_of (progress sections head_line place))
-    → goals_by (number + 1) (step number statement goal (progress sections head_line place)) others ≡ goals_by number (progress sections head_line place) (Some (record { statement = statement; goal = goal }) ∷ others)
-goals_step number (Head kind params) goal sections head_line place others m =
+goals_step : (number : ℕ) (statement : Statement) (goal : Option (List ℕ)) (version : Version) (sections : List Section) (head_line : ℕ) (place : Place) (others : List (Option Read)) → MayStand statement (situation_of (progress version sections head_line place))
+    → goals_by (number + 1) (step number statement goal (progress version sections head_line place)) others ≡ goals_by number (progress version sections head_line place) (Some (record { statement = statement; goal = goal }) ∷ others)
+goals_step number (OfVersion n) goal version sections head_line AtStart others m = refl
+goals_step number (OfVersion n) goal version sections head_line BehindVersion others m = version_start m
+goals_step number (OfVersion n) goal version sections head_line (BehindHead kind params) others m = head_start m
+goals_step number (OfVersion n) goal version sections head_line (Within section) others m = body_start m
+goals_step number (Head kind params) goal version sections head_line place others m =
     ap (λ (gs : List Goal). gs ++ goals_from (number + 1) [] 0 others) (ended_goals sections place)
     ∙ append_assoc (flat_map section_goals sections) (open_goals place []) (goals_from (number + 1) [] 0 others)
-goals_step number (Registers registers) goal sections head_line AtStart others m = start_head m
-goals_step number (Registers registers) goal sections head_line (BehindHead kind params) others m = refl
-goals_step number (Registers registers) goal sections head_line (Within section) others m = body_head m
-goals_step number (Label name) goal sections head_line AtStart others m = start_body m.0
-goals_step number (Label name) goal sections head_line (BehindHead kind params) others m = head_body m.0
-goals_step number (Label name) goal sections head_line (Within section) others m =
+goals_step number (Registers registers) goal version sections head_line AtStart others m = start_head m
+goals_step number (Registers registers) goal version sections head_line BehindVersion others m = version_head m
+goals_step number (Registers registers) goal version sections head_line (BehindHead kind params) others m = refl
+goals_step number (Registers registers) goal version sections head_line (Within section) others m = body_head m
+goals_step number (Label name) goal version sections head_line AtStart others m = start_body m.0
+goals_step number (Label name) goal version sections head_line BehindVersion others m = version_body m.0
+goals_step number (Label name) goal version sections head_line (BehindHead kind params) others m = head_body m.0
+goals_step number (Label name) goal version sections head_line (Within section) others m =
     let k = length section.drafts in
     ap (λ (ls : List Placed). flat_map section_goals sections ++ (goals_in ls 0 section.drafts ++ goals_from (number + 1) (section.labels ++ (record { name = name; place = length section.drafts } ∷ [])) (length section.drafts) others))
     (append_assoc section.labels (record { name = name; place = length section.drafts } ∷ []) (ahead (length section.drafts) others))
-goals_step number (Code i) goal sections head_line AtStart others m = start_body m.0
-goals_step number (Code i) goal sections head_line (BehindHead kind params) others m = head_body m.0
-goals_step number (Code i) goal sections head_line (Within section) others m =
+goals_step number (Code i) goal version sections head_line AtStart others m = start_body m.0
+goals_step number (Code i) goal version sections head_line BehindVersion others m = version_body m.0
+goals_step number (Code i) goal version sections head_line (BehindHead kind params) others m = head_body m.0
+goals_step number (Code i) goal version sections head_line (Within section) others m =
     code_goals number i goal sections section others
   where
     code_goals : (number : ℕ) (i : Instr) (goal : Option (List ℕ)) (sections : List Section) (section : Section) (others : List (Option Read))
@@ -122,4 +135,4 @@ goals_are number p [] (read ∷ others) r = absurd r
 goals_are number p (line ∷ after) [] r = absurd r
 goals_are number p (line ∷ after) (None ∷ others) r = goals_are (number + 1) p after others r.1
 goals_are number p (line ∷ after) (Some read ∷ others) r =
-    goals_are (number + 1) (line_step number (Some read) p) after others r.1 ∙ goals_step number read.statement read.goal p.sections p.head_line p.place others r.0.1
+    goals_are (number + 1) (line_step number (Some read) p) after others r.1 ∙ goals_step number read.statement read.goal p.version p.sections p.head_line p.place others r.0.1

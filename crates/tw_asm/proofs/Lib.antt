@@ -43,4 +43,6 @@ pub mod Readings
 pub mod Sayings
 pub mod Sequences
 pub mod Table
+pub mod TypeWords
+pub mod Versions
 pub mod Whole

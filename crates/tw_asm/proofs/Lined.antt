@@ -1,18 +1,19 @@
 -- The readings of lines, whatever the instruction.
-use Rattle.std.proofs.Common.{◌≡◌, ℕ, ◌≤◌, List, [], ◌∷◌, ◌++◌, length, map, replicate, codes, Option, Some, None, inl, inr, refl, sym, ap, subst, ◌∙◌, arith}
+use Rattle.std.proofs.Common.{◌≡◌, ℕ, ◌≤◌, List, [], ◌∷◌, ◌++◌, length, map, codes, Option, Some, None, inl, inr, refl, sym, ap, subst, ◌∙◌, arith}
 use Rattle.std.specs.List.{AllByRecursion}
-use Rattle.tw_code.specs.format.Program.{IsList, IsRegister, IsSkip}
+use Rattle.tw_code.specs.declared.version.Version.TheVariants.{Two}
+use Rattle.tw_code.specs.format.Program.{IsList, IsRegister, IsSkip, IsTypeOf}
 use Rattle.tw_words.specs.Words.{Word, Bare}
 use Rattle.tw_asm.proofs.Names.{HasGoal, MayGoal, goal_read, no_letter}
 use Rattle.tw_asm.proofs.OperandWords.{Has, IsFine, May, natural_read, operand_read, part_of}
 use Rattle.tw_asm.proofs.Readings.{Reads, both_read}
-use Rattle.tw_asm.proofs.Sequences.{HaveEach, IsTypeBehind, each_long, each_read, few_read, type_read}
-use Rattle.tw_asm.specs.Parts.{Part, Natural, TypeOf, Skip, scalar_word}
+use Rattle.tw_asm.proofs.Sequences.{HaveEach, IsShallow, IsTypeIn, each_long, each_read, few_read, type_read}
+use Rattle.tw_asm.proofs.Versions.{any_type}
+use Rattle.tw_asm.specs.Parts.{Part, Natural, TypeOf, Skip}
 use Rattle.tw_asm.specs.Seen.{NoName, OnlyName}
-use Rattle.tw_asm.specs.Statement.{Goals, IsName, SpellParts, SpellsPart, SpellsWith}
+use Rattle.tw_asm.specs.Statement.{Goals, HasType, IsName, SpellParts, SpellsPart, SpellsWith}
 use Rattle.tw_asm.specs.reading.Lines.{Content, Line, LineContent, Operand, args, each, goal, label_in, line_in, literal, more, natural, nothing, number, one, right, target, type, value}
 use Rattle.tw_asm.specs.reading.Operands.{at_label, further, natural_in}
-use Rattle.tw_types.specs.Nesting.{NestedScalar}
 
 abbrev pub IsArg : Word → ℕ → Type 0
 IsArg w n = SpellsWith [] n (w ∷ [])
@@ -26,7 +27,7 @@ HasLine (one o) (w ∷ v ∷ ws) x = ⊥
 HasLine goal [] x = ⊥
 HasLine goal (w ∷ []) x = HasGoal w x.skip x.label
 HasLine goal (w ∷ v ∷ ws) x = ⊥
-HasLine type ws x = IsTypeBehind 0 ws x
+HasLine (type version) ws x = IsTypeIn version ws x
 HasLine args ws x = HaveEach IsArg ws x
 HasLine (more o l) [] x = ⊥
 HasLine (more o l) (w ∷ ws) x = Has o w x.0 × HasLine l ws x.1
@@ -35,7 +36,7 @@ abbrev pub MayLine : (l : Line) → LineContent l → Type 0
 MayLine nothing x = Unit {0}
 MayLine (one o) x = May o x
 MayLine goal x = MayGoal x.skip x.label
-MayLine type x = x.depth ≤ 3
+MayLine (type version) x = IsShallow x
 MayLine args x = IsList 0 8 IsRegister x
 MayLine (more o l) x = May o x.0 × MayLine l x.1
 
@@ -48,7 +49,7 @@ line_read (one o) (w ∷ v ∷ ws) fine = λ x h. h
 line_read goal [] fine = λ x h. h
 line_read goal (w ∷ []) fine = goal_read w
 line_read goal (w ∷ v ∷ ws) fine = λ x h. h
-line_read type ws fine = type_read 0 ws
+line_read (type version) ws fine = type_read version ws
 line_read args ws fine =
     few_read (HaveEach IsArg ws) IsRegister 8 (each (natural_in 0 15) ws) (λ xs ys h k. each_long IsArg ws xs h ∙ sym (each_long IsArg ws ys k))
     (each_read IsArg IsRegister (natural_in 0 15) (λ w. natural_read 0 15 w) ws)
@@ -61,7 +62,7 @@ abbrev pub parts_of : (l : Line) → LineContent l → List Part
 parts_of nothing x = []
 parts_of (one o) x = part_of o x ∷ []
 parts_of goal x = Skip x.skip ∷ []
-parts_of type x = TypeOf x ∷ []
+parts_of (type version) x = TypeOf x ∷ []
 parts_of args x = map Natural x
 parts_of (more o l) x = part_of o x.0 ∷ parts_of l x.1
 
@@ -70,9 +71,27 @@ abbrev pub MayParts : (l : Line) → LineContent l → Type 0
 MayParts nothing x = Unit {0}
 MayParts (one o) x = May o x
 MayParts goal x = IsSkip x.skip
-MayParts type x = x.depth ≤ 3
+MayParts (type version) x = IsTypeOf Two x
 MayParts args x = IsList 0 8 IsRegister x
 MayParts (more o l) x = May o x.0 × MayParts l x.1
+
+-- what is read as a type, the version has
+abbrev pub Had : (l : Line) → LineContent l → Type 0
+Had nothing x = Unit {0}
+Had (one o) x = Unit {0}
+Had goal x = Unit {0}
+Had (type version) x = HasType version x
+Had args x = Unit {0}
+Had (more o l) x = Had l x.1
+
+pub line_had : (l : Line) (ws : List Word) (x : LineContent l) → HasLine l ws x → Had l x
+line_had nothing ws x h = tt
+line_had (one o) ws x h = tt
+line_had goal ws x h = tt
+line_had (type version) ws x h = h.1
+line_had args ws x h = tt
+line_had (more o l) [] x h = absurd h
+line_had (more o l) (w ∷ ws) x h = line_had l ws x.1 h.1
 
 abbrev pub goals_by : Option (List ℕ) → Goals
 goals_by None = NoName
@@ -111,11 +130,6 @@ goal_up : (w : Word) (skip : ℕ) (label : Option (List ℕ)) → HasGoal w skip
 goal_up w skip None h = (w ∷ [], [], refl, inl h, refl)
 goal_up w skip (Some name) (z, is_name, e) = (w ∷ [], [], refl, inr (name, (z, refl), ap (λ (v : Word). v ∷ []) e), refl)
 
-type_up : (ws : List Word) (ty : NestedScalar) → IsTypeBehind 0 ws ty → ws ≡ replicate ty.depth (Bare (codes "cont")) ++ (Bare (scalar_word ty.scalar) ∷ [])
-type_up ws ty (j, d, e) =
-    let same : j ≡ ty.depth = omega (arith, d) in
-    subst (λ (k : ℕ). ws ≡ replicate k (Bare (codes "cont")) ++ (Bare (scalar_word ty.scalar) ∷ [])) same e
-
 -- a line that is read is spelled
 pub spelled : (l : Line) (ws : List Word) (x : LineContent l) → HasLine l ws x → SpellParts (goals_by (label_in l x)) (parts_of l x) ws
 spelled nothing [] x h = refl
@@ -126,7 +140,7 @@ spelled (one o) (w ∷ v ∷ ws) x h = absurd h
 spelled goal [] x h = absurd h
 spelled goal (w ∷ []) x h = goal_up w x.skip x.label h
 spelled goal (w ∷ v ∷ ws) x h = absurd h
-spelled type ws x h = (ws, [], append_nil ws, type_up ws x h, refl)
+spelled (type version) ws x h = (ws, [], append_nil ws, h.0, refl)
 spelled args ws x h = args_up NoName ws x h
 spelled (more o l) [] x h = absurd h
 spelled (more o l) (w ∷ ws) x h = (w ∷ [], ws, refl, plain o x.0 NoName (goals_by (label_in l x.1)) (w ∷ []) h.0, spelled l ws x.1 h.1)
@@ -172,22 +186,23 @@ module _ (G : Goals) (names : (skip : ℕ) (name : List ℕ) → G skip name →
   goal_down ws skip first others cut (inr h) none label =
       at_first goal (record { skip = skip; label = label }) (Bare h.0) first others ws cut h.2 none (at_label h.0, (refl, names skip h.0 h.1, refl), λ short m. short skip h.0 h.1)
 
-  pub found : (l : Line) (ws : List Word) (x : LineContent l) → SpellParts G (parts_of l x) ws → Found l ws x
-  found nothing [] x e = (tt, tt, λ _ m. tt)
-  found nothing (w ∷ ws) x e = absurd (some e)
+  pub found : (l : Line) (ws : List Word) (x : LineContent l) → Had l x → SpellParts G (parts_of l x) ws → Found l ws x
+  found nothing [] x had e = (tt, tt, λ _ m. tt)
+  found nothing (w ∷ ws) x had e = absurd (some e)
     where
       some : w ∷ ws ≡ [] → ⊥
       some e = cc
-  found (one o) ws x (first, others, cut, h, none) =
+  found (one o) ws x had (first, others, cut, h, none) =
       let w = word_alone o x G first h in
       at_first (one o) x w.0 first others ws cut w.1 none (x, plain o x G NoName (w.0 ∷ []) (subst (SpellsPart G (part_of o x)) w.1 h), λ _ m. m)
-  found goal ws x (first, others, cut, h, none) = goal_down ws x.skip first others cut h none x.label
-  found type ws x (first, others, cut, h, none) =
-      (x, (x.depth, omega arith, cut ∙ (ap (λ (vs : List Word). first ++ vs) none ∙ (sym (append_nil first) ∙ h))), λ _ m. m)
-  found args ws x h = (x, args_down ws x h, λ _ m. m)
-  found (more o l) ws x (first, others, cut, h, rest) =
+  found goal ws x had (first, others, cut, h, none) = goal_down ws x.skip first others cut h none x.label
+  found (type version) ws x had (first, others, cut, h, none) =
+      let whole : ws ≡ first = cut ∙ (ap (λ (vs : List Word). first ++ vs) none ∙ sym (append_nil first)) in
+      (x, (whole ∙ h, had), λ _ m. m.0)
+  found args ws x had h = (x, args_down ws x h, λ _ m. m)
+  found (more o l) ws x had (first, others, cut, h, rest) =
       let w = word_alone o x.0 G first h in
-      let y = found l others x.1 rest in
+      let y = found l others x.1 had rest in
       subst (λ (vs : List Word). Found (more o l) vs x) (sym (cut ∙ ap (λ (vs : List Word). vs ++ others) w.1))
       ((x.0, y.0), (plain o x.0 G NoName (w.0 ∷ []) (subst (SpellsPart G (part_of o x.0)) w.1 h), y.1), λ short m. (m.0, y.2 short m.1))
 
@@ -222,7 +237,7 @@ unnumbered (one o) ws x y name h e s = none e
 unnumbered goal [] x y name h e s = h
 unnumbered goal (w ∷ []) x y name h e s = goal_named w x.skip y.skip x.label name h e s
 unnumbered goal (w ∷ v ∷ ws) x y name h e s = h
-unnumbered type ws x y name h e s = none e
+unnumbered (type version) ws x y name h e s = none e
   where
     none : None ≡ Some name → ⊥
     none e = cc
@@ -249,7 +264,7 @@ parts_may goal (w ∷ []) x h m = by x.skip x.label h m
     by skip None h m = m
     by skip (Some name) h m = (omega arith, omega (arith, h.0))
 parts_may goal (w ∷ v ∷ ws) x h m = absurd h
-parts_may type ws x h m = m
+parts_may (type version) ws x h m = (m, any_type x.containers)
 parts_may args ws x h m = m
 parts_may (more o l) [] x h m = absurd h
 parts_may (more o l) (w ∷ ws) x h m = (m.0, parts_may l ws x.1 h.1 m.1)
@@ -277,7 +292,7 @@ label_named goal (w ∷ []) x name h e = by x.skip x.label h e
         inner : Some found ≡ Some name → found ≡ name
         inner e = cc
 label_named goal (w ∷ v ∷ ws) x name h e = absurd h
-label_named type ws x name h e = absurd (none e)
+label_named (type version) ws x name h e = absurd (none e)
   where
     none : None ≡ Some name → ⊥
     none e = cc

@@ -1,6 +1,7 @@
 -- The label that an instruction's words name.
 use Rattle.std.proofs.Common.{◌≡◌, ℕ, Bool, true, false, List, [], ◌∷◌, ◌++◌, Some, None, inl, inr, refl, sym, subst, ap, ◌∙◌, append_assoc}
 use Rattle.tw_code.specs.declared.instr.Instr.{Instr}
+use Rattle.tw_code.specs.declared.version.Version.{Version}
 use Rattle.tw_words.specs.Words.{Bare, Word}
 use Rattle.tw_asm.specs.Parts.{Part, Skip, Target, instr_parts}
 use Rattle.tw_asm.specs.Statement.{Code, Goals, NamesLabel, SpellParts, SpellsPart, Spells}
@@ -55,7 +56,7 @@ last_same v w words front back e f =
 -- ---- goals
 
 -- words that name a label spell an instruction by that name alone
-pub named_goal : (goals : Goals) (i : Instr) (name : List ℕ) (words : List Word) → NamesLabel name words → Spells goals (Code i) words → (skip : ℕ) × goals skip name
+pub named_goal : {version : Version} (goals : Goals) (i : Instr) (name : List ℕ) (words : List Word) → NamesLabel version name words → Spells version goals (Code i) words → (skip : ℕ) × goals skip name
 named_goal goals i name words n s =
     both (last_named (λ skip word. word ≡ name) (instr_parts n.i) words (row n.i).last n.spells.parts) (last_named goals (instr_parts i) words (row i).last s.parts)
   where
@@ -64,5 +65,5 @@ named_goal goals i name words n s =
     both (named_last skip word front is e) (none_named k) = absurd (n.names i (record { form = s.form; parts = k }))
     both (named_last skip word front is e) (named_last other_skip other back goal f) = (other_skip, subst (goals other_skip) (last_same other word words back front f e ∙ is) goal)
 
-pub named_once : (name other : List ℕ) (words : List Word) → NamesLabel name words → NamesLabel other words → name ≡ other
+pub named_once : {version : Version} (name other : List ℕ) (words : List Word) → NamesLabel version name words → NamesLabel version other words → name ≡ other
 named_once name other words a b = (named_goal (λ skip word. word ≡ other) b.i name words a b.spells).1

@@ -3,8 +3,11 @@ use Rattle.std.proofs.Common.{◌≡◌, inl, inr, ℕ, Bool, true, List, [], �
 use Rattle.std.specs.Prelude.{if◌then◌else◌, ◌==◌}
 use Rattle.std.specs.List.{flat_map}
 use Rattle.std.proofs.lemmas.List.{append_cancel_right}
+use Rattle.tw_code.specs.declared.instr.DataInstr.{DataInstr}
+use Rattle.tw_code.specs.declared.instr.DataInstr.TheVariants as on_data
 use Rattle.tw_code.specs.declared.instr.Instr.{Instr}
 use Rattle.tw_code.specs.declared.instr.Instr.TheVariants as instr
+use Rattle.tw_code.specs.declared.version.Version.{Version}
 use Rattle.tw_words.specs.Words.{Word, Bare}
 use Rattle.tw_types.specs.declared.actor.Kind.{Kind}
 use Rattle.tw_types.specs.declared.actor.Kind.TheVariants.{Control, Leaf}
@@ -13,9 +16,9 @@ use Rattle.tw_types.specs.declared.data_type.Scalar.TheVariants.{Int, Text}
 use Rattle.tw_types.specs.declared.param.Mode.{Mode}
 use Rattle.tw_types.specs.declared.param.Mode.TheVariants.{Val, Closed, Ref, Write}
 use Rattle.tw_types.specs.declared.param.Param.{Param}
-use Rattle.tw_asm.specs.Parts.{Part, Name, TypeOf, head_parts, instr_parts, kind_word, mode_word, param_parts, register_part, registers_parts, scalar_word}
-use Rattle.tw_asm.specs.Seen.{IsRead, NoName, OnlyName, with_skip}
-use Rattle.tw_asm.specs.Statement.{Code, Goals, HasForm, HasWords, Head, IsExpected, Label, Registers, SpellParts, Spells, Statement, statement_parts}
+use Rattle.tw_asm.specs.Parts.{Part, Name, Natural, TypeOf, head_parts, instr_parts, kind_word, mode_word, param_parts, register_part, registers_parts, scalar_word, version_parts}
+use Rattle.tw_asm.specs.Seen.{IsRead, NoName, OnlyName, data_with_skip, with_skip}
+use Rattle.tw_asm.specs.Statement.{Code, Goals, HasDataInstr, HasForm, HasInstr, Head, IsExpected, Label, OfVersion, Registers, SpellParts, Spells, Statement, statement_parts}
 use Rattle.tw_asm.specs.declared.statement.First.{First}
 use Rattle.tw_asm.specs.declared.statement.First.TheVariants as first
 use Rattle.tw_asm.proofs.Rows.{AreAlike, alike_by_sorts, behind_first, class_of_word, different, ends_in_colon, first_name, have_sorts, name_of, operands_of, row, row_among, rows, same}
@@ -86,6 +89,7 @@ one_instr i j e = sym (row i).made ∙ ap (λ (parts : List Part). (row_among (f
 -- ---- first words
 
 abbrev pub class_of : Statement → ℕ
+class_of (OfVersion number) = 4
 class_of (Head kind params) = 0
 class_of (Registers registers) = 1
 class_of (Label name) = 2
@@ -98,7 +102,7 @@ colon (b ∷ c ∷ others) = colon (c ∷ others)
 
 pub label_class : (name : List ℕ) → class_of_word (name ++ codes ":") ≡ 2
 label_class name =
-    ap (λ (test : Bool). if test then 2 else if same (name ++ codes ":") (codes "proc") then 0 else if same (name ++ codes ":") (codes "regs") then 1 else 3) (colon name)
+    ap (λ (test : Bool). if test then 2 else if same (name ++ codes ":") (codes "proc") then 0 else if same (name ++ codes ":") (codes "regs") then 1 else if same (name ++ codes ":") (codes "version") then 4 else 3) (colon name)
 
 -- a statement's parts begin with a name of its class
 pub record Begins (s : Statement) : Type 0 where
@@ -108,54 +112,57 @@ pub record Begins (s : Statement) : Type 0 where
   pub class : class_of_word word ≡ class_of s
 
 abbrev pub begins : (s : Statement) → Begins s
+begins (OfVersion number) = record { word = codes "version"; others = behind_first (version_parts number); parts = refl; class = refl }
 begins (Head kind params) = record { word = codes "proc"; others = behind_first (head_parts kind params); parts = refl; class = refl }
 begins (Registers registers) = record { word = codes "regs"; others = map register_part registers; parts = refl; class = refl }
 begins (Label name) = record { word = name ++ codes ":"; others = []; parts = refl; class = label_class name }
 begins (Code i) = record { word = name_of i; others = operands_of i; parts = (row i).parts; class = (row i).class }
 
 -- words of a statement begin with its first word
-pub first_word : (goals : Goals) (s : Statement) (words : List Word) → Spells goals s words → (rest : List Word) × (words ≡ Bare (begins s).word ∷ rest)
+pub first_word : {version : Version} (goals : Goals) (s : Statement) (words : List Word) → Spells version goals s words → (rest : List Word) × (words ≡ Bare (begins s).word ∷ rest)
 first_word goals s words h =
     let parts : SpellParts goals (Name (begins s).word ∷ (begins s).others) words = subst (λ (ps : List Part). SpellParts goals ps words) (begins s).parts h.parts in
     (parts.1, parts.2 ∙ ap (λ (ws : List Word). ws ++ parts.1) parts.3)
 
-pub same_word : (a b : Goals) (s t : Statement) (words : List Word) → Spells a s words → Spells b t words → (begins s).word ≡ (begins t).word
+pub same_word : {version : Version} (a b : Goals) (s t : Statement) (words : List Word) → Spells version a s words → Spells version b t words → (begins s).word ≡ (begins t).word
 same_word a b s t words h k =
     let u = first_word a s words h in
     let v = first_word b t words k in
     bare_is (begins s).word (begins t).word (cons_is (Bare (begins s).word) (Bare (begins t).word) u.0 v.0 (sym u.1 ∙ v.1)).0
 
-pub same_class : (a b : Goals) (s t : Statement) (words : List Word) → Spells a s words → Spells b t words → class_of s ≡ class_of t
+pub same_class : {version : Version} (a b : Goals) (s t : Statement) (words : List Word) → Spells version a s words → Spells version b t words → class_of s ≡ class_of t
 same_class a b s t words h k = sym (begins s).class ∙ ap class_of_word (same_word a b s t words h k) ∙ (begins t).class
 
 abbrev pub first_of_class : ℕ → First
-first_of_class class = if class == 0 then first.Head else if class == 1 then first.Registers else first.Body
+first_of_class class = if class == 0 then first.Head else if class == 1 then first.Registers else if class == 4 then first.Version else first.Body
 
 -- what the first word of its words lets expect
 abbrev pub expected_of : Statement → First
 expected_of s = first_of_class (class_of s)
 
-pub expected : (goals : Goals) (s : Statement) (word : List ℕ) (rest : List Word) → Spells goals s (Bare word ∷ rest) → IsExpected (expected_of s) word
-expected goals s word rest h =
+pub expected : {version : Version} (goals : Goals) (s : Statement) (word : List ℕ) (rest : List Word) → Spells version goals s (Bare word ∷ rest) → IsExpected version (expected_of s) word
+expected {version} goals s word rest h =
     let u = first_word goals s (Bare word ∷ rest) h in
     let is : word ≡ (begins s).word = bare_is word (begins s).word (cons_is (Bare word) (Bare (begins s).word) rest u.0 u.1).0 in
-    subst (IsExpected (expected_of s)) (sym is) (by s h.form)
+    subst (IsExpected version (expected_of s)) (sym is) (by s h.form)
   where
-    by : (t : Statement) → HasForm t → IsExpected (expected_of t) (begins t).word
+    by : (t : Statement) → HasForm version t → IsExpected version (expected_of t) (begins t).word
+    by (OfVersion number) form = refl
     by (Head kind params) form = refl
     by (Registers registers) form = refl
     by (Label name) form = inl (name, form, refl)
-    by (Code i) form = inr (i, operands_of i, (row i).parts)
+    by (Code i) form = inr (i, operands_of i, form, (row i).parts)
 
-expected_class : (p : First) (word : List ℕ) → IsExpected p word → first_of_class (class_of_word word) ≡ p
-expected_class first.Head word e = ap (λ (w : List ℕ). first_of_class (class_of_word w)) e
-expected_class first.Registers word e = ap (λ (w : List ℕ). first_of_class (class_of_word w)) e
-expected_class first.Body word (inl (name, is_name, e)) = ap (λ (w : List ℕ). first_of_class (class_of_word w)) e ∙ ap first_of_class (label_class name)
-expected_class first.Body word (inr (i, operands, e)) = ap (λ (w : List ℕ). first_of_class (class_of_word w)) (sym (ap first_name e)) ∙ ap first_of_class (row i).class
+expected_class : (version : Version) (p : First) (word : List ℕ) → IsExpected version p word → first_of_class (class_of_word word) ≡ p
+expected_class version first.Version word e = ap (λ (w : List ℕ). first_of_class (class_of_word w)) e
+expected_class version first.Head word e = ap (λ (w : List ℕ). first_of_class (class_of_word w)) e
+expected_class version first.Registers word e = ap (λ (w : List ℕ). first_of_class (class_of_word w)) e
+expected_class version first.Body word (inl (name, is_name, e)) = ap (λ (w : List ℕ). first_of_class (class_of_word w)) e ∙ ap first_of_class (label_class name)
+expected_class version first.Body word (inr (i, operands, had, e)) = ap (λ (w : List ℕ). first_of_class (class_of_word w)) (sym (ap first_name e)) ∙ ap first_of_class (row i).class
 
 -- a word lets expect one thing alone
-pub one_expected : (p q : First) (word : List ℕ) → IsExpected p word → IsExpected q word → p ≡ q
-one_expected p q word h k = sym (expected_class p word h) ∙ expected_class q word k
+pub one_expected : (version : Version) (p q : First) (word : List ℕ) → IsExpected version p word → IsExpected version q word → p ≡ q
+one_expected version p q word h k = sym (expected_class version p word h) ∙ expected_class version q word k
 
 -- ---- parts of the same sorts
 
@@ -169,11 +176,11 @@ registers_alike [] ss = tt
 registers_alike (r ∷ rs) [] = tt
 registers_alike (r ∷ rs) (s ∷ ss) = (refl, registers_alike rs ss)
 
-pub instrs_alike : (i j : Instr) → HasWords i → HasWords j → name_of i ≡ name_of j → AreAlike (instr_parts i) (instr_parts j)
-instrs_alike i j m n e =
+pub instrs_alike : (i j : Instr) → name_of i ≡ name_of j → AreAlike (instr_parts i) (instr_parts j)
+instrs_alike i j e =
     subst (λ (ps : List Part). AreAlike ps (instr_parts j)) (sym (row i).parts)
     (subst (λ (qs : List Part). AreAlike (Name (name_of i) ∷ operands_of i) qs) (sym (row j).parts)
-    (refl, alike_by_sorts (row_among (name_of j) rows).sorts (operands_of i) (operands_of j) (subst (λ (name : List ℕ). have_sorts (row_among name rows).sorts (operands_of i) ≡ true) e ((row i).sorts m)) ((row j).sorts n)))
+    (refl, alike_by_sorts (row_among (name_of j) rows).sorts (operands_of i) (operands_of j) (subst (λ (name : List ℕ). have_sorts (row_among name rows).sorts (operands_of i) ≡ true) e (row i).sorts) (row j).sorts))
 
 module _ (a b : Goals) (names : AreNames a) (others : AreNames b) (alone : (n m : ℕ) (name : List ℕ) → a n name → b m name → n ≡ m) where
   parts_are : (ps qs : List Part) (words : List Word) → AreAlike ps qs → SpellParts a ps words → SpellParts b qs words → ps ≡ qs
@@ -182,16 +189,21 @@ module _ (a b : Goals) (names : AreNames a) (others : AreNames b) (alone : (n m 
   label_is : (v w : List ℕ) → Name (v ++ codes ":") ∷ [] ≡ Name (w ++ codes ":") ∷ [] → v ≡ w
   label_is v w e = append_cancel_right v w (codes ":") (ap first_name e)
 
+  abbrev number_in : List Part → ℕ
+  number_in (Name word ∷ Natural number ∷ parts) = number
+  number_in parts = 0
+
   -- words spell one statement alone, where a name stands for one skip alone
-  pub spelled_once : (s t : Statement) (words : List Word) → Spells a s words → Spells b t words → s ≡ t
-  spelled_once s t words h k = by s t h.form k.form h.parts k.parts (same_class a b s t words h k) (same_word a b s t words h k)
+  pub spelled_once : {version : Version} (s t : Statement) (words : List Word) → Spells version a s words → Spells version b t words → s ≡ t
+  spelled_once s t words h k = by s t h.parts k.parts (same_class a b s t words h k) (same_word a b s t words h k)
     where
-      by : (u v : Statement) → HasForm u → HasForm v → SpellParts a (statement_parts u) words → SpellParts b (statement_parts v) words → class_of u ≡ class_of v → (begins u).word ≡ (begins v).word → u ≡ v
-      by (Head m ps) (Head n qs) x y f g c w = one_head m n ps qs (parts_are (head_parts m ps) (head_parts n qs) words (refl, (refl, params_alike ps qs)) f g)
-      by (Registers rs) (Registers ss) x y f g c w = one_registers rs ss (parts_are (registers_parts rs) (registers_parts ss) words (refl, registers_alike rs ss) f g)
-      by (Label x) (Label y) m n f g c w = ap Label (label_is x y (parts_are (Name (x ++ codes ":") ∷ []) (Name (y ++ codes ":") ∷ []) words (refl, tt) f g))
-      by (Code i) (Code j) m n f g c w = ap Code (one_instr i j (parts_are (instr_parts i) (instr_parts j) words (instrs_alike i j m n w) f g))
-      by u v m n f g c w = different (class_of u) (class_of v) c refl
+      by : (u v : Statement) → SpellParts a (statement_parts u) words → SpellParts b (statement_parts v) words → class_of u ≡ class_of v → (begins u).word ≡ (begins v).word → u ≡ v
+      by (OfVersion m) (OfVersion n) f g c w = ap (λ (parts : List Part). OfVersion (number_in parts)) (parts_are (version_parts m) (version_parts n) words (refl, (refl, tt)) f g)
+      by (Head m ps) (Head n qs) f g c w = one_head m n ps qs (parts_are (head_parts m ps) (head_parts n qs) words (refl, (refl, params_alike ps qs)) f g)
+      by (Registers rs) (Registers ss) f g c w = one_registers rs ss (parts_are (registers_parts rs) (registers_parts ss) words (refl, registers_alike rs ss) f g)
+      by (Label x) (Label y) f g c w = ap Label (label_is x y (parts_are (Name (x ++ codes ":") ∷ []) (Name (y ++ codes ":") ∷ []) words (refl, tt) f g))
+      by (Code i) (Code j) f g c w = ap Code (one_instr i j (parts_are (instr_parts i) (instr_parts j) words (instrs_alike i j w) f g))
+      by u v f g c w = different (class_of u) (class_of v) c refl
 
 -- ---- what is read, where goals are known
 
@@ -199,38 +211,42 @@ no_names : AreNames NoName
 no_names skip name h = absurd h
 
 -- what spells a statement spells it under more goals
-pub spells_more : (a b : Goals) → ((skip : ℕ) (name : List ℕ) → a skip name → b skip name) → (s : Statement) (words : List Word) → Spells a s words → Spells b s words
+pub spells_more : {version : Version} (a b : Goals) → ((skip : ℕ) (name : List ℕ) → a skip name → b skip name) → (s : Statement) (words : List Word) → Spells version a s words → Spells version b s words
 spells_more a b more s words h = record { form = h.form; parts = parts_more a b more (statement_parts s) words h.parts }
 
-words_kept : (skip : ℕ) (i : Instr) → HasWords i → HasWords (with_skip skip i)
-words_kept skip (instr.Local i) h = tt
-words_kept skip (instr.Data i) h = tt
-words_kept skip i h = h
+data_had_still : (version : Version) (skip : ℕ) (i : DataInstr) → HasDataInstr version i → HasDataInstr version (data_with_skip skip i)
+data_had_still version skip (on_data.Insert by container subscript member old) h = h
+data_had_still version skip i h = h
+
+pub had_still : (version : Version) (skip : ℕ) (i : Instr) → HasInstr version i → HasInstr version (with_skip skip i)
+had_still version skip (instr.Local i) h = tt
+had_still version skip (instr.Data i) h = data_had_still version skip i h
+had_still version skip i h = h
 
 -- an instruction that names a label, with the skip for which that stands
-pub resolved_spells : (goals : Goals) (name : List ℕ) (skip : ℕ) (i : Instr) (words : List Word) → IsRead (record { statement = Code i; goal = Some name }) words → goals skip name
-    → Spells goals (Code (with_skip skip i)) words
-resolved_spells goals name skip i words read goal = record { form = words_kept skip i read.1.1.form; parts = by (resolved goals name skip goal (instr_parts i) words (row i).last read.1.1.parts) }
+pub resolved_spells : (version : Version) (goals : Goals) (name : List ℕ) (skip : ℕ) (i : Instr) (words : List Word) → IsRead version (record { statement = Code i; goal = Some name }) words → goals skip name
+    → Spells version goals (Code (with_skip skip i)) words
+resolved_spells version goals name skip i words read goal = record { form = had_still version skip i read.1.1.form; parts = by (resolved goals name skip goal (instr_parts i) words (row i).last read.1.1.parts) }
   where
     by : Resolved goals skip (instr_parts i) words → SpellParts goals (instr_parts (with_skip skip i)) words
     by (as_is h) = absurd (read.1.2.names i (record { form = read.1.1.form; parts = h }))
     by (with_goal h) = subst (λ (ps : List Part). SpellParts goals ps words) (sym ((row i).reskipped skip)) h
 
 -- one that names none
-pub read_spells : (goals : Goals) (s : Statement) (words : List Word) → IsRead (record { statement = s; goal = None }) words → Spells goals s words
-read_spells goals s words read = spells_more NoName goals (λ skip name h. absurd h) s words read.1
+pub read_spells : (version : Version) (goals : Goals) (s : Statement) (words : List Word) → IsRead version (record { statement = s; goal = None }) words → Spells version goals s words
+read_spells version goals s words read = spells_more NoName goals (λ skip name h. absurd h) s words read.1
 
 -- and no other is spelled
-pub read_once : (goals : Goals) → AreNames goals → (s t : Statement) (words : List Word) → IsRead (record { statement = s; goal = None }) words → Spells goals t words → t ≡ s
-read_once goals names s t words read h = sym (spelled_once NoName goals no_names names (λ n m name none other. absurd none) s t words read.1 h)
+pub read_once : (version : Version) (goals : Goals) → AreNames goals → (s t : Statement) (words : List Word) → IsRead version (record { statement = s; goal = None }) words → Spells version goals t words → t ≡ s
+read_once version goals names s t words read h = sym (spelled_once NoName goals no_names names (λ n m name none other. absurd none) s t words read.1 h)
 
-pub resolved_once : (goals : Goals) → AreNames goals → (name : List ℕ) (i j : Instr) (words : List Word) → IsRead (record { statement = Code i; goal = Some name }) words → Spells goals (Code j) words
+pub resolved_once : (version : Version) (goals : Goals) → AreNames goals → (name : List ℕ) (i j : Instr) (words : List Word) → IsRead version (record { statement = Code i; goal = Some name }) words → Spells version goals (Code j) words
     → (skip : ℕ) × goals skip name × (j ≡ with_skip skip i)
-resolved_once goals names name i j words read h =
+resolved_once version goals names name i j words read h =
     by (by_name goals name names read.1.0.0 (instr_parts i) (instr_parts j) words words (row i).last alike refl read.1.1.parts h.parts)
   where
     alike : AreAlike (instr_parts i) (instr_parts j)
-    alike = instrs_alike i j read.1.1.form h.form (same_word (OnlyName name) goals (Code i) (Code j) words read.1.1 h)
+    alike = instrs_alike i j (same_word (OnlyName name) goals (Code i) (Code j) words read.1.1 h)
 
     by : ByName goals name (instr_parts i) (instr_parts j) words → (skip : ℕ) × goals skip name × (j ≡ with_skip skip i)
     by (unnamed none) = absurd (read.1.2.names i (record { form = read.1.1.form; parts = none }))

@@ -4,6 +4,7 @@ use Rattle.std.proofs.lemmas.Bool.{cases_lt}
 use Rattle.std.specs.List.{Contains, slice_get}
 use Rattle.std.specs.Str.Lines.{lines}
 use Rattle.tw_code.specs.declared.instr.Instr.{Instr}
+use Rattle.tw_code.specs.declared.version.Version.{Version}
 use Rattle.tw_words.specs.Words.{Bare, IsLine, Word}
 use Rattle.tw_asm.specs.Statement.{Statement, Label, Code, AnyShortName, IsExpected, NamesLabel, Say}
 use Rattle.tw_asm.specs.declared.statement.First.{First}
@@ -24,7 +25,7 @@ use Rattle.tw_asm.proofs.Spelled.{bare_is}
 begins_once : (s : Situation) (line : List ℕ) (p q : First) → Begins s line p → Begins s line q → p ≡ q
 begins_once s line p q b c =
     let same = bare_is b.0 c.0 (first_word_once (Bare b.0) (Bare c.0) line b.1 c.1 b.2 c.2).0 in
-    one_expected p q c.0 (subst (IsExpected p) same b.3) c.3
+    one_expected s.version p q c.0 (subst (IsExpected s.version p) same b.3) c.3
 
 body_head : {Z : Type 0} → ◌≡◌ {A = First} first.Body first.Head → Z
 body_head e = absurd cc
@@ -32,19 +33,19 @@ body_head e = absurd cc
 body_may : (s : Situation) → s.stage ≡ InBody → MayBegin s.stage first.Body
 body_may s body = subst (λ (stage : Stage). MayBegin stage first.Body) (sym body) (inr refl)
 
-label_begins : (s : Situation) (line name : List ℕ) (words : List Word) → s.stage ≡ InBody → IsLine words line → Say (Label name) words → Begins s line first.Body
+label_begins : (s : Situation) (line name : List ℕ) (words : List Word) → s.stage ≡ InBody → IsLine words line → Say s.version (Label name) words → Begins s line first.Body
 label_begins s line name words body is say = line_begins AnyShortName (Label name) words s line is say.0 (body_may s body)
 
-code_begins : (s : Situation) (line : List ℕ) (i : Instr) (words : List Word) → s.stage ≡ InBody → IsLine words line → Say (Code i) words → Begins s line first.Body
+code_begins : (s : Situation) (line : List ℕ) (i : Instr) (words : List Word) → s.stage ≡ InBody → IsLine words line → Say s.version (Code i) words → Begins s line first.Body
 code_begins s line i words body is say = line_begins AnyShortName (Code i) words s line is say.0 (body_may s body)
 
 -- What is so of a line by the kind of its fault. The kinds stand in the order in which a line is asked: no first word, no
 -- form, an empty procedure before a head, a label that stands twice, and any other limit.
 abbrev IsSo : Situation → List ℕ → ℕ → Type 0
 IsSo s line zero = (expected : First) → Begins s line expected → ⊥
-IsSo s line (suc zero) = HasWords line → ⊥
+IsSo s line (suc zero) = HasWords s.version line → ⊥
 IsSo s line (suc (suc zero)) = Begins s line first.Head × IsEmpty s
-IsSo s line (suc (suc (suc zero))) = (name : List ℕ) × (words : List Word) × (s.stage ≡ InBody) × IsLine words line × Say (Label name) words
+IsSo s line (suc (suc (suc zero))) = (name : List ℕ) × (words : List Word) × (s.stage ≡ InBody) × IsLine words line × Say s.version (Label name) words
 IsSo s line (suc (suc (suc (suc k)))) = Unit {0}
 
 -- nothing is so by the kinds before this one
@@ -81,7 +82,7 @@ record HasKind (number : ℕ) (s : Situation) (line : List ℕ) (which : FaultNo
   so : IsSo s line kind
   none : NoneBefore s line kind
 
-limit_kind : (number : ℕ) (s : Situation) (line : List ℕ) (p : First) → Begins s line p → HasWords line → (Begins s line first.Head × IsEmpty s → ⊥) → (IsSo s line 3 → ⊥) → HasKind number s line fault.Limit number
+limit_kind : (number : ℕ) (s : Situation) (line : List ℕ) (p : First) → Begins s line p → HasWords s.version line → (Begins s line first.Head × IsEmpty s → ⊥) → (IsSo s line 3 → ⊥) → HasKind number s line fault.Limit number
 limit_kind number s line p b has full unlabelled = record {
   kind = 4;
   which_is = refl;
@@ -107,7 +108,7 @@ kind_of number s line _ _ (LineFault.label_twice name words body is say c) =
       which_is = refl;
       at_is = refl;
       so = (name, words, body, is, say);
-      none = (((tt, λ none. none first.Body b), λ formless. formless (has_words (Label name) words line is say)), λ e. body_head (begins_once s line first.Body first.Head b e.0));
+      none = (((tt, λ none. none first.Body b), λ formless. formless (has_words s.version (Label name) words line is say)), λ e. body_head (begins_once s line first.Body first.Head b e.0));
     }
 kind_of number s line _ _ (LineFault.limit p b has full unsaid) =
     limit_kind number s line p b has (λ e. full (begins_once s line p first.Head b e.0) e.1) (λ l. unsaid (Label l.0) l.1 l.3 l.4)
@@ -115,7 +116,7 @@ kind_of number s line _ _ (LineFault.procedures b has full many) =
     limit_kind number s line first.Head b has (λ e. full e.1) (λ l. body_head (begins_once s line first.Body first.Head (label_begins s line l.0 l.1 l.2 l.3 l.4) b))
 kind_of number s line _ _ (LineFault.instructions i words body is say many) =
     let b = code_begins s line i words body is say in
-    limit_kind number s line first.Body b (has_words (Code i) words line is say) (λ e. body_head (begins_once s line first.Body first.Head b e.0)) (λ l. says_alike (Label l.0) (Code i) l.1 words line l.3 l.4 is say)
+    limit_kind number s line first.Body b (has_words s.version (Code i) words line is say) (λ e. body_head (begins_once s line first.Body first.Head b e.0)) (λ l. says_alike s.version (Label l.0) (Code i) l.1 words line l.3 l.4 is say)
 
 line_faults : (number : ℕ) (s : Situation) (line : List ℕ) (a b : FaultNo) (m n : ℕ) → LineFault number s line a m → LineFault number s line b n → (a ≡ b) × (m ≡ n)
 line_faults number s line a b m n f g = by (cases_lt x.kind y.kind) (cases_lt y.kind x.kind)
@@ -225,15 +226,15 @@ no_end_fault text which other at number f g =
 
 -- ---- goals
 
-name_once : (line name other : List ℕ) (words others : List Word) → IsLine words line → NamesLabel name words → IsLine others line → NamesLabel other others → name ≡ other
-name_once line name other words others is n other_is o = named_once name other words n (subst (NamesLabel other) (line_once others words line other_is is) o)
+name_once : (version : Version) (line name other : List ℕ) (words others : List Word) → IsLine words line → NamesLabel version name words → IsLine others line → NamesLabel version other others → name ≡ other
+name_once version line name other words others is n other_is o = named_once name other words n (subst (λ (ws : List Word). NamesLabel version other ws) (line_once others words line other_is is) o)
 
 goal_faults : (s : Situation) (ahead behind : List (List ℕ)) (line : List ℕ) (a b : FaultNo) → GoalFault s ahead line a → GoalFault s behind line b → a ≡ b
 goal_faults s ahead behind line _ _ (unknown name words is n before absent) (unknown other others other_is o before2 absent2) = refl
 goal_faults s ahead behind line _ _ (unknown name words is n before absent) (not_forward other others other_is o there) =
-    absurd (before (subst (Contains s.labels) (sym (name_once line name other words others is n other_is o)) there))
+    absurd (before (subst (Contains s.labels) (sym (name_once s.version line name other words others is n other_is o)) there))
 goal_faults s ahead behind line _ _ (not_forward name words is n there) (unknown other others other_is o before absent) =
-    absurd (before (subst (Contains s.labels) (name_once line name other words others is n other_is o) there))
+    absurd (before (subst (Contains s.labels) (name_once s.version line name other words others is n other_is o) there))
 goal_faults s ahead behind line _ _ (not_forward name words is n there) (not_forward other others other_is o there2) = refl
 
 goal_fault_at : (s t : Situation) (ahead : List (List ℕ)) (line next : List ℕ) (which : FaultNo) → s ≡ t → next ≡ line → GoalFault s ahead next which → GoalFault t ahead line which

@@ -2,7 +2,7 @@
 use Rattle.std.proofs.Common.{◌≡◌, ◌⊎◌, ℕ, suc, ◌+◌, ◌<◌, ◌≤◌, List, [], ◌∷◌, ◌++◌, length, Option, Some, None, inl, inr, refl, sym, subst, ap, ◌∙◌, arith}
 use Rattle.std.specs.Str.Lines.{lines}
 use Rattle.tw_code.specs.declared.instr.Instr.{Instr}
-use Rattle.tw_asm.specs.Statement.{Statement, Head, Registers, Label, Code}
+use Rattle.tw_asm.specs.Statement.{Statement, OfVersion, Head, Registers, Label, Code}
 use Rattle.tw_asm.specs.Fault.{LineSays, LinesSay, Situation, after_line, at_start, situation_from}
 use Rattle.tw_asm.specs.Laws.{OneLine}
 use Rattle.tw_asm.proofs.Twice.{both_alike, others_say}
@@ -13,6 +13,7 @@ IsPast s t = (s.procedures < t.procedures) ⊎ ((s.procedures ≡ t.procedures) 
 
 past_after : (number : ℕ) (said : Option Statement) (s : Situation) → IsPast s (after_line number said s)
 past_after number None s = inr (refl, omega arith)
+past_after number (Some (OfVersion version)) s = inr (refl, omega arith)
 past_after number (Some (Head kind params)) s = inl (omega arith)
 past_after number (Some (Registers registers)) s = inr (refl, omega arith)
 past_after number (Some (Label name)) s = inr (refl, omega arith)

@@ -6,16 +6,19 @@ use Rattle.std.specs.Str.{bytes_eq}
 use Rattle.std.proofs.lemmas.Bool.{eqb-true, ltb-true}
 use Rattle.std.proofs.lemmas.Bool.Decides.{nat_tests}
 use Rattle.std.proofs.lemmas.Slice.Eq.{bytes_eq-Decides}
-use Rattle.tw_code.specs.format.Program.{IsRegister, IsTarget, IsWithin}
+use Rattle.tw_code.specs.declared.version.Version.{Version}
+use Rattle.tw_code.specs.declared.version.Version.TheVariants.{One, Two}
+use Rattle.tw_code.specs.format.Program.{IsRegister, IsSubscriptOf, IsTarget, IsWithin}
 use Rattle.tw_words.specs.Words.{Word, Bare, Quoted}
 use Rattle.tw_asm.proofs.Numbers.{digits_read, signed_read}
 use Rattle.tw_asm.proofs.Readings.{Reads, carried, likewise}
-use Rattle.tw_asm.specs.Parts.{Part, Value, Right, Number, Natural, Literal, Target, kind_word, mode_word, scalar_word}
+use Rattle.tw_asm.proofs.TypeWords.{other_bytes}
+use Rattle.tw_asm.specs.Parts.{Part, Value, Right, Number, Natural, Literal, Target, container_word, kind_word, mode_word, scalar_word}
 use Rattle.tw_asm.specs.Statement.{SpellsPart, SpellsWith}
 use Rattle.tw_asm.specs.Seen.{NoName}
 use Rattle.tw_asm.specs.declared.refusal.Flaw.TheVariants.{Form, Limit}
 use Rattle.tw_asm.specs.reading.Lines.{Content, Operand, kind_in, literal, natural, number, operand_in, right, target, value}
-use Rattle.tw_asm.specs.reading.Operands.{as_is, digits_in, literal_in, mode_in, natural_in, number_in, piece_in, register_in, scalar_in, signed_in, target_in}
+use Rattle.tw_asm.specs.reading.Operands.{as_is, container_in, digits_in, literal_in, mode_in, natural_in, number_in, register_in, scalar_in, signed_in, target_in, text_container}
 use Rattle.tw_types.specs.Text.{IsText}
 use Rattle.tw_types.specs.declared.actor.Kind.TheVariants.{Control, Leaf}
 use Rattle.tw_types.specs.declared.data_type.Scalar.{Scalar}
@@ -146,17 +149,6 @@ Free a = Unit {0}
 same_bytes : (text word : List ℕ) → bytes_eq text word ≡ true → Bare text ≡ Bare word
 same_bytes text word is = ap (λ (t : List ℕ). Bare t) ((bytes_eq-Decides text word).0 is)
 
-pub other_bytes : (text word : List ℕ) → bytes_eq text word ≡ false → Bare text ≡ Bare word → ⊥
-other_bytes text word isnt e = no (sym isnt ∙ (bytes_eq-Decides text word).1 (inner e))
-  where
-    inner : Bare text ≡ Bare word → text ≡ word
-    inner e = cc
-
--- the word of a scalar is no `cont`
-pub scalar_apart : (s : Scalar) → Bare (scalar_word s) ≡ Bare (codes "cont") → ⊥
-scalar_apart scalar.Int e = other_bytes (codes "int") (codes "cont") refl e
-scalar_apart scalar.Text e = other_bytes (codes "text") (codes "cont") refl e
-
 quoted_apart : (text word : List ℕ) → Quoted text ≡ Bare word → ⊥
 quoted_apart text word e = cc
 
@@ -197,25 +189,25 @@ mode_read (Bare text) = by (bytes_eq text (codes "val")) (bytes_eq text (codes "
       | Write ↦ other_bytes text (codes "write") no_write
     ]
 
--- a word of a type
-abbrev pub IsPieceOf : Word → Option Scalar → Type 0
-IsPieceOf w None = w ≡ Bare (codes "cont")
-IsPieceOf w (Some s) = w ≡ Bare (scalar_word s)
+-- a container that the version has
+abbrev pub IsContainerOf : Version → Word → Scalar → Type 0
+IsContainerOf version w by = (w ≡ Bare (container_word by)) × IsSubscriptOf version by
 
-pub piece_read : (w : Word) → Reads (IsPieceOf w) Free (piece_in w)
-piece_read (Quoted text) = λ p h. none p h
+pub container_read : (version : Version) (w : Word) → Reads (IsContainerOf version w) Free (container_in version w)
+container_read version (Quoted text) = λ by h. quoted_apart text (container_word by) h.0
+container_read version (Bare text) = each (bytes_eq text (codes "cont")) (bytes_eq text (codes "tcont")) refl refl version
   where
-    none : (p : Option Scalar) → IsPieceOf (Quoted text) p → ⊥
-    none None e = quoted_apart text (codes "cont") e
-    none (Some s) e = quoted_apart text (scalar_word s) e
-piece_read (Bare text) = by (bytes_eq text (codes "cont")) refl
-  where
-    some : bytes_eq text (codes "cont") ≡ false → (p : Option Scalar) → IsPieceOf (Bare text) p → (s : Scalar) × (Bare text ≡ Bare (scalar_word s)) × (p ≡ Some s)
-    some isnt None e = absurd (other_bytes text (codes "cont") isnt e)
-    some isnt (Some s) e = (s, e, refl)
+    only_cont : bytes_eq text (codes "cont") ≡ false → (by : Scalar) → IsContainerOf One (Bare text) by → ⊥
+    only_cont isnt scalar.Int h = other_bytes text (codes "cont") isnt h.0
+    only_cont isnt scalar.Text h = h.1
 
-    by : (t : Bool) → bytes_eq text (codes "cont") ≡ t → Reads (IsPieceOf (Bare text)) Free (cond t (Ok None) (as_is (λ s. Some s) (scalar_in (Bare text))))
-    by true is = (same_bytes text (codes "cont") is, tt)
-    by false isnt =
-        carried (λ s. Some s) (λ s. Bare text ≡ Bare (scalar_word s)) Free (IsPieceOf (Bare text)) Free
-        (λ s h. h) (some isnt) (λ s h m. tt) (λ s h m. tt) (scalar_in (Bare text)) (scalar_read (Bare text))
+    none : bytes_eq text (codes "cont") ≡ false → bytes_eq text (codes "tcont") ≡ false → (by : Scalar) → Bare text ≡ Bare (container_word by) → ⊥
+    none isnt other scalar.Int e = other_bytes text (codes "cont") isnt e
+    none isnt other scalar.Text e = other_bytes text (codes "tcont") other e
+
+    each : (i t : Bool) → bytes_eq text (codes "cont") ≡ i → bytes_eq text (codes "tcont") ≡ t → (v : Version)
+        → Reads (IsContainerOf v (Bare text)) Free (cond i (Ok scalar.Int) (cond t (text_container v) (Err Form)))
+    each true t is other v = ((same_bytes text (codes "cont") is, tt), tt)
+    each false true isnt is One = only_cont isnt
+    each false true isnt is Two = ((same_bytes text (codes "tcont") is, tt), tt)
+    each false false isnt other v = λ by h. none isnt other by h.0

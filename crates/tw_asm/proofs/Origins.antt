@@ -7,14 +7,15 @@ use Rattle.tw_types.specs.declared.actor.Kind.{Kind}
 use Rattle.tw_types.specs.declared.param.Param.{Param}
 use Rattle.tw_code.specs.declared.instr.Instr.{Instr}
 use Rattle.tw_code.specs.declared.procedure.Procedure.{Procedure}
+use Rattle.tw_code.specs.declared.version.Version.{Version}
 use Rattle.tw_asm.specs.Seen.{Read}
-use Rattle.tw_asm.specs.Statement.{Statement, Head, Registers, Label, Code}
+use Rattle.tw_asm.specs.Statement.{Statement, OfVersion, Head, Registers, Label, Code}
 use Rattle.tw_asm.specs.Fault.{MayStand, Situation, after_line, situation, situation_from}
 use Rattle.tw_asm.specs.Origins.{AreOrigins, ComesFrom, at_place, instr_at}
 use Rattle.tw_asm.specs.reading.Goals.{AreLinkedProcedures}
-use Rattle.tw_asm.specs.reading.Progress.{AtStart, BehindHead, Within, Drafted, HasSections, LineRead, LinesRead, Place, Progress, Section, ended, line_step, outset, progress_from, section_numbers, situation_of, step}
+use Rattle.tw_asm.specs.reading.Progress.{AtStart, BehindHead, BehindVersion, Within, Drafted, HasSections, LineRead, LinesRead, Place, Progress, Section, ended, line_step, outset, progress_from, section_numbers, situation_of, step}
 use Rattle.tw_asm.proofs.Linked.{linked_length}
-use Rattle.tw_asm.proofs.Stages.{body_head, head_body, progress, start_body, start_head}
+use Rattle.tw_asm.proofs.Stages.{body_head, body_start, head_body, head_start, progress, start_body, start_head, version_body, version_head, version_start}
 use Rattle.tw_asm.proofs.Steps.{line_after, lines_say, said_by, statement_of}
 
 -- ---- a list of lists that has grown at its end
@@ -104,10 +105,10 @@ head_said : (number : ℕ) (kind : Kind) (params : List Param) (goal : Option (L
     → AreSaid (said ++ (Some (Head kind params) ∷ [])) (kept (ended sections place) (BehindHead kind params))
 head_said number kind params goal sections head_line place said a = saids_more said (Some (Head kind params)) (kept sections place) (kept sections place) a (λ k j n e. e)
 
-code_said : (i : Instr) (goal : Option (List ℕ)) (number : ℕ) (sections : List Section) (head_line : ℕ) (section : Section) (said : List (Option Statement)) → AreSaid said (kept sections (Within section))
-    → number ≡ length said + 1 → situation_of (progress sections head_line (Within section)) ≡ situation said
+code_said : (i : Instr) (goal : Option (List ℕ)) (number : ℕ) (version : Version) (sections : List Section) (head_line : ℕ) (section : Section) (said : List (Option Statement)) → AreSaid said (kept sections (Within section))
+    → number ≡ length said + 1 → situation_of (progress version sections head_line (Within section)) ≡ situation said
     → AreSaid (said ++ (Some (Code i) ∷ [])) (kept sections (Within (record section { drafts = section.drafts ++ (record { instr = i; goal = goal; number = number } ∷ []) })))
-code_said i goal number sections head_line section said a number_is is k j n e =
+code_said i goal number version sections head_line section said a number_is is k j n e =
     let draft : Drafted = record { instr = i; goal = goal; number = number } in
     let grown = kept_within sections (record section { drafts = section.drafts ++ (draft ∷ []) }) ∙ ap (λ (ns : List ℕ). map section_numbers sections ++ (ns ∷ [])) (map-append (λ (d : Drafted). d.number) section.drafts (draft ∷ [])) in
     let there = subst (λ (ns : List (List ℕ)). at_place ns k j ≡ Some n) grown e in
@@ -124,30 +125,37 @@ code_said i goal number sections head_line section said a number_is is k j n e =
       }
     ]
 
-statement_said : (number : ℕ) (statement : Statement) (goal : Option (List ℕ)) (sections : List Section) (head_line : ℕ) (place : Place) (said : List (Option Statement)) → AreSaid said (kept sections place)
-    → MayStand statement (situation_of (progress sections head_line place)) → number ≡ length said + 1 → situation_of (progress sections head_line place) ≡ situation said
-    → AreSaid (said ++ (Some statement ∷ [])) (kept (step number statement goal (progress sections head_line place)).sections (step number statement goal (progress sections head_line place)).place)
-statement_said number (Head kind params) goal sections head_line place said a m number_is is = head_said number kind params goal sections head_line place said a
-statement_said number (Registers registers) goal sections head_line AtStart said a m number_is is = start_head m
-statement_said number (Registers registers) goal sections head_line (BehindHead kind params) said a m number_is is =
+statement_said : (number : ℕ) (statement : Statement) (goal : Option (List ℕ)) (version : Version) (sections : List Section) (head_line : ℕ) (place : Place) (said : List (Option Statement)) → AreSaid said (kept sections place)
+    → MayStand statement (situation_of (progress version sections head_line place)) → number ≡ length said + 1 → situation_of (progress version sections head_line place) ≡ situation said
+    → AreSaid (said ++ (Some statement ∷ [])) (kept (step number statement goal (progress version sections head_line place)).sections (step number statement goal (progress version sections head_line place)).place)
+statement_said number (OfVersion n) goal version sections head_line AtStart said a m number_is is = saids_more said (Some (OfVersion n)) (kept sections AtStart) (kept sections AtStart) a (λ k j n e. e)
+statement_said number (OfVersion n) goal version sections head_line BehindVersion said a m number_is is = version_start m
+statement_said number (OfVersion n) goal version sections head_line (BehindHead kind params) said a m number_is is = head_start m
+statement_said number (OfVersion n) goal version sections head_line (Within section) said a m number_is is = body_start m
+statement_said number (Head kind params) goal version sections head_line place said a m number_is is = head_said number kind params goal sections head_line place said a
+statement_said number (Registers registers) goal version sections head_line AtStart said a m number_is is = start_head m
+statement_said number (Registers registers) goal version sections head_line BehindVersion said a m number_is is = version_head m
+statement_said number (Registers registers) goal version sections head_line (BehindHead kind params) said a m number_is is =
     let new : Section = record { kind = kind; params = params; registers = registers; labels = []; drafts = [] } in
     saids_more said (Some (Registers registers)) (map section_numbers sections) (kept sections (Within new)) a
     (λ k j n e. empty_more (map section_numbers sections) n k j (subst (λ (ns : List (List ℕ)). at_place ns k j ≡ Some n) (kept_within sections new) e))
-statement_said number (Registers registers) goal sections head_line (Within section) said a m number_is is = body_head m
-statement_said number (Label name) goal sections head_line AtStart said a m number_is is = start_body m.0
-statement_said number (Label name) goal sections head_line (BehindHead kind params) said a m number_is is = head_body m.0
-statement_said number (Label name) goal sections head_line (Within section) said a m number_is is =
+statement_said number (Registers registers) goal version sections head_line (Within section) said a m number_is is = body_head m
+statement_said number (Label name) goal version sections head_line AtStart said a m number_is is = start_body m.0
+statement_said number (Label name) goal version sections head_line BehindVersion said a m number_is is = version_body m.0
+statement_said number (Label name) goal version sections head_line (BehindHead kind params) said a m number_is is = head_body m.0
+statement_said number (Label name) goal version sections head_line (Within section) said a m number_is is =
     let new : Section = record section { labels = section.labels ++ (record { name = name; place = length section.drafts } ∷ []) } in
     saids_more said (Some (Label name)) (kept sections (Within section)) (kept sections (Within new)) a
     (λ k j n e. subst (λ (ns : List (List ℕ)). at_place ns k j ≡ Some n) (kept_within sections new ∙ sym (kept_within sections section)) e)
-statement_said number (Code i) goal sections head_line AtStart said a m number_is is = start_body m.0
-statement_said number (Code i) goal sections head_line (BehindHead kind params) said a m number_is is = head_body m.0
-statement_said number (Code i) goal sections head_line (Within section) said a m number_is is = code_said i goal number sections head_line section said a number_is is
+statement_said number (Code i) goal version sections head_line AtStart said a m number_is is = start_body m.0
+statement_said number (Code i) goal version sections head_line BehindVersion said a m number_is is = version_body m.0
+statement_said number (Code i) goal version sections head_line (BehindHead kind params) said a m number_is is = head_body m.0
+statement_said number (Code i) goal version sections head_line (Within section) said a m number_is is = code_said i goal number version sections head_line section said a number_is is
 
 line_said : (number : ℕ) (line : List ℕ) (read : Option Read) (p : Progress) (said : List (Option Statement)) → AreSaid said (kept p.sections p.place) → LineRead (situation_of p) line read
     → number ≡ length said + 1 → situation_of p ≡ situation said → AreSaid (said ++ (statement_of read ∷ [])) (kept (line_step number read p).sections (line_step number read p).place)
 line_said number line None p said a r number_is is = saids_more said None (kept p.sections p.place) (kept p.sections p.place) a (λ k j n e. e)
-line_said number line (Some read) p said a r number_is is = statement_said number read.statement read.goal p.sections p.head_line p.place said a r.1 number_is is
+line_said number line (Some read) p said a r number_is is = statement_said number read.statement read.goal p.version p.sections p.head_line p.place said a r.1 number_is is
 
 lines_said : (number : ℕ) (p : Progress) (said : List (Option Statement)) (ls : List (List ℕ)) (reads : List (Option Read)) → AreSaid said (kept p.sections p.place) → LinesRead number p ls reads
     → number ≡ length said + 1 → situation_of p ≡ situation said → AreSaid (said ++ said_by reads) (kept (progress_from number p reads).sections (progress_from number p reads).place)
@@ -172,8 +180,8 @@ none_said k j n e = absurd cc
 
 -- ---- the whole text
 
-text_said : (text : List ℕ) (all : List Section) → HasSections text all → (k j n : ℕ) → at_place (map section_numbers all) k j ≡ Some n → ComesFrom text k j n
-text_said text all h k j n e =
+text_said : (text : List ℕ) (version : Version) (all : List Section) → HasSections text version all → (k j n : ℕ) → at_place (map section_numbers all) k j ≡ Some n → ComesFrom text k j n
+text_said text version all h k j n e =
     let reads = h.read.reads in
     let s = lines_said 1 outset [] (lines text) reads none_said h.read.are_read refl refl k j n
     (subst (λ (p : Progress). at_place (kept p.sections p.place) k j ≡ Some n) h.read.progress (subst (λ (x : List Section). at_place (map section_numbers x) k j ≡ Some n) h.sections_are e)) in
@@ -210,5 +218,5 @@ either : {X : Type 0} {N : Type 0} {S : X → Type 0} (o : Option X) → (o ≡ 
 either None none some = none refl
 either (Some x) none some = some x refl
 
-pub origins : (text : List ℕ) (all : List Section) (procedures : List Procedure) → HasSections text all → AreLinkedProcedures all procedures → AreOrigins text procedures (map section_numbers all)
-origins text all procedures h l k j = either (at_place (map section_numbers all) k j) (no_instr all procedures l k j) (text_said text all h k j)
+pub origins : (text : List ℕ) (version : Version) (all : List Section) (procedures : List Procedure) → HasSections text version all → AreLinkedProcedures all procedures → AreOrigins text procedures (map section_numbers all)
+origins text version all procedures h l k j = either (at_place (map section_numbers all) k j) (no_instr all procedures l k j) (text_said text version all h k j)

@@ -1,209 +1,265 @@
--- The reading of parameters.
-use Rattle.std.proofs.Common.{◌≡◌, ◌≢◌, ◌⊎◌, ℕ, suc, ◌<◌, ◌≤◌, Bool, true, false, cond, List, [], ◌∷◌, codes, Option, Some, None, inl, inr, Result, Ok, Err, refl, sym, ap, subst, ◌∙◌, arith}
+-- The reading of parameters, from the last word on.
+use Rattle.std.proofs.Common.{◌≡◌, suc, ◌≤◌, Bool, true, false, cond, List, [], ◌∷◌, ◌++◌, length, Option, Some, None, Result, Ok, Err, refl, sym, ap, subst, ◌∙◌, arith}
 use Rattle.std.specs.Prelude.{nat_lt}
-use Rattle.std.specs.List.{AllByRecursion}
+use Rattle.std.specs.List.{AllByRecursion, flat_map}
+use Rattle.std.proofs.lemmas.Bool.{ltb-true}
 use Rattle.std.proofs.lemmas.Bool.Decides.{nat_tests}
+use Rattle.tw_code.specs.declared.version.Version.{Version}
 use Rattle.tw_words.specs.Words.{Word, Bare}
-use Rattle.tw_asm.proofs.OperandWords.{Free, IsPieceOf, mode_read, other_bytes, piece_read, scalar_apart}
-use Rattle.tw_asm.proofs.Readings.{Reads, both_read, carried, likewise}
-use Rattle.tw_asm.proofs.Sequences.{nothing_after, nothing_before, put_first, regroup, together}
-use Rattle.tw_asm.specs.Parts.{mode_word, scalar_word}
+use Rattle.tw_asm.proofs.OperandWords.{Free, IsContainerOf, container_read, mode_read, scalar_read}
+use Rattle.tw_asm.proofs.Readings.{Reads, both_read, carried}
+use Rattle.tw_asm.proofs.Sequences.{IsShallow}
+use Rattle.tw_asm.proofs.TypeWords.{mode_no_container, mode_no_scalar, one_mode, one_type, words_of}
+use Rattle.tw_asm.specs.Parts.{container_word, mode_word, scalar_word}
+use Rattle.tw_asm.specs.Statement.{HasParam, HasType}
 use Rattle.tw_asm.specs.declared.refusal.Flaw.{Flaw}
 use Rattle.tw_asm.specs.declared.refusal.Flaw.TheVariants.{Form, Limit}
-use Rattle.tw_asm.specs.reading.Lines.{begins, broken, contains, deeper, goes_on, joined, nested_in, no_params, param_of, params_from}
-use Rattle.tw_asm.specs.reading.Operands.{as_is, both, mode_in, piece_in}
+use Rattle.tw_asm.specs.reading.Lines.{begins, contained, ended, ends, goes_on, param_of, params_from, put_first, taken, under}
+use Rattle.tw_asm.specs.reading.Operands.{as_is, both, container_in, mode_in, scalar_in}
+use Rattle.tw_types.specs.DataType.{container_of, depth_of, is_scalar}
+use Rattle.tw_types.specs.Nesting.{NestedScalar}
 use Rattle.tw_types.specs.declared.data_type.Scalar.{Scalar}
-use Rattle.tw_types.specs.declared.data_type.Scalar.TheVariants as scalar
 use Rattle.tw_types.specs.declared.param.Mode.{Mode}
 use Rattle.tw_types.specs.declared.param.Mode.TheVariants.{Val, Closed, Ref, Write}
 use Rattle.tw_types.specs.declared.param.Param.{Param}
 
--- ---- from the right
+abbrev pub param_words : Param → List Word
+param_words p = Bare (mode_word p.mode) ∷ words_of p.ty.containers p.ty.scalar
 
-abbrev pub under : {A : Type 0} → Mode → Result A Flaw → Result A Flaw
-under Val read = Err Form
-under Closed read = read
-under Ref read = read
-under Write read = read
-
-abbrev pub after_mode : {A : Type 0} → Result Mode Flaw → (Mode → Result A Flaw) → Result A Flaw
-after_mode (Ok mode) read = read mode
-after_mode (Err e) read = Err Form
-
-abbrev pub after_piece : Mode → ℕ → Result (Option Scalar) Flaw → Result (List Param) Flaw → Result (List Param) Flaw → Result (List Param) Flaw
-after_piece mode depth (Ok None) deep others = under mode deep
-after_piece mode depth (Ok (Some s)) deep others = put_first (as_is (param_of mode) (nested_in s depth)) others
-after_piece mode depth (Err e) deep others = Err Form
-
-abbrev pub params_right : Option (Mode × ℕ) → List Word → Result (List Param) Flaw
-params_right None [] = Ok []
-params_right (Some x) [] = Err Form
-params_right None (w ∷ ws) = after_mode (mode_in w) (λ mode. params_right (Some (mode, 0)) ws)
-params_right (Some x) (w ∷ ws) = after_piece x.0 x.1 (piece_in w) (params_right (Some (x.0, deeper x.1)) ws) (params_right None ws)
-
-form_first : (r : Result (List Param) Flaw) → together (Err Form) r ≡ Err Form
-form_first (Ok r) = refl
-form_first (Err Form) = refl
-form_first (Err Limit) = refl
-
-abbrev Same : List Word → Type 0
-Same ws = (s : Result (List Param) Flaw) (place : Option (Mode × ℕ)) → params_from (record { whole = s; begun = place }) ws ≡ together s (params_right place ws)
-
-breaks : (ws : List Word) → Same ws → params_from broken ws ≡ Err Form
-breaks ws same = same (Err Form) None ∙ form_first (params_right None ws)
-
-on_mode : (ws : List Word) → Same ws → (s : Result (List Param) Flaw) (m : Result Mode Flaw) → params_from (begins s m) ws ≡ together s (after_mode m (λ mode. params_right (Some (mode, 0)) ws))
-on_mode ws same s (Ok mode) = same s (Some (mode, 0))
-on_mode ws same s (Err e) = breaks ws same
-
-on_container : (ws : List Word) → Same ws → (s : Result (List Param) Flaw) (mode : Mode) (depth : ℕ) → params_from (contains s mode depth) ws ≡ together s (under mode (params_right (Some (mode, deeper depth)) ws))
-on_container ws same s Val depth = breaks ws same
-on_container ws same s Closed depth = same s (Some (Closed, deeper depth))
-on_container ws same s Ref depth = same s (Some (Ref, deeper depth))
-on_container ws same s Write depth = same s (Some (Write, deeper depth))
-
-on_piece : (ws : List Word) → Same ws → (s : Result (List Param) Flaw) (mode : Mode) (depth : ℕ) (p : Result (Option Scalar) Flaw)
-    → params_from (goes_on s mode depth p) ws ≡ together s (after_piece mode depth p (params_right (Some (mode, deeper depth)) ws) (params_right None ws))
-on_piece ws same s mode depth (Ok None) = on_container ws same s mode depth
-on_piece ws same s mode depth (Ok (Some sc)) = same (joined s (as_is (param_of mode) (nested_in sc depth))) None ∙ regroup s (as_is (param_of mode) (nested_in sc depth)) (params_right None ws)
-on_piece ws same s mode depth (Err e) = breaks ws same
-
-params_same : (ws : List Word) → Same ws
-params_same [] s None = nothing_after s
-params_same [] s (Some x) = refl
-params_same (w ∷ ws) s None = on_mode ws (params_same ws) s (mode_in w)
-params_same (w ∷ ws) s (Some x) = on_piece ws (params_same ws) s x.0 x.1 (piece_in w)
-
-pub params_are : (ws : List Word) → params_from no_params ws ≡ params_right None ws
-params_are ws = params_same ws (Ok []) None ∙ nothing_before (params_right None ws)
-
--- ---- what it reads
+-- these words are those of the parameters, which have their form
+abbrev pub AreParams : Version → List Word → List Param → Type 0
+AreParams version ws ps = (ws ≡ flat_map param_words ps) × AllByRecursion (HasParam version) ps
 
 abbrev pub IsShallowParam : Param → Type 0
-IsShallowParam p = p.ty.depth ≤ 3
+IsShallowParam p = IsShallow p.ty
 
--- the words of parameters, behind a mode and so many containers, or none
-abbrev pub HaveParams : Option (Mode × ℕ) → List Word → List Param → Type 0
-HaveParams None [] ps = ps ≡ []
-HaveParams (Some x) [] ps = ⊥
-HaveParams None (w ∷ ws) ps = (mode : Mode) × (w ≡ Bare (mode_word mode)) × HaveParams (Some (mode, 0)) ws ps
-HaveParams (Some x) (w ∷ ws) ps =
-    ((w ≡ Bare (codes "cont")) × (x.0 ≢ Val) × HaveParams (Some (x.0, suc x.1)) ws ps)
-    ⊎ ((s : Scalar) × (rest : List Param) × (w ≡ Bare (scalar_word s)) × (ps ≡ param_of x.0 (record { depth = x.1; scalar = s }) ∷ rest) × HaveParams None ws rest)
+first_is : {A : Type 0} (v w : A) (x y : List A) → v ∷ x ≡ w ∷ y → v ≡ w
+first_is v w x y e = cc
 
--- as the reader counts containers
-abbrev IsCounted : ℕ → ℕ → Type 0
-IsCounted k depth = ((k ≡ depth) × (depth ≤ 3)) ⊎ ((k ≡ 4) × (4 ≤ depth))
+rest_is : {A : Type 0} (v w : A) (x y : List A) → v ∷ x ≡ w ∷ y → x ≡ y
+rest_is v w x y e = cc
 
-counted : (k depth : ℕ) → IsCounted k depth → IsCounted (deeper k) (suc depth)
-counted k depth (inl h) = by (nat_lt depth 3) refl
-  where
-    small : k < 4 → deeper k ≡ suc depth
-    small g = grind (arith, nat_tests)
+no_first : {A : Type 0} (v : A) (x : List A) → v ∷ x ≡ [] → ⊥
+no_first v x e = cc
 
-    by : (t : Bool) → nat_lt depth 3 ≡ t → IsCounted (deeper k) (suc depth)
-    by true e = inl (small (omega arith), grind (arith, nat_tests))
-    by false e = inr (grind (arith, nat_tests), grind (arith, nat_tests))
-counted k depth (inr h) = inr (grind (arith, nat_tests), omega arith)
+abbrev with_parts : Mode → NestedScalar → List Param → List Param
+with_parts mode ty ps = param_of mode ty ∷ ps
 
-item_read : (mode : Mode) (k depth : ℕ) (s : Scalar) → IsCounted k depth → Reads (λ p. p ≡ param_of mode (record { depth = depth; scalar = s })) IsShallowParam (as_is (param_of mode) (nested_in s k))
-item_read mode k depth s (inl h) = by (nat_lt 3 k) refl
-  where
-    by : (t : Bool) → nat_lt 3 k ≡ t → Reads (λ p. p ≡ param_of mode (record { depth = depth; scalar = s })) IsShallowParam (as_is (param_of mode) (cond t (Err Limit) (Ok (record { depth = k; scalar = s }))))
-    by true e = absurd (grind (arith, nat_tests))
-    by false e = (ap (λ (d : ℕ). param_of mode (record { depth = d; scalar = s })) h.0, omega arith)
-item_read mode k depth s (inr h) = by (nat_lt 3 k) refl
-  where
-    by : (t : Bool) → nat_lt 3 k ≡ t → Reads (λ p. p ≡ param_of mode (record { depth = depth; scalar = s })) IsShallowParam (as_is (param_of mode) (cond t (Err Limit) (Ok (record { depth = k; scalar = s }))))
-    by true e = ((param_of mode (record { depth = depth; scalar = s }), refl), λ p is m. absurd (omega (arith, h.1, subst IsShallowParam is m)))
-    by false e = absurd (grind (arith, nat_tests))
+-- ---- words are of one list of parameters
 
-pub one_scalar : (a b : Scalar) → Bare (scalar_word a) ≡ Bare (scalar_word b) → a ≡ b
-one_scalar scalar.Int scalar.Int e = refl
-one_scalar scalar.Int scalar.Text e = absurd (other_bytes (codes "int") (codes "text") refl e)
-one_scalar scalar.Text scalar.Int e = absurd (other_bytes (codes "text") (codes "int") refl e)
-one_scalar scalar.Text scalar.Text e = refl
+pub one_params : (ps qs : List Param) → flat_map param_words ps ≡ flat_map param_words qs → ps ≡ qs
+one_params [] [] e = refl
+one_params [] (q ∷ qs) e = absurd (no_first (Bare (mode_word q.mode)) (words_of q.ty.containers q.ty.scalar ++ flat_map param_words qs) (sym e))
+one_params (p ∷ ps) [] e = absurd (no_first (Bare (mode_word p.mode)) (words_of p.ty.containers p.ty.scalar ++ flat_map param_words ps) e)
+one_params (p ∷ ps) (q ∷ qs) e =
+    let x = words_of p.ty.containers p.ty.scalar ++ flat_map param_words ps in
+    let y = words_of q.ty.containers q.ty.scalar ++ flat_map param_words qs in
+    let mode = one_mode p.mode q.mode (first_is (Bare (mode_word p.mode)) (Bare (mode_word q.mode)) x y e) in
+    let ty = one_type p.ty q.ty (flat_map param_words ps) (flat_map param_words qs) (rest_is (Bare (mode_word p.mode)) (Bare (mode_word q.mode)) x y e) in
+    ap (λ (m : Mode). with_parts m p.ty ps) mode ∙ (ap (λ (t : NestedScalar). with_parts q.mode t ps) ty.0 ∙ ap (λ (os : List Param). q ∷ os) (one_params ps qs ty.1))
 
-pub one_mode : (a b : Mode) → Bare (mode_word a) ≡ Bare (mode_word b) → a ≡ b
-one_mode Val Val e = refl
-one_mode Val Closed e = absurd (other_bytes (codes "val") (codes "closed") refl e)
-one_mode Val Ref e = absurd (other_bytes (codes "val") (codes "ref") refl e)
-one_mode Val Write e = absurd (other_bytes (codes "val") (codes "write") refl e)
-one_mode Closed Val e = absurd (other_bytes (codes "closed") (codes "val") refl e)
-one_mode Closed Closed e = refl
-one_mode Closed Ref e = absurd (other_bytes (codes "closed") (codes "ref") refl e)
-one_mode Closed Write e = absurd (other_bytes (codes "closed") (codes "write") refl e)
-one_mode Ref Val e = absurd (other_bytes (codes "ref") (codes "val") refl e)
-one_mode Ref Closed e = absurd (other_bytes (codes "ref") (codes "closed") refl e)
-one_mode Ref Ref e = refl
-one_mode Ref Write e = absurd (other_bytes (codes "ref") (codes "write") refl e)
-one_mode Write Val e = absurd (other_bytes (codes "write") (codes "val") refl e)
-one_mode Write Closed e = absurd (other_bytes (codes "write") (codes "closed") refl e)
-one_mode Write Ref e = absurd (other_bytes (codes "write") (codes "ref") refl e)
-one_mode Write Write e = refl
+-- ---- what is kept of the words so far
 
-abbrev ReadsParams : Option (Mode × ℕ) → List Word → Result (List Param) Flaw → Type 0
-ReadsParams place ws r = Reads (HaveParams place ws) (AllByRecursion IsShallowParam) r
+-- the type, if it isn't too deep
+abbrev limited : NestedScalar → Result NestedScalar Flaw
+limited ty = cond (nat_lt 3 (depth_of ty)) (Err Limit) (Ok ty)
 
-by_mode : (w : Word) (ws : List Word) (m : Result Mode Flaw) → Reads (λ mode. w ≡ Bare (mode_word mode)) Free m → (read : Mode → Result (List Param) Flaw) → ((mode : Mode) → ReadsParams (Some (mode, 0)) ws (read mode))
-    → ReadsParams None (w ∷ ws) (after_mode m read)
-by_mode w ws (Ok mode) h read rec =
-    likewise (HaveParams (Some (mode, 0)) ws) (AllByRecursion IsShallowParam) (HaveParams None (w ∷ ws)) (AllByRecursion IsShallowParam)
-    (λ ps k. (mode, h.0, k)) (λ ps k. subst (λ (m : Mode). HaveParams (Some (m, 0)) ws ps) (one_mode k.0 mode (sym k.1 ∙ h.0)) k.2) (λ ps k m. m) (λ ps k m. m) (read mode) (rec mode)
-by_mode w ws (Err Form) h read rec = λ ps k. h k.0 k.1
-by_mode w ws (Err Limit) h read rec = absurd (h.1 h.0.0 h.0.1 tt)
+-- no type that the version has stands before whole parameters
+abbrev NoType : Version → List Word → Type 0
+NoType version ws = (ty : NestedScalar) (rest : List Word) (ps : List Param) → ws ≡ words_of ty.containers ty.scalar ++ rest → HasType version ty → AreParams version rest ps → ⊥
 
-by_container : (w : Word) (ws : List Word) (mode : Mode) (depth : ℕ) → w ≡ Bare (codes "cont") → (deep : Result (List Param) Flaw) → ReadsParams (Some (mode, suc depth)) ws deep → ReadsParams (Some (mode, depth)) (w ∷ ws) (under mode deep)
-by_container w ws mode depth is deep h = by mode h
-  where
-    no_scalar : (s : Scalar) → w ≡ Bare (scalar_word s) → ⊥
-    no_scalar s e = scalar_apart s (sym e ∙ is)
+abbrev ReadsParams : Version → List Word → Result (List Param) Flaw → Type 0
+ReadsParams version ws whole = Reads (AreParams version ws) (AllByRecursion IsShallowParam) whole
 
-    back : (m : Mode) (ps : List Param) → HaveParams (Some (m, depth)) (w ∷ ws) ps → (m ≢ Val) × HaveParams (Some (m, suc depth)) ws ps
-    back m ps (inl k) = (k.1, k.2)
-    back m ps (inr k) = absurd (no_scalar k.0 k.2)
+-- a type, and the words behind it
+record IsBegun (version : Version) (ws : List Word) (whole : Result (List Param) Flaw) (read : Result NestedScalar Flaw) : Type 0 where
+  ty : NestedScalar
+  rest : List Word
+  words : ws ≡ words_of ty.containers ty.scalar ++ rest
+  had : HasType version ty
+  read_is : read ≡ limited ty
+  behind : ReadsParams version rest whole
 
-    held : (m : Mode) → m ≢ Val → ReadsParams (Some (m, suc depth)) ws deep → ReadsParams (Some (m, depth)) (w ∷ ws) deep
-    held m isnt h =
-        likewise (HaveParams (Some (m, suc depth)) ws) (AllByRecursion IsShallowParam) (HaveParams (Some (m, depth)) (w ∷ ws)) (AllByRecursion IsShallowParam)
-        (λ ps k. inl (is, isnt, k)) (λ ps k. (back m ps k).1) (λ ps k m. m) (λ ps k m. m) deep h
+abbrev IsKept : Version → List Word → Result (List Param) Flaw → Option (Result NestedScalar Flaw) → Type 0
+IsKept version ws whole None = ReadsParams version ws whole × NoType version ws
+IsKept version ws whole (Some read) = IsBegun version ws whole read
 
-    by : (m : Mode) → ReadsParams (Some (m, suc depth)) ws deep → ReadsParams (Some (m, depth)) (w ∷ ws) (under m deep)
-    by Val h = λ ps k. (back Val ps k).0 refl
-    by Closed h = held Closed (λ e. cc) h
-    by Ref h = held Ref (λ e. cc) h
-    by Write h = held Write (λ e. cc) h
+module _ (version : Version) where
+  -- words that begin with a type are no parameters
+  no_params_there : (ty : NestedScalar) (ws rest : List Word) (ps : List Param) → ws ≡ words_of ty.containers ty.scalar ++ rest → ws ≡ flat_map param_words ps → ⊥
+  no_params_there ty ws rest ps e f = by ty.containers ps (sym e ∙ f)
+    where
+      by : (cs : List Scalar) (qs : List Param) → words_of cs ty.scalar ++ rest ≡ flat_map param_words qs → ⊥
+      by [] [] e = no_first (Bare (scalar_word ty.scalar)) rest e
+      by (c ∷ cs) [] e = no_first (Bare (container_word c)) (words_of cs ty.scalar ++ rest) e
+      by [] (q ∷ qs) e =
+          mode_no_scalar q.mode ty.scalar (sym (first_is (Bare (scalar_word ty.scalar)) (Bare (mode_word q.mode)) rest (words_of q.ty.containers q.ty.scalar ++ flat_map param_words qs) e))
+      by (c ∷ cs) (q ∷ qs) e =
+          mode_no_container q.mode c (sym (first_is (Bare (container_word c)) (Bare (mode_word q.mode)) (words_of cs ty.scalar ++ rest) (words_of q.ty.containers q.ty.scalar ++ flat_map param_words qs) e))
 
-by_scalar : (w : Word) (ws : List Word) (mode : Mode) (k depth : ℕ) (s : Scalar) → IsCounted k depth → w ≡ Bare (scalar_word s) → (others : Result (List Param) Flaw) → ReadsParams None ws others
-    → ReadsParams (Some (mode, depth)) (w ∷ ws) (put_first (as_is (param_of mode) (nested_in s k)) others)
-by_scalar w ws mode k depth s count is others h =
-    carried (λ x. x.0 ∷ x.1) (λ x. (x.0 ≡ param_of mode (record { depth = depth; scalar = s })) × HaveParams None ws x.1) (λ x. IsShallowParam x.0 × AllByRecursion IsShallowParam x.1)
-    (HaveParams (Some (mode, depth)) (w ∷ ws)) (AllByRecursion IsShallowParam)
-    (λ x h. inr (s, x.1, is, ap (λ (p : Param). p ∷ x.1) h.0, h.1)) back (λ x h m. m) (λ x h m. m) (both (as_is (param_of mode) (nested_in s k)) others)
-    (both_read (λ p. p ≡ param_of mode (record { depth = depth; scalar = s })) IsShallowParam (HaveParams None ws) (AllByRecursion IsShallowParam) (as_is (param_of mode) (nested_in s k)) others (item_read mode k depth s count) h)
-  where
-    back : (ps : List Param) → HaveParams (Some (mode, depth)) (w ∷ ws) ps → (x : Param × List Param) × ((x.0 ≡ param_of mode (record { depth = depth; scalar = s })) × HaveParams None ws x.1) × (ps ≡ x.0 ∷ x.1)
-    back ps (inl k) = absurd (scalar_apart s (sym is ∙ k.0))
-    back ps (inr (t, rest, e, cut, k)) = ((param_of mode (record { depth = depth; scalar = t }), rest), (ap (λ (c : Scalar). param_of mode (record { depth = depth; scalar = c })) (one_scalar t s (sym e ∙ is)), k), cut)
+  -- a mode stands before a type
+  mode_before : (w : Word) (ws : List Word) (ps : List Param) → w ∷ ws ≡ flat_map param_words ps → (p : Param) × (others : List Param) × (ps ≡ p ∷ others) × (w ≡ Bare (mode_word p.mode)) × (ws ≡ words_of p.ty.containers p.ty.scalar ++ flat_map param_words others)
+  mode_before w ws [] e = absurd (no_first w ws e)
+  mode_before w ws (p ∷ others) e =
+      let x = words_of p.ty.containers p.ty.scalar ++ flat_map param_words others in
+      (p, others, refl, first_is w (Bare (mode_word p.mode)) ws x e, rest_is w (Bare (mode_word p.mode)) ws x e)
 
-by_piece : (w : Word) (ws : List Word) (mode : Mode) (k depth : ℕ) → IsCounted k depth → (p : Result (Option Scalar) Flaw) → Reads (IsPieceOf w) Free p → (deep others : Result (List Param) Flaw)
-    → ReadsParams (Some (mode, suc depth)) ws deep → ReadsParams None ws others → ReadsParams (Some (mode, depth)) (w ∷ ws) (after_piece mode k p deep others)
-by_piece w ws mode k depth count (Ok None) h deep others d o = by_container w ws mode depth h.0 deep d
-by_piece w ws mode k depth count (Ok (Some s)) h deep others d o = by_scalar w ws mode k depth s count h.0 others o
-by_piece w ws mode k depth count (Err Form) h deep others d o = λ ps g. none ps g
-  where
-    none : (ps : List Param) → HaveParams (Some (mode, depth)) (w ∷ ws) ps → ⊥
-    none ps (inl g) = h None g.0
-    none ps (inr g) = h (Some g.0) g.2
-by_piece w ws mode k depth count (Err Limit) h deep others d o = absurd (h.1 h.0.0 h.0.1 tt)
+  had_all : (p : Param) (others ps : List Param) → ps ≡ p ∷ others → AllByRecursion (HasParam version) ps → HasParam version p × AllByRecursion (HasParam version) others
+  had_all p others ps e h = subst (AllByRecursion (HasParam version)) e h
 
-right_read : (ws : List Word) (mode : Mode) (k depth : ℕ) → IsCounted k depth → ReadsParams None ws (params_right None ws) × ReadsParams (Some (mode, depth)) ws (params_right (Some (mode, k)) ws)
-right_read [] mode k depth count = ((refl, tt), λ ps h. h)
-right_read (w ∷ ws) mode k depth count = (
-  by_mode w ws (mode_in w) (mode_read w) (λ m. params_right (Some (m, 0)) ws) (λ m. (right_read ws m 0 0 (inl (refl, omega arith))).1),
-  by_piece w ws mode k depth count (piece_in w) (piece_read w) (params_right (Some (mode, deeper k)) ws) (params_right None ws)
-      (right_read ws mode (deeper k) (suc depth) (counted k depth count)).1 (right_read ws mode k depth count).0,
-)
+  -- a word before parameters that is no scalar
+  module _ (w : Word) (ws : List Word) (none : NoType version ws) (no_scalar : (s : Scalar) → w ≡ Bare (scalar_word s) → ⊥) where
+    no_whole : (ps : List Param) → AreParams version (w ∷ ws) ps → ⊥
+    no_whole ps (e, h) =
+        let m = mode_before w ws ps e in
+        let forms = had_all m.0 m.1 ps m.2 h in
+        none m.0.ty (flat_map param_words m.1) m.1 m.4 forms.0.1 (refl, forms.1)
 
-pub params_read : (ws : List Word) → Reads (HaveParams None ws) (AllByRecursion IsShallowParam) (params_from no_params ws)
-params_read ws = subst (Reads (HaveParams None ws) (AllByRecursion IsShallowParam)) (sym (params_are ws)) (right_read ws Val 0 0 (inl (refl, omega arith))).0
+    no_type : NoType version (w ∷ ws)
+    no_type ty rest ps e had are = by ty.containers e had
+      where
+        by : (cs : List Scalar) → w ∷ ws ≡ words_of cs ty.scalar ++ rest → HasType version (record { containers = cs; scalar = ty.scalar }) → ⊥
+        by [] e had = no_scalar ty.scalar (first_is w (Bare (scalar_word ty.scalar)) ws rest e)
+        by (c ∷ cs) e had = none (record { containers = cs; scalar = ty.scalar }) rest ps (rest_is w (Bare (container_word c)) ws (words_of cs ty.scalar ++ rest) e) had.1 are
+
+  begins_kept : (w : Word) (ws : List Word) (whole : Result (List Param) Flaw) → IsKept version ws whole None → (r : Result Scalar Flaw) → Reads (λ s. w ≡ Bare (scalar_word s)) Free r
+      → IsKept version (w ∷ ws) (begins whole r).whole (begins whole r).begun
+  begins_kept w ws whole kept (Ok s) h = record { ty = record { containers = []; scalar = s }; rest = ws; words = ap (λ (v : Word). v ∷ ws) h.0; had = tt; read_is = refl; behind = kept.0 }
+  begins_kept w ws whole kept (Err Form) h = (no_whole w ws kept.1 h, no_type w ws kept.1 h)
+  begins_kept w ws whole kept (Err Limit) h = absurd (h.1 h.0.0 h.0.1 tt)
+
+  -- ---- a mode
+
+  item_read : (mode : Mode) (ty : NestedScalar) → HasType version ty → Reads (λ p. (p ≡ param_of mode ty) × HasParam version p) IsShallowParam (as_is (param_of mode) (under mode (limited ty)))
+  item_read mode ty had = by (nat_lt 3 (depth_of ty)) refl mode
+    where
+      low : nat_lt 3 (depth_of ty) ≡ false → depth_of ty ≤ 3
+      low e = grind (arith, nat_tests)
+
+      too_deep : nat_lt 3 (depth_of ty) ≡ true → (m : Mode) (p : Param) → p ≡ param_of m ty → IsShallowParam p → ⊥
+      too_deep e m p is shallow = absurd (omega (arith, ltb-true 3 (depth_of ty) e, subst IsShallowParam is shallow))
+
+      no_container : is_scalar ty ≡ false → (p : Param) → p ≡ param_of Val ty → HasParam version p → ⊥
+      no_container e p is h = apart (sym e ∙ (subst (HasParam version) is h).0)
+        where
+          apart : false ≡ true → ⊥
+          apart e = cc
+
+      flat : (s : Bool) → is_scalar ty ≡ s → nat_lt 3 (depth_of ty) ≡ false → Reads (λ p. (p ≡ param_of Val ty) × HasParam version p) IsShallowParam (as_is (param_of Val) (cond s (Ok ty) (Err Form)))
+      flat true is e = ((refl, (is, had)), low e)
+      flat false is e = λ p h. no_container is p h.0 h.1
+
+      deep_no_scalar : nat_lt 3 (depth_of ty) ≡ true → is_scalar ty ≡ false
+      deep_no_scalar e = each ty.containers e
+        where
+          each : (cs : List Scalar) → nat_lt 3 (length cs) ≡ true → is_scalar (record { containers = cs; scalar = ty.scalar }) ≡ false
+          each [] e = absurd cc
+          each (c ∷ cs) e = refl
+
+      by : (t : Bool) → nat_lt 3 (depth_of ty) ≡ t → (m : Mode) → Reads (λ p. (p ≡ param_of m ty) × HasParam version p) IsShallowParam (as_is (param_of m) (under m (cond t (Err Limit) (Ok ty))))
+      by true e Val = λ p h. no_container (deep_no_scalar e) p h.0 h.1
+      by true e Closed = ((param_of Closed ty, (refl, (tt, had))), λ p h m. too_deep e Closed p h.0 m)
+      by true e Ref = ((param_of Ref ty, (refl, (tt, had))), λ p h m. too_deep e Ref p h.0 m)
+      by true e Write = ((param_of Write ty, (refl, (tt, had))), λ p h m. too_deep e Write p h.0 m)
+      by false e Val = flat (is_scalar ty) refl e
+      by false e Closed = ((refl, (tt, had)), low e)
+      by false e Ref = ((refl, (tt, had)), low e)
+      by false e Write = ((refl, (tt, had)), low e)
+
+  module _ (w : Word) (ws : List Word) (whole : Result (List Param) Flaw) (read : Result NestedScalar Flaw) (b : IsBegun version ws whole read) where
+    abbrev HasFirst : Mode → Param × List Param → Type 0
+    HasFirst mode x = ((x.0 ≡ param_of mode b.ty) × HasParam version x.0) × AreParams version b.rest x.1
+
+    first_to : (mode : Mode) → w ≡ Bare (mode_word mode) → (x : Param × List Param) → HasFirst mode x → AreParams version (w ∷ ws) (x.0 ∷ x.1)
+    first_to mode is x h =
+        let whole : w ∷ ws ≡ Bare (mode_word mode) ∷ (words_of b.ty.containers b.ty.scalar ++ flat_map param_words x.1) =
+        ap (λ (v : Word). v ∷ ws) is ∙ ap (λ (vs : List Word). Bare (mode_word mode) ∷ vs) (b.words ∙ ap (λ (vs : List Word). words_of b.ty.containers b.ty.scalar ++ vs) h.1.0) in
+        (whole ∙ ap (λ (p : Param). param_words p ++ flat_map param_words x.1) (sym h.0.0), (h.0.1, h.1.1))
+
+    first_back : (mode : Mode) → w ≡ Bare (mode_word mode) → (ps : List Param) → AreParams version (w ∷ ws) ps → (x : Param × List Param) × HasFirst mode x × (ps ≡ x.0 ∷ x.1)
+    first_back mode is ps (e, h) =
+        let m = mode_before w ws ps e in
+        let forms = had_all m.0 m.1 ps m.2 h in
+        let modes = one_mode m.0.mode mode (sym m.3 ∙ is) in
+        let types = one_type m.0.ty b.ty (flat_map param_words m.1) b.rest (sym m.4 ∙ b.words) in
+        let first : m.0 ≡ param_of mode b.ty = ap (λ (k : Mode). param_of k m.0.ty) modes ∙ ap (param_of mode) types.0 in
+        ((m.0, m.1), ((first, forms.0), (sym types.1, forms.1)), m.2)
+
+    no_type_before : (mode : Mode) → w ≡ Bare (mode_word mode) → NoType version (w ∷ ws)
+    no_type_before mode is ty rest ps e had are = by ty.containers e
+      where
+        by : (cs : List Scalar) → w ∷ ws ≡ words_of cs ty.scalar ++ rest → ⊥
+        by [] e = mode_no_scalar mode ty.scalar (sym is ∙ first_is w (Bare (scalar_word ty.scalar)) ws rest e)
+        by (c ∷ cs) e = mode_no_container mode c (sym is ∙ first_is w (Bare (container_word c)) ws (words_of cs ty.scalar ++ rest) e)
+
+    -- neither a container nor a mode
+    module _ (no_container : (by : Scalar) → IsContainerOf version w by → ⊥) (no_mode : (mode : Mode) → w ≡ Bare (mode_word mode) → ⊥) where
+      no_more : (ps : List Param) → AreParams version (w ∷ ws) ps → ⊥
+      no_more ps (e, h) = let m = mode_before w ws ps e in no_mode m.0.mode m.3
+
+      no_more_type : NoType version (w ∷ ws)
+      no_more_type ty rest ps e had are = by ty.containers e had
+        where
+          by : (cs : List Scalar) → w ∷ ws ≡ words_of cs ty.scalar ++ rest → HasType version (record { containers = cs; scalar = ty.scalar }) → ⊥
+          by [] e had = no_params_there b.ty ws b.rest ps b.words (rest_is w (Bare (scalar_word ty.scalar)) ws rest e ∙ are.0)
+          by (c ∷ cs) e had = no_container c (first_is w (Bare (container_word c)) ws (words_of cs ty.scalar ++ rest) e, had.0)
+
+    ends_kept : ((by : Scalar) → IsContainerOf version w by → ⊥) → (r : Result Mode Flaw) → Reads (λ mode. w ≡ Bare (mode_word mode)) Free r → IsKept version (w ∷ ws) (ends whole read r).whole (ends whole read r).begun
+    ends_kept no_container (Ok mode) h = (
+      subst (λ (t : Result NestedScalar Flaw). ReadsParams version (w ∷ ws) (put_first (as_is (param_of mode) (under mode t)) whole)) (sym b.read_is)
+          (carried (λ x. x.0 ∷ x.1) (HasFirst mode) (λ x. IsShallowParam x.0 × AllByRecursion IsShallowParam x.1) (AreParams version (w ∷ ws)) (AllByRecursion IsShallowParam)
+          (first_to mode h.0) (first_back mode h.0) (λ x k m. m) (λ x k m. m) (both (as_is (param_of mode) (under mode (limited b.ty))) whole)
+          (both_read (λ p. (p ≡ param_of mode b.ty) × HasParam version p) IsShallowParam (AreParams version b.rest) (AllByRecursion IsShallowParam) (as_is (param_of mode) (under mode (limited b.ty))) whole
+          (item_read mode b.ty b.had) b.behind)),
+      no_type_before mode h.0,
+    )
+    ends_kept no_container (Err Form) h = (no_more no_container h, no_more_type no_container h)
+    ends_kept no_container (Err Limit) h = absurd (h.1 h.0.0 h.0.1 tt)
+
+    -- ---- a container
+
+    deeper : (by : Scalar) (ty : NestedScalar) → contained (Ok by) (limited ty) ≡ limited (container_of by ty)
+    deeper by ty = each (nat_lt 3 (depth_of ty)) (nat_lt (depth_of ty) 3) (nat_lt 3 (suc (depth_of ty))) refl refl refl
+      where
+        each : (a c d : Bool) → nat_lt 3 (depth_of ty) ≡ a → nat_lt (depth_of ty) 3 ≡ c → nat_lt 3 (suc (depth_of ty)) ≡ d → contained (Ok by) (cond a (Err Limit) (Ok ty)) ≡ cond d (Err Limit) (Ok (container_of by ty))
+        each true c true e f g = refl
+        each true c false e f g = absurd (grind (arith, nat_tests))
+        each false true true e f g = absurd (grind (arith, nat_tests))
+        each false true false e f g = ap (λ (t : Bool). cond t (Ok (container_of by ty)) (Err Limit)) f
+        each false false true e f g = ap (λ (t : Bool). cond t (Ok (container_of by ty)) (Err Limit)) f
+        each false false false e f g = absurd (grind (arith, nat_tests))
+
+    goes_on_kept : (r : Result Scalar Flaw) → Reads (IsContainerOf version w) Free r → (m : Result Mode Flaw) → Reads (λ mode. w ≡ Bare (mode_word mode)) Free m
+        → IsKept version (w ∷ ws) (goes_on whole read r m).whole (goes_on whole read r m).begun
+    goes_on_kept (Ok by) h m k = record {
+      ty = container_of by b.ty;
+      rest = b.rest;
+      words = ap (λ (v : Word). v ∷ ws) h.0.0 ∙ ap (λ (vs : List Word). Bare (container_word by) ∷ vs) b.words;
+      had = (h.0.1, b.had);
+      read_is = ap (contained (Ok by)) b.read_is ∙ deeper by b.ty;
+      behind = b.behind;
+    }
+    goes_on_kept (Err Form) h m k = ends_kept h m k
+    goes_on_kept (Err Limit) h m k = absurd (h.1 h.0.0 h.0.1 tt)
+
+  -- ---- all words
+
+  kept : (ws : List Word) → IsKept version ws (params_from version ws).whole (params_from version ws).begun
+  kept [] = (((refl, tt), tt), λ ty rest ps e had are. none ty.containers ty.scalar rest e)
+    where
+      none : (cs : List Scalar) (s : Scalar) (rest : List Word) → [] ≡ words_of cs s ++ rest → ⊥
+      none [] s rest e = cc
+      none (c ∷ cs) s rest e = cc
+  kept (w ∷ ws) = by (params_from version ws).whole (params_from version ws).begun (kept ws)
+    where
+      by : (whole : Result (List Param) Flaw) (begun : Option (Result NestedScalar Flaw)) → IsKept version ws whole begun
+          → IsKept version (w ∷ ws) (taken version w (record { whole = whole; begun = begun })).whole (taken version w (record { whole = whole; begun = begun })).begun
+      by whole None k = begins_kept w ws whole k (scalar_in w) (scalar_read w)
+      by whole (Some read) k = goes_on_kept w ws whole read k (container_in version w) (container_read version w) (mode_in w) (mode_read w)
+
+  pub params_read : (ws : List Word) → ReadsParams version ws (ended (params_from version ws))
+  params_read ws = by (params_from version ws).whole (params_from version ws).begun (kept ws)
+    where
+      by : (whole : Result (List Param) Flaw) (begun : Option (Result NestedScalar Flaw)) → IsKept version ws whole begun → ReadsParams version ws (ended (record { whole = whole; begun = begun }))
+      by whole None k = k.0
+      by whole (Some read) k = λ ps are. no_params_there k.ty ws k.rest ps k.words are.0

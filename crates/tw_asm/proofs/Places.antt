@@ -8,8 +8,7 @@ use Rattle.std.proofs.lemmas.List.Elements.{All-from_recursion}
 use Rattle.std.proofs.lemmas.List.Quantifiers.{position-Some}
 use Rattle.tw_code.specs.declared.instr.Instr.{Instr}
 use Rattle.tw_code.specs.declared.procedure.Procedure.{Procedure}
-use Rattle.tw_code.specs.declared.version.Version.TheVariants.{One}
-use Rattle.tw_code.specs.format.Program.{IsProcedureOf}
+use Rattle.tw_code.specs.format.Program.{IsProcedure}
 use Rattle.tw_asm.specs.Parts.{skip_of}
 use Rattle.tw_asm.specs.Disassembly.{first_ones, goal_from, goals_from, label_at, label_places}
 
@@ -83,7 +82,7 @@ label_within code place number e =
     let all = kept_once (λ goal. goal ≤ length code) (filter (λ goal. not (nat_lt (length code) goal)) (goals_from 0 code)) near in
     subst (λ (p : ℕ). p ≤ length code) h.1 (All-from_recursion (λ goal. goal ≤ length code) (label_places code) all number 0 h.0)
 
-pub numbered : (p : Procedure) → IsProcedureOf One p → AreNumbered (label_places p.code)
+pub numbered : (p : Procedure) → IsProcedure p → AreNumbered (label_places p.code)
 numbered p h place number e =
     let at = (label_is (label_places p.code) place number e).0 in
     let most = h.code.0.1 in

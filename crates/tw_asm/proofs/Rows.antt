@@ -4,6 +4,7 @@ use Rattle.std.proofs.Common.{◌≡◌, ◌==◌, ◌⊎◌, inl, inr, ℕ, zer
 use Rattle.std.specs.Prelude.{◌&&◌, if◌then◌else◌}
 use Rattle.std.proofs.lemmas.Bool.{eqb-true}
 use Rattle.tw_code.specs.declared.instr.Action.{Action}
+use Rattle.tw_code.specs.declared.instr.Arithmetic.{Arithmetic}
 use Rattle.tw_code.specs.declared.instr.Arithmetic.TheVariants.{Add, Subtract, Multiply, Divide, Remainder}
 use Rattle.tw_code.specs.declared.instr.DataInstr.{DataInstr}
 use Rattle.tw_code.specs.declared.instr.DataInstr.TheVariants as on_data
@@ -13,11 +14,11 @@ use Rattle.tw_code.specs.declared.instr.LocalInstr.{LocalInstr}
 use Rattle.tw_code.specs.declared.instr.LocalInstr.TheVariants as local
 use Rattle.tw_code.specs.declared.instr.Priority.{Priority}
 use Rattle.tw_code.specs.declared.instr.Priority.TheVariants.{Constant, Computed}
+use Rattle.tw_types.specs.DataType.{scalar_type}
 use Rattle.tw_types.specs.Nesting.{NestedScalar}
-use Rattle.tw_types.specs.declared.data_type.Scalar.TheVariants.{Int}
+use Rattle.tw_types.specs.declared.data_type.Scalar.TheVariants.{Int, Text}
 use Rattle.tw_asm.specs.Parts.{Part, Name, Value, Right, Number, Natural, Literal, TypeOf, Skip, Target, instr_parts}
 use Rattle.tw_asm.specs.Seen.{with_skip}
-use Rattle.tw_asm.specs.Statement.{HasWords}
 
 -- ---- a word among names
 
@@ -92,7 +93,7 @@ text part = []
 
 abbrev type_in : Part → NestedScalar
 type_in (TypeOf ty) = ty
-type_in part = record { depth = 0; scalar = Int }
+type_in part = scalar_type Int
 
 abbrev target_in : Part → Option ℕ
 target_in (Target target) = target
@@ -144,10 +145,10 @@ rows =
     record { name = codes "NEW"; sorts = 2 ∷ 2 ∷ 6 ∷ []; make = λ parts. instr.Data (on_data.New (size (at parts 0)) (size (at parts 1)) (type_in (at parts 2))) } ∷
     record { name = codes "STORE"; sorts = 2 ∷ 1 ∷ []; make = λ parts. instr.Data (on_data.Store (size (at parts 0)) (size (at parts 1))) } ∷
     record { name = codes "GET"; sorts = 1 ∷ 2 ∷ []; make = λ parts. instr.Data (on_data.Get (size (at parts 0)) (size (at parts 1))) } ∷
-    record { name = codes "INS"; sorts = 2 ∷ 1 ∷ 2 ∷ 7 ∷ []; make = λ parts. instr.Data (on_data.Insert (size (at parts 0)) (size (at parts 1)) (size (at parts 2)) (size (at parts 3))) } ∷
-    record { name = codes "LOOK"; sorts = 2 ∷ 2 ∷ 1 ∷ 7 ∷ []; make = λ parts. instr.Data (on_data.Look (size (at parts 0)) (size (at parts 1)) (size (at parts 2)) (size (at parts 3))) } ∷
+    record { name = codes "INS"; sorts = 2 ∷ 1 ∷ 2 ∷ 7 ∷ []; make = λ parts. instr.Data (on_data.Insert Int (size (at parts 0)) (size (at parts 1)) (size (at parts 2)) (size (at parts 3))) } ∷
+    record { name = codes "LOOK"; sorts = 2 ∷ 2 ∷ 1 ∷ 7 ∷ []; make = λ parts. instr.Data (on_data.Look Int (size (at parts 0)) (size (at parts 1)) (size (at parts 2)) (size (at parts 3))) } ∷
     record { name = codes "SIZE"; sorts = 1 ∷ 2 ∷ []; make = λ parts. instr.Data (on_data.Size (size (at parts 0)) (size (at parts 1))) } ∷
-    record { name = codes "SUBAT"; sorts = 1 ∷ 2 ∷ 1 ∷ 7 ∷ []; make = λ parts. instr.Data (on_data.SubscriptAt (size (at parts 0)) (size (at parts 1)) (size (at parts 2)) (size (at parts 3))) } ∷
+    record { name = codes "SUBAT"; sorts = 1 ∷ 2 ∷ 1 ∷ 7 ∷ []; make = λ parts. instr.Data (on_data.SubscriptAt Int (size (at parts 0)) (size (at parts 1)) (size (at parts 2)) (size (at parts 3))) } ∷
     record { name = codes "DUPR"; sorts = 2 ∷ 2 ∷ []; make = λ parts. instr.Data (on_data.CopyRead (size (at parts 0)) (size (at parts 1))) } ∷
     record { name = codes "DUPW"; sorts = 2 ∷ 2 ∷ []; make = λ parts. instr.Data (on_data.CopyWrite (size (at parts 0)) (size (at parts 1))) } ∷
     record { name = codes "DROPR"; sorts = 2 ∷ []; make = λ parts. instr.Data (on_data.DropRead (size (at parts 0))) } ∷
@@ -155,6 +156,11 @@ rows =
     record { name = codes "RULE"; sorts = 4 ∷ 3 ∷ 8 ∷ []; make = λ parts. instr.Rule (action_from parts) } ∷
     record { name = codes "PUT"; sorts = 4 ∷ 3 ∷ 8 ∷ []; make = λ parts. instr.Put (action_from parts) } ∷
     record { name = codes "RET"; sorts = []; make = λ parts. instr.Ret } ∷
+    record { name = codes "TINS"; sorts = 2 ∷ 1 ∷ 2 ∷ 7 ∷ []; make = λ parts. instr.Data (on_data.Insert Text (size (at parts 0)) (size (at parts 1)) (size (at parts 2)) (size (at parts 3))) } ∷
+    record { name = codes "TLOOK"; sorts = 2 ∷ 2 ∷ 1 ∷ 7 ∷ []; make = λ parts. instr.Data (on_data.Look Text (size (at parts 0)) (size (at parts 1)) (size (at parts 2)) (size (at parts 3))) } ∷
+    record { name = codes "TSUBAT"; sorts = 1 ∷ 2 ∷ 1 ∷ 7 ∷ []; make = λ parts. instr.Data (on_data.SubscriptAt Text (size (at parts 0)) (size (at parts 1)) (size (at parts 2)) (size (at parts 3))) } ∷
+    record { name = codes "RULEV"; sorts = 4 ∷ 1 ∷ 8 ∷ []; make = λ parts. instr.Rule (action_from parts) } ∷
+    record { name = codes "PUTV"; sorts = 4 ∷ 1 ∷ 8 ∷ []; make = λ parts. instr.Put (action_from parts) } ∷
     []
 
 abbrev pub names : List (List ℕ)
@@ -209,16 +215,16 @@ ends_in_colon [] = false
 ends_in_colon (b ∷ []) = b == 58
 ends_in_colon (b ∷ c ∷ others) = ends_in_colon (c ∷ others)
 
--- what a first word lets expect, as a number: the head, the registers, a label, an instruction
+-- what a first word lets expect, as a number: the head, the registers, a label, an instruction, the version
 abbrev pub class_of_word : List ℕ → ℕ
-class_of_word word = if ends_in_colon word then 2 else if same word (codes "proc") then 0 else if same word (codes "regs") then 1 else 3
+class_of_word word = if ends_in_colon word then 2 else if same word (codes "proc") then 0 else if same word (codes "regs") then 1 else if same word (codes "version") then 4 else 3
 
 -- what holds of the parts of each instruction
 pub record IsRow (i : Instr) : Type 0 where
   pub parts : instr_parts i ≡ Name (name_of i) ∷ operands_of i
   pub known : is_in (name_of i) names ≡ true
   pub class : class_of_word (name_of i) ≡ 3
-  pub sorts : HasWords i → have_sorts (row_among (name_of i) rows).sorts (operands_of i) ≡ true
+  pub sorts : have_sorts (row_among (name_of i) rows).sorts (operands_of i) ≡ true
   pub made : (row_among (name_of i) rows).make (operands_of i) ≡ i
   pub reskipped : (skip : ℕ) → instr_parts (with_skip skip i) ≡ map (reskip skip) (instr_parts i)
   pub last : skips_last (instr_parts i) ≡ true
@@ -243,24 +249,30 @@ args_last (arg ∷ args) = args_last args
 
 -- ---- row by row
 
+-- the operation is in the name alone
+compute_row : (operation : Arithmetic) (to left right skip : ℕ) → IsRow (instr.Local (local.Compute operation to left right skip))
+compute_row Add to left right skip = record { parts = refl; known = refl; class = refl; sorts = refl; made = refl; reskipped = λ skip. refl; last = refl }
+compute_row operation to left right skip = record { parts = refl; known = refl; class = refl; sorts = refl; made = refl; reskipped = λ skip. refl; last = refl }
+
 local_row : (i : LocalInstr) → IsRow (instr.Local i)
-local_row (local.Compute Add to left right skip) = record { parts = refl; known = refl; class = refl; sorts = λ _. refl; made = refl; reskipped = λ skip. refl; last = refl }
-local_row (local.Compute Subtract to left right skip) = record { parts = refl; known = refl; class = refl; sorts = λ _. refl; made = refl; reskipped = λ skip. refl; last = refl }
-local_row (local.Compute Multiply to left right skip) = record { parts = refl; known = refl; class = refl; sorts = λ _. refl; made = refl; reskipped = λ skip. refl; last = refl }
-local_row (local.Compute Divide to left right skip) = record { parts = refl; known = refl; class = refl; sorts = λ _. refl; made = refl; reskipped = λ skip. refl; last = refl }
-local_row (local.Compute Remainder to left right skip) = record { parts = refl; known = refl; class = refl; sorts = λ _. refl; made = refl; reskipped = λ skip. refl; last = refl }
-local_row i = record { parts = refl; known = refl; class = refl; sorts = λ _. refl; made = refl; reskipped = λ skip. refl; last = refl }
+local_row (local.Compute operation to left right skip) = compute_row operation to left right skip
+local_row i = record { parts = refl; known = refl; class = refl; sorts = refl; made = refl; reskipped = λ skip. refl; last = refl }
 
 data_row : (i : DataInstr) → IsRow (instr.Data i)
-data_row (on_data.New write read ty) = record { parts = refl; known = refl; class = refl; sorts = λ _. refl; made = refl; reskipped = λ skip. refl; last = refl }
-data_row i = record { parts = refl; known = refl; class = refl; sorts = λ _. refl; made = refl; reskipped = λ skip. refl; last = refl }
+data_row (on_data.Insert Text container subscript member skip) = record { parts = refl; known = refl; class = refl; sorts = refl; made = refl; reskipped = λ skip. refl; last = refl }
+data_row (on_data.Look Text member container subscript skip) = record { parts = refl; known = refl; class = refl; sorts = refl; made = refl; reskipped = λ skip. refl; last = refl }
+data_row (on_data.SubscriptAt Text to container index skip) = record { parts = refl; known = refl; class = refl; sorts = refl; made = refl; reskipped = λ skip. refl; last = refl }
+data_row (on_data.Insert Int container subscript member skip) = record { parts = refl; known = refl; class = refl; sorts = refl; made = refl; reskipped = λ skip. refl; last = refl }
+data_row (on_data.Look Int member container subscript skip) = record { parts = refl; known = refl; class = refl; sorts = refl; made = refl; reskipped = λ skip. refl; last = refl }
+data_row (on_data.SubscriptAt Int to container index skip) = record { parts = refl; known = refl; class = refl; sorts = refl; made = refl; reskipped = λ skip. refl; last = refl }
+data_row i = record { parts = refl; known = refl; class = refl; sorts = refl; made = refl; reskipped = λ skip. refl; last = refl }
 
 rule_row : (procedure : ℕ) (priority : Priority) (target : Option ℕ) (args : List ℕ) → IsRow (instr.Rule (record { procedure = procedure; priority = priority; target = target; args = args }))
 rule_row procedure (Constant number) target args = record {
   parts = refl;
   known = refl;
   class = refl;
-  sorts = λ _. args_sorts args;
+  sorts = args_sorts args;
   made = ap (λ (xs : List ℕ). instr.Rule (record { procedure = procedure; priority = Constant number; target = target; args = xs })) (args_made args);
   reskipped = λ skip. ap (λ (ps : List Part). Name (codes "RULE") ∷ Natural procedure ∷ Number number ∷ Target target ∷ ps) (args_reskipped skip args);
   last = args_last args;
@@ -269,9 +281,9 @@ rule_row procedure (Computed register) target args = record {
   parts = refl;
   known = refl;
   class = refl;
-  sorts = λ h. absurd h;
+  sorts = args_sorts args;
   made = ap (λ (xs : List ℕ). instr.Rule (record { procedure = procedure; priority = Computed register; target = target; args = xs })) (args_made args);
-  reskipped = λ skip. ap (λ (ps : List Part). Name (codes "RULE") ∷ Natural procedure ∷ Value register ∷ Target target ∷ ps) (args_reskipped skip args);
+  reskipped = λ skip. ap (λ (ps : List Part). Name (codes "RULEV") ∷ Natural procedure ∷ Value register ∷ Target target ∷ ps) (args_reskipped skip args);
   last = args_last args;
 }
 
@@ -280,7 +292,7 @@ put_row procedure (Constant number) target args = record {
   parts = refl;
   known = refl;
   class = refl;
-  sorts = λ _. args_sorts args;
+  sorts = args_sorts args;
   made = ap (λ (xs : List ℕ). instr.Put (record { procedure = procedure; priority = Constant number; target = target; args = xs })) (args_made args);
   reskipped = λ skip. ap (λ (ps : List Part). Name (codes "PUT") ∷ Natural procedure ∷ Number number ∷ Target target ∷ ps) (args_reskipped skip args);
   last = args_last args;
@@ -289,9 +301,9 @@ put_row procedure (Computed register) target args = record {
   parts = refl;
   known = refl;
   class = refl;
-  sorts = λ h. absurd h;
+  sorts = args_sorts args;
   made = ap (λ (xs : List ℕ). instr.Put (record { procedure = procedure; priority = Computed register; target = target; args = xs })) (args_made args);
-  reskipped = λ skip. ap (λ (ps : List Part). Name (codes "PUT") ∷ Natural procedure ∷ Value register ∷ Target target ∷ ps) (args_reskipped skip args);
+  reskipped = λ skip. ap (λ (ps : List Part). Name (codes "PUTV") ∷ Natural procedure ∷ Value register ∷ Target target ∷ ps) (args_reskipped skip args);
   last = args_last args;
 }
 
@@ -300,7 +312,7 @@ row (instr.Local i) = local_row i
 row (instr.Data i) = data_row i
 row (instr.Rule action) = rule_row action.procedure action.priority action.target action.args
 row (instr.Put action) = put_row action.procedure action.priority action.target action.args
-row instr.Ret = record { parts = refl; known = refl; class = refl; sorts = λ _. refl; made = refl; reskipped = λ skip. refl; last = refl }
+row instr.Ret = record { parts = refl; known = refl; class = refl; sorts = refl; made = refl; reskipped = λ skip. refl; last = refl }
 
 -- ---- names
 

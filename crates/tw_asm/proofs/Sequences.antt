@@ -1,34 +1,29 @@
 -- The readings of items one after the other, and of types.
-use Rattle.std.proofs.Common.{◌≡◌, ℕ, zero, suc, ◌+◌, ◌-◌, take, get_or, ◌≤◌, Bool, true, false, cond, List, [], ◌∷◌, ◌++◌, length, map, replicate, codes, Option, Some, None, Result, Ok, Err, refl, sym, ap, subst, ◌∙◌, arith, append_assoc, add-zero}
+use Rattle.std.proofs.Common.{◌≡◌, ℕ, suc, ◌≤◌, Bool, true, false, cond, List, [], ◌∷◌, ◌++◌, length, Result, Ok, Err, refl, sym, ap, subst, ◌∙◌, arith, append_assoc}
 use Rattle.std.specs.Prelude.{nat_lt}
 use Rattle.std.specs.List.{AllByRecursion}
 use Rattle.std.proofs.lemmas.Bool.{ltb-true}
 use Rattle.std.proofs.lemmas.Bool.Decides.{nat_tests}
-use Rattle.std.proofs.lemmas.List.{length-map, map-append, take_all, take_more}
+use Rattle.tw_code.specs.declared.version.Version.{Version}
 use Rattle.tw_code.specs.format.Program.{IsList}
-use Rattle.tw_words.specs.Seen.{seen}
 use Rattle.tw_words.specs.Words.{Word, Bare}
-use Rattle.tw_words.specs.declared.word.Word as words
-use Rattle.tw_asm.proofs.OperandWords.{Free, IsPieceOf, piece_read, scalar_apart, scalar_read}
+use Rattle.tw_asm.proofs.OperandWords.{Free, IsContainerOf, container_read, scalar_read}
 use Rattle.tw_asm.proofs.Readings.{Reads, both_read, carried, likewise}
-use Rattle.tw_asm.specs.Parts.{scalar_word}
+use Rattle.tw_asm.proofs.TypeWords.{one_container, one_type, words_of}
+use Rattle.tw_asm.specs.Parts.{container_word, scalar_word}
+use Rattle.tw_asm.specs.Statement.{HasType}
 use Rattle.tw_asm.specs.declared.refusal.Flaw.{Flaw}
 use Rattle.tw_asm.specs.declared.refusal.Flaw.TheVariants.{Form, Limit}
-use Rattle.tw_asm.specs.reading.Lines.{are_containers, each, each_from, few, if_container, joined, last_in, type_from}
-use Rattle.tw_asm.specs.reading.Operands.{as_is, both, piece_in, scalar_in}
+use Rattle.tw_asm.specs.reading.Lines.{around, contained, each, each_from, few, joined, put_first, type_in}
+use Rattle.tw_asm.specs.reading.Operands.{as_is, both, container_in, scalar_in}
+use Rattle.tw_types.specs.DataType.{container_of, depth_of, scalar_type}
 use Rattle.tw_types.specs.Nesting.{NestedScalar}
 use Rattle.tw_types.specs.declared.data_type.Scalar.{Scalar}
-
-no : false ≡ true → ⊥
-no e = cc
 
 -- ---- from the right
 
 abbrev pub together : {A : Type 0} → Result (List A) Flaw → Result (List A) Flaw → Result (List A) Flaw
 together front rest = as_is (λ x. x.0 ++ x.1) (both front rest)
-
-abbrev pub put_first : {A : Type 0} → Result A Flaw → Result (List A) Flaw → Result (List A) Flaw
-put_first item rest = as_is (λ x. x.0 ∷ x.1) (both item rest)
 
 abbrev pub each_right : {A : Type 0} → (Word → Result A Flaw) → List Word → Result (List A) Flaw
 each_right read [] = Ok []
@@ -114,112 +109,96 @@ each_long Has (w ∷ ws) (a ∷ items) h = ap suc (each_long Has ws items h.1)
 
 -- ---- types
 
--- a type of which so many containers were met
-abbrev pub IsTypeBehind : ℕ → List Word → NestedScalar → Type 0
-IsTypeBehind k ws ty = (j : ℕ) × (ty.depth ≡ k + j) × (ws ≡ replicate j (Bare (codes "cont")) ++ (Bare (scalar_word ty.scalar) ∷ []))
+-- the words of a type that the version has
+abbrev pub IsTypeIn : Version → List Word → NestedScalar → Type 0
+IsTypeIn version ws ty = (ws ≡ words_of ty.containers ty.scalar) × HasType version ty
 
 abbrev pub IsShallow : NestedScalar → Type 0
-IsShallow ty = ty.depth ≤ 3
+IsShallow ty = depth_of ty ≤ 3
 
-no_words : (j : ℕ) (s : Scalar) → [] ≡ replicate j (Bare (codes "cont")) ++ (Bare (scalar_word s) ∷ []) → ⊥
-no_words zero s e = cc
-no_words (suc j) s e = cc
+-- the container of a pair that is read
+abbrev IsAround : (Scalar × NestedScalar → Type 0) → NestedScalar → Type 0
+IsAround P ty = (x : Scalar × NestedScalar) × P x × (ty ≡ container_of x.0 x.1)
 
-one_word : (w : Word) (j : ℕ) (s : Scalar) → w ∷ [] ≡ replicate j (Bare (codes "cont")) ++ (Bare (scalar_word s) ∷ []) → (j ≡ 0) × (w ≡ Bare (scalar_word s))
-one_word w zero s e = (refl, cc)
-one_word w (suc j) s e = absurd (no_words j s (rest_is e))
+around_read : (P : Scalar × NestedScalar → Type 0) → ((x y : Scalar × NestedScalar) → P x → P y → x ≡ y) → (r : Result (Scalar × NestedScalar) Flaw)
+    → Reads P (λ x. Free x.0 × IsShallow x.1) r → Reads (IsAround P) IsShallow (around r)
+around_read P one (Ok x) h = by (nat_lt (depth_of x.1) 3) refl
   where
-    rest_is : w ∷ [] ≡ Bare (codes "cont") ∷ (replicate j (Bare (codes "cont")) ++ (Bare (scalar_word s) ∷ [])) → [] ≡ replicate j (Bare (codes "cont")) ++ (Bare (scalar_word s) ∷ [])
+    deeper : (ty : NestedScalar) → IsAround P ty → depth_of ty ≡ suc (depth_of x.1)
+    deeper ty (y, k, e) = ap depth_of e ∙ ap (λ (z : Scalar × NestedScalar). suc (depth_of z.1)) (one y x k h.0)
+
+    low : nat_lt (depth_of x.1) 3 ≡ true → suc (depth_of x.1) ≤ 3
+    low is = grind (arith, nat_tests)
+
+    high : nat_lt (depth_of x.1) 3 ≡ false → 3 ≤ depth_of x.1
+    high is = grind (arith, nat_tests)
+
+    by : (t : Bool) → nat_lt (depth_of x.1) 3 ≡ t → Reads (IsAround P) IsShallow (cond t (Ok (container_of x.0 x.1)) (Err Limit))
+    by true is = ((x, h.0, refl), low is)
+    by false is = ((container_of x.0 x.1, (x, h.0, refl)), λ ty k m. absurd (omega (arith, high is, deeper ty k, m)))
+around_read P one (Err Form) h = λ ty k. h k.0 k.1
+around_read P one (Err Limit) h = ((container_of h.0.0.0 h.0.0.1, (h.0.0, h.0.1, refl)), λ ty k m. h.1 k.0 k.1 (tt, inner k.0 (subst IsShallow k.2 m)))
+  where
+    inner : (x : Scalar × NestedScalar) → IsShallow (container_of x.0 x.1) → IsShallow x.1
+    inner x m = omega (arith, m)
+
+no_words : (cs : List Scalar) (s : Scalar) → [] ≡ words_of cs s → ⊥
+no_words [] s e = cc
+no_words (c ∷ cs) s e = cc
+
+one_word : (version : Version) (w : Word) (cs : List Scalar) (s : Scalar) → w ∷ [] ≡ words_of cs s → (cs ≡ []) × (w ≡ Bare (scalar_word s))
+one_word version w [] s e = (refl, cc)
+one_word version w (c ∷ cs) s e = absurd (no_words cs s (rest_is e))
+  where
+    rest_is : w ∷ [] ≡ Bare (container_word c) ∷ words_of cs s → [] ≡ words_of cs s
     rest_is e = cc
 
-more_words : (w x : Word) (ws : List Word) (j : ℕ) (s : Scalar) → w ∷ x ∷ ws ≡ replicate j (Bare (codes "cont")) ++ (Bare (scalar_word s) ∷ [])
-    → (i : ℕ) × (j ≡ suc i) × (w ≡ Bare (codes "cont")) × (x ∷ ws ≡ replicate i (Bare (codes "cont")) ++ (Bare (scalar_word s) ∷ []))
-more_words w x ws zero s e = absurd (two e)
+-- a container's word, and those of a type
+abbrev IsPair : Version → Word → List Word → Scalar × NestedScalar → Type 0
+IsPair version w ws x = IsContainerOf version w x.0 × IsTypeIn version ws x.1
+
+one_pair : (version : Version) (w : Word) (ws : List Word) (x y : Scalar × NestedScalar) → IsPair version w ws x → IsPair version w ws y → x ≡ y
+one_pair version w ws x y h k =
+    let by = one_container x.0 y.0 (sym h.0.0 ∙ k.0.0) in
+    let ty = (one_type x.1 y.1 [] [] (ap (λ (vs : List Word). vs ++ []) (sym h.1.0 ∙ k.1.0))).0 in
+    ap (λ (c : Scalar). pair c x.1) by ∙ ap (pair y.0) ty
   where
-    two : w ∷ x ∷ ws ≡ Bare (scalar_word s) ∷ [] → ⊥
-    two e = cc
-more_words w x ws (suc j) s e = (j, refl, first_is e, rest_is e)
-  where
-    first_is : w ∷ x ∷ ws ≡ Bare (codes "cont") ∷ (replicate j (Bare (codes "cont")) ++ (Bare (scalar_word s) ∷ [])) → w ≡ Bare (codes "cont")
-    first_is e = cc
+    pair : Scalar → NestedScalar → Scalar × NestedScalar
+    pair c t = (c, t)
 
-    rest_is : w ∷ x ∷ ws ≡ Bare (codes "cont") ∷ (replicate j (Bare (codes "cont")) ++ (Bare (scalar_word s) ∷ [])) → x ∷ ws ≡ replicate j (Bare (codes "cont")) ++ (Bare (scalar_word s) ∷ [])
-    rest_is e = cc
-
-last_read : (k : ℕ) (w : Word) → Reads (IsTypeBehind k (w ∷ [])) IsShallow (last_in k (scalar_in w))
-last_read k w = by (scalar_in w) (scalar_read w)
-  where
-    found : (s : Scalar) → w ≡ Bare (scalar_word s) → IsTypeBehind k (w ∷ []) (record { depth = k; scalar = s })
-    found s e = (0, omega arith, ap (λ (v : Word). v ∷ []) e)
-
-    depth_is : (ty : NestedScalar) → IsTypeBehind k (w ∷ []) ty → ty.depth ≡ k
-    depth_is ty (j, d, e) = omega (arith, (one_word w j ty.scalar e).0)
-
-    nested : (s : Scalar) → w ≡ Bare (scalar_word s) → (t : Bool) → nat_lt 3 k ≡ t → Reads (IsTypeBehind k (w ∷ [])) IsShallow (cond t (Err Limit) (Ok (record { depth = k; scalar = s })))
-    nested s e true deep = ((record { depth = k; scalar = s }, found s e), λ ty h m. absurd (omega (arith, ltb-true 3 k deep, depth_is ty h)))
-    nested s e false is = (found s e, grind (arith, nat_tests))
-
-    by : (r : Result Scalar Flaw) → Reads (λ s. w ≡ Bare (scalar_word s)) Free r → Reads (IsTypeBehind k (w ∷ [])) IsShallow (last_in k r)
-    by (Ok s) h = nested s h.0 (nat_lt 3 k) refl
-    by (Err Form) h = λ ty k'. h ty.scalar (one_word w k'.0 ty.scalar k'.2).1
-    by (Err Limit) h = absurd (h.1 h.0.0 h.0.1 tt)
-
-pub type_read : (k : ℕ) (ws : List Word) → Reads (IsTypeBehind k ws) IsShallow (type_from k ws)
-type_read k [] = λ ty h. no_words h.0 ty.scalar h.2
-type_read k (w ∷ []) = last_read k w
-type_read k (w ∷ x ∷ ws) = by (piece_in w) (piece_read w) (type_read (suc k) (x ∷ ws))
-  where
-    by : (p : Result (Option Scalar) Flaw) → Reads (IsPieceOf w) Free p → Reads (IsTypeBehind (suc k) (x ∷ ws)) IsShallow (type_from (suc k) (x ∷ ws)) → Reads (IsTypeBehind k (w ∷ x ∷ ws)) IsShallow (if_container p (type_from (suc k) (x ∷ ws)))
-    by (Ok None) p h =
-        likewise (IsTypeBehind (suc k) (x ∷ ws)) IsShallow (IsTypeBehind k (w ∷ x ∷ ws)) IsShallow
-        (λ ty g. (suc g.0, omega (arith, g.1), both_first p.0 g.2))
-        (λ ty g. let m = more_words w x ws g.0 ty.scalar g.2 in (m.0, omega (arith, g.1, m.1), m.3)) (λ ty g m. m) (λ ty g m. m) (type_from (suc k) (x ∷ ws)) h
-      where
-        both_first : {rest : List Word} → w ≡ Bare (codes "cont") → x ∷ ws ≡ rest → w ∷ x ∷ ws ≡ Bare (codes "cont") ∷ rest
-        both_first e f = cc
-    by (Ok (Some s)) p h = λ ty g. scalar_apart s (sym p.0 ∙ (more_words w x ws g.0 ty.scalar g.2).2)
-    by (Err Form) p h = λ ty g. p None (more_words w x ws g.0 ty.scalar g.2).2
-    by (Err Limit) p h = absurd (p.1 p.0.0 p.0.1 tt)
-
--- ---- a type by its last word
-
-type_step : (k : ℕ) (c x : Word) (ws cs : List Word) (l : Word) → type_from (suc k) (x ∷ ws) ≡ cond (are_containers cs) (last_in (suc k + length cs) (scalar_in l)) (Err Form)
-    → type_from k (c ∷ x ∷ ws) ≡ cond (are_containers (c ∷ cs)) (last_in (k + length (c ∷ cs)) (scalar_in l)) (Err Form)
-type_step k c x ws cs l ih = by (piece_in c) refl (piece_read c)
-  where
-    by : (p : Result (Option Scalar) Flaw) → piece_in c ≡ p → Reads (IsPieceOf c) Free p → if_container (piece_in c) (type_from (suc k) (x ∷ ws)) ≡ cond (are_containers (c ∷ cs)) (last_in (k + length (c ∷ cs)) (scalar_in l)) (Err Form)
-    by (Ok None) e r =
-        let count : suc k + length cs ≡ k + suc (length cs) = omega arith in
-        rw e (ih ∙ ap (λ (n : ℕ). cond (are_containers cs) (last_in n (scalar_in l)) (Err Form)) count)
-    by (Ok (Some s)) e r = rw e refl
-    by (Err Form) e r = rw e refl
-    by (Err Limit) e r = absurd (r.1 r.0.0 r.0.1 tt)
-
-pub type_at_last : (k : ℕ) (cs : List Word) (l : Word) → type_from k (cs ++ l ∷ []) ≡ cond (are_containers cs) (last_in (k + length cs) (scalar_in l)) (Err Form)
-type_at_last k [] l = ap (λ (n : ℕ). last_in n (scalar_in l)) (sym (add-zero k))
-type_at_last k (c ∷ []) l = type_step k c l [] [] l (type_at_last (suc k) [] l)
-type_at_last k (c ∷ d ∷ ds) l = type_step k c d (ds ++ l ∷ []) (d ∷ ds) l (type_at_last (suc k) (d ∷ ds) l)
-
--- words, by those before the last
-module _ (ws : List words.Word) (last : words.Word) (some : 1 ≤ length ws) (is : last ≡ get_or ws (length ws - 1) last) where
-  abbrev front : List words.Word
-  front = take (length ws - 1) ws
-
-  cut : ws ≡ front ++ last ∷ []
-  cut =
-      sym (take_all (length ws - 1 + 1) ws (omega arith))
-      ∙ (take_more ws (length ws - 1) last (omega arith) ∙ ap (λ (w : words.Word). front ++ w ∷ []) (sym is))
-
-  type_cut : type_from 0 (map seen ws) ≡ cond (are_containers (map seen front)) (last_in (length front) (scalar_in (seen last))) (Err Form)
-  type_cut =
-      ap (λ (vs : List words.Word). type_from 0 (map seen vs)) cut
-      ∙ (ap (type_from 0) (map-append seen front (last ∷ [])) ∙ (type_at_last 0 (map seen front) (seen last) ∙ ap (λ (n : ℕ). cond (are_containers (map seen front)) (last_in n (scalar_in (seen last))) (Err Form)) count))
+module _ (version : Version) (w x : Word) (ws : List Word) where
+  contained_to : (ty : NestedScalar) → IsAround (IsPair version w (x ∷ ws)) ty → IsTypeIn version (w ∷ x ∷ ws) ty
+  contained_to ty (p, h, e) = subst (IsTypeIn version (w ∷ x ∷ ws)) (sym e) (both h.0.0 h.1.0, (h.0.1, h.1.1))
     where
-      count : 0 + length (map seen front) ≡ length front
-      count = omega (arith, length-map front seen)
+      both : {v : Word} {vs : List Word} → w ≡ v → x ∷ ws ≡ vs → w ∷ x ∷ ws ≡ v ∷ vs
+      both e f = cc
 
-  pub type_wrong : are_containers (map seen front) ≡ false → Err Form ≡ type_from 0 (map seen ws)
-  type_wrong a = sym (type_cut ∙ ap (λ (t : Bool). cond t (last_in (length front) (scalar_in (seen last))) (Err Form)) a)
+  contained_back : (cs : List Scalar) (s : Scalar) → IsTypeIn version (w ∷ x ∷ ws) (record { containers = cs; scalar = s }) → IsAround (IsPair version w (x ∷ ws)) (record { containers = cs; scalar = s })
+  contained_back [] s h = absurd (two h.0)
+    where
+      two : w ∷ x ∷ ws ≡ Bare (scalar_word s) ∷ [] → ⊥
+      two e = cc
+  contained_back (c ∷ cs) s h = ((c, record { containers = cs; scalar = s }), ((first_is h.0, h.1.0), (rest_is h.0, h.1.1)), refl)
+    where
+      first_is : w ∷ x ∷ ws ≡ Bare (container_word c) ∷ words_of cs s → w ≡ Bare (container_word c)
+      first_is e = cc
 
-  pub type_right : are_containers (map seen front) ≡ true → (s : Result Scalar Flaw) → s ≡ scalar_in (seen last) → last_in (length front) s ≡ type_from 0 (map seen ws)
-  type_right a s e = ap (last_in (length front)) e ∙ sym (type_cut ∙ ap (λ (t : Bool). cond t (last_in (length front) (scalar_in (seen last))) (Err Form)) a)
+      rest_is : w ∷ x ∷ ws ≡ Bare (container_word c) ∷ words_of cs s → x ∷ ws ≡ words_of cs s
+      rest_is e = cc
+
+scalar_alone : (version : Version) (w : Word) → Reads (IsTypeIn version (w ∷ [])) IsShallow (as_is scalar_type (scalar_in w))
+scalar_alone version w =
+    carried scalar_type (λ s. w ≡ Bare (scalar_word s)) Free (IsTypeIn version (w ∷ [])) IsShallow (λ s e. (ap (λ (v : Word). v ∷ []) e, tt)) (λ ty h. back ty.containers ty.scalar h.0)
+    (λ s e m. omega arith) (λ s e m. tt) (scalar_in w) (scalar_read w)
+  where
+    back : (cs : List Scalar) (s : Scalar) → w ∷ [] ≡ words_of cs s → (found : Scalar) × (w ≡ Bare (scalar_word found)) × (record { containers = cs; scalar = s } ≡ scalar_type found)
+    back cs s e = let one = one_word version w cs s e in (s, one.1, ap (λ (ds : List Scalar). record { containers = ds; scalar = s }) one.0)
+
+pub type_read : (version : Version) (ws : List Word) → Reads (IsTypeIn version ws) IsShallow (type_in version ws)
+type_read version [] = λ ty h. no_words ty.containers ty.scalar h.0
+type_read version (w ∷ []) = scalar_alone version w
+type_read version (w ∷ x ∷ ws) =
+    likewise (IsAround (IsPair version w (x ∷ ws))) IsShallow (IsTypeIn version (w ∷ x ∷ ws)) IsShallow
+    (contained_to version w x ws) (λ ty h. contained_back version w x ws ty.containers ty.scalar h) (λ ty h m. m) (λ ty h m. m) (contained (container_in version w) (type_in version (x ∷ ws)))
+    (around_read (IsPair version w (x ∷ ws)) (one_pair version w (x ∷ ws)) (both (container_in version w) (type_in version (x ∷ ws)))
+    (both_read (IsContainerOf version w) Free (IsTypeIn version (x ∷ ws)) IsShallow (container_in version w) (type_in version (x ∷ ws)) (container_read version w) (type_read version (x ∷ ws))))

@@ -1,17 +1,17 @@
 -- Words spell one list of parts alone, but for names of skips.
-use Rattle.std.proofs.Common.{◌≡◌, ◌⊎◌, inl, inr, ℕ, zero, suc, true, List, [], ◌∷◌, ◌++◌, map, codes, Option, Some, None, refl, sym, ap, subst, ◌∙◌, arith}
+use Rattle.std.proofs.Common.{◌≡◌, ◌⊎◌, inl, inr, ℕ, true, List, [], ◌∷◌, ◌++◌, map, codes, Option, Some, None, refl, sym, ap, subst, ◌∙◌, arith}
 use Rattle.std.proofs.lemmas.List.{append_cancel_left}
-use Rattle.std.specs.Prelude.{replicate}
 use Rattle.std.specs.Int.{IsInRange}
 use Rattle.tw_words.specs.Words.{Word, Bare, Quoted}
+use Rattle.tw_types.specs.Nesting.{NestedScalar}
 use Rattle.tw_types.specs.declared.data_type.Scalar.{Scalar}
-use Rattle.tw_types.specs.declared.data_type.Scalar.TheVariants.{Int, Text}
 use Rattle.tw_words.specs.Number.{SpellsDigits, SpellsNumber}
 use Rattle.tw_words.proofs.Numerals.{one_number, one_size}
-use Rattle.tw_asm.specs.Parts.{Part, Name, Value, Right, Number, Natural, Literal, TypeOf, Skip, Target, scalar_word}
+use Rattle.tw_asm.specs.Parts.{Part, Name, Value, Right, Number, Natural, Literal, TypeOf, Skip, Target, container_word, scalar_word}
 use Rattle.tw_asm.specs.Seen.{NoName, OnlyName}
 use Rattle.tw_asm.specs.Statement.{Goals, IsName, SpellParts, SpellsPart, SpellsWith}
 use Rattle.tw_asm.proofs.Rows.{AreAlike, different, is_last, reskip, skips_last, sort_of}
+use Rattle.tw_asm.proofs.TypeWords.{one_type, words_of}
 
 -- these goals are names of labels
 abbrev pub AreNames : Goals → Type 0
@@ -62,42 +62,6 @@ digits_same front n m f g x y (ds, h, is) (cs, k, has) e =
     let same = first_words (Bare (front ++ ds)) (Bare (front ++ cs)) f g x y is has e in
     let digits = append_cancel_left front ds cs (bare_is (front ++ ds) (front ++ cs) same.0) in
     (one_size n m cs (subst (SpellsDigits n) digits h) k, same.1, same.2)
-
--- ---- types
-
-cont_is_no_scalar : (s : Scalar) (x y : List Word) → Bare (scalar_word s) ∷ x ≡ Bare (codes "cont") ∷ y → ⊥
-cont_is_no_scalar Int x y e =
-    let words = bare_is (codes "int") (codes "cont") (cons_is (Bare (codes "int")) (Bare (codes "cont")) x y e).0 in
-    different 105 99 (cons_is 105 99 (codes "nt") (codes "ont") words).0 refl
-cont_is_no_scalar Text x y e =
-    let words = bare_is (codes "text") (codes "cont") (cons_is (Bare (codes "text")) (Bare (codes "cont")) x y e).0 in
-    different 116 99 (cons_is 116 99 (codes "ext") (codes "ont") words).0 refl
-
-scalars_are : (s t : Scalar) → scalar_word s ≡ scalar_word t → s ≡ t
-scalars_are Int Int e = refl
-scalars_are Text Text e = refl
-scalars_are Int Text e = absurd (by e)
-  where
-    by : codes "int" ≡ codes "text" → ⊥
-    by h = cc
-scalars_are Text Int e = absurd (by e)
-  where
-    by : codes "text" ≡ codes "int" → ⊥
-    by h = cc
-
-abbrev pub type_words : ℕ → Scalar → List Word
-type_words depth scalar = replicate depth (Bare (codes "cont")) ++ (Bare (scalar_word scalar) ∷ [])
-
-one_type : (d e : ℕ) (s t : Scalar) (x y : List Word) → type_words d s ++ x ≡ type_words e t ++ y → (d ≡ e) × (s ≡ t) × (x ≡ y)
-one_type zero zero s t x y h =
-    let both = cons_is (Bare (scalar_word s)) (Bare (scalar_word t)) x y h in
-    (refl, scalars_are s t (bare_is (scalar_word s) (scalar_word t) both.0), both.1)
-one_type zero (suc e) s t x y h = absurd (cont_is_no_scalar s x (type_words e t ++ y) h)
-one_type (suc d) zero s t x y h = absurd (cont_is_no_scalar t y (type_words d s ++ x) (sym h))
-one_type (suc d) (suc e) s t x y h =
-    let both = cons_is (Bare (codes "cont")) (Bare (codes "cont")) (type_words d s ++ x) (type_words e t ++ y) h in
-    let more = one_type d e s t x y both.1 in
-    (ap suc more.0, more.1, more.2)
 
 -- ---- parts
 
@@ -152,11 +116,8 @@ module _ (a b : Goals) (names : AreNames a) (others : AreNames b) where
   one_part (Natural n) (Natural m) f g x y s h k e = let same = digits_same [] n m f g x y h k e in (inl (ap Natural same.0), same.1, same.2)
   one_part (Literal v) (Literal w) f g x y s h k e = let same = first_words (Quoted v) (Quoted w) f g x y h k e in (inl (ap Literal (quoted_is v w same.0)), same.1, same.2)
   one_part (TypeOf t) (TypeOf u) f g x y s h k e =
-      let same = one_type t.depth u.depth t.scalar u.scalar x y (ap (λ (ws : List Word). ws ++ x) (sym h) ∙ e ∙ ap (λ (ws : List Word). ws ++ y) k) in (
-        inl (ap (λ (d : ℕ). TypeOf (record { depth = d; scalar = t.scalar })) same.0 ∙ ap (λ (c : Scalar). TypeOf (record { depth = u.depth; scalar = c })) same.1),
-        h ∙ ap (λ (d : ℕ). type_words d t.scalar) same.0 ∙ ap (type_words u.depth) same.1 ∙ sym k,
-        same.2,
-      )
+      let same = one_type t u x y (ap (λ (ws : List Word). ws ++ x) (sym h) ∙ e ∙ ap (λ (ws : List Word). ws ++ y) k) in
+      (inl (ap TypeOf same.0), h ∙ ap (λ (ty : NestedScalar). words_of ty.containers ty.scalar) same.0 ∙ sym k, same.1)
   one_part (Skip n) (Skip m) f g x y s h k e = skips_same n m f g x y h k e
   one_part (Target t) (Target u) f g x y s h k e = targets_same t u f g x y h k e
   one_part p q f g x y s h k e = different (sort_of p) (sort_of q) s refl
@@ -168,11 +129,11 @@ module _ (a b : Goals) (names : AreNames a) (others : AreNames b) where
   some_word (Number m) g y (w, k, has) e = never_cons (Bare w) y (ap (λ (ws : List Word). ws ++ y) (sym has) ∙ e)
   some_word (Natural m) g y (ds, k, has) e = never_cons (Bare ds) y (ap (λ (ws : List Word). ws ++ y) (sym has) ∙ e)
   some_word (Literal t) g y k e = never_cons (Quoted t) y (ap (λ (ws : List Word). ws ++ y) (sym k) ∙ e)
-  some_word (TypeOf ty) g y k e = some_type ty.depth (ap (λ (ws : List Word). ws ++ y) (sym k) ∙ e)
+  some_word (TypeOf ty) g y k e = some_type ty.containers ty.scalar (ap (λ (ws : List Word). ws ++ y) (sym k) ∙ e)
     where
-      some_type : (d : ℕ) → type_words d ty.scalar ++ y ≡ [] → ⊥
-      some_type zero h = never_cons (Bare (scalar_word ty.scalar)) y h
-      some_type (suc d) h = never_cons (Bare (codes "cont")) (type_words d ty.scalar ++ y) h
+      some_type : (cs : List Scalar) (scalar : Scalar) → words_of cs scalar ++ y ≡ [] → ⊥
+      some_type [] scalar h = never_cons (Bare (scalar_word scalar)) y h
+      some_type (c ∷ cs) scalar h = never_cons (Bare (container_word c)) (words_of cs scalar ++ y) h
   some_word (Skip m) g y (inl (ds, k, has)) e = never_cons (Bare (codes "+" ++ ds)) y (ap (λ (ws : List Word). ws ++ y) (sym has) ∙ e)
   some_word (Skip m) g y (inr (name, k, has)) e = never_cons (Bare name) y (ap (λ (ws : List Word). ws ++ y) (sym has) ∙ e)
   some_word (Target None) g y k e = never_cons (Bare (codes "any")) y (ap (λ (ws : List Word). ws ++ y) (sym k) ∙ e)

@@ -1,10 +1,11 @@
 -- Where reading stands, by its parts, and stages that differ.
 use Rattle.std.proofs.Common.{◌≡◌, ℕ, List}
-use Rattle.tw_asm.specs.Fault.{Stage, Start, AfterHead, InBody}
+use Rattle.tw_code.specs.declared.version.Version.{Version}
+use Rattle.tw_asm.specs.Fault.{Stage, Start, AfterVersion, AfterHead, InBody}
 use Rattle.tw_asm.specs.reading.Progress.{Place, Progress, Section}
 
-abbrev pub progress : List Section → ℕ → Place → Progress
-progress sections head_line place = record { sections = sections; head_line = head_line; place = place }
+abbrev pub progress : Version → List Section → ℕ → Place → Progress
+progress version sections head_line place = record { version = version; sections = sections; head_line = head_line; place = place }
 
 pub start_head : {Z : Type 0} → ◌≡◌ {A = Stage} Start AfterHead → Z
 start_head e = absurd cc
@@ -23,3 +24,12 @@ body_start e = absurd cc
 
 pub body_head : {Z : Type 0} → ◌≡◌ {A = Stage} InBody AfterHead → Z
 body_head e = absurd cc
+
+pub version_head : {Z : Type 0} → ◌≡◌ {A = Stage} AfterVersion AfterHead → Z
+version_head e = absurd cc
+
+pub version_body : {Z : Type 0} → ◌≡◌ {A = Stage} AfterVersion InBody → Z
+version_body e = absurd cc
+
+pub version_start : {Z : Type 0} → ◌≡◌ {A = Stage} AfterVersion Start → Z
+version_start e = absurd cc

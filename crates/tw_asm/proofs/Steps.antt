@@ -6,61 +6,72 @@ use Rattle.std.proofs.Math.Seq.{split_at}
 use Rattle.std.proofs.lemmas.List.FromFn.{get_or-enumerate_from, length-enumerate_from}
 use Rattle.std.specs.List.{enumerate_from}
 use Rattle.std.specs.Str.Lines.{lines}
+use Rattle.tw_code.specs.declared.version.Version.{Version}
 use Rattle.tw_words.specs.Words.{Word}
 use Rattle.tw_asm.specs.Seen.{IsRead, NoName, OnlyName, Read}
-use Rattle.tw_asm.specs.Statement.{Statement, Head, Registers, Label, Code, AnyShortName, IsShortName, Say}
+use Rattle.tw_asm.specs.Statement.{Statement, OfVersion, Head, Registers, Label, Code, AnyShortName, IsShortName, Say}
 use Rattle.tw_asm.proofs.Once.{spells_more}
 use Rattle.tw_asm.specs.declared.fault.AsmFault.{AsmFault}
 use Rattle.tw_asm.specs.declared.fault.FaultNo.{FaultNo}
 use Rattle.tw_asm.specs.Fault.{Stage, AfterHead, InBody, Situation, IsLineFault, IsUnfinished, LineFault, LineSays, LinesSay, MayStand, after, after_line, situation_from}
 use Rattle.tw_asm.specs.Spelling.{Placed}
-use Rattle.tw_asm.specs.reading.Progress.{AtStart, BehindHead, Within, LineRead, LinesRead, Place, Progress, Section, AreNotRead, AreTextRead, IsMemory, IsNotFinished, line_step, outset, progress_from, situation_of, step}
-use Rattle.tw_asm.proofs.Stages.{body_head, head_body, head_start, progress, start_body, start_head}
+use Rattle.tw_asm.specs.reading.Progress.{AtStart, BehindHead, BehindVersion, Within, LineRead, LinesRead, Place, Progress, Section, AreNotRead, AreTextRead, IsMemory, IsNotFinished, line_step, outset, progress_from, situation_of, step}
+use Rattle.tw_asm.proofs.Stages.{body_head, body_start, head_body, head_start, progress, start_body, start_head, version_body, version_head, version_start}
 
 -- ---- the situation after a statement
 
 name_of : Placed → List ℕ
 name_of label = label.name
 
-abbrev counted : Stage → ℕ → List (List ℕ) → ℕ → ℕ → Situation
-counted stage head_line labels procedures instructions = record { stage = stage; procedures = procedures; head_line = head_line; labels = labels; instructions = instructions }
+abbrev counted : Version → Stage → ℕ → List (List ℕ) → ℕ → ℕ → Situation
+counted version stage head_line labels procedures instructions = record { version = version; stage = stage; procedures = procedures; head_line = head_line; labels = labels; instructions = instructions }
 
-step_at : (number : ℕ) (statement : Statement) (goal : Option (List ℕ)) (sections : List Section) (head_line : ℕ) (place : Place) → MayStand statement (situation_of (progress sections head_line place))
-    → situation_of (step number statement goal (progress sections head_line place)) ≡ after number statement (situation_of (progress sections head_line place))
-step_at number (Head kind params) goal sections head_line AtStart m =
+step_at : (number : ℕ) (statement : Statement) (goal : Option (List ℕ)) (version : Version) (sections : List Section) (head_line : ℕ) (place : Place) → MayStand statement (situation_of (progress version sections head_line place))
+    → situation_of (step number statement goal (progress version sections head_line place)) ≡ after number statement (situation_of (progress version sections head_line place))
+step_at number (OfVersion n) goal version sections head_line AtStart m = refl
+step_at number (OfVersion n) goal version sections head_line BehindVersion m = version_start m
+step_at number (OfVersion n) goal version sections head_line (BehindHead kind params) m = head_start m
+step_at number (OfVersion n) goal version sections head_line (Within section) m = body_start m
+step_at number (Head kind params) goal version sections head_line AtStart m =
     let e : length sections + 1 ≡ (length sections + 0) + 1 = omega arith in
-    ap (λ (n : ℕ). counted AfterHead number [] n 0) e
-step_at number (Head kind params) goal sections head_line (BehindHead k ps) m = elim (m.0) [ inl e ↦ head_start e | inr e ↦ head_body e.0 ]
-step_at number (Head kind params) goal sections head_line (Within section) m =
+    ap (λ (n : ℕ). counted version AfterHead number [] n 0) e
+step_at number (Head kind params) goal version sections head_line BehindVersion m =
+    let e : length sections + 1 ≡ (length sections + 0) + 1 = omega arith in
+    ap (λ (n : ℕ). counted version AfterHead number [] n 0) e
+step_at number (Head kind params) goal version sections head_line (BehindHead k ps) m = elim (m.0) [ inl e ↦ absurd e | inr e ↦ head_body e.0 ]
+step_at number (Head kind params) goal version sections head_line (Within section) m =
     let e : length (sections ++ (section ∷ [])) + 1 ≡ (length sections + 1) + 1 = omega (arith, length-append sections (section ∷ [])) in
-    ap (λ (n : ℕ). counted AfterHead number [] n 0) e
-step_at number (Registers registers) goal sections head_line AtStart m = start_head m
-step_at number (Registers registers) goal sections head_line (BehindHead kind params) m = refl
-step_at number (Registers registers) goal sections head_line (Within section) m = body_head m
-step_at number (Label name) goal sections head_line AtStart m = start_body m.0
-step_at number (Label name) goal sections head_line (BehindHead kind params) m = head_body m.0
-step_at number (Label name) goal sections head_line (Within section) m =
-    ap (λ (names : List (List ℕ)). counted InBody head_line names (length sections + 1) (length section.drafts)) (map-append (λ (label : Placed). label.name) section.labels (record { name = name; place = length section.drafts } ∷ []))
-step_at number (Code i) goal sections head_line AtStart m = start_body m.0
-step_at number (Code i) goal sections head_line (BehindHead kind params) m = head_body m.0
-step_at number (Code i) goal sections head_line (Within section) m =
+    ap (λ (n : ℕ). counted version AfterHead number [] n 0) e
+step_at number (Registers registers) goal version sections head_line AtStart m = start_head m
+step_at number (Registers registers) goal version sections head_line BehindVersion m = version_head m
+step_at number (Registers registers) goal version sections head_line (BehindHead kind params) m = refl
+step_at number (Registers registers) goal version sections head_line (Within section) m = body_head m
+step_at number (Label name) goal version sections head_line AtStart m = start_body m.0
+step_at number (Label name) goal version sections head_line BehindVersion m = version_body m.0
+step_at number (Label name) goal version sections head_line (BehindHead kind params) m = head_body m.0
+step_at number (Label name) goal version sections head_line (Within section) m =
+    ap (λ (names : List (List ℕ)). counted version InBody head_line names (length sections + 1) (length section.drafts)) (map-append (λ (label : Placed). label.name) section.labels (record { name = name; place = length section.drafts } ∷ []))
+step_at number (Code i) goal version sections head_line AtStart m = start_body m.0
+step_at number (Code i) goal version sections head_line BehindVersion m = version_body m.0
+step_at number (Code i) goal version sections head_line (BehindHead kind params) m = head_body m.0
+step_at number (Code i) goal version sections head_line (Within section) m =
     let e : length (section.drafts ++ (record { instr = i; goal = goal; number = number } ∷ [])) ≡ length section.drafts + 1 = omega (arith, length-append section.drafts (record { instr = i; goal = goal; number = number } ∷ [])) in
-    ap (λ (n : ℕ). counted InBody head_line (map (λ (label : Placed). label.name) section.labels) (length sections + 1) n) e
+    ap (λ (n : ℕ). counted version InBody head_line (map (λ (label : Placed). label.name) section.labels) (length sections + 1) n) e
 
 pub step_after : (number : ℕ) (statement : Statement) (goal : Option (List ℕ)) (p : Progress) → MayStand statement (situation_of p) → situation_of (step number statement goal p) ≡ after number statement (situation_of p)
-step_after number statement goal p m = step_at number statement goal p.sections p.head_line p.place m
+step_after number statement goal p m = step_at number statement goal p.version p.sections p.head_line p.place m
 
 -- ---- what is read is said
 
 only_short : (name : List ℕ) → IsShortName name → (skip : ℕ) (word : List ℕ) → OnlyName name skip word → AnyShortName skip word
 only_short name short skip word only = subst IsShortName (sym only.1) short
 
-said_at : (statement : Statement) (goal : Option (List ℕ)) (words : List Word) → IsRead (record { statement = statement; goal = goal }) words → Say statement words
-said_at statement None words r = (spells_more NoName AnyShortName (λ skip name n. absurd n) statement words r.1, r.0)
-said_at statement (Some name) words r = (spells_more (OnlyName name) AnyShortName (only_short name r.1.0) statement words r.1.1, r.0)
+said_at : (version : Version) (statement : Statement) (goal : Option (List ℕ)) (words : List Word) → IsRead version (record { statement = statement; goal = goal }) words → Say version statement words
+said_at version statement None words r = (spells_more NoName AnyShortName (λ skip name n. absurd n) statement words r.1, r.0)
+said_at version statement (Some name) words r = (spells_more (OnlyName name) AnyShortName (only_short name r.1.0) statement words r.1.1, r.0)
 
-pub read_says : (read : Read) (words : List Word) → IsRead read words → Say read.statement words
-read_says read words r = said_at read.statement read.goal words r
+pub read_says : (version : Version) (read : Read) (words : List Word) → IsRead version read words → Say version read.statement words
+read_says version read words r = said_at version read.statement read.goal words r
 
 -- ---- lines
 
@@ -73,7 +84,7 @@ said_by reads = map statement_of reads
 
 pub line_says : (s : Situation) (line : List ℕ) (read : Option Read) → LineRead s line read → LineSays s line (statement_of read)
 line_says s line None r = r
-line_says s line (Some read) r = ((r.0.0, r.0.1, read_says read r.0.0 r.0.2), r.1)
+line_says s line (Some read) r = ((r.0.0, r.0.1, read_says s.version read r.0.0 r.0.2), r.1)
 
 pub line_after : (number : ℕ) (p : Progress) (line : List ℕ) (read : Option Read) → LineRead (situation_of p) line read → situation_of (line_step number read p) ≡ after_line number (statement_of read) (situation_of p)
 line_after number p line None r = refl

@@ -2,6 +2,7 @@
 use Rattle.std.proofs.lemmas.List.{length-append}
 use Rattle.std.specs.List.{Contains, slice_get}
 use Rattle.tw_code.specs.declared.instr.Instr.{Instr}
+use Rattle.tw_code.specs.declared.version.Version.{Version}
 use Rattle.tw_words.specs.Seen.{IsRead as IsLineRead}
 use Rattle.tw_asm.specs.declared.statement.Statement as statements
 use Rattle.tw_asm.specs.declared.statement.Statement.TheVariants as statement
@@ -15,18 +16,19 @@ use Rattle.tw_words.specs.Words.{Bare, IsBrokenLine, IsFirstWord, IsLine, Quoted
 use Rattle.tw_asm.specs.declared.statement.First.{First}
 use Rattle.tw_asm.specs.declared.statement.First.TheVariants as first
 use Rattle.tw_asm.specs.Seen.{IsRead, Read, seen}
-use Rattle.tw_asm.specs.Statement.{Statement, Code, Head, Label, AnyName, AnyShortName, HaveForm, IsExpected, Say}
+use Rattle.tw_asm.specs.Statement.{Statement, Code, Head, Label, OfVersion, AnyName, AnyShortName, HaveForm, IsExpected, Say, version_number}
 use Rattle.tw_asm.specs.declared.fault.FaultNo.TheVariants as fault
-use Rattle.tw_asm.specs.Fault.{Stage, Start, InBody, Begins, HasWords, LineFault, MayBegin, MayStand, Situation, empty, instructions, label_twice, limit, operand, procedures, word}
-use Rattle.tw_asm.specs.reading.Progress.{AreClosed, AreFinished, AtStart, BehindHead, Within, IsEmptyAt, IsGoalOf, IsLimit, IsLimitLine, IsMemory, IsNotClosed, IsNotFinished, Place, Progress, Section, Stopped, TakenLine, TakenStatement, WordsRead, begun, drafts_at, ended, situation_of, stage_of, step}
+use Rattle.tw_asm.specs.Fault.{Stage, Start, InBody, Begins, HasWords, IsOutset, LineFault, MayBegin, MayStand, Situation, empty, instructions, label_twice, limit, operand, procedures, word}
+use Rattle.tw_asm.specs.reading.Progress.{AreClosed, AreFinished, AtStart, BehindHead, BehindVersion, Within, IsEmptyAt, IsGoalOf, IsLimit, IsLimitLine, IsMemory, IsNotClosed, IsNotFinished, Place, Progress, Section, Stopped, TakenLine, TakenStatement, WordsRead, begun, drafts_at, ended, situation_of, stage_of, step}
 use Rattle.tw_asm.specs.reading.Expected.{IsExpectedBy, expectation}
 use Rattle.tw_asm.proofs.Begins.{first_of_words, front_of, line_begins}
 use Rattle.tw_words.proofs.Once.{blank_no_word, broken_here, broken_no_line, first_word_once, line_blank, line_once}
-use Rattle.tw_asm.proofs.Stages.{body_start, head_body, progress, start_body}
+use Rattle.tw_asm.proofs.Stages.{head_body, progress, start_body, version_body}
 use Rattle.tw_asm.proofs.Steps.{read_says}
 use Rattle.tw_asm.proofs.Once.{one_expected, spells_more}
+use Rattle.tw_asm.proofs.Versions.{number_back}
 
-begins : (s : Situation) (line : List ℕ) (w : Word) (rest : List ℕ) (expected : First) → IsFirstWord w line rest → IsExpectedBy w expected → MayBegin s.stage expected → Begins s line expected
+begins : (s : Situation) (line : List ℕ) (w : Word) (rest : List ℕ) (expected : First) → IsFirstWord w line rest → IsExpectedBy s.version w expected → MayBegin s.stage expected → Begins s line expected
 begins s line (Bare bytes) rest expected f p m = (bytes, rest, f, p, m)
 begins s line (Quoted text) rest expected f p m = absurd p
 
@@ -38,39 +40,41 @@ broken_fault number s line b =
     let n = broken_here line b in
     word (λ l. n.0 (line_blank line l)) (λ expected x. n.1 (Bare x.0) x.1 x.2)
 
-word_fault : (number : ℕ) (s : Situation) (line : List ℕ) (w : Word) (rest : List ℕ) → IsFirstWord w line rest → ((expected : First) → IsExpectedBy w expected → MayBegin s.stage expected → ⊥) → LineFault number s line fault.Word number
+word_fault : (number : ℕ) (s : Situation) (line : List ℕ) (w : Word) (rest : List ℕ) → IsFirstWord w line rest → ((expected : First) → IsExpectedBy s.version w expected → MayBegin s.stage expected → ⊥) → LineFault number s line fault.Word number
 word_fault number s line w rest f none =
     word (λ l. blank_no_word w line rest (line_blank line l) f)
-    (λ expected x. none expected (subst (λ (v : Word). IsExpectedBy v expected) (sym (first_word_once w (Bare x.0) line rest x.1 f x.2).0) x.3) x.4)
+    (λ expected x. none expected (subst (λ (v : Word). IsExpectedBy s.version v expected) (sym (first_word_once w (Bare x.0) line rest x.1 f x.2).0) x.3) x.4)
 
-pub line_word_fault : (number : ℕ) (s : Situation) (line : List ℕ) (w : Word) (others : List Word) → IsLine (w ∷ others) line → ((expected : First) → IsExpectedBy w expected → MayBegin s.stage expected → ⊥) → LineFault number s line fault.Word number
+pub line_word_fault : (number : ℕ) (s : Situation) (line : List ℕ) (w : Word) (others : List Word) → IsLine (w ∷ others) line → ((expected : First) → IsExpectedBy s.version w expected → MayBegin s.stage expected → ⊥) → LineFault number s line fault.Word number
 line_word_fault number s line w others l none = let f = front_of w others line l in word_fault number s line w f.0 f.1 none
 
-pub broken_word_fault : (number : ℕ) (s : Situation) (line : List ℕ) (w : Word) (others : List Word) → IsBrokenLine (w ∷ others) line → ((expected : First) → IsExpectedBy w expected → MayBegin s.stage expected → ⊥) → LineFault number s line fault.Word number
+pub broken_word_fault : (number : ℕ) (s : Situation) (line : List ℕ) (w : Word) (others : List Word) → IsBrokenLine (w ∷ others) line → ((expected : First) → IsExpectedBy s.version w expected → MayBegin s.stage expected → ⊥) → LineFault number s line fault.Word number
 broken_word_fault number s line w others l none = let f = broken_front w others line l in word_fault number s line w f.0 f.1 none
 
-pub broken_operand : (number : ℕ) (s : Situation) (line : List ℕ) (w : Word) (others : List Word) (expected : First) → IsBrokenLine (w ∷ others) line → IsExpectedBy w expected → MayBegin s.stage expected → LineFault number s line fault.Operand number
+pub broken_operand : (number : ℕ) (s : Situation) (line : List ℕ) (w : Word) (others : List Word) (expected : First) → IsBrokenLine (w ∷ others) line → IsExpectedBy s.version w expected → MayBegin s.stage expected → LineFault number s line fault.Operand number
 broken_operand number s line w others expected l p m =
     let f = broken_front w others line l in
     operand expected (begins s line w f.0 expected f.1 p m) (λ h. broken_no_line (w ∷ others) h.0 line l h.1)
 
-pub form_fault : (number : ℕ) (s : Situation) (line : List ℕ) (w : Word) (others : List Word) (expected : First) → IsLine (w ∷ others) line → IsExpectedBy w expected → MayBegin s.stage expected → (HaveForm (w ∷ others) → ⊥) → LineFault number s line fault.Operand number
+pub form_fault : (number : ℕ) (s : Situation) (line : List ℕ) (w : Word) (others : List Word) (expected : First) → IsLine (w ∷ others) line → IsExpectedBy s.version w expected → MayBegin s.stage expected → (HaveForm s.version (w ∷ others) → ⊥) → LineFault number s line fault.Operand number
 form_fault number s line w others expected l p m none =
     let f = front_of w others line l in
-    operand expected (begins s line w f.0 expected f.1 p m) (λ h. none (subst HaveForm (line_once h.0 (w ∷ others) line h.1 l) h.2))
+    operand expected (begins s line w f.0 expected f.1 p m) (λ h. none (subst (HaveForm s.version) (line_once h.0 (w ∷ others) line h.1 l) h.2))
 
 pub empty_is : (place : Place) → IsEmptyAt place → (stage_of place ≡ InBody) × (length (drafts_at place) ≡ 0)
 empty_is AtStart e = absurd e
+empty_is BehindVersion e = absurd e
 empty_is (BehindHead kind params) e = absurd e
 empty_is (Within section) e = (refl, e)
 
 pub is_empty : (place : Place) → stage_of place ≡ InBody → length (drafts_at place) ≡ 0 → IsEmptyAt place
 is_empty AtStart s e = start_body s
+is_empty BehindVersion s e = version_body s
 is_empty (BehindHead kind params) s e = head_body s
 is_empty (Within section) s e = e
 
-pub limit_fault : (number at : ℕ) (p : Progress) (line : List ℕ) (w : Word) (others : List Word) (expected : First) → IsLine (w ∷ others) line → IsExpectedBy w expected → MayBegin (stage_of p.place) expected
-    → HaveForm (w ∷ others) → ((statement : Statement) → Say statement (w ∷ others) → ⊥) → IsLimitLine p expected number at → LineFault number (situation_of p) line fault.Limit at
+pub limit_fault : (number at : ℕ) (p : Progress) (line : List ℕ) (w : Word) (others : List Word) (expected : First) → IsLine (w ∷ others) line → IsExpectedBy p.version w expected → MayBegin (stage_of p.place) expected
+    → HaveForm p.version (w ∷ others) → ((statement : Statement) → Say p.version statement (w ∷ others) → ⊥) → IsLimitLine p expected number at → LineFault number (situation_of p) line fault.Limit at
 limit_fault number at p line w others expected l b m form none (inl h) =
     let f = front_of w others line l in
     let x = begins (situation_of p) line w f.0 expected f.1 b m in
@@ -80,28 +84,28 @@ limit_fault number at p line w others expected l b m form none (inr h) =
     let f = front_of w others line l in
     subst (LineFault number (situation_of p) line fault.Limit) (sym h.1)
     (limit expected (begins (situation_of p) line w f.0 expected f.1 b m) (w ∷ others, l, form) (λ e x. h.0 e (is_empty p.place x.0 x.1))
-    (λ statement ws k say. none statement (subst (Say statement) (line_once ws (w ∷ others) line k l) say)))
+    (λ statement ws k say. none statement (subst (Say p.version statement) (line_once ws (w ∷ others) line k l) say)))
 
 -- the statement is what the first word expected
-expected_by : (w v : Word) (bytes : List ℕ) (a b : First) → w ≡ Bare bytes → IsExpectedBy w a → IsExpected b bytes → a ≡ b
-expected_by w v bytes a b e p q = one_expected a b bytes (subst (λ (x : Word). IsExpectedBy x a) e p) q
+expected_by : (version : Version) (w v : Word) (bytes : List ℕ) (a b : First) → w ≡ Bare bytes → IsExpectedBy version w a → IsExpected version b bytes → a ≡ b
+expected_by version w v bytes a b e p q = one_expected version a b bytes (subst (λ (x : Word). IsExpectedBy version x a) e p) q
 
 cons_head : (w v : Word) (ws vs : List Word) → ◌≡◌ {A = List Word} (w ∷ ws) (v ∷ vs) → w ≡ v
 cons_head w v ws vs e = cc
 
-pub may_stand_there : (stage : Stage) (read : Read) (w : Word) (others : List Word) (expected : First) → IsRead read (w ∷ others) → IsExpectedBy w expected → MayBegin stage expected → MayBegin stage (expectation read.statement)
-may_stand_there stage read w others expected r p m =
-    let f = first_of_words AnyShortName read.statement (w ∷ others) (read_says read (w ∷ others) r).0 in
-    subst (MayBegin stage) (expected_by w w f.word expected (expectation read.statement) (cons_head w (Bare f.word) others f.others f.parts) p f.expected) m
+pub may_stand_there : (version : Version) (stage : Stage) (read : Read) (w : Word) (others : List Word) (expected : First) → IsRead version read (w ∷ others) → IsExpectedBy version w expected → MayBegin stage expected → MayBegin stage (expectation read.statement)
+may_stand_there version stage read w others expected r p m =
+    let f = first_of_words AnyShortName read.statement (w ∷ others) (read_says version read (w ∷ others) r).0 in
+    subst (MayBegin stage) (expected_by version w w f.word expected (expectation read.statement) (cons_head w (Bare f.word) others f.others f.parts) p f.expected) m
 
 -- ---- heads
 
-has_words : (read : Read) (words : List Word) (line : List ℕ) → IsLine words line → IsRead read words → HasWords line
-has_words read words line l r = (words, l, (read.statement, spells_more AnyShortName AnyName (λ skip name short. short.0) read.statement words (read_says read words r).0))
+has_words : (version : Version) (read : Read) (words : List Word) (line : List ℕ) → IsLine words line → IsRead version read words → HasWords version line
+has_words version read words line l r = (words, l, (read.statement, spells_more AnyShortName AnyName (λ skip name short. short.0) read.statement words (read_says version read words r).0))
 
-head_begins : (p : Progress) (kind : Kind) (params : List Param) (line : List ℕ) (words : List Word) → IsLine words line → IsRead (record { statement = Head kind params; goal = None }) words → MayBegin (stage_of p.place) first.Head
+head_begins : (p : Progress) (kind : Kind) (params : List Param) (line : List ℕ) (words : List Word) → IsLine words line → IsRead p.version (record { statement = Head kind params; goal = None }) words → MayBegin (stage_of p.place) first.Head
     → Begins (situation_of p) line first.Head
-head_begins p kind params line words l r m = line_begins AnyShortName (Head kind params) words (situation_of p) line l (read_says (record { statement = Head kind params; goal = None }) words r).0 m
+head_begins p kind params line words l r m = line_begins AnyShortName (Head kind params) words (situation_of p) line l (read_says p.version (record { statement = Head kind params; goal = None }) words r).0 m
 
 abbrev head_read : Kind → List Param → Read
 head_read kind params = record { statement = Head kind params; goal = None }
@@ -111,13 +115,14 @@ head_stopped p number kind params f m (inl x) = inl x
 head_stopped p number kind params f m (inr x) = inr (λ line words l r.
     subst (λ (which : FaultNo). LineFault number (situation_of p) line which f.line) (sym x.0.0)
     (subst (LineFault number (situation_of p) line fault.Limit) (sym x.0.1)
-    (empty (head_begins p kind params line words l r m) (has_words (head_read kind params) words line l r) (empty_is p.place x.1))))
+    (empty (head_begins p kind params line words l r m) (has_words p.version (head_read kind params) words line l r) (empty_is p.place x.1))))
 
 head_due : {Z : Type 0} → first.Head ≡ first.Registers → Z
 head_due e = absurd cc
 
 closed_length : (sections : List Section) (place : Place) → MayBegin (stage_of place) first.Head → length (ended sections place) ≡ length sections + begun place
 closed_length sections AtStart m = omega arith
+closed_length sections BehindVersion m = omega arith
 closed_length sections (BehindHead kind params) m = head_due m
 closed_length sections (Within section) m = omega (arith, length-append sections (section ∷ []))
 
@@ -127,32 +132,33 @@ too_many_heads p number kind params f all m c many a b = inr (λ line words l r.
     let n : length all ≡ length p.sections + begun p.place = ap length c.0 ∙ closed_length p.sections p.place m in
     subst (λ (which : FaultNo). LineFault number (situation_of p) line which f.line) (sym a)
     (subst (LineFault number (situation_of p) line fault.Limit) (sym b)
-    (procedures (head_begins p kind params line words l r m) (has_words (head_read kind params) words line l r) (λ e. c.1 (is_empty p.place e.0 e.1)) (omega (arith, n, many)))))
+    (procedures (head_begins p kind params line words l r m) (has_words p.version (head_read kind params) words line l r) (λ e. c.1 (is_empty p.place e.0 e.1)) (omega (arith, n, many)))))
 
 positive : (n : ℕ) → (n ≡ 0 → ⊥) → 0 < n
 positive zero none = absurd (none refl)
 positive (suc n) none = omega arith
 
-whole_at : (place : Place) → MayBegin (stage_of place) first.Head → (IsEmptyAt place → ⊥) → (stage_of place ≡ Start) ⊎ ((stage_of place ≡ InBody) × (0 < length (drafts_at place)))
-whole_at AtStart m none = inl refl
+whole_at : (place : Place) → MayBegin (stage_of place) first.Head → (IsEmptyAt place → ⊥) → IsOutset (stage_of place) ⊎ ((stage_of place ≡ InBody) × (0 < length (drafts_at place)))
+whole_at AtStart m none = inl tt
+whole_at BehindVersion m none = inl tt
 whole_at (BehindHead kind params) m none = head_due m
 whole_at (Within section) m none = inr (refl, positive (length section.drafts) none)
 
 pub head_taken : (p : Progress) (number : ℕ) (kind : Kind) (params : List Param) (all : List Section) → MayBegin (stage_of p.place) first.Head → AreClosed p.sections p.place all → length all < 64
-    → MayStand (Head kind params) (situation_of p) × (◌≡◌ {A = Progress} (record { sections = all; head_line = number; place = BehindHead kind params }) (step number (Head kind params) None p))
+    → MayStand (Head kind params) (situation_of p) × (◌≡◌ {A = Progress} (record { version = p.version; sections = all; head_line = number; place = BehindHead kind params }) (step number (Head kind params) None p))
 head_taken p number kind params all m c few =
     let n : length all ≡ length p.sections + begun p.place = ap length c.0 ∙ closed_length p.sections p.place m in
-    ((whole_at p.place m c.1, omega (arith, n, few)), ap (λ (ss : List Section). record { sections = ss; head_line = number; place = BehindHead kind params }) c.0)
+    ((whole_at p.place m c.1, omega (arith, n, few)), ap (λ (ss : List Section). record { version = p.version; sections = ss; head_line = number; place = BehindHead kind params }) c.0)
 
 -- ---- the end
 
 -- the last section ends with the text as it would end with another
-pub finished : (sections all : List Section) (head_line : ℕ) (section : Section) → AreClosed sections (Within section) all → AreFinished (progress sections head_line (Within section)) all
-finished sections all head_line section c = ((refl, positive (length section.drafts) c.1), c.0)
+pub finished : (version : Version) (sections all : List Section) (head_line : ℕ) (section : Section) → AreClosed sections (Within section) all → AreFinished (progress version sections head_line (Within section)) all
+finished version sections all head_line section c = ((refl, positive (length section.drafts) c.1), c.0)
 
-pub not_finished_there : (sections : List Section) (head_line : ℕ) (section : Section) (f : AsmFault) → IsNotClosed (Within section) head_line f → IsNotFinished (progress sections head_line (Within section)) f
-not_finished_there sections head_line section f (inl m) = inl m
-not_finished_there sections head_line section f (inr e) = inr (e.0.0, inr (λ same. body_start same, e.1, e.0.1))
+pub not_finished_there : (version : Version) (sections : List Section) (head_line : ℕ) (section : Section) (f : AsmFault) → IsNotClosed (Within section) head_line f → IsNotFinished (progress version sections head_line (Within section)) f
+not_finished_there version sections head_line section f (inl m) = inl m
+not_finished_there version sections head_line section f (inr e) = inr (e.0.0, inr (λ outset. outset, e.1, e.0.1))
 
 -- ---- the first word of a list
 
@@ -168,26 +174,27 @@ a_first {X} (y ∷ others) x e = (others, ap (λ (z : X). z ∷ others) (same y 
 
 -- ---- labels and instructions
 
-pub draft_stopped : (sections : List Section) (head_line number : ℕ) (section : Section) (i : Instr) (goal : Option (List ℕ)) (f : AsmFault) → IsMemory f ⊎ (IsLimit f number × (4096 ≤ length section.drafts))
-    → Stopped (progress sections head_line (Within section)) number (record { statement = Code i; goal = goal }) f
-draft_stopped sections head_line number section i goal f (inl x) = inl x
-draft_stopped sections head_line number section i goal f (inr x) = inr (λ line words l r.
-    let s = situation_of (progress sections head_line (Within section)) in
+pub draft_stopped : (version : Version) (sections : List Section) (head_line number : ℕ) (section : Section) (i : Instr) (goal : Option (List ℕ)) (f : AsmFault) → IsMemory f ⊎ (IsLimit f number × (4096 ≤ length section.drafts))
+    → Stopped (progress version sections head_line (Within section)) number (record { statement = Code i; goal = goal }) f
+draft_stopped version sections head_line number section i goal f (inl x) = inl x
+draft_stopped version sections head_line number section i goal f (inr x) = inr (λ line words l r.
+    let s = situation_of (progress version sections head_line (Within section)) in
     subst (λ (which : FaultNo). LineFault number s line which f.line) (sym x.0.0)
     (subst (LineFault number s line fault.Limit) (sym x.0.1)
-    (instructions i words refl l (read_says (record { statement = Code i; goal = goal }) words r) x.1)))
+    (instructions i words refl l (read_says version (record { statement = Code i; goal = goal }) words r) x.1)))
 
-pub label_stopped : (sections : List Section) (head_line number : ℕ) (section : Section) (name : List ℕ) (f : AsmFault)
+pub label_stopped : (version : Version) (sections : List Section) (head_line number : ℕ) (section : Section) (name : List ℕ) (f : AsmFault)
     → IsMemory f ⊎ ((f.no ≡ fault.LabelTwice) × (f.line ≡ number) × Contains (map (λ label. label.name) section.labels) name)
-    → Stopped (progress sections head_line (Within section)) number (record { statement = Label name; goal = None }) f
-label_stopped sections head_line number section name f (inl x) = inl x
-label_stopped sections head_line number section name f (inr x) = inr (λ line words l r.
-    let s = situation_of (progress sections head_line (Within section)) in
+    → Stopped (progress version sections head_line (Within section)) number (record { statement = Label name; goal = None }) f
+label_stopped version sections head_line number section name f (inl x) = inl x
+label_stopped version sections head_line number section name f (inr x) = inr (λ line words l r.
+    let s = situation_of (progress version sections head_line (Within section)) in
     subst (λ (which : FaultNo). LineFault number s line which f.line) (sym x.0)
     (subst (LineFault number s line fault.LabelTwice) (sym x.1)
-    (label_twice name words refl l (read_says (record { statement = Label name; goal = None }) words r) x.2)))
+    (label_twice name words refl l (read_says version (record { statement = Label name; goal = None }) words r) x.2)))
 
 goal_is : (statement : statements.Statement) → IsGoalOf (seen statement).statement (seen statement).goal
+goal_is (statement.Version version) = refl
 goal_is (statement.Head kind params) = refl
 goal_is (statement.Registers registers) = refl
 goal_is (statement.Label name) = refl
@@ -200,6 +207,28 @@ line_taken p number line said (Ok reading) w give =
     (Some (seen said), (w.0, t.0, goal_is said), t.1)
 line_taken p number line said (Err f) w give = elim (give w.1) [ inl x ↦ inl x | inr x ↦ inr (x line w.0.0 w.0.1 w.0.2) ]
 
-pub any_word_fault : (number : ℕ) (s : Situation) (line : List ℕ) (w : Word) (others : List Word) (whole : Bool) → IsLineRead (w ∷ others) whole line → ((expected : First) → IsExpectedBy w expected → MayBegin s.stage expected → ⊥) → LineFault number s line fault.Word number
+pub any_word_fault : (number : ℕ) (s : Situation) (line : List ℕ) (w : Word) (others : List Word) (whole : Bool) → IsLineRead (w ∷ others) whole line → ((expected : First) → IsExpectedBy s.version w expected → MayBegin s.stage expected → ⊥) → LineFault number s line fault.Word number
 any_word_fault number s line w others true r none = line_word_fault number s line w others r none
 any_word_fault number s line w others false r none = broken_word_fault number s line w others r none
+
+-- ---- the version
+
+pub version_taken : (p : Progress) (number : ℕ) (version : Version) → MayBegin (stage_of p.place) first.Version
+    → (stage_of p.place ≡ Start) × (◌≡◌ {A = Progress} (record p { version = version; place = BehindVersion }) (step number (OfVersion (version_number version)) None p))
+version_taken p number version m = (at_start p.place m, ap (λ (v : Version). record p { version = v; place = BehindVersion }) (sym (number_back version)))
+  where
+    other : {Z : Type 0} → first.Version ≡ first.Head → Z
+    other e = absurd cc
+
+    registers : {Z : Type 0} → first.Version ≡ first.Registers → Z
+    registers e = absurd cc
+
+    body : {Z : Type 0} → first.Version ≡ first.Body → Z
+    body e = absurd cc
+
+    at_start : (place : Place) → MayBegin (stage_of place) first.Version → stage_of place ≡ Start
+    at_start AtStart m = refl
+    at_start BehindVersion m = other m
+    at_start (BehindHead kind params) m = registers m
+    at_start (Within section) (inl e) = other e
+    at_start (Within section) (inr e) = body e

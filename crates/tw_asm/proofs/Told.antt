@@ -1,5 +1,6 @@
 -- A text that isn't assembled has its first fault told.
 use Rattle.std.proofs.Common.{◌≡◌, ◌⊎◌, ℕ, List, inl, inr, refl}
+use Rattle.tw_code.specs.declared.version.Version.{Version}
 use Rattle.tw_asm.specs.Answers.{IsFault}
 use Rattle.tw_asm.specs.declared.fault.AsmFault.{AsmFault}
 use Rattle.tw_asm.specs.declared.fault.FaultNo.{FaultNo}
@@ -56,6 +57,6 @@ not_read text f (inl m) = told_fault text f (inl m)
 not_read text f (inr (inl l)) = told_fault text f (inr (inl l))
 not_read text f (inr (inr e)) = told_fault text f (inr (inr (inl e)))
 
-pub not_linked : (text : List ℕ) (all : List Section) (f : AsmFault) → HasSections text all → IsMemory f ⊎ FirstUnlinked (flat_map section_goals all) f → IsFault text f.no f.line
-not_linked text all f h (inl m) = told_fault text f (inl m)
-not_linked text all f h (inr u) = told_fault text f (inr (inr (inr (first_goal_fault text all f h u))))
+pub not_linked : (text : List ℕ) (version : Version) (all : List Section) (f : AsmFault) → HasSections text version all → IsMemory f ⊎ FirstUnlinked (flat_map section_goals all) f → IsFault text f.no f.line
+not_linked text version all f h (inl m) = told_fault text f (inl m)
+not_linked text version all f h (inr u) = told_fault text f (inr (inr (inr (first_goal_fault text version all f h u))))

@@ -1,32 +1,34 @@
 -- Two readings of the same lines are alike.
 use Rattle.std.proofs.Common.{◌≡◌, ℕ, ◌+◌, List, [], ◌∷◌, Option, Some, None, refl, sym, subst, ap, ◌∙◌}
+use Rattle.tw_code.specs.declared.version.Version.{Version}
 use Rattle.tw_words.specs.Words.{Bare, IsLine, Word}
 use Rattle.tw_words.proofs.Once.{line_once}
-use Rattle.tw_asm.specs.Statement.{Statement, Head, Registers, Label, Code, AnyShortName, Goals, Say, Spells}
+use Rattle.tw_asm.specs.Statement.{Statement, OfVersion, Head, Registers, Label, Code, AnyShortName, Goals, Say, Spells}
 use Rattle.tw_asm.proofs.Once.{begins, first_word}
 use Rattle.tw_asm.proofs.Spelled.{never_cons}
 use Rattle.tw_asm.specs.Fault.{LineSays, LinesSay, Situation, after_line, labels_ahead}
 use Rattle.tw_asm.proofs.Alike.{AreAlike, after_alike, alike}
 
-pub none_spelled : (G : Goals) (statement : Statement) (words : List Word) → words ≡ [] → Spells G statement words → ⊥
+pub none_spelled : {version : Version} (G : Goals) (statement : Statement) (words : List Word) → words ≡ [] → Spells version G statement words → ⊥
 none_spelled G statement words e h =
     let f = first_word G statement words h in
     never_cons (Bare (begins statement).word) f.0 (sym f.1 ∙ e)
 
-pub nothing_says : {Z : Type 0} (statement : Statement) (words : List Word) (line : List ℕ) → IsLine [] line → IsLine words line → Say statement words → Z
-nothing_says statement words line blank is say = absurd (none_spelled AnyShortName statement words (line_once words [] line is blank) say.0)
+pub nothing_says : {Z : Type 0} (version : Version) (statement : Statement) (words : List Word) (line : List ℕ) → IsLine [] line → IsLine words line → Say version statement words → Z
+nothing_says version statement words line blank is say = absurd (none_spelled AnyShortName statement words (line_once words [] line is blank) say.0)
 
-pub says_alike : (s t : Statement) (words others : List Word) (line : List ℕ) → IsLine words line → Say s words → IsLine others line → Say t others → AreAlike s t
-says_alike s t words others line is say other_is other =
-    alike AnyShortName AnyShortName s t words say.0 (subst (λ (ws : List Word). Spells AnyShortName t ws) (line_once others words line other_is is) other.0)
+pub says_alike : (version : Version) (s t : Statement) (words others : List Word) (line : List ℕ) → IsLine words line → Say version s words → IsLine others line → Say version t others → AreAlike s t
+says_alike version s t words others line is say other_is other =
+    alike AnyShortName AnyShortName s t words say.0 (subst (λ (ws : List Word). Spells version AnyShortName t ws) (line_once others words line other_is is) other.0)
 
 pub both_alike : (number : ℕ) (s : Situation) (line : List ℕ) (a b : Option Statement) → LineSays s line a → LineSays s line b → after_line number a s ≡ after_line number b s
 both_alike number s line None None h k = refl
-both_alike number s line None (Some statement) h k = nothing_says statement k.0.0 line h k.0.1 k.0.2
-both_alike number s line (Some statement) None h k = nothing_says statement h.0.0 line k h.0.1 h.0.2
-both_alike number s line (Some statement) (Some other) h k = after_alike number statement other s (says_alike statement other h.0.0 k.0.0 line h.0.1 h.0.2 k.0.1 k.0.2)
+both_alike number s line None (Some statement) h k = nothing_says s.version statement k.0.0 line h k.0.1 k.0.2
+both_alike number s line (Some statement) None h k = nothing_says s.version statement h.0.0 line k h.0.1 h.0.2
+both_alike number s line (Some statement) (Some other) h k = after_alike number statement other s (says_alike s.version statement other h.0.0 k.0.0 line h.0.1 h.0.2 k.0.1 k.0.2)
 
 ahead_by : (s t : Statement) (a b : List (Option Statement)) → AreAlike s t → labels_ahead a ≡ labels_ahead b → labels_ahead (Some s ∷ a) ≡ labels_ahead (Some t ∷ b)
+ahead_by (OfVersion n) (OfVersion m) a b x e = e
 ahead_by (Head kind params) (Head k ps) a b x e = refl
 ahead_by (Registers registers) (Registers others) a b x e = e
 ahead_by (Label name) (Label other) a b x e = ap (λ (n : List ℕ). n ∷ labels_ahead a) x ∙ ap (λ (names : List (List ℕ)). other ∷ names) e
@@ -35,9 +37,9 @@ ahead_by s t a b x e = absurd x
 
 ahead_alike : (s : Situation) (line : List ℕ) (x y : Option Statement) (a b : List (Option Statement)) → LineSays s line x → LineSays s line y → labels_ahead a ≡ labels_ahead b → labels_ahead (x ∷ a) ≡ labels_ahead (y ∷ b)
 ahead_alike s line None None a b h k e = e
-ahead_alike s line None (Some statement) a b h k e = nothing_says statement k.0.0 line h k.0.1 k.0.2
-ahead_alike s line (Some statement) None a b h k e = nothing_says statement h.0.0 line k h.0.1 h.0.2
-ahead_alike s line (Some statement) (Some other) a b h k e = ahead_by statement other a b (says_alike statement other h.0.0 k.0.0 line h.0.1 h.0.2 k.0.1 k.0.2) e
+ahead_alike s line None (Some statement) a b h k e = nothing_says s.version statement k.0.0 line h k.0.1 k.0.2
+ahead_alike s line (Some statement) None a b h k e = nothing_says s.version statement h.0.0 line k h.0.1 h.0.2
+ahead_alike s line (Some statement) (Some other) a b h k e = ahead_by statement other a b (says_alike s.version statement other h.0.0 k.0.0 line h.0.1 h.0.2 k.0.1 k.0.2) e
 
 -- the rest of another reading, from the situation of this one
 pub others_say : (number : ℕ) (s : Situation) (line : List ℕ) (more : List (List ℕ)) (x y : Option Statement) (others : List (Option Statement)) → LineSays s line x → LineSays s line y

@@ -7,13 +7,17 @@ use Rattle.tw_types.specs.declared.data_type.Scalar.{Scalar}
 use Rattle.tw_types.specs.declared.param.Param.{Param}
 use Rattle.tw_code.specs.declared.instr.Instr.{Instr}
 use Rattle.tw_code.specs.declared.procedure.Procedure.{Procedure}
+use Rattle.tw_code.specs.declared.version.Version.{Version}
+use Rattle.tw_code.specs.declared.version.Version.TheVariants.{One}
+use Rattle.tw_code.specs.format.Program.{Versioned}
 use Rattle.tw_words.specs.Words.{Word}
-use Rattle.tw_asm.specs.Statement.{Statement, Head, Registers, Label, Code, Goals, IsShortName, Spells}
-use Rattle.tw_asm.specs.Spelling.{AreCode, GoesTo, HaveWords, Placed, SpellProcedures, SpellsProcedure, SpellsProgram}
+use Rattle.tw_asm.specs.Statement.{Statement, OfVersion, Head, Registers, Label, Code, Goals, IsShortName, Spells, version_by, version_number}
+use Rattle.tw_asm.specs.Spelling.{AreCode, GoesTo, HaveWords, Placed, SpellProcedures, SpellsProcedure, SpellsProgram, SpellsVersion}
 use Rattle.tw_asm.proofs.Alike.{alike}
 use Rattle.tw_words.proofs.Once.{line_once}
 use Rattle.tw_asm.proofs.Spelled.{AreNames, cons_is, never_cons}
 use Rattle.tw_asm.proofs.Once.{spelled_once}
+use Rattle.tw_asm.proofs.Versions.{number_back}
 use Rattle.tw_asm.proofs.Walk.{AreOnce, contains_cases, contains_none, labels_short, name_among, names_of, once_by_pairs}
 
 -- ---- the words of lines
@@ -29,22 +33,22 @@ words_once (line ∷ ls) _ _ (HaveWords.one_more _ _ word behind a is more) (Hav
 -- ---- where a body ends
 
 -- a procedure begins here, or nothing follows
-abbrev IsAnew : List (List Word) → Type 0
-IsAnew [] = Unit {0}
-IsAnew (words ∷ others) = (kind : Kind) × (params : List Param) × Spells (GoesTo [] 0) (Head kind params) words
+abbrev IsAnew : Version → List (List Word) → Type 0
+IsAnew version [] = Unit {0}
+IsAnew version (words ∷ others) = (kind : Kind) × (params : List Param) × Spells version (GoesTo [] 0) (Head kind params) words
 
-anew : (program : List Procedure) (words : List (List Word)) → SpellProcedures program words → IsAnew words
-anew _ _ SpellProcedures.end = tt
-anew _ _ (SpellProcedures.one_more p others first behind h more) = subst (λ (x : List (List Word)). IsAnew (x ++ behind)) (sym h.parts) (p.kind, p.params, h.head_is)
+anew : (version : Version) (program : List Procedure) (words : List (List Word)) → SpellProcedures version program words → IsAnew version words
+anew version _ _ SpellProcedures.end = tt
+anew version _ _ (SpellProcedures.one_more p others first behind h more) = subst (λ (x : List (List Word)). IsAnew version (x ++ behind)) (sym h.parts) (p.kind, p.params, h.head_is)
 
-no_label_anew : {Z : Type 0} (goals : Goals) (name : List ℕ) (words : List Word) (others : List (List Word)) → IsAnew (words ∷ others) → Spells goals (Label name) words → Z
-no_label_anew goals name words others a h = absurd (alike (GoesTo [] 0) goals (Head a.0 a.1) (Label name) words a.2 h)
+no_label_anew : {Z : Type 0} (version : Version) (goals : Goals) (name : List ℕ) (words : List Word) (others : List (List Word)) → IsAnew version (words ∷ others) → Spells version goals (Label name) words → Z
+no_label_anew version goals name words others a h = absurd (alike (GoesTo [] 0) goals (Head a.0 a.1) (Label name) words a.2 h)
 
-no_code_anew : {Z : Type 0} (goals : Goals) (i : Instr) (words : List Word) (others : List (List Word)) → IsAnew (words ∷ others) → Spells goals (Code i) words → Z
-no_code_anew goals i words others a h = absurd (alike (GoesTo [] 0) goals (Head a.0 a.1) (Code i) words a.2 h)
+no_code_anew : {Z : Type 0} (version : Version) (goals : Goals) (i : Instr) (words : List Word) (others : List (List Word)) → IsAnew version (words ∷ others) → Spells version goals (Code i) words → Z
+no_code_anew version goals i words others a h = absurd (alike (GoesTo [] 0) goals (Head a.0 a.1) (Code i) words a.2 h)
 
-no_label_code : {Z : Type 0} (G H : Goals) (name : List ℕ) (i : Instr) (words other : List Word) → words ≡ other → Spells G (Label name) words → Spells H (Code i) other → Z
-no_label_code G H name i words other e h k = absurd (alike G H (Label name) (Code i) words h (subst (λ (x : List Word). Spells H (Code i) x) (sym e) k))
+no_label_code : {Z : Type 0} (version : Version) (G H : Goals) (name : List ℕ) (i : Instr) (words other : List Word) → words ≡ other → Spells version G (Label name) words → Spells version H (Code i) other → Z
+no_label_code version G H name i words other e h k = absurd (alike G H (Label name) (Code i) words h (subst (λ (x : List Word). Spells version H (Code i) x) (sym e) k))
 
 -- the labels of a body and its words, whatever follows them
 record SameBody (labels others : List Placed) (body front behind rest : List (List Word)) : Type 0 where
@@ -55,33 +59,33 @@ record SameBody (labels others : List Placed) (body front behind rest : List (Li
 abbrev placed : List ℕ → ℕ → Placed
 placed name place = record { name = name; place = place }
 
-body_once : (all every : List Placed) (place : ℕ) (labels : List Placed) (code : List Instr) (body : List (List Word)) (others : List Placed) (instrs : List Instr) (front behind rest : List (List Word))
-    → AreCode all place labels code body → AreCode every place others instrs front → body ++ behind ≡ front ++ rest → IsAnew behind → IsAnew rest → SameBody labels others body front behind rest
-body_once all every place _ _ _ _ _ _ behind rest (AreCode.end _) (AreCode.end _) e a b = record { labels_are = refl; body_is = refl; rest_is = e }
-body_once all every place _ _ _ _ _ _ behind rest (AreCode.end _) (AreCode.label _ name words labels code body h limits more) e a b =
-    no_label_anew (GoesTo every place) name words (body ++ rest) (subst IsAnew e a) h
-body_once all every place _ _ _ _ _ _ behind rest (AreCode.end _) (AreCode.instruction _ i words labels code body h more) e a b =
-    no_code_anew (GoesTo every place) i words (body ++ rest) (subst IsAnew e a) h
-body_once all every place _ _ _ _ _ _ behind rest (AreCode.label _ name words labels code body h limits more) (AreCode.end _) e a b =
-    no_label_anew (GoesTo all place) name words (body ++ behind) (subst IsAnew (sym e) b) h
-body_once all every place _ _ _ _ _ _ behind rest (AreCode.instruction _ i words labels code body h more) (AreCode.end _) e a b =
-    no_code_anew (GoesTo all place) i words (body ++ behind) (subst IsAnew (sym e) b) h
-body_once all every place _ _ _ _ _ _ behind rest (AreCode.label _ name words labels code body h limits more) (AreCode.instruction _ i first others instrs front k later) e a b =
-    no_label_code (GoesTo all place) (GoesTo every place) name i words first (cons_is words first (body ++ behind) (front ++ rest) e).0 h k
-body_once all every place _ _ _ _ _ _ behind rest (AreCode.instruction _ i words labels code body h more) (AreCode.label _ name first others instrs front k limits later) e a b =
-    no_label_code (GoesTo every place) (GoesTo all place) name i first words (sym (cons_is words first (body ++ behind) (front ++ rest) e).0) k h
-body_once all every place _ _ _ _ _ _ behind rest (AreCode.label _ name words labels code body h limits more) (AreCode.label _ other first others instrs front k bounds later) e a b =
+body_once : (version : Version) (all every : List Placed) (place : ℕ) (labels : List Placed) (code : List Instr) (body : List (List Word)) (others : List Placed) (instrs : List Instr) (front behind rest : List (List Word))
+    → AreCode version all place labels code body → AreCode version every place others instrs front → body ++ behind ≡ front ++ rest → IsAnew version behind → IsAnew version rest → SameBody labels others body front behind rest
+body_once version all every place _ _ _ _ _ _ behind rest (AreCode.end _) (AreCode.end _) e a b = record { labels_are = refl; body_is = refl; rest_is = e }
+body_once version all every place _ _ _ _ _ _ behind rest (AreCode.end _) (AreCode.label _ name words labels code body h limits more) e a b =
+    no_label_anew version (GoesTo every place) name words (body ++ rest) (subst (IsAnew version) e a) h
+body_once version all every place _ _ _ _ _ _ behind rest (AreCode.end _) (AreCode.instruction _ i words labels code body h more) e a b =
+    no_code_anew version (GoesTo every place) i words (body ++ rest) (subst (IsAnew version) e a) h
+body_once version all every place _ _ _ _ _ _ behind rest (AreCode.label _ name words labels code body h limits more) (AreCode.end _) e a b =
+    no_label_anew version (GoesTo all place) name words (body ++ behind) (subst (IsAnew version) (sym e) b) h
+body_once version all every place _ _ _ _ _ _ behind rest (AreCode.instruction _ i words labels code body h more) (AreCode.end _) e a b =
+    no_code_anew version (GoesTo all place) i words (body ++ behind) (subst (IsAnew version) (sym e) b) h
+body_once version all every place _ _ _ _ _ _ behind rest (AreCode.label _ name words labels code body h limits more) (AreCode.instruction _ i first others instrs front k later) e a b =
+    no_label_code version (GoesTo all place) (GoesTo every place) name i words first (cons_is words first (body ++ behind) (front ++ rest) e).0 h k
+body_once version all every place _ _ _ _ _ _ behind rest (AreCode.instruction _ i words labels code body h more) (AreCode.label _ name first others instrs front k limits later) e a b =
+    no_label_code version (GoesTo every place) (GoesTo all place) name i first words (sym (cons_is words first (body ++ behind) (front ++ rest) e).0) k h
+body_once version all every place _ _ _ _ _ _ behind rest (AreCode.label _ name words labels code body h limits more) (AreCode.label _ other first others instrs front k bounds later) e a b =
     let same = cons_is words first (body ++ behind) (front ++ rest) e in
-    let names : name ≡ other = alike (GoesTo all place) (GoesTo every place) (Label name) (Label other) words h (subst (λ (x : List Word). Spells (GoesTo every place) (Label other) x) (sym same.0) k) in
-    let r = body_once all every place labels code body others instrs front behind rest more later same.1 a b in
+    let names : name ≡ other = alike (GoesTo all place) (GoesTo every place) (Label name) (Label other) words h (subst (λ (x : List Word). Spells version (GoesTo every place) (Label other) x) (sym same.0) k) in
+    let r = body_once version all every place labels code body others instrs front behind rest more later same.1 a b in
     record {
       labels_are = ap (λ (n : List ℕ). placed n place ∷ labels) names ∙ ap (λ (ls : List Placed). placed other place ∷ ls) r.labels_are;
       body_is = ap (λ (x : List Word). x ∷ body) same.0 ∙ ap (λ (x : List (List Word)). first ∷ x) r.body_is;
       rest_is = r.rest_is;
     }
-body_once all every place _ _ _ _ _ _ behind rest (AreCode.instruction _ i words labels code body h more) (AreCode.instruction _ j first others instrs front k later) e a b =
+body_once version all every place _ _ _ _ _ _ behind rest (AreCode.instruction _ i words labels code body h more) (AreCode.instruction _ j first others instrs front k later) e a b =
     let same = cons_is words first (body ++ behind) (front ++ rest) e in
-    let r = body_once all every (place + 1) labels code body others instrs front behind rest more later same.1 a b in
+    let r = body_once version all every (place + 1) labels code body others instrs front behind rest more later same.1 a b in
     record {
       labels_are = r.labels_are;
       body_is = ap (λ (x : List Word). x ∷ body) same.0 ∙ ap (λ (x : List (List Word)). first ∷ x) r.body_is;
@@ -109,19 +113,19 @@ one_skip all place once n m name g h =
 instr_same : (i j : Instr) → Code i ≡ Code j → i ≡ j
 instr_same i j e = cc
 
-code_once : (all : List Placed) (place : ℕ) (labels : List Placed) (code : List Instr) (body : List (List Word)) (others : List Placed) (instrs : List Instr) → AreOnce (names_of all)
-    → ((label : Placed) → Contains all label → IsShortName label.name) → AreCode all place labels code body → AreCode all place others instrs body → code ≡ instrs
-code_once all place _ _ _ _ _ once short (AreCode.end _) (AreCode.end _) = refl
-code_once all place _ _ _ _ _ once short (AreCode.label _ name words labels code body h limits more) (AreCode.label _ other _ others instrs _ k bounds later) =
-    code_once all place labels code body others instrs once short more later
-code_once all place _ _ _ _ _ once short (AreCode.label _ name words labels code body h limits more) (AreCode.instruction _ i _ others instrs _ k later) =
-    no_label_code (GoesTo all place) (GoesTo all place) name i words words refl h k
-code_once all place _ _ _ _ _ once short (AreCode.instruction _ i words labels code body h more) (AreCode.label _ name _ others instrs _ k bounds later) =
-    no_label_code (GoesTo all place) (GoesTo all place) name i words words refl k h
-code_once all place _ _ _ _ _ once short (AreCode.instruction _ i words labels code body h more) (AreCode.instruction _ j _ others instrs _ k later) =
+code_once : (version : Version) (all : List Placed) (place : ℕ) (labels : List Placed) (code : List Instr) (body : List (List Word)) (others : List Placed) (instrs : List Instr) → AreOnce (names_of all)
+    → ((label : Placed) → Contains all label → IsShortName label.name) → AreCode version all place labels code body → AreCode version all place others instrs body → code ≡ instrs
+code_once version all place _ _ _ _ _ once short (AreCode.end _) (AreCode.end _) = refl
+code_once version all place _ _ _ _ _ once short (AreCode.label _ name words labels code body h limits more) (AreCode.label _ other _ others instrs _ k bounds later) =
+    code_once version all place labels code body others instrs once short more later
+code_once version all place _ _ _ _ _ once short (AreCode.label _ name words labels code body h limits more) (AreCode.instruction _ i _ others instrs _ k later) =
+    no_label_code version (GoesTo all place) (GoesTo all place) name i words words refl h k
+code_once version all place _ _ _ _ _ once short (AreCode.instruction _ i words labels code body h more) (AreCode.label _ name _ others instrs _ k bounds later) =
+    no_label_code version (GoesTo all place) (GoesTo all place) name i words words refl k h
+code_once version all place _ _ _ _ _ once short (AreCode.instruction _ i words labels code body h more) (AreCode.instruction _ j _ others instrs _ k later) =
     let names : AreNames (GoesTo all place) = λ skip name goal. (short (placed name (place + 1 + skip)) goal).0 in
     let same = instr_same i j (spelled_once (GoesTo all place) (GoesTo all place) names names (one_skip all place once) (Code i) (Code j) words h k) in
-    ap (λ (x : Instr). x ∷ code) same ∙ ap (λ (xs : List Instr). j ∷ xs) (code_once all (place + 1) labels code body others instrs once short more later)
+    ap (λ (x : Instr). x ∷ code) same ∙ ap (λ (xs : List Instr). j ∷ xs) (code_once version all (place + 1) labels code body others instrs once short more later)
 
 -- ---- procedures
 
@@ -140,9 +144,9 @@ registers_same : (rs ss : List Scalar) → Registers rs ≡ Registers ss → rs 
 registers_same rs ss e = cc
 
 -- where no label may be named
-plain_once : (s t : Statement) (words other : List Word) → words ≡ other → Spells (GoesTo [] 0) s words → Spells (GoesTo [] 0) t other → s ≡ t
-plain_once s t words other e h k =
-    spelled_once (GoesTo [] 0) (GoesTo [] 0) no_names no_names (λ n m name goal to. contains_none (placed name (0 + 1 + n)) goal) s t words h (subst (λ (x : List Word). Spells (GoesTo [] 0) t x) (sym e) k)
+plain_once : (version : Version) (s t : Statement) (words other : List Word) → words ≡ other → Spells version (GoesTo [] 0) s words → Spells version (GoesTo [] 0) t other → s ≡ t
+plain_once version s t words other e h k =
+    spelled_once (GoesTo [] 0) (GoesTo [] 0) no_names no_names (λ n m name goal to. contains_none (placed name (0 + 1 + n)) goal) s t words h (subst (λ (x : List Word). Spells version (GoesTo [] 0) t x) (sym e) k)
   where
     no_names : AreNames (GoesTo [] 0)
     no_names skip name goal = contains_none (placed name (0 + 1 + skip)) goal
@@ -151,30 +155,58 @@ record SameProcedure (p q : Procedure) (behind rest : List (List Word)) : Type 0
   procedure_is : p ≡ q
   rest_is : behind ≡ rest
 
-procedure_once : (p q : Procedure) (first front behind rest : List (List Word)) → SpellsProcedure p first → SpellsProcedure q front → first ++ behind ≡ front ++ rest → IsAnew behind → IsAnew rest → SameProcedure p q behind rest
-procedure_once p q first front behind rest h k e a b =
+procedure_once : (version : Version) (p q : Procedure) (first front behind rest : List (List Word)) → SpellsProcedure version p first → SpellsProcedure version q front → first ++ behind ≡ front ++ rest → IsAnew version behind → IsAnew version rest → SameProcedure p q behind rest
+procedure_once version p q first front behind rest h k e a b =
     let full : h.head ∷ h.registers ∷ (h.body ++ behind) ≡ k.head ∷ k.registers ∷ (k.body ++ rest) = ap (λ (x : List (List Word)). x ++ behind) (sym h.parts) ∙ (e ∙ ap (λ (x : List (List Word)). x ++ rest) k.parts) in
     let heads = cons_is h.head k.head (h.registers ∷ (h.body ++ behind)) (k.registers ∷ (k.body ++ rest)) full in
     let lists = cons_is h.registers k.registers (h.body ++ behind) (k.body ++ rest) heads.1 in
-    let body = body_once h.labels k.labels 0 h.labels p.code h.body k.labels q.code k.body behind rest h.body_is k.body_is lists.1 a b in
-    let head = head_same p.kind q.kind p.params q.params (plain_once (Head p.kind p.params) (Head q.kind q.params) h.head k.head heads.0 h.head_is k.head_is) in
-    let registers = registers_same p.registers q.registers (plain_once (Registers p.registers) (Registers q.registers) h.registers k.registers lists.0 h.registers_are k.registers_are) in
-    let mine = subst (λ (x : List (List Word)). AreCode h.labels 0 h.labels p.code x) body.body_is h.body_is in
-    let other = subst (λ (ls : List Placed). AreCode ls 0 ls q.code k.body) (sym body.labels_are) k.body_is in
-    let code = code_once h.labels 0 h.labels p.code k.body h.labels q.code (once_by_pairs (names_of h.labels) h.once) (labels_short h.labels 0 h.labels p.code h.body h.body_is) mine other in
+    let body = body_once version h.labels k.labels 0 h.labels p.code h.body k.labels q.code k.body behind rest h.body_is k.body_is lists.1 a b in
+    let head = head_same p.kind q.kind p.params q.params (plain_once version (Head p.kind p.params) (Head q.kind q.params) h.head k.head heads.0 h.head_is k.head_is) in
+    let registers = registers_same p.registers q.registers (plain_once version (Registers p.registers) (Registers q.registers) h.registers k.registers lists.0 h.registers_are k.registers_are) in
+    let mine = subst (λ (x : List (List Word)). AreCode version h.labels 0 h.labels p.code x) body.body_is h.body_is in
+    let other = subst (λ (ls : List Placed). AreCode version ls 0 ls q.code k.body) (sym body.labels_are) k.body_is in
+    let code = code_once version h.labels 0 h.labels p.code k.body h.labels q.code (once_by_pairs (names_of h.labels) h.once) (labels_short version h.labels 0 h.labels p.code h.body h.body_is) mine other in
     record { procedure_is = procedure_same p q head.0 head.1 registers code; rest_is = body.rest_is }
 
-no_words : {Z : Type 0} (p : Procedure) (first behind : List (List Word)) → SpellsProcedure p first → [] ≡ first ++ behind → Z
-no_words p first behind h e = absurd (never_cons h.head (h.registers ∷ (h.body ++ behind)) (ap (λ (x : List (List Word)). x ++ behind) (sym h.parts) ∙ sym e))
+no_words : {Z : Type 0} (version : Version) (p : Procedure) (first behind : List (List Word)) → SpellsProcedure version p first → [] ≡ first ++ behind → Z
+no_words version p first behind h e = absurd (never_cons h.head (h.registers ∷ (h.body ++ behind)) (ap (λ (x : List (List Word)). x ++ behind) (sym h.parts) ∙ sym e))
 
-programs_once : (p q : List Procedure) (a b : List (List Word)) → SpellProcedures p a → SpellProcedures q b → a ≡ b → p ≡ q
-programs_once _ _ _ _ SpellProcedures.end SpellProcedures.end e = refl
-programs_once _ _ _ _ SpellProcedures.end (SpellProcedures.one_more q others front rest k later) e = no_words q front rest k e
-programs_once _ _ _ _ (SpellProcedures.one_more p others first behind h more) SpellProcedures.end e = no_words p first behind h (sym e)
-programs_once _ _ _ _ (SpellProcedures.one_more p ps first behind h more) (SpellProcedures.one_more q qs front rest k later) e =
-    let same = procedure_once p q first front behind rest h k e (anew ps behind more) (anew qs rest later) in
-    ap (λ (x : Procedure). x ∷ ps) same.procedure_is ∙ ap (λ (xs : List Procedure). q ∷ xs) (programs_once ps qs behind rest more later same.rest_is)
+procedures_once : (version : Version) (p q : List Procedure) (a b : List (List Word)) → SpellProcedures version p a → SpellProcedures version q b → a ≡ b → p ≡ q
+procedures_once version _ _ _ _ SpellProcedures.end SpellProcedures.end e = refl
+procedures_once version _ _ _ _ SpellProcedures.end (SpellProcedures.one_more q others front rest k later) e = no_words version q front rest k e
+procedures_once version _ _ _ _ (SpellProcedures.one_more p others first behind h more) SpellProcedures.end e = no_words version p first behind h (sym e)
+procedures_once version _ _ _ _ (SpellProcedures.one_more p ps first behind h more) (SpellProcedures.one_more q qs front rest k later) e =
+    let same = procedure_once version p q first front behind rest h k e (anew version ps behind more) (anew version qs rest later) in
+    ap (λ (x : Procedure). x ∷ ps) same.procedure_is ∙ ap (λ (xs : List Procedure). q ∷ xs) (procedures_once version ps qs behind rest more later same.rest_is)
+
+-- ---- the version
+
+-- no procedure begins with the version's line
+no_version_anew : {Z : Type 0} (n : ℕ) (line : List Word) (words others : List (List Word)) → words ≡ line ∷ others → IsAnew One words → Spells One (GoesTo [] 0) (OfVersion n) line → Z
+no_version_anew n line words others e a f = let h = subst (IsAnew One) e a in absurd (alike (GoesTo [] 0) (GoesTo [] 0) (Head h.0 h.1) (OfVersion n) line h.2 f)
+
+-- the version, and the words behind its line
+record SameFront (v w : Version) (words others : List (List Word)) : Type 0 where
+  version_is : v ≡ w
+  words_are : words ≡ others
+
+front_once : (v w : Version) (front other words others : List (List Word)) → SpellsVersion v front → SpellsVersion w other → front ++ words ≡ other ++ others → IsAnew v words → IsAnew w others → SameFront v w words others
+front_once _ _ _ _ words others SpellsVersion.unsaid SpellsVersion.unsaid e a b = record { version_is = refl; words_are = e }
+front_once _ _ _ _ words others SpellsVersion.unsaid (SpellsVersion.said w line f) e a b = no_version_anew (version_number w) line words others e a f
+front_once _ _ _ _ words others (SpellsVersion.said v line f) SpellsVersion.unsaid e a b = no_version_anew (version_number v) line others words (sym e) b f
+front_once _ _ _ _ words others (SpellsVersion.said v line f) (SpellsVersion.said w other g) e a b =
+    let same = cons_is line other words others e in
+    let numbers : version_number v ≡ version_number w = alike (GoesTo [] 0) (GoesTo [] 0) (OfVersion (version_number v)) (OfVersion (version_number w)) line f (subst (Spells One (GoesTo [] 0) (OfVersion (version_number w))) (sym same.0) g) in
+    record { version_is = sym (number_back v) ∙ (ap version_by numbers ∙ number_back w); words_are = same.1 }
+
+versioned_same : (p q : Versioned) → p.version ≡ q.version → p.procedures ≡ q.procedures → p ≡ q
+versioned_same p q v s = ap (λ (x : Version). record p { version = x }) v ∙ ap (λ (x : List Procedure). record q { procedures = x }) s
 
 -- a text spells at most one program
-pub spells_once : (text : List ℕ) (p q : List Procedure) → SpellsProgram p text → SpellsProgram q text → p ≡ q
-spells_once text p q s t = programs_once p q s.words t.words s.procedures_are t.procedures_are (words_once (lines text) s.words t.words s.lines_are t.lines_are)
+pub spells_once : (text : List ℕ) (p q : Versioned) → SpellsProgram p text → SpellsProgram q text → p ≡ q
+spells_once text p q s t =
+    let lines_same = words_once (lines text) (s.front ++ s.words) (t.front ++ t.words) s.lines_are t.lines_are in
+    let same =
+    front_once p.version q.version s.front t.front s.words t.words s.version_is t.version_is lines_same (anew p.version p.procedures s.words s.procedures_are) (anew q.version q.procedures t.words t.procedures_are) in
+    let mine = subst (λ (v : Version). SpellProcedures v p.procedures s.words) same.version_is s.procedures_are in
+    versioned_same p q same.version_is (procedures_once q.version p.procedures q.procedures s.words t.words mine t.procedures_are same.words_are)

@@ -1,37 +1,46 @@
 -- A text with a fault spells no program.
-use Rattle.std.proofs.Common.{◌≡◌, ◌⊎◌, ℕ, zero, suc, ◌+◌, ◌<◌, List, [], ◌∷◌, ◌++◌, length, take, drop, Option, Some, None, inl, inr, refl, sym, subst, ◌∙◌, arith}
+use Rattle.std.proofs.Common.{◌≡◌, ◌⊎◌, ℕ, zero, suc, ◌+◌, ◌<◌, List, [], ◌∷◌, ◌++◌, length, take, drop, Option, Some, None, inl, inr, refl, sym, subst, arith}
 use Rattle.std.specs.List.{Contains, slice_get}
 use Rattle.std.specs.Str.Lines.{lines}
 use Rattle.tw_code.specs.declared.instr.Instr.{Instr}
-use Rattle.tw_code.specs.declared.procedure.Procedure.{Procedure}
+use Rattle.tw_code.specs.declared.version.Version.{Version}
+use Rattle.tw_code.specs.format.Program.{Versioned}
+use Rattle.tw_code.proofs.Widening.{widened}
 use Rattle.tw_words.specs.Words.{Bare, IsLine, Word}
-use Rattle.tw_asm.specs.Statement.{Statement, Head, Registers, Label, Code, AnyName, AnyShortName, IsExpected, NamesLabel, Say}
+use Rattle.tw_asm.specs.Statement.{Statement, OfVersion, Head, Registers, Label, Code, AnyName, AnyShortName, IsExpected, NamesLabel, Say}
 use Rattle.tw_asm.specs.declared.statement.First.{First}
 use Rattle.tw_asm.specs.declared.statement.First.TheVariants as first
 use Rattle.tw_asm.specs.declared.fault.FaultNo.{FaultNo}
 use Rattle.tw_asm.specs.reading.Expected.{expectation}
-use Rattle.tw_asm.specs.Fault.{Stage, Start, InBody, Begins, GoalFault, HasWords, IsEmpty, IsFirstFault, IsLineFault, IsUnfinished, IsWhole, LineFault, LineSays, LinesSay, MayBegin, MayStand, Situation, after_line, at_start, labels_ahead, situation, situation_from, not_forward, unknown}
+use Rattle.tw_asm.specs.Fault.{Stage, Start, AfterVersion, AfterHead, InBody, Begins, GoalFault, HasWords, IsEmpty, IsFirstFault, IsLineFault, IsOutset, IsUnfinished, IsWhole, LineFault, LineSays, LinesSay, MayBegin, MayStand, Situation, after_line, at_start, labels_ahead, situation, situation_from, not_forward, unknown}
 use Rattle.tw_asm.specs.Spelling.{SpellsProgram}
 use Rattle.tw_asm.proofs.Alike.{AreAlike}
 use Rattle.tw_asm.proofs.Begins.{first_in_line, line_begins}
-use Rattle.tw_asm.proofs.Stages.{start_body}
 use Rattle.tw_asm.proofs.Twice.{both_alike, line_is_same, nothing_says, others_say, same_ahead, says_alike}
 use Rattle.tw_words.proofs.Once.{blank_no_word, first_word_once, line_blank}
 use Rattle.tw_asm.proofs.Once.{one_expected, spells_more}
 use Rattle.tw_asm.proofs.Spelled.{bare_is}
-use Rattle.tw_asm.proofs.Walk.{LinesHold, lines_hold, program_said, program_says}
+use Rattle.tw_asm.proofs.Walk.{LinesHold, lines_hold, procedures_said, program_said, program_says}
 
 -- ---- stages
 
 whole_not_empty : (s : Situation) → IsWhole s → s.instructions ≡ 0 → ⊥
 whole_not_empty s w e = omega (arith, w.1, e)
 
-not_start : (s : Situation) → s.stage ≡ InBody → s.stage ≡ Start → ⊥
-not_start s body start = start_body (sym start ∙ body)
+not_outset : (s : Situation) → s.stage ≡ InBody → IsOutset s.stage → ⊥
+not_outset s body outset = subst IsOutset body outset
+
+-- a head may begin where no procedure has begun
+begins_outset : (stage : Stage) → IsOutset stage → MayBegin stage first.Head
+begins_outset Start outset = inr refl
+begins_outset AfterVersion outset = refl
+begins_outset AfterHead outset = absurd outset
+begins_outset InBody outset = absurd outset
 
 -- what may stand may begin
 may_begin : (statement : Statement) (s : Situation) → MayStand statement s → MayBegin s.stage (expectation statement)
-may_begin (Head kind params) s (inl start, few) = subst (λ (stage : Stage). MayBegin stage first.Head) (sym start) refl
+may_begin (OfVersion version) s start = subst (λ (stage : Stage). MayBegin stage first.Version) (sym start) (inl refl)
+may_begin (Head kind params) s (inl outset, few) = begins_outset s.stage outset
 may_begin (Head kind params) s (inr whole, few) = subst (λ (stage : Stage). MayBegin stage first.Head) (sym whole.0) (inl refl)
 may_begin (Registers registers) s due = subst (λ (stage : Stage). MayBegin stage first.Registers) (sym due) refl
 may_begin (Label name) s may = subst (λ (stage : Stage). MayBegin stage first.Body) (sym may.0) (inr refl)
@@ -43,26 +52,30 @@ nothing_begins : {Z : Type 0} (s : Situation) (line : List ℕ) (expected : Firs
 nothing_begins s line expected blank b = absurd (blank_no_word (Bare b.0) line b.1 (line_blank line blank) b.2)
 
 -- the line's first word lets expect its statement
-is_expectation : (s : Situation) (line : List ℕ) (statement : Statement) (words : List Word) (expected : First) → IsLine words line → Say statement words → Begins s line expected → expected ≡ expectation statement
+is_expectation : (s : Situation) (line : List ℕ) (statement : Statement) (words : List Word) (expected : First) → IsLine words line → Say s.version statement words → Begins s line expected → expected ≡ expectation statement
 is_expectation s line statement words expected is say b =
     let f = first_in_line AnyShortName statement words line is say.0 in
     let same = bare_is b.0 f.word (first_word_once (Bare b.0) (Bare f.word) line b.1 f.rest b.2 f.first).0 in
-    one_expected expected (expectation statement) f.word (subst (IsExpected expected) same b.3) f.expected
+    one_expected s.version expected (expectation statement) f.word (subst (IsExpected s.version expected) same b.3) f.expected
 
 registers_head : {Z : Type 0} → ◌≡◌ {A = First} first.Head first.Registers → Z
 registers_head e = absurd cc
 
+version_head : {Z : Type 0} → ◌≡◌ {A = First} first.Head first.Version → Z
+version_head e = absurd cc
+
 body_head : {Z : Type 0} → ◌≡◌ {A = First} first.Head first.Body → Z
 body_head e = absurd cc
 
-head_may : (statement : Statement) (s : Situation) → first.Head ≡ expectation statement → MayStand statement s → ((s.stage ≡ Start) ⊎ IsWhole s) × (s.procedures < 64)
+head_may : (statement : Statement) (s : Situation) → first.Head ≡ expectation statement → MayStand statement s → (IsOutset s.stage ⊎ IsWhole s) × (s.procedures < 64)
+head_may (OfVersion version) s e may = version_head e
 head_may (Head kind params) s e may = may
 head_may (Registers registers) s e may = registers_head e
 head_may (Label name) s e may = body_head e
 head_may (Code i) s e may = body_head e
 
-not_empty : (s : Situation) → (s.stage ≡ Start) ⊎ IsWhole s → IsEmpty s → ⊥
-not_empty s (inl start) e = not_start s e.0 start
+not_empty : (s : Situation) → IsOutset s.stage ⊎ IsWhole s → IsEmpty s → ⊥
+not_empty s (inl outset) e = not_outset s e.0 outset
 not_empty s (inr whole) e = whole_not_empty s whole e.1
 
 label_may : (statement : Statement) (name : List ℕ) (s : Situation) → AreAlike statement (Label name) → MayStand statement s → Contains s.labels name → ⊥
@@ -73,26 +86,26 @@ code_may : (statement : Statement) (i : Instr) (s : Situation) → AreAlike stat
 code_may (Code j) i s a may = may.1
 code_may statement i s a may = absurd a
 
-pub has_words : (statement : Statement) (words : List Word) (line : List ℕ) → IsLine words line → Say statement words → HasWords line
-has_words statement words line is say = (words, is, (statement, spells_more AnyShortName AnyName (λ skip name short. short.0) statement words say.0))
+pub has_words : (version : Version) (statement : Statement) (words : List Word) (line : List ℕ) → IsLine words line → Say version statement words → HasWords version line
+has_words version statement words line is say = (words, is, (statement, spells_more AnyShortName AnyName (λ skip name short. short.0) statement words say.0))
 
 blank_no_fault : (number : ℕ) (s : Situation) (line : List ℕ) (which : FaultNo) (at : ℕ) → IsLine [] line → LineFault number s line which at → ⊥
 blank_no_fault number s line _ _ blank (LineFault.word some none) = some blank
 blank_no_fault number s line _ _ blank (LineFault.operand expected b formless) = nothing_begins s line expected blank b
-blank_no_fault number s line _ _ blank (LineFault.label_twice name words body is say c) = nothing_says (Label name) words line blank is say
+blank_no_fault number s line _ _ blank (LineFault.label_twice name words body is say c) = nothing_says s.version (Label name) words line blank is say
 blank_no_fault number s line _ _ blank (LineFault.empty b has e) = nothing_begins s line first.Head blank b
 blank_no_fault number s line _ _ blank (LineFault.limit expected b has e unsaid) = nothing_begins s line expected blank b
 blank_no_fault number s line _ _ blank (LineFault.procedures b has e many) = nothing_begins s line first.Head blank b
-blank_no_fault number s line _ _ blank (LineFault.instructions i words body is say many) = nothing_says (Code i) words line blank is say
+blank_no_fault number s line _ _ blank (LineFault.instructions i words body is say many) = nothing_says s.version (Code i) words line blank is say
 
-said_no_fault : (number : ℕ) (s : Situation) (line : List ℕ) (statement : Statement) (ws : List Word) (which : FaultNo) (at : ℕ) → IsLine ws line → Say statement ws → MayStand statement s → LineFault number s line which at → ⊥
+said_no_fault : (number : ℕ) (s : Situation) (line : List ℕ) (statement : Statement) (ws : List Word) (which : FaultNo) (at : ℕ) → IsLine ws line → Say s.version statement ws → MayStand statement s → LineFault number s line which at → ⊥
 said_no_fault number s line statement ws _ _ l h may (LineFault.word some none) = none (expectation statement) (line_begins AnyShortName statement ws s line l h.0 (may_begin statement s may))
-said_no_fault number s line statement ws _ _ l h may (LineFault.operand expected b formless) = formless (has_words statement ws line l h)
-said_no_fault number s line statement ws _ _ l h may (LineFault.label_twice name words body is say c) = label_may statement name s (says_alike statement (Label name) ws words line l h is say) may c
+said_no_fault number s line statement ws _ _ l h may (LineFault.operand expected b formless) = formless (has_words s.version statement ws line l h)
+said_no_fault number s line statement ws _ _ l h may (LineFault.label_twice name words body is say c) = label_may statement name s (says_alike s.version statement (Label name) ws words line l h is say) may c
 said_no_fault number s line statement ws _ _ l h may (LineFault.empty b has e) = not_empty s (head_may statement s (is_expectation s line statement ws first.Head l h b) may).0 e
 said_no_fault number s line statement ws _ _ l h may (LineFault.limit expected b has e unsaid) = unsaid statement ws l h
 said_no_fault number s line statement ws _ _ l h may (LineFault.procedures b has e many) = omega (arith, many, (head_may statement s (is_expectation s line statement ws first.Head l h b) may).1)
-said_no_fault number s line statement ws _ _ l h may (LineFault.instructions i words body is say many) = omega (arith, many, code_may statement i s (says_alike statement (Code i) ws words line l h is say) may)
+said_no_fault number s line statement ws _ _ l h may (LineFault.instructions i words body is say many) = omega (arith, many, code_may statement i s (says_alike s.version statement (Code i) ws words line l h is say) may)
 
 pub line_no_fault : (number : ℕ) (s : Situation) (line : List ℕ) (said : Option Statement) (which : FaultNo) (at : ℕ) → LineSays s line said → LineFault number s line which at → ⊥
 line_no_fault number s line None which at l f = blank_no_fault number s line which at l f
@@ -133,13 +146,13 @@ ends_whole number s (line ∷ more) (x ∷ held) (y ∷ said) h l =
     (ends_whole (number + 1) (after_line number x s) more held said h.2 (others_say number s line more x y said h.0 l.0 l.1))
 
 pub finished : (s : Situation) (at : ℕ) → IsWhole s → IsUnfinished s at → ⊥
-finished s at whole (inl start) = not_start s whole.0 start.0
+finished s at whole (inl outset) = not_outset s whole.0 outset.0
 finished s at whole (inr empty) = whole_not_empty s whole empty.1
 
 -- ---- no fault of a goal
 
 ahead_no_fault : (s : Situation) (ahead others : List (List ℕ)) (line : List ℕ) (which : FaultNo)
-    → ((name : List ℕ) (words : List Word) → IsLine words line → NamesLabel name words → (Contains s.labels name → ⊥) × Contains ahead name) → ahead ≡ others → GoalFault s others line which → ⊥
+    → ((name : List ℕ) (words : List Word) → IsLine words line → NamesLabel s.version name words → (Contains s.labels name → ⊥) × Contains ahead name) → ahead ≡ others → GoalFault s others line which → ⊥
 ahead_no_fault s ahead others line _ named e (unknown name words is n before absent) = absent (subst (λ (names : List (List ℕ)). Contains names name) e (named name words is n).1)
 ahead_no_fault s ahead others line _ named e (not_forward name words is n before) = (named name words is n).0 before
 
@@ -164,10 +177,11 @@ no_goal_fault number s (first ∷ more) (x ∷ held) (y ∷ said) (suc k) line w
 
 -- ---- no fault at all
 
-hold : (text : List ℕ) (program : List Procedure) → SpellsProgram program text → (held : List (Option Statement)) × LinesHold 1 at_start (lines text) held
+hold : (text : List ℕ) (program : Versioned) → SpellsProgram program text → (held : List (Option Statement)) × LinesHold 1 at_start (lines text) held
 hold text program s =
-    let says = program_says program s.words s.procedures_are at_start s.is_program.1 (omega (arith, s.is_program.0.1)) (inr (refl, s.is_program.0.0)) in
-    let held = lines_hold 1 at_start (lines text) s.words (program_said program s.words s.procedures_are) s.lines_are says in
+    let fits = widened program.version program.procedures s.is_program in
+    let says = program_says program.version s.front s.version_is program.procedures s.words s.procedures_are fits.1 fits.0.0 fits.0.1 in
+    let held = lines_hold 1 at_start (lines text) (s.front ++ s.words) (program_said program.version s.front s.version_is (procedures_said program.version program.procedures s.words s.procedures_are)) s.lines_are says in
     (held.said, held.hold)
 
 no_line_fault : (text : List ℕ) (which : FaultNo) (at : ℕ) (held : List (Option Statement)) → LinesHold 1 at_start (lines text) held → IsLineFault text which at → ⊥
@@ -176,7 +190,7 @@ no_line_fault text which at held h f =
     line_no_fault (length f.before + 1) (situation f.said) f.line next.0 which at next.1 f.wrong
 
 -- a text with a fault spells no program
-pub fault_none : (text : List ℕ) (which : FaultNo) (at : ℕ) (program : List Procedure) → IsFirstFault text which at → SpellsProgram program text → ⊥
+pub fault_none : (text : List ℕ) (which : FaultNo) (at : ℕ) (program : Versioned) → IsFirstFault text which at → SpellsProgram program text → ⊥
 fault_none text which at program (inl f) s = let h = hold text program s in no_line_fault text which at h.0 h.1 f
 fault_none text which at program (inr (inl f)) s = let h = hold text program s in finished (situation f.said) at (ends_whole 1 at_start (lines text) h.0 f.said h.1 f.say) f.unfinished
 fault_none text which at program (inr (inr f)) s = let h = hold text program s in no_goal_fault 1 at_start (lines text) h.0 f.0.said f.0.index f.0.line which h.1 f.0.say f.0.line_is f.0.wrong

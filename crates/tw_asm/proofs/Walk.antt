@@ -4,17 +4,19 @@ use Rattle.std.proofs.lemmas.List.Elements.{All-contains, All-from_recursion, Co
 use Rattle.std.specs.List.{AllByRecursion, AllPairs, Contains, slice_index_or}
 use Rattle.tw_code.specs.declared.instr.Instr.{Instr}
 use Rattle.tw_code.specs.declared.procedure.Procedure.{Procedure}
+use Rattle.tw_code.specs.declared.version.Version.{Version}
 use Rattle.tw_code.specs.declared.version.Version.TheVariants.{One}
-use Rattle.tw_code.specs.format.Program.{IsInstrOf, IsProcedureOf}
+use Rattle.tw_code.specs.format.Program.{IsInstr, IsProcedure}
 use Rattle.tw_words.specs.Words.{IsLine, Word}
-use Rattle.tw_asm.specs.Statement.{Statement, Head, Registers, Label, Code, AnyShortName, Goals, IsShortName, NamesLabel, Say, Spells}
-use Rattle.tw_asm.specs.Fault.{Start, InBody, IsWhole, LineSays, MayStand, Situation, after, after_line, labels_ahead}
-use Rattle.tw_asm.specs.Spelling.{AreCode, GoesTo, HaveWords, Placed, SpellProcedures, SpellsProcedure}
+use Rattle.tw_asm.specs.Statement.{Statement, OfVersion, Head, Registers, Label, Code, AnyShortName, Goals, IsShortName, NamesLabel, Say, Spells, version_number}
+use Rattle.tw_asm.specs.Fault.{InBody, IsOutset, IsWhole, LineSays, MayStand, Situation, after, after_line, at_start, labels_ahead}
+use Rattle.tw_asm.specs.Spelling.{AreCode, GoesTo, HaveWords, Placed, SpellProcedures, SpellsProcedure, SpellsVersion}
 use Rattle.tw_asm.proofs.Alike.{AreAlike, alike}
 use Rattle.tw_words.proofs.Once.{line_once}
 use Rattle.tw_asm.proofs.NamedLabels.{named_goal}
 use Rattle.tw_asm.proofs.Twice.{none_spelled}
 use Rattle.tw_asm.proofs.Once.{spells_more}
+use Rattle.tw_asm.proofs.Versions.{number_back, number_within}
 
 -- ---- elements
 
@@ -68,6 +70,7 @@ once_by_pairs (name ∷ names) p =
 -- the labels among these statements, up to the next head
 abbrev pub ahead_of : List Statement → List (List ℕ)
 ahead_of [] = []
+ahead_of (OfVersion version ∷ others) = ahead_of others
 ahead_of (Head kind params ∷ others) = []
 ahead_of (Registers registers ∷ others) = ahead_of others
 ahead_of (Label name ∷ others) = name ∷ ahead_of others
@@ -75,7 +78,7 @@ ahead_of (Code i ∷ others) = ahead_of others
 
 -- a label that the words name is ahead, and not before
 abbrev pub NamesAhead : Situation → List (List ℕ) → List Word → Type 0
-NamesAhead s ahead words = (name : List ℕ) → NamesLabel name words → (Contains s.labels name → ⊥) × Contains ahead name
+NamesAhead s ahead words = (name : List ℕ) → NamesLabel s.version name words → (Contains s.labels name → ⊥) × Contains ahead name
 
 -- these words say these statements up to the end, each where it can follow, and their goals are ahead
 abbrev pub WordsSay : Situation → List (List Word) → List Statement → Type 0
@@ -83,35 +86,36 @@ WordsSay s [] [] = IsWhole s
 WordsSay s [] (statement ∷ others) = ⊥
 WordsSay s (words ∷ more) [] = ⊥
 WordsSay s (words ∷ more) (statement ∷ others) =
-    Say statement words × MayStand statement s × NamesAhead s (ahead_of others) words × ((number : ℕ) → WordsSay (after number statement s) more others)
+    Say s.version statement words × MayStand statement s × NamesAhead s (ahead_of others) words × ((number : ℕ) → WordsSay (after number statement s) more others)
 
-no_code : (G : Goals) (statement : Statement) (words : List Word) (s : Situation) (ahead : List (List ℕ)) → Spells G statement words → ((i : Instr) → AreAlike statement (Code i) → ⊥) → NamesAhead s ahead words
+no_code : (G : Goals) (statement : Statement) (words : List Word) (s : Situation) (ahead : List (List ℕ)) → Spells s.version G statement words → ((i : Instr) → AreAlike statement (Code i) → ⊥) → NamesAhead s ahead words
 no_code G statement words s ahead h apart name n = absurd (apart n.i (alike G (λ skip word. word ≡ name) statement (Code n.i) words h n.spells))
 
 -- ---- the statements of a body
 
-abbrev pub said_in : (all : List Placed) (place : ℕ) (labels : List Placed) (code : List Instr) (body : List (List Word)) → AreCode all place labels code body → List Statement
-said_in all _ _ _ _ (AreCode.end place) = []
-said_in all _ _ _ _ (AreCode.label place name words labels code others h limits more) = Label name ∷ said_in all place labels code others more
-said_in all _ _ _ _ (AreCode.instruction place i words labels code others h more) = Code i ∷ said_in all (place + 1) labels code others more
+abbrev pub said_in : (version : Version) (all : List Placed) (place : ℕ) (labels : List Placed) (code : List Instr) (body : List (List Word)) → AreCode version all place labels code body → List Statement
+said_in version all _ _ _ _ (AreCode.end place) = []
+said_in version all _ _ _ _ (AreCode.label place name words labels code others h limits more) = Label name ∷ said_in version all place labels code others more
+said_in version all _ _ _ _ (AreCode.instruction place i words labels code others h more) = Code i ∷ said_in version all (place + 1) labels code others more
 
-ahead_in : (all : List Placed) (place : ℕ) (labels : List Placed) (code : List Instr) (body : List (List Word)) (c : AreCode all place labels code body) (rest : List Statement)
-    → ahead_of rest ≡ [] → ahead_of (said_in all place labels code body c ++ rest) ≡ names_of labels
-ahead_in all _ _ _ _ (AreCode.end place) rest none = none
-ahead_in all _ _ _ _ (AreCode.label place name words labels code others h limits more) rest none = ap (λ (names : List (List ℕ)). name ∷ names) (ahead_in all place labels code others more rest none)
-ahead_in all _ _ _ _ (AreCode.instruction place i words labels code others h more) rest none = ahead_in all (place + 1) labels code others more rest none
+ahead_in : (version : Version) (all : List Placed) (place : ℕ) (labels : List Placed) (code : List Instr) (body : List (List Word)) (c : AreCode version all place labels code body) (rest : List Statement)
+    → ahead_of rest ≡ [] → ahead_of (said_in version all place labels code body c ++ rest) ≡ names_of labels
+ahead_in version all _ _ _ _ (AreCode.end place) rest none = none
+ahead_in version all _ _ _ _ (AreCode.label place name words labels code others h limits more) rest none = ap (λ (names : List (List ℕ)). name ∷ names) (ahead_in version all place labels code others more rest none)
+ahead_in version all _ _ _ _ (AreCode.instruction place i words labels code others h more) rest none = ahead_in version all (place + 1) labels code others more rest none
 
-pub labels_short : (all : List Placed) (place : ℕ) (labels : List Placed) (code : List Instr) (body : List (List Word)) → AreCode all place labels code body → (label : Placed) → Contains labels label → IsShortName label.name
-labels_short all _ _ _ _ (AreCode.end place) label c = contains_none label c
-labels_short all _ _ _ _ (AreCode.label place name words labels code others h limits more) label c =
+pub labels_short : (version : Version) (all : List Placed) (place : ℕ) (labels : List Placed) (code : List Instr) (body : List (List Word)) → AreCode version all place labels code body → (label : Placed) → Contains labels label → IsShortName label.name
+labels_short version all _ _ _ _ (AreCode.end place) label c = contains_none label c
+labels_short version all _ _ _ _ (AreCode.label place name words labels code others h limits more) label c =
     elim (contains_cases (record { name = name; place = place }) labels label c) [
       | inl e ↦ subst (λ (x : Placed). IsShortName x.name) e (h.form, limits)
-      | inr d ↦ labels_short all place labels code others more label d
+      | inr d ↦ labels_short version all place labels code others more label d
     ]
-labels_short all _ _ _ _ (AreCode.instruction place i words labels code others h more) label c = labels_short all (place + 1) labels code others more label c
+labels_short version all _ _ _ _ (AreCode.instruction place i words labels code others h more) label c = labels_short version all (place + 1) labels code others more label c
 
 -- within a body, with these labels and so many instructions still ahead
-record Within (all : List Placed) (place : ℕ) (labels : List Placed) (count : ℕ) (s : Situation) : Type 0 where
+record Within (version : Version) (all : List Placed) (place : ℕ) (labels : List Placed) (count : ℕ) (s : Situation) : Type 0 where
+  version_is : s.version ≡ version
   stage : s.stage ≡ InBody
   here : s.instructions ≡ place
   room : place + count ≤ 4096
@@ -120,13 +124,14 @@ record Within (all : List Placed) (place : ℕ) (labels : List Placed) (count : 
   apart : (name : List ℕ) → Contains s.labels name → Contains (names_of labels) name → ⊥
   once : AreOnce (names_of labels)
 
-says_short : (all : List Placed) (place : ℕ) (statement : Statement) (words : List Word) → ((label : Placed) → Contains all label → IsShortName label.name) → Spells (GoesTo all place) statement words
-    → Spells AnyShortName statement words
-says_short all place statement words short h = spells_more (GoesTo all place) AnyShortName (λ skip name goal. short (record { name = name; place = place + 1 + skip }) goal) statement words h
+says_short : (version : Version) (all : List Placed) (place : ℕ) (statement : Statement) (words : List Word) → ((label : Placed) → Contains all label → IsShortName label.name) → Spells version (GoesTo all place) statement words
+    → Spells version AnyShortName statement words
+says_short version all place statement words short h = spells_more (GoesTo all place) AnyShortName (λ skip name goal. short (record { name = name; place = place + 1 + skip }) goal) statement words h
 
-within_label : (all : List Placed) (place : ℕ) (name : List ℕ) (labels : List Placed) (count number : ℕ) (s : Situation) → Within all place (record { name = name; place = place } ∷ labels) count s
-    → Within all place labels count (after number (Label name) s)
-within_label all place name labels count number s w = record {
+within_label : (version : Version) (all : List Placed) (place : ℕ) (name : List ℕ) (labels : List Placed) (count number : ℕ) (s : Situation) → Within version all place (record { name = name; place = place } ∷ labels) count s
+    → Within version all place labels count (after number (Label name) s)
+within_label version all place name labels count number s w = record {
+  version_is = w.version_is;
   stage = w.stage;
   here = w.here;
   room = w.room;
@@ -147,8 +152,9 @@ within_label all place name labels count number s w = record {
   once = w.once.1;
 }
 
-within_code : (all : List Placed) (place : ℕ) (labels : List Placed) (count number : ℕ) (i : Instr) (s : Situation) → Within all place labels (suc count) s → Within all (place + 1) labels count (after number (Code i) s)
-within_code all place labels count number i s w = record {
+within_code : (version : Version) (all : List Placed) (place : ℕ) (labels : List Placed) (count number : ℕ) (i : Instr) (s : Situation) → Within version all place labels (suc count) s → Within version all (place + 1) labels count (after number (Code i) s)
+within_code version all place labels count number i s w = record {
+  version_is = w.version_is;
   stage = w.stage;
   here = ap (λ (n : ℕ). n + 1) w.here;
   room = omega (arith, w.room);
@@ -163,101 +169,125 @@ within_code all place labels count number i s w = record {
 }
 
 -- the goal of an instruction is ahead
-goal_ahead : (all : List Placed) (place : ℕ) (labels : List Placed) (count : ℕ) (i : Instr) (words : List Word) (s : Situation) (ahead : List (List ℕ)) → Within all place labels count s → Spells (GoesTo all place) (Code i) words
+goal_ahead : (version : Version) (all : List Placed) (place : ℕ) (labels : List Placed) (count : ℕ) (i : Instr) (words : List Word) (s : Situation) (ahead : List (List ℕ)) → Within version all place labels count s → Spells version (GoesTo all place) (Code i) words
     → ahead ≡ names_of labels → NamesAhead s ahead words
-goal_ahead all place labels count i words s ahead w h is name n =
-    let goal = named_goal (GoesTo all place) i name words n h in
+goal_ahead version all place labels count i words s ahead w h is name n =
+    let goal = named_goal (GoesTo all place) i name words (subst (λ (v : Version). NamesLabel v name words) w.version_is n) h in
     let label : Placed = record { name = name; place = place + 1 + goal.0 } in
     elim (w.known label goal.1) [
       | inl low ↦ absurd (omega (arith, low))
       | inr c ↦ (λ d. w.apart name d (name_among labels label c), subst (λ (names : List (List ℕ)). Contains names name) (sym is) (name_among labels label c))
     ]
 
-code_says : (all : List Placed) (place : ℕ) (labels : List Placed) (code : List Instr) (body : List (List Word)) (c : AreCode all place labels code body) (s : Situation) (behind : List (List Word)) (rest : List Statement)
-    → Within all place labels (length code) s → AllByRecursion (IsInstrOf One) code → ahead_of rest ≡ []
-    → ((t : Situation) → t.stage ≡ InBody → t.instructions ≡ place + length code → t.procedures ≡ s.procedures → WordsSay t behind rest)
-    → WordsSay s (body ++ behind) (said_in all place labels code body c ++ rest)
-code_says all _ _ _ _ (AreCode.end place) s behind rest w fits none then =
+-- where the version is this one
+say_here : (version : Version) (s : Situation) (statement : Statement) (words : List Word) → s.version ≡ version → Say version statement words → Say s.version statement words
+say_here version s statement words e h = subst (λ (v : Version). Say v statement words) (sym e) h
+
+spells_here : (version : Version) (s : Situation) (G : Goals) (statement : Statement) (words : List Word) → s.version ≡ version → Spells version G statement words → Spells s.version G statement words
+spells_here version s G statement words e h = subst (λ (v : Version). Spells v G statement words) (sym e) h
+
+code_says : (version : Version) (all : List Placed) (place : ℕ) (labels : List Placed) (code : List Instr) (body : List (List Word)) (c : AreCode version all place labels code body) (s : Situation) (behind : List (List Word)) (rest : List Statement)
+    → Within version all place labels (length code) s → AllByRecursion IsInstr code → ahead_of rest ≡ []
+    → ((t : Situation) → t.version ≡ version → t.stage ≡ InBody → t.instructions ≡ place + length code → t.procedures ≡ s.procedures → WordsSay t behind rest)
+    → WordsSay s (body ++ behind) (said_in version all place labels code body c ++ rest)
+code_says version all _ _ _ _ (AreCode.end place) s behind rest w fits none then =
     let e : place ≡ place + 0 = omega arith in
-    then s w.stage (w.here ∙ e) refl
-code_says all _ _ _ _ (AreCode.label place name words labels code others h limits more) s behind rest w fits none then = (
-  (says_short all place (Label name) words w.short h, limits),
+    then s w.version_is w.stage (w.here ∙ e) refl
+code_says version all _ _ _ _ (AreCode.label place name words labels code others h limits more) s behind rest w fits none then = (
+  say_here version s (Label name) words w.version_is (says_short version all place (Label name) words w.short h, limits),
   (w.stage, λ c. w.apart name c (contains_first name (names_of labels))),
-  no_code (GoesTo all place) (Label name) words s (ahead_of (said_in all place labels code others more ++ rest)) h (λ i a. a),
-  λ number. code_says all place labels code others more (after number (Label name) s) behind rest (within_label all place name labels (length code) number s w) fits none then,
+  no_code (GoesTo all place) (Label name) words s (ahead_of (said_in version all place labels code others more ++ rest)) (spells_here version s (GoesTo all place) (Label name) words w.version_is h) (λ i a. a),
+  λ number. code_says version all place labels code others more (after number (Label name) s) behind rest (within_label version all place name labels (length code) number s w) fits none then,
 )
-code_says all _ _ _ _ (AreCode.instruction place i words labels code others h more) s behind rest w fits none then = (
-  (says_short all place (Code i) words w.short h, fits.0),
+code_says version all _ _ _ _ (AreCode.instruction place i words labels code others h more) s behind rest w fits none then = (
+  say_here version s (Code i) words w.version_is (says_short version all place (Code i) words w.short h, fits.0),
   (w.stage, omega (arith, w.here, w.room)),
-  goal_ahead all place labels (suc (length code)) i words s (ahead_of (said_in all (place + 1) labels code others more ++ rest)) w h (ahead_in all (place + 1) labels code others more rest none),
+  goal_ahead version all place labels (suc (length code)) i words s (ahead_of (said_in version all (place + 1) labels code others more ++ rest)) w h (ahead_in version all (place + 1) labels code others more rest none),
   λ number.
-      code_says all (place + 1) labels code others more (after number (Code i) s) behind rest (within_code all place labels (length code) number i s w) fits.1 none
-      (λ t stage count procedures. then t stage (omega (arith, count)) procedures),
+      code_says version all (place + 1) labels code others more (after number (Code i) s) behind rest (within_code version all place labels (length code) number i s w) fits.1 none
+      (λ t version_is stage count procedures. then t version_is stage (omega (arith, count)) procedures),
 )
 
 -- ---- procedures
 
-abbrev pub procedure_said : (p : Procedure) (words : List (List Word)) → SpellsProcedure p words → List Statement
-procedure_said p words h = Head p.kind p.params ∷ Registers p.registers ∷ said_in h.labels 0 h.labels p.code h.body h.body_is
+abbrev pub procedure_said : (version : Version) (p : Procedure) (words : List (List Word)) → SpellsProcedure version p words → List Statement
+procedure_said version p words h = Head p.kind p.params ∷ Registers p.registers ∷ said_in version h.labels 0 h.labels p.code h.body h.body_is
 
-says_plain : (statement : Statement) (words : List Word) → Spells (GoesTo [] 0) statement words → Spells AnyShortName statement words
-says_plain statement words h = spells_more (GoesTo [] 0) AnyShortName (λ skip name goal. contains_none {X = Placed} (record { name = name; place = 0 + 1 + skip }) goal) statement words h
+says_plain : (version : Version) (statement : Statement) (words : List Word) → Spells version (GoesTo [] 0) statement words → Spells version AnyShortName statement words
+says_plain version statement words h = spells_more (GoesTo [] 0) AnyShortName (λ skip name goal. contains_none {X = Placed} (record { name = name; place = 0 + 1 + skip }) goal) statement words h
 
-within_start : (p : Procedure) (words : List (List Word)) (h : SpellsProcedure p words) (s : Situation) (number other : ℕ) → IsProcedureOf One p
-    → Within h.labels 0 h.labels (length p.code) (after other (Registers p.registers) (after number (Head p.kind p.params) s))
-within_start p words h s number other fits = record {
+within_start : (version : Version) (p : Procedure) (words : List (List Word)) (h : SpellsProcedure version p words) (s : Situation) (number other : ℕ) → s.version ≡ version → IsProcedure p
+    → Within version h.labels 0 h.labels (length p.code) (after other (Registers p.registers) (after number (Head p.kind p.params) s))
+within_start version p words h s number other is fits = record {
+  version_is = is;
   stage = refl;
   here = refl;
   room = omega (arith, fits.code.0.1);
   known = λ label c. inr c;
-  short = labels_short h.labels 0 h.labels p.code h.body h.body_is;
+  short = labels_short version h.labels 0 h.labels p.code h.body h.body_is;
   apart = λ name c d. contains_none name c;
   once = once_by_pairs (names_of h.labels) h.once;
 }
 
-procedure_says : (p : Procedure) (words : List (List Word)) (h : SpellsProcedure p words) (s : Situation) (behind : List (List Word)) (rest : List Statement) → IsProcedureOf One p → (s.stage ≡ Start) ⊎ IsWhole s
-    → s.procedures < 64 → ahead_of rest ≡ [] → ((t : Situation) → IsWhole t → t.procedures ≡ s.procedures + 1 → WordsSay t behind rest) → WordsSay s (words ++ behind) (procedure_said p words h ++ rest)
-procedure_says p words h s behind rest fits may few none then =
-    subst (λ (x : List (List Word)). WordsSay s (x ++ behind) (procedure_said p words h ++ rest)) (sym h.parts) (
-      (says_plain (Head p.kind p.params) h.head h.head_is, fits.params),
+procedure_says : (version : Version) (p : Procedure) (words : List (List Word)) (h : SpellsProcedure version p words) (s : Situation) (behind : List (List Word)) (rest : List Statement) → s.version ≡ version → IsProcedure p → IsOutset s.stage ⊎ IsWhole s
+    → s.procedures < 64 → ahead_of rest ≡ [] → ((t : Situation) → t.version ≡ version → IsWhole t → t.procedures ≡ s.procedures + 1 → WordsSay t behind rest) → WordsSay s (words ++ behind) (procedure_said version p words h ++ rest)
+procedure_says version p words h s behind rest is fits may few none then =
+    let body = said_in version h.labels 0 h.labels p.code h.body h.body_is in
+    subst (λ (x : List (List Word)). WordsSay s (x ++ behind) (procedure_said version p words h ++ rest)) (sym h.parts) (
+      say_here version s (Head p.kind p.params) h.head is (says_plain version (Head p.kind p.params) h.head h.head_is, fits.params),
       (may, few),
-      no_code (GoesTo [] 0) (Head p.kind p.params) h.head s (ahead_of (said_in h.labels 0 h.labels p.code h.body h.body_is ++ rest)) h.head_is (λ i a. a),
+      no_code (GoesTo [] 0) (Head p.kind p.params) h.head s (ahead_of (Registers p.registers ∷ body ++ rest)) (spells_here version s (GoesTo [] 0) (Head p.kind p.params) h.head is h.head_is) (λ i a. a),
       λ number. (
-        (says_plain (Registers p.registers) h.registers h.registers_are, fits.registers),
+        say_here version s (Registers p.registers) h.registers is (says_plain version (Registers p.registers) h.registers h.registers_are, fits.registers),
         refl,
-        no_code (GoesTo [] 0) (Registers p.registers) h.registers (after number (Head p.kind p.params) s) (ahead_of (said_in h.labels 0 h.labels p.code h.body h.body_is ++ rest)) h.registers_are (λ i a. a),
+        no_code (GoesTo [] 0) (Registers p.registers) h.registers (after number (Head p.kind p.params) s) (ahead_of (body ++ rest)) (spells_here version s (GoesTo [] 0) (Registers p.registers) h.registers is h.registers_are) (λ i a. a),
         λ other.
-            code_says h.labels 0 h.labels p.code h.body h.body_is (after other (Registers p.registers) (after number (Head p.kind p.params) s)) behind rest (within_start p words h s number other fits) fits.code.1 none
-            (λ t stage count procedures. then t (stage, omega (arith, count, fits.code.0.0)) procedures),
+            code_says version h.labels 0 h.labels p.code h.body h.body_is (after other (Registers p.registers) (after number (Head p.kind p.params) s)) behind rest (within_start version p words h s number other is fits) fits.code.1 none
+            (λ t version_is stage count procedures. then t version_is (stage, omega (arith, count, fits.code.0.0)) procedures),
       ),
     )
 
 -- ---- programs
 
-abbrev pub program_said : (program : List Procedure) (words : List (List Word)) → SpellProcedures program words → List Statement
-program_said _ _ SpellProcedures.end = []
-program_said _ _ (SpellProcedures.one_more p others first behind h more) = procedure_said p first h ++ program_said others behind more
+abbrev pub procedures_said : (version : Version) (procedures : List Procedure) (words : List (List Word)) → SpellProcedures version procedures words → List Statement
+procedures_said version _ _ SpellProcedures.end = []
+procedures_said version _ _ (SpellProcedures.one_more p others first behind h more) = procedure_said version p first h ++ procedures_said version others behind more
 
-none_ahead : (program : List Procedure) (words : List (List Word)) (h : SpellProcedures program words) → ahead_of (program_said program words h) ≡ []
-none_ahead _ _ SpellProcedures.end = refl
-none_ahead _ _ (SpellProcedures.one_more p others first behind h more) = refl
+none_ahead : (version : Version) (procedures : List Procedure) (words : List (List Word)) (h : SpellProcedures version procedures words) → ahead_of (procedures_said version procedures words h) ≡ []
+none_ahead version _ _ SpellProcedures.end = refl
+none_ahead version _ _ (SpellProcedures.one_more p others first behind h more) = refl
 
-pub program_says : (program : List Procedure) (words : List (List Word)) (h : SpellProcedures program words) (s : Situation) → AllByRecursion (IsProcedureOf One) program → s.procedures + length program ≤ 64
-    → IsWhole s ⊎ ((s.stage ≡ Start) × (1 ≤ length program)) → WordsSay s words (program_said program words h)
-program_says _ _ SpellProcedures.end s fits few (inl whole) = whole
-program_says _ _ SpellProcedures.end s fits few (inr start) = absurd (omega (arith, start.1))
-program_says _ _ (SpellProcedures.one_more p others first behind h more) s fits few may =
-    procedure_says p first h s behind (program_said others behind more) fits.0 (may_begin may) (omega (arith, few)) (none_ahead others behind more)
-    (λ t whole procedures. program_says others behind more t fits.1 (omega (arith, procedures, few)) (inl whole))
+pub procedures_say : (version : Version) (procedures : List Procedure) (words : List (List Word)) (h : SpellProcedures version procedures words) (s : Situation) → s.version ≡ version → AllByRecursion IsProcedure procedures
+    → s.procedures + length procedures ≤ 64 → IsWhole s ⊎ (IsOutset s.stage × (1 ≤ length procedures)) → WordsSay s words (procedures_said version procedures words h)
+procedures_say version _ _ SpellProcedures.end s is fits few (inl whole) = whole
+procedures_say version _ _ SpellProcedures.end s is fits few (inr outset) = absurd (omega (arith, outset.1))
+procedures_say version _ _ (SpellProcedures.one_more p others first behind h more) s is fits few may =
+    procedure_says version p first h s behind (procedures_said version others behind more) is fits.0 (may_begin may) (omega (arith, few)) (none_ahead version others behind more)
+    (λ t version_is whole procedures. procedures_say version others behind more t version_is fits.1 (omega (arith, procedures, few)) (inl whole))
   where
-    may_begin : IsWhole s ⊎ ((s.stage ≡ Start) × (1 ≤ suc (length others))) → (s.stage ≡ Start) ⊎ IsWhole s
+    may_begin : IsWhole s ⊎ (IsOutset s.stage × (1 ≤ suc (length others))) → IsOutset s.stage ⊎ IsWhole s
     may_begin (inl whole) = inr whole
-    may_begin (inr start) = inl start.0
+    may_begin (inr outset) = inl outset.0
+
+-- the version's line, and then the procedures
+abbrev pub program_said : (version : Version) (front : List (List Word)) → SpellsVersion version front → List Statement → List Statement
+program_said _ _ SpellsVersion.unsaid others = others
+program_said _ _ (SpellsVersion.said version words h) others = OfVersion (version_number version) ∷ others
+
+pub program_says : (version : Version) (front : List (List Word)) (f : SpellsVersion version front) (procedures : List Procedure) (words : List (List Word)) (h : SpellProcedures version procedures words) → AllByRecursion IsProcedure procedures
+    → 1 ≤ length procedures → length procedures ≤ 64 → WordsSay at_start (front ++ words) (program_said version front f (procedures_said version procedures words h))
+program_says _ _ SpellsVersion.unsaid procedures words h fits some few = procedures_say One procedures words h at_start refl fits (omega (arith, few)) (inr (tt, some))
+program_says _ _ (SpellsVersion.said version line f) procedures words h fits some few = (
+  (says_plain One (OfVersion (version_number version)) line f, number_within version),
+  refl,
+  no_code (GoesTo [] 0) (OfVersion (version_number version)) line at_start (ahead_of (procedures_said version procedures words h)) f (λ i a. a),
+  λ number. procedures_say version procedures words h (after number (OfVersion (version_number version)) at_start) (number_back version) fits (omega (arith, few)) (inr (tt, some)),
+)
 
 -- ---- lines
 
 abbrev pub LineNamesAhead : Situation → List (List ℕ) → List ℕ → Type 0
-LineNamesAhead s ahead line = (name : List ℕ) (words : List Word) → IsLine words line → NamesLabel name words → (Contains s.labels name → ⊥) × Contains ahead name
+LineNamesAhead s ahead line = (name : List ℕ) (words : List Word) → IsLine words line → NamesLabel s.version name words → (Contains s.labels name → ⊥) × Contains ahead name
 
 -- these lines say this up to the end, each where it can follow, and their goals are ahead
 abbrev pub LinesHold : ℕ → Situation → List (List ℕ) → List (Option Statement) → Type 0
@@ -272,6 +302,7 @@ pub record Held (number : ℕ) (s : Situation) (ls : List (List ℕ)) (statement
   pub ahead : labels_ahead said ≡ ahead_of statements
 
 ahead_more : (statement : Statement) (said : List (Option Statement)) (others : List Statement) → labels_ahead said ≡ ahead_of others → labels_ahead (Some statement ∷ said) ≡ ahead_of (statement ∷ others)
+ahead_more (OfVersion version) said others e = e
 ahead_more (Head kind params) said others e = refl
 ahead_more (Registers registers) said others e = e
 ahead_more (Label name) said others e = ap (λ (names : List (List ℕ)). name ∷ names) e
@@ -282,7 +313,7 @@ blank_names s ahead line blank name words is n = absurd (none_spelled (λ skip w
 
 line_names : (s : Situation) (ahead names : List (List ℕ)) (line : List ℕ) (words : List Word) → IsLine words line → ahead ≡ names → NamesAhead s names words → LineNamesAhead s ahead line
 line_names s ahead names line words is e named name others other_is n =
-    let found = named name (subst (NamesLabel name) (line_once others words line other_is is) n) in
+    let found = named name (subst (λ (ws : List Word). NamesLabel s.version name ws) (line_once others words line other_is is) n) in
     (found.0, subst (λ (x : List (List ℕ)). Contains x name) (sym e) found.1)
 
 pub lines_hold : (number : ℕ) (s : Situation) (ls : List (List ℕ)) (words : List (List Word)) (statements : List Statement) → HaveWords ls words → WordsSay s words statements → Held number s ls statements

@@ -1,9 +1,10 @@
 -- Whole lines: what is read answers which words spell which statements.
-use Rattle.std.proofs.Common.{◌≡◌, ◌≢◌, Bool, true, false, cond, ℕ, List, [], ◌∷◌, ◌++◌, map, codes, Option, Some, None, Result, Ok, Err, refl, sym, ap, subst, ◌∙◌}
+use Rattle.std.proofs.Common.{◌≡◌, ◌≢◌, Bool, true, false, cond, ℕ, List, [], ◌∷◌, ◌++◌, map, codes, Option, Some, None, Result, Ok, Err, refl, sym, subst, ◌∙◌}
 use Rattle.std.specs.List.{AllByRecursion, flat_map}
 use Rattle.std.specs.Str.{bytes_eq}
 use Rattle.std.proofs.lemmas.Slice.Eq.{bytes_eq-Decides}
 use Rattle.std.proofs.lemmas.Str.{IsUtf8-string_bytes}
+use Rattle.tw_code.specs.declared.version.Version.{Version}
 use Rattle.tw_words.specs.Seen as lines
 use Rattle.tw_words.specs.Words.{Word, Bare, Quoted}
 use Rattle.tw_words.specs.declared.word.Word as words
@@ -11,22 +12,23 @@ use Rattle.tw_words.specs.declared.word.Word.TheVariants as word
 use Rattle.tw_asm.proofs.Answered.{Judged, code_answered, first_is}
 use Rattle.tw_asm.proofs.HeadWords.{head_answered}
 use Rattle.tw_asm.proofs.OperandWords.{IsFine}
-use Rattle.tw_asm.proofs.Sayings.{label_answered, nonempty, registers_answered}
-use Rattle.tw_asm.specs.Parts.{Part, Name, instr_parts, kind_word, operand_parts, param_parts, register_part}
+use Rattle.tw_asm.proofs.Sayings.{label_answered, nonempty, registers_answered, version_answered}
+use Rattle.tw_asm.specs.Parts.{Part, Name, Natural, kind_word, operand_parts, param_parts, register_part}
 use Rattle.tw_asm.specs.Seen.{Read, seen}
 use Rattle.tw_asm.specs.LineAnswers.{Answers}
-use Rattle.tw_asm.specs.Statement.{AnyName, Code, Goals, Head, Label, Registers, SpellParts, Statement, statement_parts}
+use Rattle.tw_asm.specs.Statement.{AnyName, Code, Goals, Head, Label, OfVersion, Registers, SpellParts, Statement, statement_parts}
 use Rattle.tw_code.specs.declared.opcode.Opcode.{Opcode}
 use Rattle.tw_code.specs.format.Table.{row}
 use Rattle.tw_asm.specs.declared.refusal.Flaw.{Flaw}
 use Rattle.tw_asm.specs.declared.refusal.Refusal.{Refusal}
 use Rattle.tw_asm.specs.declared.refusal.Refusal.TheVariants as refusal
 use Rattle.tw_asm.specs.declared.statement.Statement as statements
-use Rattle.tw_asm.specs.Names.{opcode_of, word_of}
-use Rattle.tw_asm.specs.reading.Lines.{Gives, body_in, head_in, registers_in, statement_in}
+use Rattle.tw_asm.specs.Names.{word_of}
+use Rattle.tw_asm.specs.reading.Lines.{Gives, body_in, head_in, opcode_in, registers_in, statement_in, version_in}
 
 -- each statement begins with a word that stands as it is
 begins : (statement : Statement) → (name : List ℕ) × (rest : List Part) × (statement_parts statement ≡ Name name ∷ rest)
+begins (OfVersion number) = (codes "version", Natural number ∷ [], refl)
 begins (Head kind params) = (codes "proc", Name (kind_word kind) ∷ flat_map param_parts params, refl)
 begins (Registers rs) = (codes "regs", map register_part rs, refl)
 begins (Label name) = (name ++ codes ":", [], refl)
@@ -49,27 +51,29 @@ other_word a b isnt e = no (sym isnt ∙ (bytes_eq-Decides a b).1 e)
     no : false ≡ true → ⊥
     no e = cc
 
-judged : (ws : List Word) → AllByRecursion IsFine ws → Judged (statement_in ws) ws
+judged : (version : Version) (ws : List Word) → AllByRecursion IsFine ws → Judged version (statement_in version ws) ws
 unfolding statement_in
-judged [] fine = λ form. some_word AnyName form.0 form.1.parts
-judged (Quoted text ∷ ws) fine = λ form. bare_first AnyName text ws form.0 form.1.parts
-judged (Bare name ∷ ws) fine = by (bytes_eq name (codes "proc")) (bytes_eq name (codes "regs")) refl refl
+judged version [] fine = λ form. some_word AnyName form.0 form.1.parts
+judged version (Quoted text ∷ ws) fine = λ form. bare_first AnyName text ws form.0 form.1.parts
+judged version (Bare name ∷ ws) fine = by (bytes_eq name (codes "proc")) (bytes_eq name (codes "regs")) (bytes_eq name (codes "version")) refl refl refl
   where
-    body : name ≢ codes "proc" → name ≢ codes "regs" → (found : Option Opcode) → opcode_of name ≡ found → Judged (body_in found name ws) (Bare name ∷ ws)
-    body no_proc no_regs None e = label_answered name no_proc no_regs e ws
-    body no_proc no_regs (Some o) e = code_answered o name ws e fine.1
+    body : name ≢ codes "proc" → name ≢ codes "regs" → name ≢ codes "version" → (found : Option Opcode) → opcode_in version name ≡ found → Judged version (body_in version found name ws) (Bare name ∷ ws)
+    body no_proc no_regs no_version None e = label_answered version name no_proc no_regs no_version e ws
+    body no_proc no_regs no_version (Some o) e = code_answered version o name ws e fine.1
 
-    by : (p r : Bool) → bytes_eq name (codes "proc") ≡ p → bytes_eq name (codes "regs") ≡ r → Judged (cond p (head_in ws) (cond r (registers_in ws) (body_in (opcode_of name) name ws))) (Bare name ∷ ws)
-    by true r is _ = subst (λ (text : List ℕ). Judged (head_in ws) (Bare text ∷ ws)) (sym ((bytes_eq-Decides name (codes "proc")).0 is)) (head_answered ws)
-    by false true _ is = subst (λ (text : List ℕ). Judged (registers_in ws) (Bare text ∷ ws)) (sym ((bytes_eq-Decides name (codes "regs")).0 is)) (registers_answered ws)
-    by false false no_proc no_regs = body (other_word name (codes "proc") no_proc) (other_word name (codes "regs") no_regs) (opcode_of name) refl
+    by : (p r v : Bool) → bytes_eq name (codes "proc") ≡ p → bytes_eq name (codes "regs") ≡ r → bytes_eq name (codes "version") ≡ v
+        → Judged version (cond p (head_in version ws) (cond r (registers_in ws) (cond v (version_in ws) (body_in version (opcode_in version name) name ws)))) (Bare name ∷ ws)
+    by true r v is _ _ = subst (λ (text : List ℕ). Judged version (head_in version ws) (Bare text ∷ ws)) (sym ((bytes_eq-Decides name (codes "proc")).0 is)) (head_answered version ws)
+    by false true v _ is _ = subst (λ (text : List ℕ). Judged version (registers_in ws) (Bare text ∷ ws)) (sym ((bytes_eq-Decides name (codes "regs")).0 is)) (registers_answered version ws)
+    by false false true _ _ is = subst (λ (text : List ℕ). Judged version (version_in ws) (Bare text ∷ ws)) (sym ((bytes_eq-Decides name (codes "version")).0 is)) (version_answered version ws)
+    by false false false no_proc no_regs no_version = body (other_word name (codes "proc") no_proc) (other_word name (codes "regs") no_regs) (other_word name (codes "version") no_version) (opcode_in version name) refl
 
 pub all_fine : (ws : List words.Word) → AllByRecursion IsFine (map lines.seen ws)
 all_fine [] = tt
 all_fine (word.Bare bytes ∷ ws) = (tt, all_fine ws)
 all_fine (word.Quoted text ∷ ws) = (IsUtf8-string_bytes text, all_fine ws)
 
-pub answered : (r : Result statements.Statement Refusal) (ws : List Word) → AllByRecursion IsFine ws → Gives seen r (statement_in ws) → Answers r ws
-answered (Ok statement) ws fine gives = subst (λ (read : Result Read Flaw). Judged read ws) gives (judged ws fine)
-answered (Err refusal.NoMemory) ws fine gives = tt
-answered (Err (refusal.Flawed flaw)) ws fine gives = subst (λ (read : Result Read Flaw). Judged read ws) gives (judged ws fine)
+pub answered : (version : Version) (r : Result statements.Statement Refusal) (ws : List Word) → AllByRecursion IsFine ws → Gives seen r (statement_in version ws) → Answers version r ws
+answered version (Ok statement) ws fine gives = subst (λ (read : Result Read Flaw). Judged version read ws) gives (judged version ws fine)
+answered version (Err refusal.NoMemory) ws fine gives = tt
+answered version (Err (refusal.Flawed flaw)) ws fine gives = subst (λ (read : Result Read Flaw). Judged version read ws) gives (judged version ws fine)

@@ -1,6 +1,6 @@
 -- What is written of a statement spells it.
-use Rattle.std.proofs.Common.{◌≡◌, ◌≢◌, inl, inr, ◌≤◌, ◌<◌, ◌^◌, ◌==◌, ℕ, zero, suc, ℤ, pos, negsuc, Bool, true, false, List, [], ◌∷◌, ◌++◌, map, length, codes, Option, Some, None, refl, ap, subst, ◌∙◌, arith}
-use Rattle.std.specs.Prelude.{FitsSigned, IsUtf8, replicate, ◌&&◌, ◌||◌, nat_lt, if◌then◌else◌, decimal}
+use Rattle.std.proofs.Common.{◌≡◌, ◌≢◌, inl, inr, ◌≤◌, ◌<◌, ◌^◌, ◌==◌, ℕ, suc, ℤ, pos, negsuc, Bool, true, false, List, [], ◌∷◌, ◌++◌, map, length, codes, Option, Some, None, refl, ap, subst, ◌∙◌, arith}
+use Rattle.std.specs.Prelude.{FitsSigned, IsUtf8, ◌&&◌, ◌||◌, nat_lt, if◌then◌else◌, decimal}
 use Rattle.std.specs.Fmt.{signed_decimal}
 use Rattle.std.specs.Int.{w64}
 use Rattle.std.specs.List.{AllByRecursion, flat_map, join_with_byte}
@@ -24,9 +24,11 @@ use Rattle.tw_code.specs.declared.instr.LocalInstr.{LocalInstr}
 use Rattle.tw_code.specs.declared.instr.LocalInstr.TheVariants as local
 use Rattle.tw_code.specs.declared.instr.Priority.{Priority}
 use Rattle.tw_code.specs.declared.instr.Priority.TheVariants.{Constant, Computed}
-use Rattle.tw_code.specs.declared.version.Version.TheVariants.{One}
-use Rattle.tw_code.specs.format.Table.{action_operands, opcode_of_operation}
-use Rattle.tw_code.specs.format.Program.{IsActionOf, IsDataInstr, IsInstrOf, IsLocalInstr, IsPriorityOf, IsRegister, IsSkip, IsTarget}
+use Rattle.tw_code.specs.declared.version.Version.{Version}
+use Rattle.tw_code.specs.declared.version.Version.TheVariants.{Two}
+use Rattle.tw_code.specs.declared.opcode.Opcode.TheVariants as op
+use Rattle.tw_code.specs.format.Table.{action_operands, opcode_of_operation, opcode_of_priority}
+use Rattle.tw_code.specs.format.Program.{IsAction, IsDataInstr, IsInstr, IsLocalInstr, IsPriorityOf, IsRegister, IsSkip, IsTarget}
 use Rattle.tw_words.specs.Words.{Bare, IsLine, IsWord, Quoted, Word, is_edge}
 use Rattle.tw_types.specs.declared.actor.Kind.{Kind}
 use Rattle.tw_types.specs.declared.actor.Kind.TheVariants.{Control, Leaf}
@@ -41,11 +43,12 @@ use Rattle.tw_words.proofs.Written.{quoted_spells}
 use Rattle.tw_words.proofs.Breaks.{IsOneLine}
 use Rattle.tw_words.proofs.Writing.{AreWords, joined_line, joined_one_line, quoted_one_line}
 use Rattle.tw_asm.specs.Names.{word_of}
-use Rattle.tw_asm.specs.Parts.{Literal, Name, Natural, Number, Part, Right, Skip, Target, TypeOf, Value, kind_word, mode_word, operand_parts, param_parts, register_part, scalar_word, skip_among, skip_of, instr_parts}
-use Rattle.tw_asm.specs.Statement.{Code, Goals, HasForm, HasWords, Head, IsInLimits, IsInName, IsName, IsWritten, Label, Registers, SpellParts, Spells, SpellsPart, SpellsWith, Statement, statement_parts}
+use Rattle.tw_asm.specs.Parts.{Literal, Name, Natural, Number, Part, Right, Skip, Target, TypeOf, Value, container_word, kind_word, mode_word, operand_parts, param_parts, register_part, scalar_word, skip_among, skip_of, instr_parts}
+use Rattle.tw_asm.specs.Statement.{Code, Goals, HasForm, HasInstr, Head, IsInLimits, IsInName, IsName, Label, OfVersion, Registers, SpellParts, Spells, SpellsPart, SpellsWith, Statement, statement_parts}
 use Rattle.tw_asm.specs.Written.{goal_word, part_words}
 use Rattle.tw_asm.proofs.Quotes.{after_ascii, quoted_utf8}
 use Rattle.tw_asm.proofs.Rows.{both_true, different, is_last, row, skips_last, sort_of}
+use Rattle.tw_asm.proofs.TypeWords.{words_of}
 
 -- ---- words as they are written
 
@@ -56,7 +59,7 @@ written_part skip_word (Right register) = Bare (codes "d" ++ decimal register) �
 written_part skip_word (Number number) = Bare (signed_decimal number) ∷ []
 written_part skip_word (Natural number) = Bare (decimal number) ∷ []
 written_part skip_word (Literal text) = Quoted text ∷ []
-written_part skip_word (TypeOf ty) = replicate ty.depth (Bare (codes "cont")) ++ (Bare (scalar_word ty.scalar) ∷ [])
+written_part skip_word (TypeOf ty) = words_of ty.containers ty.scalar
 written_part skip_word (Skip skip) = Bare (skip_word skip) ∷ []
 written_part skip_word (Target None) = Bare (codes "any") ∷ []
 written_part skip_word (Target (Some number)) = Bare (decimal number) ∷ []
@@ -69,12 +72,12 @@ abbrev pub text_of : Word → List ℕ
 text_of (Bare word) = word
 text_of (Quoted text) = quoted text
 
-conts_texts : (depth : ℕ) (scalar : Scalar) → map text_of (replicate depth (Bare (codes "cont")) ++ (Bare (scalar_word scalar) ∷ [])) ≡ replicate depth (codes "cont") ++ (scalar_word scalar ∷ [])
-conts_texts zero scalar = refl
-conts_texts (suc depth) scalar = ap (λ (ws : List (List ℕ)). codes "cont" ∷ ws) (conts_texts depth scalar)
+type_texts : (containers : List Scalar) (scalar : Scalar) → map text_of (words_of containers scalar) ≡ map container_word containers ++ (scalar_word scalar ∷ [])
+type_texts [] scalar = refl
+type_texts (by ∷ inner) scalar = ap (λ (ws : List (List ℕ)). container_word by ∷ ws) (type_texts inner scalar)
 
 part_texts : (skip_word : ℕ → List ℕ) (part : Part) → map text_of (written_part skip_word part) ≡ part_words skip_word part
-part_texts skip_word (TypeOf ty) = conts_texts ty.depth ty.scalar
+part_texts skip_word (TypeOf ty) = type_texts ty.containers ty.scalar
 part_texts skip_word (Target None) = refl
 part_texts skip_word (Target (Some number)) = refl
 part_texts skip_word part = refl
@@ -248,9 +251,13 @@ scalar_clear : (scalar : Scalar) → IsClearWord (scalar_word scalar)
 scalar_clear Int = clear_word (codes "int") refl
 scalar_clear Text = clear_word (codes "text") refl
 
-conts_well : (depth : ℕ) (scalar : Scalar) → AllByRecursion IsWellWritten (replicate depth (Bare (codes "cont")) ++ (Bare (scalar_word scalar) ∷ []))
-conts_well zero scalar = (bare_word (scalar_word scalar) (scalar_clear scalar), tt)
-conts_well (suc depth) scalar = (bare_word (codes "cont") (clear_word (codes "cont") refl), conts_well depth scalar)
+container_clear : (by : Scalar) → IsClearWord (container_word by)
+container_clear Int = clear_word (codes "cont") refl
+container_clear Text = clear_word (codes "tcont") refl
+
+type_well : (containers : List Scalar) (scalar : Scalar) → AllByRecursion IsWellWritten (words_of containers scalar)
+type_well [] scalar = (bare_word (scalar_word scalar) (scalar_clear scalar), tt)
+type_well (by ∷ inner) scalar = (bare_word (container_word by) (container_clear by), type_well inner scalar)
 
 register_small : (n : ℕ) → IsRegister n → n < 2 ^ 64
 register_small n h = let high = h.1 in omega arith
@@ -270,7 +277,7 @@ module _ (goals : Goals) (skip_word : ℕ → List ℕ) where
   part_well (Number n) h g = ((signed_decimal n, shown n h, refl), (bare_word (signed_decimal n) (signed_clear n h), tt))
   part_well (Natural n) h g = let small = number_small n h in (digits_spell [] n small, (bare_word (decimal n) (numbered_clear [] n tt small), tt))
   part_well (Literal text) h g = (refl, ((quoted_spells text, quoted_one_line text, quoted_utf8 text h), tt))
-  part_well (TypeOf ty) h g = (refl, conts_well ty.depth ty.scalar)
+  part_well (TypeOf ty) h g = (refl, type_well ty.containers ty.scalar)
   part_well (Skip n) h g = let goal = g n refl in (goal.0, (bare_word (skip_word n) goal.1, tt))
   part_well (Target None) h g = (refl, (bare_word (codes "any") (clear_word (codes "any") refl), tt))
   part_well (Target (Some n)) h g = let small = register_small n h in (digits_spell [] n small, (bare_word (decimal n) (numbered_clear [] n tt small), tt))
@@ -319,10 +326,13 @@ data_in : (i : DataInstr) → IsDataInstr i → AllByRecursion IsInPart (stateme
 data_in (on_data.New write read ty) h = (clear_word (codes "NEW") refl, (h.0, (h.1, (tt, tt))))
 data_in (on_data.Store datum from) h = (clear_word (codes "STORE") refl, (h.0, (h.1, tt)))
 data_in (on_data.Get to datum) h = (clear_word (codes "GET") refl, (h.0, (h.1, tt)))
-data_in (on_data.Insert container subscript member skip) h = (clear_word (codes "INS") refl, (h.0, (h.1, (h.2, (h.3, tt)))))
-data_in (on_data.Look member container subscript skip) h = (clear_word (codes "LOOK") refl, (h.0, (h.1, (h.2, (h.3, tt)))))
+data_in (on_data.Insert Int container subscript member skip) h = (clear_word (codes "INS") refl, (h.1, (h.2, (h.3, (h.4, tt)))))
+data_in (on_data.Insert Text container subscript member skip) h = (clear_word (codes "TINS") refl, (h.1, (h.2, (h.3, (h.4, tt)))))
+data_in (on_data.Look Int member container subscript skip) h = (clear_word (codes "LOOK") refl, (h.1, (h.2, (h.3, (h.4, tt)))))
+data_in (on_data.Look Text member container subscript skip) h = (clear_word (codes "TLOOK") refl, (h.1, (h.2, (h.3, (h.4, tt)))))
 data_in (on_data.Size to container) h = (clear_word (codes "SIZE") refl, (h.0, (h.1, tt)))
-data_in (on_data.SubscriptAt to container index skip) h = (clear_word (codes "SUBAT") refl, (h.0, (h.1, (h.2, (h.3, tt)))))
+data_in (on_data.SubscriptAt Int to container index skip) h = (clear_word (codes "SUBAT") refl, (h.1, (h.2, (h.3, (h.4, tt)))))
+data_in (on_data.SubscriptAt Text to container index skip) h = (clear_word (codes "TSUBAT") refl, (h.1, (h.2, (h.3, (h.4, tt)))))
 data_in (on_data.CopyRead to from) h = (clear_word (codes "DUPR") refl, (h.0, (h.1, tt)))
 data_in (on_data.CopyWrite to from) h = (clear_word (codes "DUPW") refl, (h.0, (h.1, tt)))
 data_in (on_data.DropRead right) h = (clear_word (codes "DROPR") refl, (h, tt))
@@ -335,34 +345,30 @@ args_in (arg ∷ args) h = (few h.0.1, args_in args h.1)
     few : arg ≤ 15 → arg ≤ 65535
     few high = omega arith
 
-action_in : (word : List ℕ) (action : Action) → IsClearWord word → IsActionOf One action → AllByRecursion IsInPart (Name word ∷ flat_map operand_parts (action_operands action))
-action_in word action clear h = by action.priority h.priority
+operands_in : (action : Action) → IsAction action → AllByRecursion IsInPart (flat_map operand_parts (action_operands action))
+operands_in action h = by action.priority h.priority
   where
     few : action.procedure ≤ 255 → action.procedure ≤ 65535
     few high = omega arith
 
-    by : (priority : Priority) → IsPriorityOf One priority → AllByRecursion IsInPart (Name word ∷ flat_map operand_parts (action_operands (record action { priority = priority })))
-    by (Constant n) fits = (clear, (few h.procedure.1, (fits, (h.target, args_in action.args h.args.1))))
-    by (Computed register) fits = absurd fits
+    by : (priority : Priority) → IsPriorityOf Two priority → AllByRecursion IsInPart (flat_map operand_parts (action_operands (record action { priority = priority })))
+    by (Constant n) fits = (few h.procedure.1, (fits, (h.target, args_in action.args h.args.1)))
+    by (Computed register) fits = (few h.procedure.1, (fits, (h.target, args_in action.args h.args.1)))
 
-instr_in : (i : Instr) → IsInstrOf One i → AllByRecursion IsInPart (statement_parts (Code i))
+rule_clear : (priority : Priority) → IsClearWord (word_of (opcode_of_priority op.Rule op.RuleComputed priority))
+rule_clear (Constant n) = clear_word (codes "RULE") refl
+rule_clear (Computed register) = clear_word (codes "RULEV") refl
+
+put_clear : (priority : Priority) → IsClearWord (word_of (opcode_of_priority op.Put op.PutComputed priority))
+put_clear (Constant n) = clear_word (codes "PUT") refl
+put_clear (Computed register) = clear_word (codes "PUTV") refl
+
+instr_in : (i : Instr) → IsInstr i → AllByRecursion IsInPart (statement_parts (Code i))
 instr_in (instr.Local i) h = local_in i h
 instr_in (instr.Data i) h = data_in i h
-instr_in (instr.Rule action) h = action_in (codes "RULE") action (clear_word (codes "RULE") refl) h
-instr_in (instr.Put action) h = action_in (codes "PUT") action (clear_word (codes "PUT") refl) h
+instr_in (instr.Rule action) h = (rule_clear action.priority, operands_in action h)
+instr_in (instr.Put action) h = (put_clear action.priority, operands_in action h)
 instr_in instr.Ret h = (clear_word (codes "RET") refl, tt)
-
--- what is of version 1 has words
-words_of_priority : (priority : Priority) → IsPriorityOf One priority → IsWritten priority
-words_of_priority (Constant n) h = tt
-words_of_priority (Computed register) h = h
-
-words_there : (i : Instr) → IsInstrOf One i → HasWords i
-words_there (instr.Local i) h = tt
-words_there (instr.Data i) h = tt
-words_there (instr.Rule action) h = words_of_priority action.priority h.priority
-words_there (instr.Put action) h = words_of_priority action.priority h.priority
-words_there instr.Ret h = tt
 
 kind_clear : (kind : Kind) → IsClearWord (kind_word kind)
 kind_clear Control = clear_word (codes "control") refl
@@ -382,18 +388,22 @@ registers_in : (registers : List Scalar) → AllByRecursion IsInPart (map regist
 registers_in [] = tt
 registers_in (scalar ∷ registers) = (scalar_clear scalar, registers_in registers)
 
-statement_in : (s : Statement) → HasForm s → IsInLimits s → AllByRecursion IsInPart (statement_parts s)
-statement_in (Head kind params) form h = (clear_word (codes "proc") refl, (kind_clear kind, params_in params))
-statement_in (Registers registers) form h = (clear_word (codes "regs") refl, registers_in registers)
-statement_in (Label name) form h = (label_clear name form, tt)
-statement_in (Code i) form h = instr_in i h
+statement_in : (version : Version) (s : Statement) → HasForm version s → IsInLimits s → AllByRecursion IsInPart (statement_parts s)
+statement_in version (OfVersion number) form h = (clear_word (codes "version") refl, (few h.1, tt))
+  where
+    few : number ≤ 2 → number ≤ 65535
+    few high = omega arith
+statement_in version (Head kind params) form h = (clear_word (codes "proc") refl, (kind_clear kind, params_in params))
+statement_in version (Registers registers) form h = (clear_word (codes "regs") refl, registers_in registers)
+statement_in version (Label name) form h = (label_clear name form, tt)
+statement_in version (Code i) form h = instr_in i h
 
 -- ---- statements
 
 -- a line of words that spell the statement, in UTF-8
-pub record IsLineOf (goals : Goals) (s : Statement) (line : List ℕ) : Type 0 where
+pub record IsLineOf (version : Version) (goals : Goals) (s : Statement) (line : List ℕ) : Type 0 where
   pub words : List Word
-  pub spells : Spells goals s words
+  pub spells : Spells version goals s words
   pub is_line : IsLine words line
   pub single : IsOneLine line
   pub utf8 : IsUtf8 line
@@ -402,9 +412,9 @@ pub record IsLineOf (goals : Goals) (s : Statement) (line : List ℕ) : Type 0 w
 abbrev pub bare_line : (ℕ → List ℕ) → Statement → List ℕ
 bare_line skip_word s = join_with_byte 32 (flat_map (part_words skip_word) (statement_parts s))
 
-pub written_spells : (goals : Goals) (skip_word : ℕ → List ℕ) (s : Statement) → HasForm s → IsInLimits s → AreGoalWords goals skip_word (statement_parts s) → IsLineOf goals s (bare_line skip_word s)
-written_spells goals skip_word s form limits goal =
-    let well = parts_well goals skip_word (statement_parts s) (statement_in s form limits) goal in
+pub written_spells : (version : Version) (goals : Goals) (skip_word : ℕ → List ℕ) (s : Statement) → HasForm version s → IsInLimits s → AreGoalWords goals skip_word (statement_parts s) → IsLineOf version goals s (bare_line skip_word s)
+written_spells version goals skip_word s form limits goal =
+    let well = parts_well goals skip_word (statement_parts s) (statement_in version s form limits) goal in
     let texts = ap (join_with_byte 32) (parts_texts skip_word (statement_parts s)) in
     record {
       words = written skip_word s;
@@ -458,9 +468,9 @@ module _ (P : ℕ → Type 0) where
   skip_alone (part ∷ parts) last h = (no_skip part (λ seven. different (sort_of part) 7 seven refl), skip_alone parts last h)
 
 -- what is written of an instruction: its goal by this label, or as a number
-pub instr_written : (goals : Goals) (label : Option ℕ) (i : Instr) → IsInstrOf One i → ((skip : ℕ) → skip_of i ≡ Some skip → IsGoal goals label skip) → IsLineOf goals (Code i) (bare_line (goal_word label) (Code i))
-instr_written goals label i limits goal =
-    written_spells goals (goal_word label) (Code i) (words_there i limits) limits (all_goals goals label (instr_parts i) (instr_in i limits) (skip_alone (IsGoal goals label) (instr_parts i) (row i).last goal))
+pub instr_written : (version : Version) (goals : Goals) (label : Option ℕ) (i : Instr) → HasInstr version i → IsInstr i → ((skip : ℕ) → skip_of i ≡ Some skip → IsGoal goals label skip) → IsLineOf version goals (Code i) (bare_line (goal_word label) (Code i))
+instr_written version goals label i had limits goal =
+    written_spells version goals (goal_word label) (Code i) had limits (all_goals goals label (instr_parts i) (instr_in i limits) (skip_alone (IsGoal goals label) (instr_parts i) (row i).last goal))
 
 -- what is written of a statement without a skip, whatever the goals
 params_without : (P : ℕ → Type 0) (params : List Param) → AllByRecursion (λ part. (skip : ℕ) → part ≡ Skip skip → P skip) (flat_map param_parts params)
@@ -471,18 +481,23 @@ registers_without : (P : ℕ → Type 0) (registers : List Scalar) → AllByRecu
 registers_without P [] = tt
 registers_without P (scalar ∷ registers) = (no_skip P (Name (scalar_word scalar)) (λ seven. different 0 7 seven refl), registers_without P registers)
 
-pub head_written : (goals : Goals) (skip_word : ℕ → List ℕ) (kind : Kind) (params : List Param) → HasForm (Head kind params) → IsInLimits (Head kind params) → IsLineOf goals (Head kind params) (bare_line skip_word (Head kind params))
-head_written goals skip_word kind params form limits =
+pub head_written : (version : Version) (goals : Goals) (skip_word : ℕ → List ℕ) (kind : Kind) (params : List Param) → HasForm version (Head kind params) → IsInLimits (Head kind params) → IsLineOf version goals (Head kind params) (bare_line skip_word (Head kind params))
+head_written version goals skip_word kind params form limits =
     let P = IsGoalWord goals skip_word in
-    written_spells goals skip_word (Head kind params) form limits
+    written_spells version goals skip_word (Head kind params) form limits
     (no_skip P (Name (codes "proc")) (λ seven. different 0 7 seven refl), (no_skip P (Name (kind_word kind)) (λ seven. different 0 7 seven refl), params_without P params))
 
-pub registers_written : (goals : Goals) (skip_word : ℕ → List ℕ) (registers : List Scalar) → IsInLimits (Registers registers) → IsLineOf goals (Registers registers) (bare_line skip_word (Registers registers))
-registers_written goals skip_word registers limits =
+pub registers_written : (version : Version) (goals : Goals) (skip_word : ℕ → List ℕ) (registers : List Scalar) → IsInLimits (Registers registers) → IsLineOf version goals (Registers registers) (bare_line skip_word (Registers registers))
+registers_written version goals skip_word registers limits =
     let P = IsGoalWord goals skip_word in
-    written_spells goals skip_word (Registers registers) tt limits (no_skip P (Name (codes "regs")) (λ seven. different 0 7 seven refl), registers_without P registers)
+    written_spells version goals skip_word (Registers registers) tt limits (no_skip P (Name (codes "regs")) (λ seven. different 0 7 seven refl), registers_without P registers)
 
-pub label_written : (goals : Goals) (skip_word : ℕ → List ℕ) (name : List ℕ) → IsName name → length name ≤ 64 → IsLineOf goals (Label name) (bare_line skip_word (Label name))
-label_written goals skip_word name form limits =
+pub label_written : (version : Version) (goals : Goals) (skip_word : ℕ → List ℕ) (name : List ℕ) → IsName name → length name ≤ 64 → IsLineOf version goals (Label name) (bare_line skip_word (Label name))
+label_written version goals skip_word name form limits =
     let P = IsGoalWord goals skip_word in
-    written_spells goals skip_word (Label name) form limits (no_skip P (Name (name ++ codes ":")) (λ seven. different 0 7 seven refl), tt)
+    written_spells version goals skip_word (Label name) form limits (no_skip P (Name (name ++ codes ":")) (λ seven. different 0 7 seven refl), tt)
+
+pub version_written : (version : Version) (goals : Goals) (skip_word : ℕ → List ℕ) (number : ℕ) → IsInLimits (OfVersion number) → IsLineOf version goals (OfVersion number) (bare_line skip_word (OfVersion number))
+version_written version goals skip_word number limits =
+    let P = IsGoalWord goals skip_word in
+    written_spells version goals skip_word (OfVersion number) tt limits (no_skip P (Name (codes "version")) (λ seven. different 0 7 seven refl), (no_skip P (Natural number) (λ seven. different 4 7 seven refl), tt))

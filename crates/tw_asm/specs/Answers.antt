@@ -1,6 +1,6 @@
 -- What the calls answer.
 use Rattle.std.specs.Prelude.{◌≡◌, ℕ, List, Result, Ok, Err}
-use Rattle.tw_code.specs.declared.procedure.Procedure.{Procedure}
+use Rattle.tw_code.specs.format.Program.{Versioned}
 use Rattle.tw_asm.specs.declared.assembler.LinedProgram.{LinedProgram}
 use Rattle.tw_asm.specs.declared.fault.AsmFault.{AsmFault}
 use Rattle.tw_asm.specs.declared.fault.FaultNo.{FaultNo}
@@ -12,7 +12,7 @@ use Rattle.tw_asm.specs.Spelling.{SpellsProgram}
 -- the first fault of a text that spells no program
 pub record HasFault (text : List ℕ) (no : FaultNo) (line : ℕ) : Type 0 where
   pub first : IsFirstFault text no line
-  pub none : (program : List Procedure) → SpellsProgram program text → ⊥
+  pub none : (program : Versioned) → SpellsProgram program text → ⊥
 
 abbrev pub IsFault : List ℕ → FaultNo → ℕ → Type 0
 IsFault text fault.Word line = HasFault text fault.Word line
@@ -24,11 +24,11 @@ IsFault text fault.Limit line = HasFault text fault.Limit line
 IsFault text fault.NoMemory line = line ≡ 0
 
 -- the program that the text spells, or its first fault, or want of memory
-abbrev pub IsAssembled : List ℕ → Result (List Procedure) AsmFault → Type 0
+abbrev pub IsAssembled : List ℕ → Result Versioned AsmFault → Type 0
 IsAssembled text (Ok program) = SpellsProgram program text
 IsAssembled text (Err f) = IsFault text f.no f.line
 
 -- the same of the program with the line of each instruction
 abbrev pub IsLined : List ℕ → Result LinedProgram AsmFault → Type 0
-IsLined text (Ok lined) = SpellsProgram lined.program text × AreOrigins text lined.program lined.lines.procedures
+IsLined text (Ok lined) = SpellsProgram lined.program text × AreOrigins text lined.program.procedures lined.lines.procedures
 IsLined text (Err f) = IsFault text f.no f.line

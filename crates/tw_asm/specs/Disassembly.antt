@@ -4,8 +4,11 @@ use Rattle.std.specs.Fmt.{decimal}
 use Rattle.std.specs.List.{flat_map, position}
 use Rattle.tw_code.specs.declared.instr.Instr.{Instr}
 use Rattle.tw_code.specs.declared.procedure.Procedure.{Procedure}
+use Rattle.tw_code.specs.declared.version.Version.{Version}
+use Rattle.tw_code.specs.declared.version.Version.TheVariants.{One, Two}
+use Rattle.tw_code.specs.format.Program.{Versioned}
 use Rattle.tw_asm.specs.Parts.{skip_of}
-use Rattle.tw_asm.specs.Statement.{Head, Registers, Label, Code}
+use Rattle.tw_asm.specs.Statement.{OfVersion, Head, Registers, Label, Code}
 use Rattle.tw_asm.specs.Written.{goal_word, line_of}
 
 -- ---- goals
@@ -50,5 +53,10 @@ abbrev pub procedure_lines : Procedure → List ℕ
 procedure_lines p =
     line_of (goal_word None) (Head p.kind p.params) ++ (line_of (goal_word None) (Registers p.registers) ++ code_lines (label_places p.code) 0 p.code)
 
-abbrev pub disassembly : List Procedure → List ℕ
-disassembly procedures = flat_map procedure_lines procedures
+-- the first version isn't said
+abbrev pub version_line : Version → List ℕ
+version_line One = []
+version_line Two = line_of (goal_word None) (OfVersion 2)
+
+abbrev pub disassembly : Versioned → List ℕ
+disassembly program = version_line program.version ++ flat_map procedure_lines program.procedures

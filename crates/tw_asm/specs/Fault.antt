@@ -3,14 +3,16 @@
 -- A text is read line by line, and each line stands in a situation: what the lines before it have said. The first line
 -- that can't follow has the fault, and of the faults of one line that of the lowest number. Where all lines can follow, and
 -- the text may end, labels are looked at: the first line whose goal isn't a label behind it has the fault.
-use Rattle.std.specs.Prelude.{◌≡◌, ◌≢◌, ◌⊎◌, ℕ, ◌+◌, ◌≤◌, ◌<◌, List, [], ◌∷◌, ◌++◌, length, take, drop, slice_get, Option, Some, None}
+use Rattle.std.specs.Prelude.{◌≡◌, ◌⊎◌, ℕ, ◌+◌, ◌≤◌, ◌<◌, List, [], ◌∷◌, ◌++◌, length, take, drop, slice_get, Option, Some, None}
 use Rattle.tw_code.specs.declared.instr.Instr.{Instr}
+use Rattle.tw_code.specs.declared.version.Version.{Version}
+use Rattle.tw_code.specs.declared.version.Version.TheVariants.{One}
 use Rattle.std.specs.List.{Contains}
 use Rattle.std.specs.Str.Lines.{lines}
 use Rattle.tw_words.specs.Words.{Bare, IsFirstWord, IsLine, Word}
 use Rattle.tw_asm.specs.declared.statement.First.{First}
 use Rattle.tw_asm.specs.declared.statement.First.TheVariants as first
-use Rattle.tw_asm.specs.Statement.{Statement, Head, Registers, Label, Code, HaveForm, IsExpected, NamesLabel, Say}
+use Rattle.tw_asm.specs.Statement.{Statement, OfVersion, Head, Registers, Label, Code, HaveForm, IsExpected, NamesLabel, Say, version_by}
 use Rattle.tw_asm.specs.declared.fault.FaultNo.{FaultNo}
 use Rattle.tw_asm.specs.declared.fault.FaultNo.TheVariants as fault
 
@@ -29,11 +31,14 @@ fault_number fault.NoMemory = 7
 pub data Stage : Type 0 where
   -- nothing has been said
   Start : Stage
+  -- the version has been said, and nothing more
+  AfterVersion : Stage
   -- the types of value registers are due
   AfterHead : Stage
   InBody : Stage
 
 pub record Situation : Type 0 where
+  pub version : Version
   pub stage : Stage
   -- how many procedures have begun, and the line at which the last one did
   pub procedures : ℕ
@@ -43,21 +48,30 @@ pub record Situation : Type 0 where
   pub instructions : ℕ
 
 abbrev pub at_start : Situation
-at_start = record { stage = Start; procedures = 0; head_line = 0; labels = []; instructions = 0 }
+at_start = record { version = One; stage = Start; procedures = 0; head_line = 0; labels = []; instructions = 0 }
 
 -- after a statement in the line of this number
 abbrev pub after : ℕ → Statement → Situation → Situation
-after number (Head kind params) s = record { stage = AfterHead; procedures = s.procedures + 1; head_line = number; labels = []; instructions = 0 }
+after number (OfVersion version) s = record s { version = version_by version; stage = AfterVersion }
+after number (Head kind params) s = record { version = s.version; stage = AfterHead; procedures = s.procedures + 1; head_line = number; labels = []; instructions = 0 }
 after number (Registers registers) s = record s { stage = InBody }
 after number (Label name) s = record s { labels = s.labels ++ (name ∷ []) }
 after number (Code i) s = record s { instructions = s.instructions + 1 }
+
+-- no procedure has begun
+abbrev pub IsOutset : Stage → Type 0
+IsOutset Start = Unit {0}
+IsOutset AfterVersion = Unit {0}
+IsOutset AfterHead = ⊥
+IsOutset InBody = ⊥
 
 -- the last procedure may end here: it has an instruction
 abbrev pub IsWhole : Situation → Type 0
 IsWhole s = (s.stage ≡ InBody) × (0 < s.instructions)
 
 abbrev pub MayStand : Statement → Situation → Type 0
-MayStand (Head kind params) s = ((s.stage ≡ Start) ⊎ IsWhole s) × (s.procedures < 64)
+MayStand (OfVersion version) s = s.stage ≡ Start
+MayStand (Head kind params) s = (IsOutset s.stage ⊎ IsWhole s) × (s.procedures < 64)
 MayStand (Registers registers) s = s.stage ≡ AfterHead
 MayStand (Label name) s = (s.stage ≡ InBody) × (Contains s.labels name → ⊥)
 MayStand (Code i) s = (s.stage ≡ InBody) × (s.instructions < 4096)
@@ -67,7 +81,7 @@ MayStand (Code i) s = (s.stage ≡ InBody) × (s.instructions < 4096)
 -- what a line says that can follow, if anything
 abbrev pub LineSays : Situation → List ℕ → Option Statement → Type 0
 LineSays s line None = IsLine [] line
-LineSays s line (Some statement) = ((words : List Word) × IsLine words line × Say statement words) × MayStand statement s
+LineSays s line (Some statement) = ((words : List Word) × IsLine words line × Say s.version statement words) × MayStand statement s
 
 abbrev pub after_line : ℕ → Option Statement → Situation → Situation
 after_line number None s = s
@@ -93,17 +107,18 @@ situation said = situation_from 1 at_start said
 
 -- what a first word may let expect here
 abbrev pub MayBegin : Stage → First → Type 0
-MayBegin Start expected = expected ≡ first.Head
+MayBegin Start expected = (expected ≡ first.Version) ⊎ (expected ≡ first.Head)
+MayBegin AfterVersion expected = expected ≡ first.Head
 MayBegin AfterHead expected = expected ≡ first.Registers
 MayBegin InBody expected = (expected ≡ first.Head) ⊎ (expected ≡ first.Body)
 
 -- the line's first word lets expect what may stand here
 abbrev pub Begins : Situation → List ℕ → First → Type 0
-Begins s line expected = (word rest : List ℕ) × IsFirstWord (Bare word) line rest × IsExpected expected word × MayBegin s.stage expected
+Begins s line expected = (word rest : List ℕ) × IsFirstWord (Bare word) line rest × IsExpected s.version expected word × MayBegin s.stage expected
 
 -- the line's words have a form, within the limits or not
-abbrev pub HasWords : List ℕ → Type 0
-HasWords line = (words : List Word) × IsLine words line × HaveForm words
+abbrev pub HasWords : Version → List ℕ → Type 0
+HasWords version line = (words : List Word) × IsLine words line × HaveForm version words
 
 -- a procedure has begun, and has no instruction
 abbrev pub IsEmpty : Situation → Type 0
@@ -113,16 +128,16 @@ IsEmpty s = (s.stage ≡ InBody) × (s.instructions ≡ 0)
 pub data LineFault (number : ℕ) (s : Situation) (line : List ℕ) : FaultNo → ℕ → Type 0 where
   -- it has something, but no first word that may stand here
   word : (IsLine [] line → ⊥) → ((expected : First) → Begins s line expected → ⊥) → LineFault number s line fault.Word number
-  operand : (expected : First) → Begins s line expected → (HasWords line → ⊥) → LineFault number s line fault.Operand number
-  label_twice : (name : List ℕ) (words : List Word) → s.stage ≡ InBody → IsLine words line → Say (Label name) words
+  operand : (expected : First) → Begins s line expected → (HasWords s.version line → ⊥) → LineFault number s line fault.Operand number
+  label_twice : (name : List ℕ) (words : List Word) → s.stage ≡ InBody → IsLine words line → Say s.version (Label name) words
       → Contains s.labels name → LineFault number s line fault.LabelTwice number
   -- a procedure without instructions is met at the next head, and the fault is at its own
-  empty : Begins s line first.Head → HasWords line → IsEmpty s → LineFault number s line fault.Limit s.head_line
-  limit : (expected : First) → Begins s line expected → HasWords line → (expected ≡ first.Head → IsEmpty s → ⊥)
-      → ((statement : Statement) (words : List Word) → IsLine words line → Say statement words → ⊥)
+  empty : Begins s line first.Head → HasWords s.version line → IsEmpty s → LineFault number s line fault.Limit s.head_line
+  limit : (expected : First) → Begins s line expected → HasWords s.version line → (expected ≡ first.Head → IsEmpty s → ⊥)
+      → ((statement : Statement) (words : List Word) → IsLine words line → Say s.version statement words → ⊥)
       → LineFault number s line fault.Limit number
-  procedures : Begins s line first.Head → HasWords line → (IsEmpty s → ⊥) → 64 ≤ s.procedures → LineFault number s line fault.Limit number
-  instructions : (i : Instr) (words : List Word) → s.stage ≡ InBody → IsLine words line → Say (Code i) words
+  procedures : Begins s line first.Head → HasWords s.version line → (IsEmpty s → ⊥) → 64 ≤ s.procedures → LineFault number s line fault.Limit number
+  instructions : (i : Instr) (words : List Word) → s.stage ≡ InBody → IsLine words line → Say s.version (Code i) words
       → 4096 ≤ s.instructions → LineFault number s line fault.Limit number
 
 -- the first line that can't follow
@@ -137,7 +152,7 @@ pub record IsLineFault (text : List ℕ) (no : FaultNo) (at : ℕ) : Type 0 wher
 
 -- There is no procedure, or the last one has no instruction.
 abbrev pub IsUnfinished : Situation → ℕ → Type 0
-IsUnfinished s at = ((s.stage ≡ Start) × (at ≡ 1)) ⊎ ((s.stage ≢ Start) × (s.instructions ≡ 0) × (at ≡ s.head_line))
+IsUnfinished s at = (IsOutset s.stage × (at ≡ 1)) ⊎ ((IsOutset s.stage → ⊥) × (s.instructions ≡ 0) × (at ≡ s.head_line))
 
 -- all lines can follow, but the text may not end there
 pub record IsEndFault (text : List ℕ) (no : FaultNo) (at : ℕ) : Type 0 where
@@ -152,6 +167,7 @@ pub record IsEndFault (text : List ℕ) (no : FaultNo) (at : ℕ) : Type 0 where
 abbrev pub labels_ahead : List (Option Statement) → List (List ℕ)
 labels_ahead [] = []
 labels_ahead (None ∷ others) = labels_ahead others
+labels_ahead (Some (OfVersion version) ∷ others) = labels_ahead others
 labels_ahead (Some (Head kind params) ∷ others) = []
 labels_ahead (Some (Registers registers) ∷ others) = labels_ahead others
 labels_ahead (Some (Label name) ∷ others) = name ∷ labels_ahead others
@@ -159,9 +175,9 @@ labels_ahead (Some (Code i) ∷ others) = labels_ahead others
 
 -- the line names a label as a goal that is neither before it nor ahead, or one that is before it
 pub data GoalFault (s : Situation) (ahead : List (List ℕ)) (line : List ℕ) : FaultNo → Type 0 where
-  unknown : (name : List ℕ) (words : List Word) → IsLine words line → NamesLabel name words → (Contains s.labels name → ⊥)
+  unknown : (name : List ℕ) (words : List Word) → IsLine words line → NamesLabel s.version name words → (Contains s.labels name → ⊥)
       → (Contains ahead name → ⊥) → GoalFault s ahead line fault.UnknownLabel
-  not_forward : (name : List ℕ) (words : List Word) → IsLine words line → NamesLabel name words → Contains s.labels name
+  not_forward : (name : List ℕ) (words : List Word) → IsLine words line → NamesLabel s.version name words → Contains s.labels name
       → GoalFault s ahead line fault.LabelNotForward
 
 -- The text may end, and the line of this number has such a goal.

@@ -1,13 +1,13 @@
 -- That a text spells one program, that it has one first fault, and that an instruction comes from one line.
 use Rattle.std.specs.Prelude.{◌≡◌, ℕ, List}
-use Rattle.tw_code.specs.declared.procedure.Procedure.{Procedure}
+use Rattle.tw_code.specs.format.Program.{Versioned}
 use Rattle.tw_asm.specs.declared.fault.FaultNo.{FaultNo}
 use Rattle.tw_asm.specs.Fault.{IsFirstFault}
 use Rattle.tw_asm.specs.Origins.{ComesFrom}
 use Rattle.tw_asm.specs.Spelling.{SpellsProgram}
 
 abbrev pub SpellsOnce : Type 0
-SpellsOnce = (text : List ℕ) (p q : List Procedure) → SpellsProgram p text → SpellsProgram q text → p ≡ q
+SpellsOnce = (text : List ℕ) (p q : Versioned) → SpellsProgram p text → SpellsProgram q text → p ≡ q
 
 -- one number, and one line
 abbrev pub OneFirstFault : Type 0

@@ -1,5 +1,6 @@
 -- What reading a line's words answers.
 use Rattle.std.specs.Prelude.{List, Result, Ok, Err}
+use Rattle.tw_code.specs.declared.version.Version.{Version}
 use Rattle.tw_words.specs.Words.{Word}
 use Rattle.tw_asm.specs.declared.statement.Statement as statements
 use Rattle.tw_asm.specs.Seen.{IsRead, seen}
@@ -10,12 +11,12 @@ use Rattle.tw_asm.specs.declared.refusal.Refusal.{Refusal}
 use Rattle.tw_asm.specs.declared.refusal.Refusal.TheVariants as refusal
 
 -- what is wrong with these words, after a first word that lets expect a statement
-abbrev pub IsFlawed : Flaw → List Word → Type 0
-IsFlawed flaw.Form words = HaveForm words → ⊥
-IsFlawed flaw.Limit words = HaveForm words × ((statement : Statement) → Say statement words → ⊥)
+abbrev pub IsFlawed : Version → Flaw → List Word → Type 0
+IsFlawed version flaw.Form words = HaveForm version words → ⊥
+IsFlawed version flaw.Limit words = HaveForm version words × ((statement : Statement) → Say version statement words → ⊥)
 
 -- what reading answers, memory aside
-abbrev pub Answers : Result statements.Statement Refusal → List Word → Type 0
-Answers (Ok read) words = IsRead (seen read) words
-Answers (Err refusal.NoMemory) words = Unit {0}
-Answers (Err (refusal.Flawed flaw)) words = IsFlawed flaw words
+abbrev pub Answers : Version → Result statements.Statement Refusal → List Word → Type 0
+Answers version (Ok read) words = IsRead version (seen read) words
+Answers version (Err refusal.NoMemory) words = Unit {0}
+Answers version (Err (refusal.Flawed flaw)) words = IsFlawed version flaw words

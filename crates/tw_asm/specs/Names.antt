@@ -37,13 +37,19 @@ word_of op.DropWrite = codes "DROPW"
 word_of op.Rule = codes "RULE"
 word_of op.Put = codes "PUT"
 word_of op.Ret = codes "RET"
+word_of op.InsertByText = codes "TINS"
+word_of op.LookByText = codes "TLOOK"
+word_of op.SubscriptAtByText = codes "TSUBAT"
+word_of op.RuleComputed = codes "RULEV"
+word_of op.PutComputed = codes "PUTV"
 
 -- each of them
 abbrev pub opcodes : List Opcode
 opcodes =
     op.Int ∷ op.Text ∷ op.Copy ∷ op.Add ∷ op.Subtract ∷ op.Multiply ∷ op.Divide ∷ op.Remainder ∷ op.Concatenate ∷ op.Length ∷ op.Show ∷ op.ReadInt ∷
     op.Jump ∷ op.JumpEqual ∷ op.JumpLess ∷ op.Repeat ∷ op.End ∷ op.New ∷ op.Store ∷ op.Get ∷ op.Insert ∷ op.Look ∷ op.Size ∷ op.SubscriptAt ∷
-    op.CopyRead ∷ op.CopyWrite ∷ op.DropRead ∷ op.DropWrite ∷ op.Rule ∷ op.Put ∷ op.Ret ∷ []
+    op.CopyRead ∷ op.CopyWrite ∷ op.DropRead ∷ op.DropWrite ∷ op.Rule ∷ op.Put ∷ op.Ret ∷
+    op.InsertByText ∷ op.LookByText ∷ op.SubscriptAtByText ∷ op.RuleComputed ∷ op.PutComputed ∷ []
 
 unfoldable pub opcode_of : List ℕ → Option Opcode
 opcode_of name = find (λ opcode. bytes_eq (word_of opcode) name) opcodes

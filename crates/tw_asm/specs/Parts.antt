@@ -45,6 +45,15 @@ abbrev pub scalar_word : Scalar → List ℕ
 scalar_word Int = codes "int"
 scalar_word Text = codes "text"
 
+-- by the type of its subscripts
+abbrev pub container_word : Scalar → List ℕ
+container_word Int = codes "cont"
+container_word Text = codes "tcont"
+
+-- a word for each container, the outermost first, and the scalar
+abbrev pub type_words : NestedScalar → List (List ℕ)
+type_words ty = map container_word ty.containers ++ (scalar_word ty.scalar ∷ [])
+
 -- ---- instructions: a line a kind of operand
 
 abbrev pub operand_parts : Operand → List Part
@@ -64,6 +73,9 @@ abbrev pub instr_parts : Instr → List Part
 instr_parts i = Name (word_of (row i).0) ∷ flat_map operand_parts (row i).1
 
 -- ---- the other statements
+
+abbrev pub version_parts : ℕ → List Part
+version_parts number = Name (codes "version") ∷ Natural number ∷ []
 
 abbrev pub param_parts : Param → List Part
 param_parts param = Name (mode_word param.mode) ∷ TypeOf param.ty ∷ []

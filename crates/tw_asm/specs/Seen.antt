@@ -7,10 +7,11 @@ use Rattle.tw_code.specs.declared.instr.Instr.{Instr}
 use Rattle.tw_code.specs.declared.instr.Instr.TheVariants as instr
 use Rattle.tw_code.specs.declared.instr.LocalInstr.{LocalInstr}
 use Rattle.tw_code.specs.declared.instr.LocalInstr.TheVariants as local
+use Rattle.tw_code.specs.declared.version.Version.{Version}
 use Rattle.tw_words.specs.Words.{Word}
 use Rattle.tw_asm.specs.declared.statement.Statement as statements
 use Rattle.tw_asm.specs.declared.statement.Statement.TheVariants as statement
-use Rattle.tw_asm.specs.Statement.{Statement, Head, Registers, Label, Code, Goals, Spells, IsInLimits, IsShortName, NamesLabel}
+use Rattle.tw_asm.specs.Statement.{Statement, OfVersion, Head, Registers, Label, Code, Goals, Spells, IsInLimits, IsShortName, NamesLabel, version_number}
 
 -- a statement, and the label that it names where it is an instruction
 pub record Read : Type 0 where
@@ -22,6 +23,7 @@ bytes_of None = None
 bytes_of (Some name) = Some name.now
 
 abbrev pub seen : statements.Statement → Read
+seen (statement.Version version) = record { statement = OfVersion (version_number version); goal = None }
 seen (statement.Head kind params) = record { statement = Head kind params; goal = None }
 seen (statement.Registers registers) = record { statement = Registers registers; goal = None }
 seen (statement.Label name) = record { statement = Label name.now; goal = None }
@@ -35,12 +37,12 @@ abbrev pub NoName : Goals
 NoName skip word = ⊥
 
 -- These words are this statement, within the limits; where a label is named, they are no statement without a label.
-abbrev pub IsRead : Read → List Word → Type 0
-IsRead read words = IsInLimits read.statement × spelled read.goal
+abbrev pub IsRead : Version → Read → List Word → Type 0
+IsRead version read words = IsInLimits read.statement × spelled read.goal
   where
     spelled : Option (List ℕ) → Type 0
-    spelled None = Spells NoName read.statement words
-    spelled (Some name) = IsShortName name × Spells (OnlyName name) read.statement words × NamesLabel name words
+    spelled None = Spells version NoName read.statement words
+    spelled (Some name) = IsShortName name × Spells version (OnlyName name) read.statement words × NamesLabel version name words
 
 -- ---- an instruction with another skip, where it has one
 
@@ -63,10 +65,10 @@ abbrev pub data_with_skip : ℕ → DataInstr → DataInstr
 data_with_skip skip (on_data.New write read ty) = on_data.New write read ty
 data_with_skip skip (on_data.Store datum from) = on_data.Store datum from
 data_with_skip skip (on_data.Get to datum) = on_data.Get to datum
-data_with_skip skip (on_data.Insert container subscript member old) = on_data.Insert container subscript member skip
-data_with_skip skip (on_data.Look member container subscript old) = on_data.Look member container subscript skip
+data_with_skip skip (on_data.Insert by container subscript member old) = on_data.Insert by container subscript member skip
+data_with_skip skip (on_data.Look by member container subscript old) = on_data.Look by member container subscript skip
 data_with_skip skip (on_data.Size to container) = on_data.Size to container
-data_with_skip skip (on_data.SubscriptAt to container index old) = on_data.SubscriptAt to container index skip
+data_with_skip skip (on_data.SubscriptAt by to container index old) = on_data.SubscriptAt by to container index skip
 data_with_skip skip (on_data.CopyRead to from) = on_data.CopyRead to from
 data_with_skip skip (on_data.CopyWrite to from) = on_data.CopyWrite to from
 data_with_skip skip (on_data.DropRead right) = on_data.DropRead right

@@ -4,10 +4,11 @@ use Rattle.std.specs.List.{AllPairs, Contains}
 use Rattle.std.specs.Str.Lines.{lines}
 use Rattle.tw_code.specs.declared.instr.Instr.{Instr}
 use Rattle.tw_code.specs.declared.procedure.Procedure.{Procedure}
+use Rattle.tw_code.specs.declared.version.Version.{Version}
 use Rattle.tw_code.specs.declared.version.Version.TheVariants.{One}
-use Rattle.tw_code.specs.format.Program.{IsProgramOf}
+use Rattle.tw_code.specs.format.Program.{IsVersioned, Versioned}
 use Rattle.tw_words.specs.Words.{Word, IsLine}
-use Rattle.tw_asm.specs.Statement.{Code, Goals, Head, IsInLimits, Label, Registers, Spells}
+use Rattle.tw_asm.specs.Statement.{Code, Goals, Head, IsInLimits, Label, OfVersion, Registers, Spells, version_number}
 
 -- the words of each line that has any
 pub data HaveWords : List (List ℕ) → List (List Word) → Type 0 where
@@ -29,35 +30,42 @@ GoesTo labels place skip name = Contains labels (record { name = name; place = p
 
 -- From a place on these lines are these instructions, and these are the labels among them; goals may be all labels of the
 -- procedure.
-pub data AreCode (all : List Placed) : ℕ → List Placed → List Instr → List (List Word) → Type 0 where
-  end : (place : ℕ) → AreCode all place [] [] []
+pub data AreCode (version : Version) (all : List Placed) : ℕ → List Placed → List Instr → List (List Word) → Type 0 where
+  end : (place : ℕ) → AreCode version all place [] [] []
   label : (place : ℕ) (name : List ℕ) (words : List Word) (labels : List Placed) (code : List Instr) (others : List (List Word))
-      → Spells (GoesTo all place) (Label name) words → IsInLimits (Label name) → AreCode all place labels code others
-      → AreCode all place (record { name = name; place = place } ∷ labels) code (words ∷ others)
+      → Spells version (GoesTo all place) (Label name) words → IsInLimits (Label name) → AreCode version all place labels code others
+      → AreCode version all place (record { name = name; place = place } ∷ labels) code (words ∷ others)
   instruction : (place : ℕ) (i : Instr) (words : List Word) (labels : List Placed) (code : List Instr) (others : List (List Word))
-      → Spells (GoesTo all place) (Code i) words → AreCode all (place + 1) labels code others
-      → AreCode all place labels (i ∷ code) (words ∷ others)
+      → Spells version (GoesTo all place) (Code i) words → AreCode version all (place + 1) labels code others
+      → AreCode version all place labels (i ∷ code) (words ∷ others)
 
 -- a head, the types of the value registers, and the code, in which no label stands twice
-pub record SpellsProcedure (procedure : Procedure) (words : List (List Word)) : Type 0 where
+pub record SpellsProcedure (version : Version) (procedure : Procedure) (words : List (List Word)) : Type 0 where
   pub head : List Word
   pub registers : List Word
   pub body : List (List Word)
   pub labels : List Placed
   pub parts : words ≡ head ∷ registers ∷ body
-  pub head_is : Spells (GoesTo [] 0) (Head procedure.kind procedure.params) head
-  pub registers_are : Spells (GoesTo [] 0) (Registers procedure.registers) registers
-  pub body_is : AreCode labels 0 labels procedure.code body
+  pub head_is : Spells version (GoesTo [] 0) (Head procedure.kind procedure.params) head
+  pub registers_are : Spells version (GoesTo [] 0) (Registers procedure.registers) registers
+  pub body_is : AreCode version labels 0 labels procedure.code body
   pub once : AllPairs (λ a b. a ≢ b) (map (λ label. label.name) labels)
 
 -- one procedure after the other
-pub data SpellProcedures : List Procedure → List (List Word) → Type 0 where
-  end : SpellProcedures [] []
+pub data SpellProcedures (version : Version) : List Procedure → List (List Word) → Type 0 where
+  end : SpellProcedures version [] []
   one_more : (procedure : Procedure) (others : List Procedure) (first after : List (List Word))
-      → SpellsProcedure procedure first → SpellProcedures others after → SpellProcedures (procedure ∷ others) (first ++ after)
+      → SpellsProcedure version procedure first → SpellProcedures version others after → SpellProcedures version (procedure ∷ others) (first ++ after)
 
-pub record SpellsProgram (program : List Procedure) (text : List ℕ) : Type 0 where
+-- the version's line, if it stands there; without it the version is the first
+pub data SpellsVersion : Version → List (List Word) → Type 0 where
+  unsaid : SpellsVersion One []
+  said : (version : Version) (words : List Word) → Spells One (GoesTo [] 0) (OfVersion (version_number version)) words → SpellsVersion version (words ∷ [])
+
+pub record SpellsProgram (program : Versioned) (text : List ℕ) : Type 0 where
+  pub front : List (List Word)
   pub words : List (List Word)
-  pub lines_are : HaveWords (lines text) words
-  pub procedures_are : SpellProcedures program words
-  pub is_program : IsProgramOf One program
+  pub lines_are : HaveWords (lines text) (front ++ words)
+  pub version_is : SpellsVersion program.version front
+  pub procedures_are : SpellProcedures program.version program.procedures words
+  pub is_program : IsVersioned program

@@ -1,27 +1,43 @@
 -- Statements of assembly text, and the words that spell them.
-use Rattle.std.specs.Prelude.{◌≡◌, ◌⊎◌, ◌≤◌, ℕ, Bool, true, List, [], ◌∷◌, ◌++◌, length, codes, replicate, Some, None}
+use Rattle.std.specs.Prelude.{◌≡◌, ◌⊎◌, ◌≤◌, ℕ, Bool, true, List, [], ◌∷◌, ◌++◌, length, codes, map, Some, None, ◌==◌, if◌then◌else◌}
 use Rattle.std.specs.Int.{IsInRange}
 use Rattle.std.specs.List.{AllByRecursion}
 use Rattle.tw_types.specs.DataType.{is_scalar}
+use Rattle.tw_types.specs.Nesting.{NestedScalar}
 use Rattle.tw_types.specs.declared.actor.Kind.{Kind}
 use Rattle.tw_types.specs.declared.data_type.Scalar.{Scalar}
 use Rattle.tw_types.specs.declared.param.Mode.{Mode}
 use Rattle.tw_types.specs.declared.param.Mode.TheVariants.{Val, Closed, Ref, Write}
 use Rattle.tw_types.specs.declared.param.Param.{Param}
+use Rattle.tw_code.specs.declared.instr.DataInstr.{DataInstr}
+use Rattle.tw_code.specs.declared.instr.DataInstr.TheVariants as on_data
 use Rattle.tw_code.specs.declared.instr.Instr.{Instr}
 use Rattle.tw_code.specs.declared.instr.Instr.TheVariants as instr
 use Rattle.tw_code.specs.declared.instr.Priority.{Priority}
 use Rattle.tw_code.specs.declared.instr.Priority.TheVariants.{Constant, Computed}
-use Rattle.tw_code.specs.declared.version.Version.TheVariants.{One}
-use Rattle.tw_code.specs.format.Program.{IsInstrOf, IsList, IsParam, IsWithin}
+use Rattle.tw_code.specs.declared.version.Version.{Version}
+use Rattle.tw_code.specs.declared.version.Version.TheVariants.{One, Two}
+use Rattle.tw_code.specs.format.Program.{IsInstr, IsList, IsParam, IsSubscriptOf, IsWithin}
 use Rattle.tw_words.specs.Number.{SpellsDigits, SpellsNumber}
 use Rattle.tw_words.specs.Words.{Word, Bare, Quoted}
 use Rattle.tw_asm.specs.declared.statement.First.{First}
 use Rattle.tw_asm.specs.declared.statement.First.TheVariants as first
-use Rattle.tw_asm.specs.Parts.{Part, Name, Value, Right, Number, Natural, Literal, TypeOf, Skip, Target, head_parts, instr_parts, label_parts, registers_parts, scalar_word}
+use Rattle.tw_asm.specs.Parts.{Part, Name, Value, Right, Number, Natural, Literal, TypeOf, Skip, Target, head_parts, instr_parts, label_parts, registers_parts, type_words, version_parts}
 
--- what a line says
+-- ---- versions by their numbers
+
+abbrev pub version_number : Version → ℕ
+version_number One = 1
+version_number Two = 2
+
+abbrev pub version_by : ℕ → Version
+version_by number = if number == 2 then Two else One
+
+-- ---- what a line says
+
 pub data Statement : Type 0 where
+  -- the version of the language
+  OfVersion : ℕ → Statement
   -- a procedure begins, of this kind and with these parameters
   Head : Kind → List Param → Statement
   -- the types of its value registers
@@ -31,6 +47,7 @@ pub data Statement : Type 0 where
   Code : Instr → Statement
 
 abbrev pub statement_parts : Statement → List Part
+statement_parts (OfVersion number) = version_parts number
 statement_parts (Head kind params) = head_parts kind params
 statement_parts (Registers registers) = registers_parts registers
 statement_parts (Label name) = label_parts name
@@ -71,7 +88,7 @@ SpellsPart goals (Right register) words = SpellsWith (codes "d") register words
 SpellsPart goals (Number number) words = (word : List ℕ) × SpellsNumber number word × (words ≡ Bare word ∷ [])
 SpellsPart goals (Natural number) words = SpellsWith [] number words
 SpellsPart goals (Literal text) words = words ≡ Quoted text ∷ []
-SpellsPart goals (TypeOf ty) words = words ≡ replicate ty.depth (Bare (codes "cont")) ++ (Bare (scalar_word ty.scalar) ∷ [])
+SpellsPart goals (TypeOf ty) words = words ≡ map Bare (type_words ty)
 SpellsPart goals (Skip skip) words = SpellsWith (codes "+") skip words ⊎ ((name : List ℕ) × goals skip name × (words ≡ Bare name ∷ []))
 SpellsPart goals (Target None) words = words ≡ Bare (codes "any") ∷ []
 SpellsPart goals (Target (Some number)) words = SpellsWith [] number words
@@ -82,6 +99,32 @@ SpellParts goals [] words = words ≡ []
 SpellParts goals (part ∷ parts) words =
     (first : List Word) × (others : List Word) × (words ≡ first ++ others) × SpellsPart goals part first × SpellParts goals parts others
 
+-- ---- what a version has
+
+abbrev pub HasType : Version → NestedScalar → Type 0
+HasType version ty = AllByRecursion (IsSubscriptOf version) ty.containers
+
+abbrev pub HasPriority : Version → Priority → Type 0
+HasPriority version (Constant n) = Unit {0}
+HasPriority One (Computed register) = ⊥
+HasPriority Two (Computed register) = Unit {0}
+
+abbrev pub HasDataInstr : Version → DataInstr → Type 0
+HasDataInstr version (on_data.New write read ty) = HasType version ty
+HasDataInstr version (on_data.Insert by container subscript member skip) = IsSubscriptOf version by
+HasDataInstr version (on_data.Look by member container subscript skip) = IsSubscriptOf version by
+HasDataInstr version (on_data.SubscriptAt by to container index skip) = IsSubscriptOf version by
+HasDataInstr version i = Unit {0}
+
+abbrev pub HasInstr : Version → Instr → Type 0
+HasInstr version (instr.Local i) = Unit {0}
+HasInstr version (instr.Data i) = HasDataInstr version i
+HasInstr version (instr.Rule action) = HasPriority version action.priority
+HasInstr version (instr.Put action) = HasPriority version action.priority
+HasInstr version instr.Ret = Unit {0}
+
+-- ---- statements
+
 -- no container stands under `val`
 abbrev pub IsTypeOfMode : Mode → Bool → Type 0
 IsTypeOfMode Val scalar = scalar ≡ true
@@ -89,36 +132,29 @@ IsTypeOfMode Closed scalar = Unit {0}
 IsTypeOfMode Ref scalar = Unit {0}
 IsTypeOfMode Write scalar = Unit {0}
 
--- a computed priority has no words
-abbrev pub IsWritten : Priority → Type 0
-IsWritten (Constant n) = Unit {0}
-IsWritten (Computed register) = ⊥
-
-abbrev pub HasWords : Instr → Type 0
-HasWords (instr.Local i) = Unit {0}
-HasWords (instr.Data i) = Unit {0}
-HasWords (instr.Rule action) = IsWritten action.priority
-HasWords (instr.Put action) = IsWritten action.priority
-HasWords instr.Ret = Unit {0}
+abbrev pub HasParam : Version → Param → Type 0
+HasParam version param = IsTypeOfMode param.mode (is_scalar param.ty) × HasType version param.ty
 
 -- what stands in a statement but for limits
-abbrev pub HasForm : Statement → Type 0
-HasForm (Head kind params) = AllByRecursion (λ param. IsTypeOfMode param.mode (is_scalar param.ty)) params
-HasForm (Registers registers) = Unit {0}
-HasForm (Label name) = IsName name
-HasForm (Code i) = HasWords i
+abbrev pub HasForm : Version → Statement → Type 0
+HasForm version (OfVersion number) = Unit {0}
+HasForm version (Head kind params) = AllByRecursion (HasParam version) params
+HasForm version (Registers registers) = Unit {0}
+HasForm version (Label name) = IsName name
+HasForm version (Code i) = HasInstr version i
 
 -- these words spell the statement, whatever its limits
-pub record Spells (goals : Goals) (statement : Statement) (words : List Word) : Type 0 where
-  pub form : HasForm statement
+pub record Spells (version : Version) (goals : Goals) (statement : Statement) (words : List Word) : Type 0 where
+  pub form : HasForm version statement
   pub parts : SpellParts goals (statement_parts statement) words
 
 -- numbers, counts and texts are within the limits of programs
 abbrev pub IsInLimits : Statement → Type 0
+IsInLimits (OfVersion number) = IsWithin 1 2 number
 IsInLimits (Head kind params) = IsList 0 8 IsParam params
 IsInLimits (Registers registers) = IsWithin 0 16 (length registers)
 IsInLimits (Label name) = length name ≤ 64
-IsInLimits (Code i) = IsInstrOf One i
+IsInLimits (Code i) = IsInstr i
 
 -- ---- where labels aren't known yet
 
@@ -131,29 +167,30 @@ abbrev pub AnyShortName : Goals
 AnyShortName skip name = IsShortName name
 
 -- the words of some statement, whatever its limits
-abbrev pub HaveForm : List Word → Type 0
-HaveForm words = (statement : Statement) × Spells AnyName statement words
+abbrev pub HaveForm : Version → List Word → Type 0
+HaveForm version words = (statement : Statement) × Spells version AnyName statement words
 
 -- the words of this statement, which is within the limits
-abbrev pub Say : Statement → List Word → Type 0
-Say statement words = Spells AnyShortName statement words × IsInLimits statement
+abbrev pub Say : Version → Statement → List Word → Type 0
+Say version statement words = Spells version AnyShortName statement words × IsInLimits statement
 
 -- the instruction names this label as its goal, and no number of instructions
-pub record NamesLabel (name : List ℕ) (words : List Word) : Type 0 where
+pub record NamesLabel (version : Version) (name : List ℕ) (words : List Word) : Type 0 where
   pub i : Instr
-  pub spells : Spells (λ skip word. word ≡ name) (Code i) words
-  pub names : (other : Instr) → Spells (λ skip word. ⊥) (Code other) words → ⊥
+  pub spells : Spells version (λ skip word. word ≡ name) (Code i) words
+  pub names : (other : Instr) → Spells version (λ skip word. ⊥) (Code other) words → ⊥
 
 -- ---- what a first word lets expect
 
 abbrev pub IsLabelWord : List ℕ → Type 0
 IsLabelWord word = (name : List ℕ) × IsName name × (word ≡ name ++ codes ":")
 
--- the name of an instruction
-abbrev pub IsInstrWord : List ℕ → Type 0
-IsInstrWord word = (i : Instr) × (operands : List Part) × (instr_parts i ≡ Name word ∷ operands)
+-- the name of an instruction that the version has
+abbrev pub IsInstrWord : Version → List ℕ → Type 0
+IsInstrWord version word = (i : Instr) × (operands : List Part) × HasInstr version i × (instr_parts i ≡ Name word ∷ operands)
 
-abbrev pub IsExpected : First → List ℕ → Type 0
-IsExpected first.Head word = word ≡ codes "proc"
-IsExpected first.Registers word = word ≡ codes "regs"
-IsExpected first.Body word = IsLabelWord word ⊎ IsInstrWord word
+abbrev pub IsExpected : Version → First → List ℕ → Type 0
+IsExpected version first.Version word = word ≡ codes "version"
+IsExpected version first.Head word = word ≡ codes "proc"
+IsExpected version first.Registers word = word ≡ codes "regs"
+IsExpected version first.Body word = IsLabelWord word ⊎ IsInstrWord version word

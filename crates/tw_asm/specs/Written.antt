@@ -1,9 +1,9 @@
 -- How a statement is written.
-use Rattle.std.specs.Prelude.{ℕ, List, [], ◌∷◌, ◌++◌, codes, replicate, Option, Some, None}
+use Rattle.std.specs.Prelude.{ℕ, List, [], ◌∷◌, ◌++◌, codes, Option, Some, None}
 use Rattle.std.specs.Fmt.{decimal, signed_decimal}
 use Rattle.std.specs.List.{flat_map, join_with_byte}
 use Rattle.tw_words.specs.Quoted.{quoted}
-use Rattle.tw_asm.specs.Parts.{Part, Name, Value, Right, Number, Natural, Literal, TypeOf, Skip, Target, scalar_word}
+use Rattle.tw_asm.specs.Parts.{Part, Name, Value, Right, Number, Natural, Literal, TypeOf, Skip, Target, type_words}
 use Rattle.tw_asm.specs.Statement.{Statement, statement_parts}
 
 -- The words of a part, with the word of each skip; numbers have no zeros before them.
@@ -14,7 +14,7 @@ part_words skip_word (Right register) = (codes "d" ++ decimal register) ∷ []
 part_words skip_word (Number number) = signed_decimal number ∷ []
 part_words skip_word (Natural number) = decimal number ∷ []
 part_words skip_word (Literal text) = quoted text ∷ []
-part_words skip_word (TypeOf ty) = replicate ty.depth (codes "cont") ++ (scalar_word ty.scalar ∷ [])
+part_words skip_word (TypeOf ty) = type_words ty
 part_words skip_word (Skip skip) = skip_word skip ∷ []
 part_words skip_word (Target None) = codes "any" ∷ []
 part_words skip_word (Target (Some number)) = decimal number ∷ []

@@ -20,11 +20,11 @@ pub struct LinedProgram {
 pub fn assemble_lined(alloc: Global, text: &str) -> Result<LinedProgram, AsmFault>
     ensures { IsLined text.now result }
 {
-    let sections = read_text(alloc, text)?;
-    let lines = line_numbers(alloc, &sections)?;
-    let procedures = link(alloc, sections)?;
+    let unlinked = read_text(alloc, text)?;
+    let lines = line_numbers(alloc, &unlinked.sections)?;
+    let procedures = link(alloc, unlinked.sections)?;
     Ok(LinedProgram {
-        program: Program::new(procedures),
+        program: Program::new(unlinked.version, procedures),
         lines,
     })
 }

@@ -1,20 +1,20 @@
 //! The text of a program.
 
 ghost use Rattle.std.specs.Prelude.{◌≡◌, ◌<◌, ◌++◌, ◌+◌, ◌^◌, IfOk, OnOk, string_bytes};
-ghost use Rattle.std.specs.List.{AllByRecursion};
+ghost use Rattle.std.specs.List.{AllByRecursion, flat_map};
 ghost use Rattle.std.specs.Option.{option_and_then};
-ghost use Rattle.tw_code.specs.format.Program.{IsInstr, IsProcedure, IsProgram};
-ghost use Rattle.tw_asm.specs.Disassembly.{code_lines, disassembly, label_at, label_line, label_places, procedure_lines};
+ghost use Rattle.tw_code.specs.format.Program.{IsInstr, IsProcedure};
+ghost use Rattle.tw_asm.specs.Disassembly.{code_lines, disassembly, label_at, label_line, label_places, procedure_lines, version_line};
 ghost use Rattle.tw_asm.specs.Spelling.{SpellsProgram};
 ghost use Rattle.tw_asm.specs.Parts.{skip_of};
 ghost use Rattle.tw_asm.specs.Statement.{Code};
 ghost use Rattle.tw_asm.specs.Written.{goal_word, line_of};
 
 use crate::skip::skip_of;
-use crate::write::{Lines, put_head, put_instr, put_label, put_registers};
+use crate::write::{Lines, put_head, put_instr, put_label, put_registers, put_version};
 use indexmap::IndexSet;
 use std::alloc::{AllocError, Global};
-use tw_code::{Instr, NoMemory, Procedure, Program};
+use tw_code::{Instr, NoMemory, Procedure, Program, Version};
 
 /// The places of the labels of a procedure's code, in the order in which they are first named.
 pub fn label_places(alloc: Global, code: &[Instr]) -> Result<IndexSet<usize>, AllocError>
@@ -98,15 +98,29 @@ fn put_procedure(lines: &mut Lines, procedure: &Procedure) -> Result<(), AllocEr
     put_code(lines, &places, procedure.code.as_slice())
 }
 
-/// The lines of procedures, one procedure after the other.
-fn lines_of(alloc: Global, procedures: &[Procedure]) -> Result<Vec<u8>, AllocError>
-    requires { IsProgram procedures.now }
-    ensures { IfOk result (λ out. out.items ≡ disassembly procedures.now) }
+/// Adds the lines of procedures, one procedure after the other.
+fn put_procedures(lines: &mut Lines, procedures: &[Procedure]) -> Result<(), AllocError>
+    requires { AllByRecursion IsProcedure procedures.now }
+    ensures { OnOk result (lines.new.out.items ≡ lines.old.out.items ++ flat_map procedure_lines procedures.now) }
+{
+    for procedure in procedures {
+        put_procedure(lines, procedure)?;
+    }
+    Ok(())
+}
+
+/// The line of the version, and those of the procedures.
+fn lines_of(
+    alloc: Global,
+    version: Version,
+    procedures: &[Procedure],
+) -> Result<Vec<u8>, AllocError>
+    requires { AllByRecursion IsProcedure procedures.now }
+    ensures { IfOk result (λ out. out.items ≡ version_line version ++ flat_map procedure_lines procedures.now) }
 {
     let mut lines = Lines::new(alloc);
-    for procedure in procedures {
-        put_procedure(&mut lines, procedure)?;
-    }
+    put_version(alloc, &mut lines.out, version)?;
+    put_procedures(&mut lines, procedures)?;
     Ok(lines.out)
 }
 
@@ -115,7 +129,7 @@ pub fn disassemble(alloc: Global, program: &Program) -> Result<String, NoMemory>
     ensures text { IfOk result (λ text. string_bytes text ≡ disassembly program.now) }
     ensures spells { IfOk result (λ text. SpellsProgram program.now (string_bytes text)) }
 {
-    let out = lines_of(alloc, program.procedures())?;
+    let out = lines_of(alloc, program.version(), program.procedures())?;
     match String::from_utf8(out) {
         Ok(text) => Ok(text),
         Err(_) => unreachable!(),

@@ -5,8 +5,9 @@ ghost use Rattle.tw_asm.specs.declared.statement.First.{First};
 ghost use Rattle.tw_asm.specs.Statement.{IsInstrWord, IsLabelWord, IsExpected};
 
 use crate::label_names::{before, is_name};
-use crate::opcode::opcode_named;
+use crate::opcode::opcode_in;
 use crate::statement::First;
+use tw_code::Version;
 
 #[tactic(auto, using(crate::proofs::Firsts::no_label))]
 fn is_label(word: &[u8]) -> bool
@@ -19,21 +20,23 @@ fn is_label(word: &[u8]) -> bool
 }
 
 #[tactic(auto, using(crate::proofs::Firsts::named_word))]
-fn is_instr_name(word: &[u8]) -> bool
-    ensures { IsTrue result ↔ IsInstrWord word.now }
+fn is_instr_name(version: Version, word: &[u8]) -> bool
+    ensures { IsTrue result ↔ IsInstrWord version word.now }
 {
-    opcode_named(word).is_some()
+    opcode_in(version, word).is_some()
 }
 
-/// What a first word lets expect, if anything.
-pub fn first_of(word: &[u8]) -> Option<First>
-    ensures { MatchOption result ((first : First) → IsExpected first word.now → ⊥) (λ first. IsExpected first word.now) }
+/// What a first word lets expect in this version, if anything.
+pub fn first_of(version: Version, word: &[u8]) -> Option<First>
+    ensures { MatchOption result ((first : First) → IsExpected version first word.now → ⊥) (λ first. IsExpected version first word.now) }
 {
     if word == b"proc".as_slice() {
         Some(First::Head)
     } else if word == b"regs".as_slice() {
         Some(First::Registers)
-    } else if is_label(word) || is_instr_name(word) {
+    } else if word == b"version".as_slice() {
+        Some(First::Version)
+    } else if is_label(word) || is_instr_name(version, word) {
         Some(First::Body)
     } else {
         None

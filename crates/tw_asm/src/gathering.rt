@@ -1,15 +1,15 @@
 //! Items one after the other, and types.
 
-ghost use Rattle.std.specs.Prelude.{◌≡◌, IfOk, map};
+ghost use Rattle.std.specs.Prelude.{◌≡◌, IfOk, Ok, map, reverse};
 ghost use Rattle.tw_words.specs.Seen.{seen as seen_word};
-ghost use Rattle.tw_asm.specs.reading.Lines.{each, few, joined, nested_in, type_from};
-ghost use Rattle.tw_asm.specs.reading.Lines.{are_containers, is_container};
+ghost use Rattle.tw_asm.specs.reading.Lines.{around, contained, each, few, joined, put_first, type_in, typed};
 ghost use Rattle.tw_asm.specs.reading.Operands.{as_is, natural_in, scalar_in};
+ghost use Rattle.tw_types.specs.DataType.{scalar_type};
 
-use crate::operands::{both_of, byte_of, piece_of, scalar_of};
+use crate::operands::{both_of, byte_of, container_of, scalar_of};
 use crate::refusal::Flaw;
 use std::alloc::{AllocError, Global};
-use tw_code::Procedure;
+use tw_code::{Procedure, Version};
 use tw_types::{DataType, Items, Scalar};
 use tw_words::Word;
 
@@ -22,6 +22,23 @@ pub fn joined<A: Drop>(
 {
     match both_of(items, item) {
         Ok((items, item)) => {
+            let mut items = items;
+            items.push(item)?;
+            Ok(Ok(items))
+        }
+        Err(flaw) => Ok(Err(flaw)),
+    }
+}
+
+/// One item more before items that are kept from the last one on.
+pub fn put_first<A: Drop>(
+    item: Result<A, Flaw>,
+    items: Result<Vec<A>, Flaw>,
+) -> Result<Result<Vec<A>, Flaw>, AllocError>
+    ensures { IfOk result (λ all. as_is (λ v. reverse v.items) all ≡ put_first item (as_is (λ v. reverse v.items) items)) }
+{
+    match both_of(item, items) {
+        Ok((item, items)) => {
             let mut items = items;
             items.push(item)?;
             Ok(Ok(items))
@@ -85,54 +102,59 @@ pub fn scalars_of(
     Ok(few(Procedure::VALUE_REGISTERS, scalars))
 }
 
-/// A scalar in so many containers.
-pub fn nested_of(scalar: Scalar, depth: usize) -> Result<DataType, Flaw>
-    ensures { result ≡ nested_in scalar depth }
+/// A container with such subscripts around data of this type.
+fn around(by: Scalar, ty: DataType) -> Result<DataType, Flaw>
+    ensures { result ≡ around (Ok (by, ty)) }
 {
-    let mut ty = DataType::from(scalar);
-    for _ in 0..depth {
-        match ty.cont() {
-            Some(container) => ty = container,
-            None => return Err(Flaw::Limit),
-        }
-    }
-    Ok(ty)
-}
-
-fn is_container(word: &Word<'_>) -> bool
-    ensures { result ≡ is_container (seen_word word.now) }
-{
-    match piece_of(word) {
-        Ok(None) => true,
-        _ => false,
+    match ty.container(by) {
+        Some(container) => Ok(container),
+        None => Err(Flaw::Limit),
     }
 }
 
-fn are_containers(words: &[Word<'_>]) -> bool
-    ensures { result ≡ are_containers (map seen_word words.now) }
+/// A container with such subscripts around data of this type, as both were read.
+pub fn contained(by: Result<Scalar, Flaw>, ty: Result<DataType, Flaw>) -> Result<DataType, Flaw>
+    ensures { result ≡ contained by ty }
 {
-    for word in words {
-        if !is_container(word) {
-            return false;
-        }
+    match both_of(by, ty) {
+        Ok((by, ty)) => around(by, ty),
+        Err(flaw) => Err(flaw),
     }
-    true
 }
 
-/// A type: `cont` so many times, and a scalar.
-pub fn type_of(words: &[Word<'_>]) -> Result<DataType, Flaw>
-    ensures { result ≡ type_from 0 (map seen_word words.now) }
+fn scalar_type(word: &Word<'_>) -> Result<DataType, Flaw>
+    ensures { result ≡ as_is scalar_type (scalar_in (seen_word word.now)) }
 {
-    match words {
-        [containers @ .., last] => {
-            if !are_containers(containers) {
-                return Err(Flaw::Form);
-            }
-            match scalar_of(last) {
-                Ok(scalar) => nested_of(scalar, containers.len()),
-                Err(flaw) => Err(flaw),
-            }
-        }
-        [] => Err(Flaw::Form),
+    match scalar_of(word) {
+        Ok(scalar) => Ok(DataType::from(scalar)),
+        Err(flaw) => Err(flaw),
+    }
+}
+
+/// One word more before a type, or its last one.
+fn typed(
+    version: Version,
+    word: &Word<'_>,
+    ty: Option<Result<DataType, Flaw>>,
+) -> Result<DataType, Flaw>
+    ensures { result ≡ typed version (seen_word word.now) ty }
+{
+    match ty {
+        None => scalar_type(word),
+        Some(ty) => contained(container_of(version, word), ty),
+    }
+}
+
+/// A type: a scalar, and containers before it.
+pub fn type_of(version: Version, words: &[Word<'_>]) -> Result<DataType, Flaw>
+    ensures { result ≡ type_in version (map seen_word words.now) }
+{
+    let mut ty = None;
+    for index in (0..words.len()).rev() {
+        ty = Some(typed(version, &words[index], ty));
+    }
+    match ty {
+        Some(ty) => ty,
+        None => Err(Flaw::Form),
     }
 }

@@ -1,39 +1,25 @@
 //! Parameters of a procedure.
 
-ghost use Rattle.std.specs.Prelude.{◌≡◌, IfOk, map};
+ghost use Rattle.std.specs.Prelude.{◌≡◌, IfOk, map, reverse};
 ghost use Rattle.tw_words.specs.Words.{Bare};
 ghost use Rattle.tw_words.specs.Seen.{seen as seen_word};
-ghost use Rattle.tw_asm.specs.reading.Lines.{broken, contains, deeper, ended, few, goes_on, kind_in, nested_in, no_params, param_of, params_from, taken};
-ghost use Rattle.tw_asm.specs.reading.Operands.{as_is, piece_in};
+ghost use Rattle.tw_asm.specs.reading.Lines.{begins, broken, ended, ends, few, goes_on, kind_in, param_of, params_from, taken, under};
+ghost use Rattle.tw_asm.specs.reading.Operands.{as_is, container_in, mode_in, scalar_in};
 ghost use Rattle.tw_asm.specs.reading.Heads.{seen_params};
 
-use crate::gathering::{few, joined, nested_of};
-use crate::operands::{mode_of, piece_of};
+use crate::gathering::{contained, few, put_first};
+use crate::operands::{container_of, mode_of, scalar_of};
 use crate::refusal::Flaw;
 use std::alloc::{AllocError, Global};
-use tw_code::Procedure;
-use tw_types::{Items, Kind, Mode, Param, Scalar};
+use tw_code::{Procedure, Version};
+use tw_types::{DataType, Items, Kind, Mode, Param};
 use tw_words::Word;
 
-/// A parameter whose type isn't whole.
-#[derive(Clone, Copy)]
-struct Begun {
-    mode: Mode,
-    /// How many containers were met; 4 stands for more, too.
-    depth: u8,
-}
-
-/// The parameters so far.
+/// The parameters so far, from the last one on, and the type whose mode is due.
 #[derive(Drop)]
 struct Params {
     whole: Result<Vec<Param>, Flaw>,
-    begun: Option<Begun>,
-}
-
-fn deeper(depth: u8) -> u8
-    ensures { result ≡ deeper depth }
-{
-    if depth < 4 { depth + 1 } else { depth }
+    begun: Option<Result<DataType, Flaw>>,
 }
 
 fn broken() -> Params
@@ -45,86 +31,118 @@ fn broken() -> Params
     }
 }
 
-/// One container more.
-fn contained(whole: Result<Vec<Param>, Flaw>, begun: Begun) -> Params
-    ensures { seen_params result ≡ contains (as_is (λ v. v.items) whole) begun.mode begun.depth }
+/// The last word of a type.
+fn begins(whole: Result<Vec<Param>, Flaw>, word: &Word<'_>) -> Params
+    ensures { seen_params result ≡ begins (as_is (λ v. reverse v.items) whole) (scalar_in (seen_word word.now)) }
 {
-    match begun.mode {
-        Mode::Val => broken(),
-        Mode::Closed | Mode::Ref | Mode::Write => Params {
+    match scalar_of(word) {
+        Ok(scalar) => Params {
             whole,
-            begun: Some(Begun {
-                mode: begun.mode,
-                depth: deeper(begun.depth),
-            }),
+            begun: Some(Ok(DataType::from(scalar))),
         },
+        Err(_) => broken(),
     }
 }
 
-fn param_of(begun: Begun, scalar: Scalar) -> Result<Param, Flaw>
-    ensures { result ≡ as_is (param_of begun.mode) (nested_in scalar begun.depth) }
+/// The type, if it may stand under this mode.
+fn under(mode: Mode, ty: Result<DataType, Flaw>) -> Result<DataType, Flaw>
+    ensures { result ≡ under mode ty }
 {
-    match nested_of(scalar, usize::from(begun.depth)) {
-        Ok(ty) => Ok(Param {
-            mode: begun.mode,
-            ty,
-        }),
+    match mode {
+        Mode::Val => match ty {
+            Ok(ty) if ty.is_scalar() => Ok(ty),
+            _ => Err(Flaw::Form),
+        },
+        Mode::Closed | Mode::Ref | Mode::Write => ty,
+    }
+}
+
+fn param_of(mode: Mode, ty: Result<DataType, Flaw>) -> Result<Param, Flaw>
+    ensures { result ≡ as_is (param_of mode) (under mode ty) }
+{
+    match under(mode, ty) {
+        Ok(ty) => Ok(Param { mode, ty }),
         Err(flaw) => Err(flaw),
     }
 }
 
-/// One word more of a parameter that has begun.
-fn gone_on(
+/// The mode before a type.
+fn ending(
     whole: Result<Vec<Param>, Flaw>,
-    begun: Begun,
+    ty: Result<DataType, Flaw>,
     word: &Word<'_>,
 ) -> Result<Params, AllocError>
-    ensures { IfOk result (λ params. seen_params params ≡ goes_on (as_is (λ v. v.items) whole) begun.mode begun.depth (piece_in (seen_word word.now))) }
+    ensures { IfOk result (λ params. seen_params params ≡ ends (as_is (λ v. reverse v.items) whole) ty (mode_in (seen_word word.now))) }
 {
-    match piece_of(word) {
-        Ok(None) => Ok(contained(whole, begun)),
-        Ok(Some(scalar)) => Ok(Params {
-            whole: joined(whole, param_of(begun, scalar))?,
+    match mode_of(word) {
+        Ok(mode) => Ok(Params {
+            whole: put_first(param_of(mode, ty), whole)?,
             begun: None,
         }),
         Err(_) => Ok(broken()),
     }
 }
 
-/// One word more.
-fn taken(params: Params, word: &Word<'_>) -> Result<Params, AllocError>
-    ensures { IfOk result (λ after. seen_params after ≡ taken (seen_params params).whole (seen_params params).begun (seen_word word.now)) }
+/// One word more before a type.
+fn gone_on(
+    version: Version,
+    whole: Result<Vec<Param>, Flaw>,
+    ty: Result<DataType, Flaw>,
+    word: &Word<'_>,
+) -> Result<Params, AllocError>
+    ensures { IfOk result (λ params. seen_params params ≡ goes_on (as_is (λ v. reverse v.items) whole) ty (container_in version (seen_word word.now)) (mode_in (seen_word word.now))) }
 {
-    match params.begun {
-        Some(begun) => gone_on(params.whole, begun, word),
-        None => match mode_of(word) {
-            Ok(mode) => Ok(Params {
-                whole: params.whole,
-                begun: Some(Begun { mode, depth: 0 }),
-            }),
-            Err(_) => Ok(broken()),
-        },
+    match container_of(version, word) {
+        Ok(by) => Ok(Params {
+            whole,
+            begun: Some(contained(Ok(by), ty)),
+        }),
+        Err(_) => ending(whole, ty, word),
     }
 }
 
-fn ended(params: Params) -> Result<Vec<Param>, Flaw>
-    ensures { as_is (λ v. v.items) result ≡ ended (seen_params params).whole (seen_params params).begun }
+/// One word more.
+fn taken(version: Version, params: Params, word: &Word<'_>) -> Result<Params, AllocError>
+    ensures { IfOk result (λ after. seen_params after ≡ taken version (seen_word word.now) (seen_params params)) }
 {
-    match params.begun {
-        None => params.whole,
+    let Params { whole, begun } = params;
+    match begun {
+        Some(ty) => gone_on(version, whole, ty, word),
+        None => Ok(begins(whole, word)),
+    }
+}
+
+/// The parameters in their order.
+fn ended(params: Params) -> Result<Vec<Param>, Flaw>
+    ensures { as_is (λ v. v.items) result ≡ ended (seen_params params) }
+{
+    let Params { whole, begun } = params;
+    match begun {
+        None => match whole {
+            Ok(params) => {
+                let mut params = params;
+                params.reverse();
+                Ok(params)
+            }
+            Err(flaw) => Err(flaw),
+        },
         Some(_) => Err(Flaw::Form),
     }
 }
 
-fn param_list(alloc: Global, words: &[Word<'_>]) -> Result<Result<Vec<Param>, Flaw>, AllocError>
-    ensures { IfOk result (λ read. as_is (λ v. v.items) read ≡ params_from no_params (map seen_word words.now)) }
+fn param_list(
+    alloc: Global,
+    version: Version,
+    words: &[Word<'_>],
+) -> Result<Result<Vec<Param>, Flaw>, AllocError>
+    ensures { IfOk result (λ read. as_is (λ v. v.items) read ≡ ended (params_from version (map seen_word words.now))) }
 {
     let mut params = Params {
         whole: Ok(Vec::new(alloc)),
         begun: None,
     };
-    for word in words {
-        params = taken(params, word)?;
+    for index in (0..words.len()).rev() {
+        params = taken(version, params, &words[index])?;
     }
     Ok(ended(params))
 }
@@ -132,11 +150,12 @@ fn param_list(alloc: Global, words: &[Word<'_>]) -> Result<Result<Vec<Param>, Fl
 /// At most 8 parameters.
 pub fn params_of(
     alloc: Global,
+    version: Version,
     words: &[Word<'_>],
 ) -> Result<Result<Items<Param>, Flaw>, AllocError>
-    ensures { IfOk result (λ read. read ≡ few 8 (params_from no_params (map seen_word words.now))) }
+    ensures { IfOk result (λ read. read ≡ few 8 (ended (params_from version (map seen_word words.now)))) }
 {
-    let params = param_list(alloc, words)?;
+    let params = param_list(alloc, version, words)?;
     Ok(few(Procedure::MAX_PARAMS, params))
 }
 

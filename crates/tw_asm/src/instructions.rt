@@ -4,8 +4,8 @@ ghost use Rattle.std.specs.Prelude.{◌≡◌, None, map};
 ghost use Rattle.tw_words.specs.Seen.{seen as seen_word};
 ghost use Rattle.tw_code.specs.declared.instr.Instr.TheVariants as instr;
 ghost use Rattle.tw_code.specs.declared.instr.LocalInstr.TheVariants as local;
-ghost use Rattle.tw_code.specs.declared.instr.Priority.TheVariants.{Constant};
-ghost use Rattle.tw_asm.specs.reading.Lines.{Gives, action_line, draft_in, drafted, goal, line_in, literal, more, one, value};
+ghost use Rattle.tw_code.specs.declared.instr.Priority.TheVariants.{Computed, Constant};
+ghost use Rattle.tw_asm.specs.reading.Lines.{Gives, action_line, action_of, draft_in, drafted, goal, line_in, literal, more, number, one, value};
 ghost use Rattle.tw_asm.specs.reading.Operands.{as_is};
 
 use crate::gathering::args_of;
@@ -14,8 +14,8 @@ use crate::refusal::{Flaw, Refusal};
 use crate::shapes::*;
 use crate::statement::Unlinked;
 use std::alloc::Global;
-use tw_code::{Action, Arithmetic, DataInstr, Instr, LocalInstr, Opcode, Priority};
-use tw_types::{Items, Text};
+use tw_code::{Action, Arithmetic, DataInstr, Instr, LocalInstr, Opcode, Priority, Version};
+use tw_types::{Items, Scalar, Text};
 use tw_words::Word;
 
 /// An instruction that names no label.
@@ -53,7 +53,7 @@ fn action_parts(
     alloc: Global,
     words: &[Word<'_>],
 ) -> Result<(u8, (i64, (Option<u8>, Items<u8>))), Refusal>
-    ensures { Gives (λ x. x) result (line_in action_line (map seen_word words.now)) }
+    ensures { Gives (λ x. x) result (line_in (action_line number) (map seen_word words.now)) }
 {
     match words {
         [procedure, priority, target, args @ ..] => {
@@ -68,14 +68,47 @@ fn action_parts(
     }
 }
 
+/// The operands of RULEV, and of PUTV, whose priority is in a value register.
+fn computed_parts(
+    alloc: Global,
+    words: &[Word<'_>],
+) -> Result<(u8, (u8, (Option<u8>, Items<u8>))), Refusal>
+    ensures { Gives (λ x. x) result (line_in (action_line value) (map seen_word words.now)) }
+{
+    match words {
+        [procedure, priority, target, args @ ..] => {
+            let args = args_of(alloc, args)?;
+            let front = byte_of(0, 255, procedure);
+            Ok(both_of(
+                front,
+                both_of(value_of(priority), both_of(target_of(target), args)),
+            )?)
+        }
+        _ => Err(Refusal::Flawed(Flaw::Form)),
+    }
+}
+
 /// An action whose priority is a constant.
 fn constant(parts: (u8, (i64, (Option<u8>, Items<u8>)))) -> Action
-    ensures { result ≡ record { procedure = parts.0; priority = Constant parts.1.0; target = parts.1.1.0; args = parts.1.1.1 } }
+    ensures { result ≡ action_of Constant parts }
 {
     let (procedure, (priority, (target, args))) = parts;
     Action {
         procedure,
         priority: Priority::Constant(priority),
+        target,
+        args,
+    }
+}
+
+/// An action whose priority is computed.
+fn computed(parts: (u8, (u8, (Option<u8>, Items<u8>)))) -> Action
+    ensures { result ≡ action_of Computed parts }
+{
+    let (procedure, (priority, (target, args))) = parts;
+    Action {
+        procedure,
+        priority: Priority::Computed(priority),
         target,
         args,
     }
@@ -99,8 +132,8 @@ fn compute<'a>(operation: Arithmetic, words: &[Word<'a>]) -> Result<Unlinked<'a>
 
 /// An instruction, by its opcode and the words behind its name, a row each. Only a text and a list of arguments take memory.
 #[rattlefmt::skip]
-pub fn draft_of<'a>(alloc: Global, opcode: Opcode, words: &[Word<'a>]) -> Result<Unlinked<'a>, Refusal>
-    ensures { Gives drafted result (draft_in opcode (map seen_word words.now)) }
+pub fn draft_of<'a>(alloc: Global, version: Version, opcode: Opcode, words: &[Word<'a>]) -> Result<Unlinked<'a>, Refusal>
+    ensures { Gives drafted result (draft_in version opcode (map seen_word words.now)) }
 {
     match opcode {
         Opcode::Int => { let (to, value) = value_and_number(words)?; Ok(straight(Instr::Local(LocalInstr::Int { to, value }))) }
@@ -120,13 +153,13 @@ pub fn draft_of<'a>(alloc: Global, opcode: Opcode, words: &[Word<'a>]) -> Result
         Opcode::JumpLess => { let (left, (right, goal)) = two_values_and_goal(words)?; Ok(going(Instr::Local(LocalInstr::JumpLess { left, right, skip: goal.skip }), goal)) }
         Opcode::Repeat => { let turns = only_turns(words)?; Ok(straight(Instr::Local(LocalInstr::Repeat { turns }))) }
         Opcode::End => { nothing_of(words)?; Ok(straight(Instr::Local(LocalInstr::End))) }
-        Opcode::New => { let (write, (read, ty)) = two_rights_and_type(words)?; Ok(straight(Instr::Data(DataInstr::New { write, read, ty }))) }
+        Opcode::New => { let (write, (read, ty)) = two_rights_and_type(version, words)?; Ok(straight(Instr::Data(DataInstr::New { write, read, ty }))) }
         Opcode::Store => { let (datum, from) = right_and_value(words)?; Ok(straight(Instr::Data(DataInstr::Store { datum, from }))) }
         Opcode::Get => { let (to, datum) = value_and_right(words)?; Ok(straight(Instr::Data(DataInstr::Get { to, datum }))) }
-        Opcode::Insert => { let (container, (subscript, (member, goal))) = right_value_right_and_goal(words)?; Ok(going(Instr::Data(DataInstr::Insert { container, subscript, member, skip: goal.skip }), goal)) }
-        Opcode::Look => { let (member, (container, (subscript, goal))) = right_right_value_and_goal(words)?; Ok(going(Instr::Data(DataInstr::Look { member, container, subscript, skip: goal.skip }), goal)) }
+        Opcode::Insert => { let (container, (subscript, (member, goal))) = right_value_right_and_goal(words)?; Ok(going(Instr::Data(DataInstr::Insert { by: Scalar::Int, container, subscript, member, skip: goal.skip }), goal)) }
+        Opcode::Look => { let (member, (container, (subscript, goal))) = right_right_value_and_goal(words)?; Ok(going(Instr::Data(DataInstr::Look { by: Scalar::Int, member, container, subscript, skip: goal.skip }), goal)) }
         Opcode::Size => { let (to, container) = value_and_right(words)?; Ok(straight(Instr::Data(DataInstr::Size { to, container }))) }
-        Opcode::SubscriptAt => { let (to, (container, (index, goal))) = value_right_value_and_goal(words)?; Ok(going(Instr::Data(DataInstr::SubscriptAt { to, container, index, skip: goal.skip }), goal)) }
+        Opcode::SubscriptAt => { let (to, (container, (index, goal))) = value_right_value_and_goal(words)?; Ok(going(Instr::Data(DataInstr::SubscriptAt { by: Scalar::Int, to, container, index, skip: goal.skip }), goal)) }
         Opcode::CopyRead => { let (to, from) = two_rights(words)?; Ok(straight(Instr::Data(DataInstr::CopyRead { to, from }))) }
         Opcode::CopyWrite => { let (to, from) = two_rights(words)?; Ok(straight(Instr::Data(DataInstr::CopyWrite { to, from }))) }
         Opcode::DropRead => { let right = only_right(words)?; Ok(straight(Instr::Data(DataInstr::DropRead { right }))) }
@@ -134,5 +167,10 @@ pub fn draft_of<'a>(alloc: Global, opcode: Opcode, words: &[Word<'a>]) -> Result
         Opcode::Rule => { let parts = action_parts(alloc, words)?; Ok(straight(Instr::Rule(constant(parts)))) }
         Opcode::Put => { let parts = action_parts(alloc, words)?; Ok(straight(Instr::Put(constant(parts)))) }
         Opcode::Ret => { nothing_of(words)?; Ok(straight(Instr::Ret)) }
+        Opcode::InsertByText => { let (container, (subscript, (member, goal))) = right_value_right_and_goal(words)?; Ok(going(Instr::Data(DataInstr::Insert { by: Scalar::Text, container, subscript, member, skip: goal.skip }), goal)) }
+        Opcode::LookByText => { let (member, (container, (subscript, goal))) = right_right_value_and_goal(words)?; Ok(going(Instr::Data(DataInstr::Look { by: Scalar::Text, member, container, subscript, skip: goal.skip }), goal)) }
+        Opcode::SubscriptAtByText => { let (to, (container, (index, goal))) = value_right_value_and_goal(words)?; Ok(going(Instr::Data(DataInstr::SubscriptAt { by: Scalar::Text, to, container, index, skip: goal.skip }), goal)) }
+        Opcode::RuleComputed => { let parts = computed_parts(alloc, words)?; Ok(straight(Instr::Rule(computed(parts)))) }
+        Opcode::PutComputed => { let parts = computed_parts(alloc, words)?; Ok(straight(Instr::Put(computed(parts)))) }
     }
 }

@@ -1,7 +1,7 @@
 //! Assembly text: programs from it, and the one text of a program.
 //!
 //! * From text: `assemble` reads it line by line; the first word of a line lets expect a statement, and the words say it or are
-//!   flawed; then skips are linked to labels.
+//!   flawed, as the version has it; then skips are linked to labels.
 //! * To text: `disassemble` writes a line a statement.
 #![tactic(auto)]
 
@@ -33,3 +33,4 @@ pub use fault::{AsmFault, FaultNo};
 pub use laws::{one_first_fault, one_line_each, spells_once};
 pub use line_numbers::LineNumbers;
 pub use listing::{LabelPlaces, put_head_lines, put_right};
+pub use write::put_version;

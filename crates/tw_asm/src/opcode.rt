@@ -4,8 +4,9 @@ ghost use Rattle.std.specs.Prelude.{◌≡◌};
 ghost use Rattle.std.specs.List.{find};
 ghost use Rattle.std.specs.Str.{bytes_eq};
 ghost use Rattle.tw_asm.specs.Names.{opcode_of, word_of};
+ghost use Rattle.tw_asm.specs.reading.Lines.{opcode_in};
 
-use tw_code::Opcode;
+use tw_code::{Opcode, Version};
 
 /// The name of an instruction.
 pub fn word_of(opcode: Opcode) -> &'static str
@@ -43,6 +44,11 @@ pub fn word_of(opcode: Opcode) -> &'static str
         Opcode::Rule => "RULE",
         Opcode::Put => "PUT",
         Opcode::Ret => "RET",
+        Opcode::InsertByText => "TINS",
+        Opcode::LookByText => "TLOOK",
+        Opcode::SubscriptAtByText => "TSUBAT",
+        Opcode::RuleComputed => "RULEV",
+        Opcode::PutComputed => "PUTV",
     }
 }
 
@@ -56,9 +62,9 @@ fn named_among(name: &[u8], opcodes: &[Opcode]) -> Option<Opcode>
         .find(|opcode| word_of(*opcode).as_bytes() == name)
 }
 
-/// The instruction of this name.
+/// The instruction of this name, whatever the version.
 #[tactic(auto, unfolding(crate::specs::Names::opcode_of))]
-pub fn opcode_named(name: &[u8]) -> Option<Opcode>
+fn opcode_named(name: &[u8]) -> Option<Opcode>
     ensures { result ≡ opcode_of name.now }
 {
     named_among(
@@ -95,6 +101,21 @@ pub fn opcode_named(name: &[u8]) -> Option<Opcode>
             Opcode::Rule,
             Opcode::Put,
             Opcode::Ret,
+            Opcode::InsertByText,
+            Opcode::LookByText,
+            Opcode::SubscriptAtByText,
+            Opcode::RuleComputed,
+            Opcode::PutComputed,
         ],
     )
+}
+
+/// The instruction of this name, if the version has it.
+pub fn opcode_in(version: Version, name: &[u8]) -> Option<Opcode>
+    ensures { result ≡ opcode_in version name.now }
+{
+    match opcode_named(name) {
+        Some(opcode) if version.has_code(opcode.code()) => Some(opcode),
+        _ => None,
+    }
 }

@@ -3,13 +3,13 @@
 ghost use Rattle.std.specs.Prelude.{◌≡◌, ◌≤◌, IfOk};
 ghost use Rattle.tw_words.specs.Words.{Bare};
 ghost use Rattle.tw_words.specs.Seen.{seen as seen_word};
-ghost use Rattle.tw_asm.specs.reading.Operands.{as_is, both, digits_in, signed_in, natural_in, register_in, number_in, literal_in, own, target_in, goal_in, scalar_in, piece_in, mode_in};
+ghost use Rattle.tw_asm.specs.reading.Operands.{as_is, both, digits_in, signed_in, natural_in, register_in, number_in, literal_in, own, target_in, goal_in, scalar_in, text_container, container_in, mode_in};
 
 use crate::label_names::name_of;
 use crate::refusal::Flaw;
 use std::alloc::{AllocError, Global};
 use std::marker::Model;
-use tw_code::{LocalInstr, Procedure};
+use tw_code::{LocalInstr, Procedure, Version};
 use tw_types::{Layout, Mode, Scalar, Text};
 use tw_words::Word;
 
@@ -240,21 +240,34 @@ pub fn scalar_of(word: &Word<'_>) -> Result<Scalar, Flaw>
     }
 }
 
-/// A word of a type: what stands inside all containers, or `None` for a container.
-pub fn piece_of(word: &Word<'_>) -> Result<Option<Scalar>, Flaw>
-    ensures { result ≡ piece_in (seen_word word.now) }
+/// A container whose subscripts are texts; version 1 has none.
+fn text_container(version: Version) -> Result<Scalar, Flaw>
+    ensures { result ≡ text_container version }
+{
+    match version {
+        Version::One => Err(Flaw::Form),
+        Version::Two => Ok(Scalar::Text),
+    }
+}
+
+fn container_in(version: Version, text: &[u8]) -> Result<Scalar, Flaw>
+    ensures { result ≡ container_in version (Bare text.now) }
+{
+    if text == b"cont".as_slice() {
+        Ok(Scalar::Int)
+    } else if text == b"tcont".as_slice() {
+        text_container(version)
+    } else {
+        Err(Flaw::Form)
+    }
+}
+
+/// A container, by the type of its subscripts.
+pub fn container_of(version: Version, word: &Word<'_>) -> Result<Scalar, Flaw>
+    ensures { result ≡ container_in version (seen_word word.now) }
 {
     match word {
-        Word::Bare(text) => {
-            if *text == b"cont".as_slice() {
-                Ok(None)
-            } else {
-                match scalar_in(text) {
-                    Ok(scalar) => Ok(Some(scalar)),
-                    Err(flaw) => Err(flaw),
-                }
-            }
-        }
+        Word::Bare(text) => container_in(version, text),
         Word::Quoted(_) => Err(Flaw::Form),
     }
 }

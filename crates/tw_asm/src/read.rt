@@ -5,28 +5,57 @@ ghost use Rattle.tw_words.specs.Seen.{seen as seen_word};
 ghost use Rattle.tw_words.specs.Words.{Bare};
 ghost use Rattle.tw_asm.specs.Seen.{seen};
 ghost use Rattle.tw_asm.specs.LineAnswers.{Answers};
-ghost use Rattle.tw_asm.specs.Names.{opcode_of};
-ghost use Rattle.tw_asm.specs.reading.Lines.{Gives, body_in, head_in, label_line, registers_in, statement_in};
+ghost use Rattle.tw_asm.specs.Statement.{version_by};
+ghost use Rattle.tw_asm.specs.reading.Lines.{Gives, body_in, head_in, label_line, opcode_in, registers_in, statement_in, version_in};
 
 use crate::gathering::scalars_of;
 use crate::heads::{kind_of, params_of};
 use crate::instructions::draft_of;
 use crate::label_names::{before_colon, name_of};
-use crate::opcode::opcode_named;
-use crate::operands::both_of;
+use crate::opcode::opcode_in;
+use crate::operands::{both_of, byte_of};
 use crate::refusal::{Flaw, Refusal};
 use crate::statement::Statement;
 use std::alloc::Global;
+use tw_code::Version;
 use tw_words::Word;
 
+/// The version of this number, 1 or 2.
+fn version_by(number: u8) -> Version
+    ensures { result ≡ version_by number }
+{
+    if number == 2 {
+        Version::Two
+    } else {
+        Version::One
+    }
+}
+
+/// What stands behind `version`.
+fn version_of<'a>(words: &[Word<'_>]) -> Result<Statement<'a>, Refusal>
+    ensures { Gives seen result (version_in (map seen_word words.now)) }
+{
+    match words {
+        [word] => {
+            let number = byte_of(1, 2, word)?;
+            Ok(Statement::Version(version_by(number)))
+        }
+        _ => Err(Refusal::Flawed(Flaw::Form)),
+    }
+}
+
 /// What stands behind `proc`.
-fn head_of<'a>(alloc: Global, words: &[Word<'_>]) -> Result<Statement<'a>, Refusal>
-    ensures { Gives seen result (head_in (map seen_word words.now)) }
+fn head_of<'a>(
+    alloc: Global,
+    version: Version,
+    words: &[Word<'_>],
+) -> Result<Statement<'a>, Refusal>
+    ensures { Gives seen result (head_in version (map seen_word words.now)) }
 {
     match words {
         [] => Err(Refusal::Flawed(Flaw::Form)),
         [kind, params @ ..] => {
-            let params = params_of(alloc, params)?;
+            let params = params_of(alloc, version, params)?;
             let (kind, params) = both_of(kind_of(kind), params)?;
             Ok(Statement::Head { kind, params })
         }
@@ -55,11 +84,16 @@ fn label_of<'a>(word: &'a [u8], others: &[Word<'_>]) -> Result<Statement<'a>, Re
 }
 
 /// An instruction, or a label.
-fn body_of<'a>(alloc: Global, word: &'a [u8], others: &[Word<'a>]) -> Result<Statement<'a>, Refusal>
-    ensures { Gives seen result (body_in (opcode_of word.entry.now) word.entry.now (map seen_word others.now)) }
+fn body_of<'a>(
+    alloc: Global,
+    version: Version,
+    word: &'a [u8],
+    others: &[Word<'a>],
+) -> Result<Statement<'a>, Refusal>
+    ensures { Gives seen result (body_in version (opcode_in version word.entry.now) word.entry.now (map seen_word others.now)) }
 {
-    match opcode_named(word) {
-        Some(opcode) => Ok(Statement::Code(draft_of(alloc, opcode, others)?)),
+    match opcode_in(version, word) {
+        Some(opcode) => Ok(Statement::Code(draft_of(alloc, version, opcode, others)?)),
         None => label_of(word, others),
     }
 }
@@ -68,36 +102,47 @@ fn body_of<'a>(alloc: Global, word: &'a [u8], others: &[Word<'a>]) -> Result<Sta
 #[tactic(auto, unfolding(crate::specs::reading::Lines::statement_in))]
 fn words_read<'a>(
     alloc: Global,
+    version: Version,
     first: &'a [u8],
     others: &[Word<'a>],
 ) -> Result<Statement<'a>, Refusal>
-    ensures { Gives seen result (statement_in (Bare first.entry.now ∷ map seen_word others.now)) }
+    ensures { Gives seen result (statement_in version (Bare first.entry.now ∷ map seen_word others.now)) }
 {
     if first == b"proc".as_slice() {
-        head_of(alloc, others)
+        head_of(alloc, version, others)
     } else if first == b"regs".as_slice() {
         registers_of(alloc, others)
+    } else if first == b"version".as_slice() {
+        version_of(others)
     } else {
-        body_of(alloc, first, others)
+        body_of(alloc, version, first, others)
     }
 }
 
 #[tactic(auto, unfolding(crate::specs::reading::Lines::statement_in))]
-fn read_of<'a>(alloc: Global, words: &[Word<'a>]) -> Result<Statement<'a>, Refusal>
-    ensures { Gives seen result (statement_in (map seen_word words.now)) }
+fn read_of<'a>(
+    alloc: Global,
+    version: Version,
+    words: &[Word<'a>],
+) -> Result<Statement<'a>, Refusal>
+    ensures { Gives seen result (statement_in version (map seen_word words.now)) }
 {
     match words {
         [] => Err(Refusal::Flawed(Flaw::Form)),
         [first, others @ ..] => match first {
-            Word::Bare(word) => words_read(alloc, word, others),
+            Word::Bare(word) => words_read(alloc, version, word, others),
             Word::Quoted(_) => Err(Refusal::Flawed(Flaw::Form)),
         },
     }
 }
 
-/// The statement that words are, or what is wrong with them: their form before a limit.
-pub fn statement_of<'a>(alloc: Global, words: &[Word<'a>]) -> Result<Statement<'a>, Refusal>
-    ensures { Answers result (map seen_word words.now) }
+/// The statement that words are in this version, or what is wrong with them: their form before a limit.
+pub fn statement_of<'a>(
+    alloc: Global,
+    version: Version,
+    words: &[Word<'a>],
+) -> Result<Statement<'a>, Refusal>
+    ensures { Answers version result (map seen_word words.now) }
 {
-    read_of(alloc, words)
+    read_of(alloc, version, words)
 }

@@ -3,7 +3,7 @@
 ghost use Rattle.std.specs.Prelude.{◌≡◌, ◌⊎◌, ◌↔◌, ℕ, List, IsTrue, MatchOption, MatchResult, map};
 ghost use Rattle.std.specs.Prelude.{None};
 ghost use Rattle.tw_asm.specs.Fault.{MayBegin};
-ghost use Rattle.tw_asm.specs.reading.Progress.{AreClosed, AreFinished, AreNotRead, HasSections, IsEmptyAt, IsNotClosed, IsNotFinished, LabelAdded, LinesAreRead, TakenLine, TakenStatement, WithDraft, WithLabel, WordsRead, IsLimitLine, seen_draft, seen_label, seen_reading, seen_section, seen_stage, stage_of};
+ghost use Rattle.tw_asm.specs.reading.Progress.{AreClosed, AreFinished, AreNotRead, BehindVersion, HasSections, IsEmptyAt, IsNotClosed, IsNotFinished, LabelAdded, LinesAreRead, TakenLine, TakenStatement, WithDraft, WithLabel, WordsRead, IsLimitLine, seen_draft, seen_label, seen_reading, seen_section, seen_stage, stage_of};
 ghost use Rattle.tw_asm.specs.reading.Expected.{IsExpectedBy, expectation};
 ghost use Rattle.tw_words.specs.Seen.{seen as seen_word};
 ghost use Rattle.tw_asm.specs.Seen.{bytes_of, seen as seen_statement};
@@ -18,7 +18,7 @@ use crate::refusal::{Flaw, Refusal};
 use crate::statement::{First, Statement, Unlinked};
 use indexmap::IndexMap;
 use std::alloc::Global;
-use tw_code::{Procedure, Program};
+use tw_code::{Procedure, Program, Version};
 use tw_types::{Items, Kind, Param, Scalar};
 use tw_words::{Word, words_of};
 
@@ -44,6 +44,8 @@ pub struct Section<'a> {
 pub enum Stage<'a> {
     /// Nothing has been said.
     Start,
+    /// The version has been said, and nothing more.
+    AfterVersion,
     /// The types of value registers are due.
     AfterHead { kind: Kind, params: Items<Param> },
     InBody(Section<'a>),
@@ -52,6 +54,7 @@ pub enum Stage<'a> {
 /// What the lines so far have said.
 #[derive(Drop)]
 pub struct Reading<'a> {
+    pub version: Version,
     /// The procedures that have ended.
     pub sections: Vec<Section<'a>>,
     /// The line at which the last procedure began.
@@ -63,20 +66,23 @@ fn may_begin(stage: &Stage<'_>, expected: First) -> bool
     ensures { IsTrue result ↔ MayBegin (stage_of (seen_stage stage.now)) expected }
 {
     match stage {
-        Stage::Start => matches!(expected, First::Head),
+        Stage::Start => matches!(expected, First::Version | First::Head),
+        Stage::AfterVersion => matches!(expected, First::Head),
         Stage::AfterHead { .. } => matches!(expected, First::Registers),
         Stage::InBody(_) => matches!(expected, First::Head | First::Body),
     }
 }
 
 /// What a line's first word lets expect, if that may stand here.
-fn expected_of(word: &Word<'_>, stage: &Stage<'_>) -> Option<First>
-    ensures { MatchOption result ((first : First) → IsExpectedBy (seen_word word.now) first → MayBegin (stage_of (seen_stage stage.now)) first → ⊥) (λ first. IsExpectedBy (seen_word word.now) first × MayBegin (stage_of (seen_stage stage.now)) first) }
+fn expected_of(version: Version, word: &Word<'_>, stage: &Stage<'_>) -> Option<First>
+    ensures { MatchOption result
+        ((first : First) → IsExpectedBy version (seen_word word.now) first → MayBegin (stage_of (seen_stage stage.now)) first → ⊥)
+        (λ first. IsExpectedBy version (seen_word word.now) first × MayBegin (stage_of (seen_stage stage.now)) first) }
 {
     match word {
         Word::Quoted(_) => None,
         Word::Bare(bytes) => {
-            let first = first_of(bytes)?;
+            let first = first_of(version, bytes)?;
             if may_begin(stage, first) {
                 Some(first)
             } else {
@@ -123,13 +129,13 @@ fn read_words<'a>(
             Err(AsmFault::new(FaultNo::Word, number))
         };
     };
-    let Some(expected) = expected_of(word, &reading.stage) else {
+    let Some(expected) = expected_of(reading.version, word, &reading.stage) else {
         return Err(AsmFault::new(FaultNo::Word, number));
     };
     if !read.whole {
         return Err(AsmFault::new(FaultNo::Operand, number));
     }
-    match statement_of(alloc, &read.words) {
+    match statement_of(alloc, reading.version, &read.words) {
         Ok(statement) => Ok(Some(statement)),
         Err(Refusal::NoMemory) => Err(AsmFault::memory()),
         Err(Refusal::Flawed(Flaw::Form)) => Err(AsmFault::new(FaultNo::Operand, number)),
@@ -156,6 +162,23 @@ fn close<'a>(
     Ok(sections)
 }
 
+/// The version is said before all else.
+fn take_version<'a>(reading: Reading<'a>, version: Version) -> Reading<'a>
+    ensures { seen_reading result ≡ record (seen_reading reading.entry) { version = version; place = BehindVersion } }
+{
+    let Reading {
+        sections,
+        head_line,
+        ..
+    } = reading;
+    Reading {
+        version,
+        sections,
+        head_line,
+        stage: Stage::AfterVersion,
+    }
+}
+
 fn take_head<'a>(
     reading: Reading<'a>,
     number: usize,
@@ -165,6 +188,7 @@ fn take_head<'a>(
     ensures { MayBegin (stage_of (seen_stage reading.entry.stage)) expected.Head → TakenStatement (seen_reading reading.entry) number (record { statement = Head kind params; goal = None }) result }
 {
     let Reading {
+        version,
         sections,
         head_line,
         stage,
@@ -174,6 +198,7 @@ fn take_head<'a>(
         return Err(AsmFault::new(FaultNo::Limit, number));
     }
     Ok(Reading {
+        version,
         sections,
         head_line: number,
         stage: Stage::AfterHead { kind, params },
@@ -189,6 +214,7 @@ fn take_registers<'a>(
     ensures { MayBegin (stage_of (seen_stage reading.entry.stage)) expected.Registers → TakenStatement (seen_reading reading.entry) number (record { statement = Registers registers; goal = None }) result }
 {
     let Reading {
+        version,
         sections,
         head_line,
         stage,
@@ -204,6 +230,7 @@ fn take_registers<'a>(
         drafts: Vec::new(alloc),
     };
     Ok(Reading {
+        version,
         sections,
         head_line,
         stage: Stage::InBody(section),
@@ -279,6 +306,7 @@ fn take_statement<'a>(
     ensures { MayBegin (stage_of (seen_stage reading.entry.stage)) (expectation (seen_statement statement.entry).statement) → TakenStatement (seen_reading reading.entry) number (seen_statement statement.entry) result }
 {
     match statement {
+        Statement::Version(version) => Ok(take_version(reading, version)),
         Statement::Head { kind, params } => take_head(reading, number, kind, params),
         Statement::Registers(registers) => take_registers(alloc, reading, number, registers),
         Statement::Label(name) => take_label(reading, number, name),
@@ -306,6 +334,7 @@ fn read_lines<'a>(alloc: Global, text: &'a str) -> Result<Reading<'a>, AsmFault>
     ensures { LinesAreRead text.now result }
 {
     let mut reading = Reading {
+        version: Version::One,
         sections: Vec::new(alloc),
         head_line: 0,
         stage: Stage::Start,
@@ -316,6 +345,13 @@ fn read_lines<'a>(alloc: Global, text: &'a str) -> Result<Reading<'a>, AsmFault>
     Ok(reading)
 }
 
+/// A program whose goals aren't looked for yet.
+#[derive(Drop)]
+pub struct UnlinkedProgram<'a> {
+    pub version: Version,
+    pub sections: Vec<Section<'a>>,
+}
+
 /// The procedures, where the text may end.
 fn finish<'a>(reading: Reading<'a>) -> Result<Vec<Section<'a>>, AsmFault>
     ensures { MatchResult result (λ all. AreFinished (seen_reading reading.entry) (map seen_section all.items)) (λ f. IsNotFinished (seen_reading reading.entry) f) }
@@ -324,18 +360,23 @@ fn finish<'a>(reading: Reading<'a>) -> Result<Vec<Section<'a>>, AsmFault>
         sections,
         head_line,
         stage,
+        ..
     } = reading;
     match stage {
-        Stage::Start => Err(AsmFault::new(FaultNo::Limit, 1)),
+        Stage::Start | Stage::AfterVersion => Err(AsmFault::new(FaultNo::Limit, 1)),
         Stage::AfterHead { .. } => Err(AsmFault::new(FaultNo::Limit, head_line)),
         Stage::InBody(section) => close(sections, head_line, Stage::InBody(section)),
     }
 }
 
-/// The procedures of a text, or its first fault but for goals.
-pub fn read_text<'a>(alloc: Global, text: &'a str) -> Result<Vec<Section<'a>>, AsmFault>
-    ensures { MatchResult result (λ all. HasSections text.now (map seen_section all.items)) (λ f. AreNotRead text.now f) }
+/// The program of a text, or its first fault but for goals.
+pub fn read_text<'a>(alloc: Global, text: &'a str) -> Result<UnlinkedProgram<'a>, AsmFault>
+    ensures { MatchResult result
+        (λ program. HasSections text.now program.version (map seen_section program.sections.items))
+        (λ f. AreNotRead text.now f) }
 {
     let reading = read_lines(alloc, text)?;
-    finish(reading)
+    let version = reading.version;
+    let sections = finish(reading)?;
+    Ok(UnlinkedProgram { version, sections })
 }

@@ -8,6 +8,7 @@ ghost use Rattle.tw_asm.specs.reading.Operands.{as_is};
 use crate::gathering::type_of;
 use crate::operands::*;
 use crate::refusal::Flaw;
+use tw_code::Version;
 use tw_types::DataType;
 use tw_words::Word;
 
@@ -128,21 +129,24 @@ pub fn two_rights(words: &[Word<'_>]) -> Result<(u8, u8), Flaw>
 // ---- with a type
 
 /// A right register and a type.
-fn right_and_type(words: &[Word<'_>]) -> Result<(u8, DataType), Flaw>
-    ensures { result ≡ line_in (more right type) (map seen_word words.now) }
+fn right_and_type(version: Version, words: &[Word<'_>]) -> Result<(u8, DataType), Flaw>
+    ensures { result ≡ line_in (more right (type version)) (map seen_word words.now) }
 {
     match words {
-        [first, others @ ..] => both_of(right_of(first), type_of(others)),
+        [first, others @ ..] => both_of(right_of(first), type_of(version, others)),
         [] => Err(Flaw::Form),
     }
 }
 
 /// Two right registers and a type.
-pub fn two_rights_and_type(words: &[Word<'_>]) -> Result<(u8, (u8, DataType)), Flaw>
-    ensures { result ≡ line_in (more right (more right type)) (map seen_word words.now) }
+pub fn two_rights_and_type(
+    version: Version,
+    words: &[Word<'_>],
+) -> Result<(u8, (u8, DataType)), Flaw>
+    ensures { result ≡ line_in (more right (more right (type version))) (map seen_word words.now) }
 {
     match words {
-        [first, others @ ..] => both_of(right_of(first), right_and_type(others)),
+        [first, others @ ..] => both_of(right_of(first), right_and_type(version, others)),
         [] => Err(Flaw::Form),
     }
 }

@@ -48,33 +48,39 @@ fn data_with_skip(instr: DataInstr, skip: u16) -> DataInstr
 {
     match instr {
         DataInstr::Insert {
+            by,
             container,
             subscript,
             member,
             ..
         } => DataInstr::Insert {
+            by,
             container,
             subscript,
             member,
             skip,
         },
         DataInstr::Look {
+            by,
             member,
             container,
             subscript,
             ..
         } => DataInstr::Look {
+            by,
             member,
             container,
             subscript,
             skip,
         },
         DataInstr::SubscriptAt {
+            by,
             to,
             container,
             index,
             ..
         } => DataInstr::SubscriptAt {
+            by,
             to,
             container,
             index,

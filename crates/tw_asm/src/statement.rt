@@ -1,6 +1,6 @@
 //! What a line of assembly text says.
 
-use tw_code::Instr;
+use tw_code::{Instr, Version};
 use tw_types::{Items, Kind, Param, Scalar};
 
 /// An instruction, and the label that it names as its goal, where it names one; its skip is 0 then.
@@ -13,6 +13,8 @@ pub struct Unlinked<'a> {
 /// What a line says.
 #[derive(Drop)]
 pub enum Statement<'a> {
+    /// The version of the language.
+    Version(Version),
     /// A procedure begins.
     Head { kind: Kind, params: Items<Param> },
     /// The types of its value registers.
@@ -25,6 +27,8 @@ pub enum Statement<'a> {
 /// What a first word lets expect.
 #[derive(Clone, Copy, Debug, PartialEq, Eq)]
 pub enum First {
+    /// `version`.
+    Version,
     /// `proc`.
     Head,
     /// `regs`.

@@ -1,12 +1,15 @@
 //! Statements as lines.
 
-ghost use Rattle.std.specs.Prelude.{◌≡◌, ◌++◌, [], ◌∷◌, None, OnOk, codes, decimal, map};
+ghost use Rattle.std.specs.Prelude.{◌≡◌, ◌++◌, [], ◌∷◌, None, OnOk, codes, decimal, map, if◌then◌else◌};
 ghost use Rattle.std.specs.Fmt.{signed_decimal};
 ghost use Rattle.std.specs.List.{flat_map};
-ghost use Rattle.tw_asm.specs.Parts.{kind_word, mode_word, scalar_word};
+ghost use Rattle.tw_asm.specs.Parts.{container_word, kind_word, mode_word, scalar_word};
 ghost use Rattle.tw_asm.specs.Parts.{Target as target_part, TypeOf as type_part, param_parts};
 ghost use Rattle.tw_asm.specs.Statement.{Code, Head, Label, Registers};
+ghost use Rattle.tw_asm.specs.Disassembly.{version_line};
 ghost use Rattle.tw_asm.specs.Written.{goal_word, line_of, part_words};
+ghost use Rattle.tw_types.specs.DataType.{is_container_by};
+ghost use Rattle.tw_types.specs.declared.data_type.Scalar.TheVariants.{Int, Text};
 ghost use Rattle.tw_asm.specs.Names.{word_of};
 ghost use Rattle.tw_asm.specs.words.Lines.{behind, operand_words, row_line};
 ghost use Rattle.tw_code.specs.format.Program.{IsInstr};
@@ -15,7 +18,7 @@ ghost use Rattle.tw_words.specs.Quoted.{quoted};
 
 use crate::opcode::word_of;
 use std::alloc::{AllocError, Global};
-use tw_code::{Instr, Opcode, Operand, Sink};
+use tw_code::{Instr, Opcode, Operand, Sink, Version};
 use tw_types::{DataType, Kind, Mode, Param, Scalar};
 use tw_words::put_quoted;
 
@@ -45,6 +48,17 @@ fn scalar_word(scalar: Scalar) -> &'static str
     match scalar {
         Scalar::Int => "int",
         Scalar::Text => "text",
+    }
+}
+
+/// The word of the outermost container.
+fn word_of_container(ty: DataType) -> &'static str
+    ensures { result.now ≡ (if is_container_by Text ty then container_word Text else container_word Int) }
+{
+    if ty.is_container_by(Scalar::Text) {
+        "tcont"
+    } else {
+        "cont"
     }
 }
 
@@ -94,10 +108,13 @@ fn put_name(out: &mut Vec<u8>, name: &str) -> Result<(), AllocError>
 fn put_type(out: &mut Vec<u8>, ty: DataType) -> Result<(), AllocError>
     ensures { OnOk result (out.new.items ≡ out.old.items ++ behind (part_words (goal_word None) (type_part ty))) }
 {
-    for _ in 0..ty.depth() {
-        put_name(out, "cont")?;
+    match ty.element() {
+        Some(element) => {
+            put_name(out, word_of_container(ty))?;
+            put_type(out, element)
+        }
+        None => put_scalar(out, ty.scalar()),
     }
-    put_scalar(out, ty.scalar())
 }
 
 fn put_scalar(out: &mut Vec<u8>, scalar: Scalar) -> Result<(), AllocError>
@@ -271,4 +288,17 @@ pub fn put_label(alloc: Global, out: &mut Vec<u8>, number: usize) -> Result<(), 
 {
     put_numbered(alloc, out, "L", number)?;
     put(out, ":\n")
+}
+
+/// Adds the line of the version; the first one has none.
+pub fn put_version(alloc: Global, out: &mut Vec<u8>, version: Version) -> Result<(), AllocError>
+    ensures { OnOk result (out.new.items ≡ out.old.items ++ version_line version) }
+{
+    match version {
+        Version::One => Ok(()),
+        Version::Two => {
+            put_numbered(alloc, out, "version ", 2)?;
+            put(out, "\n")
+        }
+    }
 }

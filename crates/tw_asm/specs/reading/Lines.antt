@@ -1,14 +1,19 @@
 -- What the words behind a name say: a line an instruction.
-use Rattle.std.specs.Prelude.{◌≡◌, ℕ, suc, ◌+◌, ℤ, Bool, true, false, ◌&&◌, List, [], ◌∷◌, ◌++◌, length, codes, Option, Some, None, Result, Ok, Err, nat_lt, ◌==◌, if◌then◌else◌}
+use Rattle.std.specs.Prelude.{◌≡◌, ℕ, ℤ, List, [], ◌∷◌, ◌++◌, length, codes, Option, Some, None, Result, Ok, Err, nat_lt, ◌==◌, if◌then◌else◌}
 use Rattle.std.specs.Str.{bytes_eq}
+use Rattle.tw_code.specs.declared.instr.Action.{Action}
 use Rattle.tw_code.specs.declared.instr.Arithmetic.TheVariants.{Add, Subtract, Multiply, Divide, Remainder}
 use Rattle.tw_code.specs.declared.instr.DataInstr.TheVariants as on_data
 use Rattle.tw_code.specs.declared.instr.Instr.{Instr}
 use Rattle.tw_code.specs.declared.instr.Instr.TheVariants as instr
 use Rattle.tw_code.specs.declared.instr.LocalInstr.TheVariants as local
-use Rattle.tw_code.specs.declared.instr.Priority.TheVariants.{Constant}
+use Rattle.tw_code.specs.declared.instr.Priority.{Priority}
+use Rattle.tw_code.specs.declared.instr.Priority.TheVariants.{Constant, Computed}
 use Rattle.tw_code.specs.declared.opcode.Opcode.{Opcode}
 use Rattle.tw_code.specs.declared.opcode.Opcode.TheVariants as op
+use Rattle.tw_code.specs.declared.version.Version.{Version}
+use Rattle.tw_code.specs.format.Reading.{has_code}
+use Rattle.tw_code.specs.format.Table.{code_of}
 use Rattle.tw_words.specs.Words.{Word, Bare, Quoted}
 use Rattle.tw_asm.specs.Names.{opcode_of}
 use Rattle.tw_asm.specs.Parts.{kind_word}
@@ -19,11 +24,13 @@ use Rattle.tw_asm.specs.declared.refusal.Flaw.{Flaw}
 use Rattle.tw_asm.specs.declared.refusal.Flaw.TheVariants.{Form, Limit}
 use Rattle.tw_asm.specs.declared.refusal.Refusal.{Refusal}
 use Rattle.tw_asm.specs.declared.refusal.Refusal.TheVariants as refusal
-use Rattle.tw_asm.specs.reading.Operands.{both, as_is, natural_in, register_in, number_in, literal_in, target_in, name_in, Goal, goal_in, scalar_in, piece_in, mode_in}
+use Rattle.tw_asm.specs.reading.Operands.{both, as_is, natural_in, register_in, number_in, literal_in, target_in, name_in, Goal, goal_in, scalar_in, container_in, mode_in}
+use Rattle.tw_types.specs.DataType.{container_of, depth_of, is_scalar, scalar_type}
 use Rattle.tw_types.specs.Nesting.{NestedScalar}
 use Rattle.tw_types.specs.declared.actor.Kind.{Kind}
 use Rattle.tw_types.specs.declared.actor.Kind.TheVariants.{Control, Leaf}
 use Rattle.tw_types.specs.declared.data_type.Scalar.{Scalar}
+use Rattle.tw_types.specs.declared.data_type.Scalar.TheVariants.{Int, Text}
 use Rattle.tw_types.specs.declared.param.Mode.{Mode}
 use Rattle.tw_types.specs.declared.param.Mode.TheVariants.{Val, Closed, Ref, Write}
 use Rattle.tw_types.specs.declared.param.Param.{Param}
@@ -47,85 +54,90 @@ abbrev pub few : {A : Type 0} → ℕ → Result (List A) Flaw → Result (List 
 few most (Ok items) = if nat_lt most (length items) then Err Limit else Ok items
 few most (Err e) = Err e
 
--- ---- types and parameters
+-- ---- types and parameters, from the last word on
 
--- a scalar in so many containers
-abbrev pub nested_in : Scalar → ℕ → Result NestedScalar Flaw
-nested_in scalar depth = if nat_lt 3 depth then Err Limit else Ok (record { depth = depth; scalar = scalar })
+-- a container with such subscripts around data of this type
+abbrev pub around : Result (Scalar × NestedScalar) Flaw → Result NestedScalar Flaw
+around (Ok x) = if nat_lt (depth_of x.1) 3 then Ok (container_of x.0 x.1) else Err Limit
+around (Err e) = Err e
 
-abbrev pub last_in : ℕ → Result Scalar Flaw → Result NestedScalar Flaw
-last_in depth (Ok scalar) = nested_in scalar depth
-last_in depth (Err e) = Err e
+abbrev pub contained : Result Scalar Flaw → Result NestedScalar Flaw → Result NestedScalar Flaw
+contained by ty = around (both by ty)
 
-abbrev pub if_container : {A : Type 0} → Result (Option Scalar) Flaw → Result A Flaw → Result A Flaw
-if_container (Ok None) read = read
-if_container (Ok (Some scalar)) read = Err Form
-if_container (Err e) read = Err e
+-- one word more before a type, or its last one
+abbrev pub typed : Version → Word → Option (Result NestedScalar Flaw) → Result NestedScalar Flaw
+typed version w None = as_is scalar_type (scalar_in w)
+typed version w (Some ty) = contained (container_in version w) ty
 
--- `cont` so many times, and a scalar
-abbrev pub type_from : ℕ → List Word → Result NestedScalar Flaw
-type_from depth [] = Err Form
-type_from depth (w ∷ []) = last_in depth (scalar_in w)
-type_from depth (w ∷ x ∷ ws) = if_container (piece_in w) (type_from (suc depth) (x ∷ ws))
+abbrev pub type_from : Version → List Word → Option (Result NestedScalar Flaw)
+type_from version [] = None
+type_from version (w ∷ ws) = Some (typed version w (type_from version ws))
 
--- whether the word is `cont`
-abbrev pub is_container : Word → Bool
-is_container w = is_none_found (piece_in w)
+-- a scalar, and containers before it
+abbrev pub type_in : Version → List Word → Result NestedScalar Flaw
+type_in version ws = whole (type_from version ws)
   where
-    is_none_found : Result (Option Scalar) Flaw → Bool
-    is_none_found (Ok None) = true
-    is_none_found (Ok (Some scalar)) = false
-    is_none_found (Err e) = false
+    whole : Option (Result NestedScalar Flaw) → Result NestedScalar Flaw
+    whole None = Err Form
+    whole (Some ty) = ty
 
-abbrev pub are_containers : List Word → Bool
-are_containers [] = true
-are_containers (w ∷ ws) = is_container w && are_containers ws
-
--- four containers stand for all that are too many
-abbrev pub deeper : ℕ → ℕ
-deeper depth = if nat_lt depth 4 then depth + 1 else depth
-
--- the parameters so far, and that whose type isn't whole: its mode, and how many containers were met
+-- parameters, and before them a type whose mode is due
 pub record Params : Type 0 where
   pub whole : Result (List Param) Flaw
-  pub begun : Option (Mode × ℕ)
+  pub begun : Option (Result NestedScalar Flaw)
+
+abbrev pub no_params : Params
+no_params = record { whole = Ok []; begun = None }
 
 abbrev pub broken : Params
 broken = record { whole = Err Form; begun = None }
 
-abbrev pub begins : Result (List Param) Flaw → Result Mode Flaw → Params
-begins whole (Ok mode) = record { whole = whole; begun = Some (mode, 0) }
+abbrev pub begins : Result (List Param) Flaw → Result Scalar Flaw → Params
+begins whole (Ok scalar) = record { whole = whole; begun = Some (Ok (scalar_type scalar)) }
 begins whole (Err e) = broken
 
-abbrev pub contains : Result (List Param) Flaw → Mode → ℕ → Params
-contains whole Val depth = broken
-contains whole Closed depth = record { whole = whole; begun = Some (Closed, deeper depth) }
-contains whole Ref depth = record { whole = whole; begun = Some (Ref, deeper depth) }
-contains whole Write depth = record { whole = whole; begun = Some (Write, deeper depth) }
+-- no container stands under `val`
+abbrev pub under : Mode → Result NestedScalar Flaw → Result NestedScalar Flaw
+under Val (Ok ty) = if is_scalar ty then Ok ty else Err Form
+under Val (Err e) = Err Form
+under Closed ty = ty
+under Ref ty = ty
+under Write ty = ty
 
 abbrev pub param_of : Mode → NestedScalar → Param
 param_of mode ty = record { mode = mode; ty = ty }
 
-abbrev pub goes_on : Result (List Param) Flaw → Mode → ℕ → Result (Option Scalar) Flaw → Params
-goes_on whole mode depth (Ok None) = contains whole mode depth
-goes_on whole mode depth (Ok (Some scalar)) = record { whole = joined whole (as_is (param_of mode) (nested_in scalar depth)); begun = None }
-goes_on whole mode depth (Err e) = broken
+-- one item more before the others
+abbrev pub put_first : {A : Type 0} → Result A Flaw → Result (List A) Flaw → Result (List A) Flaw
+put_first item items = as_is (λ x. x.0 ∷ x.1) (both item items)
 
--- one more word
-abbrev pub taken : Result (List Param) Flaw → Option (Mode × ℕ) → Word → Params
-taken whole None w = begins whole (mode_in w)
-taken whole (Some x) w = goes_on whole x.0 x.1 (piece_in w)
+abbrev pub ends : Result (List Param) Flaw → Result NestedScalar Flaw → Result Mode Flaw → Params
+ends whole ty (Ok mode) = record { whole = put_first (as_is (param_of mode) (under mode ty)) whole; begun = None }
+ends whole ty (Err e) = broken
 
-abbrev pub ended : Result (List Param) Flaw → Option (Mode × ℕ) → Result (List Param) Flaw
-ended whole None = whole
-ended whole (Some x) = Err Form
+abbrev pub goes_on : Result (List Param) Flaw → Result NestedScalar Flaw → Result Scalar Flaw → Result Mode Flaw → Params
+goes_on whole ty (Ok by) mode = record { whole = whole; begun = Some (contained (Ok by) ty) }
+goes_on whole ty (Err e) mode = ends whole ty mode
 
-abbrev pub params_from : Params → List Word → Result (List Param) Flaw
-params_from params [] = ended params.whole params.begun
-params_from params (w ∷ ws) = params_from (taken params.whole params.begun w) ws
+-- one word more before them
+abbrev pub taken : Version → Word → Params → Params
+taken version w params = by params.whole params.begun
+  where
+    by : Result (List Param) Flaw → Option (Result NestedScalar Flaw) → Params
+    by whole None = begins whole (scalar_in w)
+    by whole (Some ty) = goes_on whole ty (container_in version w) (mode_in w)
 
-abbrev pub no_params : Params
-no_params = record { whole = Ok []; begun = None }
+abbrev pub params_from : Version → List Word → Params
+params_from version [] = no_params
+params_from version (w ∷ ws) = taken version w (params_from version ws)
+
+-- no type is left without its mode
+abbrev pub ended : Params → Result (List Param) Flaw
+ended params = by params.begun
+  where
+    by : Option (Result NestedScalar Flaw) → Result (List Param) Flaw
+    by None = params.whole
+    by (Some ty) = Err Form
 
 -- ---- operands
 
@@ -158,7 +170,7 @@ pub data Line : Type 0 where
   nothing : Line
   one : Operand → Line
   goal : Line
-  type : Line
+  type : Version → Line
   args : Line
   more : Operand → Line → Line
 
@@ -166,7 +178,7 @@ abbrev pub LineContent : Line → Type 0
 LineContent nothing = Unit {0}
 LineContent (one o) = Content o
 LineContent goal = Goal
-LineContent type = NestedScalar
+LineContent (type version) = NestedScalar
 LineContent args = List ℕ
 LineContent (more o l) = Content o × LineContent l
 
@@ -179,7 +191,7 @@ line_in (one o) (w ∷ x ∷ ws) = Err Form
 line_in goal [] = Err Form
 line_in goal (w ∷ []) = goal_in w
 line_in goal (w ∷ x ∷ ws) = Err Form
-line_in type ws = type_from 0 ws
+line_in (type version) ws = type_in version ws
 line_in args ws = few 8 (each (natural_in 0 15) ws)
 line_in (more o l) [] = Err Form
 line_in (more o l) (w ∷ ws) = both (operand_in o w) (line_in l ws)
@@ -189,60 +201,86 @@ abbrev pub label_in : (l : Line) → LineContent l → Option (List ℕ)
 label_in nothing x = None
 label_in (one o) x = None
 label_in goal x = x.label
-label_in type x = None
+label_in (type version) x = None
 label_in args x = None
 label_in (more o l) x = label_in l x.1
 
 -- ---- a line an instruction
 
-abbrev pub action_line : Line
-action_line = more (natural 0 255) (more number (more target args))
+-- with the priority in this form
+abbrev pub action_line : Operand → Line
+action_line priority = more (natural 0 255) (more priority (more target args))
+
+-- with this made of it
+abbrev pub action_of : {P : Type 0} → (P → Priority) → ℕ × (P × (Option ℕ × List ℕ)) → Action
+action_of make x = record { procedure = x.0; priority = make x.1.0; target = x.1.1.0; args = x.1.1.1 }
 
 -- its operands, and the instruction that they make
 pub data Row : Type 0 where
   row : (l : Line) → (LineContent l → Instr) → Row
 
-abbrev pub row_of : Opcode → Row
-row_of op.Int = row (more value (one number)) (λ x. instr.Local (local.Int x.0 x.1))
-row_of op.Text = row (more value (one literal)) (λ x. instr.Local (local.Text x.0 x.1))
-row_of op.Copy = row (more value (one value)) (λ x. instr.Local (local.Copy x.0 x.1))
-row_of op.Add = row (more value (more value (more value goal))) (λ x. instr.Local (local.Compute Add x.0 x.1.0 x.1.1.0 x.1.1.1.skip))
-row_of op.Subtract = row (more value (more value (more value goal))) (λ x. instr.Local (local.Compute Subtract x.0 x.1.0 x.1.1.0 x.1.1.1.skip))
-row_of op.Multiply = row (more value (more value (more value goal))) (λ x. instr.Local (local.Compute Multiply x.0 x.1.0 x.1.1.0 x.1.1.1.skip))
-row_of op.Divide = row (more value (more value (more value goal))) (λ x. instr.Local (local.Compute Divide x.0 x.1.0 x.1.1.0 x.1.1.1.skip))
-row_of op.Remainder = row (more value (more value (more value goal))) (λ x. instr.Local (local.Compute Remainder x.0 x.1.0 x.1.1.0 x.1.1.1.skip))
-row_of op.Concatenate = row (more value (more value (more value goal))) (λ x. instr.Local (local.Concatenate x.0 x.1.0 x.1.1.0 x.1.1.1.skip))
-row_of op.Length = row (more value (one value)) (λ x. instr.Local (local.Length x.0 x.1))
-row_of op.Show = row (more value (one value)) (λ x. instr.Local (local.Show x.0 x.1))
-row_of op.ReadInt = row (more value (more value goal)) (λ x. instr.Local (local.ReadInt x.0 x.1.0 x.1.1.skip))
-row_of op.Jump = row goal (λ x. instr.Local (local.Jump x.skip))
-row_of op.JumpEqual = row (more value (more value goal)) (λ x. instr.Local (local.JumpEqual x.0 x.1.0 x.1.1.skip))
-row_of op.JumpLess = row (more value (more value goal)) (λ x. instr.Local (local.JumpLess x.0 x.1.0 x.1.1.skip))
-row_of op.Repeat = row (one (natural 1 1000)) (λ x. instr.Local (local.Repeat x))
-row_of op.End = row nothing (λ x. instr.Local local.End)
-row_of op.New = row (more right (more right type)) (λ x. instr.Data (on_data.New x.0 x.1.0 x.1.1))
-row_of op.Store = row (more right (one value)) (λ x. instr.Data (on_data.Store x.0 x.1))
-row_of op.Get = row (more value (one right)) (λ x. instr.Data (on_data.Get x.0 x.1))
-row_of op.Insert = row (more right (more value (more right goal))) (λ x. instr.Data (on_data.Insert x.0 x.1.0 x.1.1.0 x.1.1.1.skip))
-row_of op.Look = row (more right (more right (more value goal))) (λ x. instr.Data (on_data.Look x.0 x.1.0 x.1.1.0 x.1.1.1.skip))
-row_of op.Size = row (more value (one right)) (λ x. instr.Data (on_data.Size x.0 x.1))
-row_of op.SubscriptAt = row (more value (more right (more value goal))) (λ x. instr.Data (on_data.SubscriptAt x.0 x.1.0 x.1.1.0 x.1.1.1.skip))
-row_of op.CopyRead = row (more right (one right)) (λ x. instr.Data (on_data.CopyRead x.0 x.1))
-row_of op.CopyWrite = row (more right (one right)) (λ x. instr.Data (on_data.CopyWrite x.0 x.1))
-row_of op.DropRead = row (one right) (λ x. instr.Data (on_data.DropRead x))
-row_of op.DropWrite = row (one right) (λ x. instr.Data (on_data.DropWrite x))
-row_of op.Rule = row action_line (λ x. instr.Rule (record { procedure = x.0; priority = Constant x.1.0; target = x.1.1.0; args = x.1.1.1 }))
-row_of op.Put = row action_line (λ x. instr.Put (record { procedure = x.0; priority = Constant x.1.0; target = x.1.1.0; args = x.1.1.1 }))
-row_of op.Ret = row nothing (λ x. instr.Ret)
+abbrev pub row_of : Version → Opcode → Row
+row_of version op.Int = row (more value (one number)) (λ x. instr.Local (local.Int x.0 x.1))
+row_of version op.Text = row (more value (one literal)) (λ x. instr.Local (local.Text x.0 x.1))
+row_of version op.Copy = row (more value (one value)) (λ x. instr.Local (local.Copy x.0 x.1))
+row_of version op.Add = row (more value (more value (more value goal))) (λ x. instr.Local (local.Compute Add x.0 x.1.0 x.1.1.0 x.1.1.1.skip))
+row_of version op.Subtract = row (more value (more value (more value goal))) (λ x. instr.Local (local.Compute Subtract x.0 x.1.0 x.1.1.0 x.1.1.1.skip))
+row_of version op.Multiply = row (more value (more value (more value goal))) (λ x. instr.Local (local.Compute Multiply x.0 x.1.0 x.1.1.0 x.1.1.1.skip))
+row_of version op.Divide = row (more value (more value (more value goal))) (λ x. instr.Local (local.Compute Divide x.0 x.1.0 x.1.1.0 x.1.1.1.skip))
+row_of version op.Remainder = row (more value (more value (more value goal))) (λ x. instr.Local (local.Compute Remainder x.0 x.1.0 x.1.1.0 x.1.1.1.skip))
+row_of version op.Concatenate = row (more value (more value (more value goal))) (λ x. instr.Local (local.Concatenate x.0 x.1.0 x.1.1.0 x.1.1.1.skip))
+row_of version op.Length = row (more value (one value)) (λ x. instr.Local (local.Length x.0 x.1))
+row_of version op.Show = row (more value (one value)) (λ x. instr.Local (local.Show x.0 x.1))
+row_of version op.ReadInt = row (more value (more value goal)) (λ x. instr.Local (local.ReadInt x.0 x.1.0 x.1.1.skip))
+row_of version op.Jump = row goal (λ x. instr.Local (local.Jump x.skip))
+row_of version op.JumpEqual = row (more value (more value goal)) (λ x. instr.Local (local.JumpEqual x.0 x.1.0 x.1.1.skip))
+row_of version op.JumpLess = row (more value (more value goal)) (λ x. instr.Local (local.JumpLess x.0 x.1.0 x.1.1.skip))
+row_of version op.Repeat = row (one (natural 1 1000)) (λ x. instr.Local (local.Repeat x))
+row_of version op.End = row nothing (λ x. instr.Local local.End)
+row_of version op.New = row (more right (more right (type version))) (λ x. instr.Data (on_data.New x.0 x.1.0 x.1.1))
+row_of version op.Store = row (more right (one value)) (λ x. instr.Data (on_data.Store x.0 x.1))
+row_of version op.Get = row (more value (one right)) (λ x. instr.Data (on_data.Get x.0 x.1))
+row_of version op.Insert = row (more right (more value (more right goal))) (λ x. instr.Data (on_data.Insert Int x.0 x.1.0 x.1.1.0 x.1.1.1.skip))
+row_of version op.Look = row (more right (more right (more value goal))) (λ x. instr.Data (on_data.Look Int x.0 x.1.0 x.1.1.0 x.1.1.1.skip))
+row_of version op.Size = row (more value (one right)) (λ x. instr.Data (on_data.Size x.0 x.1))
+row_of version op.SubscriptAt = row (more value (more right (more value goal))) (λ x. instr.Data (on_data.SubscriptAt Int x.0 x.1.0 x.1.1.0 x.1.1.1.skip))
+row_of version op.CopyRead = row (more right (one right)) (λ x. instr.Data (on_data.CopyRead x.0 x.1))
+row_of version op.CopyWrite = row (more right (one right)) (λ x. instr.Data (on_data.CopyWrite x.0 x.1))
+row_of version op.DropRead = row (one right) (λ x. instr.Data (on_data.DropRead x))
+row_of version op.DropWrite = row (one right) (λ x. instr.Data (on_data.DropWrite x))
+row_of version op.Rule = row (action_line number) (λ x. instr.Rule (action_of Constant x))
+row_of version op.Put = row (action_line number) (λ x. instr.Put (action_of Constant x))
+row_of version op.Ret = row nothing (λ x. instr.Ret)
+row_of version op.InsertByText = row (more right (more value (more right goal))) (λ x. instr.Data (on_data.Insert Text x.0 x.1.0 x.1.1.0 x.1.1.1.skip))
+row_of version op.LookByText = row (more right (more right (more value goal))) (λ x. instr.Data (on_data.Look Text x.0 x.1.0 x.1.1.0 x.1.1.1.skip))
+row_of version op.SubscriptAtByText = row (more value (more right (more value goal))) (λ x. instr.Data (on_data.SubscriptAt Text x.0 x.1.0 x.1.1.0 x.1.1.1.skip))
+row_of version op.RuleComputed = row (action_line value) (λ x. instr.Rule (action_of Computed x))
+row_of version op.PutComputed = row (action_line value) (λ x. instr.Put (action_of Computed x))
 
 -- an instruction, and the label that it names
 abbrev pub draft_by : Row → List Word → Result (Instr × Option (List ℕ)) Flaw
 draft_by (row l make) ws = as_is (λ x. (make x, label_in l x)) (line_in l ws)
 
-abbrev pub draft_in : Opcode → List Word → Result (Instr × Option (List ℕ)) Flaw
-draft_in o ws = draft_by (row_of o) ws
+abbrev pub draft_in : Version → Opcode → List Word → Result (Instr × Option (List ℕ)) Flaw
+draft_in version o ws = draft_by (row_of version o) ws
+
+-- the instruction of this name, if the version has it
+abbrev pub if_had : Version → Option Opcode → Option Opcode
+if_had version None = None
+if_had version (Some o) = if has_code version (code_of o) then Some o else None
+
+abbrev pub opcode_in : Version → List ℕ → Option Opcode
+opcode_in version name = if_had version (opcode_of name)
 
 -- ---- statements
+
+abbrev pub version_read : ℕ → Read
+version_read n = record { statement = said.OfVersion (said.version_number (said.version_by n)); goal = None }
+
+abbrev pub version_in : List Word → Result Read Flaw
+version_in [] = Err Form
+version_in (w ∷ []) = as_is version_read (natural_in 1 2 w)
+version_in (w ∷ x ∷ ws) = Err Form
 
 abbrev pub kind_in : Word → Result Kind Flaw
 kind_in (Bare text) = if bytes_eq text (kind_word Control) then Ok Control else if bytes_eq text (kind_word Leaf) then Ok Leaf else Err Form
@@ -251,9 +289,9 @@ kind_in (Quoted text) = Err Form
 abbrev pub head_read : Kind × List Param → Read
 head_read x = record { statement = said.Head x.0 x.1; goal = None }
 
-abbrev pub head_in : List Word → Result Read Flaw
-head_in [] = Err Form
-head_in (w ∷ ws) = as_is head_read (both (kind_in w) (few 8 (params_from no_params ws)))
+abbrev pub head_in : Version → List Word → Result Read Flaw
+head_in version [] = Err Form
+head_in version (w ∷ ws) = as_is head_read (both (kind_in w) (few 8 (ended (params_from version ws))))
 
 abbrev pub registers_read : List Scalar → Read
 registers_read registers = record { statement = said.Registers registers; goal = None }
@@ -285,14 +323,18 @@ label_line word (w ∷ ws) = Err Form
 abbrev pub code_read : Instr × Option (List ℕ) → Read
 code_read x = record { statement = said.Code x.0; goal = x.1 }
 
-abbrev pub body_in : Option Opcode → List ℕ → List Word → Result Read Flaw
-body_in (Some o) word ws = as_is code_read (draft_in o ws)
-body_in None word ws = label_line word ws
+abbrev pub body_in : Version → Option Opcode → List ℕ → List Word → Result Read Flaw
+body_in version (Some o) word ws = as_is code_read (draft_in version o ws)
+body_in version None word ws = label_line word ws
 
-unfoldable pub statement_in : List Word → Result Read Flaw
-statement_in [] = Err Form
-statement_in (Quoted text ∷ ws) = Err Form
-statement_in (Bare word ∷ ws) = if bytes_eq word (codes "proc") then head_in ws else if bytes_eq word (codes "regs") then registers_in ws else body_in (opcode_of word) word ws
+unfoldable pub statement_in : Version → List Word → Result Read Flaw
+statement_in version [] = Err Form
+statement_in version (Quoted text ∷ ws) = Err Form
+statement_in version (Bare word ∷ ws) =
+    if bytes_eq word (codes "proc") then head_in version ws else
+    if bytes_eq word (codes "regs") then registers_in ws else
+    if bytes_eq word (codes "version") then version_in ws else
+    body_in version (opcode_in version word) word ws
 
 -- ---- what functions answer
 

@@ -3,8 +3,10 @@ use Rattle.std.specs.Prelude.{ℕ, ℤ, pos, neg_ℤ, Bool, true, false, ◌&&�
 use Rattle.std.specs.Char.{digit_value}
 use Rattle.std.specs.Str.{bytes_eq}
 use Rattle.std.specs.Str.Parse.{digits_value}
+use Rattle.tw_code.specs.declared.version.Version.{Version}
+use Rattle.tw_code.specs.declared.version.Version.TheVariants.{One, Two}
 use Rattle.tw_words.specs.Words.{Word, Bare, Quoted}
-use Rattle.tw_asm.specs.Parts.{mode_word, scalar_word}
+use Rattle.tw_asm.specs.Parts.{container_word, mode_word, scalar_word}
 use Rattle.tw_asm.specs.declared.refusal.Flaw.{Flaw}
 use Rattle.tw_asm.specs.declared.refusal.Flaw.TheVariants.{Form, Limit}
 use Rattle.tw_words.specs.declared.numbers.Flaw as words
@@ -122,10 +124,18 @@ abbrev pub scalar_in : Word → Result Scalar Flaw
 scalar_in (Bare text) = if bytes_eq text (scalar_word scalar.Int) then Ok scalar.Int else if bytes_eq text (scalar_word scalar.Text) then Ok scalar.Text else Err Form
 scalar_in (Quoted text) = Err Form
 
--- a word of a type: `cont`, or what stands inside all containers
-abbrev pub piece_in : Word → Result (Option Scalar) Flaw
-piece_in (Bare text) = if bytes_eq text (codes "cont") then Ok None else as_is (λ s. Some s) (scalar_in (Bare text))
-piece_in (Quoted text) = Err Form
+-- version 1 has no container whose subscripts are texts
+abbrev pub text_container : Version → Result Scalar Flaw
+text_container One = Err Form
+text_container Two = Ok scalar.Text
+
+-- a container, by the type of its subscripts
+abbrev pub container_in : Version → Word → Result Scalar Flaw
+container_in version (Bare text) =
+    if bytes_eq text (container_word scalar.Int) then Ok scalar.Int else
+    if bytes_eq text (container_word scalar.Text) then text_container version else
+    Err Form
+container_in version (Quoted text) = Err Form
 
 abbrev pub mode_in : Word → Result Mode Flaw
 mode_in (Bare text) =

@@ -7,12 +7,14 @@ use Rattle.tw_types.specs.declared.actor.Kind.{Kind}
 use Rattle.tw_types.specs.declared.data_type.Scalar.{Scalar}
 use Rattle.tw_types.specs.declared.param.Param.{Param}
 use Rattle.tw_code.specs.declared.instr.Instr.{Instr}
+use Rattle.tw_code.specs.declared.version.Version.{Version}
+use Rattle.tw_code.specs.declared.version.Version.TheVariants.{One}
 use Rattle.tw_words.specs.Words.{IsLine, Word}
 use Rattle.tw_asm.specs.declared.statement.First.{First}
 use Rattle.tw_asm.specs.declared.statement.First.TheVariants as first
 use Rattle.tw_asm.specs.declared.statement.Statement as statements
 use Rattle.tw_asm.specs.Seen.{Read, IsRead, bytes_of, seen}
-use Rattle.tw_asm.specs.Statement.{Statement, Head, Registers, Label, Code}
+use Rattle.tw_asm.specs.Statement.{Statement, OfVersion, Head, Registers, Label, Code, version_by}
 use Rattle.tw_asm.specs.declared.fault.AsmFault.{AsmFault}
 use Rattle.tw_asm.specs.declared.fault.FaultNo.TheVariants as fault
 use Rattle.tw_asm.specs.declared.reading.UnlinkedLine as draft_lines
@@ -20,7 +22,7 @@ use Rattle.tw_asm.specs.declared.reading.Reading as readings
 use Rattle.tw_asm.specs.declared.reading.Section as sections
 use Rattle.tw_asm.specs.declared.reading.Stage as stages
 use Rattle.tw_asm.specs.declared.reading.Stage.TheVariants as stage
-use Rattle.tw_asm.specs.Fault.{Stage, Start, AfterHead, InBody, Situation, MayBegin, MayStand, LineFault, IsEndFault, IsLineFault, IsUnfinished, IsWhole}
+use Rattle.tw_asm.specs.Fault.{Stage, Start, AfterVersion, AfterHead, InBody, Situation, MayBegin, MayStand, LineFault, IsEndFault, IsLineFault, IsUnfinished, IsWhole}
 use Rattle.tw_asm.specs.Spelling.{Placed}
 use Rattle.tw_asm.specs.reading.Expected.{expectation}
 
@@ -39,10 +41,12 @@ pub record Section : Type 0 where
 
 pub data Place : Type 0 where
   AtStart : Place
+  BehindVersion : Place
   BehindHead : Kind → List Param → Place
   Within : Section → Place
 
 pub record Progress : Type 0 where
+  pub version : Version
   pub sections : List Section
   pub head_line : ℕ
   pub place : Place
@@ -60,11 +64,12 @@ seen_section section = record { kind = section.kind; params = section.params; re
 
 abbrev pub seen_stage : stages.Stage → Place
 seen_stage stage.Start = AtStart
+seen_stage stage.AfterVersion = BehindVersion
 seen_stage (stage.AfterHead kind params) = BehindHead kind params
 seen_stage (stage.InBody section) = Within (seen_section section)
 
 abbrev pub seen_reading : readings.Reading → Progress
-seen_reading reading = record { sections = map seen_section reading.sections.items; head_line = reading.head_line; place = seen_stage reading.stage }
+seen_reading reading = record { version = reading.version; sections = map seen_section reading.sections.items; head_line = reading.head_line; place = seen_stage reading.stage }
 
 -- the lines of its instructions
 abbrev pub section_numbers : Section → List ℕ
@@ -74,37 +79,43 @@ section_numbers section = map (λ draft. draft.number) section.drafts
 
 abbrev pub stage_of : Place → Stage
 stage_of AtStart = Start
+stage_of BehindVersion = AfterVersion
 stage_of (BehindHead kind params) = AfterHead
 stage_of (Within section) = InBody
 
 abbrev pub begun : Place → ℕ
 begun AtStart = 0
+begun BehindVersion = 0
 begun (BehindHead kind params) = 1
 begun (Within section) = 1
 
 abbrev pub labels_at : Place → List Placed
 labels_at AtStart = []
+labels_at BehindVersion = []
 labels_at (BehindHead kind params) = []
 labels_at (Within section) = section.labels
 
 abbrev pub drafts_at : Place → List Drafted
 drafts_at AtStart = []
+drafts_at BehindVersion = []
 drafts_at (BehindHead kind params) = []
 drafts_at (Within section) = section.drafts
 
 abbrev pub situation_of : Progress → Situation
-situation_of p = record { stage = stage_of p.place; procedures = length p.sections + begun p.place; head_line = p.head_line; labels = map (λ label. label.name) (labels_at p.place); instructions = length (drafts_at p.place) }
+situation_of p = record { version = p.version; stage = stage_of p.place; procedures = length p.sections + begun p.place; head_line = p.head_line; labels = map (λ label. label.name) (labels_at p.place); instructions = length (drafts_at p.place) }
 
 -- ---- steps
 
 -- the sections that have ended once another begins
 abbrev pub ended : List Section → Place → List Section
 ended sections AtStart = sections
+ended sections BehindVersion = sections
 ended sections (BehindHead kind params) = sections
 ended sections (Within section) = sections ++ (section ∷ [])
 
 abbrev pub with_types : List Scalar → Place → Place
 with_types registers AtStart = AtStart
+with_types registers BehindVersion = BehindVersion
 with_types registers (BehindHead kind params) = Within (record { kind = kind; params = params; registers = registers; labels = []; drafts = [] })
 with_types registers (Within section) = Within section
 
@@ -116,12 +127,14 @@ drafted draft section = record section { drafts = section.drafts ++ (draft ∷ [
 
 abbrev pub in_section : (Section → Section) → Place → Place
 in_section f AtStart = AtStart
+in_section f BehindVersion = BehindVersion
 in_section f (BehindHead kind params) = BehindHead kind params
 in_section f (Within section) = Within (f section)
 
 -- after a statement in the line of this number, which names this goal
 abbrev pub step : ℕ → Statement → Option (List ℕ) → Progress → Progress
-step number (Head kind params) goal p = record { sections = ended p.sections p.place; head_line = number; place = BehindHead kind params }
+step number (OfVersion version) goal p = record p { version = version_by version; place = BehindVersion }
+step number (Head kind params) goal p = record { version = p.version; sections = ended p.sections p.place; head_line = number; place = BehindHead kind params }
 step number (Registers registers) goal p = record p { place = with_types registers p.place }
 step number (Label name) goal p = record p { place = in_section (labelled name) p.place }
 step number (Code i) goal p = record p { place = in_section (drafted (record { instr = i; goal = goal; number = number })) p.place }
@@ -135,12 +148,13 @@ progress_from number p [] = p
 progress_from number p (read ∷ others) = progress_from (number + 1) (line_step number read p) others
 
 abbrev pub outset : Progress
-outset = record { sections = []; head_line = 0; place = AtStart }
+outset = record { version = One; sections = []; head_line = 0; place = AtStart }
 
 -- ---- what lines say, as it is read
 
 -- a goal is named by an instruction alone
 abbrev pub IsGoalOf : Statement → Option (List ℕ) → Type 0
+IsGoalOf (OfVersion version) goal = goal ≡ None
 IsGoalOf (Head kind params) goal = goal ≡ None
 IsGoalOf (Registers registers) goal = goal ≡ None
 IsGoalOf (Label name) goal = goal ≡ None
@@ -148,7 +162,7 @@ IsGoalOf (Code i) goal = Unit {0}
 
 abbrev pub LineRead : Situation → List ℕ → Option Read → Type 0
 LineRead s line None = IsLine [] line
-LineRead s line (Some read) = ((words : List Word) × IsLine words line × IsRead read words) × MayStand read.statement s × IsGoalOf read.statement read.goal
+LineRead s line (Some read) = ((words : List Word) × IsLine words line × IsRead s.version read words) × MayStand read.statement s × IsGoalOf read.statement read.goal
 
 -- lines from this number on are read as this
 abbrev pub LinesRead : ℕ → Progress → List (List ℕ) → List (Option Read) → Type 0
@@ -167,6 +181,7 @@ IsLimit f at = (f.no ≡ fault.Limit) × (f.line ≡ at)
 
 abbrev pub IsEmptyAt : Place → Type 0
 IsEmptyAt AtStart = ⊥
+IsEmptyAt BehindVersion = ⊥
 IsEmptyAt (BehindHead kind params) = ⊥
 IsEmptyAt (Within section) = length section.drafts ≡ 0
 
@@ -177,11 +192,11 @@ IsLimitLine p expected number at = ((expected ≡ first.Head) × IsEmptyAt p.pla
 -- the line's statement, if it has any; it begins with what may stand here
 abbrev pub WordsRead : Progress → ℕ → List ℕ → Result (Option statements.Statement) AsmFault → Type 0
 WordsRead p number line (Ok None) = IsLine [] line
-WordsRead p number line (Ok (Some statement)) = ((words : List Word) × IsLine words line × IsRead (seen statement) words) × MayBegin (stage_of p.place) (expectation (seen statement).statement)
+WordsRead p number line (Ok (Some statement)) = ((words : List Word) × IsLine words line × IsRead p.version (seen statement) words) × MayBegin (stage_of p.place) (expectation (seen statement).statement)
 WordsRead p number line (Err f) = IsMemory f ⊎ LineFault number (situation_of p) line f.no f.line
 
 abbrev pub Stopped : Progress → ℕ → Read → AsmFault → Type 0
-Stopped p number read f = IsMemory f ⊎ ((line : List ℕ) (words : List Word) → IsLine words line → IsRead read words → LineFault number (situation_of p) line f.no f.line)
+Stopped p number read f = IsMemory f ⊎ ((line : List ℕ) (words : List Word) → IsLine words line → IsRead p.version read words → LineFault number (situation_of p) line f.no f.line)
 
 abbrev pub TakenStatement : Progress → ℕ → Read → Result readings.Reading AsmFault → Type 0
 TakenStatement p number read (Ok reading) = MayStand read.statement (situation_of p) × (seen_reading reading ≡ step number read.statement read.goal p)
@@ -227,11 +242,12 @@ AreFinished p all = IsWhole (situation_of p) × (all ≡ ended p.sections p.plac
 abbrev pub IsNotFinished : Progress → AsmFault → Type 0
 IsNotFinished p f = IsMemory f ⊎ ((f.no ≡ fault.Limit) × IsUnfinished (situation_of p) f.line)
 
--- the text may end, and has these procedures
-pub record HasSections (text : List ℕ) (all : List Section) : Type 0 where
+-- the text may end, and has this version and these procedures
+pub record HasSections (text : List ℕ) (version : Version) (all : List Section) : Type 0 where
   pub p : Progress
   pub read : AreTextRead (lines text) p
   pub whole : IsWhole (situation_of p)
+  pub version_is : version ≡ p.version
   pub sections_are : all ≡ ended p.sections p.place
 
 abbrev pub AreNotRead : List ℕ → AsmFault → Type 0

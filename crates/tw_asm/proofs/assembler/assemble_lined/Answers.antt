@@ -6,25 +6,25 @@ use Rattle.tw_asm.proofs.SpelledSections.{is_program, labels_fit, spells_program
 use Rattle.tw_asm.proofs.Told.{not_linked, not_read}
 use Rattle.tw_asm.proofs.assembler.assemble_lined.Goals as goal
 
-pub returns-in_err-sections : goal.returns-in_err-sections
-returns-in_err-sections c =
+pub returns-in_err-unlinked : goal.returns-in_err-unlinked
+returns-in_err-unlinked c =
     let p = err_from_is_err_and c.from_residual.result c.from_residual.ensures.1 in
-    rw (p.1, p.2) (not_read c.args.text.now c.in_err-sections.field-0.0 c.in_err-sections.ensures)
+    rw (p.1, p.2) (not_read c.args.text.now c.in_err-unlinked.field-0.0 c.in_err-unlinked.ensures)
 
 pub link-requires : goal.link-requires
-link-requires c = labels_fit c.args.text.now (map seen_section c.in_ok-sections.sections.items) c.in_ok-sections.ensures
+link-requires c = labels_fit c.args.text.now c.in_ok-unlinked.unlinked.version (map seen_section c.in_ok-unlinked.unlinked.sections.items) c.in_ok-unlinked.ensures
 
 pub returns-in_err-procedures : goal.returns-in_err-procedures
 returns-in_err-procedures c =
     let p = err_from_is_err_and c.from_residual-in_err-procedures.result c.from_residual-in_err-procedures.ensures.1 in
-    rw (p.1, p.2) (not_linked c.args.text.now (map seen_section c.in_ok-sections.sections.items) c.in_err-procedures.field-0.0 c.in_ok-sections.ensures c.in_err-procedures.ensures)
+    rw (p.1, p.2) (not_linked c.args.text.now c.in_ok-unlinked.unlinked.version (map seen_section c.in_ok-unlinked.unlinked.sections.items) c.in_err-procedures.field-0.0 c.in_ok-unlinked.ensures c.in_err-procedures.ensures)
 
 pub new-requires : goal.new-requires
-new-requires c = is_program c.args.text.now (map seen_section c.in_ok-sections.sections.items) c.in_ok-procedures.procedures.items c.in_ok-sections.ensures c.in_ok-procedures.ensures
+new-requires c = is_program c.args.text.now c.in_ok-unlinked.unlinked.version (map seen_section c.in_ok-unlinked.unlinked.sections.items) c.in_ok-procedures.procedures.items c.in_ok-unlinked.ensures c.in_ok-procedures.ensures
 
 pub returns : goal.returns
 returns c =
-    let all = map seen_section c.in_ok-sections.sections.items in (
-      rw c.new.ensures (spells_program c.args.text.now all c.in_ok-procedures.procedures.items c.in_ok-sections.ensures c.in_ok-procedures.ensures),
-      rw (c.new.ensures, c.in_ok-lines.ensures, c.deref.ensures.value) (origins c.args.text.now all c.in_ok-procedures.procedures.items c.in_ok-sections.ensures c.in_ok-procedures.ensures),
+    let all = map seen_section c.in_ok-unlinked.unlinked.sections.items in (
+      rw c.new.ensures (spells_program c.args.text.now c.in_ok-unlinked.unlinked.version all c.in_ok-procedures.procedures.items c.in_ok-unlinked.ensures c.in_ok-procedures.ensures),
+      rw (c.new.ensures, c.in_ok-lines.ensures, c.deref.ensures.value) (origins c.args.text.now c.in_ok-unlinked.unlinked.version all c.in_ok-procedures.procedures.items c.in_ok-unlinked.ensures c.in_ok-procedures.ensures),
     )

@@ -10,6 +10,6 @@ returns c =
     let last = seen_section c.in-InBody.section in
     rw c.in-InBody.is
     (match_more c.close.result
-    (λ all. finished before (map seen_section all.items) c.args.reading.head_line last)
-    (λ f. not_finished_there before c.args.reading.head_line last f)
+    (λ all. finished c.args.reading.version before (map seen_section all.items) c.args.reading.head_line last)
+    (λ f. not_finished_there c.args.reading.version before c.args.reading.head_line last f)
     c.close.ensures)

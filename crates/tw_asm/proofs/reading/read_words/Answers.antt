@@ -43,10 +43,10 @@ returns-in-Ok c =
     let all = subst (λ (b : List ℕ). IsLineRead (map seen_word c.in_ok-read.read.words.items) c.in_ok-read.read.whole b) c.as_bytes.ensures.value c.in_ok-read.ensures in
     let first = a_first c.in_ok-read.read.words.items c.in-Some.word.now (c.in-Some.ensures.value ∙ ap (λ xs. slice_get xs 0) c.deref.ensures.value) in
     let words = ap (map seen_word) first.1 in
-    let read = subst (IsRead (seen c.in-Ok.statement)) (ap (map seen_word) c.deref-2.ensures.value) c.in-Ok.ensures in (
+    let read = subst (IsRead c.args.reading.now.version (seen c.in-Ok.statement)) (ap (map seen_word) c.deref-2.ensures.value) c.in-Ok.ensures in (
       (map seen_word c.in_ok-read.read.words.items, rw c.if-not-read.false at all, read),
-      may_stand_there (stage_of (seen_stage c.args.reading.now.stage)) (seen c.in-Ok.statement) (seen_word c.in-Some.word.now) (map seen_word first.0) c.in-Some-expected_of.expected
-          (subst (IsRead (seen c.in-Ok.statement)) words read) c.in-Some-expected_of.ensures.0 c.in-Some-expected_of.ensures.1,
+      may_stand_there c.args.reading.now.version (stage_of (seen_stage c.args.reading.now.stage)) (seen c.in-Ok.statement) (seen_word c.in-Some.word.now) (map seen_word first.0) c.in-Some-expected_of.expected
+          (subst (IsRead c.args.reading.now.version (seen c.in-Ok.statement)) words read) c.in-Some-expected_of.ensures.0 c.in-Some-expected_of.ensures.1,
     )
 
 pub returns-in-Err-Flawed-Form : goal.returns-in-Err-Flawed-Form
@@ -54,8 +54,8 @@ returns-in-Err-Flawed-Form c =
     let all = subst (λ (b : List ℕ). IsLineRead (map seen_word c.in_ok-read.read.words.items) c.in_ok-read.read.whole b) c.as_bytes.ensures.value c.in_ok-read.ensures in
     let first = a_first c.in_ok-read.read.words.items c.in-Some.word.now (c.in-Some.ensures.value ∙ ap (λ xs. slice_get xs 0) c.deref.ensures.value) in
     let words = ap (map seen_word) first.1 in
-    let flawed = subst (λ (r : Refusal). Answers (Err r) (map seen_word c.deref-2.result.now)) (c.in-Err-Flawed-Form.field-0-is ∙ ap refusal.Flawed c.in-Err-Flawed-Form.field-0-0-is) c.in-Err-Flawed-Form.ensures in
-    let here = subst (λ (ws : List Word). Answers (Err (refusal.Flawed flaw.Form)) ws) (ap (map seen_word) c.deref-2.ensures.value ∙ words) flawed in
+    let flawed = subst (λ (r : Refusal). Answers c.args.reading.now.version (Err r) (map seen_word c.deref-2.result.now)) (c.in-Err-Flawed-Form.field-0-is ∙ ap refusal.Flawed c.in-Err-Flawed-Form.field-0-0-is) c.in-Err-Flawed-Form.ensures in
+    let here = subst (λ (ws : List Word). Answers c.args.reading.now.version (Err (refusal.Flawed flaw.Form)) ws) (ap (map seen_word) c.deref-2.ensures.value ∙ words) flawed in
     inr (rw (c.new-in-Err-Flawed-Form.ensures.no, c.new-in-Err-Flawed-Form.ensures.line) (form_fault c.args.number (situation_of (seen_reading c.args.reading.now)) c.args.line.now (seen_word c.in-Some.word.now) (map seen_word first.0) c.in-Some-expected_of.expected
     (subst (λ (ws : List Word). IsLine ws c.args.line.now) words (rw c.if-not-read.false at all)) c.in-Some-expected_of.ensures.0 c.in-Some-expected_of.ensures.1 here))
 
@@ -64,7 +64,7 @@ returns c =
     let all = subst (λ (b : List ℕ). IsLineRead (map seen_word c.in_ok-read.read.words.items) c.in_ok-read.read.whole b) c.as_bytes.ensures.value c.in_ok-read.ensures in
     let first = a_first c.in_ok-read.read.words.items c.in-Some.word.now (c.in-Some.ensures.value ∙ ap (λ xs. slice_get xs 0) c.deref.ensures.value) in
     let words = ap (map seen_word) first.1 in
-    let flawed = subst (λ (r : Refusal). Answers (Err r) (map seen_word c.deref-2.result.now)) (c.in-Err-Flawed-Limit.field-0-is ∙ ap refusal.Flawed c.in-Err-Flawed-Limit.field-0-0-is) c.in-Err-Flawed-Limit.ensures in
-    let here = subst (λ (ws : List Word). Answers (Err (refusal.Flawed flaw.Limit)) ws) (ap (map seen_word) c.deref-2.ensures.value ∙ words) flawed in
+    let flawed = subst (λ (r : Refusal). Answers c.args.reading.now.version (Err r) (map seen_word c.deref-2.result.now)) (c.in-Err-Flawed-Limit.field-0-is ∙ ap refusal.Flawed c.in-Err-Flawed-Limit.field-0-0-is) c.in-Err-Flawed-Limit.ensures in
+    let here = subst (λ (ws : List Word). Answers c.args.reading.now.version (Err (refusal.Flawed flaw.Limit)) ws) (ap (map seen_word) c.deref-2.ensures.value ∙ words) flawed in
     inr (rw (c.new-in-Err-Flawed-Limit.ensures.no, c.new-in-Err-Flawed-Limit.ensures.line) (limit_fault c.args.number c.limit_line.result (seen_reading c.args.reading.now) c.args.line.now (seen_word c.in-Some.word.now) (map seen_word first.0) c.in-Some-expected_of.expected
     (subst (λ (ws : List Word). IsLine ws c.args.line.now) words (rw c.if-not-read.false at all)) c.in-Some-expected_of.ensures.0 c.in-Some-expected_of.ensures.1 here.0 here.1 c.limit_line.ensures))

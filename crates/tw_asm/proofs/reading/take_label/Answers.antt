@@ -7,4 +7,4 @@ use Rattle.tw_asm.proofs.reading.take_label.Goals as goal
 pub returns-in_err-with_label : goal.returns-in_err-with_label
 returns-in_err-with_label c = λ m.
     let p = err_from_is_err_and c.from_residual.result c.from_residual.ensures.1 in
-    rw (p.1, p.2, c.in-InBody.is) (label_stopped (map seen_section c.args.reading.sections.items) c.args.reading.head_line c.args.number (seen_section c.in-InBody.section) c.args.name.now c.in_err-with_label.field-0.0 c.in_err-with_label.ensures)
+    rw (p.1, p.2, c.in-InBody.is) (label_stopped c.args.reading.version (map seen_section c.args.reading.sections.items) c.args.reading.head_line c.args.number (seen_section c.in-InBody.section) c.args.name.now c.in_err-with_label.field-0.0 c.in_err-with_label.ensures)

@@ -1,0 +1,139 @@
+-- What a version has, and what is of it within the limits.
+use Rattle.std.proofs.Common.{◌≡◌, ℕ, zero, suc, ◌≤◌, true, List, [], ◌∷◌, refl, arith}
+use Rattle.std.specs.List.{AllByRecursion}
+use Rattle.tw_code.specs.declared.instr.DataInstr.{DataInstr}
+use Rattle.tw_code.specs.declared.instr.DataInstr.TheVariants as on_data
+use Rattle.tw_code.specs.declared.instr.Instr.{Instr}
+use Rattle.tw_code.specs.declared.instr.Instr.TheVariants as instr
+use Rattle.tw_code.specs.declared.instr.Priority.{Priority}
+use Rattle.tw_code.specs.declared.instr.Priority.TheVariants.{Constant, Computed}
+use Rattle.tw_code.specs.declared.instr.Action.{Action}
+use Rattle.tw_code.specs.declared.version.Version.{Version}
+use Rattle.tw_code.specs.declared.version.Version.TheVariants.{One, Two}
+use Rattle.tw_code.specs.format.Program.{IsActionOf, IsAction, IsDataInstr, IsDataInstrOf, IsInstr, IsInstrOf, IsParam, IsParamOf, IsPriorityOf, IsSubscriptOf, IsTypeUnderOf, IsWithin}
+use Rattle.tw_types.specs.DataType.{depth_of, is_scalar}
+use Rattle.tw_types.specs.Nesting.{NestedScalar}
+use Rattle.tw_types.specs.declared.data_type.Scalar.{Scalar}
+use Rattle.tw_types.specs.declared.data_type.Scalar.TheVariants.{Int, Text}
+use Rattle.tw_types.specs.declared.param.Mode.{Mode}
+use Rattle.tw_types.specs.declared.param.Mode.TheVariants.{Val, Closed, Ref, Write}
+use Rattle.tw_types.specs.declared.param.Param.{Param}
+use Rattle.tw_asm.specs.Statement.{HasDataInstr, HasInstr, HasParam, HasPriority, HasType, IsTypeOfMode, version_by, version_number}
+
+-- ---- numbers
+
+pub number_back : (version : Version) → version_by (version_number version) ≡ version
+number_back One = refl
+number_back Two = refl
+
+pub by_number : (n : ℕ) → IsWithin 1 2 n → version_number (version_by n) ≡ n
+by_number zero h = absurd (omega (arith, h.0))
+by_number (suc zero) h = refl
+by_number (suc (suc zero)) h = refl
+by_number (suc (suc (suc n))) h = absurd (omega (arith, h.1))
+
+pub number_within : (version : Version) → IsWithin 1 2 (version_number version)
+number_within One = (omega arith, omega arith)
+number_within Two = (omega arith, omega arith)
+
+-- ---- version 2 has all types
+
+pub any_type : (containers : List Scalar) → AllByRecursion (IsSubscriptOf Two) containers
+any_type [] = tt
+any_type (Int ∷ inner) = (tt, any_type inner)
+any_type (Text ∷ inner) = (tt, any_type inner)
+
+-- ---- instructions
+
+priority_narrowed : (version : Version) (priority : Priority) → HasPriority version priority → IsPriorityOf Two priority → IsPriorityOf version priority
+priority_narrowed version (Constant n) has h = h
+priority_narrowed One (Computed register) has h = absurd has
+priority_narrowed Two (Computed register) has h = h
+
+action_narrowed : (version : Version) (action : Action) → HasPriority version action.priority → IsAction action → IsActionOf version action
+action_narrowed version action has h = record { procedure = h.procedure; priority = priority_narrowed version action.priority has h.priority; target = h.target; args = h.args }
+
+data_narrowed : (version : Version) (i : DataInstr) → HasDataInstr version i → IsDataInstr i → IsDataInstrOf version i
+data_narrowed version (on_data.New write read ty) has h = (h.0, h.1, (h.2.0, has))
+data_narrowed version (on_data.Insert by container subscript member skip) has h = (has, h.1, h.2, h.3, h.4)
+data_narrowed version (on_data.Look by member container subscript skip) has h = (has, h.1, h.2, h.3, h.4)
+data_narrowed version (on_data.SubscriptAt by to container index skip) has h = (has, h.1, h.2, h.3, h.4)
+data_narrowed version i has h = h
+
+pub narrowed : (version : Version) (i : Instr) → HasInstr version i → IsInstr i → IsInstrOf version i
+narrowed version (instr.Local i) has h = h
+narrowed version (instr.Data i) has h = data_narrowed version i has h
+narrowed version (instr.Rule action) has h = action_narrowed version action has h
+narrowed version (instr.Put action) has h = action_narrowed version action has h
+narrowed version instr.Ret has h = tt
+
+had_priority : (version : Version) (priority : Priority) → IsPriorityOf version priority → HasPriority version priority
+had_priority version (Constant n) h = tt
+had_priority One (Computed register) h = h
+had_priority Two (Computed register) h = tt
+
+had_data : (version : Version) (i : DataInstr) → IsDataInstrOf version i → HasDataInstr version i
+had_data version (on_data.New write read ty) h = h.2.1
+had_data version (on_data.Insert by container subscript member skip) h = h.0
+had_data version (on_data.Look by member container subscript skip) h = h.0
+had_data version (on_data.SubscriptAt by to container index skip) h = h.0
+had_data version i h = tt
+
+-- what is of a version, it has
+pub had : (version : Version) (i : Instr) → IsInstrOf version i → HasInstr version i
+had version (instr.Local i) h = tt
+had version (instr.Data i) h = had_data version i h
+had version (instr.Rule action) h = had_priority version action.priority h.priority
+had version (instr.Put action) h = had_priority version action.priority h.priority
+had version instr.Ret h = tt
+
+-- ---- parameters
+
+type_narrowed : (version : Version) (mode : Mode) (ty : NestedScalar) → HasType version ty → IsTypeUnderOf Two mode ty → IsTypeUnderOf version mode ty
+type_narrowed version Val ty has h = h
+type_narrowed version Closed ty has h = (h.0, has)
+type_narrowed version Ref ty has h = (h.0, has)
+type_narrowed version Write ty has h = (h.0, has)
+
+pub params_narrowed : (version : Version) (params : List Param) → AllByRecursion (HasParam version) params → AllByRecursion IsParam params → AllByRecursion (IsParamOf version) params
+params_narrowed version [] has h = tt
+params_narrowed version (param ∷ params) has h = (type_narrowed version param.mode param.ty has.0.1 h.0, params_narrowed version params has.1 h.1)
+
+no_container : (version : Version) (containers : List Scalar) (scalar : Scalar) → is_scalar (record { containers = containers; scalar = scalar }) ≡ true → AllByRecursion (IsSubscriptOf version) containers
+no_container version [] scalar e = tt
+no_container version (by ∷ inner) scalar e = absurd cc
+
+had_param : (version : Version) (mode : Mode) (ty : NestedScalar) → IsTypeUnderOf version mode ty → IsTypeOfMode mode (is_scalar ty) × HasType version ty
+had_param version Val ty h = (h, no_container version ty.containers ty.scalar h)
+had_param version Closed ty h = (tt, h.1)
+had_param version Ref ty h = (tt, h.1)
+had_param version Write ty h = (tt, h.1)
+
+pub had_params : (version : Version) (params : List Param) → AllByRecursion (IsParamOf version) params → AllByRecursion (HasParam version) params
+had_params version [] h = tt
+had_params version (param ∷ params) h = (had_param version param.mode param.ty h.0, had_params version params h.1)
+
+-- ---- of version 2
+
+type_widened : (version : Version) (mode : Mode) (ty : NestedScalar) → IsTypeUnderOf version mode ty → IsTypeUnderOf Two mode ty
+type_widened version Val ty h = h
+type_widened version Closed ty h = (h.0, any_type ty.containers)
+type_widened version Ref ty h = (h.0, any_type ty.containers)
+type_widened version Write ty h = (h.0, any_type ty.containers)
+
+pub params_widened : (version : Version) (params : List Param) → AllByRecursion (IsParamOf version) params → AllByRecursion IsParam params
+params_widened version [] h = tt
+params_widened version (param ∷ params) h = (type_widened version param.mode param.ty h.0, params_widened version params h.1)
+
+-- ---- depths
+
+-- a type that may stand under a mode is no deeper than others
+pub under_shallow : (mode : Mode) (ty : NestedScalar) → IsTypeUnderOf Two mode ty → depth_of ty ≤ 3
+under_shallow Val ty h = flat ty.containers ty.scalar h
+  where
+    flat : (containers : List Scalar) (scalar : Scalar) → is_scalar (record { containers = containers; scalar = scalar }) ≡ true → depth_of (record { containers = containers; scalar = scalar }) ≤ 3
+    flat [] scalar e = omega arith
+    flat (by ∷ inner) scalar e = absurd cc
+under_shallow Closed ty h = h.0
+under_shallow Ref ty h = h.0
+under_shallow Write ty h = h.0

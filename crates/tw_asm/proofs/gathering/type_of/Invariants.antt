@@ -1,0 +1,7 @@
+use Rattle.std.proofs.Common.{◌≡◌, drop, map}
+use Rattle.tw_words.specs.Seen.{seen}
+use Rattle.tw_asm.specs.reading.Lines.{type_from}
+use Rattle.tw_asm.proofs.gathering.type_of.Given as goal
+
+abbrev pub invariant-loop-index : goal.invariant-loop-index
+invariant-loop-index l = l.ty ≡ type_from l.version (map seen (drop l.index l.words))
