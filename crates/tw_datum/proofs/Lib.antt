@@ -4,4 +4,5 @@ pub mod Sides
 pub mod Turns
 pub mod Entries
 pub mod Mapped
+pub mod Subscripts
 pub mod Members

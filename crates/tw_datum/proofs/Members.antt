@@ -1,46 +1,63 @@
 -- The members of a container, where there are some and where there are none, and going through them.
-use Rattle.std.proofs.Common.{◌≡◌, ◌≢◌, nat_eq, false, ℕ, zero, suc, ℤ, List, [], ◌∷◌, Some, None, IfSome, refl, sym, ap, ◌∙◌, map as each, length, slice_get, pos, negsuc, arith, ◌+◌, ◌≤◌, fold, drop, inl, inr, OnOk}
+use Rattle.std.proofs.Common.{◌≡◌, Bool, true, false, subst, OnErr, ℕ, zero, suc, ℤ, List, [], ◌∷◌, Some, None, IfSome, refl, sym, ap, ◌∙◌, map as each, length, slice_get, pos, negsuc, arith, ◌+◌, ◌≤◌, fold, drop, inl, inr, OnOk}
 use Rattle.std.specs.declared.option.Option.{Option}
 use Rattle.std.specs.declared.result.Result.{Result}
 use Rattle.std.specs.declared.result.Result.TheVariants.{Ok, Err}
-use Rattle.std.specs.Ordering.{int_cmp}
-use Rattle.std.specs.Cmp.{int_cmp_total}
+use Rattle.tw_types.specs.ValueOrder.{Subscript, value_cmp}
+use Rattle.tw_types.proofs.ValueOrder.{value_cmp_total, value_cmp-IsAntisymmetric}
 use Rattle.std.specs.FinMap as map
-use Rattle.std.specs.FinMap.{int_cmp-IsAntisymmetric, entries, len-entries, len-empty}
+use Rattle.std.specs.FinMap.{entries, len-entries, len-empty}
 use Rattle.std.specs.Map.{keys_of}
 use Rattle.std.proofs.lemmas.List.{length-map, drop_all}
-use Rattle.std.proofs.lemmas.Bool.Decides.{eqb_tells}
+use Rattle.tw_types.specs.DataType.{is_container_by, is_scalar}
 use Rattle.tw_types.specs.Nesting.{NestedScalar}
 use Rattle.tw_types.specs.Store.{Contains, empty_content}
 use Rattle.tw_types.specs.StoreCalls.{subscript_after}
+use Rattle.tw_types.specs.TypedStore.{AreSubscriptsFor}
+use Rattle.tw_types.specs.Value.{scalar_of}
+use Rattle.tw_types.proofs.Subscripts.{no_kinds, one_more_kind}
 use Rattle.tw_types.proofs.Totals.{IsEntry, get_entry}
-use Rattle.tw_datum.specs.Kept.{KeptMembers, ids_of}
+use Rattle.tw_datum.specs.Kept.{FitsType, KeptMembers, ids_of}
 use Rattle.tw_datum.proofs.Mapped.{insert_mapped}
 
-pub insert_ids : {M : Type 0} (id : M → ℕ) (m : KeptMembers M) (k : ℤ) (x : M) → ids_of id (map.insert m k x) ≡ map.insert (ids_of id m) k (id x)
-insert_ids id = insert_mapped int_cmp id int_cmp_total int_cmp-IsAntisymmetric
+pub insert_ids : {M : Type 0} (id : M → ℕ) (m : KeptMembers M) (k : Subscript) (x : M) → ids_of id (map.insert m k x) ≡ map.insert (ids_of id m) k (id x)
+insert_ids id = insert_mapped value_cmp id value_cmp_total value_cmp-IsAntisymmetric
 
 pub on_ok : {A E : Type 0} (r : Result A E) {P Q : Type 0} → OnOk r P → (P → Q) → OnOk r Q
 on_ok (Ok x) h f = f h
 on_ok (Err why) h f = tt
 
 -- what is in a container at first
-pub container_empty : (ty : NestedScalar) → ty.depth ≢ 0 → empty_content ty ≡ Contains map.empty
-container_empty ty h = elim (eqb_tells ty.depth 0) as (λ _. empty_content ty ≡ Contains map.empty) [ inl p ↦ absurd (h p.1) | inr p ↦ let z : nat_eq ty.depth 0 ≡ false = p.0 in rw z refl ]
+pub container_empty : (ty : NestedScalar) → is_scalar ty ≡ false → empty_content ty ≡ Contains map.empty
+container_empty ty h = rw h refl
+
+-- what is in a datum at first is of its type
+pub empty_fits : (ty : NestedScalar) → FitsType ty (empty_content ty)
+empty_fits ty = by (is_scalar ty) refl
+  where
+    by : (b : Bool) → is_scalar ty ≡ b → FitsType ty (empty_content ty)
+    by true e = rw e (refl, no_kinds ty)
+    by false e = rw e (refl, no_kinds ty)
+
+-- subscripts are still of the container's type, where a member came or was refused
+pub still_kinds : {M A E : Type 0} (id : M → ℕ) (r : Result A E) (ty : NestedScalar) (before after : KeptMembers M) (subscript : Subscript) (member : M) → AreSubscriptsFor ty (ids_of id before) → is_container_by (scalar_of subscript) ty ≡ true
+    → OnOk r (after ≡ map.insert before subscript member) → OnErr r (after ≡ before) → AreSubscriptsFor ty (ids_of id after)
+still_kinds id (Ok x) ty before after subscript member kinds kind added refused = subst (AreSubscriptsFor ty) (sym (ap (ids_of id) added ∙ insert_ids id before subscript member)) (one_more_kind ty (ids_of id before) subscript (id member) kinds kind)
+still_kinds {M} id (Err why) ty before after subscript member kinds kind added refused = subst (λ (m : KeptMembers M). AreSubscriptsFor ty (ids_of id m)) (sym refused) kinds
 
 -- ---- where there are none
 
-nothing_in : (es : List (ℤ × ℕ)) → length es ≡ 0 → es ≡ []
+nothing_in : (es : List (Subscript × ℕ)) → length es ≡ 0 → es ≡ []
 nothing_in [] e = refl
 nothing_in (x ∷ es) e = absurd (omega arith)
 
-pub no_members : map.len (map.empty {X = ℕ} {R = int_cmp}) ≡ 0
-no_members = len-empty int_cmp ℕ
+pub no_members : map.len (map.empty {X = ℕ} {R = value_cmp}) ≡ 0
+no_members = len-empty value_cmp ℕ
 
-pub no_entries : entries (map.empty {X = ℕ} {R = int_cmp}) ≡ []
-no_entries = nothing_in _ (sym (len-entries (map.empty {X = ℕ} {R = int_cmp})) ∙ no_members)
+pub no_entries : entries (map.empty {X = ℕ} {R = value_cmp}) ≡ []
+no_entries = nothing_in _ (sym (len-entries (map.empty {X = ℕ} {R = value_cmp})) ∙ no_members)
 
-pub none_after : (k : ℤ) → None ≡ subscript_after k (map.keys (map.empty {X = ℕ} {R = int_cmp}))
+pub none_after : (k : ℤ) → None ≡ subscript_after k (map.keys (map.empty {X = ℕ} {R = value_cmp}))
 none_after k = at k ∙ ap (λ es. subscript_after k (keys_of es)) (sym no_entries)
   where
     at : (k : ℤ) → None ≡ subscript_after k []
@@ -50,35 +67,35 @@ none_after k = at k ∙ ap (λ es. subscript_after k (keys_of es)) (sym no_entri
 -- ---- going through them
 
 module _ {M : Type 0} where
-  same_entry : (x y : ℤ × M) → Some x ≡ Some y → x ≡ y
+  same_entry : (x y : Subscript × M) → Some x ≡ Some y → x ≡ y
   same_entry x y e = cc
 
-  no_entry : (x : ℤ × M) → None ≡ Some x → ⊥
+  no_entry : (x : Subscript × M) → None ≡ Some x → ⊥
   no_entry x e = cc
 
   module _ (id : M → ℕ) {A : Type 0} (f : A → ℕ → A) where
-    fold_from : (m : A) (es : List (ℤ × M)) (i : ℕ) (e : ℤ × M) → slice_get es i ≡ Some e → fold f m (drop i (each id (each (λ x. x.1) es))) ≡ fold f (f m (id e.1)) (drop (i + 1) (each id (each (λ x. x.1) es)))
+    fold_from : (m : A) (es : List (Subscript × M)) (i : ℕ) (e : Subscript × M) → slice_get es i ≡ Some e → fold f m (drop i (each id (each (λ x. x.1) es))) ≡ fold f (f m (id e.1)) (drop (i + 1) (each id (each (λ x. x.1) es)))
     fold_from m [] i e h = absurd (no_entry e h)
-    fold_from m (x ∷ es) zero e h = ap (λ (y : ℤ × M). fold f (f m (id y.1)) (each id (each (λ z. z.1) es))) (same_entry x e h)
+    fold_from m (x ∷ es) zero e h = ap (λ (y : Subscript × M). fold f (f m (id y.1)) (each id (each (λ z. z.1) es))) (same_entry x e h)
     fold_from m (x ∷ es) (suc i) e h = let next : suc i + 1 ≡ suc (i + 1) = omega arith in rw next (fold_from m es i e h)
 
-    pub fold_next : (m : A) (ms : KeptMembers M) (i : ℕ) (e : ℤ × M) → slice_get (entries ms) i ≡ Some e → fold f m (drop i (each id (map.values ms))) ≡ fold f (f m (id e.1)) (drop (i + 1) (each id (map.values ms)))
+    pub fold_next : (m : A) (ms : KeptMembers M) (i : ℕ) (e : Subscript × M) → slice_get (entries ms) i ≡ Some e → fold f m (drop i (each id (map.values ms))) ≡ fold f (f m (id e.1)) (drop (i + 1) (each id (map.values ms)))
     fold_next m ms i e h = fold_from m (entries ms) i e h
 
     pub fold_end : (m : A) (ms : KeptMembers M) (i : ℕ) → length (entries ms) ≤ i → fold f m (drop i (each id (map.values ms))) ≡ m
     fold_end m ms i past =
-        let all : length (each id (map.values ms)) ≤ i = omega (arith, past, length-map (map.values ms) id, length-map (entries ms) (λ (e : ℤ × M). e.1)) in
+        let all : length (each id (map.values ms)) ≤ i = omega (arith, past, length-map (map.values ms) id, length-map (entries ms) (λ (e : Subscript × M). e.1)) in
         ap (fold f m) (drop_all i (each id (map.values ms)) all)
 
-  is_entry : (es : List (ℤ × M)) (i : ℕ) (e : ℤ × M) → slice_get es i ≡ Some e → IsEntry e es
+  is_entry : (es : List (Subscript × M)) (i : ℕ) (e : Subscript × M) → slice_get es i ≡ Some e → IsEntry e es
   is_entry [] i e h = absurd (no_entry e h)
   is_entry (x ∷ es) zero e h = inl (sym (same_entry x e h))
   is_entry (x ∷ es) (suc i) e h = inr (is_entry es i e h)
 
   -- each entry is what the map has at its subscript
-  pub nth_get : (ms : KeptMembers M) (i : ℕ) (e : ℤ × M) → slice_get (entries ms) i ≡ Some e → map.get ms e.0 ≡ Some e.1
-  nth_get ms i e h = get_entry int_cmp int_cmp_total ms e (is_entry (entries ms) i e h)
+  pub nth_get : (ms : KeptMembers M) (i : ℕ) (e : Subscript × M) → slice_get (entries ms) i ≡ Some e → map.get ms e.0 ≡ Some e.1
+  nth_get ms i e h = get_entry value_cmp value_cmp_total ms e (is_entry (entries ms) i e h)
 
-  pub nth_there : (ms : KeptMembers M) (i : ℕ) (r : Option (ℤ × M)) → r ≡ slice_get (entries ms) i → IfSome r (λ e. map.get ms e.0 ≡ Some e.1)
+  pub nth_there : (ms : KeptMembers M) (i : ℕ) (r : Option (Subscript × M)) → r ≡ slice_get (entries ms) i → IfSome r (λ e. map.get ms e.0 ≡ Some e.1)
   nth_there ms i None h = tt
   nth_there ms i (Some e) h = nth_get ms i e (sym h)

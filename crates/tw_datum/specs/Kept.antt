@@ -1,13 +1,16 @@
 -- A datum as it is kept: a member may say more than its id, such as the place of its datum.
 use Rattle.std.specs.Prelude.{◌≡◌, ℕ, ℤ, Bool, true, false, not, List, [], map as each, Option, Some, None, option_map}
 use Rattle.std.specs.declared.cmp.Ordering.{Ordering}
-use Rattle.std.specs.Ordering.{int_cmp}
+use Rattle.std.specs.Borrow.{Bor}
 use Rattle.std.specs.FinMap as map
 use Rattle.std.specs.FinMap.{FinMap}
 use Rattle.tw_types.specs.Nesting.{NestedScalar}
 use Rattle.tw_types.specs.DataType.{is_scalar}
 use Rattle.tw_types.specs.Store.{Content as Meaning, Unset, Set, Contains, Members, Datum, new_datum}
 use Rattle.tw_types.specs.StoreCalls.{members_in, with_member}
+use Rattle.tw_types.specs.TypedStore.{AreSubscriptsFor}
+use Rattle.tw_types.specs.ValueOrder.{Subscript, value_cmp}
+use Rattle.tw_types.specs.declared.value.Value.TheVariants as value
 use Rattle.tw_datum.specs.declared.datum.Content.{Content}
 use Rattle.tw_datum.specs.declared.datum.Content.TheVariants as content
 
@@ -17,7 +20,7 @@ mapped f m = map.from_sorted (each (λ e. (e.0, f e.1)) (map.entries m))
 
 -- the member at each subscript
 abbrev pub KeptMembers : Type 0 → Type 0
-KeptMembers M = FinMap int_cmp M
+KeptMembers M = FinMap value_cmp M
 
 -- their ids alone
 abbrev pub ids_of : {M : Type 0} → (M → ℕ) → KeptMembers M → Members
@@ -32,11 +35,35 @@ pub record KeptDatum (M : Type 0) : Type 0 where
 abbrev pub datum_if : {M : Type 0} → Option (KeptDatum M) → Option Datum
 datum_if r = option_map (λ d. d.datum) r
 
+-- the id of a member, with its subscript
+abbrev pub bare : {M : Type 0} → (M → ℕ) → Subscript × M → Subscript × ℕ
+bare id e = (e.0, id e.1)
+
+-- the same, where the subscript is lent
+abbrev pub lent : {S : Type 0} → Bor S × ℕ → S × ℕ
+lent e = (e.0.now, e.1)
+
+-- the same, if the subscript is an integer
+abbrev pub by_int : Subscript × ℕ → Option (ℤ × ℕ)
+by_int e = of_subscript e.0
+  where
+    of_subscript : Subscript → Option (ℤ × ℕ)
+    of_subscript (value.Int n) = Some (n, e.1)
+    of_subscript (value.Text _) = None
+
+-- the same, if it is a text
+abbrev pub by_text : Subscript × ℕ → Option (List ℕ × ℕ)
+by_text e = of_subscript e.0
+  where
+    of_subscript : Subscript → Option (List ℕ × ℕ)
+    of_subscript (value.Int _) = None
+    of_subscript (value.Text text) = Some (text, e.1)
+
 -- with no members
 abbrev pub new_kept : {M : Type 0} → NestedScalar → KeptDatum M
 new_kept ty = record { datum = new_datum ty; members = map.empty }
 
-abbrev pub with_kept_member : {M : Type 0} → (M → ℕ) → ℤ → M → KeptDatum M → KeptDatum M
+abbrev pub with_kept_member : {M : Type 0} → (M → ℕ) → Subscript → M → KeptDatum M → KeptDatum M
 with_kept_member id subscript member d = record { datum = with_member subscript (id member) d.datum; members = map.insert d.members subscript member }
 
 -- it has one read, and nobody will write it
@@ -60,9 +87,9 @@ is_container Unset = false
 is_container (Set _) = false
 is_container (Contains _) = true
 
--- only a container has members
+-- only a container has members, and their subscripts are of the type that it says
 abbrev pub FitsType : NestedScalar → Meaning → Type 0
-FitsType ty content = is_container content ≡ not (is_scalar ty)
+FitsType ty content = (is_container content ≡ not (is_scalar ty)) × AreSubscriptsFor ty (members_in content)
 
 -- the members of a datum, if it is a container
 abbrev pub AreMembers : {M : Type 0} → (M → ℕ) → KeptDatum M → Option (KeptMembers M) → Type 0

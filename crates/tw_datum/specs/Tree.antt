@@ -1,10 +1,11 @@
 -- What a node of the search tree is seen as, and when it is balanced.
-use Rattle.std.specs.Prelude.{◌≡◌, ℕ, ℤ, ◌+◌, ◌*◌, ◌≤◌, List, [], ◌∷◌, ◌++◌, length}
+use Rattle.std.specs.Prelude.{◌≡◌, ℕ, ◌+◌, ◌*◌, ◌≤◌, List, [], ◌∷◌, ◌++◌, length}
 use Rattle.tw_datum.specs.declared.tree.Node.{Node}
+use Rattle.tw_types.specs.declared.value.Value.{Value}
 use Rattle.tw_datum.specs.declared.tree.Node.TheVariants.{Leaf, Fork}
 
 -- the entries in order
-abbrev pub seen : {V : Type 0} → Node V → List (ℤ × V)
+abbrev pub seen : {V : Type 0} → Node V → List (Value × V)
 seen Leaf = []
 seen (Fork before own len after) = before.value ++ own ∷ after.value
 

@@ -6,11 +6,11 @@ ghost use Rattle.tw_types.specs.Result.{must};
 ghost use Rattle.tw_types.specs.Value.{is_of};
 ghost use Rattle.tw_types.specs.DataType.{is_element_of};
 ghost use Rattle.tw_datum.specs.Kept.{datum_if};
-ghost use Rattle.tw_types.specs.StoreChecks.{may_store, may_retrieve, may_insert, may_read_members, may_be_read, may_copy_write, may_drop_read, may_drop_write};
+ghost use Rattle.tw_types.specs.StoreChecks.{may_store, may_retrieve, may_insert, may_read_members, may_read_members_by, may_be_read, may_copy_write, may_drop_read, may_drop_write};
 
 use crate::datum::Datum;
 use crate::member::Member;
-use tw_types::{Cause, DataType, Value};
+use tw_types::{Cause, DataType, Scalar, Value};
 
 fn must(holds: bool, cause: Cause) -> Result<(), Cause>
     ensures { result ≡ must holds cause }
@@ -22,14 +22,14 @@ fn must(holds: bool, cause: Cause) -> Result<(), Cause>
 fn is_of(value: &Value, ty: DataType) -> bool
     ensures { result ≡ is_of value.now ty }
 {
-    ty.depth() == 0 && value.scalar() == ty.scalar()
+    ty.is_scalar() && value.scalar() == ty.scalar()
 }
 
 /// Whether the first is the type of the members of the second.
 fn is_element_of(element: DataType, ty: DataType) -> bool
     ensures { result ≡ is_element_of element ty }
 {
-    element.depth() + 1 == ty.depth() && element.scalar() == ty.scalar()
+    ty.element() == Some(element)
 }
 
 pub fn may_store<M: Member>(datum: Option<&Datum<M>>, value: &Value) -> Result<(), Cause>
@@ -45,19 +45,23 @@ pub fn may_retrieve<M: Member>(datum: Option<&Datum<M>>) -> Result<(), Cause>
     ensures { result ≡ may_retrieve (datum_if (option_copied datum.entry)) }
 {
     let datum = datum.ok_or(Cause::FreedDatum)?;
-    must(datum.ty().depth() == 0, Cause::WrongType)?;
+    must(datum.ty().is_scalar(), Cause::WrongType)?;
     must(datum.value().is_some(), Cause::UnsetDatum)
 }
 
 pub fn may_insert<M: Member>(
+    by: Scalar,
     container: Option<&Datum<M>>,
     member: Option<&Datum<M>>,
 ) -> Result<(), Cause>
-    ensures { result ≡ may_insert (datum_if (option_copied container.entry)) (datum_if (option_copied member.entry)) }
+    ensures { result ≡ may_insert by (datum_if (option_copied container.entry)) (datum_if (option_copied member.entry)) }
 {
     let container = container.ok_or(Cause::FreedDatum)?;
     let member = member.ok_or(Cause::FreedDatum)?;
-    must(is_element_of(member.ty(), container.ty()), Cause::WrongType)?;
+    must(
+        container.ty().is_container_by(by) && is_element_of(member.ty(), container.ty()),
+        Cause::WrongType,
+    )?;
     must(!container.closed(), Cause::ClosedContainer)
 }
 
@@ -65,7 +69,16 @@ pub fn may_read_members<M: Member>(datum: Option<&Datum<M>>) -> Result<(), Cause
     ensures { result ≡ may_read_members (datum_if (option_copied datum.entry)) }
 {
     let datum = datum.ok_or(Cause::FreedDatum)?;
-    must(datum.ty().depth() != 0, Cause::WrongType)?;
+    must(!datum.ty().is_scalar(), Cause::WrongType)?;
+    must(datum.closed(), Cause::OpenContainer)
+}
+
+/// Whether the members may be read, by subscripts of this type.
+pub fn may_read_members_by<M: Member>(by: Scalar, datum: Option<&Datum<M>>) -> Result<(), Cause>
+    ensures { result ≡ may_read_members_by by (datum_if (option_copied datum.entry)) }
+{
+    let datum = datum.ok_or(Cause::FreedDatum)?;
+    must(datum.ty().is_container_by(by), Cause::WrongType)?;
     must(datum.closed(), Cause::OpenContainer)
 }
 
@@ -80,7 +93,7 @@ pub fn may_copy_write<M: Member>(datum: Option<&Datum<M>>) -> Result<(), Cause>
     ensures { result ≡ may_copy_write (datum_if (option_copied datum.entry)) }
 {
     let datum = datum.ok_or(Cause::FreedDatum)?;
-    must(datum.ty().depth() != 0, Cause::WrongType)
+    must(!datum.ty().is_scalar(), Cause::WrongType)
 }
 
 pub fn may_drop_read<M: Member>(datum: Option<&Datum<M>>) -> Result<(), Cause>
@@ -94,6 +107,6 @@ pub fn may_drop_write<M: Member>(datum: Option<&Datum<M>>) -> Result<(), Cause>
     ensures { result ≡ may_drop_write (datum_if (option_copied datum.entry)) }
 {
     let datum = datum.ok_or(Cause::FreedDatum)?;
-    must(datum.ty().depth() != 0, Cause::WrongType)?;
+    must(!datum.ty().is_scalar(), Cause::WrongType)?;
     must(datum.writes() != 0, Cause::NoWriteCount)
 }

@@ -2,19 +2,22 @@
 
 ghost use Rattle.std.specs.Prelude.{◌≡◌, ◌-◌, ◌<◌, ◌^◌, IfSome, OnOk, OnErr, Some, slice_get, true, false, if◌then◌else◌, [], option_map};
 ghost use Rattle.std.specs.FinMap as map;
-ghost use Rattle.std.specs.Option.{option_copied};
+ghost use Rattle.std.specs.Option.{option_and_then, option_copied};
 ghost use Rattle.tw_types.specs.Store.{empty_content, is_closed, is_unheld, members_of, subscribers_cleared};
-ghost use Rattle.tw_types.specs.DataType.{is_scalar};
+ghost use Rattle.tw_types.specs.DataType.{is_container_by, is_scalar};
 ghost use Rattle.tw_types.specs.StoreCalls.{value_in, members_in, set_to, one_read_more, one_write_more, one_write_less, with_subscriber, subscript_after};
 ghost use Rattle.tw_types.specs.StoreChecks.{is_unset};
-ghost use Rattle.tw_datum.specs.Kept.{AreMembers, FitsType, closed_datum, content_of, ids_if, members_kept, new_kept, with_kept_member};
+ghost use Rattle.tw_types.specs.TypedStore.{AreSubscriptsFor};
+ghost use Rattle.tw_types.specs.Value.{scalar_of};
+ghost use Rattle.tw_types.specs.ValueOrder.{named};
+ghost use Rattle.tw_datum.specs.Kept.{AreMembers, FitsType, bare, by_int, by_text, closed_datum, content_of, ids_if, lent, members_kept, new_kept, with_kept_member};
 
 use crate::member::Member;
 use crate::ranked_map::RankedMap;
 use smallvec::SmallVec;
 use std::alloc::{AllocError, Global};
 use std::marker::Model;
-use tw_types::{DataType, DatumId, Subscriber, Value};
+use tw_types::{DataType, DatumId, Subscriber, Value, ValueRef};
 
 /// What is in a datum.
 #[derive(Drop)]
@@ -40,12 +43,12 @@ pub struct Datum<M: Member> {
 impl<M: Member> Model for Datum<M> {
     ghost use Rattle.tw_datum.specs.Kept.{KeptDatum, content_of, members_kept, FitsType};
     ghost use Rattle.std.specs.FinMap.{code};
-    ghost use Rattle.std.specs.Ordering.{int_cmp};
-    ghost use Rattle.std.specs.Coded.{codes, coded_ℕ, coded_ℤ};
+    ghost use Rattle.std.specs.Coded.{codes, coded_ℕ};
+    ghost use Rattle.tw_types.specs.ValueOrder.{value_cmp};
 
     ghost Value = { KeptDatum M };
 
-    ghost coded = { Prim.hlevel (codes, code {X = M} {R = int_cmp} coded_ℤ M.code, code {R = int_cmp} coded_ℤ coded_ℕ) };
+    ghost coded = { Prim.hlevel (codes, code {X = M} {R = value_cmp} (Prim.hlevel codes) M.code, code {R = value_cmp} (Prim.hlevel codes) coded_ℕ) };
 
     ghost view = { λ d. record {
       datum = record { ty = d.ty; content = content_of M.id d.content; reads = d.reads; writes = d.writes; subscribers = d.subscribers.items };
@@ -60,7 +63,7 @@ fn empty_content<M: Member>(alloc: Global, ty: DataType) -> Content<M>
     ensures content { content_of M.id result ≡ empty_content ty }
     ensures members { members_kept result ≡ map.empty }
 {
-    if ty.depth() == 0 {
+    if ty.is_scalar() {
         Content::Unset
     } else {
         Content::Contains(RankedMap::new(alloc))
@@ -68,8 +71,8 @@ fn empty_content<M: Member>(alloc: Global, ty: DataType) -> Content<M>
 }
 
 /// The id of a member, with its subscript.
-fn bare<M: Member>(entry: Option<(i64, M)>) -> Option<(i64, DatumId)>
-    ensures { result ≡ option_map (λ e. (e.0, M.id e.1)) entry }
+fn lent<M: Member>(entry: Option<&(Value, M)>) -> Option<(&Value, DatumId)>
+    ensures { option_map lent result ≡ option_map (bare M.id) (option_copied entry.entry) }
 {
     match entry {
         Some((subscript, member)) => Some((subscript, member.id())),
@@ -153,20 +156,40 @@ impl<M: Member> Datum<M> {
         }
     }
 
-    /// The member with so many smaller subscripts, with its own subscript.
+    /// The member with so many smaller subscripts, by its subscript, an integer. A container by texts has none.
     pub fn member(&self, index: usize) -> Option<(i64, DatumId)>
-        ensures { result ≡ slice_get (map.entries (members_in self.now.datum.content)) index }
+        ensures { result ≡ option_and_then by_int (slice_get (map.entries (members_in self.now.datum.content)) index) }
+    {
+        match self.entry(index) {
+            Some((Value::Int(subscript), id)) => Some((*subscript, id)),
+            Some((Value::Text(_), _)) | None => None,
+        }
+    }
+
+    /// The same of a container by texts.
+    pub fn text_member(&self, index: usize) -> Option<(&str, DatumId)>
+        ensures { option_map lent result ≡ option_and_then by_text (slice_get (map.entries (members_in self.now.datum.content)) index) }
+    {
+        match self.entry(index) {
+            Some((Value::Text(subscript), id)) => Some((subscript.as_str(), id)),
+            Some((Value::Int(_), _)) | None => None,
+        }
+    }
+
+    /// The member with so many smaller subscripts, by its subscript, whatever that is.
+    pub fn entry(&self, index: usize) -> Option<(&Value, DatumId)>
+        ensures { option_map lent result ≡ slice_get (map.entries (members_in self.now.datum.content)) index }
     {
         match self.members() {
-            Some(members) => bare(members.nth(index)),
+            Some(members) => lent(members.nth(index)),
             None => None,
         }
     }
 
     /// The same member, as it is kept.
-    pub fn nth_kept(&self, index: usize) -> Option<(i64, M)>
-        ensures member { option_map (λ e. (e.0, M.id e.1)) result ≡ slice_get (map.entries (members_in self.now.datum.content)) index }
-        ensures kept { IfSome result (λ e. map.get self.now.members e.0 ≡ Some e.1) }
+    pub fn nth_kept(&self, index: usize) -> Option<&(Value, M)>
+        ensures member { option_map (bare M.id) (option_copied result) ≡ slice_get (map.entries (members_in self.now.datum.content)) index }
+        ensures kept { IfSome (option_copied result) (λ e. map.get self.now.members e.0 ≡ Some e.1) }
     {
         match self.members() {
             Some(members) => members.nth(index),
@@ -175,20 +198,28 @@ impl<M: Member> Datum<M> {
     }
 
     /// The subscript with exactly so many smaller ones.
-    pub fn subscript(&self, index: i64) -> Option<i64>
-        ensures { result ≡ subscript_after index (map.keys (members_in self.now.datum.content)) }
+    pub fn subscript(&self, index: i64) -> Option<&Value>
+        ensures found { option_copied result ≡ subscript_after index (map.keys (members_in self.now.datum.content)) }
+        ensures kinds { AreSubscriptsFor self.now.datum.ty (members_in self.now.datum.content) }
+    {
+        let _ty = &self.ty;
+        self.nth_subscript(index)
+    }
+
+    fn nth_subscript(&self, index: i64) -> Option<&Value>
+        ensures { option_copied result ≡ subscript_after index (map.keys (members_in self.now.datum.content)) }
     {
         let Ok(index) = usize::try_from(index) else {
             return None;
         };
-        let (subscript, _) = self.member(index)?;
+        let (subscript, _) = self.nth_kept(index)?;
         Some(subscript)
     }
 
     /// The member at a subscript, as it is kept.
-    pub fn kept_member(&self, subscript: i64) -> Option<M>
-        ensures member { option_map M.id result ≡ map.get (members_in self.now.datum.content) subscript }
-        ensures kept { result ≡ map.get self.now.members subscript }
+    pub fn kept_member(&self, subscript: ValueRef<'_>) -> Option<M>
+        ensures member { option_map M.id result ≡ map.get (members_in self.now.datum.content) (named subscript.entry) }
+        ensures kept { result ≡ map.get self.now.members (named subscript.entry) }
     {
         match self.members() {
             Some(members) => members.get(subscript),
@@ -197,8 +228,8 @@ impl<M: Member> Datum<M> {
     }
 
     /// The member at a subscript.
-    pub fn member_at(&self, subscript: i64) -> Option<DatumId>
-        ensures { result ≡ map.get (members_in self.now.datum.content) subscript }
+    pub fn member_at(&self, subscript: ValueRef<'_>) -> Option<DatumId>
+        ensures { result ≡ map.get (members_in self.now.datum.content) (named subscript.entry) }
     {
         match self.kept_member(subscript) {
             Some(member) => Some(member.id()),
@@ -301,8 +332,8 @@ impl<M: Member> Datum<M> {
     }
 
     /// Puts a member into a container.
-    pub fn add_member(&mut self, subscript: i64, member: M) -> Result<(), AllocError>
-        requires { is_scalar self.old.datum.ty ≡ false }
+    pub fn add_member(&mut self, subscript: Value, member: M) -> Result<(), AllocError>
+        requires { is_container_by (scalar_of subscript) self.old.datum.ty ≡ true }
         ensures added { OnOk result (self.new ≡ with_kept_member M.id subscript member self.old) }
         ensures refused { OnErr result (self.new ≡ self.old) }
     {

@@ -4,13 +4,15 @@
 
 ghost use Rattle.std.specs.Prelude.{◌≡◌, ◌+◌, ◌-◌, ◌*◌, ◌^◌, ◌<◌, ◌≤◌, [], ◌∷◌, ◌++◌, length, slice_get, OnOk, OnErr, T};
 ghost use Rattle.std.specs.FinMap.{find, put, is_sorted};
-ghost use Rattle.std.specs.Ordering.{int_cmp};
+ghost use Rattle.std.specs.Option.{option_copied};
+ghost use Rattle.tw_types.specs.ValueOrder.{named, value_cmp};
 ghost use Rattle.tw_datum.specs.Tree.{AreEven, AreNearlyEven};
 
 use std::alloc::{AllocError, Global};
 use std::cmp::Ordering;
 use std::marker::Model;
 use std::mem;
+use tw_types::{Value, ValueRef};
 
 /// Entries, each with a key of its own.
 #[cycle(tree)]
@@ -26,16 +28,17 @@ enum Node<V> {
     /// One entry between those before and after it, with the number of all three.
     Fork {
         before: Box<Tree<V>>,
-        own: (i64, V),
+        own: (Value, V),
         len: usize,
         after: Box<Tree<V>>,
     },
 }
 
 impl<V> Model for Tree<V> {
-    ghost use Rattle.std.specs.Prelude.{List, ℤ, length};
+    ghost use Rattle.std.specs.Prelude.{List, length};
+    ghost use Rattle.tw_types.specs.ValueOrder.{Subscript};
 
-    ghost Value = { List (ℤ × V) };
+    ghost Value = { List (Subscript × V) };
 
     ghost use Rattle.tw_datum.specs.Tree.{seen, IsBalanced};
 
@@ -67,8 +70,8 @@ impl<V: Copy> Tree<V> {
     }
 
     /// The value at a key.
-    pub fn get(&self, key: i64) -> Option<V>
-        ensures { T (is_sorted int_cmp self.now) → result ≡ find int_cmp key self.now }
+    pub fn get(&self, key: ValueRef<'_>) -> Option<V>
+        ensures { T (is_sorted value_cmp self.now) → result ≡ find value_cmp (named key.entry) self.now }
     {
         match &self.node {
             Node::Leaf => None,
@@ -77,7 +80,7 @@ impl<V: Copy> Tree<V> {
                 own,
                 after,
                 ..
-            } => match key.cmp(&own.0) {
+            } => match key.compare(&own.0) {
                 Ordering::Less => before.get(key),
                 Ordering::Equal => Some(own.1),
                 Ordering::Greater => after.get(key),
@@ -86,8 +89,8 @@ impl<V: Copy> Tree<V> {
     }
 
     /// The entry with so many smaller keys.
-    pub fn nth(&self, index: usize) -> Option<(i64, V)>
-        ensures { result ≡ slice_get self.now index }
+    pub fn nth(&self, index: usize) -> Option<&(Value, V)>
+        ensures { option_copied result ≡ slice_get self.now index }
     {
         match &self.node {
             Node::Leaf => None,
@@ -100,7 +103,7 @@ impl<V: Copy> Tree<V> {
                 let place = before.len();
                 match index.cmp(&place) {
                     Ordering::Less => before.nth(index),
-                    Ordering::Equal => Some(*own),
+                    Ordering::Equal => Some(own),
                     Ordering::Greater => after.nth(index - place - 1),
                 }
             }
@@ -108,9 +111,9 @@ impl<V: Copy> Tree<V> {
     }
 
     /// Puts a value at a key.
-    pub fn insert(&mut self, alloc: Global, key: i64, value: V) -> Result<(), AllocError>
+    pub fn insert(&mut self, alloc: Global, key: Value, value: V) -> Result<(), AllocError>
         requires room { length self.old < 2 ^ 64 - 1 }
-        ensures added { OnOk result (T (is_sorted int_cmp self.old) → self.new ≡ put int_cmp key value self.old) }
+        ensures added { OnOk result (T (is_sorted value_cmp self.old) → self.new ≡ put value_cmp key value self.old) }
         ensures refused { OnErr result (self.new ≡ self.old) }
         ensures not_shorter { length self.old ≤ length self.new }
         ensures one_longer_at_most { length self.new ≤ length self.old + 1 }
@@ -119,7 +122,7 @@ impl<V: Copy> Tree<V> {
             return self.fill(alloc, (key, value));
         }
         let (mut before, mut own, mut after) = self.take_apart();
-        match key.cmp(&own.0) {
+        match key.borrowed().compare(&own.0) {
             Ordering::Less => {
                 let done = before.insert(alloc, key, value);
                 self.rebuild(before, own, after);
@@ -139,7 +142,7 @@ impl<V: Copy> Tree<V> {
     }
 
     /// Puts the first entry.
-    fn fill(&mut self, alloc: Global, own: (i64, V)) -> Result<(), AllocError>
+    fn fill(&mut self, alloc: Global, own: (Value, V)) -> Result<(), AllocError>
         requires { length self.old ≡ 0 }
         ensures added { OnOk result (self.new ≡ own ∷ []) }
         ensures refused { OnErr result (self.new ≡ self.old) }
@@ -151,7 +154,7 @@ impl<V: Copy> Tree<V> {
     }
 
     /// Makes it of these, where one side may have one entry too many.
-    fn rebuild(&mut self, before: Box<Tree<V>>, own: (i64, V), after: Box<Tree<V>>)
+    fn rebuild(&mut self, before: Box<Tree<V>>, own: (Value, V), after: Box<Tree<V>>)
         requires room { length before.value + length after.value < 2 ^ 64 - 1 }
         requires near { AreNearlyEven (length before.value) (length after.value) }
         ensures entries { self.new ≡ before.value ++ own ∷ after.value }
@@ -161,7 +164,7 @@ impl<V: Copy> Tree<V> {
     }
 
     /// An entry of this tree, with the trees before and after it.
-    fn take_apart(&mut self) -> (Box<Tree<V>>, (i64, V), Box<Tree<V>>)
+    fn take_apart(&mut self) -> (Box<Tree<V>>, (Value, V), Box<Tree<V>>)
         requires { 0 < length self.old }
         ensures entries { self.old ≡ result.0.value ++ result.1 ∷ result.2.value }
         ensures len { length self.old ≡ length result.0.value + length result.2.value + 1 }
@@ -180,7 +183,7 @@ impl<V: Copy> Tree<V> {
     }
 }
 
-fn fork<V: Copy>(before: Box<Tree<V>>, own: (i64, V), after: Box<Tree<V>>) -> Tree<V>
+fn fork<V: Copy>(before: Box<Tree<V>>, own: (Value, V), after: Box<Tree<V>>) -> Tree<V>
     requires room { length before.value + length after.value < 2 ^ 64 - 1 }
     requires even { AreEven (length before.value) (length after.value) }
     ensures entries { result ≡ before.value ++ own ∷ after.value }
@@ -198,7 +201,7 @@ fn fork<V: Copy>(before: Box<Tree<V>>, own: (i64, V), after: Box<Tree<V>>) -> Tr
 }
 
 /// A tree of these, where one side may have one entry too many.
-fn balanced<V: Copy>(before: Box<Tree<V>>, own: (i64, V), after: Box<Tree<V>>) -> Tree<V>
+fn balanced<V: Copy>(before: Box<Tree<V>>, own: (Value, V), after: Box<Tree<V>>) -> Tree<V>
     requires room { length before.value + length after.value < 2 ^ 64 - 1 }
     requires near { AreNearlyEven (length before.value) (length after.value) }
     ensures entries { result ≡ before.value ++ own ∷ after.value }
@@ -215,7 +218,7 @@ fn balanced<V: Copy>(before: Box<Tree<V>>, own: (i64, V), after: Box<Tree<V>>) -
 }
 
 /// Turns what is too heavy on its left side to the right.
-fn lean_left<V: Copy>(mut before: Box<Tree<V>>, own: (i64, V), after: Box<Tree<V>>) -> Tree<V>
+fn lean_left<V: Copy>(mut before: Box<Tree<V>>, own: (Value, V), after: Box<Tree<V>>) -> Tree<V>
     requires room { length before.value + length after.value < 2 ^ 64 - 1 }
     requires heavy { length before.value ≡ 3 * (length after.value + 1) }
     ensures entries { result ≡ before.value ++ own ∷ after.value }
@@ -227,7 +230,7 @@ fn lean_left<V: Copy>(mut before: Box<Tree<V>>, own: (i64, V), after: Box<Tree<V
 }
 
 /// Takes a tree apart, where the second part may not be much heavier than the first.
-fn leaning_left<V: Copy>(tree: &mut Tree<V>) -> (Box<Tree<V>>, (i64, V), Box<Tree<V>>)
+fn leaning_left<V: Copy>(tree: &mut Tree<V>) -> (Box<Tree<V>>, (Value, V), Box<Tree<V>>)
     requires { (0 < length tree.old) × (length tree.old < 2 ^ 64) }
     ensures entries { tree.old ≡ result.0.value ++ result.1 ∷ result.2.value }
     ensures len { length tree.old ≡ length result.0.value + length result.2.value + 1 }
@@ -244,7 +247,7 @@ fn leaning_left<V: Copy>(tree: &mut Tree<V>) -> (Box<Tree<V>>, (i64, V), Box<Tre
 }
 
 /// Turns what is too heavy on its right side to the left.
-fn lean_right<V: Copy>(before: Box<Tree<V>>, own: (i64, V), mut after: Box<Tree<V>>) -> Tree<V>
+fn lean_right<V: Copy>(before: Box<Tree<V>>, own: (Value, V), mut after: Box<Tree<V>>) -> Tree<V>
     requires room { length before.value + length after.value < 2 ^ 64 - 1 }
     requires heavy { length after.value ≡ 3 * (length before.value + 1) }
     ensures entries { result ≡ before.value ++ own ∷ after.value }
@@ -256,7 +259,7 @@ fn lean_right<V: Copy>(before: Box<Tree<V>>, own: (i64, V), mut after: Box<Tree<
 }
 
 /// Takes a tree apart, where the first part may not be much heavier than the second.
-fn leaning_right<V: Copy>(tree: &mut Tree<V>) -> (Box<Tree<V>>, (i64, V), Box<Tree<V>>)
+fn leaning_right<V: Copy>(tree: &mut Tree<V>) -> (Box<Tree<V>>, (Value, V), Box<Tree<V>>)
     requires { (0 < length tree.old) × (length tree.old < 2 ^ 64) }
     ensures entries { tree.old ≡ result.0.value ++ result.1 ∷ result.2.value }
     ensures len { length tree.old ≡ length result.0.value + length result.2.value + 1 }

@@ -1,9 +1,9 @@
 -- The live data: a `BTreeMap` by ids, seen as a finite map of what its data are.
-use Rattle.std.proofs.Common.{◌≡◌, ℕ, [], Some, None, refl, sym, ap, ◌∙◌, subst, IsSome}
+use Rattle.std.proofs.Common.{◌≡◌, ℕ, [], Some, None, refl, ap, ◌∙◌, subst, IsSome}
 use Rattle.std.specs.declared.option.Option.{Option}
 use Rattle.std.specs.Ordering.{nat_cmp}
 use Rattle.std.specs.Cmp.{nat_cmp_total}
-use Rattle.std.specs.FinMap.{FinMap, nat_cmp-IsAntisymmetric, empty, from_entries, get, insert, remove}
+use Rattle.std.specs.FinMap.{FinMap, nat_cmp-IsAntisymmetric, empty, get, insert, remove}
 use Rattle.std.specs.BTreeMap.{BTreeMap, get_by, UpdatesBy, WritesThrough}
 use Rattle.tw_types.specs.Store.{Data, Datum, Contains, members_of}
 use Rattle.tw_types.proofs.Maps.{found_view, written_view, removed_view, inserted_view, insert_same, get_here}

@@ -1,8 +1,9 @@
 -- What a step leaves of the store, and what is read of it.
-use Rattle.std.proofs.Common.{◌≡◌, ◌<◌, ℕ, ℤ, Bool, true, false, cond, List, [], Some, None, refl, sym, ap, subst, ◌∙◌, OnOk, OnErr, map as each}
+use Rattle.std.proofs.Common.{◌≡◌, ◌<◌, ℕ, ℤ, Bor, Bool, true, false, cond, List, [], Some, None, refl, sym, ap, subst, ◌∙◌, OnErr, map as each}
 use Rattle.std.specs.declared.option.Option.{Option}
 use Rattle.std.specs.declared.result.Result.{Result}
 use Rattle.std.specs.declared.result.Result.TheVariants.{Ok, Err}
+use Rattle.std.specs.Option.{option_copied}
 use Rattle.std.specs.FinMap as map
 use Rattle.std.specs.FinMap.{get, insert}
 use Rattle.tw_types.specs.Store.{Data, Datum, Store, notice_to, is_closed}
@@ -70,3 +71,9 @@ module _ (s : Store) (id : ℕ) where
 
   pub no_subscript : (index : ℤ) → get s.live id ≡ None → None ≡ subscript_after index (map.keys (members_at s id))
   no_subscript index e = rw e (none_after index)
+
+-- ---- what is copied is there
+
+pub copied_there : {A : Type 0} (r : Option (Bor A)) (y : A) → option_copied r ≡ Some y → ((x : Bor A) → r ≡ Some x → ⊥) → ⊥
+copied_there None y e none = cc
+copied_there (Some x) y e none = none x refl

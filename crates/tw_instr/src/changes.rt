@@ -6,6 +6,7 @@ ghost use Rattle.std.specs.declared.result.Result.TheVariants.{Ok};
 ghost use Rattle.tw_types.specs.Store.{Store};
 ghost use Rattle.tw_types.specs.StoreCalls.{changed, store_after, set_to, one_read_more, one_write_more, one_write_less, with_member, with_subscriber};
 ghost use Rattle.tw_types.specs.StoreChecks.{may_store, may_insert, may_drop_write};
+ghost use Rattle.tw_types.specs.Value.{scalar_of};
 ghost use Rattle.tw_instr.specs.Parts.{data_of};
 ghost use Rattle.tw_types.specs.Room.{HasReadRoom, HasWriteRoom};
 
@@ -43,10 +44,10 @@ pub fn drop_write_in(live: &mut BTreeMap<u64, Datum>, id: u64)
 pub fn insert_in(
     live: &mut BTreeMap<u64, Datum>,
     id: u64,
-    subscript: i64,
+    subscript: Value,
     member: DatumId,
 ) -> Result<(), AllocError>
-    requires { may_insert (get (data_of live.old.entries) id) (get (data_of live.old.entries) member) ≡ Ok tt }
+    requires { may_insert (scalar_of subscript) (get (data_of live.old.entries) id) (get (data_of live.old.entries) member) ≡ Ok tt }
     ensures inserted { OnOk result ((s : Store) → s.live ≡ data_of live.old.entries → record s { live = data_of live.new.entries } ≡ changed s id (with_member subscript member)) }
     ensures refused { OnErr result (data_of live.new.entries ≡ data_of live.old.entries) }
 {

@@ -1,14 +1,17 @@
 //! The live data.
 
-ghost use Rattle.std.specs.Prelude.{◌≡◌, ◌<◌, ◌^◌, IfOk, OnOk, OnErr, map as each};
+ghost use Rattle.std.specs.Prelude.{◌≡◌, ◌<◌, ◌^◌, IfOk, IfSome, OnOk, OnErr, map as each};
 ghost use Rattle.std.specs.FinMap as map;
 ghost use Rattle.std.specs.FinMap.{get};
 ghost use Rattle.std.specs.Option.{option_copied};
 ghost use Rattle.std.specs.declared.result.Result.TheVariants.{Ok};
 ghost use Rattle.tw_types.specs.Store.{empty_store, added, notice_to};
 ghost use Rattle.tw_types.specs.StoreCalls.{created, stored, inserted, read_copied, write_copied, read_dropped, write_dropped, subscribed, value_at, member_at, members_at, subscript_after, notices_of_stored, notices_of_write_dropped};
-ghost use Rattle.tw_types.specs.StoreChecks.{may_store, may_retrieve, may_insert, may_look, may_read_members, may_be_read, may_copy_write, may_drop_read, may_drop_write};
+ghost use Rattle.tw_types.specs.StoreChecks.{may_store, may_retrieve, may_insert, may_look, may_read_members, may_read_members_by, may_be_read, may_copy_write, may_drop_read, may_drop_write};
+ghost use Rattle.tw_types.specs.declared.data_type.Scalar.{Scalar as ScalarMeaning};
 ghost use Rattle.tw_types.specs.declared.value.Value.{Value as ValueMeaning};
+ghost use Rattle.tw_types.specs.Value.{scalar_of};
+ghost use Rattle.tw_types.specs.ValueOrder.{named};
 ghost use Rattle.tw_datum.specs.Kept.{closed_datum, datum_if, FitsType};
 ghost use Rattle.tw_instr.specs.Content.{content_of};
 ghost use Rattle.tw_types.specs.Room.{HasReadRoom, HasWriteRoom};
@@ -20,7 +23,7 @@ use std::alloc::{AllocError, Global};
 use std::collections::BTreeMap;
 use std::marker::Model;
 use tw_datum::{Content, checks};
-use tw_types::{Cause, DataType, DatumId, Subscriber, Value};
+use tw_types::{Cause, DataType, DatumId, Scalar, Subscriber, Value, ValueRef};
 
 /// The live data by their ids. No id is used again.
 #[derive(Drop)]
@@ -33,12 +36,13 @@ impl Model for Data {
     ghost use Rattle.tw_types.specs.Store.{Datum as DatumMeaning, Store};
     ghost use Rattle.tw_instr.specs.Parts.{store_of};
     ghost use Rattle.std.specs.FinMap.{code};
-    ghost use Rattle.std.specs.Ordering.{nat_cmp, int_cmp};
-    ghost use Rattle.std.specs.Coded.{codes, coded_ℕ, coded_ℤ};
+    ghost use Rattle.std.specs.Ordering.{nat_cmp};
+    ghost use Rattle.tw_types.specs.ValueOrder.{value_cmp};
+    ghost use Rattle.std.specs.Coded.{codes, coded_ℕ};
 
     ghost Value = { Store };
 
-    ghost coded = { Prim.hlevel (codes, code {X = DatumMeaning} {R = nat_cmp} coded_ℕ (Prim.hlevel (codes, code {R = int_cmp} coded_ℤ coded_ℕ))) };
+    ghost coded = { Prim.hlevel (codes, code {X = DatumMeaning} {R = nat_cmp} coded_ℕ (Prim.hlevel (codes, code {R = value_cmp} (Prim.hlevel codes) coded_ℕ))) };
 
     ghost view = { λ s. store_of s.live.entries s.next };
 }
@@ -149,8 +153,13 @@ impl Data {
     }
 
     /// Puts a member, with its read, at a subscript of a container, in place of one that is there.
-    pub fn insert(&mut self, id: DatumId, subscript: i64, member: DatumId) -> Result<(), AllocError>
-        requires { may_insert (get self.old.live id) (get self.old.live member) ≡ Ok tt }
+    pub fn insert(
+        &mut self,
+        id: DatumId,
+        subscript: Value,
+        member: DatumId,
+    ) -> Result<(), AllocError>
+        requires { may_insert (scalar_of subscript) (get self.old.live id) (get self.old.live member) ≡ Ok tt }
         ensures inserted { OnOk result (self.new ≡ inserted self.old id subscript member) }
         ensures refused { OnErr result (self.new ≡ self.old) }
     {
@@ -189,8 +198,8 @@ impl Data {
     }
 
     /// The member at a subscript.
-    pub fn member(&self, id: DatumId, subscript: i64) -> Option<DatumId>
-        ensures { result ≡ member_at self.now id subscript }
+    pub fn member(&self, id: DatumId, subscript: ValueRef<'_>) -> Option<DatumId>
+        ensures { result ≡ member_at self.now id (named subscript.entry) }
     {
         self.datum(id)?.member_at(subscript)
     }
@@ -206,8 +215,9 @@ impl Data {
     }
 
     /// The subscript with exactly so many smaller ones, if there is one.
-    pub fn subscript_at(&self, id: DatumId, index: i64) -> Option<i64>
-        ensures { result ≡ subscript_after index (map.keys (members_at self.now id)) }
+    pub fn subscript_at(&self, id: DatumId, index: i64) -> Option<&Value>
+        ensures found { option_copied result ≡ subscript_after index (map.keys (members_at self.now id)) }
+        ensures kind { (by : ScalarMeaning) → may_read_members_by by (get self.now.live id) ≡ Ok tt → IfSome (option_copied result) (λ subscript. scalar_of subscript ≡ by) }
     {
         match self.datum(id) {
             Some(datum) => datum.subscript(index),
@@ -230,17 +240,17 @@ impl Data {
         checks::may_retrieve(self.datum(id))
     }
 
-    pub fn may_insert(&self, container: DatumId, member: DatumId) -> Result<(), Cause>
-        ensures { result ≡ may_insert (get self.now.live container) (get self.now.live member) }
+    pub fn may_insert(&self, by: Scalar, container: DatumId, member: DatumId) -> Result<(), Cause>
+        ensures { result ≡ may_insert by (get self.now.live container) (get self.now.live member) }
     {
-        checks::may_insert(self.datum(container), self.datum(member))
+        checks::may_insert(by, self.datum(container), self.datum(member))
     }
 
-    pub fn may_look(&self, id: DatumId, subscript: i64) -> Result<(), Cause>
-        ensures { result ≡ may_look self.now id subscript }
+    pub fn may_look(&self, id: DatumId, subscript: &Value) -> Result<(), Cause>
+        ensures { result ≡ may_look self.now id subscript.now }
     {
-        checks::may_read_members(self.datum(id))?;
-        match self.member(id, subscript) {
+        checks::may_read_members_by(subscript.scalar(), self.datum(id))?;
+        match self.member(id, subscript.borrowed()) {
             Some(member) => checks::may_be_read(self.datum(member)),
             None => Ok(()),
         }
@@ -250,6 +260,12 @@ impl Data {
         ensures { result ≡ may_read_members (get self.now.live id) }
     {
         checks::may_read_members(self.datum(id))
+    }
+
+    pub fn may_read_members_by(&self, by: Scalar, id: DatumId) -> Result<(), Cause>
+        ensures { result ≡ may_read_members_by by (get self.now.live id) }
+    {
+        checks::may_read_members_by(by, self.datum(id))
     }
 
     pub fn may_be_read(&self, id: DatumId) -> Result<(), Cause>

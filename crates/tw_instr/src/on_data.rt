@@ -35,24 +35,27 @@ pub fn data_instr(
         }
         DataInstr::Get { to, datum } => scalars::get(alloc, store, frame, to, datum),
         DataInstr::Insert {
+            by,
             container,
             subscript,
             member,
             skip,
-        } => containers::insert(store, frame, container, subscript, member, skip),
+        } => containers::insert(alloc, store, frame, by, container, subscript, member, skip),
         DataInstr::Look {
+            by,
             member,
             container,
             subscript,
             skip,
-        } => Ok(containers::look(store, frame, member, container, subscript, skip)?),
+        } => Ok(containers::look(store, frame, by, member, container, subscript, skip)?),
         DataInstr::Size { to, container } => { Ok(containers::size(store, frame, to, container)?) }
         DataInstr::SubscriptAt {
+            by,
             to,
             container,
             index,
             skip,
-        } => Ok(containers::subscript_at(store, frame, to, container, index, skip)?),
+        } => containers::subscript_at(alloc, store, frame, by, to, container, index, skip),
         DataInstr::CopyRead { to, from } => Ok(rights::copy_read(store, frame, to, from)?),
         DataInstr::CopyWrite { to, from } => Ok(rights::copy_write(store, frame, to, from)?),
         DataInstr::DropRead { right } => Ok(rights::drop_read(store, frame, right)?),

@@ -1,7 +1,8 @@
 //! What instructions need of their value registers.
 
-ghost use Rattle.std.specs.Prelude.{◌≡◌, ◌<◌, length, MatchResult, Ok, Err, OnOk};
-ghost use Rattle.tw_code.specs.machine.Position.{must_have_type, value_at, int_at, text_at};
+ghost use Rattle.std.specs.Prelude.{◌≡◌, ◌<◌, length, MatchResult, IfOk, Ok, Err, OnOk};
+ghost use Rattle.tw_types.specs.Value.{scalar_of};
+ghost use Rattle.tw_code.specs.machine.Position.{must_have_type, value_at, int_at, of_type_at, text_at};
 ghost use Rattle.tw_instr.specs.Attempts.{Gives};
 
 use crate::failure::{Failure, must};
@@ -32,6 +33,16 @@ pub fn int_at(position: &Position, register: u8) -> Result<i64, Cause>
         Value::Int(number) => Ok(*number),
         Value::Text(_) => Err(Cause::WrongRegister),
     }
+}
+
+/// The value of a declared register of this type; `WrongRegister` where there is none.
+pub fn of_type_at(position: &Position, register: u8, ty: Scalar) -> Result<&Value, Cause>
+    ensures gives { MatchResult result (λ value. of_type_at position.now register ty ≡ Ok value.now) (λ cause. of_type_at position.now register ty ≡ Err cause) }
+    ensures kind { IfOk result (λ value. scalar_of value.now ≡ ty) }
+{
+    let value = value_at(position, register)?;
+    must(value.scalar() == ty, Cause::WrongRegister)?;
+    Ok(value)
 }
 
 /// The text in a declared register of type text; `WrongRegister` where there is none.

@@ -4,6 +4,7 @@ use Rattle.std.proofs.lemmas.Bool.{and_parts}
 use Rattle.std.specs.declared.option.Option.TheVariants.{None, Some}
 use Rattle.tw_types.specs.declared.input.Input.{Input}
 use Rattle.tw_types.specs.declared.param.Param.{Param}
+use Rattle.tw_types.specs.Given.{given_by}
 use Rattle.tw_types.specs.Mode.{is_write}
 use Rattle.tw_code.specs.declared.procedure.Procedure.{Procedure}
 use Rattle.tw_code.specs.accepting.MainShape.{has_main_shape}
@@ -76,7 +77,7 @@ module _ (params : List Param) (inputs : List Input) (index : ℕ) (o left : Ope
         rw is (record {
           opened = opened_here ∙ ap (opened o (p ∷ others)) given ∙ rw read refl;
           fit = both.1;
-          next = omega (arith, begun.next, input_next p.ty i o.store both.0);
+          next = omega (arith, begun.next, input_next p.ty (given_by i) o.store both.0);
           few = omega (arith, begun.few, length-append o.rights (o.store.next ∷ []));
         })
 

@@ -1,18 +1,17 @@
 //! What stands for main's parameters.
 
-ghost use Rattle.std.specs.Prelude.{◌≡◌, ◌+◌, ◌<◌, ◌≤◌, ◌^◌, length, map, IfOk, OnOk, true, false, Some};
-ghost use Rattle.tw_code.specs.machine.Inputs.{are_inputs_of, input_params, is_input_of, is_short};
-ghost use Rattle.tw_code.specs.machine.Opening.{closed_scalar, nothing_opened, opened, with_given, with_input, with_output};
-ghost use Rattle.tw_types.specs.declared.value.Value.TheVariants.{Int as INT, Text as TEXT};
-ghost use Rattle.std.specs.List.{list_all};
-ghost use Rattle.tw_types.specs.DataType.{is_scalar};
+ghost use Rattle.std.specs.Prelude.{◌≡◌, ◌+◌, ◌<◌, ◌≤◌, ◌^◌, length, IfOk, OnOk, true, Some};
+ghost use Rattle.tw_types.specs.Given.{Container, members_by};
 ghost use Rattle.tw_types.specs.Store.{added};
-ghost use Rattle.tw_machine.specs.Inputs.{closed_container, numbered, with_members};
+ghost use Rattle.tw_types.specs.Value.{is_short};
+ghost use Rattle.tw_code.specs.machine.Inputs.{are_inputs_of, input_params, is_given_for, is_input_of};
+ghost use Rattle.tw_code.specs.machine.Opening.{closed_scalar, nothing_opened, numbered, opened, with_container, with_given, with_input, with_output};
+ghost use Rattle.tw_machine.specs.Inputs.{are_short, with_members};
 
 use std::alloc::{AllocError, Global};
 use std::marker::Model;
 use tw_instr::{Content, Data, RankedMap};
-use tw_types::{DataType, DatumId, Input, InputText, Param, Text, Value};
+use tw_types::{AsValue, DataType, DatumId, Input, Param};
 
 /// The data of main's parameters so far, the ids that main is given, and those of the host's outputs.
 #[derive(Drop)]
@@ -26,12 +25,13 @@ impl Model for Opened {
     ghost use Rattle.tw_types.specs.Store.{Datum as DatumMeaning};
     ghost use Rattle.tw_code.specs.machine.Opening.{Opened as Meaning};
     ghost use Rattle.std.specs.FinMap.{code};
-    ghost use Rattle.std.specs.Ordering.{int_cmp, nat_cmp};
+    ghost use Rattle.std.specs.Ordering.{nat_cmp};
+    ghost use Rattle.tw_types.specs.ValueOrder.{value_cmp};
     ghost use Rattle.std.specs.Coded.{codes, coded_ℕ, coded_ℤ};
 
     ghost Value = { Meaning };
 
-    ghost coded = { Prim.hlevel (codes, code {X = DatumMeaning} {R = nat_cmp} coded_ℕ (Prim.hlevel (codes, code {R = int_cmp} coded_ℤ coded_ℕ))) };
+    ghost coded = { Prim.hlevel (codes, code {X = DatumMeaning} {R = nat_cmp} coded_ℕ (Prim.hlevel (codes, code {R = value_cmp} (Prim.hlevel codes) coded_ℕ))) };
 
     ghost view = { λ o. record { store = o.store; rights = o.rights.items; outputs = o.outputs.items } };
 }
@@ -102,98 +102,75 @@ fn add_input(alloc: Global, store: &mut Data, ty: DataType, input: &Input) -> Re
     ensures { OnOk result (store.new ≡ with_input store.old input.now) }
 {
     match input {
-        Input::Int(number) => add_scalar(alloc, store, Value::Int(*number)),
-        Input::Text(text) => add_scalar(alloc, store, text_value(alloc, text)?),
-        Input::Ints(members) => {
-            let members = members.as_slice();
-            add_container(alloc, store, ty, members)?;
-            add_ints(alloc, store, members)
-        }
-        Input::Texts(members) => {
-            let members = members.as_slice();
-            add_container(alloc, store, ty, members)?;
-            add_texts(alloc, store, members)
-        }
+        Input::Int(number) => add_scalar(alloc, store, number),
+        Input::Text(text) => add_scalar(alloc, store, text),
+        Input::Ints(members) => add_container(alloc, store, ty, members.as_slice()),
+        Input::Texts(members) => add_container(alloc, store, ty, members.as_slice()),
+        Input::IntsByText(members) => add_container(alloc, store, ty, members.as_slice()),
+        Input::TextsByText(members) => add_container(alloc, store, ty, members.as_slice()),
     }
 }
 
 /// Adds a closed scalar.
-fn add_scalar(alloc: Global, store: &mut Data, value: Value) -> Result<(), AllocError>
-    requires { store.old.next < 2 ^ 63 }
-    ensures { OnOk result (store.new ≡ added store.old (closed_scalar value)) }
+fn add_scalar<V: AsValue>(alloc: Global, store: &mut Data, value: &V) -> Result<(), AllocError>
+    requires short { is_short (V.value value.now) ≡ true }
+    requires room { store.old.next < 2 ^ 63 }
+    ensures { OnOk result (store.new ≡ added store.old (closed_scalar (V.value value.now))) }
 {
+    let value = value.as_value().try_to_value(alloc)?;
     let ty = DataType::from(value.scalar());
     store.add_closed(alloc, ty, Content::Set(value))?;
     Ok(())
 }
 
-/// Adds a closed container, whose members come next.
-fn add_container<T>(
+/// Adds a closed container, and then its members.
+fn add_container<K: AsValue, V: AsValue>(
     alloc: Global,
     store: &mut Data,
     ty: DataType,
-    members: &[(i64, T)],
+    members: &[(K, V)],
 ) -> Result<(), AllocError>
-    requires container { is_scalar ty ≡ false }
-    requires room { store.old.next + length members.now < 2 ^ 63 }
-    ensures { OnOk result (store.new ≡ added store.old (closed_container ty (numbered (store.old.next + 1) members.now))) }
+    requires fits { is_given_for ty (Container K.scalar V.scalar (members_by K.value V.value members.now)) ≡ true }
+    requires room { store.old.next + 1001 < 2 ^ 63 }
+    ensures { OnOk result (store.new ≡ with_container store.old K.scalar V.scalar (members_by K.value V.value members.now)) }
 {
     let first = store.next().number() + 1;
     let numbers = numbered(alloc, first, members)?;
     store.add_closed(alloc, ty, Content::Contains(numbers))?;
-    Ok(())
+    add_values(alloc, store, members)
 }
 
 /// The members have the ids from the first one on, in their order.
-fn numbered<T>(
+fn numbered<K: AsValue, V: AsValue>(
     alloc: Global,
     first: u64,
-    members: &[(i64, T)],
+    members: &[(K, V)],
 ) -> Result<RankedMap<DatumId>, AllocError>
-    requires { first + length members.now < 2 ^ 64 }
-    ensures { IfOk result (λ numbers. numbers ≡ numbered first members.now) }
+    requires short { are_short (members_by K.value V.value members.now) ≡ true }
+    requires room { first + length members.now < 2 ^ 64 }
+    ensures { IfOk result (λ numbers. numbers ≡ numbered first (members_by K.value V.value members.now)) }
 {
     let mut numbers = RankedMap::new(alloc);
     for index in (0..members.len()).rev() {
         let (subscript, _) = &members[index];
-        numbers.insert(*subscript, DatumId::new(first + index as u64))?;
+        let subscript = subscript.as_value().try_to_value(alloc)?;
+        numbers.insert(subscript, DatumId::new(first + index as u64))?;
     }
     Ok(numbers)
 }
 
-fn add_ints(alloc: Global, store: &mut Data, members: &[(i64, i64)]) -> Result<(), AllocError>
-    requires { store.old.next + length members.now < 2 ^ 63 }
-    ensures { OnOk result (store.new ≡ with_members store.old (map (λ e. (e.0, INT e.1)) members.now)) }
-{
-    for (_, number) in members {
-        add_scalar(alloc, store, Value::Int(*number))?;
-    }
-    Ok(())
-}
-
-fn add_texts(
+/// Adds a closed scalar for each member.
+fn add_values<K: AsValue, V: AsValue>(
     alloc: Global,
     store: &mut Data,
-    members: &[(i64, InputText)],
+    members: &[(K, V)],
 ) -> Result<(), AllocError>
-    requires short { list_all (λ e. is_short e.1) members.now ≡ true }
+    requires short { are_short (members_by K.value V.value members.now) ≡ true }
     requires room { store.old.next + length members.now < 2 ^ 63 }
-    ensures { OnOk result (store.new ≡ with_members store.old (map (λ e. (e.0, TEXT e.1)) members.now)) }
+    ensures { OnOk result (store.new ≡ with_members store.old (members_by K.value V.value members.now)) }
 {
-    for (_, text) in members {
-        let value = text_value(alloc, text)?;
+    for (_, value) in members {
         add_scalar(alloc, store, value)?;
     }
     Ok(())
-}
-
-/// The value of a text that isn't too long.
-fn text_value(alloc: Global, text: &InputText) -> Result<Value, AllocError>
-    requires { is_short text.now ≡ true }
-    ensures { IfOk result (λ value. value ≡ TEXT text.now) }
-{
-    let Ok(text) = Text::new(String::from_str(alloc, text.as_str())?) else {
-        unreachable!();
-    };
-    Ok(Value::Text(text))
 }

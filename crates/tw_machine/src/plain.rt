@@ -36,7 +36,8 @@ impl Model for Plain {
     ghost use Rattle.tw_types.specs.Notices.{notice_cmp};
     ghost use Rattle.std.specs.FinMap.{code};
     ghost use Rattle.std.specs.FinSet.{code as set_code};
-    ghost use Rattle.std.specs.Ordering.{int_cmp, nat_cmp};
+    ghost use Rattle.std.specs.Ordering.{nat_cmp};
+    ghost use Rattle.tw_types.specs.ValueOrder.{value_cmp};
     ghost use Rattle.std.specs.Coded.{codes, coded_ℕ, coded_ℤ};
     ghost use Rattle.tw_machine.specs.PlainView.{PlainView};
 
@@ -44,14 +45,14 @@ impl Model for Plain {
 
     ghost coded = { Prim.hlevel (
       codes,
-      code {X = DatumMeaning} {R = nat_cmp} coded_ℕ (Prim.hlevel (codes, code {R = int_cmp} coded_ℤ coded_ℕ)),
+      code {X = DatumMeaning} {R = nat_cmp} coded_ℕ (Prim.hlevel (codes, code {R = value_cmp} (Prim.hlevel codes) coded_ℕ)),
       code {X = RuleMeaning} {R = nat_cmp} coded_ℕ (Prim.hlevel codes),
       code {X = TaskMeaning} {R = nat_cmp} coded_ℕ (Prim.hlevel codes),
       code {X = FrameMeaning} {R = actor_cmp} (Prim.hlevel codes) (Prim.hlevel codes),
       set_code {R = notice_cmp} (Prim.hlevel codes),
     ) };
 
-    ghost view = { λ p. record { program = p.program; layout = p.layout; state = p.state } };
+    ghost view = { λ p. record { version = p.program.version; program = p.program.procedures; layout = p.layout; state = p.state } };
 }
 
 impl Plain {
@@ -63,8 +64,8 @@ impl Plain {
         inputs: &[Input],
         layout: Layout,
     ) -> Result<Plain, OpenRefused>
-        ensures opened { IfOk result (λ plain. plain ≡ record { program = program; layout = layout; state = opening program inputs.now }) }
-        ensures asked { MatchResult result (λ _. refusal_of program inputs.now ≡ None) (λ refused. IsTold (refusal_of program inputs.now) refused.no) }
+        ensures opened { IfOk result (λ plain. plain ≡ record { version = program.version; program = program.procedures; layout = layout; state = opening program.procedures inputs.now }) }
+        ensures asked { MatchResult result (λ _. refusal_of program.procedures inputs.now ≡ None) (λ refused. IsTold (refusal_of program.procedures inputs.now) refused.no) }
         ensures back { IfErr result (λ refused. refused.program ≡ program) }
         ensures below { IfOk result (λ plain. AreBelow opening_bound plain.state) }
     {
@@ -91,6 +92,7 @@ impl Plain {
         ensures steps { Changes (step self.old.program self.old.layout event self.old.state) self.old.state result self.new.state }
         ensures memory { result ≡ Err Stopped.NoMemory → TakesMemory self.old.program self.old.layout event self.old.state }
         ensures program { self.new.program ≡ self.old.program }
+        ensures version { self.new.version ≡ self.old.version }
         ensures layout { self.new.layout ≡ self.old.layout }
         ensures below { (bound : ℕ) → AreBelow bound self.old.state → AreBelow (bound + size_of event) self.new.state }
     {
@@ -105,7 +107,8 @@ impl Plain {
     }
 
     pub fn program(&self) -> &Program
-        ensures { result.now ≡ self.now.program }
+        ensures is { result.now.procedures ≡ self.now.program }
+        ensures version { result.now.version ≡ self.now.version }
     {
         &self.program
     }

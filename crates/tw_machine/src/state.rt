@@ -50,14 +50,15 @@ impl Model for State {
     ghost use Rattle.tw_types.specs.Notices.{notice_cmp};
     ghost use Rattle.std.specs.FinMap.{code};
     ghost use Rattle.std.specs.FinSet.{code as set_code};
-    ghost use Rattle.std.specs.Ordering.{int_cmp, nat_cmp};
+    ghost use Rattle.std.specs.Ordering.{nat_cmp};
+    ghost use Rattle.tw_types.specs.ValueOrder.{value_cmp};
     ghost use Rattle.std.specs.Coded.{codes, coded_ℕ, coded_ℤ};
 
     ghost Value = { Meaning };
 
     ghost coded = { Prim.hlevel (
       codes,
-      code {X = DatumMeaning} {R = nat_cmp} coded_ℕ (Prim.hlevel (codes, code {R = int_cmp} coded_ℤ coded_ℕ)),
+      code {X = DatumMeaning} {R = nat_cmp} coded_ℕ (Prim.hlevel (codes, code {R = value_cmp} (Prim.hlevel codes) coded_ℕ)),
       code {X = RuleMeaning} {R = nat_cmp} coded_ℕ (Prim.hlevel codes),
       code {X = TaskMeaning} {R = nat_cmp} coded_ℕ (Prim.hlevel codes),
       code {X = FrameMeaning} {R = actor_cmp} (Prim.hlevel codes) (Prim.hlevel codes),

@@ -1,4 +1,4 @@
-use Rattle.std.proofs.Common.{◌≡◌, ◌≢◌, ◌≤◌, ◌%◌, ℕ, ℤ, Bool, true, false, cond, List, [], length, map, refl, sym, ap, subst, ◌∙◌, get_or, IfSome, IfNone, IsSome, Some, None, IfOk, is_some, option_map, arith, inl, inr, ◌⊎◌}
+use Rattle.std.proofs.Common.{◌≡◌, ◌≢◌, ◌≤◌, ◌%◌, ℕ, Bool, true, false, cond, List, [], length, map, refl, sym, ap, subst, ◌∙◌, get_or, IfSome, IfNone, IsSome, Some, None, IfOk, is_some, option_map, arith, inl, inr, ◌⊎◌}
 use Rattle.std.proofs.lemmas.List.{length-map}
 use Rattle.std.specs.declared.option.Option.{Option}
 use Rattle.std.specs.declared.result.Result.{Result}
@@ -10,6 +10,7 @@ use Rattle.tw_types.specs.StoreCalls.{changed, store_after, notices_after, set_t
 use Rattle.tw_types.specs.declared.notice.Notice.{Notice}
 use Rattle.tw_types.specs.declared.notice.Subscriber.{Subscriber}
 use Rattle.tw_types.specs.declared.value.Value.{Value}
+use Rattle.tw_types.specs.ValueOrder.{Subscript}
 use Rattle.tw_rights.specs.Rights.{Right}
 use Rattle.tw_types.specs.Room.{HasReadRoom}
 use Rattle.tw_store.specs.Calls.{HasMemberRoom}
@@ -54,7 +55,7 @@ members_is s id x e = rw e refl
 pub value_is : (s : Served) (id : ℕ) (x : Datum) → get s.store.live id ≡ Some x → value_in x.content ≡ value_at s.store id
 value_is s id x e = rw e refl
 
-pub member_is : (s : Served) (id : ℕ) (k : ℤ) (x : Datum) → get s.store.live id ≡ Some x → get (members_in x.content) k ≡ member_at s.store id k
+pub member_is : (s : Served) (id : ℕ) (k : Subscript) (x : Datum) → get s.store.live id ≡ Some x → get (members_in x.content) k ≡ member_at s.store id k
 member_is s id k x e = rw e refl
 
 -- ---- what a call leaves
@@ -164,7 +165,7 @@ no_place x e = cc
 abbrev pub right_on : Member → Right
 right_on m = record { id = m.id; place = m.place }
 
-module _ (slab : Slab Slot) (next : ℕ) (queues : Queues) (s : Served) (view : served_of slab next queues ≡ s) (seated : AreSeated slab.slots next) (right : Right) (place : ℕ) (x : Seat slab.slots s right place) (d : PlacedDatum) (at : IfSome (get_or slab.slots place None) (λ e. d ≡ e.datum)) (k : ℤ) (m : Member) (has : get d.members k ≡ Some m) (kept : is_some (get s.store.live m.id) ≡ true) where
+module _ (slab : Slab Slot) (next : ℕ) (queues : Queues) (s : Served) (view : served_of slab next queues ≡ s) (seated : AreSeated slab.slots next) (right : Right) (place : ℕ) (x : Seat slab.slots s right place) (d : PlacedDatum) (at : IfSome (get_or slab.slots place None) (λ e. d ≡ e.datum)) (k : Subscript) (m : Member) (has : get d.members k ≡ Some m) (kept : is_some (get s.store.live m.id) ≡ true) where
   -- it stands where the container says
   pub member_here : IsHere s (right_on m)
   member_here = by (search_slots slab.slots m.id)
@@ -196,7 +197,7 @@ unchanged s = record { store = refl; places = refl; queues = refl; rooms = same_
 pub here_of : (slab : Slab Slot) (next : ℕ) (queues : Queues) (s : Served) (right : Right) (id place : ℕ) → served_of slab next queues ≡ s → IsHere s right → id ≡ right.id → place ≡ right.place → get (places_of slab.slots) id ≡ Some place
 here_of slab next queues s right id place view here is at = ap (get (places_of slab.slots)) is ∙ ap (λ (x : Served). get x.places right.id) view ∙ here ∙ ap Some (sym at)
 
-pub member_room : (s : Store) (id : ℕ) (k : ℤ) (m : ℕ) → member_at s id k ≡ Some m → HasMemberRoom s id k → HasReadRoom (get s.live m)
+pub member_room : (s : Store) (id : ℕ) (k : Subscript) (m : ℕ) → member_at s id k ≡ Some m → HasMemberRoom s id k → HasReadRoom (get s.live m)
 member_room s id k m e h = rw e at h
 
 -- where the queue of its server has room for so many notices as wait

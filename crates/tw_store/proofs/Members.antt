@@ -1,10 +1,11 @@
 -- Members of a container that the store has shown, and where their data stand.
-use Rattle.std.proofs.Common.{◌≡◌, ◌≢◌, ℕ, ℤ, sym, ap, subst, ◌∙◌, get_or, inl, inr, ◌⊎◌, IfSome, IfNone, Some, None}
+use Rattle.std.proofs.Common.{◌≡◌, ◌≢◌, ℕ, sym, ap, subst, ◌∙◌, get_or, inl, inr, refl, ◌⊎◌, IfSome, IfNone, Some, None}
 use Rattle.std.specs.declared.option.Option.{Option}
 use Rattle.std.specs.Borrow.{Bor}
 use Rattle.std.specs.Option.{option_copied}
 use Rattle.std.specs.FinMap.{get}
 use Rattle.slab.specs.Slab.{Slab}
+use Rattle.tw_types.specs.ValueOrder.{Subscript}
 use Rattle.tw_datum.specs.Kept.{datum_if}
 use Rattle.tw_store.specs.declared.member.Member.{Member}
 use Rattle.tw_store.specs.declared.slot.Slot.{Slot}
@@ -14,6 +15,11 @@ use Rattle.tw_store.specs.Served.{Served, KnowsPlaces}
 use Rattle.tw_store.specs.Slots.{AreSeated, IsSlotOf, datum_in, live_of, places_of}
 use Rattle.tw_store.proofs.Remain.{live_at, of_some, place_at}
 use Rattle.tw_store.proofs.Shown.{StandsAt, StandsNowhere, get_nowhere, search_slots, seat_of}
+
+-- what is copied is there
+pub copied_there : {A : Type 0} (r : Option (Bor A)) (y : A) → option_copied r ≡ Some y → ((x : Bor A) → r ≡ Some x → ⊥) → ⊥
+copied_there None y e none = cc
+copied_there (Some x) y e none = none x refl
 
 module _ (slab : Slab Slot) (next : ℕ) (queues : Queues) (s : Served) (view : served_of slab next queues ≡ s) (seated : AreSeated slab.slots next) where
   slot_knows : (place : ℕ) (slot : Slot) → get_or slab.slots place None ≡ Some slot → KnowsPlaces s slot.datum
@@ -25,7 +31,7 @@ module _ (slab : Slab Slot) (next : ℕ) (queues : Queues) (s : Served) (view : 
   pub read_knows : (place : ℕ) (d : PlacedDatum) (slot : Slot) → get_or slab.slots place None ≡ Some slot → IfSome (get_or slab.slots place None) (λ e. d ≡ e.datum) → KnowsPlaces s d
   read_knows place d slot there at = subst (KnowsPlaces s) (sym (of_some (λ (e : Slot). d ≡ e.datum) _ slot there at)) (slot_knows place slot there)
 
-  module _ (container : PlacedDatum) (knows : KnowsPlaces s container) (subscript : ℤ) (member : Member) (has : get container.members subscript ≡ Some member) where
+  module _ (container : PlacedDatum) (knows : KnowsPlaces s container) (subscript : Subscript) (member : Member) (has : get container.members subscript ≡ Some member) where
     live_is : get (live_of slab.slots) member.id ≡ get s.store.live member.id
     live_is = ap (λ (y : Served). get y.store.live member.id) view
 

@@ -1,12 +1,13 @@
 -- Slots of which some are left, with what was known of them.
-use Rattle.std.proofs.Common.{◌≡◌, ◌≢◌, ◌<◌, ◌+◌, ◌-◌, ℕ, ℤ, suc, zero, Bool, true, false, cond, List, [], ◌∷◌, refl, sym, ap, subst, ◌∙◌, arith, get_or, set, inl, inr, fold, IfSome, IsSome, OnOk, OnErr}
+use Rattle.std.proofs.Common.{◌≡◌, ◌≢◌, ◌<◌, ◌+◌, ◌-◌, ℕ, suc, zero, Bool, true, false, cond, List, [], ◌∷◌, refl, sym, ap, subst, ◌∙◌, arith, get_or, set, inl, inr, fold, IfSome, IsSome, OnOk, OnErr}
 use Rattle.std.specs.declared.option.Option.{Option}
 use Rattle.std.specs.declared.option.Option.TheVariants.{None, Some}
 use Rattle.std.specs.declared.result.Result.{Result}
 use Rattle.std.specs.declared.result.Result.TheVariants.{Ok, Err}
 use Rattle.std.proofs.lemmas.Bool.Decides.{eqb_tells}
-use Rattle.std.specs.Ordering.{int_cmp, eq_by_cmp}
-use Rattle.std.specs.Cmp.{int_cmp_total}
+use Rattle.std.specs.Ordering.{eq_by_cmp}
+use Rattle.tw_types.specs.ValueOrder.{Subscript, value_cmp}
+use Rattle.tw_types.proofs.ValueOrder.{value_cmp_total}
 use Rattle.std.specs.FinMap as map
 use Rattle.std.specs.FinMap.{get, insert, remove, get-insert}
 use Rattle.tw_types.specs.Store.{Datum, drop_read_within, settled, is_unheld, members_of, subscribers_cleared}
@@ -221,7 +222,7 @@ module _ (old new : Slots) (next p : ℕ) (e : Slot) (seated : AreSeated old nex
   all_still ms h k m g = let at = h k m g in (omega (arith, at.0), still_at m at.0 at.1)
 
   none_at : AllAt new (next + 1) map.empty
-  none_at k m g = absurd (no_datum m (sym (map.get-empty int_cmp k) ∙ g))
+  none_at k m g = absurd (no_datum m (sym (map.get-empty value_cmp k) ∙ g))
 
   pub add_seated : AreSeated new (next + 1)
   add_seated = record {
@@ -270,8 +271,8 @@ module _ (old new : Slots) (r : SameIds old new) where
 same_member : (m x : Member) → Some m ≡ Some x → m ≡ x
 same_member m x e = cc
 
-all_put : (slots : Slots) (next : ℕ) (ms : PlacedMembers) (k : ℤ) (m : Member) → AllAt slots next ms → m.id < next → IsAt slots m.id m.place → AllAt slots next (insert ms k m)
-all_put slots next ms k m all low at q x h = by (eq_by_cmp int_cmp q k) (sym (get-insert int_cmp_total ms k m q) ∙ h)
+all_put : (slots : Slots) (next : ℕ) (ms : PlacedMembers) (k : Subscript) (m : Member) → AllAt slots next ms → m.id < next → IsAt slots m.id m.place → AllAt slots next (insert ms k m)
+all_put slots next ms k m all low at q x h = by (eq_by_cmp value_cmp q k) (sym (get-insert value_cmp_total ms k m q) ∙ h)
   where
     by : (b : Bool) → cond b (Some m) (get ms q) ≡ Some x → (x.id < next) × IsAt slots x.id x.place
     by true e = subst (λ (y : Member). (y.id < next) × IsAt slots y.id y.place) (same_member m x e) (low, at)
@@ -294,7 +295,7 @@ module _ (slots : Slots) (next p : ℕ) (e : Slot) (seated : AreSeated slots nex
   shown_again : {Y : Type 0} (g : ℕ → Slot → Y) → map_of g rewritten ≡ insert (map_of g slots) e.id (g p (record { id = e.id; datum = d }))
   shown_again g = shown_put g slots rewritten p (record { id = e.id; datum = d }) seated.apart (apart_same slots rewritten rewritten_ids seated.apart) (is_there slots next p e seated there d) (λ j n. set_others slots p j (Some (record { id = e.id; datum = d })) n) (λ f h. ap (λ (s : Slot). s.id) (same_slot f e (sym h ∙ there)))
 
-  pub joined_changed : (k : ℤ) (m : Member) (f : Datum → Datum) → d.members ≡ insert e.datum.members k m → d.datum ≡ f e.datum.datum → get (places_of slots) m.id ≡ Some m.place → IsChanged next e.id f slots rewritten
+  pub joined_changed : (k : Subscript) (m : Member) (f : Datum → Datum) → d.members ≡ insert e.datum.members k m → d.datum ≡ f e.datum.datum → get (places_of slots) m.id ≡ Some m.place → IsChanged next e.id f slots rewritten
   joined_changed k m f more is placed = record {
     live = λ s view. changed_is s (live_of slots) (live_of rewritten) e.id e.datum.datum f view (live_at slots next p e seated there) (shown_again datum_in ∙ ap (insert (live_of slots) e.id) is);
     places = shown_again place_in ∙ same (places_of slots) e.id p (place_at slots next p e seated there);
@@ -345,7 +346,7 @@ changed_at slots p x d f at is next e seated there =
     subst (λ (y : Slot). IsChanged next y.id f slots (set slots p (Some (record { id = x.id; datum = d })))) (same_slot x e (sym at ∙ there))
     (written_changed slots next p x seated at d (ap (λ (y : PlacedDatum). y.members) is) f (ap (λ (y : PlacedDatum). y.datum) is))
 
-pub joined_at : (slots : Slots) (p : ℕ) (x : Slot) (d : PlacedDatum) (k : ℤ) (m : Member) → get_or slots p None ≡ Some x → d ≡ with_kept_member id_of k m x.datum → get (places_of slots) m.id ≡ Some m.place → IsChangedAt p (with_member k m.id) slots (set slots p (Some (record { id = x.id; datum = d })))
+pub joined_at : (slots : Slots) (p : ℕ) (x : Slot) (d : PlacedDatum) (k : Subscript) (m : Member) → get_or slots p None ≡ Some x → d ≡ with_kept_member id_of k m x.datum → get (places_of slots) m.id ≡ Some m.place → IsChangedAt p (with_member k m.id) slots (set slots p (Some (record { id = x.id; datum = d })))
 joined_at slots p x d k m at is placed next e seated there =
     subst (λ (y : Slot). IsChanged next y.id (with_member k m.id) slots (set slots p (Some (record { id = x.id; datum = d })))) (same_slot x e (sym at ∙ there))
     (joined_changed slots next p x seated at d k m (with_member k m.id) (ap (λ (y : PlacedDatum). y.members) is) (ap (λ (y : PlacedDatum). y.datum) is) placed)

@@ -1,9 +1,10 @@
 -- Slots of data, each with its id, seen as two maps: from each id to its datum, and to its place.
-use Rattle.std.specs.Prelude.{◌≡◌, ◌<◌, ℕ, ℤ, suc, List, [], ◌∷◌, Option, Some, None, slice_index_or}
+use Rattle.std.specs.Prelude.{◌≡◌, ◌<◌, ℕ, suc, List, [], ◌∷◌, Option, Some, None, slice_index_or}
 use Rattle.std.specs.Ordering.{nat_cmp}
 use Rattle.std.specs.FinMap.{FinMap, from_entries, get}
 use Rattle.tw_types.specs.Store.{Data, Datum, Store}
 use Rattle.tw_types.specs.StoreCalls.{changed, store_after}
+use Rattle.tw_types.specs.ValueOrder.{Subscript}
 use Rattle.tw_store.specs.declared.member.Member.{Member}
 use Rattle.tw_store.specs.declared.slot.Slot.{Slot}
 use Rattle.tw_store.specs.Placed.{PlacedDatum, PlacedMembers}
@@ -48,7 +49,7 @@ pub record IsAt (slots : Slots) (id place : ℕ) : Type 0 where
 
 -- each member has its place, and an id below next
 abbrev pub AllAt : Slots → ℕ → PlacedMembers → Type 0
-AllAt slots next members = (k : ℤ) (m : Member) → get members k ≡ Some m → (m.id < next) × IsAt slots m.id m.place
+AllAt slots next members = (k : Subscript) (m : Member) → get members k ≡ Some m → (m.id < next) × IsAt slots m.id m.place
 
 pub record AreSeated (slots : Slots) (next : ℕ) : Type 0 where
   pub apart : AreApart slots

@@ -1,9 +1,11 @@
 //! The calls that change one datum, over the slots.
 
-ghost use Rattle.std.specs.Prelude.{◌≡◌, ◌<◌, ◌≤◌, ◌^◌, ℕ, OnOk, OnErr, IfSome, IsSome, true, false};
+ghost use Rattle.std.specs.Prelude.{◌≡◌, ◌<◌, ◌≤◌, ◌^◌, ℕ, OnOk, OnErr, IfSome, IsSome, true};
 ghost use Rattle.std.specs.FinMap.{get, insert};
-ghost use Rattle.tw_types.specs.DataType.{is_scalar};
+ghost use Rattle.tw_types.specs.DataType.{is_container_by, is_scalar};
 ghost use Rattle.tw_types.specs.StoreCalls.{set_to, one_read_more, one_write_more, one_write_less, with_member, with_subscriber};
+ghost use Rattle.tw_types.specs.Value.{IsProper, scalar_of};
+ghost use Rattle.tw_types.specs.ValueOrder.{named};
 ghost use Rattle.tw_store.specs.declared.slot.Slot.{Slot as Meaning};
 ghost use Rattle.tw_store.specs.Parts.{data_room_of};
 ghost use Rattle.tw_store.specs.Slots.{slot_at, places_of, AreSeated, IsChanged, IsChangedAt, IsSettled};
@@ -12,8 +14,8 @@ use crate::freeing::settle;
 use crate::member::Member;
 use crate::slot::Slot;
 use slab::Slab;
-use std::alloc::AllocError;
-use tw_types::{Subscriber, Value};
+use std::alloc::{AllocError, Global};
+use tw_types::{Subscriber, Value, ValueRef};
 
 /// Sets the scalar at a place, which closes it.
 pub fn set_at(slab: &mut Slab<Slot>, place: usize, value: Value)
@@ -46,24 +48,27 @@ pub fn drop_write_at(slab: &mut Slab<Slot>, place: usize)
     settle(slab, place);
 }
 
-/// Puts a member into the container at a place.
+/// Puts a member into the container at a place, under a copy of the subscript.
 pub fn insert_at(
     slab: &mut Slab<Slot>,
+    alloc: Global,
     place: usize,
-    subscript: i64,
+    subscript: ValueRef<'_>,
     member: Member,
 ) -> Result<(), AllocError>
     requires there { IsSome (slot_at slab.old.slots place) }
-    requires container { IfSome (slot_at slab.old.slots place) (λ e. is_scalar e.datum.datum.ty ≡ false) }
+    requires container { IfSome (slot_at slab.old.slots place) (λ e. is_container_by (scalar_of (named subscript)) e.datum.datum.ty ≡ true) }
+    requires proper { IsProper (named subscript) }
     requires member { get (places_of slab.old.slots) member.id ≡ Some member.place }
-    ensures inserted { OnOk result (IsChangedAt place (with_member subscript member.id) slab.old.slots slab.new.slots) }
+    ensures inserted { OnOk result (IsChangedAt place (with_member (named subscript.entry) member.id) slab.old.slots slab.new.slots) }
     ensures refused { OnErr result (slab.new.slots ≡ slab.old.slots) }
     ensures room { data_room_of slab.old ≤ data_room_of slab.new }
 {
+    let own = subscript.try_to_value(alloc)?;
     let Some(slot) = slab.get_mut(place) else {
         unreachable!();
     };
-    slot.datum.add_member(subscript, member)
+    slot.datum.add_member(own, member)
 }
 
 /// Adds a read.

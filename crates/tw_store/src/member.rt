@@ -2,7 +2,7 @@
 
 ghost use Rattle.std.specs.Prelude.{◌≡◌};
 
-use tw_types::DatumId;
+use tw_types::{DatumId, Value};
 
 /// The id of a member, and the place where its datum stands.
 #[derive(Clone, Copy)]
@@ -25,7 +25,7 @@ pub type Datum = tw_datum::Datum<Member>;
 /// A member of a container, as the store shows it.
 #[derive(Clone, Copy)]
 pub struct ShownMember<'a> {
-    pub subscript: i64,
+    pub subscript: &'a Value,
     pub id: DatumId,
     /// Its datum, if that is live.
     pub datum: Option<&'a Datum>,

@@ -59,7 +59,7 @@ impl Store {
 
     /// The member of a container with so many smaller subscripts. Its datum is looked up at its place. The container is
     /// one that the store has shown since it changed last.
-    pub fn member(&self, container: &Datum, index: usize) -> Option<ShownMember<'_>>
+    pub fn member<'a>(&'a self, container: &'a Datum, index: usize) -> Option<ShownMember<'a>>
         requires { KnowsPlaces self.now container.now }
         ensures { IsShown self.now container.now index result }
     {
@@ -67,7 +67,7 @@ impl Store {
         Some(ShownMember {
             subscript,
             id: member.id,
-            datum: member_at(&self.slab, member),
+            datum: member_at(&self.slab, *member),
         })
     }
 

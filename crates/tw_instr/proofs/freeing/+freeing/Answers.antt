@@ -7,6 +7,8 @@ use Rattle.std.specs.FinMap as map
 use Rattle.tw_types.proofs.Maps.{remove_insert}
 use Rattle.tw_datum.proofs.Mapped.{each_same}
 use Rattle.tw_instr.specs.Parts.{bare, data_of}
+use Rattle.tw_types.specs.declared.value.Value.TheVariants.{Int}
+use Rattle.tw_instr.proofs.Views.{copied_there}
 use Rattle.tw_instr.proofs.Live.{found, written, written_found, looked, removed, same_kept}
 use Rattle.tw_types.specs.Store.{drop_read_within, is_unheld, members_of}
 use Rattle.tw_types.proofs.Drops.{drop_absent, drop_unread, drop_held, drop_lowest, drop_last, fold_next, fold_end}
@@ -75,7 +77,7 @@ drop_each-loop-index-preserved t c =
           ∙ c.loop-index.invariant
       | drop_each-in_default w ↦
           let within : c.loop-index.index < length entries = omega (arith, c.loop-index-test.true, c.len-index-end.ensures, len-entries c.args.members) in
-          absurd (w.in_default.not-Some _ (c.nth.ensures ∙ slice_get-get_or entries c.loop-index.index (pos 0, 0) within))
+          absurd (copied_there c.nth.result _ (c.nth.ensures ∙ slice_get-get_or entries c.loop-index.index (Int (pos 0), 0) within) w.in_default.not-Some)
     ]
 
 pub drop_each-returns : goal.drop_each-returns

@@ -6,9 +6,6 @@ returns-in_ok-look-in-Look-clause-does c = rw c.in-Look.is (c.in_ok-look-in-Look
 pub returns-in_ok-size-in-Size-clause-does : goal.returns-in_ok-size-in-Size-clause-does
 returns-in_ok-size-in-Size-clause-does c = rw c.in-Size.is (c.in_ok-size-in-Size.ensures c.args.notices.now)
 
-pub returns-in_ok-subscript_at-in-SubscriptAt-clause-does : goal.returns-in_ok-subscript_at-in-SubscriptAt-clause-does
-returns-in_ok-subscript_at-in-SubscriptAt-clause-does c = rw c.in-SubscriptAt.is (c.in_ok-subscript_at-in-SubscriptAt.ensures c.args.notices.now)
-
 pub returns-in_ok-copy_read-in-CopyRead-clause-does : goal.returns-in_ok-copy_read-in-CopyRead-clause-does
 returns-in_ok-copy_read-in-CopyRead-clause-does c = rw c.in-CopyRead.is (c.in_ok-copy_read-in-CopyRead.ensures c.args.notices.now)
 

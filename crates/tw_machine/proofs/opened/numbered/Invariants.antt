@@ -1,6 +1,7 @@
 use Rattle.std.proofs.Common.{◌≡◌, ◌+◌, drop}
-use Rattle.tw_machine.specs.Inputs.{numbered}
+use Rattle.tw_types.specs.Given.{members_by}
+use Rattle.tw_code.specs.machine.Opening.{numbered}
 use Rattle.tw_machine.proofs.opened.numbered.Given as goal
 
 abbrev pub invariant-loop-index : goal.invariant-loop-index
-invariant-loop-index g l = l.numbers ≡ numbered (l.first + l.index) (drop l.index l.members)
+invariant-loop-index g l = l.numbers ≡ numbered (l.first + l.index) (members_by g.K.AsValue.value g.V.AsValue.value (drop l.index l.members))

@@ -1,15 +1,14 @@
-use Rattle.std.proofs.Common.{◌≡◌, T, length, ◌++◌, ◌∷◌, sym, ap, ◌∙◌, arith, to_z-of_z, to_z, of_z, w64}
+use Rattle.std.proofs.Common.{◌≡◌, T, length, ◌++◌, ◌∷◌, sym, ap, ◌∙◌, arith, refl}
 use Rattle.std.specs.FinMap.{is_sorted, put}
-use Rattle.std.specs.Ordering.{int_cmp}
+use Rattle.tw_types.specs.ValueOrder.{value_cmp}
 use Rattle.tw_datum.proofs.Sides.{if_done, if_refused, put_on_left, put_on_right, put_on_own}
 use Rattle.tw_datum.proofs.tree.Tree.+insert.Goals as goal
 
 pub returns-in-Less-clause-added : goal.returns-in-Less-clause-added
 returns-in-Less-clause-added g t c =
     let p = c.take_apart-before.result in
-    let key = to_z w64 (of_z w64 c.args.key) in
-    let placed : (T (is_sorted int_cmp c.deref_mut.result.now) → c.insert-done.new.self ≡ put int_cmp key c.args.value c.deref_mut.result.now) → T (is_sorted int_cmp c.args.self.now) → c.rebuild.new.self ≡ put int_cmp c.args.key c.args.value c.args.self.now =
-    λ h sorted. put_on_left c.args.self.now p.0.value p.1 p.2.value key c.args.key (grind (arith, to_z-of_z)) c.take_apart-before.ensures.entries sorted c.deref_mut.result.now c.insert-done.new.self c.rebuild.new.self c.args.value c.deref_mut.ensures.value h c.in-Less.ensures c.rebuild.ensures.entries in
+    let placed : (T (is_sorted value_cmp c.deref_mut.result.now) → c.insert-done.new.self ≡ put value_cmp c.args.key c.args.value c.deref_mut.result.now) → T (is_sorted value_cmp c.args.self.now) → c.rebuild.new.self ≡ put value_cmp c.args.key c.args.value c.args.self.now =
+    λ h sorted. put_on_left c.args.self.now p.0.value p.1 p.2.value c.args.key c.args.key refl c.take_apart-before.ensures.entries sorted c.deref_mut.result.now c.insert-done.new.self c.rebuild.new.self c.args.value c.deref_mut.ensures.value h (c.in-Less.ensures ∙ ap (λ v. value_cmp v c.take_apart-before.result.1.0) c.borrowed.ensures.is) c.rebuild.ensures.entries in
     if_done c.insert-done.result placed c.insert-done.ensures.added
 
 pub returns-in-Less-clause-refused : goal.returns-in-Less-clause-refused
@@ -22,15 +21,13 @@ returns-in-Less-clause-refused g t c =
 pub returns-in-Equal-clause-added : goal.returns-in-Equal-clause-added
 returns-in-Equal-clause-added g t c =
     let p = c.take_apart-before.result in
-    let key = to_z w64 (of_z w64 c.args.key) in
-    λ sorted. put_on_own c.args.self.now p.0.value p.1 p.2.value key c.args.key (grind (arith, to_z-of_z)) c.take_apart-before.ensures.entries sorted c.rebuild-in-Equal.new.self c.args.value c.in-Equal.ensures c.rebuild-in-Equal.ensures.entries
+    λ sorted. put_on_own c.args.self.now p.0.value p.1 p.2.value c.args.key c.args.key refl c.take_apart-before.ensures.entries sorted c.rebuild-in-Equal.new.self c.args.value (c.in-Equal.ensures ∙ ap (λ v. value_cmp v c.take_apart-before.result.1.0) c.borrowed.ensures.is) c.rebuild-in-Equal.ensures.entries
 
 pub returns-in-Greater-clause-added : goal.returns-in-Greater-clause-added
 returns-in-Greater-clause-added g t c =
     let p = c.take_apart-before.result in
-    let key = to_z w64 (of_z w64 c.args.key) in
-    let placed : (T (is_sorted int_cmp c.deref_mut-in-Greater.result.now) → c.insert-done-in-Greater.new.self ≡ put int_cmp key c.args.value c.deref_mut-in-Greater.result.now) → T (is_sorted int_cmp c.args.self.now) → c.rebuild-in-Greater.new.self ≡ put int_cmp c.args.key c.args.value c.args.self.now =
-    λ h sorted. put_on_right c.args.self.now p.0.value p.1 p.2.value key c.args.key (grind (arith, to_z-of_z)) c.take_apart-before.ensures.entries sorted c.deref_mut-in-Greater.result.now c.insert-done-in-Greater.new.self c.rebuild-in-Greater.new.self c.args.value c.deref_mut-in-Greater.ensures.value h c.in-Greater.ensures c.rebuild-in-Greater.ensures.entries in
+    let placed : (T (is_sorted value_cmp c.deref_mut-in-Greater.result.now) → c.insert-done-in-Greater.new.self ≡ put value_cmp c.args.key c.args.value c.deref_mut-in-Greater.result.now) → T (is_sorted value_cmp c.args.self.now) → c.rebuild-in-Greater.new.self ≡ put value_cmp c.args.key c.args.value c.args.self.now =
+    λ h sorted. put_on_right c.args.self.now p.0.value p.1 p.2.value c.args.key c.args.key refl c.take_apart-before.ensures.entries sorted c.deref_mut-in-Greater.result.now c.insert-done-in-Greater.new.self c.rebuild-in-Greater.new.self c.args.value c.deref_mut-in-Greater.ensures.value h (c.in-Greater.ensures ∙ ap (λ v. value_cmp v c.take_apart-before.result.1.0) c.borrowed.ensures.is) c.rebuild-in-Greater.ensures.entries in
     if_done c.insert-done-in-Greater.result placed c.insert-done-in-Greater.ensures.added
 
 pub returns-in-Greater-clause-refused : goal.returns-in-Greater-clause-refused
