@@ -3,7 +3,6 @@
 pub mod Jobs
 pub mod Ready
 pub mod Drafts
-pub mod Seen
 -- What only private functions speak of.
 pub mod Banks
 pub mod Pieces

@@ -13,9 +13,9 @@ use tw_verify::Verified;
 #[derive(Drop)]
 pub struct Draft<'a> {
     pub(crate) verified: &'a Verified,
-    pub(crate) procedure: u8,
     pub(crate) lent: Box<Context<'a>>,
     pub(crate) ahead: Ahead<'a>,
+    pub(crate) procedure: u8,
 }
 
 impl<'a> Model for Draft<'a> {

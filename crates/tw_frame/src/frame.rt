@@ -2,6 +2,8 @@
 
 ghost use Rattle.std.specs.Prelude.{◌≡◌, ◌<◌, ◌≤◌, ◌+◌, ◌^◌, ℕ, ℤ, List, IsTrue, ◌↔◌, IfErr, IfOk, IsSome, OnErr, OnOk, Some, None, Ok, true, false, [], length, slice_get, slice_set, slice_index_or};
 ghost use Rattle.std.specs.Option.{option_map};
+ghost use Rattle.tw_types.specs.Value.{IsProper};
+ghost use Rattle.tw_types.specs.ValueOrder.{named};
 ghost use Rattle.tw_types.specs.declared.value.Value.TheVariants as value;
 ghost use Rattle.tw_code.specs.machine.Position.{at_goal, at_next_place, with_value};
 ghost use Rattle.tw_rights.specs.Bundled.{bundled};
@@ -10,7 +12,6 @@ ghost use Rattle.tw_rights.specs.Kinds.{kind_at};
 ghost use Rattle.tw_rights.specs.Roomy.{IsRoom};
 ghost use Rattle.tw_rights.specs.declared.held.Held.TheVariants.{Read as ReadOf, Write as WriteOf};
 ghost use Rattle.tw_frame.specs.Drafts.{MaySet, StartsAsMachine};
-ghost use Rattle.tw_frame.specs.Seen.{seen};
 ghost use Rattle.tw_frame.specs.Jobs.{MayStand, bare_frame, draft_of, job_of};
 
 use crate::context::Context;
@@ -19,25 +20,24 @@ use crate::job::{Came, Done, Job, Lent};
 use crate::loops::Loops;
 use crate::rooms::{Ahead, EmptyFile, Rooms};
 use crate::start::Start;
-use crate::value_ref::ValueRef;
 use std::alloc::{AllocError, Global};
 use std::marker::Model;
 use tw_queue::Task;
 use tw_rights::{Arg, Bundle, Held, ReadRight, RightFile, WriteRight};
-use tw_types::{Actor, Param, TaskNo, Value};
+use tw_types::{Actor, Param, TaskNo, Value, ValueRef};
 use tw_verify::Verified;
 
 /// A task that runs: where it stands, its rights, and how many instructions it has done. Its job is lent while it stands.
 pub struct Frame<'a> {
     verified: &'a Verified,
     task: TaskNo,
-    procedure: u8,
-    actor: Actor,
     event_no: u64,
     spent: u64,
     own: Box<Context<'a>>,
     /// Its right registers.
     rights: Box<RightFile>,
+    procedure: u8,
+    actor: Actor,
 }
 
 impl<'a> Model for Frame<'a> {
@@ -256,7 +256,8 @@ impl<'a> Frame<'a> {
     /// The value of a register, which stays there.
     pub fn look(&self, register: u8) -> ValueRef<'_>
         requires { register < length self.now.position.values }
-        ensures { slice_get self.now.position.values register ≡ Some (seen result) }
+        ensures is { slice_get self.now.position.values register ≡ Some (named result) }
+        ensures proper { IsProper (named result) }
     {
         let _count = self.own.registers.count();
         self.own.registers.at(register)

@@ -1,17 +1,17 @@
 //! Jobs.
 
 ghost use Rattle.std.specs.Prelude.{◌≡◌, ◌<◌, ℕ, List, IfOk, OnErr, Some, length, slice_get};
+ghost use Rattle.tw_types.specs.Value.{IsProper};
+ghost use Rattle.tw_types.specs.ValueOrder.{named};
 ghost use Rattle.tw_types.specs.declared.value.Value.TheVariants as value;
 ghost use Rattle.tw_frame.specs.Jobs.{IsDone, IsJob, IsRun, position_of};
-ghost use Rattle.tw_frame.specs.Seen.{seen};
 
 use crate::context::Context;
 use crate::rooms::Ahead;
 use crate::run::run_from;
-use crate::value_ref::ValueRef;
 use std::alloc::{AllocError, Global};
 use std::marker::Model;
-use tw_types::{Actor, TaskNo, Value};
+use tw_types::{Actor, TaskNo, Value, ValueRef};
 use tw_verify::Verified;
 
 /// A task as it is lent: its work up to its next instruction that isn't local.
@@ -19,10 +19,10 @@ use tw_verify::Verified;
 pub struct Lent<'a> {
     pub(crate) verified: &'a Verified,
     pub(crate) task: TaskNo,
-    pub(crate) procedure: u8,
-    pub(crate) actor: Actor,
     pub(crate) event_no: u64,
     pub(crate) at: Box<Context<'a>>,
+    pub(crate) procedure: u8,
+    pub(crate) actor: Actor,
 }
 
 impl<'a> Model for Lent<'a> {
@@ -110,7 +110,8 @@ impl<'a> Lent<'a> {
     /// The value of a register, which stays there.
     pub fn look(&self, register: u8) -> ValueRef<'_>
         requires { register < length self.now.position.values }
-        ensures { slice_get self.now.position.values register ≡ Some (seen result) }
+        ensures is { slice_get self.now.position.values register ≡ Some (named result) }
+        ensures proper { IsProper (named result) }
     {
         let _count = self.at.registers.count();
         self.at.registers.at(register)
@@ -252,7 +253,8 @@ impl<'a> Done<'a> {
     /// The value of a register, to which it came.
     pub fn look(&self, register: u8) -> ValueRef<'_>
         requires { register < length self.now.after.values }
-        ensures { slice_get self.now.after.values register ≡ Some (seen result) }
+        ensures is { slice_get self.now.after.values register ≡ Some (named result) }
+        ensures proper { IsProper (named result) }
     {
         let context = self.context_after();
         let _count = context.registers.count();

@@ -14,11 +14,9 @@ mod run;
 mod start;
 mod step;
 mod texts;
-mod value_ref;
 
 pub use draft::Draft;
 pub use frame::Frame;
 pub use job::{Done, Job, Lent};
 pub use rooms::Rooms;
 pub use start::Start;
-pub use value_ref::ValueRef;

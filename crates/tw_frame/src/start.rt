@@ -21,11 +21,11 @@ use tw_verify::Verified;
 /// The values with which a task starts, made where memory may be refused: once for its frame, and once for its first job.
 pub struct Start<'a> {
     pub(crate) verified: &'a Verified,
-    pub(crate) procedure: u8,
     pub(crate) own: Box<Context<'a>>,
     pub(crate) lent: Box<Context<'a>>,
     pub(crate) ahead: Ahead<'a>,
     pub(crate) rights: EmptyFile,
+    pub(crate) procedure: u8,
 }
 
 impl<'a> Model for Start<'a> {

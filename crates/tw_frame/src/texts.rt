@@ -1,6 +1,6 @@
 //! Banks of texts.
 
-ghost use Rattle.std.specs.Prelude.{◌≡◌, ◌<◌, ℕ, [], length, replicate, slice_index_or, slice_set, IfOk, OnErr};
+ghost use Rattle.std.specs.Prelude.{◌≡◌, ◌<◌, ℕ, [], length, replicate, slice_index_or, slice_set, IfOk, OnErr, OnOk};
 ghost use Rattle.tw_types.specs.Text.{IsText};
 ghost use Rattle.tw_frame.specs.Pieces.{IsSlot, text_in};
 
@@ -148,5 +148,29 @@ impl Texts {
             })?;
         }
         Ok(Texts { slots, block })
+    }
+
+    /// Become so many empty texts.
+    pub(crate) fn begin(&mut self, alloc: Global, count: usize) -> Result<(), AllocError>
+        ensures blank { OnOk result (self.new ≡ replicate count []) }
+        ensures refused { OnErr result (self.new ≡ self.old) }
+        ensures some { OnErr result (0 < count) }
+    {
+        if self.len() > 0 || count > 0 {
+            *self = Texts::blank(alloc, count)?;
+        }
+        Ok(())
+    }
+
+    /// Become what others are.
+    pub(crate) fn copy_from(&mut self, alloc: Global, others: &Texts) -> Result<(), AllocError>
+        ensures copy { OnOk result (self.new ≡ others.now) }
+        ensures refused { OnErr result (self.new ≡ self.old) }
+        ensures some { OnErr result (0 < length others.now) }
+    {
+        if self.len() > 0 || others.len() > 0 {
+            *self = others.try_clone(alloc)?;
+        }
+        Ok(())
     }
 }

@@ -1,8 +1,7 @@
 -- With the events of each line of the table of turns a history is within its limit.
-use Rattle.std.proofs.Common.{◌≡◌, ◌≢◌, ◌==◌, ◌+◌, ◌≤◌, ◌<◌, ℕ, Bool, true, false, not, ◌&&◌, if◌then◌else◌, refl, sym, ap, subst, ◌∙◌, arith, List, [], ◌∷◌, ◌++◌, length, length-append, Option, Some, None, ◌⊎◌, inl, inr}
+use Rattle.std.proofs.Common.{◌≡◌, ◌≢◌, ◌==◌, ◌+◌, ◌≤◌, ◌<◌, Bool, true, false, not, ◌&&◌, if◌then◌else◌, refl, sym, ap, subst, ◌∙◌, arith, List, [], ◌∷◌, ◌++◌, length, length-append, Option, Some, None, inl, inr}
 use Rattle.std.specs.Option.{option_map, option_or}
 use Rattle.std.proofs.lemmas.Bool.{eqb-false}
-use Rattle.std.proofs.lemmas.Bool.Decides.{nat_tests}
 use Rattle.tw_types.specs.declared.actor.Actor.{Actor}
 use Rattle.tw_types.specs.declared.ending.Ending.{Ending}
 use Rattle.tw_types.specs.declared.event.Event.{Event}
@@ -15,7 +14,7 @@ use Rattle.tw_pool.specs.declared.answer.Closing.{Closing}
 use Rattle.tw_pool.specs.declared.answer.Closing.TheVariants.{Stopped, Limit}
 use Rattle.tw_pool.specs.declared.answer.Turn.{Turn}
 use Rattle.tw_pool.specs.PoolView.{PoolView}
-use Rattle.tw_pool.specs.Turns.{GoesFree, HandsIn, Makes, TakesBack, Turns, TurnsUnless, closing_at, closing_of, instr_behind, is_last, lent_to, steps_of}
+use Rattle.tw_pool.specs.Turns.{Makes, TakesBack, Turns, TurnsUnless, closing_at, closing_of, instr_behind, is_last, lent_to, steps_of}
 
 abbrev Fits : PoolView → List Event → Type 0
 Fits p events = length p.history + length events ≤ p.limit

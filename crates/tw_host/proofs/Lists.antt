@@ -1,19 +1,18 @@
 -- Lists of lists, lists by seats, and what is left of a list.
-use Rattle.std.proofs.Common.{◌≡◌, ◌<◌, ◌+◌, ◌++◌, ℕ, true, false, Some, drop, List, [], ◌∷◌, map, length, append_assoc, Vec, Global, refl, sym, ap, ◌∙◌, arith, get_or}
+use Rattle.std.proofs.Common.{◌≡◌, ◌<◌, ◌+◌, ◌++◌, ℕ, Bool, true, false, Option, Some, None, option_map, drop, List, [], ◌∷◌, map, length, append_assoc, Vec, Global, refl, sym, ap, ◌∙◌, arith, get_or}
 use Rattle.std.specs.Prelude.{◌↔◌, slice_get, slice_index_or}
 use Rattle.std.specs.List.{range_with_len}
 use Rattle.std.proofs.lemmas.List.{length-map, map-append, get_or-map}
 use Rattle.std.proofs.lemmas.List.FromFn.{fill_by_all, map-range_with_len_more}
 use Rattle.std.proofs.lemmas.List.{drop_more}
-use Rattle.std.proofs.lemmas.Option.{get_or_from_slice_get}
+use Rattle.std.proofs.lemmas.Option.{get_or_from_slice_get, same_Some}
 use Rattle.tw_types.specs.declared.actor.Actor.{Actor}
 use Rattle.tw_types.specs.declared.event.Event.{Event}
-use Rattle.tw_types.specs.Layout.{ActorCounts}
 use Rattle.tw_pool.specs.Actors.{events_of, same_actor}
 use Rattle.tw_code.specs.machine.History.{actor_of}
 use Rattle.tw_host.specs.Ends.{by_actor}
 use Rattle.tw_host.specs.Run.{Run}
-use Rattle.tw_host.specs.Seats.{actor_at, actors_of, seat_count}
+use Rattle.tw_host.specs.Seats.{actor_at, seat_count}
 
 pub map_map : {X Y Z : Type 0} (f : X → Y) (g : Y → Z) (xs : List X) → map g (map f xs) ≡ map (λ x. g (f x)) xs
 map_map f g [] = refl
@@ -53,6 +52,21 @@ module _ (actor : Actor) (history : List Event) (k : ℕ) (event : Event) (low :
 
   pub other_next : same_actor (actor_of event) actor ≡ false → events_of actor (drop k history) ≡ events_of actor (drop (k + 1) history)
   other_next is = rw (rest_more history k event low at, is) refl
+
+-- the event there, where it is known whether it is the actor's
+module _ (actor : Actor) (history : List Event) (k : ℕ) (low : k < length history) where
+  abbrev is_own : Event → Bool
+  is_own event = same_actor (actor_of event) actor
+
+  pub own_there : (event : Event) → slice_get history k ≡ Some event → option_map is_own (slice_get history k) ≡ Some true → events_of actor (drop k history) ≡ event ∷ events_of actor (drop (k + 1) history)
+  own_there event at own = own_next actor history k event low at (same_Some (is_own event) true (ap (option_map is_own) (sym at) ∙ own))
+
+  pub other_there : option_map is_own (slice_get history k) ≡ Some false → events_of actor (drop k history) ≡ events_of actor (drop (k + 1) history)
+  other_there other = by (slice_get history k) refl other
+    where
+      by : (o : Option Event) → slice_get history k ≡ o → option_map is_own o ≡ Some false → events_of actor (drop k history) ≡ events_of actor (drop (k + 1) history)
+      by None at e = cc
+      by (Some event) at e = other_next actor history k event low at (same_Some (is_own event) false e)
 
 -- a list is the rest just where another is all, with one item off both or with none
 pub both_less : (told all : List Event) (e : Event) (xs rest ys next : List Event) → xs ≡ e ∷ rest → ys ≡ e ∷ next → (xs ≡ ys) ↔ (told ≡ all) → (rest ≡ next) ↔ (told ≡ all)

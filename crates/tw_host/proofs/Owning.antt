@@ -1,5 +1,5 @@
 -- Jobs and Dones in the answer of each line of the table of turns are of the program.
-use Rattle.std.proofs.Common.{◌≡◌, ◌+◌, ℕ, Bool, true, false, refl, sym, ap, subst, ◌∙◌, List, [], ◌∷◌, ◌++◌, length, Option, Some, None, ◌⊎◌, inl, inr}
+use Rattle.std.proofs.Common.{◌≡◌, ℕ, Bool, true, false, sym, ap, subst, List, [], ◌∷◌, ◌++◌, length, Option, Some, None, inl, inr}
 use Rattle.std.specs.FinMap.{get}
 use Rattle.std.specs.Option.{option_map}
 use Rattle.tw_types.specs.declared.actor.Actor.{Actor}
@@ -15,7 +15,7 @@ use Rattle.tw_pool.specs.declared.answer.Turn.{Turn}
 use Rattle.tw_pool.specs.declared.answer.Turn.TheVariants as turn
 use Rattle.tw_pool.specs.Actors.{events_of}
 use Rattle.tw_pool.specs.PoolView.{PoolView, with_events}
-use Rattle.tw_pool.specs.Turns.{Answers, IsTurn, Lends, Makes, TakesBack, Turns, TurnsUnless, closing_at, instr_behind, is_last, lent_to, steps_of}
+use Rattle.tw_pool.specs.Turns.{IsTurn, Lends, Makes, TakesBack, Turns, TurnsUnless, closing_at, instr_behind, is_last, lent_to, steps_of}
 use Rattle.tw_host.specs.Tells.{IsAnswerOf, IsDoneOf}
 
 abbrev program_in : TypedProgram → Option JobView → TypedProgram

@@ -1,11 +1,11 @@
 -- What a turn of the pool says to a seat.
-use Rattle.std.proofs.Common.{◌≡◌, ◌+◌, ◌≤◌, ℕ, refl, sym, ap, subst, ◌∙◌, arith, List, [], ◌∷◌, ◌++◌, length, length-append, Option, drop, inl}
+use Rattle.std.proofs.Common.{◌≡◌, ◌+◌, ◌≤◌, refl, ap, ◌∙◌, arith, List, [], ◌∷◌, ◌++◌, length, length-append, Option, drop, inl}
 use Rattle.tw_types.specs.declared.actor.Actor.{Actor}
 use Rattle.tw_types.specs.declared.event.Event.{Event}
 use Rattle.tw_frame.specs.Jobs.{DoneView}
 use Rattle.tw_pool.specs.declared.answer.Turn.{Turn}
 use Rattle.tw_pool.specs.Actors.{events_of}
-use Rattle.tw_pool.specs.PoolView.{PoolView, with_events}
+use Rattle.tw_pool.specs.PoolView.{PoolView}
 use Rattle.tw_pool.specs.Turns.{AreOwn, IsTurn, closing_at}
 use Rattle.tw_pool.proofs.Lines.{own_events}
 use Rattle.tw_host.specs.Run.{Run, run_of}

@@ -2,13 +2,12 @@
 
 ghost use Rattle.std.specs.Prelude.{◌≡◌, ◌≢◌, ◌↔◌, ◌+◌, ◌<◌, ◌≤◌, ◌∷◌, [], List, ℕ, IsTrue, MatchOption, length, map, slice_index_or, sum_by, vec_len, vec_capacity};
 ghost use Rattle.tw_types.specs.declared.event.Event.{Event as AnEvent};
-ghost use Rattle.tw_code.specs.machine.History.{actor_of};
-ghost use Rattle.tw_pool.specs.Actors.{events_of, same_actor};
+ghost use Rattle.tw_pool.specs.Actors.{HasPlace, events_of};
 ghost use Rattle.tw_host.specs.Ends.{Closes};
 ghost use Rattle.tw_host.specs.Seats.{actor_at, seat_count};
 
 use crate::host::Host;
-use crate::layout::{actor_at, maker_of};
+use crate::layout::{actor_at, seat_count};
 use crate::locked::Locked;
 use crate::named::Named;
 use crate::seat::Seat;
@@ -33,13 +32,6 @@ pub enum Closed {
     },
 }
 
-/// Whether an actor made the event.
-fn is_by(event: Event, actor: Actor) -> bool
-    ensures { result ≡ same_actor (actor_of event) actor }
-{
-    maker_of(event) == actor
-}
-
 /// What stands behind an event with which a list begins.
 fn behind<'t>(told: &'t [Event], event: &Event) -> Option<&'t [Event]>
     ensures { MatchOption result ((rest : List AnEvent) → told.now ≢ event.now ∷ rest) (λ rest. told.now ≡ event.now ∷ rest.now) }
@@ -50,12 +42,13 @@ fn behind<'t>(told: &'t [Event], event: &Event) -> Option<&'t [Event]>
 
 /// Whether a list is an actor's events of the history.
 fn is_events_of(told: &[Event], history: &History, actor: Actor) -> bool
+    requires { HasPlace actor }
     ensures { IsTrue result ↔ (told.now ≡ events_of actor history.now.events) }
 {
     let mut rest = told;
     for k in 0..history.len() {
-        let event = history.event(k);
-        if is_by(event, actor) {
+        if history.is_by(k, actor) {
+            let event = history.event(k);
             let Some(others) = behind(rest, &event) else {
                 return false;
             };
@@ -72,7 +65,7 @@ fn first_differing<N: Named>(seats: &[Seat<N>], layout: Layout, history: &Histor
         ((k : ℕ) → k < length lists → slice_index_or lists k [] ≡ events_of (actor_at layout k) history.now.events)
         (λ k. (k < length lists) × (slice_index_or lists k [] ≢ events_of (actor_at layout k) history.now.events)) }
 {
-    for k in 0..seats.len() {
+    for k in 0..seat_count(layout) {
         let seat = &seats[k];
         if !is_events_of(seat.told.as_slice(), history, actor_at(layout, k)) {
             return Some(k);

@@ -87,6 +87,7 @@ impl<'a, N: Named> Host<'a, N> {
 
     /// One turn of the seat's actor, under the lock; the seat is told the events that it appends. Where memory for these is
     /// refused the pool isn't touched. Where the seat's list isn't the pool's nothing is changed either.
+    #[inline(always)]
     pub fn turn(
         &self,
         rt: &impl Wait,

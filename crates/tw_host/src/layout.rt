@@ -3,10 +3,9 @@
 ghost use Rattle.std.specs.Prelude.{◌≡◌, ◌<◌, true};
 ghost use Rattle.tw_types.specs.Actor.{is_in};
 ghost use Rattle.tw_types.specs.Layout.{IsLayout};
-ghost use Rattle.tw_code.specs.machine.History.{actor_of};
 ghost use Rattle.tw_host.specs.Seats.{actor_at, seat_count};
 
-use tw_types::{Actor, Event, Layout};
+use tw_types::{Actor, Layout};
 
 /// How many actors there are, each with a seat.
 pub fn seat_count(layout: Layout) -> usize
@@ -30,18 +29,5 @@ pub fn actor_at(layout: Layout, seat: usize) -> Actor
         Actor::Server((seat - engines) as u8)
     } else {
         Actor::Worker((seat - (engines + servers)) as u8)
-    }
-}
-
-/// Who made an event.
-pub(crate) fn maker_of(event: Event) -> Actor
-    ensures { result ≡ actor_of event }
-{
-    match event {
-        Event::Take(actor) | Event::Local(actor, _) | Event::Call(actor) | Event::End(actor) => {
-            actor
-        }
-        Event::Ask(engine, _, _) | Event::Release(engine, _) => Actor::Engine(engine),
-        Event::Deliver(server, _, _, _) => Actor::Server(server),
     }
 }

@@ -12,6 +12,7 @@ pub trait Named: Ledger {
 
 impl Named for Brand {
     ghost use Rattle.std.specs.Prelude.{[]};
+    ghost use Rattle.tw_code.specs.declared.version.Version.TheVariants.{Two};
 
-    ghost run = { record { program = record { program = []; typings = [] }; inputs = []; layout = record { engines = 1; servers = 1; workers = 1 }; limit = 1 } };
+    ghost run = { record { program = record { version = Two; program = []; typings = [] }; inputs = []; layout = record { engines = 1; servers = 1; workers = 1 }; limit = 1 } };
 }

@@ -1,5 +1,5 @@
 -- Data are added, and one takes the place of another of its id: what the store's calls leave, where nothing is freed or told.
-use Rattle.std.proofs.Common.{◌≡◌, ◌<◌, ◌+◌, ℕ, ℤ, Bool, true, false, cond, List, [], Option, Some, None, refl, sym, ap, subst, ◌∙◌, arith, inl, inr, slice_set}
+use Rattle.std.proofs.Common.{◌≡◌, ◌<◌, ◌+◌, ℕ, Bool, true, false, cond, List, [], Option, Some, None, refl, sym, ap, subst, ◌∙◌, arith, inl, inr, slice_set}
 use Rattle.std.specs.Prelude.{IsSome, Ok}
 use Rattle.std.specs.Option.{option_and_then}
 use Rattle.std.proofs.lemmas.Bool.{cases_eq}
@@ -9,6 +9,7 @@ use Rattle.std.specs.FinMap.{FinMap, IsAntisymmetric, empty, get, get-empty, get
 use Rattle.std.specs.Ordering.{eq_by_cmp, is_eq, nat_cmp}
 use Rattle.std.specs.declared.cmp.Ordering.{Ordering}
 use Rattle.std.specs.declared.cmp.Ordering.TheVariants.{Less, Equal, Greater}
+use Rattle.tw_types.specs.declared.data_type.Scalar.{Scalar}
 use Rattle.tw_types.specs.declared.value.Value.{Value}
 use Rattle.tw_types.specs.declared.value.Value.TheVariants as value
 use Rattle.tw_types.specs.declared.notice.Notice.{Notice}
@@ -19,6 +20,7 @@ use Rattle.tw_types.specs.Store.{Datum, Store, added, is_unheld, new_datum, noti
 use Rattle.tw_types.specs.StoreCalls.{changed, created, inserted, member_at, members_in, notices_after, set_to, store_after, with_member}
 use Rattle.tw_types.specs.StoreChecks.{may_insert, may_store}
 use Rattle.tw_types.specs.Value.{scalar_of}
+use Rattle.tw_types.specs.ValueOrder.{Subscript}
 use Rattle.tw_types.proofs.Freeing.{data_insert_other, data_insert_same}
 use Rattle.tw_types.proofs.Results.{there_then}
 use Rattle.tw_types.proofs.Totals.{insert_other}
@@ -206,31 +208,30 @@ module _ (s a : Served) (v : Value) (w r : Right) (h : IsMade s a (scalar_type (
 
 -- ---- a scalar that was added becomes a member
 
-module _ (s a : Served) (v : Value) (m : Right) (h : IsAdded (added s.store (closed_scalar v)) s a m) (id : ℕ) (low : id < s.store.next) (may : may_insert (get s.store.live id) (Some (closed_scalar v)) ≡ Ok tt) where
+module _ (s a : Served) (v : Value) (m : Right) (h : IsAdded (added s.store (closed_scalar v)) s a m) (id : ℕ) (low : id < s.store.next) (by : Scalar) (may : may_insert by (get s.store.live id) (Some (closed_scalar v)) ≡ Ok tt) where
   still : get a.store.live id ≡ get s.store.live id
   still = ap (λ (t : Store). get t.live id) h.store ∙ added_get s.store (closed_scalar v) id low
 
-  pub member_allowed : may_insert (get a.store.live id) (get a.store.live m.id) ≡ Ok tt
+  pub member_allowed : may_insert by (get a.store.live id) (get a.store.live m.id) ≡ Ok tt
   member_allowed =
       let new : get a.store.live m.id ≡ Some (closed_scalar v) = ap (λ (t : Store). get t.live m.id) h.store ∙ ap (get (added s.store (closed_scalar v)).live) h.first ∙ added_here s.store (closed_scalar v) in
-      ap (λ o. may_insert o (get a.store.live m.id)) still ∙ ap (may_insert (get s.store.live id)) new ∙ may
+      ap (λ o. may_insert by o (get a.store.live m.id)) still ∙ ap (may_insert by (get s.store.live id)) new ∙ may
 
-  pub member_not_there : (k j : ℤ) → j ≡ k → member_at s.store id k ≡ None → IsSome (member_at a.store id j) → ⊥
-  member_not_there k j same none some =
-      not_both (member_at a.store id j) (ap (member_at a.store id) same ∙ ap (option_and_then (λ (x : Datum). get (members_in x.content) k)) still ∙ none) some
+  pub member_not_there : (k : Subscript) → member_at s.store id k ≡ None → IsSome (member_at a.store id k) → ⊥
+  member_not_there k none some = not_both (member_at a.store id k) (ap (option_and_then (λ (x : Datum). get (members_in x.content) k)) still ∙ none) some
     where
       not_both : (o : Option ℕ) → o ≡ None → IsSome o → ⊥
       not_both None e there = cc
       not_both (Some x) e there = cc
 
-  pub member_added : (b : Served) (k j : ℤ) → j ≡ k → AreAllLive a → IsNow (inserted a.store id j m.id) a b → HasMember id k v s b
-  member_added b k j same all now =
+  pub member_added : (b : Served) (k : Subscript) → AreAllLive a → IsNow (inserted a.store id k m.id) a b → HasMember id k v s b
+  member_added b k all now =
       let there = there_then (get s.store.live id) FreedDatum _ tt may in
       record {
-        store = now.store ∙ ap (λ i. inserted a.store id i m.id) same ∙ ap (λ n. inserted a.store id k n) h.first ∙ ap (λ t. inserted t id k s.store.next) h.store;
+        store = now.store ∙ ap (λ n. inserted a.store id k n) h.first ∙ ap (λ t. inserted t id k s.store.next) h.store;
         stays = λ d under. ap (λ ps. get ps d) now.places ∙ h.stays d under;
         queues = now.queues ∙ h.queues;
-        live = (now_replaced a b id (with_member j m.id) there.0 (still ∙ there.1) all now).live;
+        live = (now_replaced a b id (with_member k m.id) there.0 (still ∙ there.1) all now).live;
       }
 
 -- ---- before anything is added

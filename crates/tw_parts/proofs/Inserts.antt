@@ -1,17 +1,20 @@
 -- INS: what is asked is met, and that it is done.
 use Rattle.tw_types.specs.StoreCalls.{inserted, member_at}
 use Rattle.tw_types.specs.StoreChecks.{may_insert}
-use Rattle.tw_types.specs.declared.value.Value.TheVariants as value
+use Rattle.tw_types.specs.DataType.{is_container_by}
+use Rattle.tw_types.specs.Value.{scalar_of}
+use Rattle.tw_types.specs.ValueOrder.{Subscript}
 use Rattle.tw_rights.specs.declared.held.Held.TheVariants as held
 use Rattle.tw_code.specs.declared.instr.DataInstr.TheVariants as on_data
-use Rattle.tw_code.specs.accepting.Typing.{reads_member_of, writes_container}
+use Rattle.tw_code.specs.accepting.Typing.{reads_member_of, writes_container_by}
 use Rattle.tw_code.specs.machine.Data.{after_insert}
+use Rattle.tw_code.specs.machine.Position.{of_type_at}
 use Rattle.tw_no_trap.proofs.Conditions.{insert_asks}
-use Rattle.tw_parts.proofs.DataNames.{◌≡◌, ◌∙◌, ◌+◌, ℕ, ℤ, zero, suc, true, false, not, List, [], ◌∷◌, None, Some, Option, IsSome, Ok, refl, sym, ap, inl, slice_get, slice_index_or, slice_set, get, EmptyRegister, is_element_of, is_read, is_scalar, is_write, Notices, ok_after, ok_first, there_then, Held, bare_file, kind_at, Right, Served, IsHere, IsNow, IsUnchanged, Skipped, Context, data_instr, at_goal, at_next_place, int_at, passes, passed, right_at, RightType, FrameView, IsDone, MayDo, sees}
+use Rattle.tw_parts.proofs.DataNames.{◌≡◌, ◌<◌, ◌∙◌, ◌+◌, ℕ, Scalar, length, zero, suc, true, false, List, [], ◌∷◌, None, Some, Option, IsSome, Ok, refl, sym, ap, inl, slice_get, slice_index_or, slice_set, get, EmptyRegister, is_element_of, is_read, is_write, Notices, ok_after, ok_first, there_then, Held, bare_file, kind_at, Right, Served, IsHere, IsNow, IsUnchanged, Skipped, Context, data_instr, at_goal, at_next_place, passes, passed, right_at, RightType, FrameView, IsDone, MayDo, sees}
 use Rattle.tw_parts.specs.Memory.{IsAbsent}
 use Rattle.tw_parts.proofs.Left.{emptied_done, moved_done, now_stays, same_ok}
 use Rattle.tw_parts.proofs.Registers.{and_first, id_at, its_id, kind_passed, placed_at, read_reads}
-use Rattle.tw_parts.proofs.ValueRegisters.{int_is, int_same}
+use Rattle.tw_parts.proofs.ValueRegisters.{of_type_inside, of_type_kind, of_type_same}
 
 -- ---- a write isn't where a read is
 
@@ -34,7 +37,7 @@ present : (o : Option ℕ) → IsSome o → (x : ℕ) × (o ≡ Some x)
 present None e = cc
 present (Some x) e = (x, refl)
 
-module _ (container subscript member skip : ℕ) (s : Served) (f : FrameView) (m : MayDo (on_data.Insert container subscript member skip) s f) where
+module _ (by : Scalar) (container subscript member skip : ℕ) (s : Served) (f : FrameView) (m : MayDo (on_data.Insert by container subscript member skip) s f) where
   pub insert_read : kind_at f.held member ≡ Some false
   insert_read =
       let box = passed (λ (right : RightType). passes (reads_member_of right) (right_at m.typed.typing member)) (right_at m.typed.typing container) m.typed.asked.1.0 in
@@ -44,17 +47,17 @@ module _ (container subscript member skip : ℕ) (s : Served) (f : FrameView) (m
   pub insert_write : (taken : FrameView) → taken.held ≡ slice_set f.held member None → kind_at taken.held container ≡ Some true
   insert_write taken take =
       ap (λ (file : List (Option Held)). kind_at file container) take
-      ∙ still_writes f.held member container insert_read (kind_passed f.held m.typed.typing m.typed.kinds container true writes_container (λ t e. and_first (is_write t.mode) (not (is_scalar t.ty)) e) m.typed.asked.0)
+      ∙ still_writes f.held member container insert_read (kind_passed f.held m.typed.typing m.typed.kinds container true (writes_container_by by) (λ t e. and_first (is_write t.mode) (is_container_by by t.ty) e) m.typed.asked.0)
 
-  asks : (at : ℤ) × (id inner : ℕ) × (int_at f.position subscript ≡ Ok at) × (right_at (bare_file f.held) container ≡ Some id) × (right_at (bare_file f.held) member ≡ Some inner)
-      × (may_insert (get s.store.live id) (get s.store.live inner) ≡ Ok tt)
-  asks = insert_asks (sees s m.ns f) m.left container subscript member skip m.goes
+  asks : (at : Subscript) × (id inner : ℕ) × (of_type_at f.position subscript by ≡ Ok at) × (right_at (bare_file f.held) container ≡ Some id) × (right_at (bare_file f.held) member ≡ Some inner)
+      × (may_insert by (get s.store.live id) (get s.store.live inner) ≡ Ok tt)
+  asks = insert_asks (sees s m.ns f) m.left by container subscript member skip m.goes
 
-  pub insert_int : (n : ℤ) × (slice_get f.position.values subscript ≡ Some (value.Int n))
-  insert_int = (asks.0, int_is f.position subscript asks.0 asks.3)
+  pub insert_inside : subscript < length f.position.values
+  insert_inside = of_type_inside f.position subscript by asks.0 asks.3
 
   module _ (right : Right) (at : slice_index_or f.held member None ≡ Some (held.Read right)) (taken : FrameView) (take : taken.held ≡ slice_set f.held member None)
-      (box : Right) (box_at : slice_index_or taken.held container None ≡ Some (held.Write box)) (n : ℤ) (n_is : slice_get f.position.values subscript ≡ Some (value.Int n)) where
+      (box : Right) (box_at : slice_index_or taken.held container None ≡ Some (held.Write box)) (n : Subscript) (n_is : slice_get f.position.values subscript ≡ Some n) where
     box_was : slice_index_or f.held container None ≡ Some (held.Write box)
     box_was = was_there f.held member container (held.Write box) (ap (λ (file : List (Option Held)). slice_index_or file container None) (sym take) ∙ box_at)
 
@@ -70,32 +73,37 @@ module _ (container subscript member skip : ℕ) (s : Served) (f : FrameView) (m
     its : (id : ℕ) → right_at (bare_file f.held) member ≡ Some id → id ≡ right.id
     its id there = its_id f.held member (held.Read right) id at there
 
-    same_int : (k : ℤ) → int_at f.position subscript ≡ Ok k → k ≡ n
-    same_int k e = int_same f.position subscript k n e n_is
+    same : (k : Subscript) → of_type_at f.position subscript by ≡ Ok k → k ≡ n
+    same k e = of_type_same f.position subscript by k e n n_is
 
-    pub insert_allowed : may_insert (get s.store.live box.id) (get s.store.live right.id) ≡ Ok tt
-    insert_allowed = ap (λ id. may_insert (get s.store.live id) (get s.store.live right.id)) (sym (its_box asks.1 asks.4)) ∙ ap (λ id. may_insert (get s.store.live asks.1) (get s.store.live id)) (sym (its asks.2 asks.5)) ∙ asks.6
+    kind : scalar_of n ≡ by
+    kind = ap scalar_of (sym (same asks.0 asks.3)) ∙ of_type_kind f.position subscript by asks.0 asks.3
+
+    pub insert_allowed : may_insert (scalar_of n) (get s.store.live box.id) (get s.store.live right.id) ≡ Ok tt
+    insert_allowed =
+        ap (λ (b : Scalar). may_insert b (get s.store.live box.id) (get s.store.live right.id)) kind
+        ∙ ap (λ id. may_insert by (get s.store.live id) (get s.store.live right.id)) (sym (its_box asks.1 asks.4)) ∙ ap (λ id. may_insert by (get s.store.live asks.1) (get s.store.live id)) (sym (its asks.2 asks.5)) ∙ asks.6
 
     pub insert_absent : member_at s.store box.id n ≡ None → IsAbsent s f container subscript
     insert_absent none = (box.id, n, id_at f.held container (held.Write box) box_was, n_is, none)
 
-    comes : (ns : Notices) (k : Context) → data_instr (on_data.Insert container subscript member skip) (sees s ns f) ≡ Ok k → k ≡ after_insert (sees s ns f) box.id n right.id member skip (member_at s.store box.id n)
+    comes : (ns : Notices) (k : Context) → data_instr (on_data.Insert by container subscript member skip) (sees s ns f) ≡ Ok k → k ≡ after_insert (sees s ns f) box.id n right.id member skip (member_at s.store box.id n)
     comes ns k e =
-        let v = ok_first (int_at f.position subscript) _ k e in
+        let v = ok_first (of_type_at f.position subscript by) _ k e in
         let h = there_then (right_at (bare_file f.held) container) EmptyRegister _ k v.2 in
         let g = there_then (right_at (bare_file f.held) member) EmptyRegister _ k h.2 in
-        let a = ok_after (may_insert (get s.store.live h.0) (get s.store.live g.0)) _ k g.2 in
-        sym (same_ok _ k a.1) ∙ (λ i. after_insert (sees s ns f) (its_box h.0 h.1 i) (same_int v.0 v.1 i) (its g.0 g.1 i) member skip (member_at s.store (its_box h.0 h.1 i) (same_int v.0 v.1 i)))
+        let a = ok_after (may_insert by (get s.store.live h.0) (get s.store.live g.0)) _ k g.2 in
+        sym (same_ok _ k a.1) ∙ (λ i. after_insert (sees s ns f) (its_box h.0 h.1 i) (same v.0 v.1 i) (its g.0 g.1 i) member skip (member_at s.store (its_box h.0 h.1 i) (same v.0 v.1 i)))
 
     module _ (new : Served) where
       -- the subscript is there
-      pub inserted_none : IsSome (member_at s.store box.id n) → IsUnchanged s new → (g : FrameView) → g ≡ record f { position = at_goal f.position skip; spent = f.spent + 1 } → IsDone (on_data.Insert container subscript member skip) s new f g
-      inserted_none some u = moved_done (on_data.Insert container subscript member skip) s new f [] (inl (refl, u.queues)) (now_stays s new u.places) Skipped (at_goal f.position skip)
+      pub inserted_none : IsSome (member_at s.store box.id n) → IsUnchanged s new → (g : FrameView) → g ≡ record f { position = at_goal f.position skip; spent = f.spent + 1 } → IsDone (on_data.Insert by container subscript member skip) s new f g
+      inserted_none some u = moved_done (on_data.Insert by container subscript member skip) s new f [] (inl (refl, u.queues)) (now_stays s new u.places) Skipped (at_goal f.position skip)
           (λ ns k e. comes ns k e ∙ ap (after_insert (sees s ns f) box.id n right.id member skip) (present (member_at s.store box.id n) some).1 ∙ (λ i. record { store = sym u.store i; notices = ns; rights = bare_file f.held; position = at_goal f.position skip }))
           refl (λ typing. refl)
 
       pub inserted_some : (member_at s.store box.id n ≡ None) → IsNow (inserted s.store box.id n right.id) s new → (g : FrameView) → g ≡ record f { position = at_next_place f.position; held = slice_set f.held member None; spent = f.spent + 1 }
-          → IsDone (on_data.Insert container subscript member skip) s new f g
-      inserted_some none l = emptied_done (on_data.Insert container subscript member skip) s new f [] (inl (refl, l.queues)) (now_stays s new l.places) member
+          → IsDone (on_data.Insert by container subscript member skip) s new f g
+      inserted_some none l = emptied_done (on_data.Insert by container subscript member skip) s new f [] (inl (refl, l.queues)) (now_stays s new l.places) member
           (λ ns k e. comes ns k e ∙ ap (after_insert (sees s ns f) box.id n right.id member skip) none ∙ (λ i. record { store = sym l.store i; notices = ns; rights = slice_set (bare_file f.held) member None; position = at_next_place f.position }))
           refl (λ typing. refl)

@@ -1,6 +1,6 @@
 -- Main's parameters get their data one after the other: on the parts.
-use Rattle.std.proofs.Common.{map as each, ◌≡◌, ◌≢◌, ◌<◌, ◌≤◌, ◌+◌, ℕ, ℤ, zero, suc, Bool, true, false, not, ◌&&◌, List, [], ◌∷◌, ◌++◌, Some, None, refl, sym, ap, subst, ◌∙◌, arith, cond, length, length-append, slice_get, fold, drop, drop-cons, get_or, append_assoc, append-nil}
-use Rattle.std.proofs.lemmas.List.{drop_all, length-map, map-append}
+use Rattle.std.proofs.Common.{map as each, ◌≡◌, ◌≢◌, ◌<◌, ◌≤◌, ◌+◌, ℕ, zero, suc, Bool, true, false, not, ◌&&◌, List, [], ◌∷◌, ◌++◌, Some, None, refl, sym, ap, subst, ◌∙◌, arith, cond, length, length-append, slice_get, fold, drop, drop-cons, get_or, append_assoc, append-nil}
+use Rattle.std.proofs.lemmas.List.{drop_all, map-append}
 use Rattle.std.proofs.lemmas.Bool.{and_parts}
 use Rattle.std.proofs.lemmas.Bool.Decides.{nat_tests}
 use Rattle.std.proofs.lemmas.Option.{same_Some}
@@ -10,20 +10,18 @@ use Rattle.std.specs.Prelude.{replicate}
 use Rattle.std.specs.List.{list_all}
 use Rattle.std.specs.Ordering.{eq_by_cmp, nat_cmp}
 use Rattle.tw_types.specs.Nesting.{NestedScalar}
-use Rattle.tw_types.specs.declared.data_type.Scalar.{Scalar}
-use Rattle.tw_types.specs.declared.data_type.Scalar.TheVariants as scalar
 use Rattle.tw_types.specs.declared.input.Input.{Input}
-use Rattle.tw_types.specs.declared.input.Input.TheVariants as input
 use Rattle.tw_types.specs.declared.param.Mode.{Mode}
 use Rattle.tw_types.specs.declared.param.Mode.TheVariants as mode
 use Rattle.tw_types.specs.declared.param.Param.{Param}
 use Rattle.tw_types.specs.declared.value.Value.{Value}
-use Rattle.tw_types.specs.declared.value.Value.TheVariants as value
-use Rattle.tw_types.specs.DataType.{container_of, is_flat, same_type, scalar_type}
+use Rattle.tw_types.specs.DataType.{container_of, is_flat, scalar_type}
+use Rattle.tw_types.specs.Given.{Given, Single, Container, given_by}
 use Rattle.tw_types.specs.Mode.{is_val, is_write}
 use Rattle.tw_types.specs.Store.{Contains, Datum, Store, added, empty_store}
 use Rattle.tw_types.specs.StoreCalls.{created}
 use Rattle.tw_types.specs.Task.{RightArg}
+use Rattle.tw_types.specs.ValueOrder.{Subscript}
 use Rattle.tw_rights.specs.declared.arg.Arg.{Arg}
 use Rattle.tw_rights.specs.declared.arg.Arg.TheVariants.{Read, Write}
 use Rattle.tw_rights.specs.Bare.{bare_arg}
@@ -31,13 +29,14 @@ use Rattle.tw_rights.specs.Rights.{Right}
 use Rattle.tw_store.specs.Served.{Served}
 use Rattle.tw_store.specs.Slots.{Places}
 use Rattle.tw_code.specs.accepting.MainShape.{is_main_param}
-use Rattle.tw_code.specs.machine.Inputs.{are_few, are_inputs_of, input_params, is_input_of, is_short, rises}
-use Rattle.tw_code.specs.machine.Opening.{Opened, closed_scalar, nothing_opened, numbered, opened, with_container, with_given, with_input, with_output}
+use Rattle.tw_code.specs.machine.Inputs.{are_inputs_of, input_params, is_given_for, is_input_of}
+use Rattle.tw_code.specs.machine.Opening.{Opened, added_given, closed_scalar, nothing_opened, numbered, opened, with_container, with_given, with_input, with_output}
 use Rattle.tw_code.specs.machine.Rights.{right_of}
 use Rattle.tw_parts.specs.Fits.{ArgStands, ArgsStand, AreAt, IsAt}
 use Rattle.tw_parts.specs.OpenedParts.{Adds, AreBefore, AreForAll, IsMade, MayAdd, OpenedParts}
 use Rattle.tw_parts.specs.Opening.{IsAdded}
 use Rattle.tw_parts.specs.Givens.{AreAllLive}
+use Rattle.tw_parts.proofs.Contained.{given_few}
 use Rattle.tw_parts.proofs.Adding.{empty_live, made_live}
 use Rattle.tw_parts.proofs.Keeping.{all_kept, args_kept}
 
@@ -80,31 +79,20 @@ id_before next (id ∷ ids) (suc k) d h e = id_before next ids k d h.1 e
 
 -- ---- how many data an input has
 
-members_next : (es : List (ℤ × Value)) (s : Store) → (fold (λ (t : Store) (e : ℤ × Value). added t (closed_scalar e.1)) s es).next ≡ s.next + length es
+members_next : (es : List (Subscript × Value)) (s : Store) → (fold (λ (t : Store) (e : Subscript × Value). added t (closed_scalar e.1)) s es).next ≡ s.next + length es
 members_next [] s = omega arith
 members_next (e ∷ es) s = omega (arith, members_next es (added s (closed_scalar e.1)))
 
 abbrev AreFew : Store → Store → Type 0
 AreFew old new = (old.next < new.next) × (new.next ≤ old.next + 1001)
 
-container_next : {A : Type 0} (f : A → Value) (s : Store) (inside : Scalar) (es : List (ℤ × A)) → are_few es ≡ true → AreFew s (with_container s inside (each (λ e. (e.0, f e.1)) es))
-container_next {A} f s inside es few =
-    let with_value : ℤ × A → ℤ × Value = λ e. (e.0, f e.1) in
-    let values : List (ℤ × Value) = each with_value es in
-    let count : length es ≤ 1000 = grind (arith, nat_tests, few) in
-    let container : Datum = record { ty = container_of (scalar_type inside); content = Contains (numbered (s.next + 1) values); reads = 1; writes = 0; subscribers = [] } in
-    let all : (with_container s inside values).next ≡ s.next + 1 + length values = members_next values (added s container) in
-    (omega (arith, count, length-map es with_value, all), omega (arith, count, length-map es with_value, all))
-
-pub input_next : (ty : NestedScalar) (i : Input) (s : Store) → is_input_of ty i ≡ true → AreFew s (with_input s i)
-input_next ty (input.Int n) s h = (omega arith, omega arith)
-input_next ty (input.Text text) s h = (omega arith, omega arith)
-input_next ty (input.Ints es) s h =
-    let of_type = and_parts (same_type ty (container_of (scalar_type scalar.Int))) (are_few es && rises es) h in
-    container_next value.Int s scalar.Int es (and_parts (are_few es) (rises es) of_type.1).0
-input_next ty (input.Texts es) s h =
-    let of_type = and_parts (same_type ty (container_of (scalar_type scalar.Text))) (are_few es && (rises es && list_all (λ (e : ℤ × List ℕ). is_short e.1) es)) h in
-    container_next value.Text s scalar.Text es (and_parts (are_few es) (rises es && list_all (λ (e : ℤ × List ℕ). is_short e.1) es) of_type.1).0
+pub input_next : (ty : NestedScalar) (given : Given) (s : Store) → is_given_for ty given ≡ true → AreFew s (added_given s given)
+input_next ty (Single x) s h = (omega arith, omega arith)
+input_next ty (Container by inside es) s h =
+    let count : length es ≤ 1000 = given_few ty by inside es h in
+    let container : Datum = record { ty = container_of by (scalar_type inside); content = Contains (numbered (s.next + 1) es); reads = 1; writes = 0; subscribers = [] } in
+    let all : (with_container s by inside es).next ≡ s.next + 1 + length es = members_next es (added s container) in
+    (omega (arith, count, all), omega (arith, count, all))
 
 -- ---- one parameter more
 
@@ -183,7 +171,7 @@ module _ (servers : ℕ) (params : List Param) (o : OpenedParts) (made : Opened)
   pub given_made : (i : Input) (new : Served) (right : Right) → is_write p.mode ≡ false → is_val p.mode ≡ false → is_input_of p.ty i ≡ true → IsAdded (with_input o.store.store i) o.store new right → AreAllLive new
       → IsMade servers (params ++ p ∷ []) (record { store = new; args = o.args ++ Read right ∷ []; outputs = o.outputs }) (with_given made (Some i))
   given_made i new right read right_due fits added live =
-      let more = input_next p.ty i made.store fits in
+      let more = input_next p.ty (given_by i) made.store fits in
       let after = (with_input made.store i).next in
       record {
         store = added.store ∙ ap (λ s. with_input s i) h.store;

@@ -2,22 +2,37 @@
 use Rattle.std.specs.FinMap as map
 use Rattle.tw_types.specs.declared.data_type.Scalar.TheVariants as scalar
 use Rattle.tw_types.specs.declared.value.Value.TheVariants as value
-use Rattle.tw_types.specs.StoreCalls.{members_at, subscript_after}
-use Rattle.tw_types.specs.StoreChecks.{may_read_members}
+use Rattle.tw_types.specs.declared.cause.Cause.TheVariants.{WrongType}
+use Rattle.tw_types.specs.DataType.{is_container_by}
+use Rattle.tw_types.specs.Store.{Store}
+use Rattle.tw_types.specs.StoreCalls.{members_at, members_in, subscript_after}
+use Rattle.tw_types.specs.StoreChecks.{may_read_members, may_read_members_by}
+use Rattle.tw_types.specs.Value.{scalar_of}
+use Rattle.tw_types.specs.ValueOrder.{Subscript}
+use Rattle.tw_types.proofs.Passed.{read_container}
+use Rattle.tw_types.proofs.SameTypes.{by_deep}
+use Rattle.tw_types.proofs.Subscripts.{members_kinds, subscript_kind}
 use Rattle.tw_rights.specs.declared.held.Held.TheVariants as held
 use Rattle.tw_code.specs.declared.instr.DataInstr.TheVariants as on_data
-use Rattle.tw_code.specs.accepting.Typing.{reads_closed_container}
+use Rattle.tw_code.specs.accepting.Typing.{reads_closed_container, reads_closed_container_by}
 use Rattle.tw_code.specs.machine.Position.{must_have_type, with_result}
 use Rattle.tw_no_trap.proofs.Conditions.{size_asks, subscript_asks}
 use Rattle.tw_frame.specs.Drafts.{MaySet}
-use Rattle.tw_parts.proofs.DataNames.{◌≡◌, ◌∙◌, ◌+◌, ◌<◌, ◌^◌, ℕ, ℤ, pos, true, false, not, [], None, Some, Option, Ok, refl, sym, ap, inl, slice_get, slice_index_or, option_map, get, EmptyRegister, FreedDatum, is_closed_mode, is_scalar, Notices, with_notices, ok_after, ok_first, there_then, bare_file, kind_at, Right, Served, IsHere, Completed, Skipped, Context, data_instr, at_goal, at_next_place, int_at, Position, with_value, RightType, right_at, FrameView, IsDone, MayDo, sees, typed_writes}
+use Rattle.tw_parts.proofs.DataNames.{◌≡◌, ◌∙◌, ◌+◌, ◌<◌, ◌^◌, ℕ, ℤ, pos, true, false, not, [], None, Some, Option, Ok, refl, sym, ap, inl, slice_get, slice_index_or, get, Scalar, Datum, must_then, EmptyRegister, FreedDatum, is_closed_mode, is_scalar, Notices, with_notices, ok_after, ok_first, there_then, bare_file, kind_at, Right, Served, IsHere, Completed, Skipped, Context, data_instr, at_goal, at_next_place, int_at, Position, with_value, RightType, right_at, FrameView, IsDone, MayDo, sees, typed_writes}
 use Rattle.tw_parts.proofs.Left.{moved_done, now_stays, same_ok}
 use Rattle.tw_parts.proofs.Registers.{and_first, closed_reads, its_id, kind_passed, placed_at}
-use Rattle.tw_parts.proofs.ValueRegisters.{int_is, int_same, may_set_int}
+use Rattle.tw_parts.proofs.ValueRegisters.{int_is, int_same, may_set_kind}
 
 -- a right on a closed container is one to read
 closed_container_reads : (t : RightType) → reads_closed_container t ≡ true → typed_writes t ≡ false
 closed_container_reads t e = closed_reads t.mode (and_first (is_closed_mode t.mode) (not (is_scalar t.ty)) e)
+
+-- who may read the members by their type may read them
+any_reads : (by : Scalar) (o : Option Datum) → may_read_members_by by o ≡ Ok tt → may_read_members o ≡ Ok tt
+any_reads by None e = cc
+any_reads by (Some x) e =
+    let both = must_then (is_container_by by x.ty) WrongType _ tt e in
+    rw (by_deep by x.ty both.0) both.1
 
 -- ---- the number of members
 
@@ -29,7 +44,7 @@ module _ (to container : ℕ) (s : Served) (f : FrameView) (m : MayDo (on_data.S
   size_is = size_asks (sees s m.ns f) m.left to container m.goes
 
   pub size_fits : (n : ℤ) → MaySet f.position.values to (value.Int n)
-  size_fits n = may_set_int f.position to n (ok_after (must_have_type f.position to scalar.Int) _ m.left m.goes).0
+  size_fits n = may_set_kind f.position to (value.Int n) (ok_after (must_have_type f.position to scalar.Int) _ m.left m.goes).0
 
   module _ (right : Right) (at : slice_index_or f.held container None ≡ Some (held.Read right)) where
     pub size_here : IsHere s right
@@ -61,18 +76,18 @@ module _ (to container : ℕ) (s : Served) (f : FrameView) (m : MayDo (on_data.S
 
 -- ---- a subscript
 
-module _ (to container index skip : ℕ) (s : Served) (f : FrameView) (m : MayDo (on_data.SubscriptAt to container index skip) s f) where
-  pub subscript_right : kind_at f.held container ≡ Some false
-  subscript_right = kind_passed f.held m.typed.typing m.typed.kinds container false reads_closed_container closed_container_reads m.typed.asked.0
+members_there : (s : Store) (id : ℕ) (x : Datum) → get s.live id ≡ Some x → members_at s id ≡ members_in x.content
+members_there s id x is = rw is refl
 
-  subscript_is : (count : ℤ) × (id : ℕ) × (int_at f.position index ≡ Ok count) × (right_at (bare_file f.held) container ≡ Some id) × (may_read_members (get s.store.live id) ≡ Ok tt)
-  subscript_is = subscript_asks (sees s m.ns f) m.left to container index skip m.goes
+module _ (by : Scalar) (to container index skip : ℕ) (s : Served) (f : FrameView) (m : MayDo (on_data.SubscriptAt by to container index skip) s f) where
+  pub subscript_right : kind_at f.held container ≡ Some false
+  subscript_right = kind_passed f.held m.typed.typing m.typed.kinds container false (reads_closed_container_by by) (λ t e. closed_reads t.mode (and_first (is_closed_mode t.mode) (is_container_by by t.ty) e)) m.typed.asked.0
+
+  subscript_is : (count : ℤ) × (id : ℕ) × (int_at f.position index ≡ Ok count) × (right_at (bare_file f.held) container ≡ Some id) × (may_read_members_by by (get s.store.live id) ≡ Ok tt)
+  subscript_is = subscript_asks (sees s m.ns f) m.left by to container index skip m.goes
 
   pub subscript_int : (n : ℤ) × (slice_get f.position.values index ≡ Some (value.Int n))
   subscript_int = (subscript_is.0, int_is f.position index subscript_is.0 subscript_is.2)
-
-  pub subscript_fits : (n : ℤ) → MaySet f.position.values to (value.Int n)
-  subscript_fits n = may_set_int f.position to n (ok_after (must_have_type f.position to scalar.Int) _ m.left m.goes).0
 
   module _ (right : Right) (at : slice_index_or f.held container None ≡ Some (held.Read right)) (count : ℤ) (count_is : slice_get f.position.values index ≡ Some (value.Int count)) where
     pub subscript_here : IsHere s right
@@ -81,29 +96,43 @@ module _ (to container index skip : ℕ) (s : Served) (f : FrameView) (m : MayDo
     subscript_its : (id : ℕ) → right_at (bare_file f.held) container ≡ Some id → id ≡ right.id
     subscript_its id there = its_id f.held container (held.Read right) id at there
 
+    may_by : may_read_members_by by (get s.store.live right.id) ≡ Ok tt
+    may_by = ap (λ id. may_read_members_by by (get s.store.live id)) (sym (subscript_its subscript_is.1 subscript_is.3)) ∙ subscript_is.4
+
     pub subscript_allowed : may_read_members (get s.store.live right.id) ≡ Ok tt
-    subscript_allowed = ap (λ id. may_read_members (get s.store.live id)) (sym (subscript_its subscript_is.1 subscript_is.3)) ∙ subscript_is.4
+    subscript_allowed = any_reads by (get s.store.live right.id) may_by
+
+    -- what is found is of the type that the container says
+    pub subscript_by : (k : Subscript) → subscript_after count (map.keys (members_at s.store right.id)) ≡ Some k → scalar_of k ≡ by
+    subscript_by k found =
+        let x = there_then (get s.store.live right.id) FreedDatum _ tt may_by in
+        subscript_kind x.0.ty (members_in x.0.content) by (members_kinds x.0 (m.store.contents right.id x.0 x.1)) (read_container by (get s.store.live right.id) x.0 x.1 may_by) count k
+        (ap (λ ms. subscript_after count (map.keys ms)) (sym (members_there s.store right.id x.0 x.1)) ∙ found)
+
+    pub subscript_fits : (k : Subscript) → subscript_after count (map.keys (members_at s.store right.id)) ≡ Some k → MaySet f.position.values to k
+    subscript_fits k found =
+        may_set_kind f.position to k (ap (must_have_type f.position to) (subscript_by k found) ∙ (ok_after (must_have_type f.position to by) _ m.left m.goes).0)
 
     -- where it goes on
-    abbrev found_at : Option ℤ → Position
-    found_at o = with_result f.position to skip (option_map value.Int o)
+    abbrev found_at : Option Subscript → Position
+    found_at o = with_result f.position to skip o
 
-    subscript_goes : (ns : Notices) (k : Context) → data_instr (on_data.SubscriptAt to container index skip) (sees s ns f) ≡ Ok k
+    subscript_goes : (ns : Notices) (k : Context) → data_instr (on_data.SubscriptAt by to container index skip) (sees s ns f) ≡ Ok k
         → k ≡ record { store = s.store; notices = ns; rights = bare_file f.held; position = found_at (subscript_after count (map.keys (members_at s.store right.id))) }
     subscript_goes ns k e =
-        let v = ok_after (must_have_type f.position to scalar.Int) _ k e in
+        let v = ok_after (must_have_type f.position to by) _ k e in
         let n = ok_first (int_at f.position index) _ k v.1 in
         let h = there_then (right_at (bare_file f.held) container) EmptyRegister _ k n.2 in
-        let a = ok_after (may_read_members (get s.store.live h.0)) _ k h.2 in
+        let a = ok_after (may_read_members_by by (get s.store.live h.0)) _ k h.2 in
         let is_count = int_same f.position index n.0 count n.1 count_is in
         sym (same_ok _ k a.1) ∙ (λ i. record { store = s.store; notices = ns; rights = bare_file f.held; position = found_at (subscript_after (is_count i) (map.keys (members_at s.store (subscript_its h.0 h.1 i)))) })
 
-    pub subscript_some : (n : ℤ) → subscript_after count (map.keys (members_at s.store right.id)) ≡ Some n → (g : FrameView) → g ≡ record f { position = at_next_place (with_value f.position to (value.Int n)); spent = f.spent + 1 }
-        → IsDone (on_data.SubscriptAt to container index skip) s s f g
-    subscript_some n found = moved_done (on_data.SubscriptAt to container index skip) s s f [] (inl (refl, refl)) (now_stays s s refl) Completed (at_next_place (with_value f.position to (value.Int n)))
+    pub subscript_some : (n : Subscript) → subscript_after count (map.keys (members_at s.store right.id)) ≡ Some n → (g : FrameView) → g ≡ record f { position = at_next_place (with_value f.position to n); spent = f.spent + 1 }
+        → IsDone (on_data.SubscriptAt by to container index skip) s s f g
+    subscript_some n found = moved_done (on_data.SubscriptAt by to container index skip) s s f [] (inl (refl, refl)) (now_stays s s refl) Completed (at_next_place (with_value f.position to n))
         (λ ns k e. subscript_goes ns k e ∙ (λ i. record { store = s.store; notices = ns; rights = bare_file f.held; position = found_at (found i) })) refl (λ typing. refl)
 
     pub subscript_none : subscript_after count (map.keys (members_at s.store right.id)) ≡ None → (g : FrameView) → g ≡ record f { position = at_goal f.position skip; spent = f.spent + 1 }
-        → IsDone (on_data.SubscriptAt to container index skip) s s f g
-    subscript_none none = moved_done (on_data.SubscriptAt to container index skip) s s f [] (inl (refl, refl)) (now_stays s s refl) Skipped (at_goal f.position skip)
+        → IsDone (on_data.SubscriptAt by to container index skip) s s f g
+    subscript_none none = moved_done (on_data.SubscriptAt by to container index skip) s s f [] (inl (refl, refl)) (now_stays s s refl) Skipped (at_goal f.position skip)
         (λ ns k e. subscript_goes ns k e ∙ (λ i. record { store = s.store; notices = ns; rights = bare_file f.held; position = found_at (none i) })) refl (λ typing. refl)

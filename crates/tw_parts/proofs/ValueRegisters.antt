@@ -8,12 +8,12 @@ use Rattle.tw_types.specs.StoreCalls.{value_at, value_in}
 use Rattle.tw_types.specs.StoreChecks.{may_retrieve}
 use Rattle.tw_types.specs.TypedStore.{IsOfType, IsTypedStore}
 use Rattle.tw_types.specs.Value.{is_of, scalar_of}
-use Rattle.tw_code.specs.machine.Position.{int_in, must_have_type}
+use Rattle.tw_code.specs.machine.Position.{int_in, must_have_type, of_type_at}
 use Rattle.tw_frame.specs.Drafts.{MaySet}
-use Rattle.tw_no_trap.proofs.Scalars.{same_scalars}
+use Rattle.tw_types.proofs.SameTypes.{same_scalars}
 use Rattle.tw_parts.specs.Memory.{IsTextAt}
 use Rattle.tw_parts.proofs.Registers.{and_second}
-use Rattle.tw_parts.proofs.DataNames.{◌≡◌, ◌∙◌, ℕ, ℤ, Bool, true, false, not, ◌||◌, List, Option, Some, None, Result, Ok, refl, sym, ap, option_map, slice_get, same_Some, get, Cause, FreedDatum, WrongRegister, Value, is_scalar, NestedScalar, Datum, Data, must_ok, must_then, there_then, suits, Position, int_at}
+use Rattle.tw_parts.proofs.DataNames.{◌≡◌, ◌<◌, ◌∙◌, ℕ, ℤ, length, slice_get_within, Scalar, Bool, true, false, not, ◌||◌, List, Option, Some, None, Result, Ok, refl, sym, ap, option_map, slice_get, same_Some, get, Cause, FreedDatum, WrongRegister, Value, is_scalar, NestedScalar, Datum, Data, must_ok, must_then, there_then, suits, Position, int_at}
 
 -- ---- numbers
 
@@ -35,11 +35,36 @@ ok_ints a b e = cc
 pub int_same : (at : Position) (register : ℕ) (k n : ℤ) → int_at at register ≡ Ok k → slice_get at.values register ≡ Some (value.Int n) → k ≡ n
 int_same at register k n e there = ok_ints k n (sym e ∙ int_known at register n there)
 
--- a register of ints may be given any
-pub may_set_int : (at : Position) (register : ℕ) (n : ℤ) → must_have_type at register scalar.Int ≡ Ok tt → MaySet at.values register (value.Int n)
-may_set_int at register n e =
+-- ---- values of a type
+
+ok_values : (a b : Value) → ◌≡◌ {A = Result Value Cause} (Ok a) (Ok b) → a ≡ b
+ok_values a b e = cc
+
+module _ (at : Position) (register : ℕ) (ty : Scalar) (x : Value) (e : of_type_at at register ty ≡ Ok x) where
+  of_type_both : (slice_get at.values register ≡ Some x) × (scalar_of x ≡ ty)
+  of_type_both =
+      let v = there_then (slice_get at.values register) WrongRegister _ x e in
+      let m = must_then (same_scalar (scalar_of v.0) ty) WrongRegister _ x v.2 in
+      let same : v.0 ≡ x = ok_values v.0 x m.1 in
+      (v.1 ∙ ap Some same, ap scalar_of (sym same) ∙ same_scalars (scalar_of v.0) ty m.0)
+
+  pub of_type_is : slice_get at.values register ≡ Some x
+  of_type_is = of_type_both.0
+
+  pub of_type_kind : scalar_of x ≡ ty
+  of_type_kind = of_type_both.1
+
+  pub of_type_inside : register < length at.values
+  of_type_inside = slice_get_within at.values register x of_type_is
+
+  pub of_type_same : (y : Value) → slice_get at.values register ≡ Some y → x ≡ y
+  of_type_same y there = same_Some x y (sym of_type_is ∙ there)
+
+-- a register of a type may be given any value of it
+pub may_set_kind : (at : Position) (register : ℕ) (x : Value) → must_have_type at register (scalar_of x) ≡ Ok tt → MaySet at.values register x
+may_set_kind at register x e =
     let v = there_then (slice_get at.values register) WrongRegister _ tt e in
-    let same = same_scalars (scalar_of v.0) scalar.Int (must_ok (same_scalar (scalar_of v.0) scalar.Int) WrongRegister v.2) in
+    let same = same_scalars (scalar_of v.0) (scalar_of x) (must_ok (same_scalar (scalar_of v.0) (scalar_of x)) WrongRegister v.2) in
     ap (option_map scalar_of) v.1 ∙ ap Some same
 
 -- ---- the value of a datum

@@ -94,10 +94,10 @@ abbrev pub TakesNone : DataInstr → Type 0
 TakesNone (on_data.New write read ty) = ⊥
 TakesNone (on_data.Store datum from) = ⊥
 TakesNone (on_data.Get to datum) = ⊥
-TakesNone (on_data.Insert container subscript member skip) = ⊥
-TakesNone (on_data.Look member container subscript skip) = Unit {0}
+TakesNone (on_data.Insert by container subscript member skip) = ⊥
+TakesNone (on_data.Look by member container subscript skip) = Unit {0}
 TakesNone (on_data.Size to container) = Unit {0}
-TakesNone (on_data.SubscriptAt to container index skip) = Unit {0}
+TakesNone (on_data.SubscriptAt by to container index skip) = ⊥
 TakesNone (on_data.CopyRead to from) = Unit {0}
 TakesNone (on_data.CopyWrite to from) = Unit {0}
 TakesNone (on_data.DropRead right) = Unit {0}

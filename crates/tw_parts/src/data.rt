@@ -40,23 +40,19 @@ fn run_at_once<'a>(
 {
     match instr {
         DataInstr::Look {
+            by,
             member,
             container,
             subscript,
             skip,
-        } => look_up(store, frame, *member, *container, *subscript, *skip),
+        } => look_up(store, frame, *by, *member, *container, *subscript, *skip),
         DataInstr::Size { to, container } => size(store, frame, draft, *to, *container),
-        DataInstr::SubscriptAt {
-            to,
-            container,
-            index,
-            skip,
-        } => subscript_at(store, frame, draft, *to, *container, *index, *skip),
         DataInstr::CopyRead { to, from } => copy_read(store, frame, *to, *from),
         DataInstr::CopyWrite { to, from } => copy_write(store, frame, *to, *from),
         DataInstr::DropRead { right } => drop_read(store, frame, *right),
         DataInstr::New { .. } | DataInstr::Store { .. } | DataInstr::Get { .. } => unreachable!(),
-        DataInstr::Insert { .. } | DataInstr::DropWrite { .. } => unreachable!(),
+        DataInstr::Insert { .. } | DataInstr::SubscriptAt { .. } => unreachable!(),
+        DataInstr::DropWrite { .. } => unreachable!(),
     }
 }
 
@@ -80,11 +76,23 @@ pub(crate) fn run_data<'a>(
         DataInstr::Store { datum, from } => store_value(store, frame, alloc, done, *datum, *from),
         DataInstr::Get { to, datum } => get_value(store, frame, alloc, done, *to, *datum),
         DataInstr::Insert {
+            by,
             container,
             subscript,
             member,
             skip,
-        } => insert_member(store, frame, done, *container, *subscript, *member, *skip),
+        } => insert_member(
+            store, frame, alloc, done, *by, *container, *subscript, *member, *skip,
+        ),
+        DataInstr::SubscriptAt {
+            by,
+            to,
+            container,
+            index,
+            skip,
+        } => subscript_at(
+            store, frame, alloc, done, *by, *to, *container, *index, *skip,
+        ),
         DataInstr::DropWrite { right } => drop_write(store, frame, done, *right),
         other => {
             let mut draft = come(frame, done);

@@ -35,9 +35,10 @@ struct Opened {
 }
 
 impl Model for Opened {
-    ghost use Rattle.std.specs.Coded.{codes, coded_ℕ, coded_ℤ};
+    ghost use Rattle.std.specs.Coded.{codes, coded_ℕ};
     ghost use Rattle.std.specs.FinMap.{code};
-    ghost use Rattle.std.specs.Ordering.{int_cmp, nat_cmp};
+    ghost use Rattle.std.specs.Ordering.{nat_cmp};
+    ghost use Rattle.tw_types.specs.ValueOrder.{value_cmp};
     ghost use Rattle.tw_types.specs.Store.{Datum as DatumMeaning};
     ghost use Rattle.tw_parts.specs.OpenedParts.{OpenedParts};
 
@@ -45,7 +46,7 @@ impl Model for Opened {
 
     ghost coded = { Prim.hlevel (
       codes,
-      code {X = DatumMeaning} {R = nat_cmp} coded_ℕ (Prim.hlevel (codes, code {R = int_cmp} coded_ℤ coded_ℕ)),
+      code {X = DatumMeaning} {R = nat_cmp} coded_ℕ (Prim.hlevel (codes, code {R = value_cmp} (Prim.hlevel codes) coded_ℕ)),
       code {R = nat_cmp} coded_ℕ coded_ℕ,
     ) };
 

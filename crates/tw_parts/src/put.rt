@@ -34,6 +34,7 @@ impl<'a> Parts<'a> {
         let callee = procedure_at(program.procedures(), action.procedure);
         let params = callee.params.as_slice();
         let registers = action.args.as_slice();
+        let kind = callee.kind;
         let priority = priority_of(&done, action.priority);
         let Ok(vals) = values_of(alloc, &done, params, registers) else {
             return Err(done);
@@ -54,7 +55,7 @@ impl<'a> Parts<'a> {
             procedure: action.procedure,
             args,
         };
-        match self.tasks.put(callee.kind, priority, action.target, task) {
+        match self.tasks.put(kind, priority, action.target, task) {
             Ok(()) => {}
             Err(_task) => unreachable!(),
         }

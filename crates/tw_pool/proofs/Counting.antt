@@ -1,16 +1,28 @@
--- One event more is counted at the place of who makes it.
-use Rattle.std.proofs.Common.{◌≡◌, ◌≢◌, ◌<◌, ◌≤◌, ◌+◌, ◌/◌, ◌%◌, ℕ, Bool, true, false, cond, refl, sym, ap, ◌∙◌, arith, List, [], ◌∷◌, ◌++◌, length, length-append, get_or, set}
-use Rattle.std.proofs.lemmas.Bool.{eq-eqb, eqb-true}
+-- Actors have places, and one event more is counted at the place of who makes it.
+use Rattle.std.proofs.Common.{◌≡◌, ◌≢◌, ◌<◌, ◌≤◌, ◌+◌, ◌/◌, ◌%◌, ℕ, Bool, true, false, cond, refl, sym, ap, subst, ◌∙◌, arith, List, [], ◌∷◌, ◌++◌, length, length-append, get_or, set}
+use Rattle.std.specs.List.{All}
+use Rattle.std.proofs.lemmas.Bool.{eq-eqb, eqb-true, ltb-true}
 use Rattle.std.proofs.lemmas.List.{get_or-set_same, get_or-set_other}
-use Rattle.std.proofs.lemmas.List.Elements.{filter-append}
+use Rattle.std.proofs.lemmas.List.Elements.{All-push, filter-append}
 use Rattle.std.proofs.lemmas.List.Sums.{length-filter, count_by-le-length}
 use Rattle.tw_types.specs.declared.actor.Actor.{Actor}
 use Rattle.tw_types.specs.declared.actor.Actor.TheVariants.{Engine, Server, Worker}
+use Rattle.tw_types.specs.Actor.{is_in}
+use Rattle.tw_types.specs.Layout.{ActorCounts, IsLayout}
 use Rattle.tw_types.specs.declared.event.Event.{Event}
 use Rattle.tw_code.specs.machine.History.{actor_of}
 use Rattle.tw_pool.specs.Actors.{AreCounts, HasPlace, events_of, place_of, same_actor}
-use Rattle.tw_pool.proofs.Round.{place_low, maker_of}
-use Rattle.tw_pool.specs.Words.{FitsWord, word_of}
+use Rattle.tw_pool.proofs.Round.{place_low, maker_of, round}
+use Rattle.tw_pool.specs.Words.{FitsWord, IsPlaced, word_of}
+
+-- ---- an actor of the layout has a place
+
+pub has_place : (layout : ActorCounts) (actor : Actor) → IsLayout layout → is_in layout actor ≡ true → HasPlace actor
+has_place layout (Engine number) counts there = let below = ltb-true number layout.engines there in omega (arith, below, counts.few_engines)
+has_place layout (Server number) counts there = let below = ltb-true number layout.servers there in omega (arith, below, counts.few_servers)
+has_place layout (Worker number) counts there = let below = ltb-true number layout.workers there in omega (arith, below, counts.few_workers)
+
+-- ---- those of an actor
 
 -- no more of them than events
 pub few : (actor : Actor) (history : List Event) → length (events_of actor history) ≤ length history
@@ -42,6 +54,13 @@ one_place (Server a) (Worker b) f g e = absurd (omega (arith, f, g, e))
 one_place (Worker a) (Engine b) f g e = absurd (omega (arith, f, g, e))
 one_place (Worker a) (Server b) f g e = absurd (omega (arith, f, g, e))
 one_place (Worker a) (Worker b) f g e = eq-eqb a b (omega (arith, e))
+
+-- the word of an event tells its maker's place
+pub is_placed : (e : Event) → FitsWord e → IsPlaced (word_of e)
+is_placed e fits = subst (λ (x : Event). HasPlace (actor_of x) × (word_of e / 8 % 32 ≡ place_of (actor_of x))) (sym (round e fits)) (fits.0, maker_of e fits.0)
+
+pub all_placed : (words new : List ℕ) (word : ℕ) (e : Event) → FitsWord e → word ≡ word_of e → new ≡ words ++ word ∷ [] → All IsPlaced words → All IsPlaced new
+all_placed words new word e fits is more all = subst (All IsPlaced) (sym more) (All-push IsPlaced words word all (subst IsPlaced (sym is) (is_placed e fits)))
 
 -- ---- one event more
 

@@ -48,7 +48,8 @@ use Rattle.tw_pool.specs.PoolView.{PoolView, HasState, with_events}
 use Rattle.tw_pool.specs.Turns.{GoesFree, IsTurnBy, Lends, Line, lent_to}
 use Rattle.tw_pool.specs.Words.{FitsWord}
 use Rattle.tw_pool.proofs.Fitting.{few_parameters, low_datum, small_numbers}
-use Rattle.tw_pool.proofs.Keeping.{ask_frames, deliver_frames, has_place, made_free, made_lent, no_task, own_count, release_frames, still}
+use Rattle.tw_pool.proofs.Counting.{has_place}
+use Rattle.tw_pool.proofs.Keeping.{ask_frames, deliver_frames, made_free, made_lent, no_task, own_count, release_frames, still}
 
 -- as what a pool is seen
 abbrev pub viewed : TypedProgram → List Input → ActorCounts → Bool → HistoryView → PoolView

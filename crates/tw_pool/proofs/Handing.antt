@@ -48,9 +48,9 @@ use Rattle.tw_pool.specs.Kept.{AreLent, IsKept, IsOwedBy}
 use Rattle.tw_pool.specs.PoolView.{PoolView}
 use Rattle.tw_pool.specs.Turns.{IsTurnBy, Lends, Line, OrNoMemory, is_last, instr_behind, lent_to, steps_of}
 use Rattle.tw_pool.specs.Words.{FitsWord}
-use Rattle.tw_pool.proofs.Counting.{itself, the_same}
+use Rattle.tw_pool.proofs.Counting.{has_place, itself, the_same}
 use Rattle.tw_pool.proofs.Freely.{has_state, lends, line_told, room_here, state, viewed}
-use Rattle.tw_pool.proofs.Keeping.{has_place, no_task}
+use Rattle.tw_pool.proofs.Keeping.{no_task}
 
 -- ---- lists of one actor's events
 

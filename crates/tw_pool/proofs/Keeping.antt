@@ -1,15 +1,12 @@
 -- A pool's parts stay what they are: with one event more, and where nothing was touched.
 use Rattle.std.proofs.Common.{map as each, ◌≡◌, ◌≢◌, ◌<◌, ◌+◌, ℕ, Bool, true, false, cond, List, [], ◌∷◌, ◌++◌, length, length-append, Option, Some, None, refl, sym, ap, subst, ◌∙◌, arith, option_map}
 use Rattle.std.specs.FinMap.{get}
-use Rattle.std.proofs.lemmas.Bool.{ltb-true}
 use Rattle.tw_types.specs.declared.actor.Actor.{Actor}
-use Rattle.tw_types.specs.declared.actor.Actor.TheVariants.{Engine, Server, Worker}
-use Rattle.tw_types.specs.Actor.{is_in}
 use Rattle.tw_types.specs.declared.event.Event.{Event}
 use Rattle.tw_types.specs.declared.event.Event.TheVariants.{Ask, Deliver, Release}
 use Rattle.tw_types.specs.declared.input.Input.{Input}
 use Rattle.tw_types.specs.declared.notice.Notice.{Notice}
-use Rattle.tw_types.specs.Layout.{ActorCounts, IsLayout}
+use Rattle.tw_types.specs.Layout.{ActorCounts}
 use Rattle.tw_types.specs.Mapped.{mapped}
 use Rattle.tw_types.specs.Notices.{Notices}
 use Rattle.tw_types.specs.Outcome.{Went}
@@ -30,7 +27,7 @@ use Rattle.tw_parts.specs.Events.{Goes, Untouched}
 use Rattle.tw_parts.specs.Fits.{AreParts, IsReached}
 use Rattle.tw_parts.specs.Parts.{state_of}
 use Rattle.tw_parts.specs.declared.parts.Parts.{Parts}
-use Rattle.tw_pool.specs.Actors.{HasPlace, events_of, same_actor}
+use Rattle.tw_pool.specs.Actors.{events_of, same_actor}
 use Rattle.tw_pool.specs.Kept.{AreLent, IsKept}
 use Rattle.tw_pool.proofs.Counting.{itself, of_more, the_same}
 
@@ -48,13 +45,6 @@ own_count actor history e is =
     let more = ap (λ es. length es) (of_more actor history e ∙ ap (λ b. events_of actor history ++ cond b (e ∷ []) []) yes) in
     let long = length-append (events_of actor history) (e ∷ []) in
     omega (arith, more, long)
-
--- ---- an actor of the layout has a place
-
-pub has_place : (layout : ActorCounts) (actor : Actor) → IsLayout layout → is_in layout actor ≡ true → HasPlace actor
-has_place layout (Engine number) counts there = let below = ltb-true number layout.engines there in omega (arith, below, counts.few_engines)
-has_place layout (Server number) counts there = let below = ltb-true number layout.servers there in omega (arith, below, counts.few_servers)
-has_place layout (Worker number) counts there = let below = ltb-true number layout.workers there in omega (arith, below, counts.few_workers)
 
 -- ---- an actor without a task
 

@@ -1,9 +1,8 @@
 -- What holds of a pool before its first event.
-use Rattle.std.proofs.Common.{◌≡◌, ℕ, List, [], refl, sym, ap, subst, ◌∙◌, arith, length, Some, None}
+use Rattle.std.proofs.Common.{◌≡◌, ℕ, List, [], sym, ap, ◌∙◌, arith, Some, None}
 use Rattle.std.specs.FinMap as fin
 use Rattle.std.specs.FinMap.{get, get-empty}
 use Rattle.std.specs.FinSet as set
-use Rattle.tw_types.specs.declared.actor.Actor.{Actor}
 use Rattle.tw_types.specs.declared.input.Input.{Input}
 use Rattle.tw_types.specs.Actor.{actor_cmp}
 use Rattle.tw_types.specs.Layout.{ActorCounts}
@@ -12,7 +11,6 @@ use Rattle.tw_code.specs.machine.Machine.{run}
 use Rattle.tw_code.specs.machine.Opening.{opening, reached}
 use Rattle.tw_code.specs.machine.State.{State}
 use Rattle.tw_verify.specs.Typed.{TypedProgram}
-use Rattle.tw_frame.specs.Jobs.{FrameView}
 use Rattle.tw_parts.specs.Opening.{IsOpening}
 use Rattle.tw_parts.specs.Parts.{state_of}
 use Rattle.tw_parts.specs.Seats.{Seated}

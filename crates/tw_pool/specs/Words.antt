@@ -1,5 +1,5 @@
 -- Events in words of 64 bits: the kind in three bits, the place of who makes it in five, and its numbers above them.
-use Rattle.std.specs.Prelude.{ℕ, ◌+◌, ◌*◌, ◌<◌, ◌^◌, ◌/◌, ◌%◌, ◌==◌, if◌then◌else◌, List, map}
+use Rattle.std.specs.Prelude.{◌≡◌, ℕ, ◌+◌, ◌*◌, ◌<◌, ◌^◌, ◌/◌, ◌%◌, ◌==◌, if◌then◌else◌, List, map}
 use Rattle.tw_types.specs.declared.actor.Actor.{Actor}
 use Rattle.tw_types.specs.declared.event.Event.{Event}
 use Rattle.tw_types.specs.declared.event.Event.TheVariants.{Take, Local, Call, End, Ask, Deliver, Release}
@@ -59,6 +59,10 @@ unpack_by kind actor numbers =
 
 unfoldable pub unpack : ℕ → Event
 unpack word = unpack_by (word % 8) (actor_at (word / 8 % 32)) (word / 256)
+
+-- a word that tells by the place in it who made its event
+abbrev pub IsPlaced : ℕ → Type 0
+IsPlaced word = HasPlace (actor_of (unpack word)) × (word / 8 % 32 ≡ place_of (actor_of (unpack word)))
 
 abbrev pub events_in : List ℕ → List Event
 events_in words = map unpack words

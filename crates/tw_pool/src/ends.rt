@@ -31,12 +31,13 @@ impl Model for Final {
     ghost use Rattle.tw_pool.specs.Ends.{FinalView};
     ghost use Rattle.tw_types.specs.Store.{Datum as DatumMeaning};
     ghost use Rattle.std.specs.FinMap.{code};
-    ghost use Rattle.std.specs.Ordering.{nat_cmp, int_cmp};
-    ghost use Rattle.std.specs.Coded.{codes, coded_ℕ, coded_ℤ};
+    ghost use Rattle.std.specs.Ordering.{nat_cmp};
+    ghost use Rattle.std.specs.Coded.{codes, coded_ℕ};
+    ghost use Rattle.tw_types.specs.ValueOrder.{value_cmp};
 
     ghost Value = { FinalView };
 
-    ghost coded = { Prim.hlevel (codes, code {X = DatumMeaning} {R = nat_cmp} coded_ℕ (Prim.hlevel (codes, code {R = int_cmp} coded_ℤ coded_ℕ)), code {R = nat_cmp} coded_ℕ coded_ℕ) };
+    ghost coded = { Prim.hlevel (codes, code {X = DatumMeaning} {R = nat_cmp} coded_ℕ (Prim.hlevel (codes, code {R = value_cmp} (Prim.hlevel codes) coded_ℕ)), code {R = nat_cmp} coded_ℕ coded_ℕ) };
 
     ghost view = { λ f. record {
       store = f.remains.store;
@@ -64,7 +65,7 @@ impl Final {
 
     /// The member of a container with so many smaller subscripts. Its datum is looked up at its place. The container is
     /// one that was shown here.
-    pub fn member(&self, container: &Datum, index: usize) -> Option<ShownMember<'_>>
+    pub fn member<'a>(&'a self, container: &'a Datum, index: usize) -> Option<ShownMember<'a>>
         requires { KnowsPlaces self.now.store container.now }
         ensures { IsShown self.now.store container.now index result }
     {

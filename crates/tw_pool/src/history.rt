@@ -1,7 +1,9 @@
 //! The events of a run, in order.
 
 ghost use Rattle.std.specs.Prelude.{◌≡◌, ◌<◌, ◌++◌, ◌∷◌, ◌+◌, ◌==◌, [], IfOk, Some, length, slice_get};
-ghost use Rattle.tw_pool.specs.Actors.{HasPlace, events_of};
+ghost use Rattle.std.specs.Option.{option_map};
+ghost use Rattle.tw_code.specs.machine.History.{actor_of};
+ghost use Rattle.tw_pool.specs.Actors.{HasPlace, events_of, same_actor};
 ghost use Rattle.tw_pool.specs.Words.{FitsWord};
 
 use crate::words::{maker, pack, place_of, unpack};
@@ -26,10 +28,12 @@ impl Model for History {
 
     ghost view = { λ h. record { events = events_in h.words.items; limit = h.limit } };
 
+    ghost use Rattle.std.specs.List.{All};
     ghost use Rattle.std.specs.Prelude.{◌≤◌, vec_capacity};
     ghost use Rattle.tw_pool.specs.Actors.{AreCounts};
+    ghost use Rattle.tw_pool.specs.Words.{IsPlaced};
 
-    ghost invariant = { λ h. (h.limit ≤ vec_capacity h.words) × AreCounts h.counts (events_in h.words.items) };
+    ghost invariant = { λ h. (h.limit ≤ vec_capacity h.words) × AreCounts h.counts (events_in h.words.items) × All IsPlaced h.words.items };
 }
 
 impl History {
@@ -83,6 +87,15 @@ impl History {
         ensures { slice_get self.now.events index ≡ Some result }
     {
         unpack(self.words[index])
+    }
+
+    /// Whether an actor made the event before which there are so many; the event isn't unpacked.
+    pub fn is_by(&self, index: usize, actor: Actor) -> bool
+        requires place { HasPlace actor }
+        requires there { index < length self.now.events }
+        ensures { option_map (λ event. same_actor (actor_of event) actor) (slice_get self.now.events index) ≡ Some result }
+    {
+        maker(self.words[index]) == place_of(actor) as usize
     }
 
     /// Tells one event more.

@@ -6,6 +6,6 @@ use tw_types::TaskNo;
 /// A task: its number, its procedure and its arguments.
 pub struct Task {
     pub no: TaskNo,
-    pub procedure: u8,
     pub args: Bundle,
+    pub procedure: u8,
 }

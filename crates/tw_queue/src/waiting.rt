@@ -5,10 +5,10 @@ use tw_types::Kind;
 
 /// A task that waits, and what it waits by.
 pub struct Waiting {
-    pub kind: Kind,
     pub priority: i64,
-    pub target: Option<u8>,
     pub task: Task,
+    pub kind: Kind,
+    pub target: Option<u8>,
 }
 
 impl Waiting {

@@ -6,30 +6,33 @@ ghost use Rattle.tw_frame.specs.Jobs.{draft_of, job_of};
 ghost use Rattle.tw_parts.specs.Coming.{come};
 ghost use Rattle.tw_parts.specs.Data.{IsAnswer, IsDone, MayDo};
 
-use crate::data::give::{give, number_at};
+use crate::data::give::{copied_twice, give, number_at};
 use crate::in_seat::come;
+use std::alloc::Global;
 use tw_frame::{Done, Draft, Frame};
 use tw_rights::Held;
 use tw_store::{Inserted, Store};
-use tw_types::Value;
+use tw_types::{Scalar, Value};
 
 /// INS: it is refused, and skips, where the subscript is there.
 pub(crate) fn insert_member<'a>(
     store: &mut Store,
     frame: &mut Frame<'a>,
+    alloc: Global,
     done: Done<'a>,
+    by: Scalar,
     container: u8,
     subscript: u8,
     member: u8,
     skip: u16,
 ) -> Result<Draft<'a>, Done<'a>>
     requires own { done.before ≡ job_of frame.old }
-    requires may { MayDo (on_data.Insert container subscript member skip) store.old (come frame.old done) }
-    ensures { IsAnswer (on_data.Insert container subscript member skip) store.old store.new frame.old frame.new done.entry result }
+    requires may { MayDo (on_data.Insert by container subscript member skip) store.old (come frame.old done) }
+    ensures { IsAnswer (on_data.Insert by container subscript member skip) store.old store.new frame.old frame.new done.entry result }
 {
-    let at = number_at(&done, subscript);
     let right = frame.take_read(member);
-    match store.insert(frame.peek_write(container), at, right) {
+    let at = done.look(subscript);
+    match store.insert_under(alloc, frame.peek_write(container), at, right) {
         Ok(Inserted::Done) => {
             let draft = come(frame, done);
             frame.go_on();
@@ -52,17 +55,18 @@ pub(crate) fn insert_member<'a>(
 pub(crate) fn look_up(
     store: &mut Store,
     frame: &mut Frame<'_>,
+    by: Scalar,
     member: u8,
     container: u8,
     subscript: u8,
     skip: u16,
 )
-    requires { MayDo (on_data.Look member container subscript skip) store.old frame.old }
-    ensures done { IsDone (on_data.Look member container subscript skip) store.old store.new frame.old frame.new }
+    requires { MayDo (on_data.Look by member container subscript skip) store.old frame.old }
+    ensures done { IsDone (on_data.Look by member container subscript skip) store.old store.new frame.old frame.new }
     ensures values { frame.new.position.values ≡ frame.old.position.values }
 {
-    let at = frame.int(subscript);
-    match store.look(frame.peek_read(container), at) {
+    let at = frame.look(subscript);
+    match store.look_under(frame.peek_read(container), at) {
         None => frame.skip(skip),
         Some(right) => {
             frame.fill(member, Held::Read(right));
@@ -92,20 +96,33 @@ pub(crate) fn size<'a>(
 pub(crate) fn subscript_at<'a>(
     store: &Store,
     frame: &mut Frame<'a>,
-    draft: &mut Draft<'a>,
+    alloc: Global,
+    done: Done<'a>,
+    by: Scalar,
     to: u8,
     container: u8,
     index: u8,
     skip: u16,
-)
-    requires may { MayDo (on_data.SubscriptAt to container index skip) store.now frame.old }
-    requires like { draft.old ≡ draft_of frame.old }
-    ensures done { IsDone (on_data.SubscriptAt to container index skip) store.now store.now frame.old frame.new }
-    ensures drafted { draft.new ≡ draft_of frame.new }
+) -> Result<Draft<'a>, Done<'a>>
+    requires own { done.before ≡ job_of frame.old }
+    requires may { MayDo (on_data.SubscriptAt by to container index skip) store.now (come frame.old done) }
+    ensures { IsAnswer (on_data.SubscriptAt by to container index skip) store.now store.now frame.old frame.new done.entry result }
 {
-    let count = frame.int(index);
-    match store.subscript_at(frame.peek_read(container), count) {
-        Some(at) => give(frame, draft, to, Value::Int(at), Value::Int(at)),
-        None => frame.skip(skip),
+    let count = number_at(&done, index);
+    match store.nth_subscript(frame.peek_read(container), count) {
+        Some(subscript) => {
+            let Ok(copies) = copied_twice(alloc, subscript) else {
+                return Err(done);
+            };
+            let (value, copy) = copies;
+            let mut draft = come(frame, done);
+            give(frame, &mut draft, to, value, copy);
+            Ok(draft)
+        }
+        None => {
+            let draft = come(frame, done);
+            frame.skip(skip);
+            Ok(draft)
+        }
     }
 }

@@ -1,13 +1,16 @@
 //! Values that an instruction reads of a Done, or gives to a task and to the draft of its next job.
 
-ghost use Rattle.std.specs.Prelude.{◌≡◌, ◌<◌, ◌^◌, ◌+◌, ℤ, Some, slice_get};
+ghost use Rattle.std.specs.Prelude.{◌≡◌, ◌<◌, ◌^◌, ◌+◌, ℤ, IfOk, OnErr, Some, slice_get};
+ghost use Rattle.tw_types.specs.Value.{scalar_of};
+ghost use Rattle.tw_types.specs.declared.data_type.Scalar.TheVariants as scalar;
 ghost use Rattle.tw_types.specs.declared.value.Value.TheVariants as value;
 ghost use Rattle.tw_code.specs.machine.Position.{at_next_place, with_value};
 ghost use Rattle.tw_frame.specs.Drafts.{MaySet};
 ghost use Rattle.tw_frame.specs.Jobs.{draft_of};
 
-use tw_frame::{Done, Draft, Frame, ValueRef};
-use tw_types::Value;
+use std::alloc::{AllocError, Global};
+use tw_frame::{Done, Draft, Frame};
+use tw_types::{Value, ValueRef};
 
 /// The number in a register that has one, as far as the Done came.
 pub(crate) fn number_at(done: &Done<'_>, register: u8) -> i64
@@ -18,6 +21,17 @@ pub(crate) fn number_at(done: &Done<'_>, register: u8) -> i64
         ValueRef::Int(number) => number,
         ValueRef::Text(_text) => unreachable!(),
     }
+}
+
+/// Two copies of a value; only a text's take memory.
+pub(crate) fn copied_twice(alloc: Global, value: &Value) -> Result<(Value, Value), AllocError>
+    ensures first { IfOk result (λ copies. copies.0 ≡ value.now) }
+    ensures second { IfOk result (λ copies. copies.1 ≡ copies.0) }
+    ensures text { OnErr result (scalar_of value.now ≡ scalar.Text) }
+{
+    let first = value.try_clone(alloc)?;
+    let second = value.try_clone(alloc)?;
+    Ok((first, second))
 }
 
 /// Gives a register of the frame a value, and that of its draft a copy of it, and goes on.

@@ -1,4 +1,4 @@
-use Rattle.std.proofs.Common.{◌≡◌, ◌+◌, [], ap, sym, ◌∙◌, arith, map, List}
+use Rattle.std.proofs.Common.{◌+◌, [], ap, sym, ◌∙◌, arith, map, List}
 use Rattle.std.specs.List.{range_with_len}
 use Rattle.tw_types.specs.declared.event.Event.{Event}
 use Rattle.tw_host.specs.Seats.{actor_at}

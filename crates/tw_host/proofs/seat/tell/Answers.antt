@@ -1,4 +1,4 @@
-use Rattle.std.proofs.Common.{◌≡◌, ◌+◌, ◌<◌, length, ◌++◌, ◌∷◌, [], ap, ◌∙◌, arith, drop}
+use Rattle.std.proofs.Common.{◌+◌, ◌<◌, length, ◌++◌, ap, ◌∙◌, arith, drop}
 use Rattle.tw_host.proofs.Lists.{moved}
 use Rattle.tw_host.proofs.seat.tell.Goals as goal
 

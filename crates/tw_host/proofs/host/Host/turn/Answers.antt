@@ -1,4 +1,4 @@
-use Rattle.std.proofs.Common.{◌≡◌, [], ◌++◌, refl, sym, ◌∙◌, inr, arith, append-nil}
+use Rattle.std.proofs.Common.{[], refl, sym, ◌∙◌, inr, arith, append-nil}
 use Rattle.tw_host.proofs.host.Host.turn.Goals as goal
 
 pub returns-then-is_err-clause-told : goal.returns-then-is_err-clause-told

@@ -1,4 +1,4 @@
-use Rattle.std.proofs.Common.{◌≡◌, sym, ap, ◌∙◌, arith, subst, length, map, ◌<◌, ℕ, List, []}
+use Rattle.std.proofs.Common.{◌≡◌, sym, ap, ◌∙◌, arith, subst, length, map}
 use Rattle.std.proofs.lemmas.List.{length-map}
 use Rattle.tw_pool.specs.Actors.{events_of}
 use Rattle.tw_host.specs.Seats.{actor_at, seat_count}

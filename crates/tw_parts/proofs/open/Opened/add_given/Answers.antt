@@ -1,4 +1,4 @@
-use Rattle.std.proofs.Common.{◌++◌, ◌∷◌, [], Some, arith, length, length-append, sym, ap, subst, ◌∙◌}
+use Rattle.std.proofs.Common.{◌++◌, ◌∷◌, [], Some, arith, length, length-append, sym, ap, subst}
 use Rattle.tw_rights.specs.declared.arg.Arg.TheVariants.{Read}
 use Rattle.tw_code.specs.machine.Opening.{with_given}
 use Rattle.tw_parts.specs.OpenedParts.{IsMade, OpenedParts}

@@ -1,7 +1,7 @@
 use Rattle.std.proofs.Common.{◌∙◌, ◌/◌, ◌%◌, ap, length, arith}
 use Rattle.tw_pool.specs.History.{HistoryView}
 use Rattle.tw_pool.specs.Words.{events_in}
-use Rattle.tw_pool.proofs.Counting.{below, counted_more}
+use Rattle.tw_pool.proofs.Counting.{all_placed, below, counted_more}
 use Rattle.tw_pool.proofs.Round.{told}
 use Rattle.tw_pool.proofs.history.History.push.Goals as goal
 
@@ -23,4 +23,5 @@ invariant_of-self c =
       counted_more counts (events_in c.self.inside.words.items) c.args.event c.self.told c.self.invariant.1 c.requires.fits c.maker.result (events_in c.push_reserved.new.self.items)
           (c.maker.ensures ∙ ap (λ w. w / 8 % 32) c.pack-word.ensures)
           (told c.self.inside.words.items c.push_reserved.new.self.items c.pack-word.result c.args.event c.requires.fits c.pack-word.ensures c.push_reserved.ensures.items),
+      all_placed c.self.inside.words.items c.push_reserved.new.self.items c.pack-word.result c.args.event c.requires.fits c.pack-word.ensures c.push_reserved.ensures.items c.self.invariant.2,
     )

@@ -1,5 +1,4 @@
-use Rattle.std.proofs.Common.{List, ℕ, sym, ap, subst}
-use Rattle.tw_types.specs.declared.event.Event.{Event}
+use Rattle.std.proofs.Common.{sym, subst}
 use Rattle.tw_pool.specs.History.{HistoryView}
 use Rattle.tw_pool.specs.Kept.{IsKept}
 use Rattle.tw_pool.proofs.Opened.{kept}
