@@ -1,24 +1,19 @@
 -- A word spells one input alone, and one input word alone is the first that spells none.
-use Rattle.std.proofs.Common.{◌≡◌, ◌<◌, ◌+◌, ℕ, ℤ, suc, false, eqb, Bor, List, [], ◌∷◌, ◌++◌, drop, get_or, length, map, take, refl, sym, ap, subst, ◌∙◌, append_assoc, arith, codes}
-use Rattle.std.proofs.lemmas.List.{length-map, length-take, map-append, take-append-drop, take-map, take_more}
+use Rattle.std.proofs.Common.{◌≡◌, ◌<◌, ◌+◌, ℕ, suc, false, eqb, Bor, List, [], ◌∷◌, ◌++◌, drop, get_or, length, map, take, refl, sym, ap, subst, ◌∙◌, append_assoc, arith, codes, inl, inr}
+use Rattle.std.proofs.lemmas.List.{append_cancel_left, length-map, length-take, map-append, take-append-drop, take-map, take_more}
 use Rattle.std.proofs.lemmas.Bool.{eqb-false}
 use Rattle.tw_types.specs.declared.input.Input.{Input}
 use Rattle.tw_types.specs.declared.input.Input.TheVariants as input
 use Rattle.tw_words.specs.Quoted.{SpellsQuoted}
-use Rattle.tw_command.specs.InputWords.{AreBehind, AreJoined, AreSpelled, IsRefusedWord, OneInput, OneRefusedWord, SpellsInput, SpellsInt, SpellsMember}
+use Rattle.tw_command.specs.InputWords.{AreBehind, AreJoined, AreSpelled, IsRefusedWord, OneInput, OneRefusedWord, SpellsInput, SpellsInt, SpellsMember, SpellsMembers, SpellsRest, head_of}
 use Rattle.tw_command.specs.CommandLine.{Asked, Assembles, Disassembles, Checks, Explains, Runs, Replays, IsAsked, IsRefusedInput}
 use Rattle.tw_command.specs.declared.command.Order.{Order}
-use Rattle.tw_command.specs.reading.Members.{IsStop}
-use Rattle.tw_command.proofs.InputReading.{one_int, one_int_member, one_text_member}
+use Rattle.tw_command.proofs.InputReading.{IsOne, one_int, one_int_first, one_member, one_text_first}
 use Rattle.tw_command.proofs.Members.{stops}
 
 -- ---- lists
 
--- two members that stand before a comma or the end of one text are one
-abbrev pub IsOne : {A : Type 0} → (A → List ℕ → Type 0) → Type 0
-IsOne {A} Spells = (x y : A) (first other rest after : List ℕ) → Spells x first → Spells y other → IsStop 44 rest → IsStop 44 after → first ++ rest ≡ other ++ after → (x ≡ y) × (rest ≡ after)
-
-module _ {A : Type 0} (Spells : A → List ℕ → Type 0) (one : IsOne Spells) where
+module _ {A : Type 0} (Spells : A → List ℕ → Type 0) (one : IsOne 44 Spells) where
   comma_is : (xs ys : List ℕ) → 44 ∷ xs ≡ 44 ∷ ys → xs ≡ ys
   comma_is xs ys e = cc
 
@@ -50,50 +45,65 @@ module _ {A : Type 0} (Spells : A → List ℕ → Type 0) (one : IsOne Spells) 
       ap (λ (z : A). z ∷ xs) same.0 ∙ ap (λ (zs : List A). y ∷ zs) (one_behind xs ys k.1 (subst (AreBehind Spells xs) same.1 h.3) k.3)
 
 -- a member has its `=`
-some_member : {A : Type 0} (Spells : A → List ℕ → Type 0) (x : ℤ × A) (text : List ℕ) → SpellsMember Spells x text → text ≡ [] → ⊥
-some_member Spells x text (subscript, value, h, k, e) none = never subscript (sym e ∙ none)
+some_member : {S A : Type 0} (SpellsSubscript : S → List ℕ → Type 0) (Spells : A → List ℕ → Type 0) (x : S × A) (text : List ℕ) → SpellsMember SpellsSubscript Spells x text → text ≡ [] → ⊥
+some_member SpellsSubscript Spells x text (subscript, value, h, k, e) none = never subscript (sym e ∙ none)
   where
     never : (xs : List ℕ) → xs ++ 61 ∷ value ≡ [] → ⊥
     never [] f = cc
     never (b ∷ xs) f = cc
 
+one_members : {S A : Type 0} (SpellsSubscript : S → List ℕ → Type 0) (Spells : A → List ℕ → Type 0) → IsOne 61 SpellsSubscript → IsOne 44 Spells → (xs ys : List (S × A)) (list other : List ℕ) → list ≡ other
+    → SpellsMembers SpellsSubscript Spells xs list → SpellsMembers SpellsSubscript Spells ys other → xs ≡ ys
+one_members SpellsSubscript Spells one only xs ys list other e h k =
+    one_list (SpellsMember SpellsSubscript Spells) (one_member SpellsSubscript Spells one only) (some_member SpellsSubscript Spells) xs ys other (subst (SpellsMembers SpellsSubscript Spells xs) e h) k
+
 -- ---- a word
 
 -- words whose letters differ somewhere
-apart : (k : ℕ) (xs ys : List ℕ) → eqb (get_or xs k 0) (get_or ys k 0) ≡ false → xs ≡ ys → ⊥
-apart k xs ys differ e = eqb-false (get_or xs k 0) (get_or ys k 0) differ (ap (λ (t : List ℕ). get_or t k 0) e)
+apart : {xs ys : List ℕ} {Z : Type 0} (k : ℕ) → eqb (get_or xs k 0) (get_or ys k 0) ≡ false → xs ≡ ys → Z
+apart {xs} {ys} k differ e = absurd (eqb-false (get_or xs k 0) (get_or ys k 0) differ (ap (λ (t : List ℕ). get_or t k 0) e))
+
+-- what two heads are followed by in one word
+one_rest : (given other : Input) (x y : List ℕ) → head_of given ++ x ≡ head_of other ++ y → SpellsRest given x → SpellsRest other y → given ≡ other
+one_rest (input.Int n) (input.Int m) x y e h k = ap input.Int (one_int n m y (subst (SpellsInt n) (append_cancel_left (codes "int:") x y e) h) k)
+one_rest (input.Int n) (input.Text text) x y e h k = apart 0 refl e
+one_rest (input.Int n) (input.Ints ms) x y e h k = apart 3 refl e
+one_rest (input.Int n) (input.Texts ms) x y e h k = apart 0 refl e
+one_rest (input.Int n) (input.IntsByText ms) x y e h k = apart 0 refl e
+one_rest (input.Int n) (input.TextsByText ms) x y e h k = apart 0 refl e
+one_rest (input.Text text) (input.Int n) x y e h k = apart 0 refl e
+one_rest (input.Text text) (input.Text other) x y e h k = ap input.Text (sym h ∙ append_cancel_left (codes "text:") x y e ∙ k)
+one_rest (input.Text text) (input.Ints ms) x y e h k = apart 0 refl e
+one_rest (input.Text text) (input.Texts ms) x y e h k = apart 4 refl e
+one_rest (input.Text text) (input.IntsByText ms) x y e h k = apart 1 refl e
+one_rest (input.Text text) (input.TextsByText ms) x y e h k = apart 1 refl e
+one_rest (input.Ints ms) (input.Int n) x y e h k = apart 3 refl e
+one_rest (input.Ints ms) (input.Text text) x y e h k = apart 0 refl e
+one_rest (input.Ints ms) (input.Ints ns) x y e h k = ap input.Ints (one_members SpellsInt SpellsInt (one_int_first 61 (inl refl)) (one_int_first 44 (inr refl)) ms ns x y (append_cancel_left (codes "ints:") x y e) h k)
+one_rest (input.Ints ms) (input.Texts ns) x y e h k = apart 0 refl e
+one_rest (input.Ints ms) (input.IntsByText ns) x y e h k = apart 0 refl e
+one_rest (input.Ints ms) (input.TextsByText ns) x y e h k = apart 0 refl e
+one_rest (input.Texts ms) (input.Int n) x y e h k = apart 0 refl e
+one_rest (input.Texts ms) (input.Text text) x y e h k = apart 4 refl e
+one_rest (input.Texts ms) (input.Ints ns) x y e h k = apart 0 refl e
+one_rest (input.Texts ms) (input.Texts ns) x y e h k = ap input.Texts (one_members SpellsInt SpellsQuoted (one_int_first 61 (inl refl)) (one_text_first 44) ms ns x y (append_cancel_left (codes "texts:") x y e) h k)
+one_rest (input.Texts ms) (input.IntsByText ns) x y e h k = apart 1 refl e
+one_rest (input.Texts ms) (input.TextsByText ns) x y e h k = apart 1 refl e
+one_rest (input.IntsByText ms) (input.Int n) x y e h k = apart 0 refl e
+one_rest (input.IntsByText ms) (input.Text text) x y e h k = apart 1 refl e
+one_rest (input.IntsByText ms) (input.Ints ns) x y e h k = apart 0 refl e
+one_rest (input.IntsByText ms) (input.Texts ns) x y e h k = apart 1 refl e
+one_rest (input.IntsByText ms) (input.IntsByText ns) x y e h k = ap input.IntsByText (one_members SpellsQuoted SpellsInt (one_text_first 61) (one_int_first 44 (inr refl)) ms ns x y (append_cancel_left (codes "tints:") x y e) h k)
+one_rest (input.IntsByText ms) (input.TextsByText ns) x y e h k = apart 1 refl e
+one_rest (input.TextsByText ms) (input.Int n) x y e h k = apart 0 refl e
+one_rest (input.TextsByText ms) (input.Text text) x y e h k = apart 1 refl e
+one_rest (input.TextsByText ms) (input.Ints ns) x y e h k = apart 0 refl e
+one_rest (input.TextsByText ms) (input.Texts ns) x y e h k = apart 1 refl e
+one_rest (input.TextsByText ms) (input.IntsByText ns) x y e h k = apart 1 refl e
+one_rest (input.TextsByText ms) (input.TextsByText ns) x y e h k = ap input.TextsByText (one_members SpellsQuoted SpellsQuoted (one_text_first 61) (one_text_first 44) ms ns x y (append_cancel_left (codes "ttexts:") x y e) h k)
 
 pub one_input : OneInput
-one_input word (input.Int n) (input.Int m) (x, e, h) (y, f, k) = ap input.Int (one_int n m y (subst (SpellsInt n) (same (sym e ∙ f)) h) k)
-  where
-    same : codes "int:" ++ x ≡ codes "int:" ++ y → x ≡ y
-    same q = cc
-one_input word (input.Int n) (input.Text text) (x, e, h) f = absurd (apart 0 (codes "int:" ++ x) (codes "text:" ++ text) refl (sym e ∙ f))
-one_input word (input.Int n) (input.Ints ms) (x, e, h) (y, f, k) = absurd (apart 3 (codes "int:" ++ x) (codes "ints:" ++ y) refl (sym e ∙ f))
-one_input word (input.Int n) (input.Texts ms) (x, e, h) (y, f, k) = absurd (apart 0 (codes "int:" ++ x) (codes "texts:" ++ y) refl (sym e ∙ f))
-one_input word (input.Text text) (input.Int n) e (y, f, k) = absurd (apart 0 (codes "text:" ++ text) (codes "int:" ++ y) refl (sym e ∙ f))
-one_input word (input.Text text) (input.Text other) e f = ap input.Text (same (sym e ∙ f))
-  where
-    same : codes "text:" ++ text ≡ codes "text:" ++ other → text ≡ other
-    same q = cc
-one_input word (input.Text text) (input.Ints ms) e (y, f, k) = absurd (apart 0 (codes "text:" ++ text) (codes "ints:" ++ y) refl (sym e ∙ f))
-one_input word (input.Text text) (input.Texts ms) e (y, f, k) = absurd (apart 4 (codes "text:" ++ text) (codes "texts:" ++ y) refl (sym e ∙ f))
-one_input word (input.Ints ms) (input.Int n) (x, e, h) (y, f, k) = absurd (apart 3 (codes "ints:" ++ x) (codes "int:" ++ y) refl (sym e ∙ f))
-one_input word (input.Ints ms) (input.Text text) (x, e, h) f = absurd (apart 0 (codes "ints:" ++ x) (codes "text:" ++ text) refl (sym e ∙ f))
-one_input word (input.Ints ms) (input.Ints ns) (x, e, h) (y, f, k) =
-    ap input.Ints (one_list (SpellsMember SpellsInt) one_int_member (some_member SpellsInt) ms ns y (subst (AreJoined (SpellsMember SpellsInt) ms) (same (sym e ∙ f)) h) k)
-  where
-    same : codes "ints:" ++ x ≡ codes "ints:" ++ y → x ≡ y
-    same q = cc
-one_input word (input.Ints ms) (input.Texts ns) (x, e, h) (y, f, k) = absurd (apart 0 (codes "ints:" ++ x) (codes "texts:" ++ y) refl (sym e ∙ f))
-one_input word (input.Texts ms) (input.Int n) (x, e, h) (y, f, k) = absurd (apart 0 (codes "texts:" ++ x) (codes "int:" ++ y) refl (sym e ∙ f))
-one_input word (input.Texts ms) (input.Text text) (x, e, h) f = absurd (apart 4 (codes "texts:" ++ x) (codes "text:" ++ text) refl (sym e ∙ f))
-one_input word (input.Texts ms) (input.Ints ns) (x, e, h) (y, f, k) = absurd (apart 0 (codes "texts:" ++ x) (codes "ints:" ++ y) refl (sym e ∙ f))
-one_input word (input.Texts ms) (input.Texts ns) (x, e, h) (y, f, k) =
-    ap input.Texts (one_list (SpellsMember SpellsQuoted) one_text_member (some_member SpellsQuoted) ms ns y (subst (AreJoined (SpellsMember SpellsQuoted) ms) (same (sym e ∙ f)) h) k)
-  where
-    same : codes "texts:" ++ x ≡ codes "texts:" ++ y → x ≡ y
-    same q = cc
+one_input word given other (x, e, h) (y, f, k) = one_rest given other x y (sym e ∙ f) h k
 
 -- ---- all words
 

@@ -77,7 +77,7 @@ module _ {A : Type 0} (Spells : A → List ℕ → Type 0) where
   stops (x ∷ xs) rest h = subst (IsStop 44) (sym h.4) refl
 
   -- what comes behind a member that was found
-  behind : (rest after : List ℕ) (x : A) (xs : List A) → IsFirst Spells rest x after → AreSome xs rest → (ys : List A) × (xs ≡ x ∷ ys) × AreBehind Spells ys after
+  behind : (rest after : List ℕ) (x : A) (xs : List A) → IsFirst 44 Spells rest x after → AreSome xs rest → (ys : List A) × (xs ≡ x ∷ ys) × AreBehind Spells ys after
   behind rest after x [] found h = absurd h
   behind rest after x (y ∷ ys) found h =
       let same = found.alone y h.0 h.1 h.2 (stops ys h.1 h.3) h.4 in
@@ -90,7 +90,7 @@ module _ {A : Type 0} (Spells : A → List ℕ → Type 0) where
   never_comma others e = absurd cc
 
   -- one more, with a comma behind it
-  pub one_read : (list rest after others : List ℕ) (members : List A) (x : A) → AreRead list members rest → IsFirst Spells rest x after → after ≡ 44 ∷ others → AreRead list (members ++ x ∷ []) others
+  pub one_read : (list rest after others : List ℕ) (members : List A) (x : A) → AreRead list members rest → IsFirst 44 Spells rest x after → after ≡ 44 ∷ others → AreRead list (members ++ x ∷ []) others
   one_read list rest after others members x h found comma = record {
     sound = λ xs more. subst (λ (ys : List A). AreJoined Spells ys list) (sym (append_assoc members (x ∷ []) xs)) (h.sound (x ∷ xs) (longer xs more));
     complete = λ ys joined.
@@ -112,11 +112,11 @@ module _ {A : Type 0} (Spells : A → List ℕ → Type 0) where
       rest_of (y ∷ ys) b = (b.0, b.1, b.2, b.3, comma_is others (b.0 ++ b.1) b.4)
 
   -- the last one
-  pub last_read : (list rest after : List ℕ) (members : List A) (x : A) → AreRead list members rest → IsFirst Spells rest x after → after ≡ [] → AreJoined Spells (members ++ x ∷ []) list
+  pub last_read : (list rest after : List ℕ) (members : List A) (x : A) → AreRead list members rest → IsFirst 44 Spells rest x after → after ≡ [] → AreJoined Spells (members ++ x ∷ []) list
   last_read list rest after members x h found end = h.sound (x ∷ []) (found.first, after, found.spells, end, found.parts)
 
   -- none stands there
-  pub missing : (list rest : List ℕ) (members : List A) → AreRead list members rest → HasNoFirst Spells rest → (ys : List A) → AreJoined Spells ys list → ⊥
+  pub missing : (list rest : List ℕ) (members : List A) → AreRead list members rest → HasNoFirst 44 Spells rest → (ys : List A) → AreJoined Spells ys list → ⊥
   missing list rest members h none ys joined = let left = h.complete ys joined in by left.0 left.2
     where
       by : (xs : List A) → AreSome xs rest → ⊥
@@ -124,7 +124,7 @@ module _ {A : Type 0} (Spells : A → List ℕ → Type 0) where
       by (y ∷ xs) more = none y more.0 more.1 more.2 (stops xs more.1 more.3) more.4
 
   -- neither a comma nor the end follows
-  pub broken_off : (list rest after : List ℕ) (members : List A) (x : A) → AreRead list members rest → IsFirst Spells rest x after → after ≢ [] → ((others : List ℕ) → after ≢ 44 ∷ others)
+  pub broken_off : (list rest after : List ℕ) (members : List A) (x : A) → AreRead list members rest → IsFirst 44 Spells rest x after → after ≢ [] → ((others : List ℕ) → after ≢ 44 ∷ others)
       → (ys : List A) → AreJoined Spells ys list → ⊥
   broken_off list rest after members x h found some comma ys joined =
       let left = h.complete ys joined in

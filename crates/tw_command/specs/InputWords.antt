@@ -24,16 +24,34 @@ abbrev pub SpellsInt : ℤ → List ℕ → Type 0
 SpellsInt n text = SpellsNumber n text × IsIn64 n
 
 -- a subscript, and a value behind `=`
-abbrev pub SpellsMember : {A : Type 0} → (A → List ℕ → Type 0) → ℤ × A → List ℕ → Type 0
-SpellsMember Spells member text = (subscript : List ℕ) × (value : List ℕ) × SpellsInt member.0 subscript × Spells member.1 value × (text ≡ subscript ++ 61 ∷ value)
+abbrev pub SpellsMember : {S A : Type 0} → (S → List ℕ → Type 0) → (A → List ℕ → Type 0) → S × A → List ℕ → Type 0
+SpellsMember SpellsSubscript Spells member text = (subscript : List ℕ) × (value : List ℕ) × SpellsSubscript member.0 subscript × Spells member.1 value × (text ≡ subscript ++ 61 ∷ value)
 
--- `int:` and a number; `text:` and the rest of the word as it stands; `ints:` or `texts:` and the members. Whether subscripts
+-- the members of a container
+abbrev pub SpellsMembers : {S A : Type 0} → (S → List ℕ → Type 0) → (A → List ℕ → Type 0) → List (S × A) → List ℕ → Type 0
+SpellsMembers SpellsSubscript Spells = AreJoined (SpellsMember SpellsSubscript Spells)
+
+-- what the word begins with
+abbrev pub head_of : Input → List ℕ
+head_of (input.Int n) = codes "int:"
+head_of (input.Text text) = codes "text:"
+head_of (input.Ints members) = codes "ints:"
+head_of (input.Texts members) = codes "texts:"
+head_of (input.IntsByText members) = codes "tints:"
+head_of (input.TextsByText members) = codes "ttexts:"
+
+-- what stands behind that: a number; a text as it stands; or members, in which a text stands between quotes. Whether subscripts
 -- rise, and how many members or bytes there are, is asked when the program is opened.
+abbrev pub SpellsRest : Input → List ℕ → Type 0
+SpellsRest (input.Int n) rest = SpellsInt n rest
+SpellsRest (input.Text text) rest = rest ≡ text
+SpellsRest (input.Ints members) rest = SpellsMembers SpellsInt SpellsInt members rest
+SpellsRest (input.Texts members) rest = SpellsMembers SpellsInt SpellsQuoted members rest
+SpellsRest (input.IntsByText members) rest = SpellsMembers SpellsQuoted SpellsInt members rest
+SpellsRest (input.TextsByText members) rest = SpellsMembers SpellsQuoted SpellsQuoted members rest
+
 abbrev pub SpellsInput : Input → List ℕ → Type 0
-SpellsInput (input.Int n) word = (digits : List ℕ) × (word ≡ codes "int:" ++ digits) × SpellsInt n digits
-SpellsInput (input.Text text) word = word ≡ codes "text:" ++ text
-SpellsInput (input.Ints members) word = (list : List ℕ) × (word ≡ codes "ints:" ++ list) × AreJoined (SpellsMember SpellsInt) members list
-SpellsInput (input.Texts members) word = (list : List ℕ) × (word ≡ codes "texts:" ++ list) × AreJoined (SpellsMember SpellsQuoted) members list
+SpellsInput given word = (rest : List ℕ) × (word ≡ head_of given ++ rest) × SpellsRest given rest
 
 -- ---- all words
 

@@ -45,7 +45,8 @@ pub(crate) const RUN: CommandHelp<'static> = CommandHelp {
 With --text it is read as assembly text, as `tw asm` reads it; a refusal of the program then tells the line of the text
 that the refused place comes from, as `at line 17: STORE d0 v0`.
 Its inputs are the words behind the command, one word each, in the order of main's parameters. Examples: int:-7,
-text:abc, ints:1=7,5=-3 and texts:1=\"abc\",2=\"\"; the subscripts of a container rise, and it may have no member.
+text:abc, ints:1=7,5=-3, texts:1=\"abc\",2=\"\", tints:\"a\"=1 and ttexts:\"a\"=\"b\"; the subscripts of a container rise, and it
+may have no member.
 Between quotes \\\", \\\\, \\n and \\x with two hex digits are read.
 Options stand before, behind or between the inputs. --trace and --text take no value; the others take a number in
 decimal digits.
@@ -99,7 +100,8 @@ pub(crate) const LIMIT_HELP: &str = "The most events: 1 to 1000000 (default: 100
 pub(crate) const TRACE_HELP: &str =
     "Write the history before the report: a line `events`, a line for each event, a line `end`";
 
-pub(crate) const INPUT_HELP: &str = "An input: int:, text:, ints: or texts:, and its value";
+pub(crate) const INPUT_HELP: &str =
+    "An input: int:, text:, ints:, texts:, tints: or ttexts:, and its value";
 
 pub(crate) const TEXT_HELP: &str = "Read the program as assembly text, and not as hex text";
 

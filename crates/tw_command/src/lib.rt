@@ -9,6 +9,7 @@ mod help;
 mod input_words;
 mod laws;
 mod limit;
+mod lists;
 
 pub use command::{
     Answer, NoOrder, Order, Places, ProgramOrder, ReplayOrder, RunOrder, Source, VerifiedOrder,

@@ -1,10 +1,11 @@
 -- One output more, and one member more.
-use Rattle.std.proofs.Common.{◌≡◌, ◌<◌, ◌+◌, ℕ, ℤ, suc, List, [], ◌∷◌, ◌++◌, length, take, get_or, sym, ap, ◌∙◌, arith, append_assoc, Option, Some, None, ◌≤◌, refl, option_map}
+use Rattle.std.proofs.Common.{◌≡◌, ◌<◌, ◌+◌, ℕ, suc, List, [], ◌∷◌, ◌++◌, length, take, get_or, sym, ap, ◌∙◌, arith, append_assoc, Option, Some, None, ◌≤◌, refl, option_map}
 use Rattle.std.specs.Prelude.{slice_get}
 use Rattle.std.proofs.lemmas.List.{append-nil, flat_map_more, length-take, take_all, take_more}
 use Rattle.std.proofs.lemmas.Option.{slice_get-get_or, slice_get_within}
 use Rattle.std.specs.FinMap as fin
 use Rattle.tw_types.specs.Store.{Data, Datum, Members}
+use Rattle.tw_types.specs.ValueOrder.{Subscript}
 use Rattle.tw_report.specs.Report.{member_line, member_lines, output_text, output_texts}
 
 -- ---- outputs
@@ -34,45 +35,45 @@ one_output_more live ids n id old out new lt is before made =
 
 -- ---- members
 
-some_entry : (x y : ℤ × ℕ) → ◌≡◌ {A = Option (ℤ × ℕ)} (Some x) (Some y) → x ≡ y
+some_entry : (x y : Subscript × ℕ) → ◌≡◌ {A = Option (Subscript × ℕ)} (Some x) (Some y) → x ≡ y
 some_entry x y e = cc
 
 -- the subscript and the datum of an entry
-abbrev pub told_of : Data → ℤ × ℕ → ℤ × Option Datum
+abbrev pub told_of : Data → Subscript × ℕ → Subscript × Option Datum
 told_of live e = (e.0, fin.get live e.1)
 
 -- what stands at an index, by what is told of it
-entry_told : (live : Data) (m : ℤ × Option Datum) (found : Option (ℤ × ℕ)) → ◌≡◌ {A = Option (ℤ × Option Datum)} (Some m) (option_map (told_of live) found) → (e : ℤ × ℕ) × (found ≡ Some e) × (m ≡ told_of live e)
+entry_told : (live : Data) (m : Subscript × Option Datum) (found : Option (Subscript × ℕ)) → ◌≡◌ {A = Option (Subscript × Option Datum)} (Some m) (option_map (told_of live) found) → (e : Subscript × ℕ) × (found ≡ Some e) × (m ≡ told_of live e)
 entry_told live m None is = absurd (cc)
 entry_told live m (Some e) is = (e, refl, cc)
 
 -- the text with the line of member i added, where the lines before it stand
-pub one_member_more : (live : Data) (es : List (ℤ × ℕ)) (i : ℕ) (m : ℤ × Option Datum) (old out new : List ℕ) → Some m ≡ option_map (told_of live) (slice_get es i) → out ≡ old ++ member_lines live (take i es)
+pub one_member_more : (live : Data) (es : List (Subscript × ℕ)) (i : ℕ) (m : Subscript × Option Datum) (old out new : List ℕ) → Some m ≡ option_map (told_of live) (slice_get es i) → out ≡ old ++ member_lines live (take i es)
     → new ≡ out ++ member_line m.0 m.1 → new ≡ old ++ member_lines live (take (i + 1) es)
 one_member_more live es i m old out new at before made = by (entry_told live m (slice_get es i) at)
   where
-    by : (e : ℤ × ℕ) × (slice_get es i ≡ Some e) × (m ≡ told_of live e) → new ≡ old ++ member_lines live (take (i + 1) es)
+    by : (e : Subscript × ℕ) × (slice_get es i ≡ Some e) × (m ≡ told_of live e) → new ≡ old ++ member_lines live (take (i + 1) es)
     by (e, found, told) =
         let lt : i < length es = slice_get_within es i e found in
         let is : get_or es i e ≡ e = some_entry _ _ (sym (slice_get-get_or es i e lt) ∙ found) in
-        let one : take (i + 1) es ≡ take i es ++ e ∷ [] = take_more es i e lt ∙ ap (λ (x : ℤ × ℕ). take i es ++ x ∷ []) is in
+        let one : take (i + 1) es ≡ take i es ++ e ∷ [] = take_more es i e lt ∙ ap (λ (x : Subscript × ℕ). take i es ++ x ∷ []) is in
         made
-        ∙ ap (λ (x : ℤ × Option Datum). out ++ member_line x.0 x.1) told
+        ∙ ap (λ (x : Subscript × Option Datum). out ++ member_line x.0 x.1) told
         ∙ ap (λ (t : List ℕ). t ++ member_line e.0 (fin.get live e.1)) before
-        ∙ flat_map_more (λ (x : ℤ × ℕ). member_line x.0 (fin.get live x.1)) old (take i es) e
-        ∙ ap (λ (ms : List (ℤ × ℕ)). old ++ member_lines live ms) (sym one)
+        ∙ flat_map_more (λ (x : Subscript × ℕ). member_line x.0 (fin.get live x.1)) old (take i es) e
+        ∙ ap (λ (ms : List (Subscript × ℕ)). old ++ member_lines live ms) (sym one)
 
-never_none : (live : Data) (x : ℤ × ℕ) → ◌≡◌ {A = Option (ℤ × Option Datum)} None (option_map (told_of live) (Some x)) → ⊥
+never_none : (live : Data) (x : Subscript × ℕ) → ◌≡◌ {A = Option (Subscript × Option Datum)} None (option_map (told_of live) (Some x)) → ⊥
 never_none live x e = cc
 
 -- a member stands at each index below their number
 pub is_there : (live : Data) (members : Members) (i count : ℕ) → count ≡ fin.len members → i < count → None ≡ option_map (told_of live) (slice_get (fin.entries members) i) → ⊥
 is_there live members i count all lt none = by (fin.entries members) (omega (arith, lt, all, fin.len-entries members)) none
   where
-    by : (es : List (ℤ × ℕ)) → i < length es → None ≡ option_map (told_of live) (slice_get es i) → ⊥
+    by : (es : List (Subscript × ℕ)) → i < length es → None ≡ option_map (told_of live) (slice_get es i) → ⊥
     by [] inside none = absurd (omega (arith, inside))
     by (e ∷ es) inside none = never_none live (get_or (e ∷ es) i e) (none ∙ ap (option_map (told_of live)) (slice_get-get_or (e ∷ es) i e inside))
 
 -- all have been added
 pub all_members : (live : Data) (members : Members) (i count : ℕ) (old out : List ℕ) → count ≡ fin.len members → count ≤ i → out ≡ old ++ member_lines live (take i (fin.entries members)) → out ≡ old ++ member_lines live (fin.entries members)
-all_members live members i count old out all le before = before ∙ ap (λ (ms : List (ℤ × ℕ)). old ++ member_lines live ms) (take_all i (fin.entries members) (omega (arith, all, le, fin.len-entries members)))
+all_members live members i count old out all le before = before ∙ ap (λ (ms : List (Subscript × ℕ)). old ++ member_lines live ms) (take_all i (fin.entries members) (omega (arith, all, le, fin.len-entries members)))

@@ -1,13 +1,18 @@
 -- The report of a state: a line for each output, with lines for the members of a container behind it, and a line that says
 -- how the run ended, or why it was over.
-use Rattle.std.specs.Prelude.{ℕ, ℤ, suc, Bool, true, false, List, [], ◌∷◌, ◌++◌, codes, decimal, Option, Some, None, option_map, slice_get}
+use Rattle.std.specs.Prelude.{ℕ, suc, Bool, true, false, if◌then◌else◌, List, [], ◌∷◌, ◌++◌, codes, decimal, Option, Some, None, option_map, slice_get}
 use Rattle.std.specs.FinMap as fin
 use Rattle.std.specs.Fmt.{signed_decimal}
 use Rattle.std.specs.List.{flat_map}
+use Rattle.tw_types.specs.DataType.{is_container_by}
+use Rattle.tw_types.specs.Nesting.{NestedScalar}
 use Rattle.tw_types.specs.declared.data_type.Scalar.{Scalar}
 use Rattle.tw_types.specs.declared.data_type.Scalar.TheVariants as scalar
 use Rattle.tw_types.specs.Store.{Content, Unset, Set, Contains, Datum, Data, is_closed}
 use Rattle.tw_types.specs.StoreCalls.{members_in}
+use Rattle.tw_types.specs.ValueOrder.{Subscript}
+use Rattle.tw_types.specs.declared.value.Value.TheVariants as value
+use Rattle.tw_words.specs.Quoted.{quoted}
 use Rattle.tw_types.specs.declared.ending.Ending.{Ending}
 use Rattle.tw_types.specs.declared.ending.Ending.TheVariants.{Quiet, Stuck}
 use Rattle.tw_types.specs.declared.pending.Link.{Link}
@@ -27,9 +32,13 @@ abbrev pub closed_text : Bool → List ℕ
 closed_text true = codes " closed "
 closed_text false = codes " open "
 
+-- by the type of its subscripts
+abbrev pub container_text : NestedScalar → List ℕ
+container_text ty = if is_container_by scalar.Text ty then codes "tcont " else codes "cont "
+
 -- a container of scalars, and whether it is closed
 abbrev pub container_head : Datum → List ℕ
-container_head x = codes "cont " ++ (scalar_text x.ty.scalar ++ closed_text (is_closed x))
+container_head x = container_text x.ty ++ (scalar_text x.ty.scalar ++ closed_text (is_closed x))
 
 abbrev pub content_text : Datum → Content → List ℕ
 content_text x Unset = codes "unset"
@@ -44,20 +53,25 @@ datum_text (Some x) = content_text x x.content
 abbrev pub output_line : ℕ → Option Datum → List ℕ
 output_line k x = codes "out " ++ (decimal k ++ (codes " " ++ (datum_text x ++ codes "\n")))
 
--- a member of a container; it is a scalar, since main's containers are containers of scalars
-abbrev pub member_line : ℤ → Option Datum → List ℕ
-member_line subscript x = codes "  at " ++ (signed_decimal subscript ++ (codes " " ++ (datum_text x ++ codes "\n")))
+-- a text between quotes
+abbrev pub subscript_text : Subscript → List ℕ
+subscript_text (value.Int n) = signed_decimal n
+subscript_text (value.Text text) = quoted text
 
-abbrev pub member_lines : Data → List (ℤ × ℕ) → List ℕ
+-- a member of a container; it is a scalar, since main's containers are containers of scalars
+abbrev pub member_line : Subscript → Option Datum → List ℕ
+member_line subscript x = codes "  at " ++ (subscript_text subscript ++ (codes " " ++ (datum_text x ++ codes "\n")))
+
+abbrev pub member_lines : Data → List (Subscript × ℕ) → List ℕ
 member_lines live members = flat_map (λ e. member_line e.0 (fin.get live e.1)) members
 
 -- what stands in a datum, by rising subscripts
-abbrev pub entries_in : Option Datum → List (ℤ × ℕ)
+abbrev pub entries_in : Option Datum → List (Subscript × ℕ)
 entries_in None = []
 entries_in (Some x) = fin.entries (members_in x.content)
 
 -- of the member of a container with so many smaller subscripts: its own, and its datum if that is live
-abbrev pub member_told : Data → Datum → ℕ → Option (ℤ × Option Datum)
+abbrev pub member_told : Data → Datum → ℕ → Option (Subscript × Option Datum)
 member_told live container index = option_map (λ e. (e.0, fin.get live e.1)) (slice_get (entries_in (Some container)) index)
 
 -- the line of an output, and those of its members

@@ -27,7 +27,7 @@ pub fn circle(
     left: &Final,
     program: &Program,
 ) -> Result<Option<Vec<Link>>, AllocError>
-    ensures { IfOk result (λ found. IsEndCircle program.now left.now (option_map (λ v. v.items) found)) }
+    ensures { IfOk result (λ found. IsEndCircle program.now.procedures left.now (option_map (λ v. v.items) found)) }
 {
     if !has_ended(left.closing()) {
         return Ok(None);
@@ -38,7 +38,7 @@ pub fn circle(
 
 /// The report of the end of a run of this program.
 pub fn report(alloc: Global, left: &Final, program: &Program) -> Result<Vec<u8>, AllocError>
-    ensures { IfOk result (λ text. IsEndReport program.now left.now text.items) }
+    ensures { IfOk result (λ text. IsEndReport program.now.procedures left.now text.items) }
 {
     let mut text = Vec::new(alloc);
     let closing = closing_text(alloc, left.closing(), circle(alloc, left, program)?)?;

@@ -4,14 +4,15 @@ ghost use Rattle.std.specs.Prelude.{◌≡◌, ◌++◌, OnOk, option_map};
 ghost use Rattle.std.specs.Option.{option_copied};
 ghost use Rattle.std.specs.FinMap.{entries, get};
 ghost use Rattle.tw_types.specs.StoreCalls.{members_in};
-ghost use Rattle.tw_report.specs.Report.{closed_text, container_head, datum_text, member_line, member_lines};
-ghost use Rattle.tw_report.specs.Report.{output_line, output_text, report, scalar_text};
+ghost use Rattle.tw_report.specs.Report.{closed_text, container_head, container_text, datum_text, member_line, member_lines};
+ghost use Rattle.tw_report.specs.Report.{output_line, output_text, report, scalar_text, subscript_text};
 
 use crate::lines::{put, put_decimal, put_numbered, put_signed, put_value};
 use crate::told::Told;
 use std::alloc::{AllocError, Global};
 use tw_datum::{Datum, Member};
-use tw_types::{DatumId, Scalar};
+use tw_types::{DataType, DatumId, Scalar, Value};
+use tw_words::put_quoted;
 
 fn scalar_text(scalar: Scalar) -> &'static str
     ensures { result.now ≡ scalar_text scalar }
@@ -19,6 +20,16 @@ fn scalar_text(scalar: Scalar) -> &'static str
     match scalar {
         Scalar::Int => "int",
         Scalar::Text => "text",
+    }
+}
+
+fn container_text(ty: DataType) -> &'static str
+    ensures { result.now ≡ container_text ty }
+{
+    if ty.is_container_by(Scalar::Text) {
+        "tcont "
+    } else {
+        "cont "
     }
 }
 
@@ -32,7 +43,7 @@ fn closed_text(closed: bool) -> &'static str
 fn put_container_head<M: Member>(out: &mut Vec<u8>, datum: &Datum<M>) -> Result<(), AllocError>
     ensures { OnOk result (out.new.items ≡ out.old.items ++ container_head datum.now.datum) }
 {
-    put(out, "cont ")?;
+    put(out, container_text(datum.ty()))?;
     put(out, scalar_text(datum.ty().scalar()))?;
     put(out, closed_text(datum.closed()))
 }
@@ -73,16 +84,26 @@ fn put_output_line<M: Member>(
     put(out, "\n")
 }
 
+/// Adds a subscript as it is written: a text between quotes.
+fn put_subscript(alloc: Global, out: &mut Vec<u8>, subscript: &Value) -> Result<(), AllocError>
+    ensures { OnOk result (out.new.items ≡ out.old.items ++ subscript_text subscript.now) }
+{
+    match subscript {
+        Value::Int(number) => put_signed(alloc, out, *number),
+        Value::Text(text) => put_quoted(out, text.as_str()),
+    }
+}
+
 /// Adds the line of a container's member: its subscript, and its datum.
 fn put_member_line<M: Member>(
     alloc: Global,
     out: &mut Vec<u8>,
-    member: (i64, Option<&Datum<M>>),
+    member: (&Value, Option<&Datum<M>>),
 ) -> Result<(), AllocError>
-    ensures { OnOk result (out.new.items ≡ out.old.items ++ member_line member.entry.0 (option_map (λ d. d.datum) (option_copied member.entry.1))) }
+    ensures { OnOk result (out.new.items ≡ out.old.items ++ member_line member.entry.0.now (option_map (λ d. d.datum) (option_copied member.entry.1))) }
 {
     put(out, "  at ")?;
-    put_signed(alloc, out, member.0)?;
+    put_subscript(alloc, out, member.0)?;
     put(out, " ")?;
     put_datum(alloc, out, member.1)?;
     put(out, "\n")

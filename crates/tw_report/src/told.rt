@@ -11,7 +11,7 @@ ghost use Rattle.tw_report.specs.Report.{member_told};
 use tw_datum::{Datum, Member};
 use tw_machine::State;
 use tw_pool::Final;
-use tw_types::DatumId;
+use tw_types::{DatumId, Value};
 
 /// What has outputs, and the live data that stand in them.
 pub trait Told {
@@ -35,13 +35,13 @@ pub trait Told {
         ensures shown { IfSome result (λ d. IsShown self.now d.now) };
 
     /// The subscript of a container with so many smaller ones, and the datum that stands there, if it is live.
-    fn member(
-        &self,
-        container: &Datum<Self::Kept>,
+    fn member<'a>(
+        &'a self,
+        container: &'a Datum<Self::Kept>,
         index: usize,
-    ) -> Option<(i64, Option<&Datum<Self::Kept>>)>
+    ) -> Option<(&'a Value, Option<&'a Datum<Self::Kept>>)>
         requires { IsShown self.now container.now }
-        ensures { option_map (λ m. (m.0, option_map (λ d. d.datum) (option_copied m.1))) result ≡ member_told (live self.now) container.now.datum index };
+        ensures { option_map (λ m. (m.0.now, option_map (λ d. d.datum) (option_copied m.1))) result ≡ member_told (live self.now) container.now.datum index };
 }
 
 /// A state of the reference machine, which looks a member up by its id.
@@ -62,13 +62,15 @@ impl Told for State {
         self.datum(id)
     }
 
-    fn member(
-        &self,
-        container: &Datum<DatumId>,
+    fn member<'a>(
+        &'a self,
+        container: &'a Datum<DatumId>,
         index: usize,
-    ) -> Option<(i64, Option<&Datum<DatumId>>)> {
-        let (subscript, id) = container.member(index)?;
-        Some((subscript, self.datum(id)))
+    ) -> Option<(&'a Value, Option<&'a Datum<DatumId>>)> {
+        match container.entry(index) {
+            Some((subscript, id)) => Some((subscript, self.datum(id))),
+            None => None,
+        }
     }
 }
 
@@ -90,11 +92,11 @@ impl Told for Final {
         self.view(id)
     }
 
-    fn member(
-        &self,
-        container: &Datum<tw_store::Member>,
+    fn member<'a>(
+        &'a self,
+        container: &'a Datum<tw_store::Member>,
         index: usize,
-    ) -> Option<(i64, Option<&Datum<tw_store::Member>>)> {
+    ) -> Option<(&'a Value, Option<&'a Datum<tw_store::Member>>)> {
         match self.member(container, index) {
             Some(member) => Some((member.subscript, member.datum)),
             None => None,

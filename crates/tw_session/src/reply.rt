@@ -110,7 +110,7 @@ fn places_of(order: &VerifiedOrder) -> Places
 
 /// What stands before a refusal.
 fn text_before(alloc: Global, places: Places, refused: &Refused) -> Result<Vec<u8>, AllocError>
-    ensures { IfOk result (λ text. StandsBefore places refused.now.program (verify_refusal_number refused.now.no) refused.now.procedure text.items) }
+    ensures { IfOk result (λ text. StandsBefore places refused.now.program.procedures (verify_refusal_number refused.now.no) refused.now.procedure text.items) }
 {
     match places {
         Places::Hidden => Ok(Vec::new(alloc)),
@@ -125,9 +125,9 @@ fn refusal_reply(
     places: Places,
     refused: &Refused,
 ) -> Result<Reply, AllocError>
-    requires source { MayBeSource source.now refused.now.program }
-    requires first { IsFirstRefusal refused.now.program (verify_refusal_number refused.now.no) refused.now.procedure refused.now.place }
-    ensures { IfOk result (λ r. IsRefused places (behind_of source.now) refused.now.program (reply r.text.items r.close)) }
+    requires source { MayBeSource source.now refused.now.program.procedures }
+    requires first { IsFirstRefusal refused.now.program.procedures (verify_refusal_number refused.now.no) refused.now.procedure refused.now.place }
+    ensures { IfOk result (λ r. IsRefused places (behind_of source.now) refused.now.program.procedures (reply r.text.items r.close)) }
 {
     let mut text = text_before(alloc, places, refused)?;
     put_verify_line(
@@ -152,8 +152,8 @@ fn verified_reply<H: Threads + Wait + Clock + Sync>(
     order: &VerifiedOrder,
     program: Program,
 ) -> Result<Reply, AllocError>
-    requires { MayBeSource source.now program }
-    ensures { IfOk result (λ r. RepliesByVerified (behind_of source.now) order.now program (reply r.text.items r.close)) }
+    requires { MayBeSource source.now program.procedures }
+    ensures { IfOk result (λ r. RepliesByVerified (behind_of source.now) order.now program.procedures (reply r.text.items r.close)) }
 {
     match verify(alloc, program) {
         Ok(verified) => accepted_reply(rt, alloc, order, verified),
@@ -185,7 +185,7 @@ fn program_reply<H: Threads + Wait + Clock + Sync>(
     order: &ProgramOrder,
     program: Program,
 ) -> Result<Reply, AllocError>
-    requires { MayBeSource source.now program }
+    requires { MayBeSource source.now program.procedures }
     ensures { IfOk result (λ r. RepliesByProgram (behind_of source.now) order.now program (reply r.text.items r.close)) }
 {
     match order {

@@ -1,7 +1,6 @@
 -- Reading a list from left to right.
-use Rattle.std.specs.Prelude.{◌≡◌, ◌≢◌, ℕ, ℤ, List, [], ◌∷◌, ◌++◌}
+use Rattle.std.specs.Prelude.{◌≡◌, ◌≢◌, ◌⊎◌, ℕ, List, [], ◌∷◌, ◌++◌}
 use Rattle.std.specs.List.{AllByRecursion}
-use Rattle.tw_command.specs.InputWords.{SpellsInt}
 
 -- nothing, or this byte, stands first
 abbrev pub IsStop : ℕ → List ℕ → Type 0
@@ -14,17 +13,17 @@ pub record IsCut (byte : ℕ) (bytes front rest : List ℕ) : Type 0 where
   pub clean : AllByRecursion (λ b. b ≢ byte) front
   pub stop : IsStop byte rest
 
--- a subscript and `=` stand first, and this follows
-abbrev pub BeginsSubscripted : ℤ → List ℕ → List ℕ → Type 0
-BeginsSubscripted subscript bytes rest = (first : List ℕ) × SpellsInt subscript first × (bytes ≡ first ++ 61 ∷ rest)
+-- what parts a list: `=` behind a subscript, a comma behind a value
+abbrev pub IsMark : ℕ → Type 0
+IsMark byte = (byte ≡ 61) ⊎ (byte ≡ 44)
 
--- a member stands first, and this follows; no other member stands first before a comma or the end
-pub record IsFirst {A : Type 0} (Spells : A → List ℕ → Type 0) (bytes : List ℕ) (x : A) (rest : List ℕ) : Type 0 where
+-- one stands first, and this follows; no other stands first before the mark or the end
+pub record IsFirst {A : Type 0} (mark : ℕ) (Spells : A → List ℕ → Type 0) (bytes : List ℕ) (x : A) (rest : List ℕ) : Type 0 where
   pub first : List ℕ
   pub spells : Spells x first
   pub parts : bytes ≡ first ++ rest
-  pub alone : (y : A) (other after : List ℕ) → Spells y other → IsStop 44 after → bytes ≡ other ++ after → (x ≡ y) × (rest ≡ after)
+  pub alone : (y : A) (other after : List ℕ) → Spells y other → IsStop mark after → bytes ≡ other ++ after → (x ≡ y) × (rest ≡ after)
 
--- no member stands first before a comma or the end
-abbrev pub HasNoFirst : {A : Type 0} → (A → List ℕ → Type 0) → List ℕ → Type 0
-HasNoFirst {A} Spells bytes = (y : A) (other after : List ℕ) → Spells y other → IsStop 44 after → bytes ≡ other ++ after → ⊥
+-- none stands first before the mark or the end
+abbrev pub HasNoFirst : {A : Type 0} → ℕ → (A → List ℕ → Type 0) → List ℕ → Type 0
+HasNoFirst {A} mark Spells bytes = (y : A) (other after : List ℕ) → Spells y other → IsStop mark after → bytes ≡ other ++ after → ⊥

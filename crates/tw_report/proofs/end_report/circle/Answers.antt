@@ -11,7 +11,7 @@ use Rattle.tw_report.proofs.end_report.circle.Goals as goal
 
 pub returns : goal.returns
 returns c =
-    let program = c.args.program.now in
+    let program = c.args.program.now.procedures in
     let final = c.args.left.now in
     let items = c.in_ok-rules.rules.items in
     let same : items ≡ map (pending_told program) final.pending =

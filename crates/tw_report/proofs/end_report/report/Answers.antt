@@ -8,7 +8,7 @@ use Rattle.tw_report.proofs.end_report.report.Goals as goal
 
 pub returns : goal.returns
 returns c p history of shut =
-    let program = c.args.program.now in
+    let program = c.args.program.now.procedures in
     let final = c.args.left.now in
     let s = shut.state in
     let text = c.deref.result.now in

@@ -2,6 +2,7 @@ use Rattle.std.proofs.Common.{List, inl, inr, subst, sym}
 use Rattle.std.proofs.lemmas.Result.{IfOk-weaker}
 use Rattle.tw_code.specs.accepting.WellTyped.{IsFirstRefusal}
 use Rattle.tw_code.specs.declared.procedure.Procedure.{Procedure}
+use Rattle.tw_code.specs.format.Program.{Versioned}
 use Rattle.tw_command.specs.declared.command.Places.{Places}
 use Rattle.tw_verify.specs.Refusal.{verify_refusal_number}
 use Rattle.tw_session.specs.Session.{IsRefused, RepliesByAccepted}
@@ -18,8 +19,8 @@ refusal_reply-requires g c =
     let refused = c.in-Err.refused in
     let back = sym c.in-Err.ensures.back in
     record {
-      source = subst (λ (p : List Procedure). MayBeSource c.args.source.now p) back c.requires;
-      first = subst (λ (p : List Procedure). IsFirstRefusal p (verify_refusal_number refused.no) refused.procedure refused.place) back (c.in-Err.ensures.first c.in_default.not-NoMemory);
+      source = subst (λ (p : Versioned). MayBeSource c.args.source.now p.procedures) back c.requires;
+      first = subst (λ (p : Versioned). IsFirstRefusal p.procedures (verify_refusal_number refused.no) refused.procedure refused.place) back (c.in-Err.ensures.first c.in_default.not-NoMemory);
     }
 
 pub returns : goal.returns
@@ -27,5 +28,5 @@ returns g c =
     let behind = behind_of c.args.source.now in
     IfOk-weaker _ _ _
     (λ r h.
-    let told = subst (λ (p : List Procedure). IsRefused c.places_of.result behind p (reply r.text.items r.close)) c.in-Err.ensures.back h in
-    inr (subst (λ (places : Places). IsRefused places behind c.args.program (reply r.text.items r.close)) c.places_of.ensures told)) c.refusal_reply.ensures
+    let told = subst (λ (p : Versioned). IsRefused c.places_of.result behind p.procedures (reply r.text.items r.close)) c.in-Err.ensures.back h in
+    inr (subst (λ (places : Places). IsRefused places behind c.args.program.procedures (reply r.text.items r.close)) c.places_of.ensures told)) c.refusal_reply.ensures
