@@ -8,7 +8,7 @@ use tw_code::encode;
 
 /// The bytes of a text such as `proc control / regs / RET`, `@every with 26=10 27=01` or `545742 @code 61*4096 first 31`.
 pub fn read_bytes(alloc: Global, book: &Book, text: &str) -> Result<Vec<u8>, Complaint> {
-    if text.starts_with("proc ") {
+    if text.starts_with("proc ") || text.starts_with("version ") {
         return assembled(alloc, text);
     }
     match text.rsplit_once(" first ") {

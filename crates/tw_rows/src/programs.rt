@@ -126,14 +126,33 @@ fn mode_word(mode: Mode) -> &'static str {
     }
 }
 
-/// A type as `cont int`.
+/// A type as `cont tcont int`.
 pub fn type_text(alloc: Global, ty: DataType) -> Result<String, AllocError> {
-    let containers = "cont ".repeat(alloc, usize::from(ty.depth()))?;
-    let scalar = match ty.scalar() {
+    let mut text = String::new(alloc);
+    let mut inner = ty;
+    for _ in 0..DataType::MAX_DEPTH {
+        if let Some(element) = inner.element() {
+            text.push_str(container_word(inner))?;
+            inner = element;
+        }
+    }
+    text.push_str(scalar_word(inner.scalar()))?;
+    Ok(text)
+}
+
+fn container_word(ty: DataType) -> &'static str {
+    if ty.is_container_by(Scalar::Text) {
+        "tcont "
+    } else {
+        "cont "
+    }
+}
+
+fn scalar_word(scalar: Scalar) -> &'static str {
+    match scalar {
         Scalar::Int => "int",
         Scalar::Text => "text",
-    };
-    format!(in alloc; "{containers}{scalar}")
+    }
 }
 
 /// What the right registers hold at each place of a procedure.

@@ -105,12 +105,18 @@ fn content_text(alloc: Global, datum: &Datum) -> Result<String, AllocError> {
         return members_text(alloc, datum);
     }
     match datum.value() {
-        Some(Value::Int(number)) => number.to_string(alloc),
-        Some(Value::Text(text)) => {
+        Some(value) => value_text(alloc, value),
+        None => "unset".to_string(alloc),
+    }
+}
+
+fn value_text(alloc: Global, value: &Value) -> Result<String, AllocError> {
+    match value {
+        Value::Int(number) => number.to_string(alloc),
+        Value::Text(text) => {
             let text = text.as_str();
             format!(in alloc; "{text:?}")
         }
-        None => "unset".to_string(alloc),
     }
 }
 
@@ -119,7 +125,8 @@ fn members_text(alloc: Global, datum: &Datum) -> Result<String, AllocError> {
     let count = datum.len();
     let mut text = format!(in alloc; "members {count}")?;
     for index in 0..count {
-        if let Some((subscript, member)) = datum.member(index) {
+        if let Some((subscript, member)) = datum.entry(index) {
+            let subscript = value_text(alloc, subscript)?;
             let number = member.number();
             text.push_str(format!(in alloc; " at {subscript} d{number}")?.as_str())?;
         }

@@ -134,6 +134,22 @@ fn put_values(
     Ok(())
 }
 
+/// A name with a procedure's number, and a priority: one in three is computed.
+fn put_name(
+    alloc: Global,
+    code: &mut Code,
+    seed: &mut u64,
+    number: u8,
+    is_rule: bool,
+) -> Result<(), AllocError> {
+    if draw(seed, 3) == 0 {
+        code.register(alloc, if is_rule { "RULEV " } else { "PUTV " }, number)?;
+        return code.register(alloc, " v", int(seed));
+    }
+    code.register(alloc, if is_rule { "RULE " } else { "PUT " }, number)?;
+    code.put(PRIORITIES[usize::from(draw(seed, 6)) % 6])
+}
+
 /// The line of a RULE or PUT.
 fn put_line(
     alloc: Global,
@@ -143,8 +159,7 @@ fn put_line(
     callee: &Signature,
     is_rule: bool,
 ) -> Result<(), AllocError> {
-    code.register(alloc, if is_rule { "RULE " } else { "PUT " }, number)?;
-    code.put(PRIORITIES[usize::from(draw(seed, 6)) % 6])?;
+    put_name(alloc, code, seed, number, is_rule)?;
     put_target(alloc, code, seed, callee.is_leaf)?;
     put_values(alloc, code, seed, callee.values)
 }

@@ -9,9 +9,23 @@ use std::alloc::{AllocError, Global};
 /// A value register of the type's scalar.
 fn value(seed: &mut u64, ty: Ty) -> u8 {
     match ty {
-        Ty::Text | Ty::Texts => text(seed),
-        Ty::Int | Ty::Ints | Ty::Rows => int(seed),
+        Ty::Text | Ty::Texts | Ty::Names => text(seed),
+        Ty::Int | Ty::Ints | Ty::Rows | Ty::Words | Ty::Tables => int(seed),
     }
+}
+
+/// A value register of the type that a container's subscripts have.
+fn subscript(seed: &mut u64, container: Ty) -> u8 {
+    if container.is_by_text() {
+        text(seed)
+    } else {
+        int(seed)
+    }
+}
+
+/// What stands before the name of an instruction on a container.
+fn letter(container: Ty) -> &'static str {
+    if container.is_by_text() { "T" } else { "" }
 }
 
 /// Makes a datum; the registers with the rights to write and to read it.
@@ -122,11 +136,13 @@ fn put_insert_lines(
     code: &mut Code,
     seed: &mut u64,
     container: u8,
+    ty: Ty,
     member: u8,
 ) -> Result<(), AllocError> {
     let (there, done) = (code.next_label(), code.next_label());
+    code.put(letter(ty))?;
     code.register(alloc, "INS d", container)?;
-    code.register(alloc, " v", int(seed))?;
+    code.register(alloc, " v", subscript(seed, ty))?;
     code.register(alloc, " d", member)?;
     code.number(alloc, " L", there)?;
     code.number(alloc, "\nJMP L", done)?;
@@ -151,7 +167,7 @@ fn put_insert(alloc: Global, code: &mut Code, seed: &mut u64) -> Result<(), Allo
         return Ok(());
     };
     code.set(member, None);
-    put_insert_lines(alloc, code, seed, container, member)
+    put_insert_lines(alloc, code, seed, container, right.ty, member)
 }
 
 /// The lines of a LOOK, whose right is dropped again.
@@ -161,11 +177,13 @@ fn put_look_lines(
     seed: &mut u64,
     member: u8,
     container: u8,
+    ty: Ty,
 ) -> Result<(), AllocError> {
     let missing = code.next_label();
+    code.put(letter(ty))?;
     code.register(alloc, "LOOK d", member)?;
     code.register(alloc, " d", container)?;
-    code.register(alloc, " v", int(seed))?;
+    code.register(alloc, " v", subscript(seed, ty))?;
     code.number(alloc, " L", missing)?;
     code.register(alloc, "\nDROPR d", member)?;
     code.put("\n")?;
@@ -178,13 +196,15 @@ fn put_look_or_new(
     code: &mut Code,
     seed: &mut u64,
     registers: (u8, u8, u8),
+    ty: Ty,
     element: Ty,
 ) -> Result<(), AllocError> {
     let (member, container, writer) = registers;
     let (missing, done) = (code.next_label(), code.next_label());
+    code.put(letter(ty))?;
     code.register(alloc, "LOOK d", member)?;
     code.register(alloc, " d", container)?;
-    code.register(alloc, " v", int(seed))?;
+    code.register(alloc, " v", subscript(seed, ty))?;
     code.number(alloc, " L", missing)?;
     code.number(alloc, "\nJMP L", done)?;
     code.put("\n")?;
@@ -215,18 +235,30 @@ fn put_look(alloc: Global, code: &mut Code, seed: &mut u64) -> Result<(), AllocE
     };
     let writer = member.wrapping_add(1) % 16;
     if code.at(writer).is_some() || draw(seed, 2) == 0 {
-        return put_look_lines(alloc, code, seed, member, container);
+        return put_look_lines(alloc, code, seed, member, container, right.ty);
     }
-    put_look_or_new(alloc, code, seed, (member, container, writer), element)
+    put_look_or_new(
+        alloc,
+        code,
+        seed,
+        (member, container, writer),
+        right.ty,
+        element,
+    )
 }
 
 fn put_size(alloc: Global, code: &mut Code, seed: &mut u64) -> Result<(), AllocError> {
     let Some(container) = code.find(seed, Want::ClosedContainer) else {
         return Ok(());
     };
+    let Some(right) = code.at(container) else {
+        return Ok(());
+    };
     code.register(alloc, "SIZE v", int(seed))?;
     code.register(alloc, " d", container)?;
-    code.register(alloc, "\nSUBAT v", int(seed))?;
+    code.put("\n")?;
+    code.put(letter(right.ty))?;
+    code.register(alloc, "SUBAT v", subscript(seed, right.ty))?;
     code.register(alloc, " d", container)?;
     code.register(alloc, " v", int(seed))?;
     code.put(" +0\n")

@@ -38,12 +38,40 @@ fn next_texts(alloc: Global, seed: &mut u64) -> Result<Items<(i64, InputText)>, 
     Ok(Items::from(pairs))
 }
 
+/// Texts that rise by their bytes; the programs have them too.
+const SUBSCRIPTS: [&str; 4] = ["", "-12", "7", "ab\n"];
+
+fn next_words(alloc: Global, seed: &mut u64) -> Result<Items<(InputText, i64)>, AllocError> {
+    let mut pairs = Vec::new(alloc);
+    for subscript in &SUBSCRIPTS {
+        if draw(seed, 2) == 0 {
+            let text = InputText::from(subscript.to_string(alloc)?);
+            pairs.push((text, i64::from(draw(seed, 20))))?;
+        }
+    }
+    Ok(Items::from(pairs))
+}
+
+fn next_names(alloc: Global, seed: &mut u64) -> Result<Items<(InputText, InputText)>, AllocError> {
+    let mut pairs = Vec::new(alloc);
+    for subscript in &SUBSCRIPTS {
+        if draw(seed, 2) == 0 {
+            let text = InputText::from(subscript.to_string(alloc)?);
+            let name = next_text(alloc, seed)?;
+            pairs.push((text, name))?;
+        }
+    }
+    Ok(Items::from(pairs))
+}
+
 fn next_input(alloc: Global, seed: &mut u64, ty: Ty) -> Result<Input, AllocError> {
     match ty {
         Ty::Int => Ok(Input::Int(i64::from(draw(seed, 9)))),
         Ty::Text => Ok(Input::Text(next_text(alloc, seed)?)),
         Ty::Texts => Ok(Input::Texts(next_texts(alloc, seed)?)),
-        Ty::Ints | Ty::Rows => Ok(Input::Ints(next_ints(alloc, seed)?)),
+        Ty::Words => Ok(Input::IntsByText(next_words(alloc, seed)?)),
+        Ty::Names => Ok(Input::TextsByText(next_names(alloc, seed)?)),
+        Ty::Ints | Ty::Rows | Ty::Tables => Ok(Input::Ints(next_ints(alloc, seed)?)),
     }
 }
 

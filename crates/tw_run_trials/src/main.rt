@@ -87,7 +87,7 @@ fn threads_trial<R: AllocGlobal + Print + Threads + Wait + Clock + Sync>(
 fn worked_trial(rt: &HostRuntime) -> io::Result<u64> {
     let (ended, shut) = refused::worked(rt.alloc());
     println!(rt; "{ended} worked programs end, {shut} can be shut")?;
-    Ok(u64::from(ended == 4 && shut == 4))
+    Ok(u64::from(ended == 5 && shut == 5))
 }
 
 /// Histories that are changed, which are to differ; how many agree, with those before.

@@ -150,6 +150,7 @@ pub fn next_program(alloc: Global, seed: &mut u64) -> Result<Drawn, AllocError> 
     let main = Signature::next_main(seed);
     let signatures = next_signatures(alloc, seed, main)?;
     let mut code = Code::new(alloc);
+    code.put("version 2\n")?;
     let mut number: u8 = 0;
     for signature in &signatures {
         put_procedure(alloc, &mut code, seed, &signatures, number, signature)?;

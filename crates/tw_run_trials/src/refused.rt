@@ -10,11 +10,12 @@ use tw_report::report;
 
 /// Programs that run on four workers, and their reports.
 #[rattlefmt::skip]
-const WORKED: [(&str, &str); 4] = [
+const WORKED: [(&str, &str); 5] = [
     ("proc control write int\nregs int\nINT v0 7\nSTORE d0 v0\nRET\n", "out 0 int 7\nquiet\n"),
     ("proc control write int\nregs int\nINT v0 4\nNEW d1 d2 int\nSTORE d1 v0\nRULE 1 0 any 2 0\nRET\nproc leaf closed int write int\nregs int\nGET v0 d0\nDROPR d0\nSTORE d1 v0\nRET\n", "out 0 int 4\nquiet\n"),
     ("proc control write int\nregs\nNEW d1 d2 int\nRULE 1 0 any 2 0\nPUT 2 0 any 1\nRET\nproc leaf closed int write int\nregs int\nGET v0 d0\nDROPR d0\nSTORE d1 v0\nRET\nproc leaf write int\nregs int\nINT v0 5\nSTORE d0 v0\nRET\n", "out 0 int 5\nquiet\n"),
     ("proc control write text\nregs text int\nTEXT v0 \"ab\"\nPUT 1 0 3 0 0\nRET\nproc leaf val text write text\nregs text\nSTORE d0 v0\nRET\n", "out 0 text \"ab\"\nquiet\n"),
+    ("version 2\nproc control write text write tcont text\nregs text int\nTEXT v0 \"k\"\nNEW d2 d3 tcont int\nNEW d4 d5 int\nSTORE d4 v1\nTINS d2 v0 d5 +1\nJMP +1\nDROPR d5\nDROPW d2\nRULEV 1 v1 any 3 0 1\nRET\nproc leaf closed tcont int write text write tcont text\nregs text int\nTSUBAT v0 d0 v1 +0\nDROPR d0\nNEW d3 d4 text\nSTORE d3 v0\nTINS d2 v0 d4 +1\nJMP +1\nDROPR d4\nDROPW d2\nSTORE d1 v0\nRET\n", "out 0 text \"k\"\nout 1 tcont text closed 1\n  at \"k\" text \"k\"\nquiet\n"),
 ];
 
 /// Whether what is left of a run tells this report.

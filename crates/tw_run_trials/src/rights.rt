@@ -10,6 +10,10 @@ pub enum Ty {
     Ints,
     Texts,
     Rows,
+    /// Under texts, as the next two.
+    Words,
+    Names,
+    Tables,
 }
 
 impl Ty {
@@ -21,33 +25,44 @@ impl Ty {
             Ty::Ints => "cont int",
             Ty::Texts => "cont text",
             Ty::Rows => "cont cont int",
+            Ty::Words => "tcont int",
+            Ty::Names => "tcont text",
+            Ty::Tables => "tcont cont int",
         }
+    }
+
+    /// Whether it is a container whose subscripts are texts.
+    pub fn is_by_text(self) -> bool {
+        matches!(self, Ty::Words | Ty::Names | Ty::Tables)
     }
 
     /// The type of a container's members.
     pub fn element(self) -> Option<Ty> {
         match self {
             Ty::Int | Ty::Text => None,
-            Ty::Ints => Some(Ty::Int),
-            Ty::Texts => Some(Ty::Text),
-            Ty::Rows => Some(Ty::Ints),
+            Ty::Ints | Ty::Words => Some(Ty::Int),
+            Ty::Texts | Ty::Names => Some(Ty::Text),
+            Ty::Rows | Ty::Tables => Some(Ty::Ints),
         }
     }
 
     /// A type by chance, of those that main may have.
     pub fn next_of_main(seed: &mut u64) -> Ty {
-        match draw(seed, 6) {
+        match draw(seed, 9) {
             0 | 1 => Ty::Int,
             2 => Ty::Text,
             3 => Ty::Texts,
+            4 => Ty::Names,
+            5 | 6 => Ty::Words,
             _ => Ty::Ints,
         }
     }
 
     /// A type by chance.
     pub fn next(seed: &mut u64) -> Ty {
-        match draw(seed, 9) {
+        match draw(seed, 10) {
             0 => Ty::Rows,
+            1 => Ty::Tables,
             _ => Ty::next_of_main(seed),
         }
     }

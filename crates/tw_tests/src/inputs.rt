@@ -13,6 +13,9 @@ const LENGTH: &str = "54574201 01 00 02 02020401 02 0201 0005 320000 190100 3900
 /// SIZE v0 d0 / DROPR d0 / STORE d1 v0 / RET, of a closed container of ints and an int to write.
 const SIZE: &str = "54574201 01 00 02 0203010401 01 01 0004 350000 3900 310100 42";
 
+/// The same of version 2, where the subscripts are texts.
+const SIZE_BY_TEXT: &str = "54574202 01 00 02 0204010401 01 01 0004 350000 3900 310100 42";
+
 /// The words of a run with one input.
 fn words(alloc: Global, input: String) -> Result<Vec<String>, Fail> {
     let run = String::from_str(alloc, "run")?;
@@ -38,6 +41,16 @@ fn ints(alloc: Global, last: usize) -> Result<String, Fail> {
         word.push_str(format!(in alloc; ",{subscript}=7")?.as_str())?;
     }
     word.push_str(format!(in alloc; ",{last}=7")?.as_str())?;
+    Ok(word)
+}
+
+/// The member 7 at each text of four digits from `1000` on, up to this one.
+fn tints(alloc: Global, last: usize) -> Result<String, Fail> {
+    let mut word = String::from_str(alloc, "tints:\"1000\"=7")?;
+    for subscript in 1_001..last {
+        word.push_str(format!(in alloc; ",\"{subscript}\"=7")?.as_str())?;
+    }
+    word.push_str(format!(in alloc; ",\"{last}\"=7")?.as_str())?;
     Ok(word)
 }
 
@@ -70,6 +83,21 @@ fn a_thousand_members_and_no_more(rt: HostRuntime) -> Result<(), Fail> {
     let report = "out 0 int 1000\nquiet\n";
     let most = comes_to(&rt, ints(rt.alloc(), 999)?, SIZE, 0, report)?;
     let more = comes_to(&rt, ints(rt.alloc(), 1_000)?, SIZE, 1, "refused O02\n")?;
+    assert_eq!(rt; (most, more), (true, true));
+    Ok(())
+}
+
+#[test]
+fn a_thousand_members_by_text_and_no_more(rt: HostRuntime) -> Result<(), Fail> {
+    let report = "out 0 int 1000\nquiet\n";
+    let most = comes_to(&rt, tints(rt.alloc(), 1_999)?, SIZE_BY_TEXT, 0, report)?;
+    let more = comes_to(
+        &rt,
+        tints(rt.alloc(), 2_000)?,
+        SIZE_BY_TEXT,
+        1,
+        "refused O02\n",
+    )?;
     assert_eq!(rt; (most, more), (true, true));
     Ok(())
 }

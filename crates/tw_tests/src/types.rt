@@ -20,6 +20,29 @@ fn three_containers_and_no_fourth(rt: HostRuntime) {
     );
 }
 
+/// Containers of both kinds round a text: whether each has the subscripts that it was made with, the outermost first,
+/// and whether a fourth fits.
+fn containers_of_both_kinds() -> Option<([bool; 3], bool)> {
+    let three = DataType::text().tcont()?.cont()?.tcont()?;
+    let two = three.element()?;
+    let one = two.element()?;
+    let kinds = [
+        three.is_container_by(Scalar::Text),
+        two.is_container_by(Scalar::Int),
+        one.is_container_by(Scalar::Text),
+    ];
+    Some((kinds, three.tcont().is_some()))
+}
+
+#[test]
+fn containers_are_told_by_their_subscripts(rt: HostRuntime) {
+    let is_same = DataType::int().cont() == DataType::int().tcont();
+    assert_eq!(rt;
+        (containers_of_both_kinds(), is_same),
+        (Some(([true, true, true], false)), false)
+    );
+}
+
 #[test]
 fn actors_come_engines_first(rt: HostRuntime) {
     let in_order = [

@@ -4,8 +4,12 @@ ghost use Rattle.std.specs.Prelude.{◌≡◌, ◌<◌, ◌^◌, IfSome, IsTrue,
 ghost use Rattle.std.specs.FinMap.{contains_key, get};
 ghost use Rattle.std.specs.Option.{option_copied};
 ghost use Rattle.std.specs.declared.result.Result.TheVariants.{Ok};
+ghost use Rattle.tw_types.specs.DataType.{is_element_of};
 ghost use Rattle.tw_types.specs.StoreCalls.{member_at};
-ghost use Rattle.tw_types.specs.StoreChecks.{may_copy_write, may_drop_read, may_drop_write, may_insert, may_look, may_read_members, may_retrieve, may_store};
+ghost use Rattle.tw_types.specs.StoreChecks.{may_copy_write, may_drop_read, may_drop_write, may_insert, may_look, may_read_members, may_read_members_by, may_retrieve, may_store};
+ghost use Rattle.tw_types.specs.Text.{IsText};
+ghost use Rattle.tw_types.specs.Value.{scalar_of};
+ghost use Rattle.tw_types.specs.ValueOrder.{named};
 ghost use Rattle.tw_types.specs.Room.{HasReadRoom, HasWriteRoom};
 ghost use Rattle.tw_store.specs.Calls.{HasMemberRoom};
 ghost use Rattle.tw_store.specs.Served.{IsHere};
@@ -13,29 +17,67 @@ ghost use Rattle.tw_store.specs.Served.{IsHere};
 use std::alloc::{AllocError, Global};
 use tw_rights::{ReadRight, WriteRight};
 use tw_store::{Asked, Datum, Inserted, Store};
-use tw_types::{DataType, DatumId, RuleNo, Text, Value};
+use tw_types::{DataType, DatumId, RuleNo, Scalar, Text, Value, ValueRef};
 
 /// No count comes near this one.
 const FAR: u64 = 1 << 40;
 
-/// The value of a scalar: a number, or the one text that is stored.
+/// A text of the calls. They rise in this order.
+#[derive(Clone, Copy, PartialEq, Eq)]
+pub enum Word {
+    Empty,
+    A,
+    Ab,
+    B,
+}
+
+impl Word {
+    fn as_str(self) -> &'static str
+        ensures { IsText result.now }
+    {
+        match self {
+            Word::Empty => "",
+            Word::A => "a",
+            Word::Ab => "ab",
+            Word::B => "b",
+        }
+    }
+
+    /// The word that is this text.
+    fn of(text: &Text) -> Option<Word> {
+        match text.as_str() {
+            "" => Some(Word::Empty),
+            "a" => Some(Word::A),
+            "ab" => Some(Word::Ab),
+            "b" => Some(Word::B),
+            _ => None,
+        }
+    }
+}
+
+/// The value of a scalar.
 #[derive(Clone, Copy, PartialEq, Eq)]
 pub enum Plain {
     Number(i64),
-    Letter,
+    Word(Word),
 }
 
 /// What is to be called: the first number is the id of the datum.
 #[derive(Clone, Copy)]
 pub enum Call {
-    /// So many containers around an int, or around a text.
+    /// So many containers by integers around an int, or around a text.
     Create(u8, bool),
+    /// A container by texts around that.
+    CreateByText(u8, bool),
     Set(u64, Plain),
     Retrieve(u64),
     Insert(u64, i64, u64),
+    InsertText(u64, Word, u64),
     Look(u64, i64),
+    LookText(u64, Word),
     Size(u64),
     SubscriptAt(u64, i64),
+    TextAt(u64, i64),
     CopyRead(u64),
     CopyWrite(u64),
     DropRead(u64),
@@ -54,7 +96,7 @@ pub enum Answer {
     Nothing,
     Id(u64),
     Number(i64),
-    Letter,
+    Word(Word),
     Closed,
     Noted,
     Notice(u64, u64, u8),
@@ -92,7 +134,7 @@ fn may_store(value: &Value, datum: Option<&Datum>) -> bool
     match datum {
         Some(datum) => {
             let ty = datum.ty();
-            let is_of = ty.depth() == 0 && value.scalar() == ty.scalar();
+            let is_of = ty.is_scalar() && value.scalar() == ty.scalar();
             is_of && datum.is_unset() && datum.writes() != 0
         }
         None => false,
@@ -103,19 +145,25 @@ fn may_retrieve(datum: Option<&Datum>) -> bool
     ensures { IsTrue result → may_retrieve (option_map (λ d. d.datum) (option_copied datum.entry)) ≡ Ok tt }
 {
     match datum {
-        Some(datum) => datum.ty().depth() == 0 && datum.value().is_some(),
+        Some(datum) => datum.ty().is_scalar() && datum.value().is_some(),
         None => false,
     }
 }
 
-fn may_insert(container: Option<&Datum>, member: Option<&Datum>) -> bool
-    ensures { IsTrue result → may_insert (option_map (λ d. d.datum) (option_copied container.entry)) (option_map (λ d. d.datum) (option_copied member.entry)) ≡ Ok tt }
+fn is_element_of(element: DataType, ty: DataType) -> bool
+    ensures { result ≡ is_element_of element ty }
+{
+    ty.element() == Some(element)
+}
+
+fn may_insert(by: Scalar, container: Option<&Datum>, member: Option<&Datum>) -> bool
+    ensures { IsTrue result → may_insert by (option_map (λ d. d.datum) (option_copied container.entry)) (option_map (λ d. d.datum) (option_copied member.entry)) ≡ Ok tt }
 {
     match (container, member) {
         (Some(container), Some(member)) => {
-            let (element, ty) = (member.ty(), container.ty());
-            let is_element = element.depth() + 1 == ty.depth() && element.scalar() == ty.scalar();
-            is_element && !container.closed()
+            let ty = container.ty();
+            let is_element = is_element_of(member.ty(), ty);
+            ty.is_container_by(by) && is_element && !container.closed()
         }
         _ => false,
     }
@@ -125,7 +173,17 @@ fn may_read_members(datum: Option<&Datum>) -> bool
     ensures { IsTrue result → may_read_members (option_map (λ d. d.datum) (option_copied datum.entry)) ≡ Ok tt }
 {
     match datum {
-        Some(datum) => datum.ty().depth() != 0 && datum.closed(),
+        Some(datum) => !datum.ty().is_scalar() && datum.closed(),
+        None => false,
+    }
+}
+
+/// The same, by subscripts of this type.
+fn may_read_by(by: Scalar, datum: Option<&Datum>) -> bool
+    ensures { IsTrue result → may_read_members_by by (option_map (λ d. d.datum) (option_copied datum.entry)) ≡ Ok tt }
+{
+    match datum {
+        Some(datum) => datum.ty().is_container_by(by) && datum.closed(),
         None => false,
     }
 }
@@ -135,7 +193,7 @@ fn may_copy_write(datum: Option<&Datum>) -> bool
     ensures room { IsTrue result → HasWriteRoom (option_map (λ d. d.datum) (option_copied datum.entry)) }
 {
     match datum {
-        Some(datum) => datum.ty().depth() != 0 && datum.writes() < FAR,
+        Some(datum) => !datum.ty().is_scalar() && datum.writes() < FAR,
         None => false,
     }
 }
@@ -153,7 +211,7 @@ fn may_drop_write(datum: Option<&Datum>) -> bool
     ensures { IsTrue result → may_drop_write (option_map (λ d. d.datum) (option_copied datum.entry)) ≡ Ok tt }
 {
     match datum {
-        Some(datum) => datum.ty().depth() != 0 && datum.writes() != 0,
+        Some(datum) => !datum.ty().is_scalar() && datum.writes() != 0,
         None => false,
     }
 }
@@ -169,8 +227,8 @@ fn has_read_room(store: &Store, id: DatumId) -> bool
     }
 }
 
-fn member_of(store: &Store, container: DatumId, subscript: i64) -> Option<DatumId>
-    ensures { result ≡ member_at store.now.store container subscript }
+fn member_of(store: &Store, container: DatumId, subscript: ValueRef<'_>) -> Option<DatumId>
+    ensures { result ≡ member_at store.now.store container (named subscript.entry) }
 {
     match store.view(container) {
         Some(datum) => datum.member_at(subscript),
@@ -178,12 +236,21 @@ fn member_of(store: &Store, container: DatumId, subscript: i64) -> Option<DatumI
     }
 }
 
-/// A member that is there is live, and may have one read more.
-fn may_look(store: &Store, container: DatumId, subscript: i64) -> bool
-    ensures allowed { IsTrue result → may_look store.now.store container subscript ≡ Ok tt }
-    ensures room { IsTrue result → HasMemberRoom store.now.store container subscript }
+fn scalar_of(subscript: ValueRef<'_>) -> Scalar
+    ensures { result ≡ scalar_of (named subscript.entry) }
 {
-    may_read_members(store.view(container))
+    match subscript {
+        ValueRef::Int(_) => Scalar::Int,
+        ValueRef::Text(_) => Scalar::Text,
+    }
+}
+
+/// A member that is there is live, and may have one read more.
+fn may_look(store: &Store, container: DatumId, subscript: ValueRef<'_>) -> bool
+    ensures allowed { IsTrue result → may_look store.now.store container (named subscript.entry) ≡ Ok tt }
+    ensures room { IsTrue result → HasMemberRoom store.now.store container (named subscript.entry) }
+{
+    may_read_by(scalar_of(subscript), store.view(container))
         && match member_of(store, container, subscript) {
             Some(member) => has_read_room(store, member),
             None => true,
@@ -237,15 +304,21 @@ fn create(store: &mut Store, alloc: Global, ty: DataType) -> Answer {
 fn value_of(alloc: Global, plain: Plain) -> Option<Value> {
     match plain {
         Plain::Number(number) => Some(Value::Int(number)),
-        Plain::Letter => Some(Value::Text(Text::new("a".to_string(alloc).ok()?).ok()?)),
+        Plain::Word(word) => {
+            let string = word.as_str().to_string(alloc).ok()?;
+            Some(Value::Text(Text::new(string).ok()?))
+        }
     }
+}
+
+fn answer_of_text(text: &Text) -> Answer {
+    Word::of(text).map_or(Answer::Strange, Answer::Word)
 }
 
 fn answer_of(value: &Value) -> Answer {
     match value {
         Value::Int(number) => Answer::Number(*number),
-        Value::Text(text) if text.as_str() == "a" => Answer::Letter,
-        Value::Text(_) => Answer::Strange,
+        Value::Text(text) => answer_of_text(text),
     }
 }
 
@@ -261,30 +334,62 @@ fn retrieve(store: &Store, alloc: Global, right: &ReadRight) -> Answer
     }
 }
 
-fn look(store: &mut Store, right: &ReadRight, subscript: i64) -> Answer
-    requires { IsHere store.old right.now }
-{
-    if !may_look(store, right.id(), subscript) {
-        return Answer::Barred;
-    }
-    match store.look(right, subscript) {
+/// The id of a member that was looked up.
+fn id_of(found: Option<ReadRight>) -> Answer {
+    match found {
         Some(member) => Answer::Id(member.spend().number()),
         None => Answer::Nothing,
     }
 }
 
-/// The subscript at an index, or the size where none is asked for.
-fn read_members(store: &Store, right: &ReadRight, index: Option<i64>) -> Answer
+fn look(store: &mut Store, right: &ReadRight, subscript: i64) -> Answer
+    requires { IsHere store.old right.now }
+{
+    if !may_look(store, right.id(), ValueRef::Int(subscript)) {
+        return Answer::Barred;
+    }
+    id_of(store.look(right, subscript))
+}
+
+fn look_text(store: &mut Store, right: &ReadRight, subscript: &str) -> Answer
+    requires { IsHere store.old right.now }
+{
+    if !may_look(store, right.id(), ValueRef::Text(subscript)) {
+        return Answer::Barred;
+    }
+    id_of(store.look_text(right, subscript))
+}
+
+fn size(store: &Store, right: &ReadRight) -> Answer
     requires { IsHere store.now right.now }
 {
     if !may_read_members(store.view(right.id())) {
         return Answer::Barred;
     }
-    match index {
-        Some(index) => store
-            .subscript_at(right, index)
-            .map_or(Answer::Nothing, Answer::Number),
-        None => i64::try_from(store.size(right)).map_or(Answer::Strange, Answer::Number),
+    i64::try_from(store.size(right)).map_or(Answer::Strange, Answer::Number)
+}
+
+fn subscript_at(store: &Store, right: &ReadRight, index: i64) -> Answer
+    requires { IsHere store.now right.now }
+{
+    if !may_read_by(Scalar::Int, store.view(right.id())) {
+        return Answer::Barred;
+    }
+    store
+        .subscript_at(right, index)
+        .map_or(Answer::Nothing, Answer::Number)
+}
+
+fn text_at(store: &Store, alloc: Global, right: &ReadRight, index: i64) -> Answer
+    requires { IsHere store.now right.now }
+{
+    if !may_read_by(Scalar::Text, store.view(right.id())) {
+        return Answer::Barred;
+    }
+    match store.text_at(alloc, right, index) {
+        Ok(Some(text)) => answer_of_text(&text),
+        Ok(None) => Answer::Nothing,
+        Err(_) => Answer::Refused,
     }
 }
 
@@ -318,20 +423,55 @@ fn ask(store: &mut Store, right: &ReadRight, rule: u64, parameter: u8) -> Answer
     }
 }
 
-/// Adds the member of an id, if it is live.
-fn insert(store: &mut Store, right: &WriteRight, subscript: i64, member: u64) -> Answer
-    requires { IsHere store.old right.now }
+/// A read right on the datum of an id, if it may be a member by such subscripts.
+fn member_given(store: &Store, right: &WriteRight, by: Scalar, member: u64) -> Option<ReadRight>
+    ensures here { IfSome result (λ given. IsHere store.now given) }
+    ensures allowed { IfSome result (λ given. may_insert by (get store.now.store.live right.now.id) (get store.now.store.live given.id) ≡ Ok tt) }
 {
-    let Some(given) = read_of(store, member) else {
-        return Answer::Barred;
-    };
-    if !may_insert(store.view(right.id()), store.view(given.id())) {
-        return if_back(member, given.spend(), Answer::Barred);
+    let given = read_of(store, member)?;
+    if may_insert(by, store.view(right.id()), store.view(given.id())) {
+        return Some(given);
     }
-    match store.insert(right, subscript, given) {
+    let _id = given.spend();
+    None
+}
+
+fn insertion(member: u64, done: Result<Inserted, ReadRight>) -> Answer {
+    match done {
         Ok(Inserted::Done) => Answer::Done,
         Ok(Inserted::Present(back)) => if_back(member, back.spend(), Answer::Present),
         Err(back) => if_back(member, back.spend(), Answer::Refused),
+    }
+}
+
+fn insert(
+    store: &mut Store,
+    alloc: Global,
+    right: &WriteRight,
+    subscript: i64,
+    member: u64,
+) -> Answer
+    requires { IsHere store.old right.now }
+{
+    match member_given(store, right, Scalar::Int, member) {
+        Some(given) => insertion(member, store.insert(alloc, right, subscript, given)),
+        None => Answer::Barred,
+    }
+}
+
+fn insert_text(
+    store: &mut Store,
+    alloc: Global,
+    right: &WriteRight,
+    subscript: &str,
+    member: u64,
+) -> Answer
+    requires here { IsHere store.old right.now }
+    requires proper { IsText subscript.now }
+{
+    match member_given(store, right, Scalar::Text, member) {
+        Some(given) => insertion(member, store.insert_text(alloc, right, subscript, given)),
+        None => Answer::Barred,
     }
 }
 
@@ -414,8 +554,10 @@ fn by_read(store: &mut Store, alloc: Global, id: u64, call: Call) -> Answer {
     let answer = match call {
         Call::Retrieve(_) => retrieve(store, alloc, &right),
         Call::Look(_, subscript) => look(store, &right, subscript),
-        Call::Size(_) => read_members(store, &right, None),
-        Call::SubscriptAt(_, index) => read_members(store, &right, Some(index)),
+        Call::LookText(_, word) => look_text(store, &right, word.as_str()),
+        Call::Size(_) => size(store, &right),
+        Call::SubscriptAt(_, index) => subscript_at(store, &right, index),
+        Call::TextAt(_, index) => text_at(store, alloc, &right, index),
         Call::CopyRead(_) => copy_read(store, &right),
         Call::Ask(_, rule, parameter) => ask(store, &right, rule, parameter),
         Call::DropRead(_) => return drop_read(store, right),
@@ -431,7 +573,10 @@ fn by_write(store: &mut Store, alloc: Global, id: u64, call: Call) -> Answer {
         return Answer::Barred;
     };
     let answer = match call {
-        Call::Insert(_, subscript, member) => insert(store, &right, subscript, member),
+        Call::Insert(_, subscript, member) => insert(store, alloc, &right, subscript, member),
+        Call::InsertText(_, word, member) => {
+            insert_text(store, alloc, &right, word.as_str(), member)
+        }
         Call::CopyWrite(_) => copy_write(store, &right),
         Call::ReserveNotices(_) => done_or_refused(store.reserve_notices(&right)),
         Call::Set(_, plain) => return store_plain(store, alloc, right, plain),
@@ -446,17 +591,24 @@ fn by_write(store: &mut Store, alloc: Global, id: u64, call: Call) -> Answer {
 pub fn answered(store: &mut Store, alloc: Global, call: Call) -> Answer {
     match call {
         Call::Create(depth, of_text) => create(store, alloc, type_of(depth, of_text)),
+        Call::CreateByText(depth, of_text) => match type_of(depth, of_text).tcont() {
+            Some(ty) => create(store, alloc, ty),
+            None => Answer::Strange,
+        },
         Call::TakeNote(server) => take_note(store, server),
         Call::ReserveDatum => done_or_refused(store.reserve_datum()),
         Call::Retrieve(id)
         | Call::Look(id, _)
+        | Call::LookText(id, _)
         | Call::Size(id)
         | Call::SubscriptAt(id, _)
+        | Call::TextAt(id, _)
         | Call::CopyRead(id)
         | Call::Ask(id, _, _)
         | Call::DropRead(id) => by_read(store, alloc, id, call),
         Call::Set(id, _)
         | Call::Insert(id, _, _)
+        | Call::InsertText(id, _, _)
         | Call::CopyWrite(id)
         | Call::ReserveNotices(id)
         | Call::DropWrite(id) => by_write(store, alloc, id, call),

@@ -6,11 +6,11 @@ ghost use Rattle.tw_frame.specs.Jobs.{job_of};
 use crate::stretches::next_program;
 use std::alloc::{AllocError, Global};
 use tw_code::{Procedure, decode};
-use tw_frame::{Done, Frame, Job, Rooms, ValueRef};
+use tw_frame::{Done, Frame, Job, Rooms};
 use tw_instr::{Position, count_local};
 use tw_queue::Task;
 use tw_rights::Bundle;
-use tw_types::{Actor, TaskNo, Value};
+use tw_types::{Actor, TaskNo, Value, ValueRef};
 use tw_verify::{Verified, verify};
 
 /// What was done of main, in one job, or in two where the first was short.

@@ -5,7 +5,7 @@ ghost use Rattle.tw_store.specs.Served.{KnowsPlaces};
 use crate::calls::{Answer, Call, Plain, answered};
 use std::alloc::Global;
 use tw_store::{Datum, Store};
-use tw_types::{DatumId, Value};
+use tw_types::{DatumId, Value, ValueRef};
 
 /// Whether a call answers this.
 fn answers(alloc: Global, store: &mut Store, call: Call, answer: Answer) -> bool {
@@ -31,6 +31,13 @@ fn member_added(alloc: Global, store: &mut Store, turn: i64, subscript: i64) -> 
         && answers(alloc, store, Call::Insert(1, subscript, id), Answer::Done)
 }
 
+fn is_int(value: &Value, wanted: i64) -> bool {
+    match value {
+        Value::Int(number) => *number == wanted,
+        Value::Text(_) => false,
+    }
+}
+
 /// Whether the container has its members at their subscripts, and at indices that are the subscripts.
 fn has_thousand(container: &Datum) -> bool {
     let mut are_there = container.len() == 1_000 && container.member(1_000).is_none();
@@ -42,7 +49,10 @@ fn has_thousand(container: &Datum) -> bool {
 
 fn is_at(container: &Datum, subscript: i64) -> bool {
     let index = usize::try_from(subscript).unwrap_or(1_000);
-    match (container.member(index), container.member_at(subscript)) {
+    match (
+        container.member(index),
+        container.member_at(ValueRef::Int(subscript)),
+    ) {
         (Some((found, member)), Some(other)) => found == subscript && member == other,
         _ => false,
     }
@@ -61,7 +71,7 @@ fn is_shown(store: &Store, container: &Datum, subscript: i64) -> bool
     };
     match datum.value() {
         Some(Value::Int(turn)) => {
-            member.subscript == subscript && turn.wrapping_mul(7) % 1_000 == subscript
+            is_int(member.subscript, subscript) && turn.wrapping_mul(7) % 1_000 == subscript
         }
         _ => false,
     }

@@ -2,12 +2,13 @@
 //! and made again the call goes. The answers are the same whether an allocation fails or none does.
 
 use crate::calls::Answer::{
-    Barred, Closed, Done, Id, Letter, Noted, Nothing, Notice, Number, Present, Refused,
+    Barred, Closed, Done, Id, Noted, Nothing, Notice, Number, Present, Refused, Word,
 };
 use crate::calls::Call::{
-    Ask, CopyRead, CopyWrite, Create, DropRead, DropWrite, Insert, Look, ReserveDatum,
-    ReserveNotices, Retrieve, Set, Size, SubscriptAt, TakeNote,
+    Ask, CopyRead, CopyWrite, Create, CreateByText, DropRead, DropWrite, Insert, InsertText, Look,
+    LookText, ReserveDatum, ReserveNotices, Retrieve, Set, Size, SubscriptAt, TakeNote, TextAt,
 };
+use crate::calls::Word::{A, Ab, B, Empty};
 use crate::calls::{Answer, Call, Plain, answered};
 use std::alloc::Global;
 use tw_store::{Datum, Store};
@@ -16,7 +17,7 @@ use tw_types::{DatumId, Value};
 /// Calls of one store of two servers, each with its answer: each call that takes memory, where its part of the store
 /// grows first and where it grows again.
 #[rattlefmt::skip]
-const CALLS: [(Call, Answer); 96] = [
+const CALLS: [(Call, Answer); 133] = [
     (Create(0, false), Id(1)), (Create(0, true), Id(2)), (Create(1, false), Id(3)), (Create(0, false), Id(4)),
     // Room for the fifth datum.
     (ReserveDatum, Done), (Create(2, false), Id(5)),
@@ -29,7 +30,7 @@ const CALLS: [(Call, Answer); 96] = [
     (Ask(4, 5, 0), Noted), (Ask(4, 6, 1), Noted), (ReserveNotices(4), Done), (Set(4, Plain::Number(7)), Done),
     (TakeNote(0), Notice(4, 5, 0)), (TakeNote(0), Notice(4, 6, 1)), (TakeNote(0), Nothing),
     // A text.
-    (Set(2, Plain::Number(7)), Barred), (Set(2, Plain::Letter), Done), (Retrieve(2), Letter), (Retrieve(2), Letter),
+    (Set(2, Plain::Number(7)), Barred), (Set(2, Plain::Word(A)), Done), (Retrieve(2), Word(A)), (Retrieve(2), Word(A)),
     // Members. The second at one subscript comes back, and keeps its counts.
     (Insert(3, 5, 2), Barred), (Insert(3, 5, 1), Done), (Insert(3, 5, 4), Present), (Insert(3, 6, 4), Done),
     (Insert(5, -1, 3), Done),
@@ -55,6 +56,18 @@ const CALLS: [(Call, Answer); 96] = [
     (Create(0, false), Id(10)), (DropRead(10), Done), (DropRead(10), Barred), (Ask(10, 1, 0), Noted),
     (Set(10, Plain::Number(7)), Done), (Ask(10, 1, 0), Barred), (TakeNote(0), Notice(6, 2, 2)),
     (Create(0, true), Id(11)),
+    // Members by texts, which come in the order of their bytes.
+    (CreateByText(0, false), Id(12)), (Insert(12, 5, 7), Barred), (InsertText(12, B, 11), Barred),
+    (InsertText(12, B, 7), Done), (InsertText(12, B, 8), Present), (InsertText(12, Empty, 8), Done),
+    (InsertText(12, Ab, 9), Done), (LookText(12, Ab), Barred), (TextAt(12, 0), Barred), (DropWrite(12), Done),
+    (InsertText(12, A, 10), Barred), (Size(12), Number(3)), (TextAt(12, -1), Nothing), (TextAt(12, 0), Word(Empty)),
+    (TextAt(12, 1), Word(Ab)), (TextAt(12, 2), Word(B)), (TextAt(12, 3), Nothing), (SubscriptAt(12, 0), Barred),
+    (Look(12, 0), Barred), (LookText(12, A), Nothing), (LookText(12, Ab), Id(9)), (LookText(12, B), Id(7)),
+    (TextAt(6, 0), Barred), (LookText(6, A), Barred), (SubscriptAt(6, 0), Number(0)),
+    // A container in one by texts. Where one is freed, each member loses a read.
+    (CreateByText(1, true), Id(13)), (InsertText(13, A, 12), Barred), (InsertText(13, A, 6), Done),
+    (InsertText(13, A, 6), Present), (DropRead(12), Done), (Size(12), Barred), (LookText(12, B), Barred),
+    (DropRead(8), Barred), (DropRead(9), Done), (DropRead(9), Barred), (DropRead(7), Done), (DropRead(7), Barred),
 ];
 
 fn is_same_value(one: Option<&Value>, other: Option<&Value>) -> bool {
@@ -66,10 +79,20 @@ fn is_same_value(one: Option<&Value>, other: Option<&Value>) -> bool {
     }
 }
 
+fn is_same_entry(one: &Datum, other: &Datum, index: usize) -> bool {
+    let Some((subscript, member)) = one.entry(index) else {
+        return false;
+    };
+    let Some((second, found)) = other.entry(index) else {
+        return false;
+    };
+    is_same_value(Some(subscript), Some(second)) && member == found
+}
+
 fn has_same_members(one: &Datum, other: &Datum) -> bool {
     let mut are_same = one.len() == other.len();
     for index in 0..one.len() {
-        are_same = are_same && one.member(index) == other.member(index);
+        are_same = are_same && is_same_entry(one, other, index);
     }
     are_same
 }

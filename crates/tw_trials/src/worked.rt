@@ -4,7 +4,7 @@ use crate::jobs::{Stretch, stretch_of};
 use crate::stretches::spelled;
 use std::alloc::{AllocError, Global};
 use tw_code::decode;
-use tw_frame::ValueRef;
+use tw_types::ValueRef;
 use tw_verify::verify;
 
 /// What a row is to come to: after so many steps, at a place, with a number in v0 and a text in v3.
