@@ -15,6 +15,7 @@ trap 'rm -rf "$room"' EXIT
 inputs_of() {
     case $1 in
         chain) echo ints:-4=20,0=-3,7=25 ;;
+        first_subscript) echo 'tints:"a"=1,"b"=2' ;;
         mapreduce) echo ints:-1=2,4=3,5=-4 ;;
         matrix) echo ints:1=3,2=2 ;;
         move_right) echo int:2 int:44 ;;
@@ -24,6 +25,7 @@ inputs_of() {
         text_input) echo text:ab ;;
         texts) echo 'texts:1="4",2="x",3="-1"' ;;
         two_inputs) echo ints:1=7,5=-3 int:-4 ;;
+        words) echo 'texts:3="of",5="the",9="of"' ;;
     esac
 }
 
