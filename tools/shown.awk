@@ -1,6 +1,7 @@
 # Writes what documents show to a folder: awk -f tools/shown.awk -v folder=DIR README.md docs/*.md. There shown.txt has each
-# command `$ ./tw ..` that stands in a block of code, with what stands below it. A block behind the words "into `sum.tw`" is the
-# file sum.tw; a command `$ sed -i .. sum.tw` in a block makes sum_2.tw of it, and so on, and a command takes the last.
+# command `$ ./tw ..` that stands in a block of code, with what stands below it, but for the script's own `build` and `test`. A
+# block behind the words "into `sum.tw`" is the file sum.tw; a command `$ sed -i .. sum.tw` in a block makes sum_2.tw of it, and
+# so on, and a command takes the last.
 
 function current(name) {
     return version[name] == 1 ? name : substr(name, 1, length(name) - 3) "_" version[name] ".tw"
@@ -31,7 +32,7 @@ block && /^\$ sed -i / {
 }
 
 block && /^\$ / {
-    shown = /^\$ \.\/tw /
+    shown = /^\$ \.\/tw / && !/^\$ \.\/tw (build|test)$/
     for (name in version) gsub(name, current(name))
 }
 
