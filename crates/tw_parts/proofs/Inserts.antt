@@ -11,6 +11,7 @@ use Rattle.tw_code.specs.machine.Data.{after_insert}
 use Rattle.tw_code.specs.machine.Position.{of_type_at}
 use Rattle.tw_no_trap.proofs.Conditions.{insert_asks}
 use Rattle.tw_parts.proofs.DataNames.{◌≡◌, ◌<◌, ◌∙◌, ◌+◌, ℕ, Scalar, length, zero, suc, true, false, List, [], ◌∷◌, None, Some, Option, IsSome, Ok, refl, sym, ap, inl, slice_get, slice_index_or, slice_set, get, EmptyRegister, is_element_of, is_read, is_write, Notices, ok_after, ok_first, there_then, Held, bare_file, kind_at, Right, Served, IsHere, IsNow, IsUnchanged, Skipped, Context, data_instr, at_goal, at_next_place, passes, passed, right_at, RightType, FrameView, IsDone, MayDo, sees}
+use Rattle.tw_frame.specs.Jobs.{bare_frame}
 use Rattle.tw_parts.specs.Memory.{IsAbsent}
 use Rattle.tw_parts.proofs.Left.{emptied_done, moved_done, now_stays, same_ok}
 use Rattle.tw_parts.proofs.Registers.{and_first, id_at, its_id, kind_passed, placed_at, read_reads}
@@ -84,7 +85,7 @@ module _ (by : Scalar) (container subscript member skip : ℕ) (s : Served) (f :
         ap (λ (b : Scalar). may_insert b (get s.store.live box.id) (get s.store.live right.id)) kind
         ∙ ap (λ id. may_insert by (get s.store.live id) (get s.store.live right.id)) (sym (its_box asks.1 asks.4)) ∙ ap (λ id. may_insert by (get s.store.live asks.1) (get s.store.live id)) (sym (its asks.2 asks.5)) ∙ asks.6
 
-    pub insert_absent : member_at s.store box.id n ≡ None → IsAbsent s f container subscript
+    pub insert_absent : member_at s.store box.id n ≡ None → IsAbsent s.store (bare_frame f) container subscript
     insert_absent none = (box.id, n, id_at f.held container (held.Write box) box_was, n_is, none)
 
     comes : (ns : Notices) (k : Context) → data_instr (on_data.Insert by container subscript member skip) (sees s ns f) ≡ Ok k → k ≡ after_insert (sees s ns f) box.id n right.id member skip (member_at s.store box.id n)

@@ -18,9 +18,11 @@ use Rattle.tw_code.specs.accepting.Typing.{reads_closed_container, reads_closed_
 use Rattle.tw_code.specs.machine.Position.{must_have_type, with_result}
 use Rattle.tw_no_trap.proofs.Conditions.{size_asks, subscript_asks}
 use Rattle.tw_frame.specs.Drafts.{MaySet}
+use Rattle.tw_frame.specs.Jobs.{bare_frame}
+use Rattle.tw_parts.specs.Memory.{HasThatMany}
 use Rattle.tw_parts.proofs.DataNames.{◌≡◌, ◌∙◌, ◌+◌, ◌<◌, ◌^◌, ℕ, ℤ, pos, true, false, not, [], None, Some, Option, Ok, refl, sym, ap, inl, slice_get, slice_index_or, get, Scalar, Datum, must_then, EmptyRegister, FreedDatum, is_closed_mode, is_scalar, Notices, with_notices, ok_after, ok_first, there_then, bare_file, kind_at, Right, Served, IsHere, Completed, Skipped, Context, data_instr, at_goal, at_next_place, int_at, Position, with_value, RightType, right_at, FrameView, IsDone, MayDo, sees, typed_writes}
 use Rattle.tw_parts.proofs.Left.{moved_done, now_stays, same_ok}
-use Rattle.tw_parts.proofs.Registers.{and_first, closed_reads, its_id, kind_passed, placed_at}
+use Rattle.tw_parts.proofs.Registers.{and_first, closed_reads, id_at, its_id, kind_passed, placed_at}
 use Rattle.tw_parts.proofs.ValueRegisters.{int_is, int_same, may_set_kind}
 
 -- a right on a closed container is one to read
@@ -101,6 +103,9 @@ module _ (by : Scalar) (to container index skip : ℕ) (s : Served) (f : FrameVi
 
     pub subscript_allowed : may_read_members (get s.store.live right.id) ≡ Ok tt
     subscript_allowed = any_reads by (get s.store.live right.id) may_by
+
+    pub subscript_there : (k : Subscript) → subscript_after count (map.keys (members_at s.store right.id)) ≡ Some k → HasThatMany s.store (bare_frame f) container index
+    subscript_there k found = (right.id, count, k, id_at f.held container (held.Read right) at, count_is, found)
 
     -- what is found is of the type that the container says
     pub subscript_by : (k : Subscript) → subscript_after count (map.keys (members_at s.store right.id)) ≡ Some k → scalar_of k ≡ by

@@ -34,6 +34,7 @@ use Rattle.tw_no_trap.specs.Invariant.{IsHeld, RuleArgsFit}
 use Rattle.tw_no_trap.proofs.Wanted.{asked_is_there}
 use Rattle.tw_parts.specs.Events.{Goes}
 use Rattle.tw_parts.specs.Fits.{AreParts, ArgStands, ArgsStand, IsAt, Stand}
+use Rattle.tw_parts.specs.Memory.{AsksOpen}
 use Rattle.tw_frame.specs.Jobs.{bare_frame}
 use Rattle.tw_types.specs.Mapped.{mapped}
 use Rattle.tw_parts.specs.Notes.{AreQueued}
@@ -125,6 +126,10 @@ module _ (verified : TypedProgram) (layout : ActorCounts) (old : Parts) (notices
 
   pub live : (x : Datum) × (get old.store.store.live reads.right.id ≡ Some x)
   live = asked_is_there verified.program (typings_of verified) (state_of old notices) held_there.types held_there.counts number found.rule parameter reads.right.id Unasked pending found.has refl arg_there
+
+  -- where it is open, it is so in the state
+  pub asks_open : closed_by (get old.store.store.live reads.right.id) ≡ false → (ns : Notices) → AsksOpen (state_of old ns) number parameter
+  asks_open e ns = record { rule = found.rule; pends = pending; id = reads.right.id; asks = arg_there; x = live.0; live = live.1; not_closed = sym (ap closed_by live.1) ∙ e }
 
   module _ (free : get old.seats (Engine engine) ≡ None) where
     goes : step verified.program layout (Ask engine number parameter) (state_of old notices) ≡ Went (asked (state_of old notices) number found.rule parameter reads.right.id live.0)

@@ -1,41 +1,108 @@
--- Where an instruction on data takes memory, which may be refused.
-use Rattle.std.specs.Prelude.{◌≡◌, ◌⊎◌, ◌<◌, ℕ, List, Some, None, slice_get}
-use Rattle.std.specs.FinMap.{get}
+-- Where memory is taken, which may be refused: want of it is told of no other event.
+use Rattle.std.specs.Prelude.{◌≡◌, ◌⊎◌, ◌<◌, ℕ, ℤ, false, List, Option, Some, None, slice_get}
+use Rattle.std.specs.FinMap.{get, keys}
+use Rattle.tw_types.specs.declared.actor.Actor.{Actor}
 use Rattle.tw_types.specs.declared.data_type.Scalar.TheVariants as scalar
+use Rattle.tw_types.specs.declared.event.Event.{Event}
+use Rattle.tw_types.specs.declared.event.Event.TheVariants as event
 use Rattle.tw_types.specs.declared.value.Value.{Value}
 use Rattle.tw_types.specs.declared.value.Value.TheVariants as value
-use Rattle.tw_types.specs.StoreCalls.{member_at}
+use Rattle.tw_types.specs.Rule.{Rule}
+use Rattle.tw_types.specs.Store.{Datum, Store, is_closed}
+use Rattle.tw_types.specs.StoreCalls.{member_at, members_at, subscript_after}
+use Rattle.tw_types.specs.Task.{RightArg, TaskOf, best}
 use Rattle.tw_types.specs.ValueOrder.{Subscript}
-use Rattle.tw_rights.specs.Bare.{bare_file}
 use Rattle.tw_store.specs.Served.{Served, waiting_for}
 use Rattle.tw_code.specs.declared.instr.DataInstr.{DataInstr}
 use Rattle.tw_code.specs.declared.instr.DataInstr.TheVariants as on_data
+use Rattle.tw_code.specs.declared.instr.Instr.{Instr}
+use Rattle.tw_code.specs.declared.instr.Instr.TheVariants as instr
+use Rattle.tw_code.specs.declared.procedure.Procedure.{Procedure}
+use Rattle.tw_code.specs.machine.Due.{instr_here}
 use Rattle.tw_code.specs.machine.Rights.{right_at}
-use Rattle.tw_frame.specs.Jobs.{FrameView}
+use Rattle.tw_code.specs.machine.State.{Frame, State}
+use Rattle.tw_frame.specs.Drafts.{HasTexts}
+use Rattle.tw_frame.specs.Jobs.{FrameView, bare_frame}
+
+-- ---- what a task that stands at an instruction sees
 
 -- the register has a text
 abbrev pub IsTextAt : List Value → ℕ → Type 0
 IsTextAt values register = (text : List ℕ) × (slice_get values register ≡ Some (value.Text text))
 
 -- a rule waits for the datum of the right
-abbrev pub IsAwaited : Served → FrameView → ℕ → Type 0
-IsAwaited s f register = (id : ℕ) × (right_at (bare_file f.held) register ≡ Some id) × (0 < waiting_for (get s.store.live id))
+abbrev pub IsAwaited : Store → Frame → ℕ → Type 0
+IsAwaited s f register = (id : ℕ) × (right_at f.rights register ≡ Some id) × (0 < waiting_for (get s.live id))
 
 -- the container has no member at the subscript
-abbrev pub IsAbsent : Served → FrameView → ℕ → ℕ → Type 0
-IsAbsent s f container subscript = (id : ℕ) × (k : Subscript) × (right_at (bare_file f.held) container ≡ Some id) × (slice_get f.position.values subscript ≡ Some k)
-    × (member_at s.store id k ≡ None)
+abbrev pub IsAbsent : Store → Frame → ℕ → ℕ → Type 0
+IsAbsent s f container subscript = (id : ℕ) × (k : Subscript) × (right_at f.rights container ≡ Some id) × (slice_get f.position.values subscript ≡ Some k) × (member_at s id k ≡ None)
 
--- where it takes memory: for one datum more, for copies of a text, for what is told, or for one member more
+-- the container has a member with so many smaller subscripts
+abbrev pub HasThatMany : Store → Frame → ℕ → ℕ → Type 0
+HasThatMany s f container index = (id : ℕ) × (count : ℤ) × (k : Subscript) × (right_at f.rights container ≡ Some id) × (slice_get f.position.values index ≡ Some (value.Int count))
+    × (subscript_after count (keys (members_at s id)) ≡ Some k)
+
+-- ---- an instruction
+
+-- One on data, where there is room for so many data more: it takes memory for one datum more than that, for copies of a
+-- text, for what is told, or for one member more.
+abbrev pub DataTakes : DataInstr → ℕ → Store → Frame → Type 0
+DataTakes (on_data.New write read ty) room s f = room ≡ 0
+DataTakes (on_data.Store datum from) room s f = IsTextAt f.position.values from ⊎ IsAwaited s f datum
+DataTakes (on_data.Get to datum) room s f = IsTextAt f.position.values to
+DataTakes (on_data.Insert by container subscript member skip) room s f = IsAbsent s f container subscript
+DataTakes (on_data.Look by member container subscript skip) room s f = ⊥
+DataTakes (on_data.Size to container) room s f = ⊥
+DataTakes (on_data.SubscriptAt by to container index skip) room s f = (by ≡ scalar.Text) × HasThatMany s f container index
+DataTakes (on_data.CopyRead to from) room s f = ⊥
+DataTakes (on_data.CopyWrite to from) room s f = ⊥
+DataTakes (on_data.DropRead right) room s f = ⊥
+DataTakes (on_data.DropWrite right) room s f = IsAwaited s f right
+
 abbrev pub TakesMemory : DataInstr → Served → FrameView → Type 0
-TakesMemory (on_data.New write read ty) s f = s.data_room ≡ 0
-TakesMemory (on_data.Store datum from) s f = IsTextAt f.position.values from ⊎ IsAwaited s f datum
-TakesMemory (on_data.Get to datum) s f = IsTextAt f.position.values to
-TakesMemory (on_data.Insert by container subscript member skip) s f = IsAbsent s f container subscript
-TakesMemory (on_data.Look by member container subscript skip) s f = ⊥
-TakesMemory (on_data.Size to container) s f = ⊥
-TakesMemory (on_data.SubscriptAt by to container index skip) s f = by ≡ scalar.Text
-TakesMemory (on_data.CopyRead to from) s f = ⊥
-TakesMemory (on_data.CopyWrite to from) s f = ⊥
-TakesMemory (on_data.DropRead right) s f = ⊥
-TakesMemory (on_data.DropWrite right) s f = IsAwaited s f right
+TakesMemory d s f = DataTakes d s.data_room s.store (bare_frame f)
+
+-- RULE and PUT take memory for what they add
+abbrev pub InstrTakes : Instr → Store → Frame → Type 0
+InstrTakes (instr.Local i) s f = ⊥
+InstrTakes (instr.Data d) s f = (room : ℕ) × DataTakes d room s f
+InstrTakes (instr.Rule action) s f = Unit {0}
+InstrTakes (instr.Put action) s f = Unit {0}
+InstrTakes instr.Ret s f = ⊥
+
+-- ---- an event
+
+-- the task that is taken is of a procedure with texts
+pub record TakesTexts {A : Type 0} (program : List Procedure) (due : Option (ℕ × TaskOf A)) : Type 0 where
+  pub e : ℕ × TaskOf A
+  pub is : due ≡ Some e
+  pub texts : HasTexts program e.1.procedure
+
+-- the actor's task stands at an instruction that takes memory
+pub record StandsAtTaker (program : List Procedure) (s : State) (actor : Actor) : Type 0 where
+  pub frame : Frame
+  pub runs : get s.frames actor ≡ Some frame
+  pub here : Instr
+  pub is : instr_here program frame ≡ Some here
+  pub takes : InstrTakes here s.store frame
+
+-- the rule's parameter is a datum that is open, and gets a subscriber
+pub record AsksOpen (s : State) (number parameter : ℕ) : Type 0 where
+  pub rule : Rule
+  pub pends : get s.rules number ≡ Some rule
+  pub id : ℕ
+  pub asks : slice_get rule.args parameter ≡ Some (RightArg id)
+  pub x : Datum
+  pub live : get s.store.live id ≡ Some x
+  pub not_closed : is_closed x ≡ false
+
+-- a release makes room for the task in its queue
+abbrev pub EventTakes : List Procedure → State → Event → Type 0
+EventTakes program s (event.Take actor) = TakesTexts program (best actor s.tasks)
+EventTakes program s (event.Local actor steps) = ⊥
+EventTakes program s (event.Call actor) = StandsAtTaker program s actor
+EventTakes program s (event.End actor) = ⊥
+EventTakes program s (event.Ask engine rule parameter) = AsksOpen s rule parameter
+EventTakes program s (event.Deliver server datum rule parameter) = ⊥
+EventTakes program s (event.Release engine rule) = Unit {0}

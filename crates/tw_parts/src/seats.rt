@@ -1,6 +1,6 @@
 //! The tasks that run, by their actors.
 
-ghost use Rattle.std.specs.Prelude.{◌≡◌, ◌<◌, ◌≤◌, ◌+◌, ◌^◌, ℕ, IfOk, List, Option, IsSome, None, Some, length, replicate, slice_index_or, slice_set};
+ghost use Rattle.std.specs.Prelude.{◌≡◌, ◌<◌, ◌≤◌, ◌+◌, ◌^◌, ℕ, IfOk, List, OnErr, Option, IsSome, None, Some, length, replicate, slice_index_or, slice_set};
 ghost use Rattle.std.specs.FinMap as map;
 ghost use Rattle.std.specs.FinMap.{get, insert, remove, len};
 ghost use Rattle.std.specs.Option.{option_copied};
@@ -14,6 +14,7 @@ ghost use Rattle.tw_frame.specs.Jobs.{FrameView, draft_of, job_of};
 ghost use Rattle.tw_parts.specs.Seats.{HasSeat, seat_of};
 ghost use Rattle.tw_parts.specs.Coming.{IsBegun, MayLend, come, gone_on};
 ghost use Rattle.tw_parts.specs.Data.{IsAnswer, MayDo};
+ghost use Rattle.tw_parts.specs.Memory.{TakesTexts};
 
 use crate::data::data_in;
 use crate::in_seat::{advance_in, hand_over_in, lend_in};
@@ -215,7 +216,8 @@ impl<'a> Seats<'a> {
         requires seat { HasSeat actor }
         requires empty { get self.old actor ≡ None }
         requires may { (e : ℕ × TaskOf Arg) → best actor tasks.old.tasks ≡ Some e → MayStart verified.now.program e.1.procedure e.1.args }
-        ensures { IsBegun verified.now actor self.old tasks.old.tasks self.new tasks.new.tasks result }
+        ensures begun { IsBegun verified.now actor self.old tasks.old.tasks self.new tasks.new.tasks result }
+        ensures memory { OnErr result (TakesTexts verified.now.program (best actor tasks.old.tasks)) }
     {
         let Some(best) = tasks.best(actor) else {
             return Ok(None);

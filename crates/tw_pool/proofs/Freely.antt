@@ -15,6 +15,7 @@ use Rattle.tw_types.specs.declared.notice.Notice.{Notice}
 use Rattle.tw_types.specs.Layout.{ActorCounts}
 use Rattle.tw_types.specs.Actor.{is_in}
 use Rattle.tw_types.specs.Mapped.{entry_by}
+use Rattle.tw_types.specs.Notices.{Notices}
 use Rattle.tw_types.specs.Outcome.{Went, only_if}
 use Rattle.tw_types.specs.Rule.{next_ask, next_release}
 use Rattle.tw_types.specs.Store.{server_of}
@@ -36,6 +37,7 @@ use Rattle.tw_verify.specs.Typed.{TypedProgram, typings_of}
 use Rattle.tw_frame.specs.Jobs.{FrameView, JobView, bare_frame, job_of}
 use Rattle.tw_parts.specs.Events.{Goes, IsTaken, IsTried, Makes, Untouched}
 use Rattle.tw_parts.specs.Fits.{FrameFits}
+use Rattle.tw_parts.specs.Memory.{AsksOpen, EventTakes, TakesTexts}
 use Rattle.tw_parts.specs.Notes.{is_among, queue_at}
 use Rattle.tw_parts.specs.Parts.{state_of}
 use Rattle.tw_parts.specs.declared.parts.Parts.{Parts}
@@ -45,7 +47,7 @@ use Rattle.tw_pool.specs.Actors.{HasPlace, events_of}
 use Rattle.tw_pool.specs.History.{HistoryView}
 use Rattle.tw_pool.specs.Kept.{AsksNone, IsFree, IsKept, MayTakeNow, ReleasesNone}
 use Rattle.tw_pool.specs.PoolView.{PoolView, HasState, with_events}
-use Rattle.tw_pool.specs.Turns.{GoesFree, IsTurnBy, Lends, Line, lent_to}
+use Rattle.tw_pool.specs.Turns.{GoesFree, IsTurnBy, Lends, Line, TakesMemory, lent_to}
 use Rattle.tw_pool.specs.Words.{FitsWord}
 use Rattle.tw_pool.proofs.Fitting.{few_parameters, low_datum, small_numbers}
 use Rattle.tw_pool.proofs.Counting.{has_place}
@@ -114,6 +116,14 @@ module _ (verified : TypedProgram) (inputs : List Input) (layout : ActorCounts) 
   -- nothing is told
   pub line_still : (line : State → Line) (answer : Turn) → line state answer [] → IsTurnBy line w answer (viewed verified inputs layout stopped told)
   line_still line answer is = record { state = state; has_state = has_state; events = []; is = is; appended = seen ∙ ap (λ es. record w { history = es }) (sym (no_more w.history)) }
+
+  -- where memory is taken at once
+  wanted : (event : Event) → EventTakes verified.program state event → TakesMemory w [] event
+  wanted event takes = record {
+    state = state;
+    has_state = subst (λ es. HasState (record w { history = es }) state) (sym (no_more w.history)) has_state;
+    takes = subst (λ (x : PoolView). EventTakes x.program.program state event) seen takes;
+  }
 
   pub kept_still : (new : Parts) → Untouched old new → IsKept verified inputs layout told.limit told.events new
   kept_still new u = still verified inputs layout told.limit told.events old h new u
@@ -196,8 +206,8 @@ module _ (verified : TypedProgram) (inputs : List Input) (layout : ActorCounts) 
       ask_due : IsDueFree w.layout (Engine engine) state (Ask engine rule parameter)
       ask_due = ap (λ o. first_of engine o (next_release engine state.rules) (best (Engine engine) state.tasks)) asked
 
-      ask_refused : GoesFree w state (Engine engine) (NoMemory None) []
-      ask_refused = inl (Ask engine rule parameter, ask_due, inr (refl, refl))
+      ask_refused : AsksOpen state rule parameter → GoesFree w state (Engine engine) (NoMemory None) []
+      ask_refused takes = inl (Ask engine rule parameter, ask_due, inr (wanted (Ask engine rule parameter) takes, (refl, refl)))
 
       module _ (new : Parts) (makes : Makes verified layout (Ask engine rule parameter) old new) where
         ask_goes : Goes verified layout (Ask engine rule parameter) old h.notices new
@@ -219,12 +229,13 @@ module _ (verified : TypedProgram) (inputs : List Input) (layout : ActorCounts) 
         pub ask_line : GoesFree w state (Engine engine) Made (Ask engine rule parameter ∷ [])
         ask_line = inl (Ask engine rule parameter, ask_due, inl (refl, refl))
 
-    pub ask_refused_for : IsSome (next_ask engine old.rules.rules) → GoesFree w state (Engine engine) (NoMemory None) []
-    ask_refused_for some = by (next_ask engine old.rules.rules) refl some
+    pub ask_refused_for : IsSome (next_ask engine old.rules.rules) → ((q : ℕ × ℕ) (ns : Notices) → next_ask engine old.rules.rules ≡ Some q → AsksOpen (state_of old ns) q.0 q.1)
+        → GoesFree w state (Engine engine) (NoMemory None) []
+    ask_refused_for some takes = by (next_ask engine old.rules.rules) refl some
       where
         by : (o : Option (ℕ × ℕ)) → next_ask engine old.rules.rules ≡ o → IsSome o → GoesFree w state (Engine engine) (NoMemory None) []
         by None e is = cc
-        by (Some q) e is = ask_refused q.0 q.1 e
+        by (Some q) e is = ask_refused q.0 q.1 e (takes q h.notices e)
 
     module _ (none : AsksNone w engine) (rule : ℕ) (due : next_release engine old.rules.rules ≡ Some rule) where
       released : next_release engine state.rules ≡ Some rule
@@ -234,7 +245,7 @@ module _ (verified : TypedProgram) (inputs : List Input) (layout : ActorCounts) 
       release_due = ap (λ o. first_of engine o (next_release engine state.rules) (best (Engine engine) state.tasks)) (none state has_state) ∙ ap (λ o. first_of engine None o (best (Engine engine) state.tasks)) released
 
       release_refused : GoesFree w state (Engine engine) (NoMemory None) []
-      release_refused = inl (Release engine rule, release_due, inr (refl, refl))
+      release_refused = inl (Release engine rule, release_due, inr (wanted (Release engine rule) tt, (refl, refl)))
 
       module _ (new : Parts) (makes : Makes verified layout (Release engine rule) old new) where
         release_goes : Goes verified layout (Release engine rule) old h.notices new
@@ -318,12 +329,14 @@ module _ (verified : TypedProgram) (inputs : List Input) (layout : ActorCounts) 
     pub take_idle : best actor old.tasks.tasks ≡ None → GoesFree w state actor Idle []
     take_idle none = inr ((λ due d. let no : None ≡ Some due = due_is actor first None (best_is ∙ ap (option_map (entry_by bare_task)) none) due d in cc), (refl, refl))
 
-    pub take_refused : IsSome (best actor old.tasks.tasks) → GoesFree w state actor (NoMemory None) []
-    take_refused some = by (best actor old.tasks.tasks) refl some
-      where
-        by : (o : Option (ℕ × TaskOf Arg)) → best actor old.tasks.tasks ≡ o → IsSome o → GoesFree w state actor (NoMemory None) []
-        by None e is = cc
-        by (Some t) e is = inl (Take actor, is_due actor first (entry_by bare_task t) (best_is ∙ ap (option_map (entry_by bare_task)) e), inr (refl, refl))
+    pub take_refused : TakesTexts verified.program (best actor old.tasks.tasks) → GoesFree w state actor (NoMemory None) []
+    take_refused takes =
+        let is : best actor state.tasks ≡ Some (entry_by bare_task takes.e) = best_is ∙ ap (option_map (entry_by bare_task)) takes.is in
+        inl (
+          Take actor,
+          is_due actor first (entry_by bare_task takes.e) is,
+          inr (wanted (Take actor) (record { e = entry_by bare_task takes.e; is = is; texts = takes.texts }), (refl, refl)),
+        )
 
     module _ (t : ℕ × TaskOf Arg) (is : best actor old.tasks.tasks ≡ Some t) (new : Parts) (makes : Makes verified layout (Take actor) old new) (f : FrameView) (sits : get new.seats actor ≡ Some f)
         (number : f.event_no ≡ length (events_of actor told.events) + 1) where

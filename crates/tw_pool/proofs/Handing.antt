@@ -11,7 +11,7 @@ use Rattle.std.specs.Ordering.{eq_by_cmp, is_eq}
 use Rattle.std.specs.Cmp.{Equal-is, tied_itself}
 use Rattle.tw_types.specs.declared.actor.Actor.{Actor}
 use Rattle.tw_types.specs.declared.event.Event.{Event}
-use Rattle.tw_types.specs.declared.event.Event.TheVariants.{End, Local}
+use Rattle.tw_types.specs.declared.event.Event.TheVariants.{Call, End, Local}
 use Rattle.tw_types.specs.declared.input.Input.{Input}
 use Rattle.tw_types.specs.Actor.{actor_cmp, is_in}
 use Rattle.tw_types.specs.Layout.{ActorCounts}
@@ -24,6 +24,7 @@ use Rattle.tw_code.specs.declared.instr.Instr.{Instr}
 use Rattle.tw_code.specs.declared.procedure.Procedure.{Procedure}
 use Rattle.tw_code.specs.accepting.Walk.{greatest_budget}
 use Rattle.tw_code.specs.machine.Bounds.{opening_bound}
+use Rattle.tw_code.specs.machine.Due.{instr_here}
 use Rattle.tw_code.specs.machine.History.{actor_of}
 use Rattle.tw_code.specs.machine.Machine.{end_event, step}
 use Rattle.tw_code.specs.machine.Opening.{opening, reached}
@@ -38,6 +39,7 @@ use Rattle.tw_frame.specs.Jobs.{DoneView, DraftView, FrameView, JobView, bare_fr
 use Rattle.tw_parts.specs.Coming.{come}
 use Rattle.tw_parts.specs.Events.{Goes, IsDrafted, IsLent, IsOwed, IsSmall, Makes, MakesBehind, StandsAt, with_done}
 use Rattle.tw_parts.specs.Fits.{AreParts}
+use Rattle.tw_parts.specs.Memory.{EventTakes, InstrTakes, StandsAtTaker}
 use Rattle.tw_parts.specs.Parts.{state_of}
 use Rattle.tw_parts.specs.declared.parts.Parts.{Parts}
 use Rattle.tw_pool.specs.declared.answer.Turn.{Turn}
@@ -45,8 +47,8 @@ use Rattle.tw_pool.specs.declared.answer.Turn.TheVariants.{Run}
 use Rattle.tw_pool.specs.Actors.{HasPlace, events_of, same_actor}
 use Rattle.tw_pool.specs.History.{HistoryView}
 use Rattle.tw_pool.specs.Kept.{AreLent, IsKept, IsOwedBy}
-use Rattle.tw_pool.specs.PoolView.{PoolView}
-use Rattle.tw_pool.specs.Turns.{IsTurnBy, Lends, Line, OrNoMemory, is_last, instr_behind, lent_to, steps_of}
+use Rattle.tw_pool.specs.PoolView.{HasState, PoolView, with_events}
+use Rattle.tw_pool.specs.Turns.{IsTurnBy, Lends, Line, OrNoMemory, TakesMemory, is_last, instr_behind, lent_to, steps_of}
 use Rattle.tw_pool.specs.Words.{FitsWord}
 use Rattle.tw_pool.proofs.Counting.{has_place, itself, the_same}
 use Rattle.tw_pool.proofs.Freely.{has_state, lends, line_told, room_here, state, viewed}
@@ -272,6 +274,26 @@ module _ (verified : TypedProgram) (inputs : List Input) (layout : ActorCounts) 
         behind = it.is;
       }
 
+  -- where the instruction there takes memory
+  pub wanted : (o : Option Event) → HasCome o → (i : Instr) → instr_behind w.program.program done ≡ Some i
+      → ((f : FrameView) → IsOwed old actor f done → InstrTakes i old.store.store (bare_frame (come f done))) → TakesMemory w (steps_of actor done) (Call actor)
+  wanted o c i e takes =
+      let at : AreAt verified inputs layout (told.events ++ steps_of actor done) came = subst (λ es. AreAt verified inputs layout (told.events ++ es) came) c.is c.at in
+      let here_is : instr_here verified.program (bare_frame (come its.0 done)) ≡ Some i =
+      ap (λ (j : JobView). option_and_then (λ (p : Procedure). slice_get p.code done.after.place) (slice_get verified.program j.procedure)) (sym its.1.own) ∙ subst (λ (x : PoolView). instr_behind x.program.program done ≡ Some i) (sym seen) e in
+      let stands : StandsAtTaker verified.program (state_of came at.notices) actor = record {
+        frame = bare_frame (come its.0 done);
+        runs = get_mapped bare_frame came.seats actor ∙ ap (option_map bare_frame) (get_own (come its.0 done) old.seats actor);
+        here = i;
+        is = here_is;
+        takes = takes its.0 owed_now;
+      } in
+      record {
+        state = state_of came at.notices;
+        has_state = subst (λ (x : PoolView). HasState (with_events x (steps_of actor done)) (state_of came at.notices)) seen at.replays;
+        takes = subst (λ (x : PoolView). EventTakes x.program.program (state_of came at.notices) (Call actor)) seen stands;
+      }
+
   pub others_come : (a : Actor) → a ≢ actor → get came.seats a ≡ get old.seats a
   others_come a h = get_other (come its.0 done) old.seats actor a h
 
@@ -429,5 +451,5 @@ module _ (verified : TypedProgram) (inputs : List Input) (layout : ActorCounts) 
     full_at last t t_is = subst (λ (x : HistoryView). IsKept verified inputs layout x.limit x.events new) (sym t_is) (kept_full last o c new (is its.0 owed_now))
 
 -- a line, or want of memory
-pub or_memory : (line : Line) (given : Option DoneView) (w v : PoolView) (a : Turn) → IsTurnBy (λ s. line) w a v → IsTurnBy (λ s. OrNoMemory given line) w a v
-or_memory line given w v a l = record { state = l.state; has_state = l.has_state; events = l.events; is = inl l.is; appended = l.appended }
+pub or_memory : (p : PoolView) (line : Line) (given : Option DoneView) (before : List Event) (event : Event) (w v : PoolView) (a : Turn) → IsTurnBy (λ s. line) w a v → IsTurnBy (λ s. OrNoMemory p given before event line) w a v
+or_memory p line given before event w v a l = record { state = l.state; has_state = l.has_state; events = l.events; is = inl l.is; appended = l.appended }

@@ -2,6 +2,7 @@ mod Round
 pub mod Counting
 pub mod Lines
 pub mod Opened
+mod Pendings
 mod Fitting
 mod Keeping
 mod Freely

@@ -55,16 +55,16 @@ module _ (actor : Actor) where
 
 made : (p : PoolView) (actor : Actor) (given : Option DoneView) (es : List Event) (e : Event) (answer : Turn) (events : List Event) → Makes p actor given es e answer events → (events ≡ []) ⊎ (events ≡ es ++ e ∷ [])
 made p actor given es (Take a) answer events (inl l) = inr l.4.1
-made p actor given es (Take a) answer events (inr l) = inl l.1
+made p actor given es (Take a) answer events (inr l) = inl l.1.1
 made p actor given es (Local _ _) answer events l = elim l [ ]
 made p actor given es (Call a) answer events (inl l) = inr l.4.1
-made p actor given es (Call a) answer events (inr l) = inl l.1
+made p actor given es (Call a) answer events (inr l) = inl l.1.1
 made p actor given es (End a) answer events l = inr l.1
 made p actor given es (Ask engine rule parameter) answer events (inl l) = inr l.1
-made p actor given es (Ask engine rule parameter) answer events (inr l) = inl l.1
+made p actor given es (Ask engine rule parameter) answer events (inr l) = inl l.1.1
 made p actor given es (Deliver server datum rule parameter) answer events l = inr l.1
 made p actor given es (Release engine rule) answer events (inl l) = inr l.1
-made p actor given es (Release engine rule) answer events (inr l) = inl l.1
+made p actor given es (Release engine rule) answer events (inr l) = inl l.1.1
 
 whose_behind : (actor : Actor) (i : Option Instr) → actor_of (event_of actor i) ≡ actor
 whose_behind actor None = refl

@@ -118,7 +118,7 @@ pub past_ret : (w v : PoolView) (actor : Actor) (done : DoneView) (a : Turn) (i 
 past_ret w v actor done a i at is l = subst (λ e. IsTurnBy (λ s. Makes w actor (Some done) (steps_of actor done) e) w a v) (sym (ap (event_of actor) at ∙ last_event actor i is)) l
 
 pub past_call : (w v : PoolView) (actor : Actor) (done : DoneView) (a : Turn) (i : Instr) → instr_behind w.program.program done ≡ Some i → local_of i ≡ None → false ≡ is_ret i
-    → IsTurnBy (λ s. OrNoMemory (Some done) (Lends w actor (steps_of actor done ++ Call actor ∷ []))) w a v → IsTurnBy (λ s. Makes w actor (Some done) (steps_of actor done) (event_of actor (instr_behind w.program.program done))) w a v
+    → IsTurnBy (λ s. OrNoMemory w (Some done) (steps_of actor done) (Call actor) (Lends w actor (steps_of actor done ++ Call actor ∷ []))) w a v → IsTurnBy (λ s. Makes w actor (Some done) (steps_of actor done) (event_of actor (instr_behind w.program.program done))) w a v
 past_call w v actor done a i at other is l = subst (λ e. IsTurnBy (λ s. Makes w actor (Some done) (steps_of actor done) e) w a v) (sym (ap (event_of actor) at ∙ call_event actor i other is)) l
 
 pub stops_there : (code : List Instr) (place : ℕ) (i : Instr) → IsStop code place → slice_get code place ≡ Some i → local_of i ≡ None

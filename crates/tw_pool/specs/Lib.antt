@@ -6,6 +6,7 @@ pub mod PoolView
 pub mod Openings
 pub mod Turns
 pub mod Ends
--- What private functions speak of: how an event is kept (Words), and what holds of pools (Kept).
+-- What private functions speak of: how pending rules are told (Pendings), how an event is kept (Words), and what holds of pools (Kept).
+pub mod Pendings
 pub mod Words
 pub mod Kept

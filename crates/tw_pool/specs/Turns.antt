@@ -13,6 +13,7 @@ use Rattle.tw_code.specs.machine.Due.{IsDueFree, event_of}
 use Rattle.tw_code.specs.machine.Ending.{ending}
 use Rattle.tw_code.specs.machine.State.{Frame, State}
 use Rattle.tw_frame.specs.Jobs.{DoneView, JobView}
+use Rattle.tw_parts.specs.Memory.{EventTakes}
 use Rattle.tw_pool.specs.declared.answer.Closing.{Closing}
 use Rattle.tw_pool.specs.declared.answer.Closing.TheVariants.{Quiet, Stuck, Stopped, Limit}
 use Rattle.tw_pool.specs.declared.answer.Turn.{Turn}
@@ -48,23 +49,29 @@ abbrev pub Lends : PoolView → Actor → List Event → Line
 Lends p actor appended answer events =
     (s : State) × HasState (with_events p appended) s × (job : JobView) × (lent_to (with_events p appended) s actor ≡ Some job) × Answers (Run job) appended answer events
 
--- or memory is refused, and then nothing is appended and a Done comes back
-abbrev pub OrNoMemory : Option DoneView → Line → Line
-OrNoMemory given line answer events = line answer events ⊎ Answers (NoMemory given) [] answer events
+-- an event that is made behind these takes memory
+pub record TakesMemory (p : PoolView) (before : List Event) (event : Event) : Type 0 where
+  pub state : State
+  pub has_state : HasState (with_events p before) state
+  pub takes : EventTakes p.program.program state event
+
+-- or memory is refused for the event that is made behind others, and then nothing is appended and a Done comes back
+abbrev pub OrNoMemory : PoolView → Option DoneView → List Event → Event → Line → Line
+OrNoMemory p given before event line answer events = line answer events ⊎ (TakesMemory p before event × Answers (NoMemory given) [] answer events)
 
 abbrev pub Never : Line
 Never answer events = ⊥
 
--- ---- the line of an event that is made behind others; where nothing grows memory isn't refused
+-- ---- the line of an event that is made behind others
 
 abbrev pub Makes : PoolView → Actor → Option DoneView → List Event → Event → Line
-Makes p actor given before (Take a) = OrNoMemory given (Lends p actor (before ++ Take a ∷ []))
+Makes p actor given before (Take a) = OrNoMemory p given before (Take a) (Lends p actor (before ++ Take a ∷ []))
 Makes p actor given before (Local a steps) = Never
-Makes p actor given before (Call a) = OrNoMemory given (Lends p actor (before ++ Call a ∷ []))
+Makes p actor given before (Call a) = OrNoMemory p given before (Call a) (Lends p actor (before ++ Call a ∷ []))
 Makes p actor given before (End a) = Answers Ended (before ++ End a ∷ [])
-Makes p actor given before (Ask engine rule parameter) = OrNoMemory given (Answers Went (before ++ Ask engine rule parameter ∷ []))
+Makes p actor given before (Ask engine rule parameter) = OrNoMemory p given before (Ask engine rule parameter) (Answers Went (before ++ Ask engine rule parameter ∷ []))
 Makes p actor given before (Deliver server datum rule parameter) = Answers Went (before ++ Deliver server datum rule parameter ∷ [])
-Makes p actor given before (Release engine rule) = OrNoMemory given (Answers Went (before ++ Release engine rule ∷ []))
+Makes p actor given before (Release engine rule) = OrNoMemory p given before (Release engine rule) (Answers Went (before ++ Release engine rule ∷ []))
 
 -- ---- a Done of the job that is lent
 

@@ -1,6 +1,6 @@
 //! What is left of a run.
 
-ghost use Rattle.std.specs.Prelude.{◌≡◌, IfSome, option_map};
+ghost use Rattle.std.specs.Prelude.{◌≡◌, IfOk, IfSome, option_map};
 ghost use Rattle.std.specs.FinMap.{get};
 ghost use Rattle.std.specs.Option.{option_copied};
 ghost use Rattle.tw_store.specs.Calls.{IsShown};
@@ -12,12 +12,13 @@ ghost use Rattle.tw_pool.specs.PoolView.{HasState};
 
 use crate::answer::Closing;
 use crate::history::History;
+use crate::pending::all_told;
 use crate::pool::Pool;
+use std::alloc::{AllocError, Global};
 use std::marker::Model;
 use tw_parts::Remains;
-use tw_rules::PlainRule;
 use tw_store::{Datum, ShownMember};
-use tw_types::DatumId;
+use tw_types::{DatumId, Pending};
 use tw_verify::ends_well;
 
 /// What is left of a run for reading: its data, its outputs, the rules that were pending, and why it was over.
@@ -37,12 +38,15 @@ impl Model for Final {
 
     ghost Value = { FinalView };
 
+    ghost use Rattle.std.specs.Prelude.{map};
+    ghost use Rattle.tw_pool.specs.Pendings.{pending_told};
+
     ghost coded = { Prim.hlevel (codes, code {X = DatumMeaning} {R = nat_cmp} coded_ℕ (Prim.hlevel (codes, code {R = value_cmp} (Prim.hlevel codes) coded_ℕ)), code {R = nat_cmp} coded_ℕ coded_ℕ) };
 
     ghost view = { λ f. record {
       store = f.remains.store;
       outputs = f.remains.outputs.items;
-      pending = f.remains.pending.items;
+      pending = map pending_told f.remains.pending.items;
       closing = f.closing;
     } };
 }
@@ -72,11 +76,11 @@ impl Final {
         self.remains.store.member(container, index)
     }
 
-    /// The rules that were pending, by rising number.
-    pub fn pending(&self) -> &[PlainRule]
-        ensures { result.now ≡ self.now.pending }
+    /// The rules that were pending, by rising number: each with the data for which it waits, and those of its rights to write.
+    pub fn pending(&self, alloc: Global) -> Result<Vec<Pending>, AllocError>
+        ensures { IfOk result (λ pending. pending.items ≡ self.now.pending) }
     {
-        self.remains.pending.as_slice()
+        all_told(alloc, self.remains.pending.as_slice())
     }
 
     /// Why the run was over, if it was.

@@ -6,7 +6,10 @@ ghost use Rattle.tw_types.specs.declared.event.Event.TheVariants.{Call as CallBy
 ghost use Rattle.tw_code.specs.declared.instr.Instr.TheVariants as instr_is;
 ghost use Rattle.tw_code.specs.machine.Due.{event_of};
 ghost use Rattle.tw_code.specs.machine.Machine.{is_ret, local_of};
-ghost use Rattle.tw_parts.specs.Events.{IsDrafted, MakesBehind, StandsAt, Untouched};
+ghost use Rattle.tw_frame.specs.Jobs.{FrameView, bare_frame};
+ghost use Rattle.tw_parts.specs.Coming.{come};
+ghost use Rattle.tw_parts.specs.Events.{IsDrafted, IsOwed, MakesBehind, StandsAt, Untouched};
+ghost use Rattle.tw_parts.specs.Memory.{InstrTakes};
 ghost use Rattle.tw_pool.specs.declared.answer.Closing.TheVariants.{Limit};
 ghost use Rattle.tw_pool.specs.declared.answer.Turn.TheVariants as answer;
 ghost use Rattle.tw_pool.specs.Kept.{IsOwedBy};
@@ -37,6 +40,7 @@ fn call_by<'a>(
     ensures drafted { IfOk result (λ draft. IsDrafted parts.new actor draft) }
     ensures refused { OnErr result (Untouched parts.old parts.new) }
     ensures back { IfErr result (λ back. back ≡ done.entry) }
+    ensures memory { OnErr result ((f : FrameView) → IsOwed parts.old actor f done.entry → InstrTakes instr.now parts.old.store.store (bare_frame (come f done.entry))) }
 {
     match instr {
         Instr::Data(instr) => parts.call_data(alloc, actor, instr, done),
@@ -104,7 +108,7 @@ impl<'a> Pool<'a> {
         requires behind { instr_behind self.old.program.program done ≡ Some instr.now }
         requires not_local { local_of instr.now ≡ None }
         requires not_last { is_ret instr.now ≡ false }
-        ensures { IsTurnBy (λ s. OrNoMemory (Some done.entry) (Lends self.old actor (steps_of actor done.entry ++ CallBy actor ∷ []))) self.old result self.new }
+        ensures { IsTurnBy (λ s. OrNoMemory self.old (Some done.entry) (steps_of actor done.entry) (CallBy actor) (Lends self.old actor (steps_of actor done.entry ++ CallBy actor ∷ []))) self.old result self.new }
     {
         let _steps = done.steps();
         let event = self.parts.event_of(actor, &done);

@@ -7,6 +7,7 @@ mod free;
 mod hand_in;
 mod history;
 mod open;
+mod pending;
 mod pool;
 mod turn;
 mod words;

@@ -7,7 +7,7 @@ use Rattle.tw_code.specs.machine.Position.{at_goal, at_next_place, with_value}
 use Rattle.tw_frame.specs.Jobs.{FrameView, draft_of}
 use Rattle.tw_parts.specs.Coming.{come}
 use Rattle.tw_store.proofs.Here.{unchanged}
-use Rattle.tw_parts.proofs.Sizes.{subscript_allowed, subscript_by, subscript_fits, subscript_here, subscript_int, subscript_none, subscript_right, subscript_some}
+use Rattle.tw_parts.proofs.Sizes.{subscript_allowed, subscript_by, subscript_fits, subscript_here, subscript_int, subscript_none, subscript_right, subscript_some, subscript_there}
 use Rattle.tw_parts.proofs.data.containers.subscript_at.Goals as goal
 
 pub number_at-count-requires : goal.number_at-count-requires
@@ -27,7 +27,10 @@ returns-in_default c =
     let key : to_z w64 (of_z w64 c.number_at-count.result) ≡ c.number_at-count.result = grind (arith, to_z-of_z) in
     let found = ap (λ k. subscript_after k (keys (members_at c.args.store.now.store c.peek_read.result.now.id))) (sym key) ∙ sym c.in-Some.ensures.found in
     record {
-      memory = sym (subscript_by c.args.by c.args.to c.args.container c.args.index c.args.skip c.args.store.now (come c.args.frame.now c.args.done) c.requires.may c.peek_read.result.now c.peek_read.ensures c.number_at-count.result c.number_at-count.ensures c.in-Some.subscript.now found) ∙ c.in_default.ensures.text;
+      memory = (
+        sym (subscript_by c.args.by c.args.to c.args.container c.args.index c.args.skip c.args.store.now (come c.args.frame.now c.args.done) c.requires.may c.peek_read.result.now c.peek_read.ensures c.number_at-count.result c.number_at-count.ensures c.in-Some.subscript.now found) ∙ c.in_default.ensures.text,
+        subscript_there c.args.by c.args.to c.args.container c.args.index c.args.skip c.args.store.now (come c.args.frame.now c.args.done) c.requires.may c.peek_read.result.now c.peek_read.ensures c.number_at-count.result c.number_at-count.ensures c.in-Some.subscript.now found,
+      );
       store = unchanged _;
       frame = refl;
       is_back = refl;

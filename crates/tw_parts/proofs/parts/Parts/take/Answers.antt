@@ -13,7 +13,7 @@ pub lend-requires-clause-sits : goal.lend-requires-clause-sits
 lend-requires-clause-sits c =
     let p = c.requires.parts in
     let b : Begins c.args.verified.now c.args.actor c.args.self.now.seats c.args.self.now.tasks.tasks c.start.new.self c.start.new.tasks.tasks c.in-Some.draft =
-    has_begun c.args.verified.now c.args.actor c.args.self.now.seats c.args.self.now.tasks.tasks c.start.new.self c.start.new.tasks.tasks _ c.in-Some.draft c.in-Some.is c.in_ok-draft.ensures in
+    has_begun c.args.verified.now c.args.actor c.args.self.now.seats c.args.self.now.tasks.tasks c.start.new.self c.start.new.tasks.tasks _ c.in-Some.draft c.in-Some.is c.in_ok-draft.ensures.begun in
     let f : FrameView = begun c.args.verified.now c.args.actor b.e b.values in (
       f,
       ap (λ m. get m c.args.actor) b.sits ∙ get_own c.args.self.now.seats c.args.actor f,
@@ -25,10 +25,10 @@ lend-requires-clause-sits c =
       },
     )
 
-pub returns-in-Some : goal.returns-in-Some
-returns-in-Some c =
+pub returns-in-Some-clause-taken : goal.returns-in-Some-clause-taken
+returns-in-Some-clause-taken c =
     let b : Begins c.args.verified.now c.args.actor c.args.self.now.seats c.args.self.now.tasks.tasks c.start.new.self c.start.new.tasks.tasks c.in-Some.draft =
-    has_begun c.args.verified.now c.args.actor c.args.self.now.seats c.args.self.now.tasks.tasks c.start.new.self c.start.new.tasks.tasks _ c.in-Some.draft c.in-Some.is c.in_ok-draft.ensures in
+    has_begun c.args.verified.now c.args.actor c.args.self.now.seats c.args.self.now.tasks.tasks c.start.new.self c.start.new.tasks.tasks _ c.in-Some.draft c.in-Some.is c.in_ok-draft.ensures.begun in
     let f : FrameView = begun c.args.verified.now c.args.actor b.e b.values in
     let g : FrameView = record f { event_no = c.args.event_no } in
     let lent = c.lend.ensures f (ap (λ m. get m c.args.actor) b.sits ∙ get_own c.args.self.now.seats c.args.actor f) in

@@ -65,8 +65,8 @@ invariant_of-self-2 c =
           (subst (λ (rooms : List (Option (Unit {0}))). AreKept (set c.self.inside.seats.items c.seat_of-number.result (Some c.start-frame.result.0)) rooms) (sym c.lift.ensures) (kept_begun c.self.inside.seats.items c.self.inside.rooms.items c.self.invariant.1 c.seat_of-number.result c.start-frame.result.0)),
     )
 
-pub returns : goal.returns
-returns c =
+pub returns-clause-begun : goal.returns-clause-begun
+returns-clause-begun c =
     let inside : seat_of c.args.actor < length c.self.inside.seats.items = omega (arith, low_seat c.args.actor c.requires.seat, c.self.invariant.0.many) in
     let e = handed _ c.in-Some.best.now c.in-Some.ensures in
     let same : handed_out e.0 ≡ c.in-Some-take.task = same_Some (handed_out e.0) c.in-Some-take.task (sym (ap (option_map handed_out) e.1) ∙ sym c.take.ensures.taken ∙ c.in-Some-take.is) in

@@ -1,0 +1,115 @@
+-- Pending rules, as they are told: one by one, and that they are the definition's.
+use Rattle.std.proofs.Common.{◌≡◌, ◌+◌, ◌<◌, ◌⊎◌, inl, inr, ℕ, Bool, true, false, cond, if◌then◌else◌, arith, List, [], ◌∷◌, ◌++◌, length, map, get_or, drop, Some, None, refl, sym, ap, subst, ◌∙◌, append_assoc, add-one, drop-cons}
+use Rattle.std.proofs.lemmas.List.{append-nil}
+use Rattle.std.specs.Cmp.{nat_cmp_total}
+use Rattle.std.specs.FinMap.{entries, get}
+use Rattle.std.specs.List.{flat_map}
+use Rattle.std.specs.Ordering.{nat_cmp}
+use Rattle.tw_types.specs.declared.param.Mode.{Mode}
+use Rattle.tw_types.specs.declared.param.Mode.TheVariants as mode
+use Rattle.tw_types.specs.declared.param.Param.{Param}
+use Rattle.tw_types.specs.declared.pending.Pending.{Pending}
+use Rattle.tw_types.specs.declared.stage.Stage.{Stage}
+use Rattle.tw_types.specs.Mapped.{entry_by, mapped}
+use Rattle.tw_types.specs.Mode.{is_val, is_write}
+use Rattle.tw_types.specs.Rule.{Rule, RuleOf, RulesOf, is_waiting}
+use Rattle.tw_types.proofs.Mapped.{entries_mapped}
+use Rattle.tw_types.proofs.Totals.{IsEntry, get_entry}
+use Rattle.tw_rights.specs.Bare.{bare_arg, bare_rule}
+use Rattle.tw_rights.specs.declared.arg.Arg.{Arg}
+use Rattle.tw_rights.specs.declared.arg.Arg.TheVariants.{Val, Read, Write}
+use Rattle.tw_rights.specs.Rights.{Right}
+use Rattle.tw_rules.specs.declared.plain.PlainArg.{PlainArg}
+use Rattle.tw_rules.specs.Table.{plain_arg, told}
+use Rattle.tw_store.specs.Slots.{Places}
+use Rattle.tw_code.specs.declared.procedure.Procedure.{Procedure}
+use Rattle.tw_code.specs.machine.Arguments.{params_of}
+use Rattle.tw_code.specs.machine.Pending.{pending_of, waited_for, written_by}
+use Rattle.tw_code.specs.machine.Rights.{right_of}
+use Rattle.tw_parts.specs.Fits.{ArgStands, ArgsStand}
+use Rattle.tw_pool.specs.Pendings.{pending_told, waited_at, waits_in, written_at}
+
+-- ---- one argument more
+
+waits_none : (stages : List Stage) → waits_in stages [] ≡ []
+waits_none [] = refl
+waits_none (s ∷ stages) = refl
+
+pub waits_step : (stages : List Stage) (i : ℕ) (stage : Stage) (rest others : List PlainArg) (arg : PlainArg) (ids new whole : List ℕ) → i < length stages → rest ≡ arg ∷ others → new ≡ ids ++ waited_at (get_or stages i stage) arg
+    → ids ++ waits_in (drop i stages) rest ≡ whole → new ++ waits_in (drop (i + 1) stages) others ≡ whole
+waits_step stages i stage rest others arg ids new whole inside is made before =
+    let one = get_or stages i stage in
+    let next : drop i stages ≡ one ∷ drop (i + 1) stages = drop-cons stages i stage inside ∙ ap (λ (n : ℕ). one ∷ drop n stages) (sym (add-one i)) in
+    ap (λ (t : List ℕ). t ++ waits_in (drop (i + 1) stages) others) made
+    ∙ append_assoc ids (waited_at one arg) (waits_in (drop (i + 1) stages) others)
+    ∙ ap (λ (ss : List Stage). ids ++ waits_in ss (arg ∷ others)) (sym next)
+    ∙ ap (λ (given : List PlainArg). ids ++ waits_in (drop i stages) given) (sym is)
+    ∙ before
+
+pub waits_end : (stages : List Stage) (rest : List PlainArg) (ids whole : List ℕ) → length rest ≡ 0 → ids ++ waits_in stages rest ≡ whole → ids ≡ whole
+waits_end stages [] ids whole none before = sym (append-nil ids) ∙ ap (λ (t : List ℕ). ids ++ t) (sym (waits_none stages)) ∙ before
+waits_end stages (arg ∷ rest) ids whole none before = absurd (omega (arith, none))
+
+-- ---- one rule
+
+waits_are : (stages : List Stage) (args : List Arg) → waits_in stages (map plain_arg args) ≡ waited_for stages (map bare_arg args)
+waits_are [] args = refl
+waits_are (stage ∷ stages) [] = refl
+waits_are (stage ∷ stages) (Val value ∷ args) = waits_are stages args
+waits_are (stage ∷ stages) (Read right ∷ args) = by (is_waiting stage) (waits_are stages args)
+  where
+    by : (b : Bool) → waits_in stages (map plain_arg args) ≡ waited_for stages (map bare_arg args) → cond b (right.id ∷ []) [] ++ waits_in stages (map plain_arg args) ≡ cond b (right.id ∷ waited_for stages (map bare_arg args)) (waited_for stages (map bare_arg args))
+    by true rest = ap (λ (ids : List ℕ). right.id ∷ ids) rest
+    by false rest = rest
+waits_are (stage ∷ stages) (Write right ∷ args) = by (is_waiting stage) (waits_are stages args)
+  where
+    by : (b : Bool) → waits_in stages (map plain_arg args) ≡ waited_for stages (map bare_arg args) → cond b (right.id ∷ []) [] ++ waits_in stages (map plain_arg args) ≡ cond b (right.id ∷ waited_for stages (map bare_arg args)) (waited_for stages (map bare_arg args))
+    by true rest = ap (λ (ids : List ℕ). right.id ∷ ids) rest
+    by false rest = rest
+
+-- a right is one to write exactly where its parameter says so
+read_mode : (places : Places) (p : Param) (right : Right) → ArgStands places (right_of p) (Read right) → is_write p.mode ≡ false
+read_mode places p right stands = by p.mode stands
+  where
+    by : (m : Mode) → ArgStands places (if is_val m then None else Some (record { mode = m; ty = p.ty })) (Read right) → is_write m ≡ false
+    by mode.Val s = absurd s
+    by mode.Closed s = refl
+    by mode.Ref s = refl
+    by mode.Write s = s.0
+
+write_mode : (places : Places) (p : Param) (right : Right) → ArgStands places (right_of p) (Write right) → is_write p.mode ≡ true
+write_mode places p right stands = by p.mode stands
+  where
+    by : (m : Mode) → ArgStands places (if is_val m then None else Some (record { mode = m; ty = p.ty })) (Write right) → is_write m ≡ true
+    by mode.Val s = absurd s
+    by mode.Closed s = s.0
+    by mode.Ref s = s.0
+    by mode.Write s = refl
+
+writes_are : (places : Places) (params : List Param) (args : List Arg) → ArgsStand places params args → flat_map written_at (map plain_arg args) ≡ written_by params (map bare_arg args)
+writes_are places [] [] stand = refl
+writes_are places [] (arg ∷ args) stand = absurd stand
+writes_are places (p ∷ params) [] stand = absurd stand
+writes_are places (p ∷ params) (Val value ∷ args) stand = writes_are places params args stand.1
+writes_are places (p ∷ params) (Read right ∷ args) stand =
+    writes_are places params args stand.1 ∙ ap (λ (b : Bool). cond b (right.id ∷ written_by params (map bare_arg args)) (written_by params (map bare_arg args))) (sym (read_mode places p right stand.0))
+writes_are places (p ∷ params) (Write right ∷ args) stand =
+    ap (λ (ids : List ℕ). right.id ∷ ids) (writes_are places params args stand.1)
+    ∙ ap (λ (b : Bool). cond b (right.id ∷ written_by params (map bare_arg args)) (written_by params (map bare_arg args))) (sym (write_mode places p right stand.0))
+
+one_is : (program : List Procedure) (places : Places) (e : ℕ × RuleOf Arg) → ArgsStand places (params_of program e.1.procedure) e.1.args → pending_told (told e) ≡ pending_of program (entry_by bare_rule e)
+one_is program places e stand = λ i. record { number = e.0; waits = waits_are e.1.stages e.1.args i; writes = writes_are places (params_of program e.1.procedure) e.1.args stand i }
+
+-- ---- all of them
+
+all_are : (program : List Procedure) (places : Places) (es : List (ℕ × RuleOf Arg)) → ((e : ℕ × RuleOf Arg) → IsEntry e es → ArgsStand places (params_of program e.1.procedure) e.1.args)
+    → map pending_told (map told es) ≡ map (pending_of program) (map (entry_by bare_rule) es)
+all_are program places [] stand = refl
+all_are program places (e ∷ es) stand =
+    ap (λ (p : Pending). p ∷ map pending_told (map told es)) (one_is program places e (stand e (inl refl)))
+    ∙ ap (λ (ps : List Pending). pending_of program (entry_by bare_rule e) ∷ ps) (all_are program places es (λ f is. stand f (inr is)))
+
+pub pending_is : (program : List Procedure) (places : Places) (rules : RulesOf Arg) → ((number : ℕ) (r : RuleOf Arg) → get rules number ≡ Some r → ArgsStand places (params_of program r.procedure) r.args)
+    → map pending_told (map told (entries rules)) ≡ map (pending_of program) (entries (mapped bare_rule rules))
+pending_is program places rules stand =
+    all_are program places (entries rules) (λ e is. stand e.0 e.1 (get_entry nat_cmp nat_cmp_total rules e is)) ∙ ap (map (pending_of program)) (sym (entries_mapped bare_rule rules))

@@ -1,0 +1,29 @@
+-- A pending rule, read off its plain arguments. That it is the definition's is in proofs/Pendings.
+use Rattle.std.specs.Prelude.{ℕ, if◌then◌else◌, List, [], ◌∷◌, ◌++◌}
+use Rattle.std.specs.List.{flat_map}
+use Rattle.tw_types.specs.declared.pending.Pending.{Pending}
+use Rattle.tw_types.specs.declared.stage.Stage.{Stage}
+use Rattle.tw_types.specs.Rule.{is_waiting}
+use Rattle.tw_rules.specs.declared.plain.PlainArg.{PlainArg}
+use Rattle.tw_rules.specs.declared.plain.PlainArg.TheVariants as plain
+use Rattle.tw_rules.specs.declared.plain.PlainRule.{PlainRule}
+
+-- the datum for which a parameter waits
+abbrev pub waited_at : Stage → PlainArg → List ℕ
+waited_at stage plain.Val = []
+waited_at stage (plain.Read id) = if is_waiting stage then id ∷ [] else []
+waited_at stage (plain.Write id) = if is_waiting stage then id ∷ [] else []
+
+abbrev pub waits_in : List Stage → List PlainArg → List ℕ
+waits_in [] args = []
+waits_in (stage ∷ stages) [] = []
+waits_in (stage ∷ stages) (arg ∷ args) = waited_at stage arg ++ waits_in stages args
+
+-- the datum of a right to write
+abbrev pub written_at : PlainArg → List ℕ
+written_at plain.Val = []
+written_at (plain.Read id) = []
+written_at (plain.Write id) = id ∷ []
+
+abbrev pub pending_told : PlainRule → Pending
+pending_told rule = record { number = rule.number; waits = waits_in rule.stages rule.args; writes = flat_map written_at rule.args }

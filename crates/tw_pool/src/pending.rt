@@ -1,0 +1,92 @@
+//! The rules that were pending when a run was shut.
+
+ghost use Rattle.std.specs.Prelude.{◌≡◌, ◌++◌, ◌∷◌, [], if◌then◌else◌, map, IfOk, OnOk};
+ghost use Rattle.std.specs.List.{flat_map};
+ghost use Rattle.tw_types.specs.Rule.{is_waiting};
+ghost use Rattle.tw_pool.specs.Pendings.{pending_told, waited_at, waits_in, written_at};
+
+use std::alloc::{AllocError, Global};
+use tw_rules::{PlainArg, PlainRule};
+use tw_types::{DatumId, Items, Pending, Stage};
+
+/// Adds a datum for which a parameter may wait.
+fn put_if_waiting(ids: &mut Vec<DatumId>, stage: Stage, id: DatumId) -> Result<(), AllocError>
+    ensures { OnOk result (ids.new.items ≡ ids.old.items ++ (if is_waiting stage then id ∷ [] else [])) }
+{
+    match stage {
+        Stage::Waiting => Ok(ids.push(id)?),
+        Stage::Free | Stage::Unasked | Stage::Ready => Ok(()),
+    }
+}
+
+/// Adds the datum of an argument whose parameter waits for it.
+fn put_waited(ids: &mut Vec<DatumId>, stage: Stage, arg: PlainArg) -> Result<(), AllocError>
+    ensures { OnOk result (ids.new.items ≡ ids.old.items ++ waited_at stage arg) }
+{
+    match arg {
+        PlainArg::Read(id) => put_if_waiting(ids, stage, id),
+        PlainArg::Write(id) => put_if_waiting(ids, stage, id),
+        PlainArg::Val => Ok(()),
+    }
+}
+
+/// The data for which parameters wait.
+fn waits_in(alloc: Global, stages: &[Stage], args: &[PlainArg]) -> Result<Vec<DatumId>, AllocError>
+    ensures { IfOk result (λ ids. ids.items ≡ waits_in stages.now args.now) }
+{
+    let mut ids = Vec::new(alloc);
+    let mut rest = args;
+    for stage in stages {
+        let Some((arg, others)) = rest.split_first() else {
+            return Ok(ids);
+        };
+        put_waited(&mut ids, *stage, *arg)?;
+        rest = others;
+    }
+    Ok(ids)
+}
+
+/// Adds the datum of a right to write.
+fn put_written(ids: &mut Vec<DatumId>, arg: PlainArg) -> Result<(), AllocError>
+    ensures { OnOk result (ids.new.items ≡ ids.old.items ++ written_at arg) }
+{
+    match arg {
+        PlainArg::Write(id) => Ok(ids.push(id)?),
+        PlainArg::Read(_) => Ok(()),
+        PlainArg::Val => Ok(()),
+    }
+}
+
+/// The data of rights to write.
+fn writes_in(alloc: Global, args: &[PlainArg]) -> Result<Vec<DatumId>, AllocError>
+    ensures { IfOk result (λ ids. ids.items ≡ flat_map written_at args.now) }
+{
+    let mut ids = Vec::new(alloc);
+    for arg in args {
+        put_written(&mut ids, *arg)?;
+    }
+    Ok(ids)
+}
+
+fn pending_told(alloc: Global, rule: &PlainRule) -> Result<Pending, AllocError>
+    ensures { IfOk result (λ p. p ≡ pending_told rule.now) }
+{
+    let waits = waits_in(alloc, rule.stages.as_slice(), rule.args.as_slice())?;
+    let writes = writes_in(alloc, rule.args.as_slice())?;
+    Ok(Pending {
+        number: rule.number,
+        waits: Items::from(waits),
+        writes: Items::from(writes),
+    })
+}
+
+/// Rules with the data for which they wait, and those that they may write.
+pub(crate) fn all_told(alloc: Global, rules: &[PlainRule]) -> Result<Vec<Pending>, AllocError>
+    ensures { IfOk result (λ pending. pending.items ≡ map pending_told rules.now) }
+{
+    let mut pending = Vec::new(alloc);
+    for rule in rules {
+        pending.push(pending_told(alloc, rule)?)?;
+    }
+    Ok(pending)
+}
