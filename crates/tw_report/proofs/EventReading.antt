@@ -1,5 +1,7 @@
 -- The words that are read as an event are those that spell it.
-use Rattle.std.proofs.Common.{◌≡◌, ◌==◌, ℕ, Bool, true, false, cond, List, [], ◌∷◌, codes, Option, Some, None, refl, sym, ap, subst, ◌∙◌}
+use Rattle.std.proofs.Common.{◌≡◌, ◌==◌, ℕ, Bool, true, false, cond, List, [], ◌∷◌, codes, Option, Some, None, refl, sym, ap, subst, ◌∙◌, arith}
+use Rattle.std.specs.Prelude.{min}
+use Rattle.std.proofs.Math.Nat.{min-le_right}
 use Rattle.std.specs.Int.{IsInRange}
 use Rattle.std.specs.Option.{MatchOption, option_and_then, option_map, option_or}
 use Rattle.std.specs.Str.{bytes_eq}
@@ -11,8 +13,8 @@ use Rattle.tw_types.specs.declared.event.Event.{Event}
 use Rattle.tw_types.specs.declared.event.Event.TheVariants.{Take, Local, Call, End, Ask, Deliver, Release}
 use Rattle.tw_types.specs.Actor.{number_in_kind}
 use Rattle.tw_words.specs.Number.{SpellsDigits}
-use Rattle.tw_report.specs.Events.{IsByte, IsEvent, Name, Number, Part, SpellParts, SpellsPart, SpellsEvent, actor_part, event_parts, words_in}
-use Rattle.tw_report.specs.reading.Event.{actor_in, alone, ask_in, behind, deliver_in, event_in, first, for_actor, local_in, named, number_in, release_in, words_64}
+use Rattle.tw_report.specs.Events.{IsByte, IsEvent, IsWord, Name, Number, Parameter, Part, SpellParts, SpellsPart, SpellsEvent, actor_part, event_parts, words_in}
+use Rattle.tw_report.specs.reading.Event.{actor_in, alone, ask_in, behind, deliver_in, event_in, first, for_actor, local_in, named, number_in, parameter_in, release_in, words_64}
 use Rattle.tw_report.specs.reading.Words.{with_word}
 use Rattle.tw_report.proofs.Readings.{number_read, number_spelled}
 
@@ -34,6 +36,21 @@ unfolding actor_in
 actor_read (Engine n) word inside spells = rw (behind_read 101 n word refl inside spells) refl
 actor_read (Server n) word inside spells = rw (not_behind 101 115 word spells.0 spells.2 refl, behind_read 115 n word refl inside spells) refl
 actor_read (Worker n) word inside spells = rw (not_behind 101 119 word spells.0 spells.2 refl, not_behind 115 119 word spells.0 spells.2 refl, behind_read 119 n word refl inside spells) refl
+
+parameter_read : (parameter : ℕ) (word : List ℕ) → SpellsPart (Parameter parameter) word → parameter_in word ≡ Some parameter
+unfolding parameter_in
+parameter_read parameter word (n, digits, inside, is) = ap (option_map (λ (k : ℕ). min k 255)) (number_read 0 0xFFFFFFFFFFFFFFFF n word digits inside) ∙ ap (λ (k : ℕ). Some k) (sym is)
+
+parameter_spelled : (parameter : ℕ) (word : List ℕ) → parameter_in word ≡ Some parameter → IsByte parameter × SpellsPart (Parameter parameter) word
+unfolding parameter_in
+parameter_spelled parameter word e = by (words_64 word) refl e
+  where
+    by : (o : Option ℕ) → words_64 word ≡ o → option_map (λ (k : ℕ). min k 255) o ≡ Some parameter → IsByte parameter × SpellsPart (Parameter parameter) word
+    by None is e = cc
+    by (Some n) is e =
+        let same : parameter ≡ min n 255 = cc in
+        let s = number_spelled 0 0xFFFFFFFFFFFFFFFF n word is in
+        (subst IsByte (sym same) (omega arith, min-le_right n 255), (n, s.0, s.1, same))
 
 plain_spelled : (low high n : ℕ) (word : List ℕ) → number_in low high word ≡ Some n → IsInRange low high n × SpellsPart (Number [] n) word
 plain_spelled low high n word e = let s = number_spelled low high n word e in (s.1, (word, s.0, refl))
@@ -86,16 +103,16 @@ event_read (Local a n) words may =
 event_read (Call a) words may = name_read (codes "call") (actor_part a ∷ []) words (Call a) (λ rest. step_read actor_in _ (actor_part a) [] rest a (Call a) (λ w. actor_read a w may) (alone_read (Call a)))
 event_read (End a) words may = name_read (codes "end") (actor_part a ∷ []) words (End a) (λ rest. step_read actor_in _ (actor_part a) [] rest a (End a) (λ w. actor_read a w may) (alone_read (End a)))
 event_read (Ask e r j) words may =
-    name_read (codes "ask") (actor_part (Engine e) ∷ Number [] r ∷ Number [] j ∷ []) words (Ask e r j)
-    (λ rest. step_read (behind 101) _ (actor_part (Engine e)) (Number [] r ∷ Number [] j ∷ []) rest e (Ask e r j) (λ w. behind_read 101 e w refl may.0)
-    (λ rest. step_read words_64 _ (Number [] r) (Number [] j ∷ []) rest r (Ask e r j) (λ w. plain_read 0 0xFFFFFFFFFFFFFFFF r w may.1)
-    (λ rest. step_read (number_in 0 255) _ (Number [] j) [] rest j (Ask e r j) (λ w. plain_read 0 255 j w may.2) (alone_read (Ask e r j)))))
+    name_read (codes "ask") (actor_part (Engine e) ∷ Number [] r ∷ Parameter j ∷ []) words (Ask e r j)
+    (λ rest. step_read (behind 101) _ (actor_part (Engine e)) (Number [] r ∷ Parameter j ∷ []) rest e (Ask e r j) (λ w. behind_read 101 e w refl may.0)
+    (λ rest. step_read words_64 _ (Number [] r) (Parameter j ∷ []) rest r (Ask e r j) (λ w. plain_read 0 0xFFFFFFFFFFFFFFFF r w may.1)
+    (λ rest. step_read parameter_in _ (Parameter j) [] rest j (Ask e r j) (λ w. parameter_read j w) (alone_read (Ask e r j)))))
 event_read (Deliver s d r j) words may =
-    name_read (codes "deliver") (actor_part (Server s) ∷ Number [] d ∷ Number [] r ∷ Number [] j ∷ []) words (Deliver s d r j)
-    (λ rest. step_read (behind 115) _ (actor_part (Server s)) (Number [] d ∷ Number [] r ∷ Number [] j ∷ []) rest s (Deliver s d r j) (λ w. behind_read 115 s w refl may.0)
-    (λ rest. step_read words_64 _ (Number [] d) (Number [] r ∷ Number [] j ∷ []) rest d (Deliver s d r j) (λ w. plain_read 0 0xFFFFFFFFFFFFFFFF d w may.1)
-    (λ rest. step_read words_64 _ (Number [] r) (Number [] j ∷ []) rest r (Deliver s d r j) (λ w. plain_read 0 0xFFFFFFFFFFFFFFFF r w may.2)
-    (λ rest. step_read (number_in 0 255) _ (Number [] j) [] rest j (Deliver s d r j) (λ w. plain_read 0 255 j w may.3) (alone_read (Deliver s d r j))))))
+    name_read (codes "deliver") (actor_part (Server s) ∷ Number [] d ∷ Number [] r ∷ Parameter j ∷ []) words (Deliver s d r j)
+    (λ rest. step_read (behind 115) _ (actor_part (Server s)) (Number [] d ∷ Number [] r ∷ Parameter j ∷ []) rest s (Deliver s d r j) (λ w. behind_read 115 s w refl may.0)
+    (λ rest. step_read words_64 _ (Number [] d) (Number [] r ∷ Parameter j ∷ []) rest d (Deliver s d r j) (λ w. plain_read 0 0xFFFFFFFFFFFFFFFF d w may.1)
+    (λ rest. step_read words_64 _ (Number [] r) (Parameter j ∷ []) rest r (Deliver s d r j) (λ w. plain_read 0 0xFFFFFFFFFFFFFFFF r w may.2)
+    (λ rest. step_read parameter_in _ (Parameter j) [] rest j (Deliver s d r j) (λ w. parameter_read j w) (alone_read (Deliver s d r j))))))
 event_read (Release e r) words may =
     name_read (codes "release") (actor_part (Engine e) ∷ Number [] r ∷ []) words (Release e r)
     (λ rest. step_read (behind 101) _ (actor_part (Engine e)) (Number [] r ∷ []) rest e (Release e r) (λ w. behind_read 101 e w refl may.0)
@@ -161,31 +178,31 @@ ask_told : (event : Event) (words : List (List ℕ)) → ask_in words ≡ Some e
 ask_told event words e =
     let s = stepped (behind 101) _ words event e in
     let t = stepped words_64 _ s.rest event s.goes_on in
-    let u = stepped (number_in 0 255) _ t.rest event t.goes_on in
+    let u = stepped parameter_in _ t.rest event t.goes_on in
     let last = alone_is (Ask s.a t.a u.a) event u.rest u.goes_on in
     let engine = behind_spelled 101 s.a s.word s.says in
     let rule = plain_spelled 0 0xFFFFFFFFFFFFFFFF t.a t.word t.says in
-    let parameter = plain_spelled 0 255 u.a u.word u.says in
+    let parameter = parameter_spelled u.a u.word u.says in
     told (codes "ask") (Ask s.a t.a u.a) event words last.1
-    ((engine.0, rule.0, parameter.0), (refl, one_more (actor_part (Engine s.a)) (Number [] t.a ∷ Number [] u.a ∷ []) words s.word s.rest s.is engine.1 (one_more (Number [] t.a) (Number [] u.a ∷ []) s.rest t.word t.rest t.is rule.1 (one_more (Number [] u.a) [] t.rest u.word u.rest u.is parameter.1 (no_more u.rest last.0)))))
+    ((engine.0, rule.0, parameter.0), (refl, one_more (actor_part (Engine s.a)) (Number [] t.a ∷ Parameter u.a ∷ []) words s.word s.rest s.is engine.1 (one_more (Number [] t.a) (Parameter u.a ∷ []) s.rest t.word t.rest t.is rule.1 (one_more (Parameter u.a) [] t.rest u.word u.rest u.is parameter.1 (no_more u.rest last.0)))))
 
 deliver_told : (event : Event) (words : List (List ℕ)) → deliver_in words ≡ Some event → Told (codes "deliver") event words
 deliver_told event words e =
     let s = stepped (behind 115) _ words event e in
     let t = stepped words_64 _ s.rest event s.goes_on in
     let u = stepped words_64 _ t.rest event t.goes_on in
-    let v = stepped (number_in 0 255) _ u.rest event u.goes_on in
+    let v = stepped parameter_in _ u.rest event u.goes_on in
     let last = alone_is (Deliver s.a t.a u.a v.a) event v.rest v.goes_on in
     let server = behind_spelled 115 s.a s.word s.says in
     let datum = plain_spelled 0 0xFFFFFFFFFFFFFFFF t.a t.word t.says in
     let rule = plain_spelled 0 0xFFFFFFFFFFFFFFFF u.a u.word u.says in
-    let parameter = plain_spelled 0 255 v.a v.word v.says in
+    let parameter = parameter_spelled v.a v.word v.says in
     told (codes "deliver") (Deliver s.a t.a u.a v.a) event words last.1 (
       (server.0, datum.0, rule.0, parameter.0),
       (
         refl,
-        one_more (actor_part (Server s.a)) (Number [] t.a ∷ Number [] u.a ∷ Number [] v.a ∷ []) words s.word s.rest s.is server.1 (one_more (Number [] t.a) (Number [] u.a ∷ Number [] v.a ∷ []) s.rest t.word t.rest t.is datum.1
-            (one_more (Number [] u.a) (Number [] v.a ∷ []) t.rest u.word u.rest u.is rule.1 (one_more (Number [] v.a) [] u.rest v.word v.rest v.is parameter.1 (no_more v.rest last.0)))),
+        one_more (actor_part (Server s.a)) (Number [] t.a ∷ Number [] u.a ∷ Parameter v.a ∷ []) words s.word s.rest s.is server.1 (one_more (Number [] t.a) (Number [] u.a ∷ Parameter v.a ∷ []) s.rest t.word t.rest t.is datum.1
+            (one_more (Number [] u.a) (Parameter v.a ∷ []) t.rest u.word u.rest u.is rule.1 (one_more (Parameter v.a) [] u.rest v.word v.rest v.is parameter.1 (no_more v.rest last.0)))),
       ),
     )
 
@@ -255,6 +272,10 @@ first_some read line (b ∷ word) words a e none is = sym (ap (first read) e ∙
 pub number_none : (low high : ℕ) → number_in low high [] ≡ None
 unfolding number_in
 number_none low high = refl
+
+pub parameter_none : parameter_in [] ≡ None
+unfolding parameter_in
+parameter_none = ap (option_map (λ (k : ℕ). min k 255)) (number_none 0 0xFFFFFFFFFFFFFFFF)
 
 pub behind_none : (letter : ℕ) → behind letter [] ≡ None
 unfolding behind

@@ -1,6 +1,7 @@
 -- What is written of an event is read back.
 use Rattle.std.proofs.Common.{◌≡◌, ◌<◌, ◌^◌, ℕ, true, false, List, [], ◌∷◌, ◌++◌, map, Some, refl, sym, ap, subst, ◌∙◌, arith}
 use Rattle.std.specs.Fmt.{decimal}
+use Rattle.std.proofs.Math.Nat.{min-eq_left}
 use Rattle.std.specs.Int.{IsInRange}
 use Rattle.std.specs.List.{AllByRecursion, filter, join_with_byte, onto_first, slice_split}
 use Rattle.std.proofs.lemmas.Fmt.{decimal_is_IsNumeral}
@@ -14,7 +15,7 @@ use Rattle.tw_words.specs.Words.{is_edge, is_parting}
 use Rattle.tw_words.proofs.Once.{no_edge}
 use Rattle.tw_words.proofs.Writing.{all_append, decimal_bare, decimal_clean}
 use Rattle.tw_words.specs.Words.{IsBare}
-use Rattle.tw_report.specs.Events.{EventsAreReadBack, IsByte, IsEvent, IsWord, Name, Number, OneEvent, Part, SpellParts, SpellsPart, actor_part, event_parts, has_bytes, part_text, words_in}
+use Rattle.tw_report.specs.Events.{EventsAreReadBack, IsByte, IsEvent, IsWord, Name, Number, OneEvent, Parameter, Part, SpellParts, SpellsPart, actor_part, event_parts, has_bytes, part_text, words_in}
 use Rattle.tw_report.proofs.EventReading.{event_read}
 
 -- ---- one event
@@ -51,10 +52,14 @@ joined_words (t ∷ u ∷ texts) are =
 
 -- ---- parts
 
+byte_word : (n : ℕ) → IsByte n → IsWord n
+byte_word n h = (omega arith, omega (arith, h.1))
+
 -- a word, or a number of 64 bits behind letters
 abbrev IsFine : Part → Type 0
 IsFine (Name name) = IsOne name
 IsFine (Number front number) = IsWhole front × IsWord number
+IsFine (Parameter parameter) = IsByte parameter
 
 no_gap : (text : List ℕ) → AllByRecursion (λ b. is_edge b ≡ false) text → IsWhole text
 no_gap [] clean = tt
@@ -75,6 +80,7 @@ part_one : (part : Part) → IsFine part → IsOne (part_text part)
 part_one (Name name) fine = fine
 part_one (Number front n) fine =
     (all_append (λ b. is_parting b ≡ false) front (decimal n) fine.0 (no_gap (decimal n) (decimal_clean n (small n fine.1))), some_behind front (decimal n) (bare_some (decimal n) (decimal_bare n (small n fine.1))))
+part_one (Parameter n) fine = let word = byte_word n fine in (no_gap (decimal n) (decimal_clean n (small n word)), bare_some (decimal n) (decimal_bare n (small n word)))
 
 parts_one : (parts : List Part) → AllByRecursion IsFine parts → AllByRecursion IsOne (map part_text parts)
 parts_one [] are = tt
@@ -83,15 +89,13 @@ parts_one (part ∷ parts) are = (part_one part are.0, parts_one parts are.1)
 part_spelled : (part : Part) → IsFine part → SpellsPart part (part_text part)
 part_spelled (Name name) fine = refl
 part_spelled (Number front n) fine = let d = decimal_is_IsNumeral n (small n fine.1) in (decimal n, record { digits = d.0; value = d.1 }, refl)
+part_spelled (Parameter n) fine = let d = decimal_is_IsNumeral n (small n (byte_word n fine)) in (n, record { digits = d.0; value = d.1 }, byte_word n fine, sym (min-eq_left fine.1))
 
 parts_spelled : (parts : List Part) → AllByRecursion IsFine parts → SpellParts parts (map part_text parts)
 parts_spelled [] are = tt
 parts_spelled (part ∷ parts) are = (part_spelled part are.0, parts_spelled parts are.1)
 
 -- ---- events
-
-byte_word : (n : ℕ) → IsByte n → IsWord n
-byte_word n h = (omega arith, omega (arith, h.1))
 
 actor_fine : (actor : Actor) → IsByte (number_in_kind actor) → IsFine (actor_part actor)
 actor_fine (Engine n) may = ((refl, tt), byte_word n may)
@@ -106,9 +110,9 @@ events_fine (Take a) may = (((refl, (refl, (refl, (refl, tt)))), refl), (actor_f
 events_fine (Local a n) may = (((refl, (refl, (refl, (refl, (refl, tt))))), refl), (actor_fine a may.0, ((tt, steps_word n may.1), tt)))
 events_fine (Call a) may = (((refl, (refl, (refl, (refl, tt)))), refl), (actor_fine a may, tt))
 events_fine (End a) may = (((refl, (refl, (refl, tt))), refl), (actor_fine a may, tt))
-events_fine (Ask e r j) may = (((refl, (refl, (refl, tt))), refl), (actor_fine (Engine e) may.0, ((tt, may.1), ((tt, byte_word j may.2), tt))))
+events_fine (Ask e r j) may = (((refl, (refl, (refl, tt))), refl), (actor_fine (Engine e) may.0, ((tt, may.1), (may.2, tt))))
 events_fine (Deliver s d r j) may =
-    (((refl, (refl, (refl, (refl, (refl, (refl, (refl, tt))))))), refl), (actor_fine (Server s) may.0, ((tt, may.1), ((tt, may.2), ((tt, byte_word j may.3), tt)))))
+    (((refl, (refl, (refl, (refl, (refl, (refl, (refl, tt))))))), refl), (actor_fine (Server s) may.0, ((tt, may.1), ((tt, may.2), (may.3, tt)))))
 events_fine (Release e r) may = (((refl, (refl, (refl, (refl, (refl, (refl, (refl, tt))))))), refl), (actor_fine (Engine e) may.0, ((tt, may.1), tt)))
 
 pub events_are_read_back : EventsAreReadBack

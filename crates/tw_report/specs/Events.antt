@@ -1,5 +1,5 @@
 -- The lines of events: which text is which event, and the line that is written of one.
-use Rattle.std.specs.Prelude.{◌≡◌, ℕ, Bool, true, false, List, [], ◌∷◌, ◌++◌, codes, decimal, map, filter}
+use Rattle.std.specs.Prelude.{◌≡◌, ℕ, Bool, true, false, List, [], ◌∷◌, ◌++◌, codes, decimal, map, filter, min}
 use Rattle.std.specs.Int.{IsInRange}
 use Rattle.std.specs.List.{join_with_byte, slice_split}
 use Rattle.tw_types.specs.declared.actor.Actor.{Actor}
@@ -27,6 +27,8 @@ pub data Part : Type 0 where
   Name : List ℕ → Part
   -- a number, behind the letter of an actor's kind or behind nothing
   Number : List ℕ → ℕ → Part
+  -- the number of a parameter; 255 stands for every greater one, since no rule has so many
+  Parameter : ℕ → Part
 
 abbrev pub actor_part : Actor → Part
 actor_part (Engine number) = Number (codes "e") number
@@ -38,8 +40,8 @@ event_parts (Take actor) = Name (codes "take") ∷ actor_part actor ∷ []
 event_parts (Local actor n) = Name (codes "local") ∷ actor_part actor ∷ Number [] n ∷ []
 event_parts (Call actor) = Name (codes "call") ∷ actor_part actor ∷ []
 event_parts (End actor) = Name (codes "end") ∷ actor_part actor ∷ []
-event_parts (Ask engine rule parameter) = Name (codes "ask") ∷ actor_part (Engine engine) ∷ Number [] rule ∷ Number [] parameter ∷ []
-event_parts (Deliver server datum rule parameter) = Name (codes "deliver") ∷ actor_part (Server server) ∷ Number [] datum ∷ Number [] rule ∷ Number [] parameter ∷ []
+event_parts (Ask engine rule parameter) = Name (codes "ask") ∷ actor_part (Engine engine) ∷ Number [] rule ∷ Parameter parameter ∷ []
+event_parts (Deliver server datum rule parameter) = Name (codes "deliver") ∷ actor_part (Server server) ∷ Number [] datum ∷ Number [] rule ∷ Parameter parameter ∷ []
 event_parts (Release engine rule) = Name (codes "release") ∷ actor_part (Engine engine) ∷ Number [] rule ∷ []
 
 -- ---- limits
@@ -50,8 +52,8 @@ IsByte n = IsInRange 0 255 n
 abbrev pub IsWord : ℕ → Type 0
 IsWord n = IsInRange 0 0xFFFFFFFFFFFFFFFF n
 
--- numbers of actors and parameters fit a byte, others 64 bits; at least one local instruction is done, and no more than a
--- task may do in all
+-- numbers of actors fit a byte, and those by which parameters are told; others 64 bits; at least one local instruction is
+-- done, and no more than a task may do in all
 abbrev pub IsEvent : Event → Type 0
 IsEvent (Take actor) = IsByte (number_in_kind actor)
 IsEvent (Local actor n) = IsByte (number_in_kind actor) × IsInRange 1 1000000000 n
@@ -66,6 +68,7 @@ IsEvent (Release engine rule) = IsByte engine × IsWord rule
 abbrev pub SpellsPart : Part → List ℕ → Type 0
 SpellsPart (Name name) word = word ≡ name
 SpellsPart (Number front number) word = (digits : List ℕ) × SpellsDigits number digits × (word ≡ front ++ digits)
+SpellsPart (Parameter parameter) word = (number : ℕ) × SpellsDigits number word × IsWord number × (parameter ≡ min number 255)
 
 -- a word each
 abbrev pub SpellParts : List Part → List (List ℕ) → Type 0
@@ -83,6 +86,7 @@ pub record SpellsEvent (event : Event) (line : List ℕ) : Type 0 where
 abbrev pub part_text : Part → List ℕ
 part_text (Name name) = name
 part_text (Number front number) = front ++ decimal number
+part_text (Parameter parameter) = decimal parameter
 
 -- the words, with one space between two
 abbrev pub event_text : Event → List ℕ

@@ -5,10 +5,8 @@ ghost use Rattle.tw_report.specs.Ends.{IsEndCircle, IsEndReport, has_ended};
 
 use crate::ending_text::closing_text;
 use crate::outputs::put_report;
-use crate::pending::rules_told;
 use crate::walk::circle_of;
 use std::alloc::{AllocError, Global};
-use tw_code::Program;
 use tw_pool::{Closing, Final};
 use tw_types::Link;
 
@@ -21,27 +19,23 @@ fn has_ended(closing: Option<Closing>) -> bool
     }
 }
 
-/// The circle of rules that wait for one another, where a run of this program is stuck.
-pub fn circle(
-    alloc: Global,
-    left: &Final,
-    program: &Program,
-) -> Result<Option<Vec<Link>>, AllocError>
-    ensures { IfOk result (λ found. IsEndCircle program.now.procedures left.now (option_map (λ v. v.items) found)) }
+/// The circle of rules that wait for one another, where a run is stuck.
+pub fn circle(alloc: Global, left: &Final) -> Result<Option<Vec<Link>>, AllocError>
+    ensures { IfOk result (λ found. IsEndCircle left.now (option_map (λ v. v.items) found)) }
 {
     if !has_ended(left.closing()) {
         return Ok(None);
     }
-    let rules = rules_told(alloc, program.procedures(), left.pending())?;
+    let rules = left.pending(alloc)?;
     circle_of(alloc, &rules)
 }
 
-/// The report of the end of a run of this program.
-pub fn report(alloc: Global, left: &Final, program: &Program) -> Result<Vec<u8>, AllocError>
-    ensures { IfOk result (λ text. IsEndReport program.now.procedures left.now text.items) }
+/// The report of the end of a run.
+pub fn report(alloc: Global, left: &Final) -> Result<Vec<u8>, AllocError>
+    ensures { IfOk result (λ text. IsEndReport left.now text.items) }
 {
     let mut text = Vec::new(alloc);
-    let closing = closing_text(alloc, left.closing(), circle(alloc, left, program)?)?;
+    let closing = closing_text(alloc, left.closing(), circle(alloc, left)?)?;
     put_report(alloc, &mut text, left, &closing)?;
     Ok(text)
 }

@@ -1,4 +1,4 @@
-//! The rules that are pending, in a state of the reference machine and at the end of a run on the pool.
+//! The rules that are pending in a state of the reference machine.
 
 ghost use Rattle.std.specs.Prelude.{◌≡◌, ◌++◌, ◌∷◌, [], map, IfOk, OnOk};
 ghost use Rattle.std.specs.List.Sorted.{IsStrictlySortedBy};
@@ -6,33 +6,29 @@ ghost use Rattle.std.specs.Map.{keys_of};
 ghost use Rattle.std.specs.Ordering.{nat_cmp};
 ghost use Rattle.tw_code.specs.machine.Arguments.{params_of};
 ghost use Rattle.tw_code.specs.machine.Pending.{pending_of, waited_for, written_by};
-ghost use Rattle.tw_report.specs.Arguments.{pending_from, pending_told};
+ghost use Rattle.tw_instr.specs.Arguments.{arg_of};
+ghost use Rattle.tw_report.specs.Arguments.{pending_from};
 
-use crate::argument::Argument;
+use crate::argument::right_of;
 use std::alloc::{AllocError, Global};
 use std::collections::BTreeMap;
 use tw_code::Procedure;
-use tw_machine::Rule;
-use tw_rules::PlainRule;
+use tw_machine::{Arg, Rule};
 use tw_types::{DatumId, Items, Param, Pending, RuleNo, Stage};
 
 /// Adds the datum of an argument whose parameter waits for it.
-fn put_waited<A: Argument>(ids: &mut Vec<DatumId>, stage: Stage, arg: &A) -> Result<(), AllocError>
-    ensures { OnOk result (ids.new.items ≡ ids.old.items ++ waited_for (stage ∷ []) (A.meaning arg.now ∷ [])) }
+fn put_waited(ids: &mut Vec<DatumId>, stage: Stage, arg: &Arg) -> Result<(), AllocError>
+    ensures { OnOk result (ids.new.items ≡ ids.old.items ++ waited_for (stage ∷ []) (arg_of arg.now ∷ [])) }
 {
-    match (stage, arg.right()) {
+    match (stage, right_of(arg)) {
         (Stage::Waiting, Some(id)) => Ok(ids.push(id)?),
         (Stage::Free | Stage::Unasked | Stage::Ready, _) | (_, None) => Ok(()),
     }
 }
 
 /// The data for which parameters wait.
-fn waited_for<A: Argument>(
-    alloc: Global,
-    stages: &[Stage],
-    args: &[A],
-) -> Result<Vec<DatumId>, AllocError>
-    ensures { IfOk result (λ ids. ids.items ≡ waited_for stages.now (map A.meaning args.now)) }
+fn waited_for(alloc: Global, stages: &[Stage], args: &[Arg]) -> Result<Vec<DatumId>, AllocError>
+    ensures { IfOk result (λ ids. ids.items ≡ waited_for stages.now (map arg_of args.now)) }
 {
     let mut ids = Vec::new(alloc);
     let mut rest = args;
@@ -47,10 +43,10 @@ fn waited_for<A: Argument>(
 }
 
 /// Adds the datum of a `write` argument.
-fn put_written<A: Argument>(ids: &mut Vec<DatumId>, param: Param, arg: &A) -> Result<(), AllocError>
-    ensures { OnOk result (ids.new.items ≡ ids.old.items ++ written_by (param ∷ []) (A.meaning arg.now ∷ [])) }
+fn put_written(ids: &mut Vec<DatumId>, param: Param, arg: &Arg) -> Result<(), AllocError>
+    ensures { OnOk result (ids.new.items ≡ ids.old.items ++ written_by (param ∷ []) (arg_of arg.now ∷ [])) }
 {
-    match arg.right() {
+    match right_of(arg) {
         Some(id) => {
             if param.mode.is_write() {
                 ids.push(id)?;
@@ -62,12 +58,8 @@ fn put_written<A: Argument>(ids: &mut Vec<DatumId>, param: Param, arg: &A) -> Re
 }
 
 /// The data of `write` arguments.
-fn written_by<A: Argument>(
-    alloc: Global,
-    params: &[Param],
-    args: &[A],
-) -> Result<Vec<DatumId>, AllocError>
-    ensures { IfOk result (λ ids. ids.items ≡ written_by params.now (map A.meaning args.now)) }
+fn written_by(alloc: Global, params: &[Param], args: &[Arg]) -> Result<Vec<DatumId>, AllocError>
+    ensures { IfOk result (λ ids. ids.items ≡ written_by params.now (map arg_of args.now)) }
 {
     let mut ids = Vec::new(alloc);
     let mut rest = args;
@@ -92,14 +84,14 @@ fn params_of(program: &[Procedure], procedure: u8) -> &[Param]
 }
 
 /// A rule with this number, with these stages and arguments for the parameters.
-fn pending_from<A: Argument>(
+fn pending_from(
     alloc: Global,
     number: RuleNo,
     params: &[Param],
     stages: &[Stage],
-    args: &[A],
+    args: &[Arg],
 ) -> Result<Pending, AllocError>
-    ensures { IfOk result (λ p. p ≡ pending_from number params.now stages.now (map A.meaning args.now)) }
+    ensures { IfOk result (λ p. p ≡ pending_from number params.now stages.now (map arg_of args.now)) }
 {
     let waits = waited_for(alloc, stages, args)?;
     let writes = written_by(alloc, params, args)?;
@@ -141,39 +133,6 @@ pub fn pending_rules(
     let mut pending = Vec::new(alloc);
     for (number, rule) in rules {
         pending.push(pending_of(alloc, program, *number, rule)?)?;
-    }
-    Ok(pending)
-}
-
-/// A rule as the pool tells it.
-fn pending_told(
-    alloc: Global,
-    program: &[Procedure],
-    rule: &PlainRule,
-) -> Result<Pending, AllocError>
-    ensures { IfOk result (λ p. p ≡ pending_told program.now rule.now) }
-{
-    let params = params_of(program, rule.action.procedure);
-    pending_from(
-        alloc,
-        rule.number,
-        params,
-        rule.stages.as_slice(),
-        rule.args.as_slice(),
-    )
-}
-
-/// The rules that the pool tells.
-pub fn rules_told(
-    alloc: Global,
-    program: &[Procedure],
-    rules: &[PlainRule],
-) -> Result<Vec<Pending>, AllocError>
-    ensures { IfOk result (λ pending. pending.items ≡ map (pending_told program.now) rules.now) }
-{
-    let mut pending = Vec::new(alloc);
-    for rule in rules {
-        pending.push(pending_told(alloc, program, rule)?)?;
     }
     Ok(pending)
 }

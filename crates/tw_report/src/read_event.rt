@@ -5,7 +5,7 @@ ghost use Rattle.std.specs.Option.{option_map};
 ghost use Rattle.tw_types.specs.declared.event.Event.{Event as AnEvent};
 ghost use Rattle.tw_types.specs.declared.event.Event.TheVariants.{Take, Call, End};
 ghost use Rattle.tw_report.specs.Events.{SpellsEvent, words_in};
-ghost use Rattle.tw_report.specs.reading.Event.{actor_in, alone, ask_in, behind, deliver_in, event_in, first, for_actor, local_in, named, number_in, release_in};
+ghost use Rattle.tw_report.specs.reading.Event.{actor_in, alone, ask_in, behind, deliver_in, event_in, first, for_actor, local_in, named, number_in, parameter_in, release_in};
 
 use crate::words::{first_word, is_blank};
 use tw_types::{Actor, DatumId, Event, RuleNo};
@@ -26,6 +26,15 @@ fn byte_in(word: &[u8]) -> Option<u8>
 {
     let number = number_in(word, 0, 255)?;
     Some(number as u8)
+}
+
+/// The number of a parameter, or 255 where it is greater.
+#[tactic(auto, unfolding(crate::specs::reading::Event::parameter_in))]
+fn parameter_in(word: &[u8]) -> Option<u8>
+    ensures { result ≡ parameter_in word.now }
+{
+    let number = number_in(word, 0, u64::MAX)?;
+    Some(number.min(255) as u8)
 }
 
 /// The number behind a letter.
@@ -63,11 +72,11 @@ fn first_number(line: &[u8], low: u64, high: u64) -> Option<(u64, &[u8])>
     Some((number, rest))
 }
 
-fn first_byte(line: &[u8]) -> Option<(u8, &[u8])>
-    ensures { option_map (λ f. (f.0, words_in f.1.now)) result ≡ first (number_in 0 255) (words_in line.now) }
+fn first_parameter(line: &[u8]) -> Option<(u8, &[u8])>
+    ensures { option_map (λ f. (f.0, words_in f.1.now)) result ≡ first parameter_in (words_in line.now) }
 {
     let (word, rest) = first_word(line);
-    let number = byte_in(word)?;
+    let number = parameter_in(word)?;
     Some((number, rest))
 }
 
@@ -128,7 +137,7 @@ fn ask_in(line: &[u8]) -> Option<Event>
 {
     let (engine, rest) = first_behind(b'e', line)?;
     let (rule, rest) = first_number(rest, 0, u64::MAX)?;
-    let (parameter, rest) = first_byte(rest)?;
+    let (parameter, rest) = first_parameter(rest)?;
     alone(Event::Ask(engine, RuleNo::new(rule), parameter), rest)
 }
 
@@ -138,7 +147,7 @@ fn deliver_in(line: &[u8]) -> Option<Event>
     let (server, rest) = first_behind(b's', line)?;
     let (datum, rest) = first_number(rest, 0, u64::MAX)?;
     let (rule, rest) = first_number(rest, 0, u64::MAX)?;
-    let (parameter, rest) = first_byte(rest)?;
+    let (parameter, rest) = first_parameter(rest)?;
     alone(
         Event::Deliver(server, DatumId::new(datum), RuleNo::new(rule), parameter),
         rest,
@@ -180,7 +189,7 @@ fn named(name: &[u8], rest: &[u8]) -> Option<Event>
 /// The event that a line tells, if it tells one.
 ///
 /// A line is the event's name, its actor and its numbers, parted by spaces, tabs and carriage returns. Numbers are decimal
-/// digits, in which zeros may stand first.
+/// digits, in which zeros may stand first. A parameter's number over 255 is told as 255: no rule has so many.
 pub fn event_of(line: &[u8]) -> Option<Event>
     ensures { MatchOption result ((event : AnEvent) → SpellsEvent event line.now → ⊥) (λ event. SpellsEvent event line.now) }
 {

@@ -1,5 +1,5 @@
 -- What words say, from left to right.
-use Rattle.std.specs.Prelude.{ℕ, Bool, true, false, ◌&&◌, ◌==◌, nat_lt, if◌then◌else◌, List, [], ◌∷◌, codes, Option, Some, None}
+use Rattle.std.specs.Prelude.{ℕ, Bool, true, false, ◌&&◌, ◌==◌, min, nat_lt, if◌then◌else◌, List, [], ◌∷◌, codes, Option, Some, None}
 use Rattle.std.specs.Char.{digit_value}
 use Rattle.std.specs.Option.{option_and_then, option_map, option_or}
 use Rattle.std.specs.Str.{bytes_eq}
@@ -49,6 +49,10 @@ alone event (word ∷ words) = None
 abbrev pub words_64 : List ℕ → Option ℕ
 words_64 = number_in 0 0xFFFFFFFFFFFFFFFF
 
+-- the number of a parameter, or 255 where it is greater
+unfoldable pub parameter_in : List ℕ → Option ℕ
+parameter_in word = option_map (λ number. min number 255) (words_64 word)
+
 abbrev pub for_actor : (Actor → Event) → List (List ℕ) → Option Event
 for_actor make words = option_and_then (λ a. alone (make a.0) a.1) (first actor_in words)
 
@@ -57,11 +61,11 @@ local_in words = option_and_then (λ a. option_and_then (λ n. alone (Local a.0 
 
 abbrev pub ask_in : List (List ℕ) → Option Event
 ask_in words =
-    option_and_then (λ e. option_and_then (λ r. option_and_then (λ j. alone (Ask e.0 r.0 j.0) j.1) (first (number_in 0 255) r.1)) (first words_64 e.1)) (first (behind 101) words)
+    option_and_then (λ e. option_and_then (λ r. option_and_then (λ j. alone (Ask e.0 r.0 j.0) j.1) (first parameter_in r.1)) (first words_64 e.1)) (first (behind 101) words)
 
 abbrev pub deliver_in : List (List ℕ) → Option Event
 deliver_in words =
-    option_and_then (λ s. option_and_then (λ d. option_and_then (λ r. option_and_then (λ j. alone (Deliver s.0 d.0 r.0 j.0) j.1) (first (number_in 0 255) r.1)) (first words_64 d.1)) (first words_64 s.1))
+    option_and_then (λ s. option_and_then (λ d. option_and_then (λ r. option_and_then (λ j. alone (Deliver s.0 d.0 r.0 j.0) j.1) (first parameter_in r.1)) (first words_64 d.1)) (first words_64 s.1))
     (first (behind 115) words)
 
 abbrev pub release_in : List (List ℕ) → Option Event

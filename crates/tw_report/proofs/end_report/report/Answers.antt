@@ -7,13 +7,13 @@ use Rattle.tw_report.specs.Report.{closing_lines, report}
 use Rattle.tw_report.proofs.end_report.report.Goals as goal
 
 pub returns : goal.returns
-returns c p history of shut =
-    let program = c.args.program.now.procedures in
+returns c p history shut =
+    let program = p.program.program in
     let final = c.args.left.now in
     let s = shut.state in
     let text = c.deref.result.now in
     let closing = c.deref.ensures.value ∙ c.in_ok-closing.ensures
-    ∙ ap (λ (found : Option (List Link)). closing_lines c.closing.result found) (c.in_ok-circle.ensures p history of shut)
+    ∙ ap (λ (found : Option (List Link)). closing_lines c.closing.result found) (c.in_ok-circle.ensures p history shut)
     ∙ ap (λ (over : Option Closing). closing_lines over (circle program s)) c.closing.ensures in
     c.in_ok-put_report.ensures
     ∙ ap (λ (t : List ℕ). t ++ report final.store.store.live final.outputs text) c.new-text.ensures.items

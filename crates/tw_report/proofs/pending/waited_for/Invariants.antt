@@ -1,6 +1,7 @@
 use Rattle.std.proofs.Common.{◌≡◌, ◌++◌, drop, map}
+use Rattle.tw_instr.specs.Arguments.{arg_of}
 use Rattle.tw_code.specs.machine.Pending.{waited_for}
 use Rattle.tw_report.proofs.pending.waited_for.Given as goal
 
 abbrev pub invariant-loop-stage : goal.invariant-loop-stage
-invariant-loop-stage g l = l.ids.items ++ waited_for (drop l.stage-index l.stages) (map g.A.Argument.meaning l.rest) ≡ waited_for l.stages (map g.A.Argument.meaning l.args)
+invariant-loop-stage l = l.ids.items ++ waited_for (drop l.stage-index l.stages) (map arg_of l.rest) ≡ waited_for l.stages (map arg_of l.args)
