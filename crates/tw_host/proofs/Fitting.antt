@@ -31,16 +31,16 @@ module _ (p : PoolView) (answer : Turn) (events : List Event) where
 
   made : (actor : Actor) (given : Option DoneView) (es : List Event) (e : Event) → length p.history + length es < p.limit → Makes p actor given es e answer events → Fits p events
   made actor given es (Take a) room (inl l) = more es (Take a) room l.4.1
-  made actor given es (Take a) room (inr l) = none (within_of es room) l.1
+  made actor given es (Take a) room (inr l) = none (within_of es room) l.1.1
   made actor given es (Local _ _) room l = elim l [ ]
   made actor given es (Call a) room (inl l) = more es (Call a) room l.4.1
-  made actor given es (Call a) room (inr l) = none (within_of es room) l.1
+  made actor given es (Call a) room (inr l) = none (within_of es room) l.1.1
   made actor given es (End a) room l = more es (End a) room l.1
   made actor given es (Ask engine rule parameter) room (inl l) = more es (Ask engine rule parameter) room l.1
-  made actor given es (Ask engine rule parameter) room (inr l) = none (within_of es room) l.1
+  made actor given es (Ask engine rule parameter) room (inr l) = none (within_of es room) l.1.1
   made actor given es (Deliver server datum rule parameter) room l = more es (Deliver server datum rule parameter) room l.1
   made actor given es (Release engine rule) room (inl l) = more es (Release engine rule) room l.1
-  made actor given es (Release engine rule) room (inr l) = none (within_of es room) l.1
+  made actor given es (Release engine rule) room (inr l) = none (within_of es room) l.1.1
 
   -- ---- a Done
 

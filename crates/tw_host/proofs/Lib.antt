@@ -2,3 +2,4 @@ mod Lists
 mod Fitting
 pub mod Owning
 mod Turning
+mod Ordering

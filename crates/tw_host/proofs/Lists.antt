@@ -3,16 +3,13 @@ use Rattle.std.proofs.Common.{◌≡◌, ◌<◌, ◌+◌, ◌++◌, ℕ, Bool, 
 use Rattle.std.specs.Prelude.{◌↔◌, slice_get, slice_index_or}
 use Rattle.std.specs.List.{range_with_len}
 use Rattle.std.proofs.lemmas.List.{length-map, map-append, get_or-map}
-use Rattle.std.proofs.lemmas.List.FromFn.{fill_by_all, map-range_with_len_more}
+use Rattle.std.proofs.lemmas.List.FromFn.{map-range_with_len_more}
 use Rattle.std.proofs.lemmas.List.{drop_more}
 use Rattle.std.proofs.lemmas.Option.{get_or_from_slice_get, same_Some}
 use Rattle.tw_types.specs.declared.actor.Actor.{Actor}
 use Rattle.tw_types.specs.declared.event.Event.{Event}
 use Rattle.tw_pool.specs.Actors.{events_of, same_actor}
 use Rattle.tw_code.specs.machine.History.{actor_of}
-use Rattle.tw_host.specs.Ends.{by_actor}
-use Rattle.tw_host.specs.Run.{Run}
-use Rattle.tw_host.specs.Seats.{actor_at, seat_count}
 
 pub map_map : {X Y Z : Type 0} (f : X → Y) (g : Y → Z) (xs : List X) → map g (map f xs) ≡ map (λ x. g (f x)) xs
 map_map f g [] = refl
@@ -29,14 +26,6 @@ at_same vs told k v low same at =
     let f = λ (w : Vec Event Global). w.items in
     let short : k < length vs = omega (arith, ap length same, length-map vs f) in
     ap f at ∙ sym (get_or-map f vs k v [] short) ∙ ap (λ (xs : List (List Event)). get_or xs k []) same
-
--- what is so of each seat is so of all
-pub all_by_actor : (run : Run) (told : List (List Event)) (history : List Event) → length told ≡ seat_count run.layout
-    → ((k : ℕ) → k < length told → slice_index_or told k [] ≡ events_of (actor_at run.layout k) history) → told ≡ by_actor run history
-all_by_actor run told history long each =
-    let f = λ (k : ℕ). events_of (actor_at run.layout k) history in
-    let one_by_one : (k : ℕ) → k < seat_count run.layout → get_or told k [] ≡ f k = λ k low. each k (omega (arith, low, long)) in
-    fill_by_all f told (seat_count run.layout) [] long one_by_one ∙ sym (map_map (actor_at run.layout) (λ actor. events_of actor history) (range_with_len 0 (seat_count run.layout)))
 
 -- ---- the rest of a list from a place on
 

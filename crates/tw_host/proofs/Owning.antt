@@ -39,16 +39,16 @@ module _ (p : PoolView) (answer : Turn) (events : List Event) where
 
   made : (actor : Actor) (given : Option DoneView) (es : List Event) (e : Event) → IsDoneOf p.program given → Makes p actor given es e answer events → Owns
   made actor given es (Take a) d (inl l) = lends actor (es ++ Take a ∷ []) l
-  made actor given es (Take a) d (inr l) = other (turn.NoMemory given) l.0 d
+  made actor given es (Take a) d (inr l) = other (turn.NoMemory given) l.1.0 d
   made actor given es (Local _ _) d l = elim l [ ]
   made actor given es (Call a) d (inl l) = lends actor (es ++ Call a ∷ []) l
-  made actor given es (Call a) d (inr l) = other (turn.NoMemory given) l.0 d
+  made actor given es (Call a) d (inr l) = other (turn.NoMemory given) l.1.0 d
   made actor given es (End a) d l = other turn.Ended l.0 tt
   made actor given es (Ask engine rule parameter) d (inl l) = other turn.Went l.0 tt
-  made actor given es (Ask engine rule parameter) d (inr l) = other (turn.NoMemory given) l.0 d
+  made actor given es (Ask engine rule parameter) d (inr l) = other (turn.NoMemory given) l.1.0 d
   made actor given es (Deliver server datum rule parameter) d l = other turn.Went l.0 tt
   made actor given es (Release engine rule) d (inl l) = other turn.Went l.0 tt
-  made actor given es (Release engine rule) d (inr l) = other (turn.NoMemory given) l.0 d
+  made actor given es (Release engine rule) d (inr l) = other (turn.NoMemory given) l.1.0 d
 
   taken_back : (actor : Actor) (short last : Bool) (done : DoneView) → done.before.program ≡ p.program → TakesBack short last p actor done answer events → Owns
   taken_back actor true last done d l = lends actor (steps_of actor done) l

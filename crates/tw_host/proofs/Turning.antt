@@ -42,10 +42,10 @@ module _ (old new : PoolView) (actor : Actor) (given : Option DoneView) (answer 
   pub answers : IsDoneOf old.program given → IsAnswerOf old.program answer
   answers = is_answer_of old new actor given answer turn
 
-  pub told : (run : Run) (before after : List Event) → run_of old ≡ run → length (events_of actor old.history) ≡ length before → after ≡ before ++ drop (length old.history) new.history → IsTold run actor before after given answer
-  told run before after is same after_is = record {
+  pub told : (run : Run) (before after : List Event) → run_of old ≡ run → length old.history ≤ run.limit → length (events_of actor old.history) ≡ length before → after ≡ before ++ drop (length old.history) new.history → IsTold run actor before after given answer
+  told run before after is low same after_is = record {
     es = turn.events;
     told = after_is ∙ ap (λ es. before ++ es) news_are;
     own = own;
-    turns = inl (record { pool = old; of_run = is; same_count = same; turns = record { state = turn.state; has_state = turn.has_state; events = turn.events; is = turn.is; appended = refl } });
+    turns = inl (record { pool = old; of_run = is; within = low; same_count = same; turns = record { state = turn.state; has_state = turn.has_state; events = turn.events; is = turn.is; appended = refl } });
   }

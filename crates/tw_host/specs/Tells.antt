@@ -1,5 +1,5 @@
 -- What a turn of a host answers and tells a seat.
-use Rattle.std.specs.Prelude.{◌≡◌, ◌≢◌, ◌⊎◌, ℕ, List, [], ◌++◌, length, Option, Result, Ok, Err, IfSome}
+use Rattle.std.specs.Prelude.{◌≡◌, ◌≢◌, ◌≤◌, ◌⊎◌, ℕ, List, [], ◌++◌, length, Option, Result, Ok, Err, IfSome}
 use Rattle.tw_types.specs.declared.actor.Actor.{Actor}
 use Rattle.tw_types.specs.declared.event.Event.{Event}
 use Rattle.tw_verify.specs.Typed.{TypedProgram}
@@ -12,10 +12,11 @@ use Rattle.tw_pool.specs.Turns.{AreOwn, IsTurn}
 use Rattle.tw_host.specs.declared.locked.Strange.{Strange}
 use Rattle.tw_host.specs.Run.{Run, run_of}
 
--- some pool of the run, in which the actor has so many events, turns and appends just these
+-- some pool of the run, within its limit, in which the actor has so many events, turns and appends just these
 pub record SomeTurn (run : Run) (actor : Actor) (count : ℕ) (given : Option DoneView) (answer : Turn) (es : List Event) : Type 0 where
   pub pool : PoolView
   pub of_run : run_of pool ≡ run
+  pub within : length pool.history ≤ run.limit
   pub same_count : length (events_of actor pool.history) ≡ count
   pub turns : IsTurn pool actor given answer (with_events pool es)
 

@@ -1,10 +1,14 @@
 //! The end of a run.
 
 ghost use Rattle.std.specs.Prelude.{◌≡◌, ◌≢◌, ◌↔◌, ◌+◌, ◌<◌, ◌≤◌, ◌∷◌, [], List, ℕ, IsTrue, MatchOption, length, map, slice_index_or, sum_by, vec_len, vec_capacity};
+ghost use Rattle.std.specs.List.{All};
+ghost use Rattle.std.specs.List.Sorted.{IsPermutation};
+ghost use Rattle.tw_types.specs.declared.actor.Actor.{Actor as AnActor};
 ghost use Rattle.tw_types.specs.declared.event.Event.{Event as AnEvent};
+ghost use Rattle.tw_types.specs.Layout.{IsLayout};
 ghost use Rattle.tw_pool.specs.Actors.{HasPlace, events_of};
 ghost use Rattle.tw_host.specs.Ends.{Closes};
-ghost use Rattle.tw_host.specs.Seats.{actor_at, seat_count};
+ghost use Rattle.tw_host.specs.Seats.{NoneOf, Told, actors_of, seat_count, told_by};
 
 use crate::host::Host;
 use crate::layout::{actor_at, seat_count};
@@ -24,7 +28,7 @@ pub enum Closed {
         outcome: Final,
         by_seat: Vec<Vec<Event>>,
     },
-    /// A seat was told something else than its actor's events.
+    /// The seat of an actor was told something else than its actor's events, or no seat is the actor's.
     Differs {
         actor: Actor,
         told: Vec<Event>,
@@ -58,17 +62,54 @@ fn is_events_of(told: &[Event], history: &History, actor: Actor) -> bool
     rest.is_empty()
 }
 
-/// The first seat whose list isn't its actor's events.
-fn first_differing<N: Named>(seats: &[Seat<N>], layout: Layout, history: &History) -> Option<usize>
-    requires { length seats.now ≡ seat_count layout }
-    ensures { let lists = map (λ s. s.told.items) seats.now in MatchOption result
-        ((k : ℕ) → k < length lists → slice_index_or lists k [] ≡ events_of (actor_at layout k) history.now.events)
-        (λ k. (k < length lists) × (slice_index_or lists k [] ≢ events_of (actor_at layout k) history.now.events)) }
+/// Whether a seat is an actor's.
+fn is_seat_of<N: Named>(seat: &Seat<N>, actor: Actor) -> bool
+    ensures { IsTrue result ↔ (seat.now.actor ≡ actor) }
+{
+    seat.actor == actor
+}
+
+/// The first place from here on where the seat of an actor stands.
+fn place_of<N: Named>(seats: &[Seat<N>], from: usize, actor: Actor) -> Option<usize>
+    ensures { let actors = map (λ s. s.actor) seats.now in MatchOption result
+        ((k : ℕ) (d : AnActor) → from ≤ k → k < length actors → slice_index_or actors k d ≢ actor)
+        (λ k. (from ≤ k) × (k < length actors) × ((d : AnActor) → slice_index_or actors k d ≡ actor)) }
+{
+    for k in from..seats.len() {
+        if is_seat_of(&seats[k], actor) {
+            return Some(k);
+        }
+    }
+    None
+}
+
+/// Puts the seats in the order of their actors; or the first actor that has none.
+fn put_in_order<N: Named>(seats: &mut [Seat<N>], layout: Layout) -> Option<Actor>
+    requires { length seats.old ≡ seat_count layout }
+    ensures moved { IsPermutation seats.old seats.new }
+    ensures placed { let actors = map (λ s. s.actor) seats.new in MatchOption result (actors ≡ actors_of layout) (λ actor. NoneOf actor actors) }
 {
     for k in 0..seat_count(layout) {
+        let actor = actor_at(layout, k);
+        let Some(place) = place_of(seats, k, actor) else {
+            return Some(actor);
+        };
+        seats.swap(k, place);
+    }
+    None
+}
+
+/// The first seat whose list isn't its actor's events.
+fn first_differing<N: Named>(seats: &[Seat<N>], history: &History) -> Option<(usize, Actor)>
+    requires { IsLayout N.run.layout }
+    ensures { let told = map (λ s. told_by s.actor s.told.items) seats.now in MatchOption result
+        (All (λ s. s.events ≡ events_of s.actor history.now.events) told)
+        (λ r. (r.0 < length told) × ((d : Told) → (slice_index_or told r.0 d).actor ≡ r.1) × ((d : Told) → (slice_index_or told r.0 d).events ≢ events_of r.1 history.now.events)) }
+{
+    for k in 0..seats.len() {
         let seat = &seats[k];
-        if !is_events_of(seat.told.as_slice(), history, actor_at(layout, k)) {
-            return Some(k);
+        if !is_events_of(seat.told.as_slice(), history, seat.actor) {
+            return Some((k, seat.actor));
         }
     }
     None
@@ -84,7 +125,7 @@ fn settle<N: Named>(
     requires room { vec_len seats ≤ vec_capacity by_seat }
     ensures lists { map (λ v. v.items) result.items ≡ map (λ s. s.told.items) seats.items }
     ensures parts { all.new.parts ≡ all.old.parts + vec_len seats }
-    ensures amount { all.new.amount ≡ all.old.amount + sum_by (λ es. length es) (map (λ s. s.told.items) seats.items) }
+    ensures amount { all.new.amount ≡ all.old.amount + sum_by (λ s. length s.events) (map (λ s. told_by s.actor s.told.items) seats.items) }
 {
     let mut rest = seats.into_iter();
     while let Some(seat) = rest.next() {
@@ -101,31 +142,40 @@ fn settle<N: Named>(
 }
 
 impl<'a, N: Named> Locked<'a, N> {
-    fn close(self, seats: Vec<Seat<N>>, by_seat: Vec<Vec<Event>>) -> Closed
+    fn close(self, mut seats: Vec<Seat<N>>, by_seat: Vec<Vec<Event>>) -> Closed
         requires all { vec_len seats ≡ seat_count N.run.layout }
         requires empty { by_seat.items ≡ [] }
         requires room { vec_len seats ≤ vec_capacity by_seat }
-        ensures { Closes N.run (map (λ s. s.told.items) seats.items) result }
+        ensures { Closes N.run (map (λ s. told_by s.actor s.told.items) seats.items) result }
     {
         let Locked {
             pool,
             mut book,
             mut spare,
         } = self;
-        let layout = pool.layout();
-        let differing = first_differing(seats.as_slice(), layout, pool.history());
+        let absent = put_in_order(seats.as_mut_slice(), pool.layout());
+        let differing = first_differing(seats.as_slice(), pool.history());
+        let nothing = Vec::new(*by_seat.allocator());
         let mut by_seat = settle(seats, by_seat, &mut spare);
         book.audit(&mut spare);
         let (outcome, history) = pool.shut();
-        match differing {
+        if let Some((seat, actor)) = differing {
+            let told = by_seat.swap_remove(seat);
+            return Closed::Differs {
+                actor,
+                told,
+                history,
+            };
+        }
+        match absent {
             None => Closed::Ended {
                 history,
                 outcome,
                 by_seat,
             },
-            Some(seat) => Closed::Differs {
-                actor: actor_at(layout, seat),
-                told: by_seat.swap_remove(seat),
+            Some(actor) => Closed::Differs {
+                actor,
+                told: nothing,
                 history,
             },
         }
@@ -133,10 +183,10 @@ impl<'a, N: Named> Locked<'a, N> {
 }
 
 impl<'a, N: Named> Host<'a, N> {
-    /// Ends the run, with all its seats: compares what they were told with the history.
+    /// Ends the run, with all its seats in whatever order: compares what each was told with its actor's events of the history.
     pub fn close(self, seats: Vec<Seat<N>>) -> Closed
         requires all { vec_len seats ≡ seat_count N.run.layout }
-        ensures { Closes N.run (map (λ s. s.told.items) seats.items) result }
+        ensures { Closes N.run (map (λ s. told_by s.actor s.told.items) seats.items) result }
     {
         let Host {
             verified: _,

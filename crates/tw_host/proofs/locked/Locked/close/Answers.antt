@@ -1,10 +1,12 @@
-use Rattle.std.proofs.Common.{◌≡◌, sym, ap, ◌∙◌, arith, subst, length, map}
+use Rattle.std.proofs.Common.{◌<◌, sym, ap, ◌∙◌, arith, subst, inl, inr, length, map}
 use Rattle.std.proofs.lemmas.List.{length-map}
-use Rattle.tw_pool.specs.Actors.{events_of}
-use Rattle.tw_host.specs.Seats.{actor_at, seat_count}
+use Rattle.std.proofs.lemmas.List.Sorted.{length_permutation}
 use Rattle.tw_no_trap.specs.EndsWell.{EndsWell}
 use Rattle.tw_host.specs.Run.{Run}
-use Rattle.tw_host.proofs.Lists.{all_by_actor, at_same}
+use Rattle.tw_host.specs.Seats.{actors_of, told_by}
+use Rattle.tw_pool.specs.Actors.{events_of}
+use Rattle.tw_host.proofs.Lists.{at_same}
+use Rattle.tw_host.proofs.Ordering.{all_at, by_seat, held, lacking, lent_back, list_at, moved_from, one_each, sums}
 use Rattle.tw_host.proofs.locked.Locked.close.Goals as goal
 
 pub returns-in-None : goal.returns-in-None
@@ -13,36 +15,70 @@ returns-in-None g c =
     let shut = c.shut-outcome.ensures.left in
     let inv = c.self.invariant in
     let p = c.self.inside.pool in
-    let told = map (λ s. s.told.items) c.args.seats.items in
-    let all = rw (c.as_slice.ensures.value, c.history.ensures.events, c.layout-layout.ensures) at c.in-None.ensures in
+    let items = c.args.seats.items in
+    let seats = c.put_in_order-absent.new.seats in
+    let moved = moved_from c.as_mut_slice.result.now items seats c.as_mut_slice.ensures.value c.put_in_order-absent.ensures.moved in
+    let back = lent_back c.args.seats.len seats items c.args.seats.ok.0 (length_permutation items seats moved) in
+    let history = c.shut-outcome.result.1.events in
+    let all = all_at (λ s. told_by s.actor s.told.items) c.as_slice.result.now seats c.history.result.now.events history (c.as_slice.ensures.value ∙ back) (c.history.ensures.events ∙ sym shut.events) c.in_default.ensures in
+    let placed = c.in-None.ensures.placed ∙ ap actors_of (c.layout.ensures ∙ ap (λ r. r.layout) inv.of_run) in
     let whole = c.audit.ensures.whole (omega (arith, c.settle-by_seat.ensures.parts, inv.no_part, c.requires.all, inv.seats)) in
-    let long : length told ≡ seat_count run.layout = omega (arith, length-map c.args.seats.items (λ s. s.told.items), c.requires.all, c.as_slice.ensures.len, ap length c.as_slice.ensures.value) in
+    let same_sum = sums (λ s. told_by s.actor s.told.items) items seats moved _ back in
     record {
       pool = p;
       of_run = inv.of_run;
       within = inv.within;
       shut = shut;
       ends_well = subst (λ (r : Run). EndsWell r.program.program shut.state) inv.of_run (c.shut-outcome.ensures.ends_well shut.state shut.has_state);
-      by_seat_is = c.settle-by_seat.ensures.lists;
-      each = all_by_actor run told c.shut-outcome.result.1.events long (λ k low. all k low ∙ (ap (λ r. events_of (actor_at r.layout k) p.history) inv.of_run ∙ ap (events_of (actor_at run.layout k)) (sym shut.events)));
-      together = omega (arith, c.settle-by_seat.ensures.amount, whole, inv.counted, inv.no_amount, ap length shut.events);
+      one_each = one_each (λ s. s.actor) (λ s. s.told.items) run.layout history items seats moved placed all;
+      by_seat_is = c.settle-by_seat.ensures.lists ∙ ap (map (λ s. s.told.items)) back ∙ by_seat (λ s. s.actor) (λ s. s.told.items) run.layout history items seats moved placed all;
+      together = omega (arith, c.settle-by_seat.ensures.amount, whole, inv.counted, inv.no_amount, ap length shut.events, same_sum);
     }
 
 pub returns : goal.returns
 returns g c =
-    let run = g.N.Named.run in
     let shut = c.shut-outcome.ensures.left in
     let inv = c.self.invariant in
-    let p = c.self.inside.pool in
-    let one = rw (c.as_slice.ensures.value, c.history.ensures.events, c.layout-layout.ensures) at c.in-Some.ensures in
+    let items = c.args.seats.items in
+    let seats = c.put_in_order-absent.new.seats in
+    let moved = moved_from c.as_mut_slice.result.now items seats c.as_mut_slice.ensures.value c.put_in_order-absent.ensures.moved in
+    let back = lent_back c.args.seats.len seats items c.args.seats.ok.0 (length_permutation items seats moved) in
     let whole = c.audit.ensures.whole (omega (arith, c.settle-by_seat.ensures.parts, inv.no_part, c.requires.all, inv.seats)) in
-    let list = at_same c.settle-by_seat.result.items _ c.in-Some.seat c.swap_remove.result one.0 c.settle-by_seat.ensures.lists c.swap_remove.ensures.value in
-    let whose = c.actor_at.ensures.is ∙ ap (λ l. actor_at l c.in-Some.seat) c.layout-layout.ensures in
+    let same_sum = sums (λ s. told_by s.actor s.told.items) items seats moved _ back in
     record {
-      seat = c.in-Some.seat;
-      there = one.0;
-      of_actor = whose ∙ ap (λ r. actor_at r.layout c.in-Some.seat) inv.of_run;
-      list_is = list;
-      differs = λ e. one.1 (sym list ∙ (e ∙ (ap (λ a. events_of a c.shut-outcome.result.1.events) whose ∙ ap (events_of (actor_at p.layout c.in-Some.seat)) shut.events)));
-      together = omega (arith, c.settle-by_seat.ensures.amount, whole, inv.counted, inv.no_amount, ap length shut.events);
+      other = inr (lacking (λ s. s.actor) (λ s. s.told.items) items seats moved c.in-Some-absent.actor c.in-Some-absent.ensures.placed, c.new-nothing.ensures.items);
+      together = omega (arith, c.settle-by_seat.ensures.amount, whole, inv.counted, inv.no_amount, ap length shut.events, same_sum);
+    }
+
+pub swap_remove-told-requires : goal.swap_remove-told-requires
+swap_remove-told-requires g c =
+    let now = c.as_slice.result.now in
+    let low = c.in-Some.ensures.0 in
+    let as_long = ap length (c.settle-by_seat.ensures.lists ∙ ap (map (λ s. s.told.items)) (sym c.as_slice.ensures.value)) in
+    omega (arith, low, as_long, c.settle-by_seat.result.ok.0, length-map c.settle-by_seat.result.items (λ v. v.items), length-map now (λ s. s.told.items), length-map now (λ s. told_by s.actor s.told.items))
+
+pub returns-in-Some : goal.returns-in-Some
+returns-in-Some g c =
+    let shut = c.shut-outcome.ensures.left in
+    let inv = c.self.invariant in
+    let items = c.args.seats.items in
+    let seats = c.put_in_order-absent.new.seats in
+    let moved = moved_from c.as_mut_slice.result.now items seats c.as_mut_slice.ensures.value c.put_in_order-absent.ensures.moved in
+    let back = lent_back c.args.seats.len seats items c.args.seats.ok.0 (length_permutation items seats moved) in
+    let whole = c.audit.ensures.whole (omega (arith, c.settle-by_seat.ensures.parts, inv.no_part, c.requires.all, inv.seats)) in
+    let same_sum = sums (λ s. told_by s.actor s.told.items) items seats moved _ back in
+    let now = c.as_slice.result.now in
+    let k = c.in-Some.seat in
+    let low = c.in-Some.ensures.0 in
+    let told = c.swap_remove-told.result.items in
+    let lists = c.settle-by_seat.ensures.lists ∙ ap (map (λ s. s.told.items)) (sym c.as_slice.ensures.value) in
+    let under : k < length (map (λ s. s.told.items) now) = omega (arith, low, length-map now (λ s. s.told.items), length-map now (λ s. told_by s.actor s.told.items)) in
+    let is = at_same c.settle-by_seat.result.items (map (λ s. s.told.items) now) k c.swap_remove-told.result under lists c.swap_remove-told.ensures.value in
+    let at = list_at (λ s. s.actor) (λ s. s.told.items) items seats moved now (c.as_slice.ensures.value ∙ back) k c.in-Some.actor told low is in
+    record {
+      other = inl (
+        held (λ s. s.actor) (λ s. s.told.items) items seats moved now (c.as_slice.ensures.value ∙ back) k c.in-Some.actor told low is c.in-Some.ensures.1,
+        (λ e. c.in-Some.ensures.2 (told_by c.in-Some.actor told) (at (told_by c.in-Some.actor told) ∙ (e ∙ ap (events_of c.in-Some.actor) (shut.events ∙ sym c.history.ensures.events)))),
+      );
+      together = omega (arith, c.settle-by_seat.ensures.amount, whole, inv.counted, inv.no_amount, ap length shut.events, same_sum);
     }

@@ -34,7 +34,7 @@ returns-clause-told g c =
     let before = c.len-before.ensures ∙ ap length c.history.ensures.events in
     let is = c.tell.ensures.told ∙ ap (λ n. seat.told.items ++ drop n c.history-2.result.now.events) before ∙ ap (λ es. seat.told.items ++ drop (length c.self.inside.pool.history) es) c.history-2.ensures.events in
     let same : length (events_of seat.actor c.self.inside.pool.history) ≡ length seat.told.items = omega (arith, c.if-count-len.false, c.count-count.ensures, c.len.ensures) in
-    turning.told c.self.inside.pool c.turn-answer.new.self seat.actor c.args.done c.turn-answer.result c.turn-answer.ensures g.N.Named.run seat.told.items c.tell.new.seat.told.items c.self.invariant.of_run same is
+    turning.told c.self.inside.pool c.turn-answer.new.self seat.actor c.args.done c.turn-answer.result c.turn-answer.ensures g.N.Named.run seat.told.items c.tell.new.seat.told.items c.self.invariant.of_run c.self.invariant.within same is
 
 pub returns-clause-program : goal.returns-clause-program
 returns-clause-program g c =

@@ -1,0 +1,12 @@
+use Rattle.std.proofs.Common.{◌≡◌, ◌<◌, ℕ, map}
+use Rattle.std.specs.Prelude.{slice_index_or}
+use Rattle.std.specs.List.Sorted.{IsPermutation}
+use Rattle.tw_types.specs.declared.actor.Actor.{Actor}
+use Rattle.tw_host.specs.Seats.{actor_at}
+use Rattle.tw_host.proofs.close.put_in_order.Given as goal
+
+abbrev pub invariant-loop-k : goal.invariant-loop-k
+invariant-loop-k g l = record {
+  moved : IsPermutation l.fn.seats l.seats;
+  placed : (j : ℕ) (d : Actor) → j < l.k → slice_index_or (map (λ s. s.actor) l.seats) j d ≡ actor_at l.layout j;
+}
