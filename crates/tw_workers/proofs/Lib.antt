@@ -1,2 +1,3 @@
 mod Crossing
 mod Lists
+pub mod Driving

@@ -1,0 +1,4 @@
+-- What a driver does, step by step.
+pub mod Driving
+-- What these steps are at a host.
+pub mod AtHost

@@ -1,15 +1,21 @@
 //! Drivers.
 
-ghost use Rattle.std.specs.Prelude.{◌≡◌, IfOk};
-ghost use Rattle.tw_host.specs.Tells.{IsDoneOf};
+ghost use Rattle.std.specs.Prelude.{◌≡◌, IfOk, List, None, Some};
+ghost use Rattle.std.specs.List.{FoldsTo};
+ghost use Rattle.tw_pool.specs.declared.answer.Turn.TheVariants as turn;
+ghost use Rattle.tw_host.specs.Seats.{told_by};
+ghost use Rattle.tw_host.specs.Tells.{IsAnswerOf, IsDoneOf};
+ghost use Rattle.tw_workers.specs.AtHost.{AtSeat};
+ghost use Rattle.tw_workers.specs.Driving.{Drives, Follows, GivesUp, Step, working};
 
+use crate::desk::{Desk, Guarded};
 use crate::gate::Gate;
 use crate::rest::Rest;
 use std::alloc::Global;
 use std::sync::Wait;
 use std::time::Clock;
 use tw_frame::{Done, Job};
-use tw_host::{Host, Named, Seat};
+use tw_host::{Host, Named, Seat, Strange};
 use tw_pool::Turn;
 
 /// A seat that was driven, and whether memory ran out.
@@ -19,74 +25,81 @@ pub struct Driven<N: Named> {
 }
 
 /// Runs a job between the two calls of the gate.
-fn run_job<'a, G: Gate, R: Wait>(rt: &R, alloc: Global, job: Job<'a>, gate: &G) -> Done<'a>
-    ensures { result.before ≡ job.entry }
+fn run_job<'a, D: Desk<'a>, R: Wait>(
+    rt: &R,
+    alloc: Global,
+    desk: &D,
+    seat: &mut D::Seat,
+    job: Job<'a>,
+) -> Done<'a>
+    ensures before { result.before ≡ job.entry }
+    ensures steps { FoldsTo D.does seat.old (working job.entry result) seat.new }
 {
     let lent = job.lent();
     let (actor, task) = (lent.actor(), lent.task().number());
-    gate.before_job(rt, actor, task);
-    let done = job.run(alloc);
-    gate.after_job(rt, actor, task);
+    desk.before_job(rt, seat, actor, task);
+    let done = desk.run(alloc, seat, job);
+    desk.after_job(rt, seat, actor, task);
     done
 }
 
 /// Memory ran out: hands a Done in once more, and stops the run.
-fn give_up<'a, N: Named, R: Wait>(
+fn give_up<'a, D: Desk<'a>, R: Wait>(
     rt: &R,
     alloc: Global,
-    host: &Host<'a, N>,
-    seat: &mut Seat<N>,
+    desk: &D,
+    seat: &mut D::Seat,
     done: Option<Done<'a>>,
 )
-    requires { IsDoneOf N.run.program done }
-    ensures { seat.new.actor ≡ seat.old.actor }
+    requires { IsDoneOf D.program done }
+    ensures { (steps : List Step) × FoldsTo D.does seat.old steps seat.new × GivesUp done.entry steps }
 {
-    if done.is_some() {
-        let _ = host.turn(rt, alloc, seat, done);
-    }
-    host.stop(rt);
+    let Some(done) = done else {
+        desk.stop(rt, seat);
+        return;
+    };
+    let _ = desk.turn(rt, alloc, seat, Some(done));
+    desk.stop(rt, seat);
 }
 
 /// Runs a job, whose Done is handed in by the next turn. A short one ends the driver.
-fn work<'a, N: Named, G: Gate, R: Wait>(
+fn work<'a, D: Desk<'a>, R: Wait>(
     rt: &R,
     alloc: Global,
-    host: &Host<'a, N>,
-    seat: &mut Seat<N>,
-    gate: &G,
+    desk: &D,
+    seat: &mut D::Seat,
     job: Job<'a>,
 ) -> Result<Option<Done<'a>>, bool>
-    requires { job.program ≡ N.run.program }
-    ensures actor { seat.new.actor ≡ seat.old.actor }
-    ensures program { IfOk result (IsDoneOf N.run.program) }
+    requires { job.program ≡ D.program }
+    ensures program { IfOk result (IsDoneOf D.program) }
+    ensures steps { (steps : List Step) × FoldsTo D.does seat.old steps seat.new × Follows (Ok (turn.Run job.entry)) steps result }
 {
-    let done = run_job(rt, alloc, job, gate);
+    let done = run_job(rt, alloc, desk, seat, job);
     if done.short() {
-        give_up(rt, alloc, host, seat, Some(done));
+        give_up(rt, alloc, desk, seat, Some(done));
         return Err(true);
     }
     Ok(Some(done))
 }
 
-/// One turn, and its job if it lends one: the Done for the next turn; or, where the driver ends, whether memory ran out.
-fn step<'a, N: Named, G: Gate, R: Wait + Clock>(
+/// What is behind a turn: the Done for the next one; or, where the driver ends, whether memory ran out.
+fn go_on<'a, D: Desk<'a>, R: Wait + Clock>(
     rt: &R,
     alloc: Global,
-    host: &Host<'a, N>,
-    seat: &mut Seat<N>,
-    gate: &G,
+    desk: &D,
+    seat: &mut D::Seat,
     rest: &mut Rest,
-    given: Option<Done<'a>>,
+    answer: Result<Turn<'a>, Strange<'a>>,
 ) -> Result<Option<Done<'a>>, bool>
-    requires { IsDoneOf N.run.program given }
-    ensures actor { seat.new.actor ≡ seat.old.actor }
-    ensures program { IfOk result (IsDoneOf N.run.program) }
+    requires { IfOk answer (IsAnswerOf D.program) }
+    ensures program { IfOk result (IsDoneOf D.program) }
+    ensures steps { (steps : List Step) × FoldsTo D.does seat.old steps seat.new × Follows answer.entry steps result }
 {
-    match host.turn(rt, alloc, seat, given) {
+    match answer {
         Ok(Turn::Over(_)) => Err(false),
         Ok(Turn::Run(job)) => {
             rest.reset();
-            work(rt, alloc, host, seat, gate, job)
+            work(rt, alloc, desk, seat, job)
         }
         Ok(Turn::Ended) | Ok(Turn::Went) => {
             rest.reset();
@@ -97,18 +110,55 @@ fn step<'a, N: Named, G: Gate, R: Wait + Clock>(
             Ok(None)
         }
         Ok(Turn::NoMemory(done)) => {
-            give_up(rt, alloc, host, seat, done);
+            give_up(rt, alloc, desk, seat, done);
             Err(true)
         }
         Ok(Turn::Foreign(_)) | Ok(Turn::Owed) | Err(_) => {
-            host.stop(rt);
+            desk.stop(rt, seat);
             Err(false)
         }
     }
 }
 
-/// Turns a seat until the run is over. Where memory is refused, or the host's answer is none that this driver awaits, it stops
-/// the run.
+/// Turns a seat at any desk until the run is over. Where memory is refused, or the answer is none that this driver awaits, it
+/// stops the run. True where memory ran out.
+pub fn drive_at<'a, D: Desk<'a>, R: Wait + Clock>(
+    rt: &R,
+    alloc: Global,
+    desk: &D,
+    seat: &mut D::Seat,
+) -> bool
+    ensures { (steps : List Step) × FoldsTo D.does seat.old steps seat.new × Drives None steps result }
+{
+    let mut rest = Rest::new();
+    let mut done: Option<Done<'a>> = None;
+    for _ in rt.forever() {
+        let answer = desk.turn(rt, alloc, seat, done.take());
+        match go_on(rt, alloc, desk, seat, &mut rest, answer) {
+            Ok(next) => done = next,
+            Err(memory) => return memory,
+        }
+    }
+    unreachable!()
+}
+
+/// Drives a seat that is lent. True where memory ran out.
+pub(crate) fn drive_lent<'a, N: Named, G: Gate, R: Wait + Clock>(
+    rt: &R,
+    alloc: Global,
+    host: &Host<'a, N>,
+    seat: &mut Seat<N>,
+    gate: &G,
+) -> bool
+    ensures actor { seat.new.actor ≡ seat.old.actor }
+    ensures driven { (steps : List Step) × FoldsTo (AtSeat N.run) (told_by seat.old.actor seat.old.told.items) steps (told_by seat.new.actor seat.new.told.items) × Drives None steps result }
+{
+    let guarded = Guarded { host, gate };
+    drive_at(rt, alloc, &guarded, seat)
+}
+
+/// Drives a seat until the run is over, or memory is refused, or the host's answer is none that a driver awaits; in the last
+/// two cases it stops the run.
 pub fn drive<'a, N: Named, G: Gate, R: Wait + Clock>(
     rt: &R,
     alloc: Global,
@@ -116,30 +166,10 @@ pub fn drive<'a, N: Named, G: Gate, R: Wait + Clock>(
     seat: Seat<N>,
     gate: &G,
 ) -> Driven<N>
-    ensures { result.seat.actor ≡ seat.actor }
+    ensures actor { result.seat.actor ≡ seat.actor }
+    ensures driven { (steps : List Step) × FoldsTo (AtSeat N.run) (told_by seat.actor seat.told.items) steps (told_by result.seat.actor result.seat.told.items) × Drives None steps result.memory }
 {
     let mut seat = seat;
-    let memory = drive_at(rt, alloc, host, &mut seat, gate);
+    let memory = drive_lent(rt, alloc, host, &mut seat, gate);
     Driven { seat, memory }
-}
-
-/// The same for a seat that is lent. True where memory ran out.
-pub(crate) fn drive_at<'a, N: Named, G: Gate, R: Wait + Clock>(
-    rt: &R,
-    alloc: Global,
-    host: &Host<'a, N>,
-    seat: &mut Seat<N>,
-    gate: &G,
-) -> bool
-    ensures { seat.new.actor ≡ seat.old.actor }
-{
-    let mut rest = Rest::new();
-    let mut done: Option<Done<'a>> = None;
-    for _ in rt.forever() {
-        match step(rt, alloc, host, seat, gate, &mut rest, done.take()) {
-            Ok(next) => done = next,
-            Err(memory) => return memory,
-        }
-    }
-    unreachable!()
 }

@@ -1,11 +1,13 @@
 //! Drivers that turn a host from its seats, each in a thread of its own.
 #![tactic(auto)]
 
+mod desk;
 mod driver;
 mod gate;
 mod rest;
 mod threads;
 
-pub use driver::{Driven, drive};
+pub use desk::{Desk, Guarded};
+pub use driver::{Driven, drive, drive_at};
 pub use gate::{Gate, NoGate};
 pub use threads::{run, run_all};

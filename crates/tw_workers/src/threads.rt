@@ -1,12 +1,11 @@
 //! Runs in threads.
 
 ghost use Rattle.std.specs.Prelude.{◌≡◌, List, IfErr, IfOk, length, vec_len};
-ghost use Rattle.tw_types.specs.declared.event.Event.{Event};
 ghost use Rattle.tw_pool.specs.Openings.{IsRefusal, MayOpen};
 ghost use Rattle.tw_host.specs.Ends.{Closes};
-ghost use Rattle.tw_host.specs.Seats.{seat_count};
+ghost use Rattle.tw_host.specs.Seats.{Told, seat_count};
 
-use crate::driver::drive_at;
+use crate::driver::drive_lent;
 use crate::gate::Gate;
 use std::alloc::Global;
 use std::marker::Brand;
@@ -34,7 +33,7 @@ fn drive_all<'a, N: Named + Send + Sync, G: Gate + Sync, R: Threads + Wait + Clo
     thread::scope(thread::scope_env(), rt, |scope| {
         for seat in seats {
             let work = move || {
-                if drive_at(rt, alloc, host, seat, gate) {
+                if drive_lent(rt, alloc, host, seat, gate) {
                     refused.store(true, Ordering::SeqCst);
                 }
             };
@@ -59,7 +58,7 @@ pub fn run_all<'a, N: Named + Send + Sync, G: Gate + Sync, R: Threads + Wait + C
     gate: &G,
 ) -> (Closed, bool)
     requires all { vec_len seats ≡ seat_count N.run.layout }
-    ensures { (told : List (List Event)) × (length told ≡ seat_count N.run.layout) × Closes N.run told result.0 }
+    ensures { (seats : List Told) × (length seats ≡ seat_count N.run.layout) × Closes N.run seats result.0 }
 {
     let memory = drive_all(rt, alloc, &host, seats.as_mut_slice(), gate);
     (host.close(seats), memory)
@@ -79,7 +78,7 @@ fn run_named<N: Named + Send + Sync, G: Gate + Sync, R: Threads + Wait + Clock +
     requires ledger { (blank.name ≡ N.name) × (blank.parts ≡ N.parts) × (blank.parts ≡ seat_count layout) }
     requires run { N.run ≡ record { program = verified.now; inputs = inputs.now; layout = layout; limit = limit } }
     ensures allowed { IfOk result (λ _. MayOpen verified.now.program inputs.now layout limit) }
-    ensures closes { IfOk result (λ r. (told : List (List Event)) × (length told ≡ seat_count layout) × Closes N.run told r.0) }
+    ensures closes { IfOk result (λ r. (seats : List Told) × (length seats ≡ seat_count layout) × Closes N.run seats r.0) }
     ensures refused { IfErr result (IsRefusal verified.now.program inputs.now layout limit) }
 {
     let (host, seats) = Host::<N>::open(alloc, blank, verified, inputs, layout, limit)?;
@@ -97,7 +96,7 @@ pub fn run<G: Gate + Sync, R: Threads + Wait + Clock + Sync>(
     gate: &G,
 ) -> Result<(Closed, bool), OpenRefusal>
     ensures allowed { IfOk result (λ _. MayOpen verified.now.program inputs.now layout limit) }
-    ensures closes { IfOk result (λ r. (told : List (List Event)) × (length told ≡ seat_count layout) × Closes (record { program = verified.now; inputs = inputs.now; layout = layout; limit = limit }) told r.0) }
+    ensures closes { IfOk result (λ r. (seats : List Told) × (length seats ≡ seat_count layout) × Closes (record { program = verified.now; inputs = inputs.now; layout = layout; limit = limit }) seats r.0) }
     ensures refused { IfErr result (IsRefusal verified.now.program inputs.now layout limit) }
 {
     let blank = Blank::new(seat_count(layout) as u64);

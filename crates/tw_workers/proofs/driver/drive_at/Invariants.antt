@@ -1,8 +1,13 @@
-use Rattle.std.proofs.Common.{◌≡◌}
+use Rattle.std.proofs.Common.{◌++◌, Bool, List, None}
+use Rattle.std.specs.List.{FoldsTo}
 use Rattle.tw_host.specs.Tells.{IsDoneOf}
+use Rattle.tw_workers.specs.Driving.{Drives, Step}
 use Rattle.tw_workers.proofs.driver.drive_at.Given as goal
 
 abbrev pub invariant-loop : goal.invariant-loop
-invariant-loop g l =
-    (goal.iterator-loop g).can_next l.iterator' × (goal.iterator-loop g).is_finite l.iterator'
-    × IsDoneOf g.N.Named.run.program l.done × (l.seat.actor ≡ l.fn.seat.actor)
+invariant-loop g l = record {
+  next : (goal.iterator-loop g).can_next l.iterator';
+  finite : (goal.iterator-loop g).is_finite l.iterator';
+  program : IsDoneOf g.D.Desk.program l.done;
+  driven : (past : List Step) × FoldsTo g.D.Desk.does l.fn.seat past l.seat × ((rest : List Step) (memory : Bool) → Drives l.done rest memory → Drives None (past ++ rest) memory);
+}

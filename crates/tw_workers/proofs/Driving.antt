@@ -1,0 +1,45 @@
+-- Steps of a driver, one behind another.
+use Rattle.std.proofs.Common.{◌≡◌, Bool, List, [], ◌∷◌, ◌++◌, append_assoc, Option, None, sym, ap, subst, ◌∙◌}
+use Rattle.std.specs.List.{FoldsTo}
+use Rattle.tw_frame.specs.Jobs.{DoneView}
+use Rattle.tw_host.specs.Run.{Run}
+use Rattle.tw_host.specs.Seats.{Told}
+use Rattle.tw_workers.specs.AtHost.{AtSeat}
+use Rattle.tw_workers.specs.Driving.{Answer, Drives, Ends, GoesOn, Step, Turned, Stopped, Before, Ran, After, ends, goes}
+
+-- ---- lists of steps
+
+pub joined : {S A : Type 0} (R : S → A → S → Type 0) (p q r : S) (xs ys : List A) → FoldsTo R p xs q → FoldsTo R q ys r → FoldsTo R p (xs ++ ys) r
+joined R p q r [] ys first then_ = subst (λ s. FoldsTo R s ys r) (sym first) then_
+joined R p q r (x ∷ xs) ys first then_ = (first.0, first.1, joined R first.0 q r xs ys first.2 then_)
+
+pub seen : {S T A : Type 0} (view : S → T) (R : T → A → T → Type 0) (p q : S) (xs : List A) → FoldsTo (λ a x b. R (view a) x (view b)) p xs q → FoldsTo R (view p) xs (view q)
+seen view R p q [] is = ap view is
+seen view R p q (x ∷ xs) is = (view is.0, is.1, seen view R is.0 q xs is.2)
+
+-- ---- the rest of a drive
+
+-- the Done that is handed in is the one that was there
+module _ (was given : Option DoneView) (taken : given ≡ was) (past : List Step) (so_far : (rest : List Step) (memory : Bool) → Drives was rest memory → Drives None (past ++ rest) memory) (answer : Answer) (behind : List Step) where
+  turned : (rest : List Step) (memory : Bool) → Drives given (Turned given answer ∷ rest) memory → Drives None (past ++ (Turned given answer ∷ rest)) memory
+  turned rest memory drives = so_far (Turned given answer ∷ rest) memory (subst (λ o. Drives o (Turned given answer ∷ rest) memory) taken drives)
+
+  pub on : (next : Option DoneView) → GoesOn answer behind next → (rest : List Step) (memory : Bool) → Drives next rest memory → Drives None ((past ++ (Turned given answer ∷ behind)) ++ rest) memory
+  on next is rest memory drives =
+      subst (λ steps. Drives None steps memory) (sym (append_assoc past (Turned given answer ∷ behind) rest)) (turned (behind ++ rest) memory (goes answer behind next rest is drives))
+
+  pub over : (memory : Bool) → Ends answer behind memory → Drives None (past ++ (Turned given answer ∷ behind)) memory
+  over memory is = turned behind memory (ends answer behind is)
+
+-- ---- at a host
+
+same_actor : (run : Run) (old : Told) (step : Step) (new : Told) → AtSeat run old step new → new.actor ≡ old.actor
+same_actor run old (Turned given answer) new is = is.0
+same_actor run old Stopped new is = ap (λ (t : Told). t.actor) is
+same_actor run old (Before actor task) new is = ap (λ (t : Told). t.actor) is
+same_actor run old (Ran job done) new is = ap (λ (t : Told). t.actor) is
+same_actor run old (After actor task) new is = ap (λ (t : Told). t.actor) is
+
+pub kept_actor : (run : Run) (old new : Told) (steps : List Step) → FoldsTo (AtSeat run) old steps new → new.actor ≡ old.actor
+kept_actor run old new [] is = ap (λ (t : Told). t.actor) (sym is)
+kept_actor run old new (x ∷ xs) is = kept_actor run is.0 new xs is.2 ∙ same_actor run old x is.0 is.1

@@ -1,0 +1,32 @@
+use Rattle.std.proofs.Common.{◌∷◌, ◌++◌, rules}
+use Rattle.tw_workers.specs.Driving.{Turned}
+use Rattle.tw_workers.proofs.Driving.{joined, on, over}
+use Rattle.tw_workers.proofs.driver.drive_at.Goals as goal
+
+pub loop-preserved : goal.loop-preserved
+loop-preserved g c =
+    let so_far = c.loop.invariant.driven in
+    let behind = c.in-Ok.ensures.steps in
+    let given = c.take.result in
+    let answer = c.turn-answer.result in
+    record {
+      next = search rules;
+      finite = search rules;
+      program = c.in-Ok.ensures.program;
+      driven = (
+        so_far.0 ++ Turned given answer ∷ behind.0,
+        joined g.D.Desk.does _ _ _ so_far.0 (Turned given answer ∷ behind.0) so_far.1 (_, c.turn-answer.ensures.does, behind.1),
+        on _ given c.take.ensures.value so_far.0 so_far.2 answer behind.0 _ behind.2,
+      );
+    }
+
+pub returns-in-Err : goal.returns-in-Err
+returns-in-Err g c =
+    let so_far = c.loop.invariant.driven in
+    let behind = c.in-Err.ensures.steps in
+    let given = c.take.result in
+    let answer = c.turn-answer.result in (
+      so_far.0 ++ Turned given answer ∷ behind.0,
+      joined g.D.Desk.does _ _ _ so_far.0 (Turned given answer ∷ behind.0) so_far.1 (_, c.turn-answer.ensures.does, behind.1),
+      over _ given c.take.ensures.value so_far.0 so_far.2 answer behind.0 _ behind.2,
+    )

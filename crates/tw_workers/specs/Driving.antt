@@ -1,0 +1,67 @@
+-- What a driver does at its seat: the list of its steps, from its first turn to its end.
+use Rattle.std.specs.Prelude.{◌≡◌, ℕ, Bool, true, false, List, [], ◌∷◌, ◌++◌, Option, Some, None, Result, Ok, Err}
+use Rattle.tw_types.specs.declared.actor.Actor.{Actor}
+use Rattle.tw_frame.specs.Jobs.{DoneView, JobView}
+use Rattle.tw_pool.specs.declared.answer.Turn.{Turn}
+use Rattle.tw_pool.specs.declared.answer.Turn.TheVariants as turn
+use Rattle.tw_host.specs.declared.locked.Strange.{Strange}
+
+abbrev pub Answer : Type 0
+Answer = Result Turn Strange
+
+-- a turn with what it was given and what it answered; a stop of the run; a job, and the two calls of the gate round it
+pub data Step : Type 0 where
+  Turned : Option DoneView → Answer → Step
+  Stopped : Step
+  Before : Actor → ℕ → Step
+  Ran : JobView → DoneView → Step
+  After : Actor → ℕ → Step
+
+-- ---- behind a turn
+
+-- a job is run between the two calls of the gate
+abbrev pub working : JobView → DoneView → List Step
+working job done = Before job.actor job.task ∷ Ran job done ∷ After job.actor job.task ∷ []
+
+-- memory ran out: a Done is handed in once, whatever is answered, and the run is stopped
+abbrev pub GivesUp : Option DoneView → List Step → Type 0
+GivesUp None steps = steps ≡ Stopped ∷ []
+GivesUp (Some done) steps = (answer : Answer) × (steps ≡ Turned (Some done) answer ∷ Stopped ∷ [])
+
+-- The driver goes on: these steps are behind this answer, and with its next turn it hands this in
+abbrev pub GoesOn : Answer → List Step → Option DoneView → Type 0
+GoesOn (Ok (turn.Over closing)) steps next = ⊥
+GoesOn (Ok (turn.Foreign done)) steps next = ⊥
+GoesOn (Ok turn.Owed) steps next = ⊥
+GoesOn (Ok (turn.NoMemory given)) steps next = ⊥
+GoesOn (Ok (turn.Run job)) steps next = (done : DoneView) × (done.before ≡ job) × (done.short ≡ false) × (steps ≡ working job done) × (next ≡ Some done)
+GoesOn (Ok turn.Ended) steps next = (steps ≡ []) × (next ≡ None)
+GoesOn (Ok turn.Went) steps next = (steps ≡ []) × (next ≡ None)
+GoesOn (Ok turn.Idle) steps next = (steps ≡ []) × (next ≡ None)
+GoesOn (Err strange) steps next = ⊥
+
+-- The driver ends: these steps are behind its last answer, and this is whether memory ran out
+abbrev pub Ends : Answer → List Step → Bool → Type 0
+Ends (Ok (turn.Over closing)) steps memory = (steps ≡ []) × (memory ≡ false)
+Ends (Ok (turn.Foreign done)) steps memory = (steps ≡ Stopped ∷ []) × (memory ≡ false)
+Ends (Ok turn.Owed) steps memory = (steps ≡ Stopped ∷ []) × (memory ≡ false)
+Ends (Ok (turn.NoMemory given)) steps memory = GivesUp given steps × (memory ≡ true)
+Ends (Ok (turn.Run job)) steps memory =
+    (done : DoneView) × (rest : List Step) × (done.before ≡ job) × (done.short ≡ true) × GivesUp (Some done) rest × (steps ≡ working job done ++ rest) × (memory ≡ true)
+Ends (Ok turn.Ended) steps memory = ⊥
+Ends (Ok turn.Went) steps memory = ⊥
+Ends (Ok turn.Idle) steps memory = ⊥
+Ends (Err strange) steps memory = (steps ≡ Stopped ∷ []) × (memory ≡ false)
+
+-- it goes on, with a Done or none to hand in; or it ends, and memory ran out or not
+abbrev pub Follows : Answer → List Step → Result (Option DoneView) Bool → Type 0
+Follows answer steps (Ok next) = GoesOn answer steps next
+Follows answer steps (Err memory) = Ends answer steps memory
+
+-- ---- from a turn to the end
+
+-- a driver that hands this in makes these steps, and memory ran out or not
+pub data Drives : Option DoneView → List Step → Bool → Type 0 where
+  ends : {given : Option DoneView} {memory : Bool} (answer : Answer) (rest : List Step) → Ends answer rest memory → Drives given (Turned given answer ∷ rest) memory
+  goes : {given : Option DoneView} {memory : Bool} (answer : Answer) (behind : List Step) (next : Option DoneView) (rest : List Step)
+      → GoesOn answer behind next → Drives next rest memory → Drives given (Turned given answer ∷ (behind ++ rest)) memory

@@ -1,0 +1,92 @@
+//! What a driver works at.
+
+ghost use Rattle.std.specs.Prelude.{◌≡◌, Ok, IfOk};
+ghost use Rattle.tw_verify.specs.Typed.{TypedProgram};
+ghost use Rattle.tw_host.specs.Seats.{told_by};
+ghost use Rattle.tw_host.specs.Tells.{IsAnswerOf, IsDoneOf};
+ghost use Rattle.tw_workers.specs.AtHost.{AtSeat};
+ghost use Rattle.tw_workers.specs.Driving.{Step, Turned, Stopped, Before, Ran, After};
+
+use crate::gate::Gate;
+use std::alloc::Global;
+use std::sync::Wait;
+use tw_frame::{Done, Job};
+use tw_host::{Host, Named, Seat, Strange};
+use tw_pool::Turn;
+use tw_types::Actor;
+
+/// What a driver asks for in the name of a seat: of a host behind its lock, of a gate, and of a job. Each call is a step of the
+/// seat, so that a driver's contract can say which steps it made.
+pub trait Desk<'a> {
+    type Seat;
+
+    ghost program: { TypedProgram };
+
+    /// What a step makes of a seat.
+    ghost does: { Self.Seat → Step → Self.Seat → Type 0 };
+
+    fn turn<R: Wait>(
+        &self,
+        rt: &R,
+        alloc: Global,
+        seat: &mut Self::Seat,
+        done: Option<Done<'a>>,
+    ) -> Result<Turn<'a>, Strange<'a>>
+        requires { IsDoneOf program done }
+        ensures does { does seat.old (Turned done.entry result) seat.new }
+        ensures program { IfOk result (IsAnswerOf program) };
+
+    fn stop<R: Wait>(&self, rt: &R, seat: &mut Self::Seat)
+        ensures { does seat.old Stopped seat.new };
+
+    fn before_job<R: Wait>(&self, rt: &R, seat: &mut Self::Seat, actor: Actor, task: u64)
+        ensures { does seat.old (Before actor task) seat.new };
+
+    fn run(&self, alloc: Global, seat: &mut Self::Seat, job: Job<'a>) -> Done<'a>
+        ensures does { does seat.old (Ran job.entry result) seat.new }
+        ensures before { result.before ≡ job.entry };
+
+    fn after_job<R: Wait>(&self, rt: &R, seat: &mut Self::Seat, actor: Actor, task: u64)
+        ensures { does seat.old (After actor task) seat.new };
+}
+
+/// A host, and the gate round its jobs.
+#[derive(Drop)]
+pub struct Guarded<'h, 'a, N: Named, G: Gate> {
+    pub host: &'h Host<'a, N>,
+    pub gate: &'h G,
+}
+
+impl<'h, 'a, N: Named, G: Gate> Desk<'a> for Guarded<'h, 'a, N, G> {
+    type Seat = Seat<N>;
+
+    ghost program = { N.run.program };
+
+    ghost does = { λ old step new. AtSeat N.run (told_by old.actor old.told.items) step (told_by new.actor new.told.items) };
+
+    fn turn<R: Wait>(
+        &self,
+        rt: &R,
+        alloc: Global,
+        seat: &mut Seat<N>,
+        done: Option<Done<'a>>,
+    ) -> Result<Turn<'a>, Strange<'a>> {
+        self.host.turn(rt, alloc, seat, done)
+    }
+
+    fn stop<R: Wait>(&self, rt: &R, _seat: &mut Seat<N>) {
+        self.host.stop(rt);
+    }
+
+    fn before_job<R: Wait>(&self, rt: &R, _seat: &mut Seat<N>, actor: Actor, task: u64) {
+        self.gate.before_job(rt, actor, task);
+    }
+
+    fn run(&self, alloc: Global, _seat: &mut Seat<N>, job: Job<'a>) -> Done<'a> {
+        job.run(alloc)
+    }
+
+    fn after_job<R: Wait>(&self, rt: &R, _seat: &mut Seat<N>, actor: Actor, task: u64) {
+        self.gate.after_job(rt, actor, task);
+    }
+}
