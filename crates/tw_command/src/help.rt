@@ -55,7 +55,7 @@ With --trace the history stands before the report: a line `events`, a line for e
 `end`. The program isn't written: its hex text, a line end and then all of this can be piped into `tw replay`, which is
 given the same inputs and as many engines, servers and workers.
 Exit status: 0 quiet, 1 refused, 2 command line or input word refused, 3 stuck, 4 event limit, 5 memory ran out,
-6 trap, 7 a read or write failed.",
+7 a read or write failed.",
 };
 
 pub(crate) const REPLAY: CommandHelp<'static> = CommandHelp {

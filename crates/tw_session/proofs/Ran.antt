@@ -18,6 +18,7 @@ use Rattle.tw_pool.specs.History.{HistoryView}
 use Rattle.tw_pool.specs.Turns.{closing_of}
 use Rattle.tw_host.specs.Ends.{IsEnded}
 use Rattle.tw_host.specs.Run.{Run}
+use Rattle.tw_host.specs.Seats.{Told}
 use Rattle.tw_command.specs.declared.command.RunOrder.{RunOrder}
 use Rattle.tw_report.specs.Ends.{IsEndReport}
 use Rattle.tw_report.specs.Report.{end_report}
@@ -43,17 +44,17 @@ ends_so order history s None false false closing is at told other = absurd (none
     none e = cc
 
 -- of a run whose seats were all given back, and which wasn't stopped
-pub ran : (verified : TypedProgram) (order : RunOrder) (told by_seat : List (List Event)) (final : FinalView) (history : HistoryView) (closing : Closing) (text : List ℕ)
-    → IsEnded (run_as verified order) told by_seat final history → final.closing ≡ Some closing → closing ≢ Stopped → IsEndReport verified.program final text
+pub ran : (verified : TypedProgram) (order : RunOrder) (seats : List Told) (by_seat : List (List Event)) (final : FinalView) (history : HistoryView) (closing : Closing) (text : List ℕ)
+    → IsEnded (run_as verified order) seats by_seat final history → final.closing ≡ Some closing → closing ≢ Stopped → IsEndReport final text
     → RepliesByRun verified.program order (reply (trace_text order.trace history.events ++ text) (close_of closing))
-ran verified order told by_seat final history closing text e over other is_report =
+ran verified order seats by_seat final history closing text e over other is_report =
     let p = e.pool in
     let shut = e.shut in
     let s = shut.state in
     let here : EndsSo order history.events s closing =
     ends_so order history.events s (ending s) p.stopped (length p.history == p.limit) closing refl (λ full. ap (λ (es : List Event). length es) shut.events ∙ (eqb-true (length p.history) p.limit full ∙ ap (λ (r : Run). r.limit) e.of_run)) (sym shut.closing ∙ over) other in
     let told_so : text ≡ end_report verified.program s (Some closing) =
-    is_report p history (ap (λ (r : Run). r.program.program) e.of_run) shut ∙ ap (λ (o : Option Closing). end_report verified.program s o) over in
+    is_report p history shut ∙ ap (λ (r : Run). end_report r.program.program s final.closing) e.of_run ∙ ap (λ (o : Option Closing). end_report verified.program s o) over in
     let leads : reached verified.program order.inputs order.layout p.history ≡ Went s =
     subst (λ (r : Run). reached r.program.program r.inputs r.layout p.history ≡ Went s) e.of_run shut.has_state in
     inl (

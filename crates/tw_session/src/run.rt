@@ -1,8 +1,8 @@
 //! What `run` answers.
 
 ghost use Rattle.std.specs.Prelude.{◌≡◌, ◌≢◌, ◌++◌, IfOk, IfSome, List, OnOk, Some};
-ghost use Rattle.tw_types.specs.declared.event.Event.{Event as AnEvent};
 ghost use Rattle.tw_host.specs.Ends.{Closes};
+ghost use Rattle.tw_host.specs.Seats.{Told};
 ghost use Rattle.tw_session.specs.Reply.{reply};
 ghost use Rattle.tw_session.specs.Run.{RepliesByOpening, RepliesByRun, close_of, run_as, threads_refused, trace_text};
 
@@ -76,7 +76,7 @@ fn closed_reply(
     verified: &Verified,
     closed: Closed,
 ) -> Result<Reply, AllocError>
-    requires { (told : List (List AnEvent)) × Closes (run_as verified.now order.now) told closed }
+    requires { (seats : List Told) × Closes (run_as verified.now order.now) seats closed }
     ensures { IfOk result (λ r. RepliesByRun verified.now.program order.now (reply r.text.items r.close)) }
 {
     match closed {
@@ -89,7 +89,7 @@ fn closed_reply(
             Some(closing) => {
                 let mut text = Vec::new(alloc);
                 put_trace(alloc, &mut text, order.trace, &history)?;
-                let told = report(alloc, &outcome, verified.program())?;
+                let told = report(alloc, &outcome)?;
                 text.extend_from_slice(&told)?;
                 Ok(Reply {
                     text,
