@@ -21,17 +21,17 @@ def seconds(command):
 
 
 def round_of(name):
-    return [program, hex_of(name), str(ROUNDS)]
+    return [program, "steps", hex_of(name), str(ROUNDS)]
 
 
 loops = [
     ("lua5.4, two adds and a compare, 20 million turns", ["lua5.4", os.path.join(here, "loop.lua"), "20000"]),
-    ("jobs, two adds, a compare and END, 20 million turns", [program, hex_of("adds_20.hex")]),
-    ("jobs, five local instructions, 20 million turns", [program, hex_of("five_20.hex")]),
-    ("jobs, SHOW CAT READI LEN ADD, a million turns", [program, hex_of("text.hex")]),
+    ("jobs, two adds, a compare and END, 20 million turns", [program, "steps", hex_of("adds_20.hex")]),
+    ("jobs, five local instructions, 20 million turns", [program, "steps", hex_of("five_20.hex")]),
+    ("jobs, SHOW CAT READI LEN ADD, a million turns", [program, "steps", hex_of("text.hex")]),
 ]
 rounds = [
-    ("a round: task, drafts, frame, job, run, accept, shut", round_of("empty.hex")),
+    ("a round: task, drafts, frame, job, run, shut", round_of("empty.hex")),
     ("the same with two ints and two INT", round_of("two_ints.hex")),
     ("the same with a text and TEXT", round_of("one_text.hex")),
 ]

@@ -6,10 +6,8 @@ use crate::case::first_field;
 use crate::complaint::Complaint;
 use crate::layouts::layout_text;
 use crate::machine::{machine_text, open_text, state_text, steps_text};
-use crate::programs::{
-    budget_text, decode_text, fronts_text, rights_text, signature_text, verify_text,
-};
-use crate::sessions::{phrases_text, tw_text};
+use crate::programs::{decode_text, fronts_text, verify_text};
+use crate::sessions::{cuts_text, phrases_text, tw_text};
 use crate::shown::shown_text;
 use std::alloc::Global;
 use std::rt::Files;
@@ -27,6 +25,7 @@ pub fn outcome<H: AllocGlobal + Files + Threads + Wait + Clock + Sync>(
     let (kind, words) = first_word(kind);
     match kind {
         "tw" => tw_text(rt, book, words, given),
+        "cuts" => cuts_text(rt, book, words, given),
         "phrases" => phrases_text(rt, words, given),
         "shown" => shown_text(rt, given),
         "layout" => layout_text(rt.alloc(), given),
@@ -84,9 +83,6 @@ fn program(
         "decode" => decode_text(alloc, bytes),
         "fronts" => fronts_text(alloc, bytes),
         "verify" => verify_text(alloc, bytes),
-        "budget" => budget_text(alloc, bytes),
-        "signature" => signature_text(alloc, bytes),
-        "rights" => rights_text(alloc, words, bytes),
         "open" => open_text(alloc, words, bytes),
         _ => Err(Complaint::UnknownKind),
     }

@@ -3,8 +3,8 @@
 use crate::complaint::Complaint;
 use std::alloc::{AllocError, Global};
 use tw_code::{Fault, Program, decode, encode};
-use tw_types::{DataType, Mode, Param, Scalar};
-use tw_verify::{Refused, Typing, Verified, verify};
+use tw_types::{DataType, Scalar};
+use tw_verify::{Refused, verify};
 
 /// The program that the bytes of a case spell.
 pub fn read_program(alloc: Global, bytes: &[u8]) -> Result<Program, Complaint> {
@@ -77,55 +77,6 @@ fn refusal_text(alloc: Global, refused: &Refused) -> Result<String, AllocError> 
     format!(in alloc; "{refused}")
 }
 
-/// The budget of each procedure, or the refusal as it is debugged, which is as it is displayed.
-pub fn budget_text(alloc: Global, bytes: &[u8]) -> Result<String, Complaint> {
-    match verify(alloc, read_program(alloc, bytes)?) {
-        Ok(verified) => Ok(budgets(alloc, &verified)?),
-        Err(refused) => Ok(format!(in alloc; "{refused:?}")?),
-    }
-}
-
-fn budgets(alloc: Global, verified: &Verified) -> Result<String, AllocError> {
-    let mut parts = Vec::new(alloc);
-    for procedure in 0..verified.program().procedures().len() {
-        parts.push(verified.budget(procedure).to_string(alloc)?)?;
-    }
-    parts.as_slice().join(alloc, " / ")
-}
-
-/// Main's parameters, and how many engines and workers are needed.
-pub fn signature_text(alloc: Global, bytes: &[u8]) -> Result<String, Complaint> {
-    match verify(alloc, read_program(alloc, bytes)?) {
-        Ok(verified) => Ok(signature(alloc, &verified)?),
-        Err(_) => Err(Complaint::NotAccepted),
-    }
-}
-
-fn signature(alloc: Global, verified: &Verified) -> Result<String, AllocError> {
-    let mut parts = Vec::new(alloc);
-    for param in verified.signature() {
-        parts.push(param_text(alloc, *param)?)?;
-    }
-    let (engines, workers) = verified.needs();
-    parts.push(format!(in alloc; "engines {engines} workers {workers}")?)?;
-    parts.as_slice().join(alloc, " / ")
-}
-
-fn param_text(alloc: Global, param: Param) -> Result<String, AllocError> {
-    let mode = mode_word(param.mode);
-    let ty = type_text(alloc, param.ty)?;
-    format!(in alloc; "{mode} {ty}")
-}
-
-fn mode_word(mode: Mode) -> &'static str {
-    match mode {
-        Mode::Val => "val",
-        Mode::Closed => "closed",
-        Mode::Ref => "ref",
-        Mode::Write => "write",
-    }
-}
-
 /// A type as `cont tcont int`.
 pub fn type_text(alloc: Global, ty: DataType) -> Result<String, AllocError> {
     let mut text = String::new(alloc);
@@ -153,44 +104,4 @@ fn scalar_word(scalar: Scalar) -> &'static str {
         Scalar::Int => "int",
         Scalar::Text => "text",
     }
-}
-
-/// What the right registers hold at each place of a procedure.
-pub fn rights_text(alloc: Global, procedure: &str, bytes: &[u8]) -> Result<String, Complaint> {
-    let procedure = procedure.parse::<usize>()?;
-    match verify(alloc, read_program(alloc, bytes)?) {
-        Ok(verified) => rights(alloc, &verified, procedure),
-        Err(_) => Err(Complaint::NotAccepted),
-    }
-}
-
-fn rights(alloc: Global, verified: &Verified, procedure: usize) -> Result<String, Complaint> {
-    if procedure >= verified.program().procedures().len() {
-        return Err(Complaint::NoProcedure);
-    }
-    let mut parts = Vec::new(alloc);
-    for typing in verified.typings(procedure) {
-        parts.push(typing_text(alloc, typing)?)?;
-    }
-    Ok(parts.as_slice().join(alloc, " / ")?)
-}
-
-/// The registers that hold a right, as `d0 write int, d3 ref text`; `none` where none does.
-fn typing_text(alloc: Global, typing: &Typing) -> Result<String, AllocError> {
-    if typing.is_empty() {
-        return "none".to_string(alloc);
-    }
-    let mut parts = Vec::new(alloc);
-    for register in 0..16u8 {
-        if let Some(right) = typing.right_at(register) {
-            parts.push(right_text(alloc, register, right.mode(), right.ty())?)?;
-        }
-    }
-    parts.as_slice().join(alloc, ", ")
-}
-
-fn right_text(alloc: Global, register: u8, mode: Mode, ty: DataType) -> Result<String, AllocError> {
-    let mode = mode_word(mode);
-    let ty = type_text(alloc, ty)?;
-    format!(in alloc; "d{register} {mode} {ty}")
 }

@@ -61,8 +61,17 @@ fn lacks_text(alloc: Global, code: u8, text: &str, phrases: &str) -> Result<Stri
     Ok(told)
 }
 
-/// Text as it stands, text so many times, or the digits of bytes, with a history behind them or without.
+/// The parts of an input, which ` then ` parts.
 fn read_input(alloc: Global, book: &Book, text: &str) -> Result<Vec<u8>, Complaint> {
+    let mut input = Vec::new(alloc);
+    for part in text.split(" then ") {
+        input.extend_from_slice(read_part(alloc, book, part)?.as_slice())?;
+    }
+    Ok(input)
+}
+
+/// Text as it stands, text so many times, or the digits of bytes, with a history behind them or without.
+fn read_part(alloc: Global, book: &Book, text: &str) -> Result<Vec<u8>, Complaint> {
     if let Some(bytes) = text.strip_prefix("hex ") {
         return match bytes.split_once(" events ") {
             Some((bytes, lines)) => with_history(alloc, book, bytes, lines),
@@ -95,6 +104,39 @@ fn with_history(
 fn repeated(alloc: Global, times: usize, text: &str) -> Result<Vec<u8>, Complaint> {
     let text = unescaped(alloc, text)?;
     Ok(text.as_slice().repeat(alloc, times)?)
+}
+
+/// How many cuts a text has, where a session answers each with a line of a known form; else the first that it doesn't.
+pub fn cuts_text<H: AllocGlobal + Threads + Wait + Clock + Sync>(
+    rt: &H,
+    book: &Book,
+    words: &str,
+    input: &str,
+) -> Result<String, Complaint> {
+    let words = read_words(rt.alloc(), words)?;
+    let input = read_input(rt.alloc(), book, input)?;
+    for count in 0..input.len() {
+        let (code, _, written) = ended(rt, words.as_slice(), &input[..count]);
+        let told = session_text(rt.alloc(), code, written, false)?;
+        if !is_known(told.as_str()) {
+            return Ok(format!(in rt.alloc(); "the first {count} come to {told}")?);
+        }
+    }
+    Ok(format!(in rt.alloc(); "{} cuts", input.len())?)
+}
+
+/// Whether it tells the digits of bytes, or a text's fault and its line.
+fn is_known(told: &str) -> bool {
+    if let Some(digits) = told.strip_prefix("0 ") {
+        return digits.bytes().all(|byte| byte.is_ascii_hexdigit());
+    }
+    let Some(fault) = told.strip_prefix("1 refused A0") else {
+        return false;
+    };
+    match fault.split_once(" at line ") {
+        Some(("1" | "2" | "3" | "4" | "5" | "6", line)) => line.parse::<usize>().is_ok(),
+        _ => false,
+    }
 }
 
 /// The status, whether the input was left unread, and the text, in one line.

@@ -57,7 +57,24 @@ pub fn read_words(alloc: Global, text: &str) -> Result<Vec<String>, Complaint> {
     Ok(words)
 }
 
+/// The input word `texts:` with so many members, each a text of so many letters: `1000 x 4096` stands as `1000x4096`.
+fn texts_word(alloc: Global, sizes: &str) -> Result<String, Complaint> {
+    let Some((members, letters)) = sizes.split_once('x') else {
+        return Err(Complaint::Number);
+    };
+    let text = "a".repeat(alloc, letters.parse::<usize>()?)?;
+    let mut word = String::from_str(alloc, "texts:")?;
+    for member in 0..members.parse::<usize>()? {
+        let comma = if member == 0 { "" } else { "," };
+        word.push_str(&format!(in alloc; "{comma}{member}=\"{text}\"")?)?;
+    }
+    Ok(word)
+}
+
 fn read_word(alloc: Global, word: &str) -> Result<String, Complaint> {
+    if let Some(sizes) = word.strip_prefix("texts:*") {
+        return texts_word(alloc, sizes);
+    }
     if word == "\"\"" {
         return Ok(String::new(alloc));
     }

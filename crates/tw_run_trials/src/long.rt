@@ -88,7 +88,7 @@ fn report_of<R: Threads + Wait + Clock + Sync>(
     if history.len() < 100_000 {
         return None;
     }
-    told_of(alloc, &left, verified.program())
+    told_of(alloc, &left)
 }
 
 /// Whether so many runs come to the report that is wanted.

@@ -38,7 +38,7 @@ fn agrees_at(alloc: Global, case: &Case, plain: &Plain, events: &[Event]) -> boo
     let Some((left, history)) = run_in_rounds(alloc, case, events.len()) else {
         return false;
     };
-    match told_of(alloc, &left, case.verified.program()) {
+    match told_of(alloc, &left) {
         Some(told) => has_events(&history, events) && tells(alloc, plain, &told),
         None => false,
     }

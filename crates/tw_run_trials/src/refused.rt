@@ -4,7 +4,6 @@
 use crate::case::{Case, case_of_text};
 use crate::rounds::{AtRefusal, run_or_shut};
 use std::alloc::Global;
-use tw_code::Program;
 use tw_pool::Final;
 use tw_report::report;
 
@@ -19,8 +18,8 @@ const WORKED: [(&str, &str); 5] = [
 ];
 
 /// Whether what is left of a run tells this report.
-fn tells(alloc: Global, left: &Final, program: &Program, wanted: &str) -> bool {
-    let Ok(text) = report(alloc, left, program).or_else(|_| report(alloc, left, program)) else {
+fn tells(alloc: Global, left: &Final, wanted: &str) -> bool {
+    let Ok(text) = report(alloc, left).or_else(|_| report(alloc, left)) else {
         return false;
     };
     text.as_slice() == wanted.as_bytes()
@@ -33,7 +32,7 @@ fn ends(alloc: Global, case: &Case, wanted: &str) -> bool {
         alloc, case, case.limit, again,
     ));
     match ran {
-        Some((left, _history)) => tells(alloc, &left, case.verified.program(), wanted),
+        Some((left, _history)) => tells(alloc, &left, wanted),
         None => false,
     }
 }
@@ -48,8 +47,7 @@ fn can_be_shut(alloc: Global, case: &Case, wanted: &str) -> bool {
     let Some((left, _history)) = ran else {
         return false;
     };
-    let program = case.verified.program();
-    let Ok(text) = report(alloc, &left, program).or_else(|_| report(alloc, &left, program)) else {
+    let Ok(text) = report(alloc, &left).or_else(|_| report(alloc, &left)) else {
         return false;
     };
     let is_cut = text.starts_with("out 0 ".as_bytes()) && text.ends_with("\nrunning\n".as_bytes());

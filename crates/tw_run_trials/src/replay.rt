@@ -4,7 +4,6 @@ ghost use Rattle.std.specs.Prelude.{◌+◌, ◌*◌, ◌≤◌, ◌↔◌, leng
 ghost use Rattle.tw_code.specs.machine.Bounds.{AreBelow, opening_bound, size_of};
 
 use std::alloc::{AllocError, Global};
-use tw_code::Program;
 use tw_machine::Plain;
 use tw_pool::{Closing, Final};
 use tw_report::{put_report, report, report_state};
@@ -65,9 +64,9 @@ pub struct Told {
 }
 
 /// What is told of the end of a run.
-pub fn told_of(alloc: Global, left: &Final, program: &Program) -> Option<Told> {
+pub fn told_of(alloc: Global, left: &Final) -> Option<Told> {
     let closing = left.closing()?;
-    match report(alloc, left, program) {
+    match report(alloc, left) {
         Ok(text) => Some(Told { closing, text }),
         Err(_) => None,
     }

@@ -52,7 +52,7 @@ fn agrees<R: Threads + Wait + Clock + Sync>(rt: &R, alloc: Global, case: &Case) 
     let Ok(events) = events_of(alloc, &history) else {
         return false;
     };
-    match told_of(alloc, &left, case.verified.program()) {
+    match told_of(alloc, &left) {
         Some(told) => replays(alloc, case, &events, &told),
         None => false,
     }

@@ -96,7 +96,7 @@ pub fn replays(alloc: Global, case: &Case, events: &[Event], told: &Told) -> boo
 
 /// What a run came to, where its history is replayed to the same end.
 fn outcome_of_run(alloc: Global, case: &Case, left: &Final, events: &[Event]) -> Outcome {
-    match told_of(alloc, left, case.verified.program()) {
+    match told_of(alloc, left) {
         Some(told) if replays(alloc, case, events, &told) => outcome_of(told.closing),
         _ => Outcome::Differs,
     }

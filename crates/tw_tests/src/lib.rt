@@ -4,13 +4,15 @@
 #[cfg(test)]
 mod dones;
 #[cfg(test)]
-mod inputs;
+mod drives;
 #[cfg(test)]
 mod laws;
 #[cfg(test)]
 mod programs;
 #[cfg(test)]
 mod rights;
+#[cfg(test)]
+mod seats;
 #[cfg(test)]
 mod stops;
 #[cfg(test)]
@@ -19,5 +21,7 @@ mod streams;
 mod threads;
 #[cfg(test)]
 mod turns;
+#[cfg(test)]
+mod twins;
 #[cfg(test)]
 mod types;

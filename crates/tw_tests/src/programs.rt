@@ -20,6 +20,13 @@ pub const RULE_WAITS_FOR_NOTICE: &str =
 /// Main puts a leaf task that only worker 3 may take.
 pub const TARGETED_TASK: &str = "proc control\nregs\nPUT 1 0 3\nRET\nproc leaf\nregs\nRET\n";
 
+/// Main puts a leaf task that only worker 15 may take, the last that there can be.
+pub const FOR_LAST_WORKER: &str = "proc control\nregs\nPUT 1 0 15\nRET\nproc leaf\nregs\nRET\n";
+
+/// Main hands both rights on a datum to a rule that waits for it: `examples/stuck_on_itself.tw`.
+pub const RULE_WAITS_FOR_EVER: &str =
+    "proc control\nregs\nNEW d0 d1 int\nRULE 1 0 any 1 0\nRET\nproc leaf closed int write int\nregs int\nDROPR d0\nSTORE d1 v0\nRET\n";
+
 /// Main puts two leaf tasks that any worker may take.
 pub const TWO_LEAVES: &str =
     "proc control\nregs\nPUT 1 0 any\nPUT 1 0 any\nRET\nproc leaf\nregs\nRET\n";

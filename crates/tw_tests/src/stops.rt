@@ -5,7 +5,8 @@ ghost use Rattle.tw_host.specs.Tells.{IsDoneOf};
 use crate::programs::{
     RULE_ON_CLOSED, RULE_WAITS_FOR_NOTICE, STORE_SEVEN, TARGETED_TASK, TWO_LEAVES, begins, program,
 };
-use crate::turns::{Play, Said, end_of, played, seat_turn};
+use crate::seats::{Play, end_of, played, seat_turn};
+use crate::turns::Said;
 use std::alloc::Global;
 use std::sync::Wait;
 use tw_frame::Done;

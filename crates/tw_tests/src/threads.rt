@@ -1,6 +1,7 @@
 //! Runs in threads.
 
-use crate::programs::{SEVEN, STORE_SEVEN, TWO_LEAVES, has_just, program};
+use crate::programs::{FOR_LAST_WORKER, SEVEN, STORE_SEVEN, TWO_LEAVES, has_just, program};
+use crate::twins::first_output;
 use std::alloc::Global;
 use std::sync::Wait;
 use std::sync::atomic::{AtomicBool, AtomicU64, Ordering};
@@ -8,8 +9,8 @@ use std::thread;
 use std::thread::Threads;
 use std::time::Clock;
 use tw_host::Closed;
-use tw_pool::{Closing, Final};
-use tw_types::{Actor, Layout, Value};
+use tw_pool::Closing;
+use tw_types::{Actor, Layout};
 use tw_workers::{Gate, NoGate, run};
 
 const MOST_POLLS: u64 = 1_000_000;
@@ -105,15 +106,6 @@ fn two_jobs_at_once(rt: HostRuntime) {
     assert_eq!(rt; (told, has_other, is_late), (Some((8, false)), true, false));
 }
 
-/// The number in the first output.
-fn first_output(outcome: &Final) -> Option<i64> {
-    let id = *outcome.outputs().first()?;
-    match outcome.view(id)?.value()? {
-        Value::Int(number) => Some(*number),
-        Value::Text(_) => None,
-    }
-}
-
 /// Whether the run of `STORE_SEVEN` was quiet and had its events, and its output.
 fn end_of(closed: Closed) -> Option<(bool, bool, i64)> {
     match closed {
@@ -148,4 +140,73 @@ fn store_seven<R: Threads + Wait + Clock + Sync>(
 fn a_run_ends(rt: HostRuntime) {
     let told = store_seven(&rt, rt.alloc());
     assert_eq!(rt; told, Some(((true, true, 7), false)));
+}
+
+/// Marks each job of a run with one actor that runs jobs: its task's number is there from the one call to the other.
+#[derive(Drop)]
+struct Marks {
+    /// The number of the task whose job is run, or 0.
+    task: AtomicU64,
+    before: AtomicU64,
+    after: AtomicU64,
+    /// Whether a call came out of its order, or of another task.
+    is_broken: AtomicBool,
+}
+
+impl Marks {
+    fn change(&self, from: u64, to: u64, count: &AtomicU64) {
+        if self.task.swap(to, Ordering::SeqCst) != from {
+            self.is_broken.store(true, Ordering::SeqCst);
+        }
+        count.fetch_add(1, Ordering::SeqCst);
+    }
+}
+
+impl Gate for Marks {
+    fn before_job<R: Wait>(&self, _rt: &R, _actor: Actor, task: u64) {
+        self.change(0, task, &self.before);
+    }
+
+    fn after_job<R: Wait>(&self, _rt: &R, _actor: Actor, task: u64) {
+        self.change(task, 0, &self.after);
+    }
+}
+
+/// How often the gate was called before and after the jobs of `STORE_SEVEN`, and whether a call came out of its order.
+fn marked<R: Threads + Wait + Clock + Sync>(rt: &R, alloc: Global) -> Option<(u64, u64, bool)> {
+    let verified = program(alloc, STORE_SEVEN)?;
+    let layout = Layout::new(1, 1, 1).ok()?;
+    let marks = Marks {
+        task: AtomicU64::new(0),
+        before: AtomicU64::new(0),
+        after: AtomicU64::new(0),
+        is_broken: AtomicBool::new(false),
+    };
+    let _end = run(rt, alloc, &verified, &[], layout, 10_000, &marks).ok()?;
+    let before = marks.before.load(Ordering::SeqCst);
+    let after = marks.after.load(Ordering::SeqCst);
+    Some((before, after, marks.is_broken.load(Ordering::SeqCst)))
+}
+
+/// Main's job is lent with its take, and again behind its STORE.
+#[test]
+fn the_gate_is_called_before_and_after_each_job(rt: HostRuntime) {
+    assert_eq!(rt; marked(&rt, rt.alloc()), Some((2, 2, false)));
+}
+
+/// How many events a run with all seats that there can be has, where it is quiet, and whether memory ran out.
+fn with_all_seats<R: Threads + Wait + Clock + Sync>(
+    rt: &R,
+    alloc: Global,
+) -> Option<(usize, bool)> {
+    let verified = program(alloc, FOR_LAST_WORKER)?;
+    let layout = Layout::new(4, 4, 16).ok()?;
+    let (closed, memory) = run(rt, alloc, &verified, &[], layout, 100, &NoGate).ok()?;
+    Some((quiet_after(closed)?, memory))
+}
+
+/// The task can be taken from the last seat alone: main's take, call and end, and the take and end of the leaf task.
+#[test]
+fn each_seat_is_driven(rt: HostRuntime) {
+    assert_eq!(rt; with_all_seats(&rt, rt.alloc()), Some((5, false)));
 }

@@ -1,19 +1,11 @@
-//! A pool and a host that are turned in one thread.
+//! A pool that is turned in one thread.
 
 ghost use Rattle.std.specs.Prelude.{◌≡◌, IfSome};
-ghost use Rattle.tw_host.specs.Seats.{seat_count};
 ghost use Rattle.tw_host.specs.Tells.{IsAnswerOf, IsDoneOf};
 
-use crate::programs::{
-    ENGINE, RULE_ON_CLOSED, RULE_WAITS_FOR_NOTICE, SEVEN, STORE_SEVEN, TARGETED_TASK, TWO_LEAVES,
-    begins, has_just, program,
-};
+use crate::programs::{ENGINE, SEVEN, STORE_SEVEN, TWO_LEAVES, has_just, program};
 use std::alloc::Global;
-use std::marker::Brand;
-use std::sync::Wait;
-use std::sync::ledger::Blank;
 use tw_frame::{Done, Job};
-use tw_host::{Closed, Host, Named, Seat, seat_count};
 use tw_pool::{Closing, Final, History, Pool, Turn};
 use tw_types::{Actor, Event, Input, Layout};
 use tw_verify::Verified;
@@ -22,7 +14,7 @@ use tw_verify::Verified;
 #[derive(Clone, Copy, Debug, PartialEq, Eq)]
 pub enum Said {
     Quiet,
-    Stuck,
+    Stuck(u64),
     Stopped,
     Limit,
     Foreign(u64),
@@ -36,10 +28,10 @@ pub enum Said {
     NoActor,
 }
 
-fn over(closing: Closing) -> Said {
+pub fn over(closing: Closing) -> Said {
     match closing {
         Closing::Quiet => Said::Quiet,
-        Closing::Stuck(_) => Said::Stuck,
+        Closing::Stuck(rules) => Said::Stuck(rules),
         Closing::Stopped => Said::Stopped,
         Closing::Limit => Said::Limit,
     }
@@ -53,7 +45,7 @@ fn lent<'a>(alloc: Global, job: Job<'a>) -> (Said, Option<Done<'a>>)
 }
 
 /// What a turn answers, with the Done that it gives back or of the job that it lends.
-fn settled<'a>(alloc: Global, verified: &Verified, turn: Turn<'a>) -> (Said, Option<Done<'a>>)
+pub fn settled<'a>(alloc: Global, verified: &Verified, turn: Turn<'a>) -> (Said, Option<Done<'a>>)
     requires { IsAnswerOf verified.now turn }
     ensures { IsDoneOf verified.now result.1 }
 {
@@ -259,7 +251,7 @@ const FIRST: Actor = Actor::Worker(0);
 const SECOND: Actor = Actor::Worker(1);
 
 /// The events of `TWO_LEAVES` where the second worker ends first.
-const TWO: [Event; 8] = [
+pub const TWO: [Event; 8] = [
     Event::Take(ENGINE),
     Event::Call(ENGINE),
     Event::Call(ENGINE),
@@ -282,7 +274,7 @@ fn foreign_in_pool(alloc: Global) -> Option<([Said; 5], usize, bool)> {
 }
 
 /// What the workers are told.
-const FOREIGN: [Said; 5] = [
+pub const FOREIGN: [Said; 5] = [
     Said::Run(2),
     Said::Run(3),
     Said::Foreign(3),
@@ -293,336 +285,4 @@ const FOREIGN: [Said; 5] = [
 #[test]
 fn a_done_of_another_job_comes_back(rt: HostRuntime) {
     assert_eq!(rt; foreign_in_pool(rt.alloc()), Some((FOREIGN, 0, true)));
-}
-
-/// What is done with a host and its seats.
-pub trait Play {
-    fn play<'a, N: Named, R: Wait>(
-        &mut self,
-        rt: &R,
-        alloc: Global,
-        host: &Host<'a, N>,
-        seats: &mut [Seat<N>],
-    );
-}
-
-fn played_by<N: Named, P: Play, R: Wait>(
-    rt: &R,
-    alloc: Global,
-    blank: Blank,
-    verified: &Verified,
-    inputs: &[Input],
-    layout: Layout,
-    limit: usize,
-    play: &mut P,
-) -> Option<Closed>
-    requires ledger { (blank.name ≡ N.name) × (blank.parts ≡ N.parts) × (blank.parts ≡ seat_count layout) }
-    requires run { N.run ≡ record { program = verified.now; inputs = inputs.now; layout = layout; limit = limit } }
-{
-    let Ok((host, mut seats)) = Host::<N>::open(alloc, blank, verified, inputs, layout, limit)
-    else {
-        return None;
-    };
-    play.play(rt, alloc, &host, seats.as_mut_slice());
-    Some(host.close(seats))
-}
-
-/// How a host closes with which this was done.
-pub fn played<P: Play, R: Wait>(
-    rt: &R,
-    alloc: Global,
-    verified: &Verified,
-    layout: Layout,
-    play: &mut P,
-) -> Option<Closed> {
-    let blank = Blank::new(seat_count(layout) as u64);
-    played_by::<Brand, P, R>(rt, alloc, blank, verified, &[], layout, 100, play)
-}
-
-/// One turn of a seat, whose job is run.
-pub fn seat_turn<'a, N: Named, R: Wait>(
-    rt: &R,
-    alloc: Global,
-    host: &Host<'a, N>,
-    seat: &mut Seat<N>,
-    done: Option<Done<'a>>,
-) -> (Said, Option<Done<'a>>)
-    requires { IsDoneOf N.run.program done }
-    ensures { IsDoneOf N.run.program result.1 }
-{
-    match host.turn(rt, alloc, seat, done) {
-        Ok(turn) => settled(alloc, host.program(), turn),
-        Err(strange) => (Said::Strange, strange.done),
-    }
-}
-
-/// As `foreign_at_table`.
-fn foreign_at_seats<'a, N: Named, R: Wait>(
-    rt: &R,
-    alloc: Global,
-    host: &Host<'a, N>,
-    w0: &mut Seat<N>,
-    w1: &mut Seat<N>,
-) -> [Said; 5] {
-    let (first, own) = seat_turn(rt, alloc, host, w0, None);
-    let (second, other) = seat_turn(rt, alloc, host, w1, None);
-    let (third, other) = seat_turn(rt, alloc, host, w0, other);
-    let (fourth, _none) = seat_turn(rt, alloc, host, w1, other);
-    let (fifth, _none) = seat_turn(rt, alloc, host, w0, own);
-    [first, second, third, fourth, fifth]
-}
-
-/// As `put_two`.
-fn put_two_by<'a, N: Named, R: Wait>(
-    rt: &R,
-    alloc: Global,
-    host: &Host<'a, N>,
-    engine: &mut Seat<N>,
-) {
-    let (_said, done) = seat_turn(rt, alloc, host, engine, None);
-    let (_said, done) = seat_turn(rt, alloc, host, engine, done);
-    let (_said, done) = seat_turn(rt, alloc, host, engine, done);
-    let _last = seat_turn(rt, alloc, host, engine, done);
-}
-
-#[derive(Drop)]
-struct TwoWorkers {
-    said: Option<[Said; 5]>,
-}
-
-impl Play for TwoWorkers {
-    fn play<'a, N: Named, R: Wait>(
-        &mut self,
-        rt: &R,
-        alloc: Global,
-        host: &Host<'a, N>,
-        seats: &mut [Seat<N>],
-    ) {
-        let [engine, _server, w0, w1] = seats else {
-            return;
-        };
-        put_two_by(rt, alloc, host, engine);
-        self.said = Some(foreign_at_seats(rt, alloc, host, w0, w1));
-    }
-}
-
-/// The history of a host whose seats were told what their actors did, and why it was over.
-pub fn end_of(closed: Closed) -> Option<(History, Option<Said>)> {
-    match closed {
-        Closed::Ended {
-            history,
-            outcome,
-            by_seat: _,
-        } => Some((history, outcome.closing().map(over))),
-        Closed::Differs { .. } => None,
-    }
-}
-
-/// What the workers' seats are told, and whether the history is as it should be.
-fn foreign_in_host<R: Wait>(rt: &R, alloc: Global) -> Option<(Option<[Said; 5]>, bool)> {
-    let verified = program(alloc, TWO_LEAVES)?;
-    let layout = Layout::new(1, 1, 2).ok()?;
-    let mut play = TwoWorkers { said: None };
-    let closed = played(rt, alloc, &verified, layout, &mut play)?;
-    let (history, _closing) = end_of(closed)?;
-    Some((play.said, has_just(&history, &TWO)))
-}
-
-#[test]
-fn a_seat_gets_a_foreign_done_back(rt: HostRuntime) {
-    assert_eq!(rt;
-        foreign_in_host(&rt, rt.alloc()),
-        Some((Some(FOREIGN), true))
-    );
-}
-
-/// Stops the run first, and then turns each seat once.
-#[derive(Drop)]
-struct Stop {
-    are_told: bool,
-}
-
-impl Play for Stop {
-    fn play<'a, N: Named, R: Wait>(
-        &mut self,
-        rt: &R,
-        alloc: Global,
-        host: &Host<'a, N>,
-        seats: &mut [Seat<N>],
-    ) {
-        host.stop(rt);
-        for seat in seats {
-            let (said, _none) = seat_turn(rt, alloc, host, seat, None);
-            self.are_told &= said == Said::Stopped;
-        }
-    }
-}
-
-/// Whether each turn of a stopped run says so, how many events there are, and why it was over.
-fn stopped<R: Wait>(rt: &R, alloc: Global) -> Option<(bool, usize, Option<Said>)> {
-    let verified = program(alloc, STORE_SEVEN)?;
-    let layout = Layout::new(2, 2, 3).ok()?;
-    let mut play = Stop { are_told: true };
-    let closed = played(rt, alloc, &verified, layout, &mut play)?;
-    let (history, closing) = end_of(closed)?;
-    Some((play.are_told, history.len(), closing))
-}
-
-#[test]
-fn no_event_after_a_stop(rt: HostRuntime) {
-    assert_eq!(rt;
-        stopped(&rt, rt.alloc()),
-        Some((true, 0, Some(Said::Stopped)))
-    );
-}
-
-/// Whether what was told from one place on is the history from another on.
-fn is_behind(told: &[Event], from: usize, history: &History, before: usize) -> bool {
-    let Some(new) = told.get(from..) else {
-        return false;
-    };
-    for k in before..history.len() {
-        let Some(event) = new.get(k - before) else {
-            return false;
-        };
-        if history.event(k) != *event {
-            return false;
-        }
-    }
-    history.len().wrapping_sub(before) == new.len()
-}
-
-/// A turn of a seat, and one of its actor at the table: whether both answer the same, and the seat is told just what
-/// the table's history has got.
-fn twin_turn<'a, 'b, N: Named, R: Wait>(
-    rt: &R,
-    alloc: Global,
-    host: &Host<'a, N>,
-    seat: &mut Seat<N>,
-    table: &mut Table<'b>,
-    done: Option<Done<'a>>,
-    twin: Option<Done<'b>>,
-) -> (bool, Option<Done<'a>>, Option<Done<'b>>)
-    requires done { IsDoneOf N.run.program done }
-    requires twin { IsDoneOf table.old.verified.now twin }
-    ensures done { IsDoneOf N.run.program result.1 }
-    ensures twin { IsDoneOf table.new.verified.now result.2 }
-{
-    let told = seat.told().len();
-    let before = table.pool.history().len();
-    let actor = seat.actor();
-    let (said, done) = seat_turn(rt, alloc, host, seat, done);
-    let (also, twin) = table.turn(alloc, actor, twin);
-    let are_told = is_behind(seat.told(), told, table.pool.history(), before);
-    ((said == also) & are_told, done, twin)
-}
-
-/// The same where there is a Done to hand in.
-fn twin_on<'a, 'b, N: Named, R: Wait>(
-    rt: &R,
-    alloc: Global,
-    host: &Host<'a, N>,
-    seat: &mut Seat<N>,
-    table: &mut Table<'b>,
-    done: Option<Done<'a>>,
-    twin: Option<Done<'b>>,
-) -> (bool, Option<Done<'a>>, Option<Done<'b>>)
-    requires done { IsDoneOf N.run.program done }
-    requires twin { IsDoneOf table.old.verified.now twin }
-    ensures done { IsDoneOf N.run.program result.1 }
-    ensures twin { IsDoneOf table.new.verified.now result.2 }
-{
-    if done.is_none() {
-        return (twin.is_none(), None, None);
-    }
-    twin_turn(rt, alloc, host, seat, table, done, twin)
-}
-
-/// A turn, and those of the task that it takes. No task of these programs has more than three calls.
-fn twin_task<'a, 'b, N: Named, R: Wait>(
-    rt: &R,
-    alloc: Global,
-    host: &Host<'a, N>,
-    seat: &mut Seat<N>,
-    table: &mut Table<'b>,
-) -> bool {
-    let (first, done, twin) = twin_turn(rt, alloc, host, seat, table, None, None);
-    let (second, done, twin) = twin_on(rt, alloc, host, seat, table, done, twin);
-    let (third, done, twin) = twin_on(rt, alloc, host, seat, table, done, twin);
-    let (fourth, done, twin) = twin_on(rt, alloc, host, seat, table, done, twin);
-    let (fifth, done, _twin) = twin_on(rt, alloc, host, seat, table, done, twin);
-    first & second & third & fourth & fifth & done.is_none()
-}
-
-/// A table that does what a host does.
-struct Twin<'b> {
-    table: Table<'b>,
-    is_same: bool,
-}
-
-impl Play for Twin<'_> {
-    fn play<'a, N: Named, R: Wait>(
-        &mut self,
-        rt: &R,
-        alloc: Global,
-        host: &Host<'a, N>,
-        seats: &mut [Seat<N>],
-    ) {
-        for _ in 0..6 {
-            for seat in seats.iter_mut() {
-                let first = twin_task(rt, alloc, host, seat, &mut self.table);
-                let second = twin_task(rt, alloc, host, seat, &mut self.table);
-                self.is_same &= first & second;
-            }
-        }
-    }
-}
-
-/// Whether two histories have the same events.
-fn are_same(history: &History, other: &History) -> bool {
-    history.len() == other.len() && begins(history, other)
-}
-
-/// Whether the host with which this was done closes with the table's history, of so many events, and is quiet.
-fn ends_as(closed: Option<Closed>, table: Table) -> Option<(bool, usize, Option<Said>)> {
-    let (_outcome, wanted) = table.shut();
-    let (history, closing) = end_of(closed?)?;
-    Some((are_same(&history, &wanted), history.len(), closing))
-}
-
-/// A host beside a table: whether each turn is the same, and how they end.
-fn twins<R: Wait>(
-    rt: &R,
-    alloc: Global,
-    text: &str,
-) -> Option<(bool, Option<(bool, usize, Option<Said>)>)> {
-    let verified = program(alloc, text)?;
-    let layout = Layout::new(1, 1, 4).ok()?;
-    let table = Table::open(alloc, &verified, &[], layout, 100)?;
-    let mut play = Twin {
-        table,
-        is_same: true,
-    };
-    let closed = played(rt, alloc, &verified, layout, &mut play);
-    let Twin { table, is_same } = play;
-    Some((is_same, ends_as(closed, table)))
-}
-
-/// Each program's events, counted by hand: main's take, local steps, calls and end; what is asked, delivered and released;
-/// and the same four of each leaf task.
-#[test]
-fn a_host_does_what_a_pool_does(rt: HostRuntime) {
-    let told = (
-        twins(&rt, rt.alloc(), STORE_SEVEN),
-        twins(&rt, rt.alloc(), RULE_ON_CLOSED),
-        twins(&rt, rt.alloc(), RULE_WAITS_FOR_NOTICE),
-        twins(&rt, rt.alloc(), TARGETED_TASK),
-    );
-    let wanted = (
-        Some((true, Some((true, 4, Some(Said::Quiet))))),
-        Some((true, Some((true, 13, Some(Said::Quiet))))),
-        Some((true, Some((true, 17, Some(Said::Quiet))))),
-        Some((true, Some((true, 5, Some(Said::Quiet))))),
-    );
-    assert_eq!(rt; told, wanted);
 }

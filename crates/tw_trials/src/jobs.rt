@@ -15,9 +15,9 @@ use tw_verify::{Verified, verify};
 
 /// What was done of main, in one job, or in two where the first was short.
 #[derive(Drop)]
-pub(crate) struct Stretch<'a> {
-    pub(crate) done: Done<'a>,
-    pub(crate) steps: u64,
+pub struct Stretch<'a> {
+    done: Done<'a>,
+    pub steps: u64,
 }
 
 /// Runs a job, and where it is short the next one.
@@ -52,10 +52,7 @@ fn shut(task: Task) {
 }
 
 /// Runs main from its first place on.
-pub(crate) fn stretch_of(
-    alloc: Global,
-    verified: &Verified,
-) -> Result<Option<Stretch<'_>>, AllocError> {
+pub fn stretch_of(alloc: Global, verified: &Verified) -> Result<Option<Stretch<'_>>, AllocError> {
     let _procedures = verified.program().procedures();
     let task = Task {
         no: TaskNo::new(1),

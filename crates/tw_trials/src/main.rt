@@ -1,8 +1,9 @@
 //! Trials that run long: each prints its first difference, if there is one, and a last line tells how many agree. With a word
-//! behind the name only those run in which memory may be refused, which are the first, and they are short.
+//! behind the name only those run in which memory may be refused, which are the first, and they are short; with the word `steps`
+//! a program's main runs by itself, to be measured.
 #![tactic(auto)]
 
-mod callers;
+mod alone;
 mod calls;
 mod draw;
 mod jobs;
@@ -16,7 +17,6 @@ mod search;
 mod stores;
 mod stretches;
 mod walks;
-mod worked;
 
 use std::{env, io};
 
@@ -59,12 +59,6 @@ fn whole_trials(rt: &HostRuntime, agreeing: u64) -> io::Result<u64> {
     let agreeing = told(rt, agreeing, "10,000 puts and takes", puts)?;
     let rules = rules::calls_are_the_lists(alloc, 10_000);
     let agreeing = told(rt, agreeing, "10,000 calls of the rules", rules)?;
-    let agreeing = told(
-        rt,
-        agreeing,
-        "worked examples of jobs",
-        worked::first_row(alloc),
-    )?;
     let jobs = jobs::first_stretch(alloc, 10_000, MOST);
     let mut agreeing = told(rt, agreeing, "10,000 jobs", jobs)?;
     for (name, agrees) in [
@@ -106,19 +100,28 @@ fn verifier_trials(rt: &HostRuntime, agreeing: u64) -> io::Result<u64> {
     Ok(agreeing)
 }
 
-fn main(rt: HostRuntime) -> io::Result<()> {
-    let mut agreeing = refusal_trials(&rt, 300)?;
-    if env::args(&rt)?.nth(1).is_none() {
-        agreeing = whole_trials(&rt, agreeing)?;
-        agreeing = verifier_trials(&rt, agreeing)?;
+/// All trials, or those alone in which memory may be refused.
+fn trials(rt: &HostRuntime, is_whole: bool) -> io::Result<()> {
+    let mut agreeing = refusal_trials(rt, 300)?;
+    if is_whole {
+        agreeing = whole_trials(rt, agreeing)?;
+        agreeing = verifier_trials(rt, agreeing)?;
     }
-    agreeing = told(&rt, agreeing, "a control that is to differ", whole(false))?;
+    agreeing = told(rt, agreeing, "a control that is to differ", whole(false))?;
     let short = jobs::first_stretch(rt.alloc(), 10, 5);
     agreeing = told(
-        &rt,
+        rt,
         agreeing,
         "jobs, a control of five steps that is to differ",
         short,
     )?;
     println!(rt; "{agreeing} trials agree")
+}
+
+fn main(rt: HostRuntime) -> io::Result<()> {
+    match env::args(&rt)?.nth(1) {
+        None => trials(&rt, true),
+        Some(word) if word.as_str() == "steps" => alone::print_steps(&rt),
+        Some(_) => trials(&rt, false),
+    }
 }

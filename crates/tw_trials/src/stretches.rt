@@ -119,7 +119,7 @@ fn add_loops(code: &mut Code, seed: &mut u64) -> Result<(), AllocError> {
 }
 
 /// The bytes of a program of one procedure with this code, of so many instructions.
-pub fn spelled(alloc: Global, code: &[u8], count: u8) -> Result<Vec<u8>, AllocError> {
+fn spelled(alloc: Global, code: &[u8], count: u8) -> Result<Vec<u8>, AllocError> {
     let mut bytes = Vec::new(alloc);
     bytes.extend_from_slice(&HEAD)?;
     bytes.extend_from_slice(&[0, count])?;

@@ -1,5 +1,5 @@
 use Rattle.std.specs.Prelude.{[]}
-use Rattle.tw_tests.proofs.turns.played.Given as goal
+use Rattle.tw_tests.proofs.seats.played.Given as goal
 
 abbrev pub ghosts-played_by-N-Ledger : goal.ghosts-played_by-N-Ledger
 ghosts-played_by-N-Ledger g a = record { name = a.blank.name; parts = a.blank.parts }
