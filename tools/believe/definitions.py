@@ -1,0 +1,361 @@
+"""Definitions: the files of specs/ and proofs/, and what a name in one of them stands for.
+
+A name is found as the prover finds it: what is bound beside it, what the file defines, what its `use` lines bring in. What a clause
+binds somewhere counts as bound in all of it. A name that is found nowhere is an error, so nothing is left out in silence.
+"""
+import os
+import re
+import sys
+
+ROOT = os.path.dirname(os.path.dirname(os.path.dirname(os.path.realpath(__file__))))
+# What the language has without an import.
+BUILT_IN = set("→ × ¬ ⊥ : = ← ↦ | λ _ Type Unit tt absurd record data where pub abbrev unfoldable do let in elim as ∗ ⌜ ⌝".split())
+WORD = re.compile(r'"(?:[^"\\]|\\.)*"|[(){}\[\],;]|\.?[^\s(){}\[\],;."]+(?:\.[^\s(){}\[\],;."]+)*|\.')
+NUMERAL = re.compile(r"\d|0x")
+
+
+def fail(why):
+    sys.exit(f"believe: {why}")
+
+
+def read(path):
+    with open(os.path.join(ROOT, path), encoding="utf-8") as file:
+        return file.read()
+
+
+def crates():
+    """The crates of the repository, lowest first, and which of them are checks."""
+    names, checks, is_check = [], set(), False
+    for line in read("crates.txt").splitlines():
+        if line.startswith("#"):
+            is_check = line.startswith("# Checks")
+        elif ":" in line:
+            names.append(re.match(r"\w+", line).group())
+            if is_check:
+                checks.add(names[-1])
+    return names, checks
+
+
+CRATES, CHECKS = crates()
+
+
+class Item:
+    """A piece of text that is printed whole: a definition, a type, a constant."""
+
+    def __init__(self, file, name, start, lines):
+        self.file, self.name, self.start, self.lines = file, name, start, lines
+        self.uses = None
+
+    def __repr__(self):
+        return f"{self.file}:{self.start} {self.name}"
+
+
+def without_comment(line):
+    in_text = False
+    for at, c in enumerate(line):
+        if c == '"' and (at == 0 or line[at - 1] != "\\"):
+            in_text = not in_text
+        elif not in_text and line.startswith("--", at) and (at == 0 or line[at - 1].isspace()) and line[at + 2:at + 3] in ("", " "):
+            return line[:at]
+    return line
+
+
+def imports(text):
+    """The names that `use` lines bring in, each with its module and its name there; and other names of modules."""
+    names, modules = {}, {}
+    for path, listed, other in re.findall(r"^\s*(?:ghost )?(?:pub )?use ([^\s{;]+?)(?:\.\{([^}]*)\})?(?: as ([^\s;]+))?;?\s*$", text, re.M):
+        if listed:
+            for each in listed.split(","):
+                parts = each.split()
+                names[parts[-1]] = (path, parts[0])
+        else:
+            modules[other or path.split(".")[-1]] = path
+    return names, modules
+
+
+class Definitions:
+    """A file of definitions: what it defines, and what its names mean."""
+
+    def __init__(self, path, file):
+        self.path, self.file = path, file
+        lines = read(file).splitlines()
+        bare = [without_comment(line).rstrip() for line in lines]
+        self.items, self.constructors = {}, {}
+        heads = [at for at, line in enumerate(bare) if line and not line[0].isspace() and line[0] not in ")]}"]
+        ends = heads[1:] + [len(lines)]
+        uses, opened, before = [], None, []
+        for start, end in zip(heads, ends):
+            while end > start and not bare[end - 1]:
+                end -= 1
+            words = bare[start].split()
+            if words[0] == "use" or words[:2] == ["pub", "use"]:
+                uses.append(" ".join(" ".join(bare[start:end]).split()))
+            elif words[0] in ("infixl", "infixr", "infix"):
+                before = list(range(start, end))
+            elif words[:2] == ["pub", "mod"] or words[0] in ("mod", "unfolding"):
+                pass
+            elif opened and words[0] == opened.name:
+                opened.chunks.append((start, end))
+            else:
+                name = next(word for word in words if word not in ("abbrev", "pub", "unfoldable", "record", "data"))
+                opened = Item(file, name, start, None)
+                opened.kind = next((word for word in words if word in ("record", "data")), "abbrev")
+                opened.chunks, opened.before = [(start, end)], before
+                self.items[name] = opened
+                before = []
+        self.names, self.modules = imports("\n".join(uses))
+        for item in self.items.values():
+            first = item.before[0] if item.before else item.start
+            while first > 0 and lines[first - 1].startswith("--"):
+                first -= 1
+            item.lines, item.module = lines[first:item.chunks[-1][1]], self
+            item.texts = ["\n".join(bare[start:end]) for start, end in item.chunks]
+            if item.kind == "data":
+                for constructor in re.findall(r"^  (\S+(?: \S+)*?) : ", item.texts[0], re.M):
+                    for name in constructor.split():
+                        self.constructors[name] = item
+        self.operators = operators([*self.items, *self.names])
+
+    def meaning(self, name):
+        """The item, or the words of the library, that a name stands for here; None where it has none."""
+        if name in self.items:
+            return self.items[name]
+        if name in self.constructors:
+            return self.constructors[name]
+        if name in self.names:
+            return found(*self.names[name])
+        return None
+
+
+def operators(names):
+    """The pieces of the operators among these names, each with its operator."""
+    return {piece: name for name in names if "◌" in name for piece in name.split("◌") if piece}
+
+
+def specs():
+    """All files of definitions and of lemmas, by their paths as `use` lines have them."""
+    known = {}
+    for crate in CRATES:
+        for room in ("specs", "proofs"):
+            top = os.path.join(ROOT, "crates", crate, room)
+            for folder, _, files in os.walk(top):
+                for name in files:
+                    if name.endswith(".antt"):
+                        file = os.path.join(folder, name)
+                        inner = os.path.relpath(file, top)[:-5].replace(os.sep, ".")
+                        known[f"Rattle.{crate}.{room}.{inner}"] = os.path.relpath(file, ROOT)
+    return known
+
+
+FILES = specs()
+loaded = {}
+
+
+def definitions(path):
+    if path in FILES and path not in loaded:
+        loaded[path] = Definitions(path, FILES[path])
+    return loaded.get(path)
+
+
+def crate_of(path):
+    parts = path.split(".")
+    return parts[1] if parts[0] == "Rattle" and len(parts) > 1 and parts[1] in CRATES else None
+
+
+def found(path, name):
+    """What a name of a module stands for: an item, or its words where it is the library's."""
+    crate = crate_of(path)
+    if not crate:
+        return f"{re.sub('^Rattle[.]', '', path)}.{name}"
+    parts = path.split(".")
+    if parts[2:4] == ["specs", "declared"]:
+        from sources import declared
+        return declared(crate, parts[4:], name)
+    module = definitions(path)
+    if module:
+        meaning = module.meaning(name)
+        if meaning is not None:
+            return meaning
+    if f"{path}.{name}" in FILES:
+        return None
+    fail(f"{path} has no {name}")
+
+
+class Scope:
+    """Where the names of a term are looked up, behind those that are bound in it."""
+
+    def __init__(self, names, modules, own=lambda name: None):
+        self.names, self.modules, self.own = names, modules, own
+        self.operators = operators(names)
+
+    def meaning(self, name):
+        if name in self.names:
+            return found(*self.names[name])
+        return self.own(name)
+
+
+def is_constructor(scope, name):
+    """Whether a name in a pattern is a constructor, which binds nothing."""
+    if name in getattr(scope, "constructors", {}):
+        return True
+    if name not in scope.names:
+        return False
+    path, there = scope.names[name]
+    if crate_of(path):
+        if ".declared." in path:
+            return path.endswith(".TheVariants")
+        return there in definitions(path).constructors
+    return there[0].isupper() or there in ("true", "false", "zero", "suc", "[]", "◌∷◌", "pos", "negsuc", "tt", "refl")
+
+
+def bound_in_pattern(scope, words):
+    """The names that a pattern binds."""
+    names = set()
+    for word in words:
+        if word[0] in '"(){}[],;.' or NUMERAL.match(word) or word in BUILT_IN or word in scope.operators:
+            continue
+        if "." not in word and not is_constructor(scope, word):
+            names.add(word)
+    return names
+
+
+def patterns(words):
+    """The words of a clause between its name and its `=`; none where it has no `=`."""
+    depth = 0
+    for at, word in enumerate(words):
+        depth += (word in "([{") - (word in ")]}")
+        if word == "=" and depth == 0:
+            return words[1:at]
+    return []
+
+
+def bound(scope, words):
+    """The names that a term binds somewhere in it."""
+    names = set()
+    for at, word in enumerate(words):
+        if word == "λ":
+            end = at + 1
+            while end < len(words) and words[end] != ".":
+                end += 1
+            inner = words[at + 1:end]
+            # A binder with a type has its names before the colon.
+            names |= bound_in_pattern(scope, inner[:inner.index(":")] if ":" in inner else inner)
+        elif word in ("(", "{"):
+            end = at + 1
+            while end < len(words) and words[end][0] not in '"(){}[],;.:=':
+                end += 1
+            if end > at + 1 and end < len(words) and words[end] == ":":
+                names.update(words[at + 1:end])
+        elif word == "let":
+            end = at + 1
+            while words[end] not in ("=", ":"):
+                end += 1
+            names |= bound_in_pattern(scope, words[at + 1:end])
+        elif word == "↦":
+            start = at - 1
+            while start >= 0 and words[start] not in ("[", "|"):
+                start -= 1
+            names |= bound_in_pattern(scope, words[start + 1:at])
+    return names
+
+
+def used(scope, words, local, unknown):
+    """What the words of a term stand for, but for those that are bound."""
+    meanings = []
+    for at, word in enumerate(words):
+        if word[0] in '"(){}[],;.' or NUMERAL.match(word) or word in BUILT_IN:
+            continue
+        if at + 1 < len(words) and words[at + 1] == "=" and at > 0 and words[at - 1] in ("{", ";"):
+            continue  # the label of a field or of an argument
+        first, *rest = word.strip("«»").split(".")
+        if first in local:
+            continue
+        meaning = scope.meaning(first)
+        if meaning is None and first in scope.operators:
+            meaning = scope.meaning(scope.operators[first])
+        if meaning is None and first in scope.modules and rest:
+            path = scope.modules[first]
+            while len(rest) > 1 and f"{path}.{rest[0]}" in FILES:
+                path += "." + rest.pop(0)
+            meaning = found(path, rest[0])
+        if meaning is None:
+            unknown.append(first)
+        elif isinstance(meaning, list):
+            meanings += meaning
+        else:
+            meanings.append(meaning)
+    return meanings
+
+
+def sequencing(scope, text):
+    """What the lines of each `do` are joined by."""
+    lines, names = text.split("\n"), set()
+    for at, line in enumerate(lines):
+        if re.search(r"(^|[\s(])do$", line) and at + 1 < len(lines):
+            depth = len(lines[at + 1]) - len(lines[at + 1].lstrip())
+            steps = []
+            for each in lines[at + 1:]:
+                inner = len(each) - len(each.lstrip())
+                if each.strip() and inner < depth:
+                    break
+                if each.strip() and inner == depth:
+                    steps.append(each)
+            names.update("◌>>=◌" if "←" in step.split() else "◌>>◌" for step in steps[:-1])
+    return [scope.meaning(name) for name in sorted(names)]
+
+
+def dots_apart(text):
+    """The dot of a binder stands apart from the name before it."""
+    return re.sub(r"\.(?=\s|$)", " . ", text)
+
+
+def words_of(text):
+    return WORD.findall(dots_apart(text))
+
+
+def pieces_of(item):
+    """The parts of a definition, each with the names that it binds besides those within it: the signature, each clause, each field."""
+    module = item.module
+    if item.kind == "record":
+        at, fields = 0, set()
+        starts = [match.start() for match in re.finditer(r"^  (?:pub )?\S+(?: \S+)*? :(?:\s|$)", item.texts[0], re.M)]
+        for end in [*starts, len(item.texts[0])]:
+            text = item.texts[0][at:end]
+            field = re.match(r"  (?:pub )?(\S+(?: \S+)*?) :\s", text)
+            here = set(field.group(1).split()) if field else set()
+            yield text[field.end(1):] if field else text, fields
+            fields = fields | here | (bound(module, words_of(text)) if at == 0 else set())
+            at = end
+        return
+    for text in item.texts:
+        words, local = words_of(text), set()
+        if item.kind == "abbrev" and text is not item.texts[0]:
+            local |= bound_in_pattern(module, patterns(words))
+            below = [line for line in text.split("\n") if line[:1].isspace()]
+            if "where" in words:
+                # What is defined below `where` is the clause's own.
+                local |= {match.group(1) for match in (re.match(r"\s+(\S+) :(\s|$)", line) for line in below) if match}
+            for line in below:
+                step = re.match(r"\s+(.*?) ←(\s|$)", line)
+                clause = words_of(line)
+                if step:
+                    local |= bound_in_pattern(module, words_of(step.group(1)))
+                elif "where" in words and clause[0] in local:
+                    local |= bound_in_pattern(module, patterns(clause))
+        yield text, local
+
+
+def uses_of_definition(item):
+    """What a definition names. What a clause binds counts as bound in all of it, and in no other clause."""
+    module, meanings, unknown, own = item.module, [], [], {item.name}
+    if item.kind == "data":
+        own |= {name for name, of in module.constructors.items() if of is item}
+        own |= bound(module, words_of(item.texts[0].split("\n")[0]))
+    for text, local in pieces_of(item):
+        words = words_of(text)
+        local = local | bound(module, words)
+        meanings += used(module, words, local | own, unknown)
+        meanings += sequencing(module, text)
+    if unknown:
+        fail(f"{item}: {' '.join(sorted(set(unknown)))} isn't known there")
+    return meanings
