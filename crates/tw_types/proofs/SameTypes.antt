@@ -39,14 +39,6 @@ same_types a b e =
 pub type_itself : (a : NestedScalar) → same_type a a ≡ true
 type_itself a = rw (lists_itself a.containers) (scalar_itself a.scalar)
 
--- what has an element has it in a container
-pub element_deep : (element ty : NestedScalar) → is_element_of element ty ≡ true → is_scalar ty ≡ false
-element_deep element ty h = by ty.containers h
-  where
-    by : (containers : List Scalar) → is_element_of element (record ty { containers = containers }) ≡ true → is_scalar (record ty { containers = containers }) ≡ false
-    by [] h = cc
-    by (own ∷ inner) h = refl
-
 pub element_is : (element ty : NestedScalar) → is_element_of element ty ≡ true → element_of ty ≡ Some element
 element_is element ty h = by ty.containers h
   where
