@@ -17,3 +17,7 @@ on_err (Err why) h f = f h
 pub copied_there : {A : Type 0} (r : Option (Bor A)) (y : A) → option_copied r ≡ Some y → ((x : Bor A) → r ≡ Some x → ⊥) → ⊥
 copied_there None y e none = cc
 copied_there (Some x) y e none = none x refl
+
+-- two that are there are the same
+pub unsome : {X : Type 0} {x y : X} → Some x ≡ Some y → x ≡ y
+unsome e = cc
