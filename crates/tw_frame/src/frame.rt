@@ -22,8 +22,7 @@ use crate::rooms::{Ahead, EmptyFile, Rooms};
 use crate::start::Start;
 use std::alloc::{AllocError, Global};
 use std::marker::Model;
-use tw_queue::Task;
-use tw_rights::{Arg, Bundle, Held, ReadRight, RightFile, WriteRight};
+use tw_rights::{Arg, Bundle, Held, ReadRight, RightFile, Task, WriteRight};
 use tw_types::{Actor, Param, TaskNo, Value, ValueRef};
 use tw_verify::Verified;
 

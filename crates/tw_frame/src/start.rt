@@ -13,8 +13,7 @@ use crate::registers::Registers;
 use crate::rooms::{Ahead, EmptyFile, Rooms};
 use std::alloc::{AllocError, Global};
 use std::marker::Model;
-use tw_queue::Task;
-use tw_rights::{Arg, Bundle};
+use tw_rights::{Arg, Bundle, Task};
 use tw_types::Value;
 use tw_verify::Verified;
 

@@ -1,16 +1,16 @@
 -- The best of the tasks, told by what the map of them answers.
-use Rattle.std.proofs.Common.{◌≡◌, ℕ, Bool, true, false, cond, T, List, [], ◌∷◌, refl, sym, ap, subst, ◌∙◌}
+use Rattle.std.proofs.Common.{[], ◌≡◌, ℕ, Bool, true, false, cond, T, List, ◌∷◌, refl, sym, ap, subst, ◌∙◌}
 use Rattle.std.specs.Prelude.{int_lt}
 use Rattle.std.specs.declared.cmp.Ordering.{Ordering}
 use Rattle.std.specs.declared.cmp.Ordering.TheVariants.{Less, Equal, Greater}
 use Rattle.std.specs.declared.option.Option.{Option}
 use Rattle.std.specs.declared.option.Option.TheVariants.{None, Some}
-use Rattle.std.specs.Ordering.{nat_cmp, int_cmp, ordering_then, eq_by_cmp, is_eq, is_lt}
-use Rattle.std.specs.Cmp.{nat_cmp_total, tied_itself}
-use Rattle.std.specs.FinMap.{find, get, entries, entries_sorted, get-entries, is_sorted, nat_cmp-IsAntisymmetric}
+use Rattle.std.specs.Ordering.{nat_cmp, int_cmp, ordering_then, eq_by_cmp, is_lt}
+use Rattle.std.specs.FinMap.{find, get, entries, entries_sorted, get-entries, is_sorted}
 use Rattle.tw_types.specs.declared.actor.Actor.{Actor}
 use Rattle.tw_types.specs.Task.{TaskOf, TasksOf, best, best_of, better, is_eligible}
-use Rattle.tw_types.proofs.Rising.{first, second, find_below}
+use Rattle.tw_types.proofs.Found.{IsIn, in_first, in_later, later, same_no}
+use Rattle.tw_types.proofs.Rising.{first, second}
 use Rattle.std.specs.FinMap.Entries.{below_all}
 
 -- f doesn't go before e
@@ -26,45 +26,7 @@ greater true g e = cc
 greater false true e = refl
 greater false false e = cc
 
-tied : (o : Ordering) → is_eq o ≡ true → o ≡ Equal
-tied Less e = cc
-tied Equal e = refl
-tied Greater e = cc
-
 module _ {A : Type 0} where
-  abbrev IsIn : ℕ × TaskOf A → List (ℕ × TaskOf A) → Type 0
-  IsIn e es = find nat_cmp e.0 es ≡ Some e.1
-
-  same_no : (e f : ℕ × TaskOf A) → eq_by_cmp nat_cmp e.0 f.0 ≡ true → e.0 ≡ f.0
-  same_no e f h = nat_cmp-IsAntisymmetric e.0 f.0 (tied (nat_cmp e.0 f.0) h)
-
-  -- what comes later has another number
-  later : (f e : ℕ × TaskOf A) (es : List (ℕ × TaskOf A)) → T (below_all nat_cmp f.0 es) → IsIn e es → nat_cmp f.0 e.0 ≡ Less
-  later f e [] low there = cc
-  later f e (g ∷ es) low there = by (eq_by_cmp nat_cmp e.0 g.0) (λ is. later f e es (second _ _ low) is) refl there
-    where
-      by : (b : Bool) → (IsIn e es → nat_cmp f.0 e.0 ≡ Less) → eq_by_cmp nat_cmp e.0 g.0 ≡ b → cond b (Some g.1) (find nat_cmp e.0 es) ≡ Some e.1 → nat_cmp f.0 e.0 ≡ Less
-      by true rest t is = subst (λ n. nat_cmp f.0 n ≡ Less) (sym (same_no e g t)) (below (nat_cmp f.0 g.0) (first _ _ low))
-        where
-          below : (o : Ordering) → T (is_lt o) → o ≡ Less
-          below Less p = refl
-          below Equal p = absurd p
-          below Greater p = absurd p
-      by false rest t is = rest is
-
-  in_later : (f e : ℕ × TaskOf A) (es : List (ℕ × TaskOf A)) → T (below_all nat_cmp f.0 es) → IsIn e es → IsIn e (f ∷ es)
-  in_later f e es low there = by (eq_by_cmp nat_cmp e.0 f.0) refl
-    where
-      by : (b : Bool) → eq_by_cmp nat_cmp e.0 f.0 ≡ b → cond b (Some f.1) (find nat_cmp e.0 es) ≡ Some e.1
-      by true t =
-          let none : find nat_cmp f.0 es ≡ None = find_below nat_cmp f.0 es low in
-          let some : find nat_cmp f.0 es ≡ Some e.1 = subst (λ n. find nat_cmp n es ≡ Some e.1) (same_no e f t) there in
-          cc
-      by false t = there
-
-  in_first : (e : ℕ × TaskOf A) (es : List (ℕ × TaskOf A)) → IsIn e (e ∷ es)
-  in_first e es = rw (tied_itself nat_cmp_total e.0) refl
-
   -- ---- what `best_of` answers
 
   module _ (actor : Actor) where

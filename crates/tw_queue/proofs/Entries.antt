@@ -1,11 +1,9 @@
 -- The tasks in the slots, seen as a finite map.
-use Rattle.std.proofs.Common.{◌≡◌, ◌≢◌, ◌<◌, ◌+◌, ℕ, suc, zero, Bool, true, false, cond, List, [], ◌∷◌, refl, sym, ap, ◌∙◌, arith, get_or, inl, inr, ◌⊎◌, is_some, count_by}
+use Rattle.std.proofs.Common.{[], ◌≡◌, ◌≢◌, ◌<◌, ◌+◌, ℕ, suc, zero, true, false, cond, List, ◌∷◌, refl, sym, ap, ◌∙◌, arith, get_or, inl, inr, ◌⊎◌, is_some, count_by}
 use Rattle.std.specs.declared.option.Option.{Option}
 use Rattle.std.specs.declared.option.Option.TheVariants.{None, Some}
-use Rattle.std.specs.declared.cmp.Ordering.{Ordering}
-use Rattle.std.specs.declared.cmp.Ordering.TheVariants.{Less, Equal, Greater}
-use Rattle.std.specs.Ordering.{nat_cmp, eq_by_cmp, is_eq}
-use Rattle.std.specs.Cmp.{nat_cmp_total, tied_itself}
+use Rattle.std.specs.Ordering.{nat_cmp, eq_by_cmp}
+use Rattle.std.specs.Cmp.{nat_cmp_total}
 use Rattle.std.proofs.lemmas.Bool.Decides.{eqb_tells}
 use Rattle.std.proofs.lemmas.List.Sums.{sum_by-cons}
 use Rattle.std.specs.FinMap.{nat_cmp-IsAntisymmetric, find, get, insert, remove, len, get-insert, get-remove, get-from_entries, len-empty, len-insert, same_map}
@@ -14,27 +12,11 @@ use Rattle.tw_rights.specs.declared.arg.Arg.{Arg}
 use Rattle.tw_queue.specs.declared.waiting.Waiting.{Waiting}
 use Rattle.tw_queue.specs.Slots.{IsChangedAt, slot_at}
 use Rattle.tw_queue.specs.Indexed.{AreApart, numbered, task_in, tasks_in}
+use Rattle.tw_types.proofs.Orders.{other_key, own_key}
 use Rattle.tw_queue.proofs.Indexing.{IsUpdated}
 
 abbrev Slots : Type 0
 Slots = List (Option Waiting)
-
--- ---- keys
-
-tied : (r : Ordering) → is_eq r ≡ true → r ≡ Equal
-tied Less e = cc
-tied Equal e = refl
-tied Greater e = cc
-
-itself : (x : ℕ) → eq_by_cmp nat_cmp x x ≡ true
-itself x = ap is_eq (tied_itself nat_cmp_total x)
-
-other_key : (x y : ℕ) → x ≢ y → eq_by_cmp nat_cmp x y ≡ false
-other_key x y h = at (eq_by_cmp nat_cmp x y) refl
-  where
-    at : (b : Bool) → eq_by_cmp nat_cmp x y ≡ b → b ≡ false
-    at true e = absurd (h (nat_cmp-IsAntisymmetric x y (tied _ e)))
-    at false e = refl
 
 same_entry : (v w : Waiting) → Some v ≡ Some w → v ≡ w
 same_entry v w h = cc
@@ -52,10 +34,10 @@ find_here (None ∷ slots) zero w h u = absurd (no_entry w h)
 find_here (None ∷ slots) (suc p) w h u = find_here slots p w h (λ j v l q. u (suc j) v (omega (arith, l)) q)
 find_here (Some a ∷ slots) zero w h u =
     let is : a ≡ w = same_entry a w h in
-    let here : eq_by_cmp nat_cmp w.task.no a.task.no ≡ true = ap (eq_by_cmp nat_cmp w.task.no) (ap (λ v. v.task.no) is) ∙ itself w.task.no in
+    let here : eq_by_cmp nat_cmp w.task.no a.task.no ≡ true = ap (eq_by_cmp nat_cmp w.task.no) (ap (λ v. v.task.no) is) ∙ own_key nat_cmp_total w.task.no in
     ap (λ b. cond b (Some (task_in a)) (find nat_cmp w.task.no (numbered slots))) here ∙ ap (λ v. Some (task_in v)) is
 find_here (Some a ∷ slots) (suc p) w h u =
-    let not_here : eq_by_cmp nat_cmp w.task.no a.task.no ≡ false = other_key w.task.no a.task.no (λ i. u zero a (omega arith) refl (sym i)) in
+    let not_here : eq_by_cmp nat_cmp w.task.no a.task.no ≡ false = other_key nat_cmp-IsAntisymmetric w.task.no a.task.no (λ i. u zero a (omega arith) refl (sym i)) in
     ap (λ b. cond b (Some (task_in a)) (find nat_cmp w.task.no (numbered slots))) not_here
     ∙ find_here slots p w h (λ j v l q. u (suc j) v (omega (arith, l)) q)
 
@@ -66,7 +48,7 @@ IsNowhere number slots = (p : ℕ) (w : Waiting) → slot_at slots p ≡ Some w 
 find_none : (slots : Slots) (q : ℕ) → IsNowhere q slots → find nat_cmp q (numbered slots) ≡ None
 find_none [] q h = refl
 find_none (None ∷ slots) q h = find_none slots q (λ p w i. h (suc p) w i)
-find_none (Some a ∷ slots) q h = ap (λ b. cond b (Some (task_in a)) (find nat_cmp q (numbered slots))) (other_key q a.task.no (λ i. h zero a refl (sym i)))
+find_none (Some a ∷ slots) q h = ap (λ b. cond b (Some (task_in a)) (find nat_cmp q (numbered slots))) (other_key nat_cmp-IsAntisymmetric q a.task.no (λ i. h zero a refl (sym i)))
     ∙ find_none slots q (λ p w i. h (suc p) w i)
 
 -- a slot has one
@@ -169,20 +151,20 @@ tasks_put p w old new was unused free changed = same_map nat_cmp_total nat_cmp-I
     at : (q : ℕ) → get (tasks_in new) q ≡ cond (eq_by_cmp nat_cmp q w.task.no) (Some (task_in w)) (get (tasks_in old) q)
     at q = elim (eqb_tells q w.task.no) as (λ _. get (tasks_in new) q ≡ cond (eq_by_cmp nat_cmp q w.task.no) (Some (task_in w)) (get (tasks_in old) q)) [
       | inl y ↦ ap (get (tasks_in new)) y.1 ∙ get_here new is p w changed.here
-          ∙ sym (ap (λ b. cond b (Some (task_in w)) (get (tasks_in old) q)) (ap (λ x. eq_by_cmp nat_cmp x w.task.no) y.1 ∙ itself w.task.no))
+          ∙ sym (ap (λ b. cond b (Some (task_in w)) (get (tasks_in old) q)) (ap (λ x. eq_by_cmp nat_cmp x w.task.no) y.1 ∙ own_key nat_cmp_total w.task.no))
       | inr y ↦ elim (search_slots old q) as (λ _. get (tasks_in new) q ≡ cond (eq_by_cmp nat_cmp q w.task.no) (Some (task_in w)) (get (tasks_in old) q)) [
         | inl s ↦
             let elsewhere : s.slot ≢ p = λ i. no_entry s.waiting (sym free ∙ ap (slot_at old) (sym i) ∙ s.there) in
             let still : slot_at new s.slot ≡ Some s.waiting = changed.others s.slot elsewhere ∙ s.there in
             ap (get (tasks_in new)) (sym s.number_is) ∙ get_here new is s.slot s.waiting still
-            ∙ sym (ap (λ b. cond b (Some (task_in w)) (get (tasks_in old) q)) (other_key q w.task.no y.1)
+            ∙ sym (ap (λ b. cond b (Some (task_in w)) (get (tasks_in old) q)) (other_key nat_cmp-IsAntisymmetric q w.task.no y.1)
             ∙ ap (get (tasks_in old)) (sym s.number_is) ∙ get_here old was s.slot s.waiting s.there)
         | inr n ↦
             get_nowhere new q (λ j v h. elim (eqb_tells j p) as (λ _. v.task.no ≢ q) [
               | inl z ↦ λ i. y.1 (sym i ∙ ap (λ x. x.task.no) (same_entry v w (sym h ∙ ap (slot_at new) z.1 ∙ changed.here)))
               | inr z ↦ n j v (sym (changed.others j z.1) ∙ h)
             ])
-            ∙ sym (ap (λ b. cond b (Some (task_in w)) (get (tasks_in old) q)) (other_key q w.task.no y.1) ∙ get_nowhere old q n)
+            ∙ sym (ap (λ b. cond b (Some (task_in w)) (get (tasks_in old) q)) (other_key nat_cmp-IsAntisymmetric q w.task.no y.1) ∙ get_nowhere old q n)
       ]
     ]
 
@@ -200,11 +182,11 @@ tasks_gone p w old new was there changed = same_map nat_cmp_total nat_cmp-IsAnti
           let still : slot_at old s.slot ≡ Some s.waiting = sym (changed.others s.slot elsewhere) ∙ s.there in
           let apart : q ≢ w.task.no = λ i. elsewhere (was s.slot p s.waiting w still there (s.number_is ∙ i)) in
           ap (get (tasks_in new)) (sym s.number_is) ∙ get_here new is s.slot s.waiting s.there
-          ∙ sym (ap (λ b. cond b None (get (tasks_in old) q)) (other_key q w.task.no apart) ∙ ap (get (tasks_in old)) (sym s.number_is) ∙ get_here old was s.slot s.waiting still)
+          ∙ sym (ap (λ b. cond b None (get (tasks_in old) q)) (other_key nat_cmp-IsAntisymmetric q w.task.no apart) ∙ ap (get (tasks_in old)) (sym s.number_is) ∙ get_here old was s.slot s.waiting still)
       | inr n ↦ elim (eqb_tells q w.task.no) as (λ _. get (tasks_in new) q ≡ cond (eq_by_cmp nat_cmp q w.task.no) None (get (tasks_in old) q)) [
-        | inl y ↦ get_nowhere new q n ∙ sym (ap (λ b. cond b None (get (tasks_in old) q)) (ap (λ x. eq_by_cmp nat_cmp x w.task.no) y.1 ∙ itself w.task.no))
+        | inl y ↦ get_nowhere new q n ∙ sym (ap (λ b. cond b None (get (tasks_in old) q)) (ap (λ x. eq_by_cmp nat_cmp x w.task.no) y.1 ∙ own_key nat_cmp_total w.task.no))
         | inr y ↦ get_nowhere new q n
-            ∙ sym (ap (λ b. cond b None (get (tasks_in old) q)) (other_key q w.task.no y.1) ∙ get_nowhere old q (λ j v h. elim (eqb_tells j p) as (λ _. v.task.no ≢ q) [
+            ∙ sym (ap (λ b. cond b None (get (tasks_in old) q)) (other_key nat_cmp-IsAntisymmetric q w.task.no y.1) ∙ get_nowhere old q (λ j v h. elim (eqb_tells j p) as (λ _. v.task.no ≢ q) [
               | inl z ↦ λ i. y.1 (sym i ∙ ap (λ x. x.task.no) (same_entry v w (sym h ∙ ap (slot_at old) z.1 ∙ there)))
               | inr z ↦ n j v (changed.others j z.1 ∙ h)
             ]))

@@ -1,19 +1,19 @@
 -- How the index of the ranks is kept where a task comes or goes.
-use Rattle.std.proofs.Common.{◌≡◌, ◌⊎◌, inl, inr, ℕ, ℤ, Bool, true, false, [], ◌∷◌, refl, sym, subst, ◌∙◌, map, nat_eq, arith}
+use Rattle.std.proofs.Common.{[], ◌≡◌, ◌⊎◌, inl, inr, ℕ, ℤ, Bool, true, false, ◌∷◌, refl, sym, subst, ◌∙◌, map, nat_eq}
 use Rattle.std.specs.declared.option.Option.{Option}
 use Rattle.std.specs.declared.option.Option.TheVariants.{None, Some}
 use Rattle.std.specs.List.{Contains, IsDistinct}
 use Rattle.std.specs.List.Sorted.{IsPermutation}
 use Rattle.std.proofs.lemmas.List.Sorted.{Contains-permutation, IsPermutation-sym, IsPermutation-map}
 use Rattle.std.proofs.lemmas.Map.Keys.{IsDistinct-IsPermutation, IsDistinct-cons, IsDistinct-head, IsDistinct-tail}
-use Rattle.std.proofs.lemmas.Bool.Decides.{nat_tests}
 use Rattle.tw_types.specs.declared.actor.Kind.{Kind}
 use Rattle.tw_queue.specs.declared.rank.Rank.{Rank}
 use Rattle.tw_queue.specs.declared.waiting.Waiting.{Waiting}
 use Rattle.tw_queue.specs.Index.{Ranking, IsHereOrSame}
 use Rattle.tw_queue.specs.Queues.{IsTarget, lane_of}
 use Rattle.tw_queue.specs.Indexed.{AreApart, IsIndex, IsEntryAt, rank_of}
-use Rattle.tw_queue.proofs.Members.{contains_none, contains_here, contains_later, contains_cases, all_mapped, all_at, mapped_has}
+use Rattle.tw_types.proofs.Numbers.{nat_apart, nat_flips, nat_itself, nat_same}
+use Rattle.tw_types.proofs.Elements.{contains_none, contains_here, contains_later, contains_cases, all_mapped, all_at, mapped_has}
 
 -- the task in a slot
 abbrev pub Entries : Type 0
@@ -24,30 +24,6 @@ slot_of rank = rank.slot
 
 abbrev pub ranked : ℤ → ℕ → ℕ → Rank
 ranked priority number slot = record { priority = priority; number = number; slot = slot }
-
-pub nat_apart : (a b : ℕ) → (a ≡ b → ⊥) → nat_eq a b ≡ false
-nat_apart a b h = grind (arith, nat_tests)
-
-pub nat_same : (a b : ℕ) → nat_eq a b ≡ true → a ≡ b
-nat_same a b h = grind (arith, nat_tests)
-
-pub nat_itself : (a : ℕ) → nat_eq a a ≡ true
-nat_itself a = grind (arith, nat_tests)
-
-pub nat_flips : (a b : ℕ) → nat_eq a b ≡ nat_eq b a
-nat_flips a b = by (nat_eq a b) (nat_eq b a) refl refl
-  where
-    by : (p q : Bool) → nat_eq a b ≡ p → nat_eq b a ≡ q → p ≡ q
-    by true true h k = refl
-    by false false h k = refl
-    by true false h k =
-        let t = nat_itself a in
-        let u : nat_eq b a ≡ true = subst (λ x. nat_eq x a ≡ true) (nat_same a b h) t in
-        cc
-    by false true h k =
-        let t = nat_itself b in
-        let u : nat_eq a b ≡ true = subst (λ x. nat_eq x b ≡ true) (nat_same b a k) t in
-        cc
 
 entry_is : (kind : Kind) (lane : ℕ) (rank : Rank) (o : Option Waiting) (w : Waiting) → IsEntryAt kind lane rank o → o ≡ Some w → IsEntryAt kind lane rank (Some w)
 entry_is kind lane rank o w h e = subst (IsEntryAt kind lane rank) e h
@@ -240,17 +216,6 @@ module _ (old new : Entries) (less more : Ranking) (is : IsIndex old more) (kind
     targets = λ q v e. is.targets q v (was_entry q v e);
     apart = λ p q v u e f. is.apart p q v u (was_entry p v e) (was_entry q u f);
   }
-
--- ---- the same tasks
-
-pub same_index : (old new : Entries) (ranks : Ranking) → IsIndex old ranks → ((q : ℕ) → new q ≡ old q) → IsIndex new ranks
-same_index old new ranks is same = record {
-  sound = λ kind lane rank c. subst (IsEntryAt kind lane rank) (sym (same rank.slot)) (is.sound kind lane rank c);
-  complete = λ q v e. is.complete q v (sym (same q) ∙ e);
-  distinct = is.distinct;
-  targets = λ q v e. is.targets q v (sym (same q) ∙ e);
-  apart = λ p q v u e f. is.apart p q v u (sym (same p) ∙ e) (sym (same q) ∙ f);
-}
 
 -- ---- no tasks
 

@@ -1,5 +1,5 @@
 -- How the slots are kept where one is filled or left.
-use Rattle.std.proofs.Common.{◌≡◌, ◌≢◌, ◌⊎◌, ℕ, zero, suc, ◌+◌, ◌-◌, ◌<◌, List, [], ◌∷◌, ◌++◌, map, length, get_or, set, Some, None, is_some, IsSome, count_by, cond, slice_get, refl, sym, ap, subst, ◌∙◌, inl, inr, arith, length-set, true≢false}
+use Rattle.std.proofs.Common.{[], ◌≡◌, ◌≢◌, ◌⊎◌, ℕ, zero, suc, ◌+◌, ◌-◌, ◌<◌, List, ◌∷◌, ◌++◌, map, length, get_or, set, Some, None, is_some, IsSome, count_by, cond, slice_get, refl, sym, ap, subst, ◌∙◌, inl, inr, arith, length-set, true≢false}
 use Rattle.std.proofs.lemmas.List.{map-set, map_push, length-map, length_push, get_or-map, get_or-set_same, get_or-set_other, get_or_past}
 use Rattle.std.proofs.lemmas.List.Sums.{sum_by-set, sum_by_push}
 use Rattle.std.proofs.lemmas.Option.{slice_get_within, slice_get-get_or, slice_get_read, get_or_from_slice_get}
@@ -147,20 +147,3 @@ module _ (slots : List Slot) (len first : ℕ) (are : AreSlots slots len first) 
         total = omega (arith, length-set slots at (Free first));
         linked = (first, written, free_set slots at (Free first) are.free first (λ m _. full_not_free slots at w found m) are.linked);
       }
-
--- ---- a push
-
-pub changed_push : (slots : List Slot) (w : Waiting) → IsChangedAt (length slots) (Some w) (map waiting_in slots) (map waiting_in (slots ++ Full w ∷ []))
-changed_push [] w = record { here = refl; others = λ other apart. by other apart }
-  where
-    by : (other : ℕ) → other ≢ 0 → get_or (Some w ∷ []) other None ≡ None
-    by zero apart = absurd (apart refl)
-    by (suc other) apart = refl
-changed_push (s ∷ slots) w =
-    let rest = changed_push slots w in
-    record { here = rest.here; others = λ other apart. by rest other apart }
-  where
-    by : IsChangedAt (length slots) (Some w) (map waiting_in slots) (map waiting_in (slots ++ Full w ∷ [])) → (other : ℕ) → other ≢ suc (length slots)
-        → get_or (map waiting_in (s ∷ slots ++ Full w ∷ [])) other None ≡ get_or (map waiting_in (s ∷ slots)) other None
-    by rest zero apart = refl
-    by rest (suc other) apart = rest.others other (λ e. apart (ap suc e))

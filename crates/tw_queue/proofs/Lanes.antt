@@ -1,5 +1,5 @@
 -- The ranks of one kind, where one lane changes.
-use Rattle.std.proofs.Common.{◌≡◌, ◌≢◌, ◌⊎◌, inl, inr, nat_eq, ℕ, zero, suc, ◌<◌, Bool, true, false, List, [], ◌∷◌, ◌++◌, map, refl, sym, ap, subst, ◌∙◌, length, get_or, slice_set, arith}
+use Rattle.std.proofs.Common.{[], ◌≡◌, ◌⊎◌, inl, inr, nat_eq, ℕ, zero, suc, ◌<◌, Bool, true, false, List, ◌∷◌, ◌++◌, map, refl, sym, ap, subst, ◌∙◌, length, get_or, slice_set, arith}
 use Rattle.std.specs.declared.result.Result.{Result}
 use Rattle.std.specs.declared.result.Result.TheVariants.{Ok, Err}
 use Rattle.std.specs.Result.{OnErr, OnOk}
@@ -10,14 +10,14 @@ use Rattle.std.specs.Ordering.{is_lt}
 use Rattle.std.specs.List.{AllByRecursion, Contains}
 use Rattle.std.specs.List.Sorted.{IsPermutation}
 use Rattle.std.proofs.lemmas.List.{map-set, get_or-map, length-map, get_or-set_same, get_or-set_other}
-use Rattle.std.proofs.lemmas.Bool.Decides.{nat_tests}
 use Rattle.std.proofs.Math.Seq.{map-set_same}
 use Rattle.tw_queue.specs.declared.rank.Rank.{Rank}
 use Rattle.tw_queue.specs.Ranks.{rank_cmp}
 use Rattle.tw_queue.specs.Lanes.{IsFirst, LaneSeen}
 use Rattle.tw_queue.specs.Lists.{ranks_in, rooms_in, ranks_at, AreRoomsKept, IsAheadOfAll, IsBest, IsChangedAt, IsOwnLane, IsPushed, IsTaken}
 use Rattle.tw_queue.specs.Queues.{room_at}
-use Rattle.tw_queue.proofs.Members.{all_at, contains_none}
+use Rattle.tw_types.proofs.Numbers.{nat_other, nat_same}
+use Rattle.tw_types.proofs.Elements.{all_at, contains_none}
 use Rattle.tw_queue.proofs.Order.{upper_over}
 
 pub if_ok : {T E P Q : Type 0} (r : Result T E) → (P → Q) → OnOk r P → OnOk r Q
@@ -39,12 +39,6 @@ ranks_of_lane lane = lane.ranks
 
 abbrev has_room : LaneSeen → Bool
 has_room lane = lane.has_room
-
-nat_same : (a b : ℕ) → nat_eq a b ≡ true → a ≡ b
-nat_same a b h = grind (arith, nat_tests)
-
-nat_other : (a b : ℕ) → nat_eq a b ≡ false → a ≢ b
-nat_other a b h e = grind (arith, nat_tests)
 
 module _ (ps : List LaneSeen) (lane : ℕ) (low : lane < length ps) (p w : LaneSeen) (at : p ≡ get_or ps lane p) where
   part_was : {X : Type 0} (part : LaneSeen → X) (none : X) → get_or (map part ps) lane none ≡ part p

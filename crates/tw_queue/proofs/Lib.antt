@@ -1,6 +1,5 @@
 pub mod Kept
 pub mod Bests
-pub mod Members
 pub mod Order
 pub mod Lanes
 pub mod Runs

@@ -6,8 +6,8 @@ use Rattle.std.specs.Option.{IfSome}
 use Rattle.std.proofs.lemmas.List.Sorted.{IsPermutation-sym}
 use Rattle.tw_types.specs.declared.actor.Kind.TheVariants.{Control, Leaf}
 use Rattle.tw_queue.specs.declared.rank.Rank.{Rank}
-use Rattle.tw_queue.specs.Lists.{Listed, ranks_at, IsChangedAt, IsPushed, IsTaken}
-use Rattle.tw_queue.specs.Index.{Ranking, ranks_of, IsHereOrSame, IsRankAdded, IsRankGone}
+use Rattle.tw_queue.specs.Lists.{Listed, ranks_at, IsChangedAt, IsTaken}
+use Rattle.tw_queue.specs.Index.{Ranking, ranks_of, IsHereOrSame, IsRankGone}
 
 abbrev both_kinds : Listed → Listed → Ranking
 both_kinds control leaf = ranks_of (record { control = control; leaf = leaf })
@@ -37,17 +37,11 @@ turned lane old new changed p = by (changed p)
 
 -- ---- of control tasks
 
-pub control_added : (control leaf new : Listed) (lane : ℕ) (rank : Rank) → IsPushed lane rank (ranks_at control.lanes) (ranks_at new.lanes) → IsRankAdded Control lane rank (both_kinds new leaf) (both_kinds control leaf)
-control_added control leaf new lane rank pushed = record { here = pushed.0; others = control_changed control leaf new lane pushed.1 }
-
 pub control_gone : (control leaf new : Listed) (r : Option Rank) → IfSome r (λ rank. IsTaken rank (ranks_at control.lanes) (ranks_at new.lanes)) → IfSome r (λ rank. IsRankGone rank (both_kinds control leaf) (both_kinds new leaf))
 control_gone control leaf new None taken = tt
 control_gone control leaf new (Some rank) taken = (Control, taken.0, record { here = IsPermutation-sym _ _ taken.1; others = control_changed new leaf control taken.0 (turned taken.0 control new taken.2) })
 
 -- ---- of leaf tasks
-
-pub leaf_added : (control leaf new : Listed) (lane : ℕ) (rank : Rank) → IsPushed lane rank (ranks_at leaf.lanes) (ranks_at new.lanes) → IsRankAdded Leaf lane rank (both_kinds control new) (both_kinds control leaf)
-leaf_added control leaf new lane rank pushed = record { here = pushed.0; others = leaf_changed control leaf new lane pushed.1 }
 
 pub leaf_gone : (control leaf new : Listed) (r : Option Rank) → IfSome r (λ rank. IsTaken rank (ranks_at leaf.lanes) (ranks_at new.lanes)) → IfSome r (λ rank. IsRankGone rank (both_kinds control leaf) (both_kinds control new))
 leaf_gone control leaf new None taken = tt

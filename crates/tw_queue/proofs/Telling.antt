@@ -22,8 +22,9 @@ use Rattle.tw_queue.specs.Queues.{IsTarget, handed_out, lane_of}
 use Rattle.tw_queue.specs.Index.{Ranking, IsRankBest}
 use Rattle.tw_queue.specs.Indexed.{IsIndex, IsEntryAt, rank_of, task_in}
 use Rattle.tw_queue.proofs.Bests.{IsAhead, best_is, best_none}
-use Rattle.tw_queue.proofs.Members.{all_at, contains_none}
-use Rattle.tw_queue.proofs.Indexing.{Entries, nat_itself, nat_same}
+use Rattle.tw_types.proofs.Elements.{all_at, contains_none}
+use Rattle.tw_types.proofs.Numbers.{nat_itself, nat_same}
+use Rattle.tw_queue.proofs.Indexing.{Entries}
 use Rattle.tw_queue.proofs.Entries.{AreSeen, Stands}
 
 -- the entry of the best rank is the best task's

@@ -5,7 +5,7 @@ use Rattle.tw_types.specs.declared.actor.Kind.{Kind}
 use Rattle.tw_types.specs.declared.actor.Kind.TheVariants.{Control, Leaf}
 use Rattle.tw_types.specs.Task.{TaskOf, TasksOf}
 use Rattle.tw_rights.specs.declared.arg.Arg.{Arg}
-use Rattle.tw_queue.specs.declared.task.Task.{Task}
+use Rattle.tw_rights.specs.declared.task.Task.{Task}
 
 -- the tasks that wait, by their numbers; and for each kind, lane by lane, whether one can be put there for sure
 pub record Queues : Type 0 where

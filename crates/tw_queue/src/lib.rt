@@ -7,8 +7,7 @@ mod lists;
 mod queues;
 mod rank;
 mod slots;
-mod task;
 mod waiting;
 
 pub use queues::TaskQueues;
-pub use task::Task;
+pub use tw_rights::Task;

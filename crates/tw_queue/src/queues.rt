@@ -10,10 +10,10 @@ ghost use Rattle.tw_queue.specs.Queues.{IsRoomKept, IsTarget, handed_out, room_f
 use crate::index::Index;
 use crate::rank::Rank;
 use crate::slots::Slots;
-use crate::task::Task;
 use crate::waiting::Waiting;
 use std::alloc::{AllocError, Global};
 use std::marker::Model;
+use tw_rights::Task;
 use tw_types::{Actor, Kind};
 
 /// The tasks that wait, each in a slot, and an index of them by kind, target and rank.

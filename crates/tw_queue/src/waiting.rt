@@ -1,6 +1,6 @@
 //! Tasks as they wait.
 
-use crate::task::Task;
+use tw_rights::Task;
 use tw_types::Kind;
 
 /// A task that waits, and what it waits by.

@@ -1,5 +1,5 @@
 -- How the rights of a bundle come into the first registers of a file.
-use Rattle.std.proofs.Common.{◌≡◌, ◌<◌, ◌≤◌, ◌-◌, ◌∙◌, ℕ, suc, zero, List, [], ◌∷◌, ◌++◌, Option, Some, None, refl, sym, ap, arith, map as each, get_or, set, length, length-append, replicate}
+use Rattle.std.proofs.Common.{[], ◌≡◌, ◌<◌, ◌≤◌, ◌-◌, ◌∙◌, ℕ, suc, List, ◌∷◌, ◌++◌, Option, Some, None, refl, sym, ap, arith, map as each, set, length, length-append, replicate}
 use Rattle.tw_types.specs.declared.value.Value.{Value}
 use Rattle.tw_rights.specs.declared.arg.Arg.{Arg}
 use Rattle.tw_rights.specs.declared.arg.Arg.TheVariants as arg
@@ -20,18 +20,9 @@ rights_few (arg.Val value ∷ xs) = let rest = rights_few xs in omega arith
 rights_few (arg.Read right ∷ xs) = let rest = rights_few xs in omega arith
 rights_few (arg.Write right ∷ xs) = let rest = rights_few xs in omega arith
 
-empty_behind : (xs : List Held) (n : ℕ) → get_or (each Some xs ++ replicate n None) (length xs) None ≡ None
-empty_behind [] zero = refl
-empty_behind [] (suc n) = refl
-empty_behind (x ∷ xs) n = empty_behind xs n
-
 put_behind : (xs : List Held) (x : Held) (n : ℕ) → set (each Some xs ++ replicate (suc n) None) (length xs) (Some x) ≡ each Some (xs ++ x ∷ []) ++ replicate n None
 put_behind [] x n = refl
 put_behind (y ∷ xs) x n = ap (λ ys. Some y ∷ ys) (put_behind xs x n)
-
--- the register behind the last right is empty
-pub is_empty_behind : (xs : List Held) → get_or (filed xs) (length xs) None ≡ None
-is_empty_behind xs = empty_behind xs (16 - length xs)
 
 pub filed_more : (xs : List Held) (x : Held) → length xs < 16 → set (filed xs) (length xs) (Some x) ≡ filed (xs ++ x ∷ [])
 filed_more xs x room =

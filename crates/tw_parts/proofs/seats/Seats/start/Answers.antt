@@ -7,7 +7,7 @@ use Rattle.tw_types.specs.declared.value.Value.{Value}
 use Rattle.tw_types.specs.Task.{TaskOf}
 use Rattle.tw_rights.specs.declared.arg.Arg.{Arg}
 use Rattle.tw_rights.specs.Filed.{filed, rights_in}
-use Rattle.tw_queue.specs.declared.task.Task.{Task}
+use Rattle.tw_rights.specs.declared.task.Task.{Task}
 use Rattle.tw_queue.specs.Queues.{handed_out, without}
 use Rattle.tw_code.specs.declared.procedure.Procedure.{Procedure}
 use Rattle.tw_verify.specs.Typed.{TypedProgram}

@@ -1,6 +1,6 @@
 //! Tasks.
 
-use tw_rights::Bundle;
+use crate::bundle::Bundle;
 use tw_types::TaskNo;
 
 /// A task: its number, its procedure and its arguments.
