@@ -1,8 +1,6 @@
-pub mod Rising
 pub mod Order
 pub mod Sides
 pub mod Turns
 pub mod Entries
-pub mod Mapped
 pub mod Subscripts
 pub mod Members

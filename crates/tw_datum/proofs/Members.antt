@@ -1,5 +1,5 @@
 -- The members of a container, where there are some and where there are none, and going through them.
-use Rattle.std.proofs.Common.{◌≡◌, Bool, true, false, subst, OnErr, ℕ, zero, suc, ℤ, List, [], ◌∷◌, Some, None, IfSome, refl, sym, ap, ◌∙◌, map as each, length, slice_get, pos, negsuc, arith, ◌+◌, ◌≤◌, fold, drop, inl, inr, OnOk}
+use Rattle.std.proofs.Common.{[], ◌≡◌, Bool, true, false, subst, OnErr, ℕ, zero, suc, ℤ, List, ◌∷◌, Some, None, IfSome, refl, sym, ap, ◌∙◌, map as each, length, slice_get, pos, negsuc, arith, ◌+◌, ◌≤◌, fold, drop, inl, inr, OnOk}
 use Rattle.std.specs.declared.option.Option.{Option}
 use Rattle.std.specs.declared.result.Result.{Result}
 use Rattle.std.specs.declared.result.Result.TheVariants.{Ok, Err}
@@ -18,14 +18,11 @@ use Rattle.tw_types.specs.Value.{scalar_of}
 use Rattle.tw_types.proofs.Subscripts.{no_kinds, one_more_kind}
 use Rattle.tw_types.proofs.Totals.{IsEntry, get_entry}
 use Rattle.tw_datum.specs.Kept.{FitsType, KeptMembers, ids_of}
-use Rattle.tw_datum.proofs.Mapped.{insert_mapped}
+use Rattle.tw_types.proofs.Elements.{no_items}
+use Rattle.tw_types.proofs.Mapped.{insert_mapped}
 
 pub insert_ids : {M : Type 0} (id : M → ℕ) (m : KeptMembers M) (k : Subscript) (x : M) → ids_of id (map.insert m k x) ≡ map.insert (ids_of id m) k (id x)
-insert_ids id = insert_mapped value_cmp id value_cmp_total value_cmp-IsAntisymmetric
-
-pub on_ok : {A E : Type 0} (r : Result A E) {P Q : Type 0} → OnOk r P → (P → Q) → OnOk r Q
-on_ok (Ok x) h f = f h
-on_ok (Err why) h f = tt
+insert_ids id = insert_mapped id value_cmp_total value_cmp-IsAntisymmetric
 
 -- what is in a container at first
 pub container_empty : (ty : NestedScalar) → is_scalar ty ≡ false → empty_content ty ≡ Contains map.empty
@@ -47,15 +44,11 @@ still_kinds {M} id (Err why) ty before after subscript member kinds kind added r
 
 -- ---- where there are none
 
-nothing_in : (es : List (Subscript × ℕ)) → length es ≡ 0 → es ≡ []
-nothing_in [] e = refl
-nothing_in (x ∷ es) e = absurd (omega arith)
-
 pub no_members : map.len (map.empty {X = ℕ} {R = value_cmp}) ≡ 0
 no_members = len-empty value_cmp ℕ
 
 pub no_entries : entries (map.empty {X = ℕ} {R = value_cmp}) ≡ []
-no_entries = nothing_in _ (sym (len-entries (map.empty {X = ℕ} {R = value_cmp})) ∙ no_members)
+no_entries = no_items _ (sym (len-entries (map.empty {X = ℕ} {R = value_cmp})) ∙ no_members)
 
 pub none_after : (k : ℤ) → None ≡ subscript_after k (map.keys (map.empty {X = ℕ} {R = value_cmp}))
 none_after k = at k ∙ ap (λ es. subscript_after k (keys_of es)) (sym no_entries)

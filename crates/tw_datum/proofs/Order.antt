@@ -1,5 +1,5 @@
 -- Entries whose keys rise, around one of them with the key k.
-use Rattle.std.proofs.Common.{◌≡◌, cond, T, List, [], ◌∷◌, ◌++◌, refl, sym, ap, subst, ◌∙◌}
+use Rattle.std.proofs.Common.{[], ◌≡◌, cond, T, List, ◌∷◌, ◌++◌, refl, sym, ap, subst, ◌∙◌}
 use Rattle.std.specs.declared.cmp.Ordering.{Ordering}
 use Rattle.std.specs.declared.cmp.Ordering.TheVariants.{Less, Equal, Greater}
 use Rattle.std.specs.declared.option.Option.TheVariants.{Some}
@@ -7,7 +7,7 @@ use Rattle.std.specs.Ordering.{is_eq, is_lt, eq_by_cmp, ordering_reverse}
 use Rattle.std.specs.Cmp.{IsTotalOrder}
 use Rattle.std.specs.FinMap.{find, put, is_sorted}
 use Rattle.std.specs.FinMap.Entries.{below_all, by_order}
-use Rattle.tw_datum.proofs.Rising.{first, second, both, less, find_below, below_less}
+use Rattle.tw_types.proofs.Rising.{first, second, both, less, find_below, below_less}
 
 turned : (r : Ordering) → ordering_reverse r ≡ Less → r ≡ Greater
 turned Less e = absurd (subst (λ o. T (is_lt o)) (sym e) tt)

@@ -6,13 +6,11 @@ use Rattle.std.specs.FinMap as map
 use Rattle.tw_types.specs.declared.data_type.Scalar.{Scalar}
 use Rattle.tw_types.specs.Store.{Datum}
 use Rattle.tw_types.specs.StoreCalls.{members_in, subscript_after}
-use Rattle.tw_types.specs.StoreChecks.{may_read_members, may_read_members_by}
+use Rattle.tw_types.specs.StoreChecks.{may_read_members_by}
 use Rattle.tw_types.specs.TypedStore.{AreSubscriptsFor}
 use Rattle.tw_types.specs.Value.{scalar_of}
 use Rattle.tw_types.specs.ValueOrder.{Subscript}
 use Rattle.tw_types.proofs.Passed.{read_container}
-use Rattle.tw_types.proofs.Results.{must_then}
-use Rattle.tw_types.proofs.SameTypes.{by_deep}
 use Rattle.tw_types.proofs.Subscripts.{subscript_kind}
 
 -- what is found in a container is of the type that was asked
@@ -20,8 +18,3 @@ pub kind_found : (x : Datum) (by : Scalar) (index : ℤ) (found : Option Subscri
     → IfSome found (λ subscript. scalar_of subscript ≡ by)
 kind_found x by index None o live kinds is may = tt
 kind_found x by index (Some k) o live kinds is may = subscript_kind x.ty (members_in x.content) by kinds (read_container by o x live may) index k (sym is)
-
--- they may then be read at all
-pub reads_by : (by : Scalar) (o : Option Datum) → may_read_members_by by o ≡ Ok tt → may_read_members o ≡ Ok tt
-reads_by by None h = cc
-reads_by by (Some x) h = let both = must_then _ _ _ _ h in rw (by_deep by x.ty both.0) both.1

@@ -1,9 +1,9 @@
 -- A datum as it is kept: a member may say more than its id, such as the place of its datum.
-use Rattle.std.specs.Prelude.{◌≡◌, ℕ, ℤ, Bool, true, false, not, List, [], map as each, Option, Some, None, option_map}
-use Rattle.std.specs.declared.cmp.Ordering.{Ordering}
+use Rattle.std.specs.Prelude.{[], ◌≡◌, ℕ, ℤ, Bool, true, false, not, List, map as each, Option, Some, None, option_map}
 use Rattle.std.specs.Borrow.{Bor}
 use Rattle.std.specs.FinMap as map
 use Rattle.std.specs.FinMap.{FinMap}
+use Rattle.tw_types.specs.Mapped.{mapped}
 use Rattle.tw_types.specs.Nesting.{NestedScalar}
 use Rattle.tw_types.specs.DataType.{is_scalar}
 use Rattle.tw_types.specs.Store.{Content as Meaning, Unset, Set, Contains, Members, Datum, new_datum}
@@ -13,10 +13,6 @@ use Rattle.tw_types.specs.ValueOrder.{Subscript, value_cmp}
 use Rattle.tw_types.specs.declared.value.Value.TheVariants as value
 use Rattle.tw_datum.specs.declared.datum.Content.{Content}
 use Rattle.tw_datum.specs.declared.datum.Content.TheVariants as content
-
--- with f of each value
-unfoldable pub mapped : {K V W : Type 0} {R : K → K → Ordering} → (V → W) → FinMap R V → FinMap R W
-mapped f m = map.from_sorted (each (λ e. (e.0, f e.1)) (map.entries m))
 
 -- the member at each subscript
 abbrev pub KeptMembers : Type 0 → Type 0

@@ -1,29 +1,9 @@
 -- What the loss of a write leaves, over the finite map.
-use Rattle.std.proofs.Common.{◌≡◌, ℕ, Bool, true, false, cond, Some, refl, sym, ap, subst, ◌∙◌, IfSome, fold}
-use Rattle.std.specs.Cmp.{nat_cmp_total}
-use Rattle.std.specs.FinMap.{nat_cmp-IsAntisymmetric, get, insert, remove}
-use Rattle.tw_types.proofs.Maps.{remove_insert}
+use Rattle.std.proofs.Common.{◌≡◌, ℕ, Some, sym, ap, subst, ◌∙◌, IfSome}
+use Rattle.std.specs.FinMap.{get, insert}
+use Rattle.tw_types.proofs.Settled.{here, here_is, settled_written, with_live}
 use Rattle.tw_types.specs.StoreCalls.{store_after}
-use Rattle.tw_types.specs.Store.{Data, Datum, Store, drop_read_within, settled, is_unheld, members_of, subscribers_cleared}
-use Rattle.tw_instr.proofs.Live.{here, same}
-use Rattle.tw_instr.proofs.Views.{with_live, here_is}
-
-gone : Data → Datum → Data
-gone m x = fold (drop_read_within 2) m (members_of x.content)
-
-settled_written : (m : Data) (id : ℕ) (x : Datum) → settled (insert m id x) id x ≡ settled m id x
-unfolding gone
-settled_written m id x = at (is_unheld x)
-  where
-    at : (b : Bool) → cond b (gone (remove (insert m id x) id) x) (insert (insert m id x) id x) ≡ cond b (gone (remove m id) x) (insert m id x)
-    at true = ap (λ n. gone n x) (remove_insert nat_cmp_total nat_cmp-IsAntisymmetric m id x)
-    at false = same (insert m id x) id x (here m id x)
-
-pub settled_held : (m : Data) (id : ℕ) (x : Datum) → get m id ≡ Some x → is_unheld x ≡ false → m ≡ settled m id x
-settled_held m id x there u = rw u (sym (same m id x there))
-
-pub settled_gone : (m : Data) (id : ℕ) (x : Datum) → is_unheld x ≡ true → fold (drop_read_within 2) (remove m id) (members_of x.content) ≡ settled m id x
-settled_gone m id x u = rw u refl
+use Rattle.tw_types.specs.Store.{Data, Datum, Store, settled, subscribers_cleared}
 
 -- a datum that was written, and then freed where nobody holds it
 pub closes : (m w n : Data) (id : ℕ) (x : Datum) → w ≡ insert m id x → IfSome (get w id) (λ y. n ≡ settled w id y) → n ≡ settled m id x

@@ -1,17 +1,19 @@
 -- The live data: a `BTreeMap` by ids, seen as a finite map of what its data are.
-use Rattle.std.proofs.Common.{◌≡◌, ℕ, [], Some, None, refl, ap, ◌∙◌, subst, IsSome}
+use Rattle.std.proofs.Common.{[], ◌≡◌, ℕ, Some, None, refl, ap, ◌∙◌, subst, IsSome}
 use Rattle.std.specs.declared.option.Option.{Option}
 use Rattle.std.specs.Ordering.{nat_cmp}
 use Rattle.std.specs.Cmp.{nat_cmp_total}
 use Rattle.std.specs.FinMap.{FinMap, nat_cmp-IsAntisymmetric, empty, get, insert, remove}
 use Rattle.std.specs.BTreeMap.{BTreeMap, get_by, UpdatesBy, WritesThrough}
-use Rattle.tw_types.specs.Store.{Data, Datum, Contains, members_of}
-use Rattle.tw_types.proofs.Maps.{found_view, written_view, removed_view, inserted_view, insert_same, get_here}
+use Rattle.tw_types.specs.Store.{Contains, members_of}
+use Rattle.tw_types.proofs.Maps.{found_view, written_view, removed_view, inserted_view}
+use Rattle.tw_types.proofs.Settled.{same}
 use Rattle.tw_datum.specs.declared.datum.Content.{Content}
 use Rattle.tw_datum.specs.declared.datum.Content.TheVariants as content
-use Rattle.tw_datum.specs.Kept.{KeptDatum, datum_if, mapped}
+use Rattle.tw_types.specs.Mapped.{mapped}
+use Rattle.tw_datum.specs.Kept.{KeptDatum, datum_if}
 use Rattle.tw_datum.specs.Kept.{content_of as kept_content}
-use Rattle.tw_datum.proofs.Mapped.{empty_mapped, get_mapped, insert_mapped, mapped_same, remove_mapped}
+use Rattle.tw_types.proofs.Mapped.{empty_mapped, get_mapped, insert_mapped, mapped_same, remove_mapped}
 use Rattle.tw_instr.specs.Content.{content_of}
 use Rattle.tw_instr.specs.Parts.{bare, data_of}
 
@@ -19,14 +21,14 @@ abbrev pub Kept : Type 0
 Kept = KeptDatum ℕ
 
 pub none_live : data_of [] ≡ empty
-none_live = empty_mapped nat_cmp bare
+none_live = empty_mapped {R = nat_cmp} bare
 
 -- what a look-up finds
 pub found : (m : BTreeMap ℕ Kept) (id : ℕ) (r : Option Kept) → r ≡ get_by (nat_cmp id) m → get (data_of m.entries) id ≡ datum_if r
-found m id r h = get_mapped nat_cmp bare _ id ∙ ap datum_if (found_view nat_cmp_total nat_cmp-IsAntisymmetric m id r h)
+found m id r h = get_mapped bare _ id ∙ ap datum_if (found_view nat_cmp_total nat_cmp-IsAntisymmetric m id r h)
 
 inserted_bare : (m : FinMap nat_cmp Kept) (id : ℕ) (x : Kept) → mapped bare (insert m id x) ≡ insert (mapped bare m) id x.datum
-inserted_bare = insert_mapped nat_cmp bare nat_cmp_total nat_cmp-IsAntisymmetric
+inserted_bare = insert_mapped bare nat_cmp_total nat_cmp-IsAntisymmetric
 
 -- what a change of the datum leaves
 pub written : (m n : BTreeMap ℕ Kept) (id : ℕ) (x y : Kept) → Some x ≡ get_by (nat_cmp id) m → WritesThrough nat_cmp (nat_cmp id) m y n → data_of n.entries ≡ insert (data_of m.entries) id y.datum
@@ -36,19 +38,13 @@ written m n id x y here h = ap (mapped bare) (written_view nat_cmp_total nat_cmp
 pub written_found : (m n : BTreeMap ℕ Kept) (id : ℕ) (x y : Kept) → Some x ≡ get_by (nat_cmp id) m → WritesThrough nat_cmp (nat_cmp id) m y n → get_by (nat_cmp id) n ≡ Some y
 written_found m n id x y here h = (h.3 (subst IsSome here refl)).1
 
-pub here : (m : Data) (id : ℕ) (x : Datum) → get (insert m id x) id ≡ Some x
-here = get_here nat_cmp_total nat_cmp-IsAntisymmetric
-
-pub same : (m : Data) (id : ℕ) (x : Datum) → get m id ≡ Some x → insert m id x ≡ m
-same = insert_same nat_cmp_total nat_cmp-IsAntisymmetric
-
 -- a datum that was looked at stays
 pub looked : (m n : BTreeMap ℕ Kept) (id : ℕ) (x : Kept) → Some x ≡ get_by (nat_cmp id) m → WritesThrough nat_cmp (nat_cmp id) m x n → data_of n.entries ≡ data_of m.entries
 looked m n id x here h = written m n id x x here h ∙ same _ id x.datum (found m id (Some x) here)
 
 -- what a removal leaves
 pub removed : (m n : BTreeMap ℕ Kept) (id : ℕ) → UpdatesBy nat_cmp (nat_cmp id) m n None → data_of n.entries ≡ remove (data_of m.entries) id
-removed m n id h = ap (mapped bare) (removed_view nat_cmp_total nat_cmp-IsAntisymmetric m n id h) ∙ remove_mapped nat_cmp bare nat_cmp_total nat_cmp-IsAntisymmetric _ id
+removed m n id h = ap (mapped bare) (removed_view nat_cmp_total nat_cmp-IsAntisymmetric m n id h) ∙ remove_mapped bare nat_cmp_total nat_cmp-IsAntisymmetric _ id
 
 -- what an addition leaves
 pub inserted : (m n : BTreeMap ℕ Kept) (id : ℕ) (x : Kept) → UpdatesBy nat_cmp (nat_cmp id) m n (Some x) → data_of n.entries ≡ insert (data_of m.entries) id x.datum

@@ -1,15 +1,14 @@
 -- How far a task's local instructions go.
-use Rattle.std.proofs.Common.{◌≡◌, ◌<◌, ◌≤◌, ◌+◌, ℕ, zero, suc, List, Some, None, Result, Ok, Err, IfOk, refl, sym, ap, ◌∙◌, arith}
+use Rattle.std.proofs.Common.{◌≡◌, ◌<◌, ◌≤◌, ◌+◌, ℕ, zero, suc, List, Some, Result, Ok, Err, IfOk, sym, ap, ◌∙◌, arith}
 use Rattle.std.specs.Prelude.{slice_get}
-use Rattle.tw_types.specs.declared.cause.Cause.TheVariants.{WrongCall}
-use Rattle.tw_types.specs.Outcome.{Went, Trap, ◌>>=◌}
+use Rattle.tw_types.specs.Outcome.{Went, ◌>>=◌}
 use Rattle.tw_types.proofs.Outcomes.{same_went, went_first}
 use Rattle.tw_code.specs.declared.instr.Instr.{Instr}
 use Rattle.tw_code.specs.declared.procedure.Procedure.{Procedure}
 use Rattle.tw_code.specs.machine.State.{Frame}
 use Rattle.tw_code.specs.machine.Position.{Position}
 use Rattle.tw_code.specs.machine.Machine.{local_step, local_steps}
-use Rattle.tw_instr.specs.Stretch.{IsStretch, steps_from}
+use Rattle.tw_instr.specs.Stretch.{IsStretch}
 
 -- so many steps and one more: the last begins where the others end
 last_step : (n : ℕ) (code : List Instr) (at now next : Position) → local_steps n code at ≡ Went now → local_steps (n + 1) code at ≡ Went next → local_step code now ≡ Went next
@@ -31,13 +30,6 @@ module _ (program : List Procedure) (frame : Frame) (p : Procedure) (here : slic
     go = λ some. (left, rw here go);
     whole = λ less at more. whole less at (last_step n p.code frame.position left at go (rw here at more));
   }
-
-pub no_procedure : (program : List Procedure) (frame : Frame) (most : ℕ) → slice_get program frame.procedure ≡ None → IsStretch program frame most 0
-no_procedure program frame most here = record {
-  few = omega arith;
-  go = λ some. absurd (omega arith);
-  whole = λ less at more. let e : steps_from program frame 1 ≡ Trap WrongCall = rw here refl in let two : Trap WrongCall ≡ Went at = sym e ∙ more in cc;
-}
 
 -- the same of an attempt
 pub stretched : {E : Type 0} (program : List Procedure) (frame : Frame) (p : Procedure) (most : ℕ) (position left : Position) (result : Result ℕ E) → slice_get program frame.procedure ≡ Some p → position ≡ frame.position

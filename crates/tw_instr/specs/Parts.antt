@@ -3,7 +3,8 @@ use Rattle.std.specs.Prelude.{ℕ, List}
 use Rattle.std.specs.Ordering.{nat_cmp}
 use Rattle.std.specs.FinMap.{from_entries}
 use Rattle.tw_types.specs.Store.{Data, Datum, Store}
-use Rattle.tw_datum.specs.Kept.{KeptDatum, mapped}
+use Rattle.tw_types.specs.Mapped.{mapped}
+use Rattle.tw_datum.specs.Kept.{KeptDatum}
 
 -- a datum whose members are known by their ids alone
 abbrev pub bare : KeptDatum ℕ → Datum

@@ -1,4 +1,4 @@
-use Rattle.std.proofs.Common.{◌≡◌, ◌≢◌, ◌≤◌, ◌%◌, ℕ, Bool, true, false, cond, List, [], length, map, refl, sym, ap, subst, ◌∙◌, get_or, IfSome, IfNone, IsSome, Some, None, IfOk, is_some, option_map, arith, inl, inr, ◌⊎◌}
+use Rattle.std.proofs.Common.{[], ◌≡◌, ◌≢◌, ◌≤◌, ◌%◌, ℕ, Bool, true, false, cond, List, length, map, refl, sym, ap, subst, ◌∙◌, get_or, IfSome, IfNone, IsSome, Some, None, IfOk, is_some, option_map, arith, inl, inr, ◌⊎◌}
 use Rattle.std.proofs.lemmas.List.{length-map}
 use Rattle.std.specs.declared.option.Option.{Option}
 use Rattle.std.specs.declared.result.Result.{Result}
@@ -22,7 +22,7 @@ use Rattle.tw_store.specs.Served.{Served, IsHere, IsNow, IsLeft, IsUnchanged, Ke
 use Rattle.tw_store.specs.Slots.{Slots, StandsAs, AreSeated, live_of, places_of, datum_in, place_in, Remains, IsChanged, IsChangedAt, IsSettled}
 use Rattle.tw_store.proofs.Shown.{seat_of, search_slots, get_nowhere, StandsAt, StandsNowhere}
 use Rattle.tw_store.proofs.Roomy.{rooms_kept, rooms_left, same_room, same_rooms}
-use Rattle.tw_store.proofs.Remain.{live_at, place_at, some_is, of_some, place_stays, place_leaves, apart_left, seated_left}
+use Rattle.tw_store.proofs.Remain.{apart_left, live_at, of_some, place_at, place_leaves, place_stays, seated_left, some_is}
 
 -- the slot of a right that is live here
 pub record Seat (slots : Slots) (s : Served) (right : Right) (place : ℕ) : Type 0 where

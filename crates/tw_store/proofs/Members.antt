@@ -1,5 +1,5 @@
 -- Members of a container that the store has shown, and where their data stand.
-use Rattle.std.proofs.Common.{◌≡◌, ◌≢◌, ℕ, sym, ap, subst, ◌∙◌, get_or, inl, inr, refl, ◌⊎◌, IfSome, IfNone, Some, None}
+use Rattle.std.proofs.Common.{◌≡◌, ◌≢◌, ℕ, sym, ap, subst, ◌∙◌, get_or, inl, inr, ◌⊎◌, IfSome, IfNone, Some, None}
 use Rattle.std.specs.declared.option.Option.{Option}
 use Rattle.std.specs.Borrow.{Bor}
 use Rattle.std.specs.Option.{option_copied}
@@ -15,11 +15,6 @@ use Rattle.tw_store.specs.Served.{Served, KnowsPlaces}
 use Rattle.tw_store.specs.Slots.{AreSeated, IsSlotOf, datum_in, live_of, places_of}
 use Rattle.tw_store.proofs.Remain.{live_at, of_some, place_at}
 use Rattle.tw_store.proofs.Shown.{StandsAt, StandsNowhere, get_nowhere, search_slots, seat_of}
-
--- what is copied is there
-pub copied_there : {A : Type 0} (r : Option (Bor A)) (y : A) → option_copied r ≡ Some y → ((x : Bor A) → r ≡ Some x → ⊥) → ⊥
-copied_there None y e none = cc
-copied_there (Some x) y e none = none x refl
 
 module _ (slab : Slab Slot) (next : ℕ) (queues : Queues) (s : Served) (view : served_of slab next queues ≡ s) (seated : AreSeated slab.slots next) where
   slot_knows : (place : ℕ) (slot : Slot) → get_or slab.slots place None ≡ Some slot → KnowsPlaces s slot.datum

@@ -1,9 +1,7 @@
 -- Slots of which some are left, with what was known of them.
-use Rattle.std.proofs.Common.{◌≡◌, ◌≢◌, ◌<◌, ◌+◌, ◌-◌, ℕ, suc, zero, Bool, true, false, cond, List, [], ◌∷◌, refl, sym, ap, subst, ◌∙◌, arith, get_or, set, inl, inr, fold, IfSome, IsSome, OnOk, OnErr}
+use Rattle.std.proofs.Common.{[], ◌≡◌, ◌≢◌, ◌<◌, ◌+◌, ◌-◌, ℕ, suc, zero, Bool, true, false, cond, List, ◌∷◌, refl, sym, ap, subst, ◌∙◌, arith, get_or, set, inl, inr, fold, IfSome, IsSome}
 use Rattle.std.specs.declared.option.Option.{Option}
 use Rattle.std.specs.declared.option.Option.TheVariants.{None, Some}
-use Rattle.std.specs.declared.result.Result.{Result}
-use Rattle.std.specs.declared.result.Result.TheVariants.{Ok, Err}
 use Rattle.std.proofs.lemmas.Bool.Decides.{eqb_tells}
 use Rattle.std.specs.Ordering.{eq_by_cmp}
 use Rattle.tw_types.specs.ValueOrder.{Subscript, value_cmp}
@@ -18,13 +16,11 @@ use Rattle.tw_datum.specs.Kept.{with_kept_member}
 use Rattle.tw_store.specs.Placed.{PlacedDatum, PlacedMembers, id_of}
 use Rattle.tw_store.specs.Slots.{Slots, live_of, places_of, datum_in, place_in, AreApart, IsAt, AllAt, AreSeated, Stood, Remains, IsChanged, IsChangedAt, IsSettled}
 use Rattle.tw_store.proofs.Shown.{map_of, get_shown, get_nowhere, search_slots, same_slot, no_slot, shown_put, shown_gone, apart_put, set_there, set_others, seat_of, IsSeat}
-use Rattle.tw_store.proofs.Live.{same, changed_is, after_is, settled_held, settled_gone}
+use Rattle.tw_types.proofs.Settled.{changed_is, same, settled_gone, settled_held}
+use Rattle.tw_store.proofs.Live.{after_is}
 use Rattle.tw_types.proofs.Drops.{drop_absent, drop_unread, drop_held, drop_lowest, drop_last}
 
 -- ---- what is left
-
-pub remains_all : (old : Slots) → Remains old old
-remains_all old = record { each = λ q f h. record { slot = f; there = h; id_is = refl; members = refl } }
 
 pub remains_then : (a b c : Slots) → Remains a b → Remains b c → Remains a c
 remains_then a b c r s = record {
@@ -324,21 +320,6 @@ of_some P r x e h = subst (λ y. IfSome y P) e h
 
 pub some_is : {A : Type 0} (r : Option A) (x : A) → r ≡ Some x → IsSome r
 some_is r x e = subst IsSome (sym e) refl
-
-pub not_none : {A : Type 0} (r : Option A) → IsSome r → None ≡ r → ⊥
-not_none None s e = cc
-not_none (Some x) s e = cc
-
-pub same_slots : (slots : Slots) (p : ℕ) (e : Slot) (d : PlacedDatum) → get_or slots p None ≡ Some e → d ≡ e.datum → set slots p (Some (record { id = e.id; datum = d })) ≡ slots
-same_slots slots p e d there is = ap (λ (x : PlacedDatum). set slots p (Some (record { id = e.id; datum = x }))) is ∙ set_same slots p e there
-
-pub on_ok : {A E : Type 0} (r : Result A E) {P Q : Type 0} → OnOk r P → (P → Q) → OnOk r Q
-on_ok (Ok x) h f = f h
-on_ok (Err why) h f = tt
-
-pub on_err : {A E : Type 0} (r : Result A E) {P Q : Type 0} → OnErr r P → (P → Q) → OnErr r Q
-on_err (Ok x) h f = tt
-on_err (Err why) h f = f h
 
 -- the datum at a place is another one
 pub changed_at : (slots : Slots) (p : ℕ) (x : Slot) (d : PlacedDatum) (f : Datum → Datum) → get_or slots p None ≡ Some x → d ≡ record x.datum { datum = f x.datum.datum } → IsChangedAt p f slots (set slots p (Some (record { id = x.id; datum = d })))

@@ -1,30 +1,14 @@
 -- Room that was made is still there.
-use Rattle.std.proofs.Common.{◌≡◌, ◌≢◌, ◌<◌, ◌≤◌, ◌+◌, ℕ, zero, suc, true, cond, List, [], ◌∷◌, refl, sym, ap, subst, ◌∙◌, arith, get_or, set, length, is_some, count_by, inl, inr}
-use Rattle.std.specs.declared.option.Option.{Option}
-use Rattle.std.specs.declared.option.Option.TheVariants.{None, Some}
+use Rattle.std.proofs.Common.{◌≡◌, ◌≢◌, ◌<◌, ◌≤◌, ◌+◌, ℕ, sym, ap, subst, ◌∙◌, arith, get_or, set, length, inl, inr}
 use Rattle.std.specs.declared.collections.VecDeque.{VecDeque}
 use Rattle.std.specs.declared.alloc.Global.{Global}
 use Rattle.std.proofs.lemmas.Bool.Decides.{eqb_tells}
 use Rattle.std.proofs.lemmas.List.{map-set, get_or-map, length-map, get_or-set_same, get_or-set_other}
-use Rattle.std.proofs.lemmas.List.Sums.{sum_by-cons}
-use Rattle.slab.specs.Slab.{Slab, with_value}
+use Rattle.slab.specs.Slab.{Slab}
 use Rattle.tw_types.specs.declared.notice.Notice.{Notice}
 use Rattle.tw_store.specs.declared.slot.Slot.{Slot}
 use Rattle.tw_store.specs.Parts.{HaveOtherRoom, HaveRoom, Queues, data_room_of, room_of, rooms_in, served_of}
 use Rattle.tw_store.specs.Served.{KeepsOtherRooms, KeepsRooms, Served}
-
--- ---- data
-
--- another datum in a slot that is taken
-count_set : (slots : List (Option Slot)) (p : ℕ) (e f : Slot) → get_or slots p None ≡ Some e → count_by is_some (set slots p (Some f)) ≡ count_by is_some slots
-count_set [] p e f h = refl
-count_set (x ∷ slots) zero e f h =
-    let one : is_some x ≡ true = ap is_some h in
-    sum_by-cons (λ o. cond (is_some o) 1 0) (Some f) slots ∙ ap (λ b. cond b 1 0 + count_by is_some slots) (sym one) ∙ sym (sum_by-cons (λ o. cond (is_some o) 1 0) x slots)
-count_set (x ∷ slots) (suc p) e f h = sum_by-cons (λ o. cond (is_some o) 1 0) x (set slots p (Some f)) ∙ ap (λ n. cond (is_some x) 1 0 + n) (count_set slots p e f h) ∙ sym (sum_by-cons (λ o. cond (is_some o) 1 0) x slots)
-
-pub room_set : (slab : Slab Slot) (p : ℕ) (e f : Slot) → get_or slab.slots p None ≡ Some e → data_room_of slab ≤ data_room_of (with_value slab p f)
-room_set slab p e f h = let same = count_set slab.slots p e f h in omega (arith, same)
 
 -- ---- notices
 

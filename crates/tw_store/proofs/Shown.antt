@@ -1,30 +1,14 @@
 -- What the slots show as maps, by what stands at each place.
-use Rattle.std.proofs.Common.{◌≡◌, ◌≢◌, ◌<◌, ◌+◌, ℕ, suc, zero, Bool, true, false, cond, List, [], ◌∷◌, refl, sym, ap, ◌∙◌, arith, get_or, set, inl, inr, ◌⊎◌}
+use Rattle.std.proofs.Common.{[], ◌≡◌, ◌≢◌, ◌<◌, ◌+◌, ℕ, suc, zero, true, false, cond, List, ◌∷◌, refl, sym, ap, ◌∙◌, arith, get_or, set, inl, inr, ◌⊎◌}
 use Rattle.std.specs.declared.option.Option.{Option}
 use Rattle.std.specs.declared.option.Option.TheVariants.{None, Some}
-use Rattle.std.specs.declared.cmp.Ordering.{Ordering}
-use Rattle.std.specs.declared.cmp.Ordering.TheVariants.{Less, Equal, Greater}
-use Rattle.std.specs.Ordering.{nat_cmp, eq_by_cmp, is_eq}
-use Rattle.std.specs.Cmp.{nat_cmp_total, tied_itself}
+use Rattle.std.specs.Ordering.{nat_cmp, eq_by_cmp}
+use Rattle.std.specs.Cmp.{nat_cmp_total}
 use Rattle.std.proofs.lemmas.Bool.Decides.{eqb_tells}
 use Rattle.std.specs.FinMap.{FinMap, nat_cmp-IsAntisymmetric, get, insert, remove, from_entries, get-insert, get-remove, get-from_entries, same_map, find}
+use Rattle.tw_types.proofs.Orders.{other_key, own_key}
 use Rattle.tw_store.specs.declared.slot.Slot.{Slot}
 use Rattle.tw_store.specs.Slots.{shown, AreApart, places_of, place_in}
-
-tied : (r : Ordering) → is_eq r ≡ true → r ≡ Equal
-tied Less e = cc
-tied Equal e = refl
-tied Greater e = cc
-
-itself : (x : ℕ) → eq_by_cmp nat_cmp x x ≡ true
-itself x = ap is_eq (tied_itself nat_cmp_total x)
-
-other_key : (x y : ℕ) → x ≢ y → eq_by_cmp nat_cmp x y ≡ false
-other_key x y h = at (eq_by_cmp nat_cmp x y) refl
-  where
-    at : (b : Bool) → eq_by_cmp nat_cmp x y ≡ b → b ≡ false
-    at true e = absurd (h (nat_cmp-IsAntisymmetric x y (tied _ e)))
-    at false e = refl
 
 pub same_slot : (e f : Slot) → Some e ≡ Some f → e ≡ f
 same_slot e f h = cc
@@ -42,12 +26,12 @@ find_shown g (None ∷ slots) k (suc p) e h u =
     find_shown g slots (suc k) p e h (λ j f l q. u (suc j) f (omega (arith, l)) q) ∙ ap (λ n. Some (g n e)) next
 find_shown g (Some a ∷ slots) k zero e h u =
     let is : a ≡ e = same_slot a e h in
-    let here : eq_by_cmp nat_cmp e.id a.id ≡ true = ap (eq_by_cmp nat_cmp e.id) (ap (λ s. s.id) is) ∙ itself e.id in
+    let here : eq_by_cmp nat_cmp e.id a.id ≡ true = ap (eq_by_cmp nat_cmp e.id) (ap (λ s. s.id) is) ∙ own_key nat_cmp_total e.id in
     let first : k ≡ k + 0 = omega arith in
     ap (λ b. cond b (Some (g k a)) (find nat_cmp e.id (shown g (suc k) slots))) here ∙ ap (λ s. Some (g k s)) is ∙ ap (λ n. Some (g n e)) first
 find_shown g (Some a ∷ slots) k (suc p) e h u =
     let next : suc k + p ≡ k + suc p = omega arith in
-    let not_here : eq_by_cmp nat_cmp e.id a.id ≡ false = other_key e.id a.id (λ i. u zero a (omega arith) refl (sym i)) in
+    let not_here : eq_by_cmp nat_cmp e.id a.id ≡ false = other_key nat_cmp-IsAntisymmetric e.id a.id (λ i. u zero a (omega arith) refl (sym i)) in
     ap (λ b. cond b (Some (g k a)) (find nat_cmp e.id (shown g (suc k) slots))) not_here
     ∙ find_shown g slots (suc k) p e h (λ j f l q. u (suc j) f (omega (arith, l)) q) ∙ ap (λ n. Some (g n e)) next
 
@@ -55,7 +39,7 @@ find_shown g (Some a ∷ slots) k (suc p) e h u =
 find_none : {Y : Type 0} (g : ℕ → Slot → Y) (slots : List (Option Slot)) (k q : ℕ) → ((p : ℕ) (e : Slot) → get_or slots p None ≡ Some e → e.id ≢ q) → find nat_cmp q (shown g k slots) ≡ None
 find_none g [] k q h = refl
 find_none g (None ∷ slots) k q h = find_none g slots (suc k) q (λ p e i. h (suc p) e i)
-find_none g (Some a ∷ slots) k q h = ap (λ b. cond b (Some (g k a)) (find nat_cmp q (shown g (suc k) slots))) (other_key q a.id (λ i. h zero a refl (sym i)))
+find_none g (Some a ∷ slots) k q h = ap (λ b. cond b (Some (g k a)) (find nat_cmp q (shown g (suc k) slots))) (other_key nat_cmp-IsAntisymmetric q a.id (λ i. h zero a refl (sym i)))
     ∙ find_none g slots (suc k) q (λ p e i. h (suc p) e i)
 
 pub record StandsAt (slots : List (Option Slot)) (q : ℕ) : Type 0 where
@@ -116,20 +100,20 @@ module _ {Y : Type 0} (g : ℕ → Slot → Y) where
       at : (q : ℕ) → get (map_of new) q ≡ cond (eq_by_cmp nat_cmp q e.id) (Some (g p e)) (get (map_of old) q)
       at q = elim (eqb_tells q e.id) as (λ _. get (map_of new) q ≡ cond (eq_by_cmp nat_cmp q e.id) (Some (g p e)) (get (map_of old) q)) [
         | inl y ↦ ap (get (map_of new)) y.1 ∙ get_shown new is p e there
-            ∙ sym (ap (λ b. cond b (Some (g p e)) (get (map_of old) q)) (ap (λ x. eq_by_cmp nat_cmp x e.id) y.1 ∙ itself e.id))
+            ∙ sym (ap (λ b. cond b (Some (g p e)) (get (map_of old) q)) (ap (λ x. eq_by_cmp nat_cmp x e.id) y.1 ∙ own_key nat_cmp_total e.id))
         | inr y ↦ elim (search_slots old q) as (λ _. get (map_of new) q ≡ cond (eq_by_cmp nat_cmp q e.id) (Some (g p e)) (get (map_of old) q)) [
           | inl s ↦
               let elsewhere : s.place ≢ p = λ i. y.1 (sym s.id_is ∙ before s.slot (ap (λ n. get_or old n None) (sym i) ∙ s.there)) in
               let still : get_or new s.place None ≡ Some s.slot = others s.place elsewhere ∙ s.there in
               ap (get (map_of new)) (sym s.id_is) ∙ get_shown new is s.place s.slot still
-              ∙ sym (ap (λ b. cond b (Some (g p e)) (get (map_of old) q)) (other_key q e.id y.1)
+              ∙ sym (ap (λ b. cond b (Some (g p e)) (get (map_of old) q)) (other_key nat_cmp-IsAntisymmetric q e.id y.1)
               ∙ ap (get (map_of old)) (sym s.id_is) ∙ get_shown old was s.place s.slot s.there)
           | inr n ↦
               get_nowhere new q (λ j f h. elim (eqb_tells j p) as (λ _. f.id ≢ q) [
                 | inl z ↦ λ i. y.1 (sym i ∙ ap (λ s. s.id) (same_slot f e (sym h ∙ ap (λ n. get_or new n None) z.1 ∙ there)))
                 | inr z ↦ n j f (sym (others j z.1) ∙ h)
               ])
-              ∙ sym (ap (λ b. cond b (Some (g p e)) (get (map_of old) q)) (other_key q e.id y.1) ∙ get_nowhere old q n)
+              ∙ sym (ap (λ b. cond b (Some (g p e)) (get (map_of old) q)) (other_key nat_cmp-IsAntisymmetric q e.id y.1) ∙ get_nowhere old q n)
         ]
       ]
 
@@ -145,11 +129,11 @@ module _ {Y : Type 0} (g : ℕ → Slot → Y) where
             let still : get_or old s.place None ≡ Some s.slot = sym (others s.place elsewhere) ∙ s.there in
             let apart : q ≢ e.id = λ i. elsewhere (was s.place p s.slot e still there (s.id_is ∙ i)) in
             ap (get (map_of new)) (sym s.id_is) ∙ get_shown new is s.place s.slot s.there
-            ∙ sym (ap (λ b. cond b None (get (map_of old) q)) (other_key q e.id apart) ∙ ap (get (map_of old)) (sym s.id_is) ∙ get_shown old was s.place s.slot still)
+            ∙ sym (ap (λ b. cond b None (get (map_of old) q)) (other_key nat_cmp-IsAntisymmetric q e.id apart) ∙ ap (get (map_of old)) (sym s.id_is) ∙ get_shown old was s.place s.slot still)
         | inr n ↦ elim (eqb_tells q e.id) as (λ _. get (map_of new) q ≡ cond (eq_by_cmp nat_cmp q e.id) None (get (map_of old) q)) [
-          | inl y ↦ get_nowhere new q n ∙ sym (ap (λ b. cond b None (get (map_of old) q)) (ap (λ x. eq_by_cmp nat_cmp x e.id) y.1 ∙ itself e.id))
+          | inl y ↦ get_nowhere new q n ∙ sym (ap (λ b. cond b None (get (map_of old) q)) (ap (λ x. eq_by_cmp nat_cmp x e.id) y.1 ∙ own_key nat_cmp_total e.id))
           | inr y ↦ get_nowhere new q n
-              ∙ sym (ap (λ b. cond b None (get (map_of old) q)) (other_key q e.id y.1) ∙ get_nowhere old q (λ j f h. elim (eqb_tells j p) as (λ _. f.id ≢ q) [
+              ∙ sym (ap (λ b. cond b None (get (map_of old) q)) (other_key nat_cmp-IsAntisymmetric q e.id y.1) ∙ get_nowhere old q (λ j f h. elim (eqb_tells j p) as (λ _. f.id ≢ q) [
                 | inl z ↦ λ i. y.1 (sym i ∙ ap (λ s. s.id) (same_slot f e (sym h ∙ ap (λ n. get_or old n None) z.1 ∙ there)))
                 | inr z ↦ n j f (others j z.1 ∙ h)
               ]))
@@ -176,12 +160,6 @@ seat_of slots p id apart h = elim (search_slots slots id) as (λ _. IsSeat slots
       record { slot = s.slot; there = ap (λ n. get_or slots n None) (sym same) ∙ s.there; id_is = s.id_is }
   | inr n ↦ absurd (no_number p (sym (get_nowhere place_in slots id n) ∙ h))
 ]
-
-pub seat_is : (slots : List (Option Slot)) (p id : ℕ) (s : Slot) → IsSeat slots p id → Some s ≡ get_or slots p None → s.id ≡ id
-seat_is slots p id s t h = ap (λ x. x.id) (same_slot s t.slot (h ∙ t.there)) ∙ t.id_is
-
-pub not_seated : (slots : List (Option Slot)) (p id : ℕ) → IsSeat slots p id → None ≡ get_or slots p None → ⊥
-not_seated slots p id t h = no_slot t.slot (h ∙ t.there)
 
 pub apart_put : (old new : List (Option Slot)) (p : ℕ) (e : Slot) → AreApart old → get_or new p None ≡ Some e → ((j : ℕ) → j ≢ p → get_or new j None ≡ get_or old j None)
     → ((j : ℕ) (f : Slot) → j ≢ p → get_or old j None ≡ Some f → f.id ≢ e.id) → AreApart new

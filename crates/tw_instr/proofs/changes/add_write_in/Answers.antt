@@ -3,7 +3,8 @@ use Rattle.tw_instr.specs.Parts.{bare, data_of}
 use Rattle.tw_instr.proofs.Live.{found, written}
 use Rattle.std.specs.FinMap.{insert}
 use Rattle.tw_types.specs.StoreCalls.{one_write_more}
-use Rattle.tw_instr.proofs.Views.{changed_is, absent_is, write_room}
+use Rattle.tw_types.proofs.Settled.{absent_is, changed_is}
+use Rattle.tw_instr.proofs.Views.{write_room}
 use Rattle.tw_instr.proofs.changes.add_write_in.Goals as goal
 
 pub returns-in_default : goal.returns-in_default

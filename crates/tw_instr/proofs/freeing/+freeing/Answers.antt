@@ -5,11 +5,11 @@ use Rattle.std.proofs.lemmas.List.{length-map}
 use Rattle.std.proofs.lemmas.Option.{slice_get-get_or}
 use Rattle.std.specs.FinMap as map
 use Rattle.tw_types.proofs.Maps.{remove_insert}
-use Rattle.tw_datum.proofs.Mapped.{each_same}
+use Rattle.tw_types.proofs.Mapped.{each_same}
 use Rattle.tw_instr.specs.Parts.{bare, data_of}
 use Rattle.tw_types.specs.declared.value.Value.TheVariants.{Int}
-use Rattle.tw_instr.proofs.Views.{copied_there}
-use Rattle.tw_instr.proofs.Live.{found, written, written_found, looked, removed, same_kept}
+use Rattle.tw_types.proofs.Came.{copied_there}
+use Rattle.tw_instr.proofs.Live.{found, looked, removed, same_kept, written, written_found}
 use Rattle.tw_types.specs.Store.{drop_read_within, is_unheld, members_of}
 use Rattle.tw_types.proofs.Drops.{drop_absent, drop_unread, drop_held, drop_lowest, drop_last, fold_next, fold_end}
 use Rattle.tw_instr.proofs.freeing.+freeing.Goals as goal

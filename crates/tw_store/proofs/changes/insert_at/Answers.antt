@@ -2,7 +2,8 @@ use Rattle.std.proofs.Common.{sym, ap, ◌∙◌}
 use Rattle.tw_types.specs.ValueOrder.{named}
 use Rattle.tw_datum.specs.Kept.{with_kept_member}
 use Rattle.tw_store.specs.Placed.{id_of}
-use Rattle.tw_store.proofs.Remain.{joined_at, on_ok}
+use Rattle.tw_store.proofs.Remain.{joined_at}
+use Rattle.tw_types.proofs.Came.{on_ok}
 use Rattle.tw_store.proofs.changes.insert_at.Goals as goal
 
 pub returns-clause-inserted : goal.returns-clause-inserted

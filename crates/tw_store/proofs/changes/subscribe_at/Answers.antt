@@ -1,6 +1,7 @@
 use Rattle.std.proofs.Common.{sym}
 use Rattle.tw_types.specs.StoreCalls.{with_subscriber}
-use Rattle.tw_store.proofs.Remain.{changed_at, on_ok}
+use Rattle.tw_store.proofs.Remain.{changed_at}
+use Rattle.tw_types.proofs.Came.{on_ok}
 use Rattle.tw_store.proofs.changes.subscribe_at.Goals as goal
 
 pub returns-clause-noted : goal.returns-clause-noted

@@ -8,7 +8,8 @@ use Rattle.tw_types.specs.Value.{scalar_of}
 use Rattle.tw_types.proofs.SameTypes.{by_deep}
 use Rattle.tw_datum.specs.declared.datum.Content.{Content}
 use Rattle.tw_datum.specs.Kept.{KeptDatum, KeptMembers, with_kept_member, content_of, members_kept, ids_of}
-use Rattle.tw_datum.proofs.Members.{insert_ids, on_ok, still_kinds}
+use Rattle.tw_datum.proofs.Members.{insert_ids, still_kinds}
+use Rattle.tw_types.proofs.Came.{on_ok}
 use Rattle.tw_datum.proofs.datum.Datum.add_member.Goals as goal
 
 pub returns-clause-added : goal.returns-clause-added

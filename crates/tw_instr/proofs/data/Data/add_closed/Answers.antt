@@ -2,7 +2,7 @@ use Rattle.std.proofs.Common.{ap, subst, sym, ◌∙◌}
 use Rattle.tw_types.specs.Store.{added}
 use Rattle.tw_datum.specs.Kept.{FitsType, closed_datum}
 use Rattle.tw_instr.proofs.Live.{content_kept}
-use Rattle.tw_datum.proofs.Members.{on_ok}
+use Rattle.tw_types.proofs.Came.{on_ok}
 use Rattle.tw_instr.proofs.data.Data.add_closed.Goals as goal
 
 pub new_closed-requires : goal.new_closed-requires

@@ -3,7 +3,7 @@ use Rattle.std.specs.FinMap.{get}
 use Rattle.tw_types.specs.declared.notice.Subscriber.{Subscriber}
 use Rattle.tw_store.specs.Served.{waiting_for}
 use Rattle.tw_store.specs.Parts.{rooms_in}
-use Rattle.tw_store.proofs.Remain.{on_ok}
+use Rattle.tw_types.proofs.Came.{on_ok}
 use Rattle.tw_store.proofs.Here.{seat, is_there, read_is, room_is, set_count, notice_room}
 use Rattle.tw_store.proofs.Own.{own_same}
 use Rattle.tw_store.proofs.store.Store.reserve_notices.Goals as goal
