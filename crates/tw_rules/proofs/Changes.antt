@@ -1,5 +1,5 @@
 -- How the agendas stay right where the rules change at one number.
-use Rattle.std.proofs.Common.{◌≡◌, ◌≤◌, ◌<◌, ◌⊎◌, inl, inr, ℕ, ◌+◌, Bool, true, false, ◌&&◌, cond, not, is_some, List, [], ◌∷◌, ◌++◌, length, refl, sym, ap, subst, ◌∙◌, slice_set, arith}
+use Rattle.std.proofs.Common.{[], ◌≡◌, ◌≤◌, ◌<◌, ◌⊎◌, inl, inr, ℕ, ◌+◌, Bool, true, false, ◌&&◌, cond, not, is_some, List, ◌∷◌, ◌++◌, length, refl, sym, ap, subst, ◌∙◌, slice_set, arith}
 use Rattle.std.specs.Prelude.{Option, Some, None, slice_get}
 use Rattle.std.specs.FinMap.{get, insert, remove, nat_cmp-IsAntisymmetric}
 use Rattle.std.specs.Cmp.{nat_cmp_total}
@@ -10,13 +10,15 @@ use Rattle.std.proofs.lemmas.List.Sorted.{Contains-permutation, IsPermutation-sy
 use Rattle.std.proofs.Math.ListN.{length-set}
 use Rattle.tw_types.specs.Rule.{RuleOf, has_unasked, is_releasable}
 use Rattle.tw_types.specs.Totals.{total}
+use Rattle.tw_types.proofs.Came.{unsome}
 use Rattle.tw_types.proofs.Totals.{part, part-le-total, total-insert, total-remove, insert_same, insert_other, remove_other, get-remove_same}
 use Rattle.tw_rights.specs.declared.arg.Arg.{Arg}
 use Rattle.tw_rules.specs.declared.agenda.Agenda.{Agenda}
 use Rattle.tw_rules.specs.Numbers.{IsLeast, Rises, from_first}
 use Rattle.tw_rules.specs.Indexed.{Rules, wants, is_wanting, AreAsks, IsFirstWanting, AreReleases, IsLeastPending, IsTrimmed, IsAgenda, IsIndexed, open_count}
 use Rattle.tw_rules.specs.Agendas.{HasAsked, HasReleased, HasMoved}
-use Rattle.tw_rules.proofs.Numbered.{same_or_apart, nat_apart, nat_itself, contains_none, contains_here, contains_later, contains_cases, appended_cases, appended_last, appended_old, first_there, get_set_same, get_set_other}
+use Rattle.tw_types.proofs.Numbers.{nat_apart, nat_is, same_or_apart}
+use Rattle.tw_types.proofs.Elements.{appended_cases, appended_last, appended_old, contains_cases, contains_here, contains_later, contains_none, first_there, get_set_other, get_set_same}
 
 abbrev R : Type 0
 R = RuleOf Arg
@@ -163,9 +165,6 @@ module _ (n : ℕ) (was now : Option R) (old new : Rules) (changed : Changed n w
       was_in : (q : ℕ) → Contains pushed q → (n ≡ q) ⊎ Contains releases q
       was_in q c = contains_cases n releases q (Contains-permutation _ _ q (IsPermutation-sym _ _ moved) c)
 
-      unsome : {x y : R} → Some x ≡ Some y → x ≡ y
-      unsome e = cc
-
   least_kept : (releases : List ℕ) → IsLeastPending old releases → ((IsLeast releases n) → is_some now ≡ true) → IsLeastPending new releases
   least_kept releases pending there q least = elim (same_or_apart q n) [
     | inl same ↦ ap is_some (ap (get new) same ∙ changed.here) ∙ there (subst (IsLeast releases) same least)
@@ -225,7 +224,7 @@ module _ (n : ℕ) (was now : Option R) (old new : Rules) (changed : Changed n w
   open_before rule is own held = ap (part (open_count engine)) is ∙ one
     where
       one : open_count engine rule ≡ 1
-      one = let mine = nat_itself rule.engine engine own in rw (mine, held) refl
+      one = let mine = nat_is rule.engine engine own in rw (mine, held) refl
 
   -- the release of a rule that can't be released yet is promised
   pub promised_before : (rule : R) → was ≡ Some rule → rule.engine ≡ engine → is_releasable rule ≡ false → (agenda : Agenda) → IsAgenda engine old next agenda → 0 < agenda.releases.promised
@@ -240,14 +239,11 @@ module _ (n : ℕ) (was now : Option R) (old new : Rules) (changed : Changed n w
     own_part = ap (part (open_count engine)) is
 
     one_if : (b : Bool) → is_releasable rule ≡ b → open_count engine rule ≡ cond b 0 1
-    one_if true can = let mine = nat_itself rule.engine engine own in rw (mine, can) refl
-    one_if false can = let mine = nat_itself rule.engine engine own in rw (mine, can) refl
+    one_if true can = let mine = nat_is rule.engine engine own in rw (mine, can) refl
+    one_if false can = let mine = nat_is rule.engine engine own in rw (mine, can) refl
 
     only : (other : R) → now ≡ Some other → rule ≡ other
     only other e = unsome (sym is ∙ e)
-      where
-        unsome : Some rule ≡ Some other → rule ≡ other
-        unsome h = cc
 
     first_pushed : IsFirstWanting old agenda.asks.numbers → has_unasked rule ≡ true → ((q : ℕ) → Contains agenda.asks.numbers q → q < n) → IsFirstWanting new (agenda.asks.numbers ++ n ∷ [])
     first_pushed wanting has below q e = elim (appended_first agenda.asks.numbers n q e) [
@@ -400,7 +396,7 @@ module _ (n : ℕ) (was now : Option R) (old new : Rules) (changed : Changed n w
       nothing other e = let none = gone in absurd cc
 
       open_zero : open_count engine rule ≡ 0
-      open_zero = let mine = nat_itself rule.engine engine own in rw (mine, can) refl
+      open_zero = let mine = nat_is rule.engine engine own in rw (mine, can) refl
 
 -- ---- all engines
 
@@ -423,9 +419,6 @@ all_agendas old new next more agendas engine after is low own others known = rec
 
     there : slice_get (slice_set agendas engine after) engine ≡ Some after
     there = get_set_same agendas engine after inside
-
-    unsome : {x y : Agenda} → Some x ≡ Some y → x ≡ y
-    unsome e = cc
 
 -- the first number stays where it passes the test
 pub first_passes : (test : ℕ → Bool) (xs : List ℕ) (x : ℕ) → slice_get xs 0 ≡ Some x → test x ≡ true → from_first test xs ≡ xs

@@ -1,26 +1,19 @@
 -- What an engine asks for and releases next, told by what the map of the rules answers.
-use Rattle.std.proofs.Common.{◌≡◌, ◌≤◌, ◌<◌, ℕ, ◌+◌, Bool, true, false, ◌&&◌, ◌||◌, cond, T, List, [], ◌∷◌, refl, sym, ap, subst, ◌∙◌, nat_eq, nat_lt, option_map, arith}
+use Rattle.std.proofs.Common.{[], ◌≡◌, ◌≤◌, ◌<◌, ℕ, ◌+◌, Bool, true, false, ◌&&◌, ◌||◌, cond, T, List, ◌∷◌, refl, sym, ap, ◌∙◌, nat_eq, nat_lt, option_map, arith}
 use Rattle.std.specs.Prelude.{option_and_then}
 use Rattle.std.proofs.lemmas.Bool.{and_from, and_parts}
 use Rattle.std.proofs.lemmas.Bool.Decides.{nat_tests}
-use Rattle.std.specs.declared.cmp.Ordering.{Ordering}
 use Rattle.std.specs.declared.cmp.Ordering.TheVariants.{Less, Equal, Greater}
 use Rattle.std.specs.declared.option.Option.{Option}
 use Rattle.std.specs.declared.option.Option.TheVariants.{None, Some}
-use Rattle.std.specs.Ordering.{nat_cmp, eq_by_cmp, is_eq, is_lt}
-use Rattle.std.specs.Cmp.{nat_cmp_total, tied_itself}
-use Rattle.std.specs.FinMap.{find, get, entries, entries_sorted, get-entries, is_sorted, nat_cmp-IsAntisymmetric}
-use Rattle.std.specs.FinMap.Entries.{below_all}
+use Rattle.std.specs.Ordering.{nat_cmp, eq_by_cmp}
+use Rattle.std.specs.FinMap.{find, get, entries, entries_sorted, get-entries, is_sorted}
 use Rattle.std.specs.List.{list_any}
 use Rattle.tw_types.specs.declared.stage.Stage.{Stage}
 use Rattle.tw_types.specs.Rule.{RuleOf, RulesOf, ask_or, first_unasked, has_unasked, is_releasable, is_unasked, next_ask, next_ask_of, next_release, next_release_of}
-use Rattle.tw_types.proofs.Rising.{first, second, find_below}
-use Rattle.tw_rules.proofs.Numbered.{nat_itself, nat_same}
-
-tied : (o : Ordering) → is_eq o ≡ true → o ≡ Equal
-tied Less e = cc
-tied Equal e = refl
-tied Greater e = cc
+use Rattle.tw_types.proofs.Found.{IsIn, in_first, in_later, later, same_no}
+use Rattle.tw_types.proofs.Rising.{first, second}
+use Rattle.tw_types.proofs.Numbers.{nat_is, nat_same}
 
 under : (a b : ℕ) → nat_cmp a b ≡ Less → a < b
 under a b h = by (nat_lt a b) (nat_eq a b) refl refl h
@@ -31,39 +24,6 @@ under a b h = by (nat_lt a b) (nat_eq a b) refl refl h
     by false false is same h = cc
 
 module _ {X : Type 0} where
-  abbrev IsIn : ℕ × X → List (ℕ × X) → Type 0
-  IsIn e es = find nat_cmp e.0 es ≡ Some e.1
-
-  same_no : (e f : ℕ × X) → eq_by_cmp nat_cmp e.0 f.0 ≡ true → e.0 ≡ f.0
-  same_no e f h = nat_cmp-IsAntisymmetric e.0 f.0 (tied (nat_cmp e.0 f.0) h)
-
-  -- what comes later has another number
-  later : (f e : ℕ × X) (es : List (ℕ × X)) → T (below_all nat_cmp f.0 es) → IsIn e es → nat_cmp f.0 e.0 ≡ Less
-  later f e [] low there = cc
-  later f e (g ∷ es) low there = by (eq_by_cmp nat_cmp e.0 g.0) (λ is. later f e es (second _ _ low) is) refl there
-    where
-      below : (o : Ordering) → T (is_lt o) → o ≡ Less
-      below Less p = refl
-      below Equal p = absurd p
-      below Greater p = absurd p
-
-      by : (b : Bool) → (IsIn e es → nat_cmp f.0 e.0 ≡ Less) → eq_by_cmp nat_cmp e.0 g.0 ≡ b → cond b (Some g.1) (find nat_cmp e.0 es) ≡ Some e.1 → nat_cmp f.0 e.0 ≡ Less
-      by true rest t is = subst (λ n. nat_cmp f.0 n ≡ Less) (sym (same_no e g t)) (below (nat_cmp f.0 g.0) (first _ _ low))
-      by false rest t is = rest is
-
-  in_later : (f e : ℕ × X) (es : List (ℕ × X)) → T (below_all nat_cmp f.0 es) → IsIn e es → IsIn e (f ∷ es)
-  in_later f e es low there = by (eq_by_cmp nat_cmp e.0 f.0) refl
-    where
-      by : (b : Bool) → eq_by_cmp nat_cmp e.0 f.0 ≡ b → cond b (Some f.1) (find nat_cmp e.0 es) ≡ Some e.1
-      by true t =
-          let none : find nat_cmp f.0 es ≡ None = find_below nat_cmp f.0 es low in
-          let some : find nat_cmp f.0 es ≡ Some e.1 = subst (λ n. find nat_cmp n es ≡ Some e.1) (same_no e f t) there in
-          cc
-      by false t = there
-
-  in_first : (e : ℕ × X) (es : List (ℕ × X)) → IsIn e (e ∷ es)
-  in_first e es = rw (tied_itself nat_cmp_total e.0) refl
-
   -- the first entry that passes the test
   abbrev pub first_passing : (X → Bool) → List (ℕ × X) → Option (ℕ × X)
   first_passing p [] = None
@@ -155,7 +115,7 @@ module _ {A : Type 0} (engine : ℕ) where
     next_release_is number rule there own can least =
         release_of (entries rules)
         ∙ ap (option_map (λ e. e.0)) (least_first releases_of (entries rules) (number, rule) (entries_sorted rules) (sym (get-entries rules number) ∙ there)
-        (and_from _ _ (nat_itself rule.engine engine own) can)
+        (and_from _ _ (nat_is rule.engine engine own) can)
         (λ f at passes. least f.0 f.1 (get-entries rules f.0 ∙ at) (nat_same f.1.engine engine (and_parts _ _ passes).0) (and_parts (nat_eq f.1.engine engine) _ passes).1))
 
     not_both : (a b : Bool) → (a ≡ true → b ≡ true → ⊥) → (a && b) ≡ false
@@ -176,7 +136,7 @@ module _ {A : Type 0} (engine : ℕ) where
     next_ask_is number j rule there own has at least =
         ask_of (entries rules)
         ∙ ap (option_and_then asked_of) (least_first asks_of (entries rules) (number, rule) (entries_sorted rules) (sym (get-entries rules number) ∙ there)
-        (and_from _ _ (nat_itself rule.engine engine own) has)
+        (and_from _ _ (nat_is rule.engine engine own) has)
         (λ f is passes. least f.0 f.1 (get-entries rules f.0 ∙ is) (nat_same f.1.engine engine (and_parts _ _ passes).0) (and_parts (nat_eq f.1.engine engine) _ passes).1))
         ∙ ap (option_map (λ j. (number, j))) at
 

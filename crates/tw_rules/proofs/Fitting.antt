@@ -1,5 +1,5 @@
 -- Arguments that fit the stages of their rules.
-use Rattle.std.proofs.Common.{◌≡◌, inl, inr, ℕ, zero, suc, ◌+◌, Bool, true, false, cond, List, [], ◌∷◌, map, refl, sym, subst, ◌∙◌, slice_set, arith}
+use Rattle.std.proofs.Common.{[], ◌≡◌, inl, inr, ℕ, zero, suc, ◌+◌, Bool, true, false, cond, List, ◌∷◌, map, refl, sym, subst, ◌∙◌, slice_set, arith}
 use Rattle.std.specs.Prelude.{Option, Some, None, IsSome, slice_get, option_map}
 use Rattle.std.specs.Option.{option_and_then}
 use Rattle.std.specs.List.{AllZip}
@@ -19,14 +19,12 @@ use Rattle.tw_rights.specs.Bundled.{Bundled, BundledOne, bundled, bundled_one, r
 use Rattle.tw_rules.specs.Indexed.{AreFitting, Rules}
 use Rattle.tw_rules.specs.Table.{AreArgsOf, FitsStages, SuitsMode, SuitsStage, read_right, right_at, stage_at, staged}
 use Rattle.tw_rules.proofs.Changes.{Changed, changed_insert, changed_remove}
-use Rattle.tw_rules.proofs.Numbered.{same_or_apart}
+use Rattle.tw_types.proofs.Came.{unsome}
+use Rattle.tw_types.proofs.Numbers.{same_or_apart}
 use Rattle.tw_rules.proofs.Tables.{open_rule, staged_is}
 
 abbrev R : Type 0
 R = RuleOf Arg
-
-unsome : {X : Type 0} {x y : X} → Some x ≡ Some y → x ≡ y
-unsome e = cc
 
 -- ---- a new rule
 

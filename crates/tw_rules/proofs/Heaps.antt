@@ -1,5 +1,5 @@
 -- A heap of numbers with the least one first.
-use Rattle.std.proofs.Common.{◌≡◌, ◌≤◌, ◌<◌, inl, inr, ℕ, Bool, true, false, cond, List, [], ◌∷◌, map, length, refl, sym, ap, subst, nat_eq, nat_lt, Bor, arith}
+use Rattle.std.proofs.Common.{[], ◌≡◌, ◌≤◌, ◌<◌, inl, inr, ℕ, Bool, true, false, cond, List, ◌∷◌, map, length, refl, sym, ap, subst, nat_eq, nat_lt, Bor, arith}
 use Rattle.std.proofs.lemmas.Bool.Decides.{nat_tests}
 use Rattle.std.specs.declared.cmp.Ordering.{Ordering}
 use Rattle.std.specs.declared.cmp.Ordering.TheVariants.{Less, Equal, Greater}
@@ -14,7 +14,7 @@ use Rattle.std.specs.List.Sorted.{IsPermutation}
 use Rattle.std.specs.BinaryHeap.{IsHeap, IsUpperBound}
 use Rattle.std.proofs.lemmas.List.Sorted.{Contains-permutation, IsPermutation-map, IsPermutation-sym, length_permutation}
 use Rattle.tw_rules.specs.Numbers.{IsLeast}
-use Rattle.tw_rules.proofs.Numbered.{all_at, contains_cases, contains_here, contains_none, mapped_from, mapped_has}
+use Rattle.tw_types.proofs.Elements.{all_at, contains_cases, contains_here, contains_none, mapped_from, mapped_has}
 
 abbrev Item : Type 0
 Item = Reverse ℕ

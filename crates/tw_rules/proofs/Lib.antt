@@ -7,6 +7,5 @@ pub mod Tables
 pub mod Heaps
 pub mod Rooms
 pub mod Fitting
-pub mod Found
 pub mod SameOrder
 pub mod Told

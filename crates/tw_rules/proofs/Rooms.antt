@@ -1,11 +1,13 @@
 -- Where a rule of an engine can be added for sure.
-use Rattle.std.proofs.Common.{◌≡◌, ◌≤◌, ◌<◌, inl, inr, ℕ, zero, suc, Bool, true, false, List, [], ◌∷◌, get_or, refl, sym, subst, ◌∙◌, slice_set, nat_lt, arith}
+use Rattle.std.proofs.Common.{[], ◌≡◌, ◌≤◌, ◌<◌, inl, inr, ℕ, zero, suc, Bool, true, false, List, ◌∷◌, get_or, refl, sym, subst, ◌∙◌, slice_set, nat_lt, arith}
 use Rattle.std.specs.Prelude.{Some, slice_get}
 use Rattle.std.proofs.lemmas.Bool.{and_from, and_parts}
 use Rattle.tw_rules.specs.declared.agenda.Agenda.{Agenda}
 use Rattle.tw_rules.specs.Indexed.{agenda_room, has_place, rooms_of, Rules, AreAsks, AreReleases, IsFirstWanting, IsLeastPending, IsAgenda, IsIndexed}
 use Rattle.tw_rules.specs.Agendas.{IsSameAgenda}
-use Rattle.tw_rules.proofs.Numbered.{lt_test, test_lt, same_or_apart, get_set_same, get_set_other}
+use Rattle.tw_types.proofs.Came.{unsome}
+use Rattle.tw_types.proofs.Numbers.{lt_test, same_or_apart, test_lt}
+use Rattle.tw_types.proofs.Elements.{get_set_other, get_set_same}
 use Rattle.std.proofs.lemmas.Option.{slice_get_within}
 use Rattle.tw_rules.proofs.Changes.{all_agendas}
 
@@ -44,12 +46,6 @@ room_kept old new agendas at was after there kept more engine h = elim (same_or_
     is : HasRoom old agendas engine
     is = has_room old agendas engine h
 
-    unsome : {x y : Agenda} → Some x ≡ Some y → x ≡ y
-    unsome e = cc
-
-pub room_made : (new : Bool) (agendas : List Agenda) (at : ℕ) (was after : Agenda) → slice_get agendas at ≡ Some was → new ≡ true → agenda_room after ≡ true → get_or (rooms_of new (slice_set agendas at after)) at false ≡ true
-room_made new agendas at was after there place room = room_is new (slice_set agendas at after) at after (get_set_same agendas at after (slice_get_within agendas at was there)) place room
-
 -- ---- places
 
 pub place_kept : (spare len capacity spare' len' capacity' : ℕ) → spare ≤ spare' → len' ≤ len → capacity ≤ capacity' → has_place spare len capacity ≡ true → has_place spare' len' capacity' ≡ true
@@ -57,9 +53,6 @@ place_kept spare len capacity spare' len' capacity' a b d h =
     let some : 0 < spare = test_lt _ _ (and_parts _ _ h).0 in
     let more : len < capacity = test_lt _ _ (and_parts (nat_lt 0 spare) _ h).1 in
     and_from _ _ (lt_test 0 spare' (omega arith)) (lt_test len' capacity' (omega arith))
-
-pub place_is : (spare len capacity : ℕ) → 0 < spare → len < capacity → has_place spare len capacity ≡ true
-place_is spare len capacity a b = and_from _ _ (lt_test 0 spare a) (lt_test len capacity b)
 
 pub place_spare : (spare len capacity : ℕ) → has_place spare len capacity ≡ true → 0 < spare
 place_spare spare len capacity h = test_lt _ _ (and_parts _ _ h).0

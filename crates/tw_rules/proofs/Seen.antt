@@ -1,5 +1,5 @@
 -- The entries of a hash map by numbers, seen as a finite map.
-use Rattle.std.proofs.Common.{◌≡◌, inl, inr, ℕ, ◌+◌, Bool, true, false, cond, List, [], ◌∷◌, refl, sym, ap, ◌∙◌, map, length, nat_eq, nat_lt, is_some, IsSome, option_map, subst, arith}
+use Rattle.std.proofs.Common.{[], ◌≡◌, inl, inr, ℕ, ◌+◌, Bool, true, false, cond, List, ◌∷◌, refl, sym, ap, ◌∙◌, map, length, nat_eq, nat_lt, is_some, IsSome, option_map, subst, arith}
 use Rattle.std.specs.declared.cmp.Ordering.{Ordering}
 use Rattle.std.specs.declared.cmp.Ordering.TheVariants.{Less, Equal, Greater}
 use Rattle.std.specs.declared.option.Option.{Option}
@@ -15,16 +15,7 @@ use Rattle.std.proofs.lemmas.Bool.Decides.{nat_tests}
 use Rattle.std.proofs.lemmas.List.Sorted.{IsPermutation-refl, IsPermutation-sym, IsPermutation-trans, IsPermutation-cons, IsPermutation-middle}
 use Rattle.std.proofs.lemmas.Map.Keys.{IsDistinct-head, IsDistinct-tail}
 use Rattle.tw_types.proofs.Totals.{insert_same, insert_other, remove_other, get-remove_same}
-use Rattle.tw_rules.proofs.Numbered.{nat_itself, nat_same, same_or_apart}
-
-nat_flips : (a b : ℕ) → nat_eq a b ≡ nat_eq b a
-nat_flips a b = by (nat_eq a b) (nat_eq b a) refl refl
-  where
-    by : (p q : Bool) → nat_eq a b ≡ p → nat_eq b a ≡ q → p ≡ q
-    by true true h k = refl
-    by false false h k = refl
-    by true false h k = let u = nat_itself b a (sym (nat_same a b h)) in cc
-    by false true h k = let u = nat_itself a b (sym (nat_same b a k)) in cc
+use Rattle.tw_types.proofs.Numbers.{nat_flips, same_or_apart}
 
 same_test : (a b : ℕ) → eq_by_cmp nat_cmp a b ≡ nat_eq a b
 same_test a b = by (nat_lt a b) (nat_eq a b) refl refl

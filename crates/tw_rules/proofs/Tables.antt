@@ -1,5 +1,5 @@
 -- What each call of the table asks of the index and leaves of it.
-use Rattle.std.proofs.Common.{◌≡◌, ◌≤◌, ◌<◌, inl, inr, ℕ, zero, suc, ◌+◌, Bool, true, false, is_some, List, [], ◌∷◌, map, length, refl, sym, ap, subst, ◌∙◌, slice_set, get_or, nat_lt, arith}
+use Rattle.std.proofs.Common.{[], ◌≡◌, ◌≤◌, ◌<◌, inl, inr, ℕ, zero, suc, ◌+◌, Bool, true, false, is_some, List, ◌∷◌, map, length, refl, sym, ap, subst, ◌∙◌, slice_set, get_or, nat_lt, arith}
 use Rattle.std.specs.Prelude.{Option, Some, None, slice_get, option_map, option_and_then}
 use Rattle.std.specs.FinMap.{get, insert, remove, empty, get-empty}
 use Rattle.std.specs.Ordering.{nat_cmp}
@@ -17,16 +17,15 @@ use Rattle.tw_rules.specs.Numbers.{IsLeast, Rises, from_first}
 use Rattle.tw_rules.specs.Table.{new_rule, stage_at, staged}
 use Rattle.tw_rules.specs.Indexed.{Rules, is_wanting, wants, open_count, AreAsks, AreReleases, IsFirstWanting, IsLeastPending, IsTrimmed, IsAgenda, IsIndexed}
 use Rattle.tw_rules.specs.Agendas.{HasAsked, HasReleased, HasMoved}
-use Rattle.tw_rules.proofs.Numbered.{same_or_apart, contains_cases, contains_none, first_there, none_past}
+use Rattle.tw_types.proofs.Came.{unsome}
+use Rattle.tw_types.proofs.Numbers.{same_or_apart}
+use Rattle.tw_types.proofs.Elements.{contains_cases, contains_none, first_there, none_past}
 use Rattle.tw_rules.proofs.Stages.{settled_idle, fresh_unasked, staged_unasked, unsettled_holds}
 use Rattle.tw_rules.proofs.Firsts.{unasked_some, next_ask_is, next_ask_none, next_release_is, next_release_none}
 use Rattle.tw_rules.proofs.Changes.{Changed, changed_insert, changed_remove, other_agenda, added_asked, added_released, promised_before, staged_released, staged_held, gone_agenda, all_agendas}
 
 abbrev R : Type 0
 R = RuleOf Arg
-
-unsome : {X : Type 0} {x y : X} → Some x ≡ Some y → x ≡ y
-unsome e = cc
 
 -- ---- what is asked for and released next
 
