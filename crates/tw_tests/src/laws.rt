@@ -17,9 +17,9 @@ fn accepted(alloc: Global) -> Option<Verified> {
     verify(alloc, decode(alloc, &STORE_SEVEN).ok()?).ok()
 }
 
-/// How many procedures the program has that comes back.
+/// How many procedures the program has.
 fn procedures(verified: Option<Verified>) -> Option<usize> {
-    Some(verified?.into_program().procedures().len())
+    Some(verified?.program().procedures().len())
 }
 
 /// The laws compute nothing.

@@ -101,9 +101,6 @@ refusal_by program all number p stop main t at h = by (memory_by stop.no)
 
 -- ---- one procedure more
 
-pub none_typed : (program : List Procedure) → AreTyped program [] 0
-none_typed program = record { long = refl; each = λ k p own at there. cc }
-
 pub accepted_more : (program : List Procedure) (all : List Findings) (number : ℕ) (p : Procedure) (own : Findings) → AreTyped program all number → slice_get program number ≡ Some p → AreFindings program p own → AreTyped program (all ++ own ∷ []) (number + 1)
 accepted_more program all number p own t here a = record {
   long = omega (arith, length-append all (own ∷ []), t.long);
