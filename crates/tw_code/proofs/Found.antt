@@ -1,5 +1,5 @@
 -- Of the waiting tasks and the rules: what an actor takes, asks for or releases next, and that there is something.
-use Rattle.std.proofs.Common.{◌≡◌, ℕ, suc, ◌+◌, ◌==◌, ◌⊎◌, inl, inr, Bool, true, false, ◌&&◌, ◌||◌, if◌then◌else◌, List, [], ◌∷◌, map, slice_get, int_lt, Option, Some, None, is_some, refl, sym, ap, subst, ◌∙◌, arith, nat_cmp}
+use Rattle.std.proofs.Common.{◌≡◌, ℕ, suc, ◌+◌, ◌==◌, ◌⊎◌, inl, inr, Bool, true, false, ◌&&◌, ◌||◌, if◌then◌else◌, List, [], ◌∷◌, map, slice_get, Option, Some, None, is_some, refl, sym, ap, subst, ◌∙◌, arith, nat_cmp}
 use Rattle.std.proofs.lemmas.Bool.{and_parts}
 use Rattle.std.proofs.lemmas.Option.{same_Some}
 use Rattle.std.specs.Cmp.{nat_cmp_total}
@@ -29,31 +29,6 @@ some_if true x y h k = h
 some_if false x y h k = k
 
 -- ---- tasks
-
-better_is : (first e : ℕ × Task) (o : Option (ℕ × Task)) → better first o ≡ e → (e ≡ first) ⊎ (o ≡ Some e)
-better_is first e None h = inl (sym h)
-better_is first e (Some second) h = by (int_lt first.1.priority second.1.priority) h
-  where
-    by : (b : Bool) → (if b then second else first) ≡ e → (e ≡ first) ⊎ (Some second ≡ Some e)
-    by true h = inr (ap Some h)
-    by false h = inl (sym h)
-
-best_is : (actor : Actor) (es : List (ℕ × Task)) (e : ℕ × Task) → best_of actor es ≡ Some e → IsEntry e es × (is_eligible actor e.1 ≡ true)
-best_is actor [] e h = cc
-best_is actor (first ∷ others) e h = by (is_eligible actor first.1) refl (best_is actor others e) h
-  where
-    by : (b : Bool) → is_eligible actor first.1 ≡ b → (best_of actor others ≡ Some e → IsEntry e others × (is_eligible actor e.1 ≡ true)) → (if b then Some (better first (best_of actor others)) else best_of actor others) ≡ Some e
-        → IsEntry e (first ∷ others) × (is_eligible actor e.1 ≡ true)
-    by true may known h = elim (better_is first e (best_of actor others) (same_Some (better first (best_of actor others)) e h)) [
-      | inl is ↦ (inl is, ap (λ (f : ℕ × Task). is_eligible actor f.1) is ∙ may)
-      | inr later ↦ let rest = known later in (inr rest.0, rest.1)
-    ]
-    by false may known h = let rest = known h in (inr rest.0, rest.1)
-
--- the task that an actor takes waits, and the actor may take it
-pub best_found : (actor : Actor) (tasks : Tasks) (e : ℕ × Task) → best actor tasks ≡ Some e → (get tasks e.0 ≡ Some e.1) × (is_eligible actor e.1 ≡ true)
-unfolding best
-best_found actor tasks e h = let is = best_is actor (entries tasks) e h in (get_entry nat_cmp nat_cmp_total tasks e is.0, is.1)
 
 some_best : (actor : Actor) (es : List (ℕ × Task)) (e : ℕ × Task) → IsEntry e es → is_eligible actor e.1 ≡ true → is_some (best_of actor es) ≡ true
 some_best actor [] e i may = absurd i

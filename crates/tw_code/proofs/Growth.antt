@@ -44,6 +44,7 @@ use Rattle.tw_code.specs.format.Program.{IsProgram}
 use Rattle.tw_code.specs.machine.Arguments.{procedure_of}
 use Rattle.tw_code.specs.machine.Bounds.{AreBelow, AreNumbersBelow, OpeningIsSmall, StepGrows, opening_bound, size_of}
 use Rattle.tw_code.specs.machine.Data.{Context, after_insert, after_look, data_instr, datum_at, datum_of, suits}
+use Rattle.tw_code.proofs.Givens.{none_fit}
 use Rattle.tw_code.specs.machine.Inputs.{are_inputs_of, are_members, input_params, is_given_for, is_input_of}
 use Rattle.tw_code.specs.machine.Machine.{Standing, step}
 use Rattle.tw_code.specs.machine.Opening.{Opened, closed_scalar, main_params, nothing_opened, numbered, opened, opening, with_container, with_given, added_given, with_output}
@@ -385,10 +386,6 @@ abbrev AreFresh : List Param → Type 0
 AreFresh params = (inputs : List Input) (made : ℕ) (o : Opened) → are_inputs_of (input_params params) inputs ≡ true → IsFresh made o.store → IsFresh (made + room_of params) (opened o params inputs).store
 
 module _ (p : Param) (params : List Param) (rest : AreFresh params) (made : ℕ) (o : Opened) (fresh : IsFresh made o.store) where
-  none_fit : (params : List Param) → are_inputs_of params [] ≡ true
-  none_fit [] = refl
-  none_fit (q ∷ params) = refl
-
   more : (n : ℕ) (t : Store) → n ≤ made + 1001 → IsFresh (n + room_of params) t → IsFresh (made + room_of (p ∷ params)) t
   more n t h fresh = fresh_wider (n + room_of params) (made + room_of (p ∷ params)) t (omega arith) fresh
 

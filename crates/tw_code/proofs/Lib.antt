@@ -9,7 +9,6 @@ pub mod Growth
 pub mod Instructions
 pub mod Joined
 pub mod Leaving
-pub mod Lists
 pub mod Loop
 pub mod Losing
 pub mod Next
@@ -28,3 +27,4 @@ pub mod TextFormat
 pub mod Types
 pub mod VersionOne
 pub mod Widening
+pub mod Givens

@@ -1,5 +1,5 @@
 -- What is due is enabled; and something is due for an actor of the layout, as long as a run isn't quiet.
-use Rattle.std.proofs.Common.{◌≡◌, ◌≢◌, ◌⊎◌, inl, inr, ℕ, ◌<◌, ◌≤◌, ◌==◌, true, false, ◌&&◌, ◌||◌, nat_lt, List, [], ◌∷◌, length, is_some, Option, Some, None, refl, sym, ap, subst, ◌∙◌, arith, nat_cmp}
+use Rattle.std.proofs.Common.{[], ◌≡◌, ◌≢◌, ◌⊎◌, inl, inr, ℕ, ◌<◌, ◌≤◌, ◌==◌, true, false, ◌&&◌, ◌||◌, nat_lt, List, ◌∷◌, length, is_some, Option, Some, None, refl, sym, ap, subst, ◌∙◌, arith, nat_cmp}
 use Rattle.std.proofs.lemmas.Bool.{cases_Bool, eq-eqb, eqb-true}
 use Rattle.std.proofs.lemmas.Bool.Decides.{nat_tests}
 use Rattle.std.proofs.lemmas.Nat.{mod_below}
@@ -40,7 +40,7 @@ use Rattle.tw_code.specs.machine.Machine.{step}
 use Rattle.tw_code.specs.machine.Opening.{reached}
 use Rattle.tw_code.specs.machine.State.{Frame, State, frame_of}
 use Rattle.tw_code.proofs.Ever.{GoesOrTraps, is_enabled, went_after, frame_moves}
-use Rattle.tw_code.proofs.Found.{any_entry, best_there, own_rule_there, IsUnaskedAt, MayBeReleased, ask_found, ask_there, release_found, release_there}
+use Rattle.tw_code.proofs.Found.{IsUnaskedAt, MayBeReleased, any_entry, ask_found, ask_there, best_there, own_rule_there, release_found, release_there}
 use Rattle.tw_code.proofs.Placed.{count_of, IsPlaced, reached_placed}
 
 -- ---- what is due is enabled
@@ -217,21 +217,6 @@ module _ (program : List Procedure) (layout : ActorCounts) (counts : IsLayout la
 
 -- ---- where nothing is due for an actor
 
-module _ (program : List Procedure) (layout : ActorCounts) (s : State) where
-  free_idle : (actor : Actor) (event : Event) → get s.frames actor ≡ None → IsDue program layout actor s event → IsDueFree layout actor s event
-  free_idle actor event free due = subst (λ o. IsDueFor program layout actor s o event) free due
-
-  pub engine_idle : (engine : ℕ) → get s.frames (Engine engine) ≡ None → next_ask engine s.rules ≡ None → next_release engine s.rules ≡ None → best (Engine engine) s.tasks ≡ None
-      → (event : Event) → IsDue program layout (Engine engine) s event → ⊥
-  engine_idle engine free no_ask no_release no_task event due =
-      let is : first_of engine None None None ≡ Some event = rw (no_ask, no_release, no_task) at (free_idle (Engine engine) event free due) in cc
-
-  pub server_idle : (server : ℕ) → get s.frames (Server server) ≡ None → ((n : Notice) → set.contains s.notices n ≡ true → server_of layout.servers n.datum ≡ server → ⊥) → (event : Event) → IsDue program layout (Server server) s event → ⊥
-  server_idle server free no_notice event due = let d = free_idle (Server server) event free due in no_notice d.notice d.waits d.own
-
-  pub worker_idle : (worker : ℕ) → get s.frames (Worker worker) ≡ None → best (Worker worker) s.tasks ≡ None → (event : Event) → IsDue program layout (Worker worker) s event → ⊥
-  worker_idle worker free no_task event due = let is : take_of (Worker worker) None ≡ Some event = rw no_task at (free_idle (Worker worker) event free due) in cc
-
 -- ---- in each state that a run reaches, of any program
 
 module _ (program : List Procedure) (inputs : List Input) (layout : ActorCounts) (events : List Event) (targets : HasTargets program layout) (s : State) (e : reached program inputs layout events ≡ Went s) where
@@ -242,13 +227,6 @@ module _ (program : List Procedure) (inputs : List Input) (layout : ActorCounts)
   -- as long as the state isn't quiet, something is due for one
   pub some_due : IsLayout layout → is_quiet s ≡ false → SomeDue program layout s
   some_due counts busy = something_due program layout counts s (reached_placed program inputs layout events targets s e) busy
-
-  -- where nothing is due for any, the state is quiet
-  pub idle_is_quiet : IsLayout layout → ((actor : Actor) (event : Event) → is_in layout actor ≡ true → IsDue program layout actor s event → ⊥) → is_quiet s ≡ true
-  idle_is_quiet counts idle = elim (cases_Bool (is_quiet s)) [
-    | inl quiet ↦ quiet
-    | inr busy ↦ let d = some_due counts busy in absurd (idle d.actor d.event d.there d.due)
-  ]
 
 pub some_enabled : (program : List Procedure) (inputs : List Input) (layout : ActorCounts) (events : List Event) → SomeEnabled program inputs layout events
 some_enabled program inputs layout events counts targets s e busy =

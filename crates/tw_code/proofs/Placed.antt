@@ -48,7 +48,7 @@ use Rattle.tw_code.specs.machine.Machine.{Standing, standing_of, call_by, call_e
 use Rattle.tw_code.specs.machine.Opening.{opening, reached}
 use Rattle.tw_code.specs.machine.Rights.{Rights, held}
 use Rattle.tw_code.specs.machine.State.{Frame, Frames, State, values_in, filled, frame_of, context_of, with_stage}
-use Rattle.tw_code.proofs.Found.{best_found}
+use Rattle.tw_types.proofs.Best.{best_found}
 use Rattle.tw_code.proofs.Leaving.{Stood, stood, owned}
 
 -- ---- what an action makes

@@ -5,7 +5,6 @@ pub mod InputData
 pub mod Parameters
 pub mod Standing
 pub mod Pending
-pub mod Due
 pub mod Growth
 pub mod Bests
 pub mod Numbered

@@ -8,7 +8,7 @@ use Rattle.std.specs.List.Sorted.{IsStrictlySortedBy}
 use Rattle.std.specs.Map.{keys_of}
 use Rattle.std.specs.Ordering.{nat_cmp}
 use Rattle.tw_types.specs.declared.stage.Stage.{Stage}
-use Rattle.tw_types.specs.Rule.{Rule, at_stage, has_unasked, is_releasable, next_ask, next_ask_of, next_release, next_release_of}
+use Rattle.tw_types.specs.Rule.{Rule, at_stage, has_unasked, is_releasable}
 use Rattle.tw_types.proofs.Maps.{entries_view, is_empty_view}
 use Rattle.tw_machine.specs.Parts.{rules_of}
 use Rattle.tw_machine.specs.Waiting.{RuleTable, staged, staged_in}
@@ -27,14 +27,6 @@ pub idle_is : (a b : Bool) (es : List (ℕ × Rule)) → IsStrictlySortedBy nat_
 idle_is a b es sorted e f =
     ap (λ (x : Bool). not x && not b) (e ∙ ap (list_any has_unasked) (values_are es sorted))
     ∙ ap (λ (x : Bool). not (list_any has_unasked (values (rules_of es))) && not x) (f ∙ ap (list_any is_releasable) (values_are es sorted))
-
-pub ask_is : (engine : ℕ) (es : List (ℕ × Rule)) → IsStrictlySortedBy nat_cmp (keys_of es) → next_ask_of engine es ≡ next_ask engine (rules_of es)
-unfolding next_ask
-ask_is engine es sorted = ap (next_ask_of engine) (sym (entries_view nat_cmp_total es sorted))
-
-pub release_is : (engine : ℕ) (es : List (ℕ × Rule)) → IsStrictlySortedBy nat_cmp (keys_of es) → next_release_of engine es ≡ next_release engine (rules_of es)
-unfolding next_release
-release_is engine es sorted = ap (next_release_of engine) (sym (entries_view nat_cmp_total es sorted))
 
 -- a stage is set where the rule is pending, and only there
 

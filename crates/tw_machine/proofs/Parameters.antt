@@ -1,5 +1,5 @@
 -- The opening, one parameter after the other.
-use Rattle.std.proofs.Common.{◌≡◌, ◌<◌, ◌≤◌, ◌+◌, ◌*◌, ℕ, Bool, true, false, cond, not, suc, List, [], ◌∷◌, drop, drop-cons, get_or, length, refl, sym, ap, subst, ◌∙◌, arith, length-append}
+use Rattle.std.proofs.Common.{[], ◌≡◌, ◌≤◌, ◌+◌, ◌*◌, ℕ, Bool, true, false, cond, not, List, ◌∷◌, drop, length, refl, sym, ap, subst, ◌∙◌, arith, length-append}
 use Rattle.std.proofs.lemmas.Bool.{and_parts}
 use Rattle.std.specs.declared.option.Option.TheVariants.{None, Some}
 use Rattle.tw_types.specs.declared.input.Input.{Input}
@@ -16,7 +16,8 @@ use Rattle.tw_code.specs.machine.State.{State}
 use Rattle.tw_code.proofs.Growth.{opening_is_small}
 use Rattle.tw_machine.specs.Opening.{refusal_of}
 use Rattle.tw_machine.specs.declared.refusal.OpenRefusal.TheVariants.{InputCount, InputType, MainShape}
-use Rattle.tw_machine.proofs.InputData.{input_next}
+use Rattle.tw_types.proofs.Elements.{no_items}
+use Rattle.tw_code.proofs.Givens.{input_next, none_fit, skips, takes}
 
 -- ---- the loop
 
@@ -26,28 +27,6 @@ pub record IsBegun (params : List Param) (inputs : List Input) (index : ℕ) (o 
   pub fit : are_inputs_of (input_params (drop index params)) rest ≡ true
   pub next : o.store.next ≤ 1001 * index + 1
   pub few : length o.rights ≤ index
-
--- the next parameter, and the others
-pub next_param : (params : List Param) (k : ℕ) (p : Param) → k < length params → p ≡ get_or params k p → drop k params ≡ p ∷ drop (k + 1) params
-next_param params k p h is =
-    let more : k + 1 ≡ suc k = omega arith in
-    drop-cons params k p h ∙ ap (λ q. q ∷ drop (suc k) params) (sym is) ∙ ap (λ (n : ℕ). p ∷ drop n params) (sym more)
-
--- what a parameter takes
-
-skips : (p : Param) (others : List Param) → is_write p.mode ≡ true → input_params (p ∷ others) ≡ input_params others
-skips p others write = rw write refl
-
-takes : (p : Param) (others : List Param) → is_write p.mode ≡ false → input_params (p ∷ others) ≡ p ∷ input_params others
-takes p others read = rw read refl
-
-none_fit : (params : List Param) → are_inputs_of params [] ≡ true
-none_fit [] = refl
-none_fit (p ∷ params) = refl
-
-no_more : (rest : List Input) → length rest ≡ 0 → rest ≡ []
-no_more [] e = refl
-no_more (i ∷ more) e = absurd (omega arith)
 
 module _ (params : List Param) (inputs : List Input) (index : ℕ) (o left : Opened) (rest after : List Input) (p : Param) (here : drop index params ≡ p ∷ drop (index + 1) params) (begun : IsBegun params inputs index o rest) where
   abbrev others : List Param
@@ -77,13 +56,13 @@ module _ (params : List Param) (inputs : List Input) (index : ℕ) (o left : Ope
         rw is (record {
           opened = opened_here ∙ ap (opened o (p ∷ others)) given ∙ rw read refl;
           fit = both.1;
-          next = omega (arith, begun.next, input_next p.ty (given_by i) o.store both.0);
+          next = omega (arith, begun.next, (input_next p.ty (given_by i) o.store both.0).1);
           few = omega (arith, begun.few, length-append o.rights (o.store.next ∷ []));
         })
 
     pub nothing_begun : length rest ≡ 0 → left ≡ o → after ≡ rest → IsBegun params inputs (index + 1) left after
     nothing_begun none is same =
-        let empty = no_more rest none in
+        let empty = no_items rest none in
         rw (is, same) (record {
           opened = opened_here ∙ ap (opened o (p ∷ others)) empty ∙ rw read refl ∙ ap (opened o others) (sym empty);
           fit = ap (are_inputs_of (input_params others)) empty ∙ none_fit (input_params others);
@@ -92,10 +71,6 @@ module _ (params : List Param) (inputs : List Input) (index : ℕ) (o left : Ope
         })
 
 -- ---- what is asked
-
-pub few_params : (program : List Procedure) → IsProgram program → length (main_params program) ≤ 8
-few_params [] h = omega arith
-few_params (main ∷ callees) h = h.1.0.params.0.1
 
 -- where nothing refuses the opening the inputs are those that main takes
 are_inputs : (program : List Procedure) (inputs : List Input) → refusal_of program inputs ≡ None → AreInputsOf program inputs
@@ -112,9 +87,6 @@ module _ (program given : List Procedure) (inputs : List Input) (same : given �
   -- the same, as the code asks and opens
   none_of : None ≡ refusal_of given inputs → refusal_of program inputs ≡ None
   none_of h = ap (λ p. refusal_of p inputs) (sym same) ∙ sym h
-
-  pub asked_fit : None ≡ refusal_of given inputs → are_inputs_of (input_params (main_params program)) inputs ≡ true
-  asked_fit h = (are_inputs program inputs (none_of h)).fit
 
   pub is_small : None ≡ refusal_of given inputs → IsProgram program → AreBelow opening_bound (opening program inputs)
   is_small h within = opening_is_small program inputs within (are_inputs program inputs (none_of h))

@@ -9,6 +9,4 @@ pub mod Memory
 pub mod Parts
 pub mod Waiting
 pub mod Best
-pub mod Due
-pub mod Inputs
 pub mod Events

@@ -35,10 +35,10 @@ abbrev pub staged : RuleTable → ℕ → ℕ → Stage → RuleTable
 staged t number parameter stage = staged_in t number parameter stage (get t.pending number)
 
 -- the id that an argument is a right on
-abbrev pub right_in : Arg → Option ℕ
-right_in (ValueArg x) = None
-right_in (RightArg id) = Some id
+abbrev pub id_in : Arg → Option ℕ
+id_in (ValueArg x) = None
+id_in (RightArg id) = Some id
 
 -- the id that stands for a parameter, if that is unasked
 abbrev pub unasked_id : Rule → ℕ → Option ℕ
-unasked_id rule parameter = option_and_then (λ stage. if is_unasked stage then option_and_then right_in (slice_get rule.args parameter) else None) (slice_get rule.stages parameter)
+unasked_id rule parameter = option_and_then (λ stage. if is_unasked stage then option_and_then id_in (slice_get rule.args parameter) else None) (slice_get rule.stages parameter)

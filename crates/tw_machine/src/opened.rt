@@ -5,8 +5,8 @@ ghost use Rattle.tw_types.specs.Given.{Container, members_by};
 ghost use Rattle.tw_types.specs.Store.{added};
 ghost use Rattle.tw_types.specs.Value.{is_short};
 ghost use Rattle.tw_code.specs.machine.Inputs.{are_inputs_of, input_params, is_given_for, is_input_of};
+ghost use Rattle.tw_code.specs.machine.Members.{are_short, with_members};
 ghost use Rattle.tw_code.specs.machine.Opening.{closed_scalar, nothing_opened, numbered, opened, with_container, with_given, with_input, with_output};
-ghost use Rattle.tw_machine.specs.Inputs.{are_short, with_members};
 
 use std::alloc::{AllocError, Global};
 use std::marker::Model;

@@ -1,10 +1,10 @@
 //! Rules.
 
 ghost use Rattle.std.specs.Prelude.{◌≡◌, ◌≤◌, length, map, slice_set, IfOk};
-ghost use Rattle.tw_types.specs.Rule.{at_stage, first_stage, first_unasked, has_unasked, is_releasable, task_from};
+ghost use Rattle.tw_types.specs.Rule.{at_stage, first_stage, has_unasked, is_releasable, task_from};
 ghost use Rattle.tw_code.specs.machine.State.{new_rule};
 ghost use Rattle.tw_instr.specs.Arguments.{arg_of};
-ghost use Rattle.tw_machine.specs.Waiting.{right_in, unasked_id};
+ghost use Rattle.tw_machine.specs.Waiting.{id_in, unasked_id};
 
 use std::alloc::{AllocError, Global};
 use std::marker::Model;
@@ -97,13 +97,6 @@ impl Rule {
         Stage::any_unasked(&self.stages)
     }
 
-    /// The first parameter that is unasked.
-    pub(crate) fn first_unasked(&self) -> Option<u8>
-        ensures { result ≡ first_unasked 0 self.now.stages }
-    {
-        Stage::first_unasked(&self.stages)
-    }
-
     /// The id that stands for a parameter, if that is unasked.
     pub fn unasked_id(&self, parameter: u8) -> Option<DatumId>
         ensures { result ≡ unasked_id self.now parameter }
@@ -111,7 +104,7 @@ impl Rule {
         let parameter = usize::from(parameter);
         let stage = self.stages.get(parameter)?;
         if stage.is_unasked() {
-            right_in(self.task.args().get(parameter)?)
+            id_in(self.task.args().get(parameter)?)
         } else {
             None
         }
@@ -133,8 +126,8 @@ impl Rule {
 }
 
 /// The id that an argument is a right on.
-fn right_in(arg: &Arg) -> Option<DatumId>
-    ensures { result ≡ right_in (arg_of arg.now) }
+fn id_in(arg: &Arg) -> Option<DatumId>
+    ensures { result ≡ id_in (arg_of arg.now) }
 {
     match arg {
         Arg::Value(_) => None,

@@ -7,7 +7,7 @@ ghost use Rattle.std.specs.List.Sorted.{IsStrictlySortedBy};
 ghost use Rattle.std.specs.Map.{keys_of};
 ghost use Rattle.std.specs.Ordering.{nat_cmp};
 ghost use Rattle.std.specs.Option.{option_copied};
-ghost use Rattle.tw_types.specs.Rule.{has_unasked, is_releasable, next_ask, next_ask_of, next_release, next_release_of};
+ghost use Rattle.tw_types.specs.Rule.{has_unasked, is_releasable};
 ghost use Rattle.tw_machine.specs.Parts.{rules_of};
 ghost use Rattle.tw_machine.specs.Waiting.{rule_made, rule_released, staged};
 
@@ -104,21 +104,6 @@ impl Rules {
         let has_releasable = has_releasable(&self.pending);
         neither(has_unasked, has_releasable)
     }
-
-    /// The rule and the parameter that the engine asks for next: of its rules the least, and of that the least
-    /// parameter that is unasked.
-    pub fn next_ask(&self, engine: u8) -> Option<(RuleNo, u8)>
-        ensures { result ≡ next_ask engine self.now.pending }
-    {
-        next_ask_of(&self.pending, engine)
-    }
-
-    /// The rule that the engine releases next: of its rules the least that can be.
-    pub fn next_release(&self, engine: u8) -> Option<RuleNo>
-        ensures { result ≡ next_release engine self.now.pending }
-    {
-        next_release_of(&self.pending, engine)
-    }
 }
 
 fn neither(first: bool, second: bool) -> bool
@@ -150,30 +135,4 @@ fn has_releasable(rules: &BTreeMap<u64, Rule>) -> bool
         }
     }
     false
-}
-
-fn next_ask_of(rules: &BTreeMap<u64, Rule>, engine: u8) -> Option<(RuleNo, u8)>
-    ensures is { result ≡ next_ask_of engine rules.now.entries }
-    ensures sorted { IsStrictlySortedBy nat_cmp (keys_of rules.now.entries) }
-{
-    for (number, rule) in rules {
-        if rule.engine() == engine {
-            if let Some(parameter) = rule.first_unasked() {
-                return Some((RuleNo::new(*number), parameter));
-            }
-        }
-    }
-    None
-}
-
-fn next_release_of(rules: &BTreeMap<u64, Rule>, engine: u8) -> Option<RuleNo>
-    ensures is { result ≡ next_release_of engine rules.now.entries }
-    ensures sorted { IsStrictlySortedBy nat_cmp (keys_of rules.now.entries) }
-{
-    for (number, rule) in rules {
-        if rule.engine() == engine && rule.is_releasable() {
-            return Some(RuleNo::new(*number));
-        }
-    }
-    None
 }

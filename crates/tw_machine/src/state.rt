@@ -1,12 +1,9 @@
 //! The state of the machine.
 
-ghost use Rattle.std.specs.Prelude.{◌≡◌, ◌<◌, ◌≤◌, ◌^◌, length, option_map, true, false, Err, IfOk};
-ghost use Rattle.std.specs.Option.{MatchOption, option_copied};
+ghost use Rattle.std.specs.Prelude.{◌≡◌, ◌<◌, ◌≤◌, ◌^◌, length, option_map, true, Err, IfOk};
+ghost use Rattle.std.specs.Option.{option_copied};
 ghost use Rattle.std.specs.FinMap.{get};
 ghost use Rattle.std.specs.FinSet.{from_list};
-ghost use Rattle.tw_types.specs.declared.notice.Notice.{Notice as ANotice};
-ghost use Rattle.tw_types.specs.Rule.{next_ask, next_release};
-ghost use Rattle.tw_types.specs.Task.{best};
 ghost use Rattle.tw_code.specs.format.Program.{IsProgram};
 ghost use Rattle.tw_code.specs.machine.Bounds.{AreBelow, size_of};
 ghost use Rattle.tw_code.specs.machine.Ending.{ending, is_quiet};
@@ -15,7 +12,6 @@ ghost use Rattle.tw_code.specs.machine.Inputs.{are_inputs_of, input_params};
 ghost use Rattle.tw_code.specs.machine.Opening.{nothing_opened, opened, opening_of};
 ghost use Rattle.tw_instr.specs.Attempts.{Changes};
 ghost use Rattle.tw_machine.specs.Parts.{rules_of, tasks_of};
-ghost use Rattle.tw_machine.specs.Due.{is_due};
 ghost use Rattle.tw_machine.specs.Memory.{TakesMemory};
 ghost use Rattle.tw_machine.specs.Parts.{frames_of};
 
@@ -41,7 +37,6 @@ pub struct State {
 }
 
 impl Model for State {
-    ghost use Rattle.tw_types.specs.declared.actor.Actor.{Actor as AnActor};
     ghost use Rattle.tw_types.specs.Actor.{actor_cmp};
     ghost use Rattle.tw_types.specs.Store.{Datum as DatumMeaning};
     ghost use Rattle.tw_types.specs.Rule.{Rule as RuleMeaning};
@@ -52,7 +47,7 @@ impl Model for State {
     ghost use Rattle.std.specs.FinSet.{code as set_code};
     ghost use Rattle.std.specs.Ordering.{nat_cmp};
     ghost use Rattle.tw_types.specs.ValueOrder.{value_cmp};
-    ghost use Rattle.std.specs.Coded.{codes, coded_ℕ, coded_ℤ};
+    ghost use Rattle.std.specs.Coded.{codes, coded_ℕ};
 
     ghost Value = { Meaning };
 
@@ -157,35 +152,6 @@ impl State {
         ensures { from_list result.now ≡ self.now.notices }
     {
         self.tables.notices.as_slice()
-    }
-
-    /// The task that an actor takes next, if there is one for it.
-    pub fn best_task(&self, actor: Actor) -> Option<TaskNo>
-        ensures { result ≡ option_map (λ e. e.0) (best actor self.now.tasks) }
-    {
-        let (number, _) = self.tables.tasks.best(actor)?;
-        Some(TaskNo::new(number))
-    }
-
-    /// The rule and the parameter that an engine asks for next.
-    pub fn next_ask(&self, engine: u8) -> Option<(RuleNo, u8)>
-        ensures { result ≡ next_ask engine self.now.rules }
-    {
-        self.tables.rules.next_ask(engine)
-    }
-
-    /// The rule that an engine releases next.
-    pub fn next_release(&self, engine: u8) -> Option<RuleNo>
-        ensures { result ≡ next_release engine self.now.rules }
-    {
-        self.tables.rules.next_release(engine)
-    }
-
-    /// A notice that a server of the layout delivers, if one waits: the oldest, which no clause says.
-    pub fn oldest_notice(&self, layout: Layout, server: u8) -> Option<Notice>
-        ensures { MatchOption result ((n : ANotice) → is_due layout server self.now.notices n ≡ false) (λ n. is_due layout server self.now.notices n ≡ true) }
-    {
-        rules::oldest_notice(layout, server, &self.tables.notices)
     }
 
     /// Whether no task runs and none waits, no notice is to be delivered, and the rules are idle.

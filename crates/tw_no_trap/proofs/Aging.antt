@@ -1,11 +1,9 @@
 -- What data become: of the same type, with the same members, closed where they were, and right in content and writers.
-use Rattle.std.proofs.Common.{ℕ, suc, ◌+◌, ◌≤◌, ◌≡◌, true, Some, inl, inr, refl, sym, subst, ◌∙◌}
-use Rattle.std.specs.Cmp.{nat_cmp_total}
-use Rattle.std.specs.FinMap.{get, insert, nat_cmp-IsAntisymmetric}
+use Rattle.std.proofs.Common.{ℕ, suc, ◌+◌, ◌≤◌, ◌≡◌, true, Some, refl, ◌∙◌}
+use Rattle.std.specs.FinMap.{get, insert}
 use Rattle.tw_types.specs.Counts.{AreNested, Balanced, HasWriters, inside}
 use Rattle.tw_types.specs.Store.{Datum, Data, is_closed, members_of, settled_by, drop_read_within}
 use Rattle.tw_types.specs.TypedStore.{IsOfType}
-use Rattle.tw_types.proofs.Parts.{put_or_before}
 use Rattle.tw_types.proofs.Freeing as freeing
 use Rattle.tw_types.specs.DataType.{depth_of}
 use Rattle.tw_types.proofs.Freeing.{IsAging}
@@ -39,12 +37,7 @@ abbrev pub Drops : ℕ → (Data → ℕ → Data) → Type 0
 Drops depth drop = freeing.Drops Aged aging depth drop
 
 pub later_put : (m : Data) (id : ℕ) (x y : Datum) → get m id ≡ Some x → Aged x y → Later (insert m id y) m
-later_put m id x y is a = record {
-  there = λ d z at. elim (put_or_before nat_cmp_total nat_cmp-IsAntisymmetric m id y d z at) [
-    | inl e ↦ (x, subst (λ n. get m n ≡ Some x) (sym e.0) is, subst (Aged x) e.1 a)
-    | inr old ↦ (z, old, aging.itself z)
-  ];
-}
+later_put = freeing.later_put Aged aging
 
 pub nested_later : (n m : Data) → Later n m → AreNested m → AreNested n
 nested_later n m l t = freeing.nested_later Aged aging n m l t

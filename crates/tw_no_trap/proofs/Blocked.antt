@@ -1,6 +1,5 @@
 -- Stages and arguments of a rule that is neither to be asked for nor to be released.
-use Rattle.std.proofs.Common.{◌≡◌, ℕ, suc, ◌+◌, ◌<◌, ◌==◌, Bool, true, false, ◌||◌, if◌then◌else◌, List, [], ◌∷◌, map, slice_get, Some, None, refl, ap, arith}
-use Rattle.std.proofs.lemmas.Bool.{eq-eqb}
+use Rattle.std.proofs.Common.{[], ◌≡◌, ℕ, suc, ◌+◌, ◌<◌, ◌==◌, Bool, true, false, ◌||◌, if◌then◌else◌, List, ◌∷◌, map, slice_get, Some, None, refl, ap, arith}
 use Rattle.std.specs.List.{list_all, list_any}
 use Rattle.tw_types.specs.declared.param.Mode.{Mode}
 use Rattle.tw_types.specs.declared.param.Mode.TheVariants.{Val, Closed, Ref, Write}
@@ -51,10 +50,6 @@ first_waited (Waiting ∷ stages) (ValueArg x ∷ args) u r h = let a = h 0 refl
 first_waited (Waiting ∷ stages) (RightArg id ∷ args) u r h = record { parameter = 0; datum = id; stage = refl; arg = refl; first = refl }
 first_waited (Ready ∷ stages) (ValueArg x ∷ args) u r h = let f = first_waited stages args u r (λ j e. h (suc j) e) in later f f.first
 first_waited (Ready ∷ stages) (RightArg id ∷ args) u r h = let f = first_waited stages args u r (λ j e. h (suc j) e) in later f f.first
-
-pub first_among : (ids : List ℕ) (d : ℕ) → slice_get ids 0 ≡ Some d → is_among d ids ≡ true
-first_among [] d h = cc
-first_among (x ∷ ids) d h = let same : x ≡ d = cc in let here : (x == d) ≡ true = eq-eqb x d same in rw here refl
 
 -- ---- what is written
 

@@ -1,5 +1,5 @@
 -- NEW goes where it is asked for: a new datum, with one write and one read.
-use Rattle.std.proofs.Common.{◌≡◌, ◌≢◌, ℕ, ◌+◌, ◌<◌, ◌≤◌, ◌==◌, Bool, true, false, not, if◌then◌else◌, List, [], ◌∷◌, map, length, is_none, slice_get, slice_set, Option, Some, None, refl, sym, ap, subst, ◌∙◌, arith, inl, inr, nat_cmp}
+use Rattle.std.proofs.Common.{◌≡◌, ◌≢◌, ℕ, ◌+◌, ◌<◌, ◌≤◌, ◌==◌, Bool, true, false, not, if◌then◌else◌, [], map, length, is_none, slice_get, slice_set, Option, Some, None, refl, sym, ap, subst, ◌∙◌, arith, inl, inr, nat_cmp}
 use Rattle.std.proofs.lemmas.Bool.{cases_Bool, eqb-false, not-true}
 use Rattle.std.proofs.lemmas.Option.{same_Some}
 use Rattle.std.specs.Cmp.{nat_cmp_total}
@@ -28,16 +28,12 @@ use Rattle.tw_no_trap.specs.Invariant.{Holds, ValuesFit}
 use Rattle.tw_no_trap.proofs.DataLeft.{Leaves}
 use Rattle.tw_types.proofs.Freeing.{new_balanced, balanced_none, data_insert_same, data_insert_other, hits_same, hits_other}
 use Rattle.tw_no_trap.proofs.Values.{AllYes}
-use Rattle.tw_code.proofs.Lists.{get_set_other}
 use Rattle.tw_no_trap.proofs.Long.{free_there, empty_there}
+use Rattle.tw_types.proofs.Elements.{get_set_other, no_items}
 use Rattle.tw_types.proofs.Parts.{put_or_before}
 use Rattle.tw_no_trap.proofs.Registers.{Fits, Undisturbed, holds_undisturbed, rights_kept, over-set, rights_set}
 use Rattle.tw_no_trap.proofs.Steps.{Goes, goes_then}
 use Rattle.tw_types.proofs.Totals.{part, part-le-total}
-
-no_items : {A : Type 0} (es : List A) → length es ≡ 0 → es ≡ []
-no_items [] e = refl
-no_items (x ∷ es) e = absurd (omega arith)
 
 pub no_members : (ty : NestedScalar) → members_of (empty_content ty) ≡ []
 no_members ty = by (is_scalar ty)

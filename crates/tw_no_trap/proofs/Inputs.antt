@@ -2,8 +2,7 @@
 use Rattle.std.proofs.Common.{◌≡◌, ℕ, ◌+◌, ◌<◌, ◌≤◌, ◌⊎◌, inl, inr, Bool, true, false, List, [], ◌∷◌, fold, length, Some, None, refl, sym, ap, subst, ◌∙◌, arith}
 use Rattle.std.proofs.lemmas.Bool.{and_parts, cases_eq}
 use Rattle.std.proofs.lemmas.Option.{same_Some}
-use Rattle.std.specs.declared.cmp.Ordering.{Ordering}
-use Rattle.std.specs.declared.cmp.Ordering.TheVariants.{Less, Equal, Greater}
+use Rattle.std.specs.declared.cmp.Ordering.TheVariants.{Less}
 use Rattle.std.specs.Cmp.{tied_itself}
 use Rattle.std.specs.FinMap as fin
 use Rattle.std.specs.FinMap.{get, get-empty, insert}
@@ -25,6 +24,7 @@ use Rattle.tw_types.specs.TypedStore.{IsTypedStore}
 use Rattle.tw_types.specs.Value.{is_short, scalar_of}
 use Rattle.tw_types.specs.ValueOrder.{Subscript, value_cmp}
 use Rattle.tw_types.proofs.ValueOrder.{value_cmp_total, value_cmp-IsAntisymmetric}
+use Rattle.tw_types.proofs.Orders.{below}
 use Rattle.tw_types.proofs.Parts.{put_or_before}
 use Rattle.tw_types.proofs.Freeing.{data_insert_same, hits_other, hits_same}
 use Rattle.tw_types.proofs.Totals.{insert_other, total-empty}
@@ -41,11 +41,6 @@ use Rattle.tw_types.proofs.SameTypes.{same_types, scalar_itself}
 rises_on : (e : Subscript × Value) (es : List (Subscript × Value)) → rises (e ∷ es) ≡ true → rises es ≡ true
 rises_on e [] h = refl
 rises_on e (f ∷ es) h = (and_parts (is_lt (value_cmp e.0 f.0)) (rises_from f.0 es) h).1
-
-below : (r : Ordering) → is_lt r ≡ true → r ≡ Less
-below Less h = refl
-below Equal h = cc
-below Greater h = cc
 
 -- no later subscript is one that isn't above
 not_numbered : (es : List (Subscript × Value)) (id : ℕ) (before k : Subscript) → rises_from before es ≡ true → is_lt (value_cmp before k) ≡ false → get (numbered id es) k ≡ None

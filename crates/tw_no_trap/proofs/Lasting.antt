@@ -34,7 +34,7 @@ use Rattle.tw_no_trap.proofs.AllEvents.{Accepted, step_keeps}
 use Rattle.tw_no_trap.proofs.Registers.{Undisturbed, undisturbed_after, undisturbed_itself}
 use Rattle.tw_no_trap.proofs.Stages.{subscribed_undisturbed}
 use Rattle.tw_no_trap.proofs.Steps.{Goes, keeps_went}
-use Rattle.tw_no_trap.proofs.Taking.{best_waits}
+use Rattle.tw_types.proofs.Best.{best_waits}
 use Rattle.tw_no_trap.proofs.Whole.{LeftSo}
 
 abbrev pub AreRunning : State → Type 0

@@ -39,7 +39,6 @@ pub mod StaysInOrder
 pub mod Entries
 pub mod Conditions
 pub mod Turning
-pub mod Idling
 pub mod Along
 pub mod Blocked
 pub mod Ends

@@ -1,5 +1,5 @@
 -- What is held is live: by a register, an argument of a task or of a rule, an output, a container and a notice.
-use Rattle.std.proofs.Common.{◌≡◌, ℕ, zero, suc, ◌+◌, ◌≤◌, Bool, true, false, List, [], ◌∷◌, slice_get, if◌then◌else◌, Option, Some, None, refl, sym, ap, subst, ◌∙◌, arith, nat_cmp}
+use Rattle.std.proofs.Common.{[], ◌≡◌, ℕ, zero, suc, ◌+◌, ◌≤◌, Bool, true, false, List, ◌∷◌, slice_get, if◌then◌else◌, Option, Some, None, refl, sym, ap, subst, ◌∙◌, arith, nat_cmp}
 use Rattle.std.proofs.lemmas.Option.{same_Some}
 use Rattle.std.specs.Cmp.{nat_cmp_total}
 use Rattle.std.specs.FinMap.{get, nat_cmp-IsAntisymmetric}
@@ -11,15 +11,13 @@ use Rattle.tw_types.specs.declared.param.Mode.TheVariants.{Ref}
 use Rattle.tw_types.specs.declared.param.Param.{Param}
 use Rattle.tw_types.specs.declared.stage.Stage.{Stage}
 use Rattle.tw_types.specs.declared.stage.Stage.TheVariants.{Free, Unasked, Waiting, Ready}
-use Rattle.tw_types.specs.Counts.{count_of, hits, inside, subscripts_in}
+use Rattle.tw_types.specs.Counts.{count_of, hits}
 use Rattle.tw_types.specs.Mode.{is_val, is_write}
 use Rattle.tw_types.specs.Rule.{Rule}
 use Rattle.tw_types.specs.Store.{Datum, Store}
-use Rattle.tw_types.specs.ValueOrder.{Subscript}
-use Rattle.tw_types.specs.StoreCalls.{members_in}
 use Rattle.tw_types.specs.Task.{Arg, RightArg, Task}
 use Rattle.tw_types.specs.Totals.{total}
-use Rattle.tw_types.proofs.Freeing.{balanced_none, held_is_there, hits_same}
+use Rattle.tw_types.proofs.Freeing.{held_is_there, hits_same}
 use Rattle.tw_types.proofs.Totals.{part, part-le-total}
 use Rattle.tw_code.specs.declared.procedure.Procedure.{Procedure}
 use Rattle.tw_code.specs.machine.Arguments.{params_in}
@@ -28,7 +26,6 @@ use Rattle.tw_code.specs.machine.Rights.{RightType, Rights, Typing, right_at, ri
 use Rattle.tw_code.specs.machine.State.{Frame, State, context_of}
 use Rattle.tw_no_trap.specs.Invariant.{ArgFits, ArgsFit, IsHeld, RightsFit, RuleArgsFit}
 use Rattle.tw_no_trap.specs.InOrder.{read_until, right_until}
-use Rattle.tw_no_trap.proofs.DataInsert.{found_inside}
 use Rattle.tw_no_trap.proofs.Named.{notice_wants}
 use Rattle.tw_no_trap.proofs.Over.{over_params}
 use Rattle.tw_no_trap.proofs.Registers.{at_right}
@@ -139,18 +136,6 @@ module _ (program : List Procedure) (typings : Typings) (s : State) (held : IsHe
 
   pub output_is_live : (k d : ℕ) → slice_get s.outputs k ≡ Some d → IsLive d
   output_is_live k d at = let one = output_counts s.outputs k d at in there d (omega arith)
-
-  -- a member of a container that is live
-  pub member_is_live : (id : ℕ) (x : Datum) (subscript : Subscript) (d : ℕ) → get s.store.live id ≡ Some x → get (members_in x.content) subscript ≡ Some d → IsLive d
-  member_is_live id x subscript d is at = by (get s.store.live d) refl
-    where
-      by : (o : Option Datum) → get s.store.live d ≡ o → IsLive d
-      by None e =
-          let some = found_inside x subscript d at in
-          let l : subscripts_in d x ≤ inside s.store.live d = subst (λ o. part (subscripts_in d) o ≤ inside s.store.live d) is (part-le-total nat_cmp nat_cmp_total nat_cmp-IsAntisymmetric (subscripts_in d) s.store.live id) in
-          let none = balanced_none s.store.live (reads_of program typings s) (writes_of program typings s) d held.counts.balanced e in
-          absurd (omega (arith, none.0))
-      by (Some y) e = (y, e)
 
   -- the datum of a notice
   pub notice_is_live : (n : Notice) → set.contains s.notices n ≡ true → IsLive n.datum

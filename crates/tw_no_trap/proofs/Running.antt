@@ -1,5 +1,5 @@
 -- What right typings say of the code, and of a task that runs: what is asked, what is left, and what its registers hold.
-use Rattle.std.proofs.Common.{◌≡◌, ℕ, ◌+◌, ◌<◌, true, List, [], length, slice_get, Option, Some, None, refl, sym, ap, subst, ◌∙◌, arith}
+use Rattle.std.proofs.Common.{[], ◌≡◌, ℕ, ◌+◌, ◌<◌, true, List, length, slice_get, Option, Some, None, refl, sym, ap, subst, ◌∙◌, arith}
 use Rattle.std.proofs.lemmas.List.{length-map}
 use Rattle.std.proofs.lemmas.Option.{slice_get-get_or, slice_get-map, slice_get_within, same_Some}
 use Rattle.std.specs.FinMap.{get}
@@ -16,21 +16,20 @@ use Rattle.tw_code.specs.declared.instr.Instr.{Instr}
 use Rattle.tw_code.specs.declared.procedure.Procedure.{Procedure}
 use Rattle.tw_code.specs.accepting.Flow.{flow_of, flows, onward}
 use Rattle.tw_code.specs.accepting.Typing.{after, asks, start_typing}
-use Rattle.tw_code.specs.accepting.WellTyped.{IsEndOf}
 use Rattle.tw_code.specs.format.Program.{IsProgram}
 use Rattle.tw_code.specs.machine.Holders.{Typings, typing_at, typing_of}
 use Rattle.tw_code.specs.machine.Machine.{local_steps}
 use Rattle.tw_code.specs.machine.Position.{Position, goal_of}
 use Rattle.tw_code.specs.machine.Rights.{RightType, Rights, Typing, right_at}
 use Rattle.tw_code.specs.machine.State.{Frame, State, context_of}
-use Rattle.tw_budget.proofs.Places.{end_within, no_refusals, not_last, stays}
+use Rattle.tw_budget.proofs.Places.{no_refusals, not_last, stays}
 use Rattle.tw_budget.specs.Sound.{IsSound}
 use Rattle.tw_no_trap.specs.Invariant.{IsHeld, RightsFit}
 use Rattle.tw_no_trap.specs.NoTrap.{AreRight}
 use Rattle.tw_no_trap.specs.Standing.{Accepts, Stands}
 use Rattle.tw_no_trap.proofs.Accepted as acceptance
 use Rattle.tw_no_trap.proofs.Live.{typed_where_held}
-use Rattle.tw_no_trap.proofs.Moving.{IsLeftBy, asked, inside, instr_there, steps_keep}
+use Rattle.tw_no_trap.proofs.Moving.{IsLeftBy, asked, steps_keep}
 use Rattle.tw_no_trap.proofs.Registers.{at_right}
 use Rattle.tw_no_trap.proofs.Safe.{accepts}
 use Rattle.tw_no_trap.proofs.Steps.{keeps_went}
@@ -97,12 +96,6 @@ module _ (program : List Procedure) (typings : Typings) (is : IsProgram program)
           acc.typed.later place next i way (typing_at typings number place) (typing_at typings number next) at (there place (slice_get_within (flows p.code) place (flow_of i) flow)) goes (there next within),
         )
 
-    -- an END has the typing of its loop's first place
-    pub typed_at_end : (first place : ℕ) → IsEndOf p.code first place → typing_at typings number place ≡ typing_at typings number first
-    typed_at_end first place end =
-        let closes = end_within (flows p.code) first place end.4 in
-        acc.typed.loops place first (typing_at typings number place) (typing_at typings number first) end (there place closes.2) (there first (omega (arith, closes.1, closes.2)))
-
   -- ---- a task that runs
 
   module _ (s : State) (held : IsHeld program typings s) (a : Actor) (f : Frame) (runs : get s.frames a ≡ Some f) where
@@ -113,10 +106,6 @@ module _ (program : List Procedure) (typings : Typings) (is : IsProgram program)
       -- it stands in loops that were begun, within its budget, with values of the declared types
       pub stands_there : Stands p f.spent f.position
       stands_there = acceptance.stands program typings (accepts program typings is are) s held a f runs p here
-
-      -- at an instruction
-      pub instr_here : (i : Instr) × (slice_get p.code f.position.place ≡ Some i)
-      instr_here = instr_there program (typings f.procedure) p own p.code f.position.place (inside program (typings f.procedure) p own f.spent f.position stands_there)
 
       module _ (n : ℕ) (to : Position) (went : local_steps n p.code f.position ≡ Went to) where
         left_by : IsLeftBy program (typings f.procedure) p own (typing_of typings f) (f.spent + n) to
@@ -130,10 +119,6 @@ module _ (program : List Procedure) (typings : Typings) (is : IsProgram program)
         pub steps_leave : typing_at typings f.procedure to.place ≡ typing_of typings f
         steps_leave = left_by.typing_there
 
-        -- so the instruction there is asked of the same typing
-        pub asked_behind : (i : Instr) → slice_get p.code to.place ≡ Some i → AllYes (asks program p i (typing_of typings f))
-        asked_behind i at = subst (λ (typing : Typing). AllYes (asks program p i typing)) steps_leave (asked_at f.procedure p here to.place i at)
-
     -- ---- its registers
 
     -- where the typing has a right, such a datum stands in the register
@@ -141,10 +126,6 @@ module _ (program : List Procedure) (typings : Typings) (is : IsProgram program)
     register_holds k right typed =
         let h = at_right k (typing_of typings f) (context_of s f) (other_reads program typings s a) (other_writes program typings s a) right (fits_of program typings s held a f runs) typed in
         record { id = h.id; register = ap option_flatten h.register; x = h.x; live = h.live; ty = h.ty; closed = h.closed }
-
-    -- where a register holds an id, the typing has a right
-    pub register_is_typed : (k d : ℕ) → right_at f.rights k ≡ Some d → (right : RightType) × (right_at (typing_of typings f) k ≡ Some right)
-    register_is_typed k d at = typed_where_held s.store (typing_of typings f) f.rights k d (held.types.rights a f runs) at
 
     -- where the typing has none, it is empty
     pub register_is_empty : (k : ℕ) → right_at (typing_of typings f) k ≡ None → right_at f.rights k ≡ None

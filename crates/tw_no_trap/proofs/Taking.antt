@@ -1,11 +1,7 @@
 -- The task that is taken waits, and its frame starts as its arguments say.
-use Rattle.std.proofs.Common.{◌≡◌, ℕ, zero, suc, ◌+◌, ◌-◌, ◌≤◌, ◌⊎◌, inl, inr, Bool, true, false, List, [], ◌∷◌, ◌++◌, length, map, replicate, Option, Some, None, int_lt, refl, sym, ap, subst, ◌∙◌, arith, if◌then◌else◌, nat_cmp}
+use Rattle.std.proofs.Common.{◌≡◌, ℕ, zero, suc, ◌+◌, ◌-◌, ◌≤◌, Bool, true, false, List, [], ◌∷◌, ◌++◌, length, map, replicate, Option, Some, None, refl, sym, ap, subst, ◌∙◌, arith, if◌then◌else◌}
 use Rattle.std.proofs.lemmas.Bool.{and_parts}
-use Rattle.std.proofs.lemmas.Option.{same_Some}
-use Rattle.std.specs.Cmp.{nat_cmp_total}
-use Rattle.std.specs.FinMap.{get, entries}
 use Rattle.std.specs.Option.{option_to_list}
-use Rattle.tw_types.specs.declared.actor.Actor.{Actor}
 use Rattle.tw_types.specs.declared.cause.Cause.TheVariants.{WrongRegister}
 use Rattle.tw_types.specs.declared.data_type.Scalar.{Scalar}
 use Rattle.tw_types.specs.declared.data_type.Scalar.TheVariants as scalar
@@ -14,7 +10,7 @@ use Rattle.tw_types.specs.declared.value.Value.{Value}
 use Rattle.std.specs.Prelude.{Ok}
 use Rattle.tw_types.specs.Result.{◌>>=◌, ◌>>◌, must}
 use Rattle.tw_types.specs.Store.{Store}
-use Rattle.tw_types.specs.Task.{Arg, ValueArg, RightArg, Task, Tasks, is_eligible, better, best_of, best}
+use Rattle.tw_types.specs.Task.{Arg, ValueArg, RightArg}
 use Rattle.tw_types.specs.DataType.{same_scalar}
 use Rattle.tw_types.specs.Value.{scalar_of, blank_of}
 use Rattle.tw_code.specs.machine.Rights.{Rights, first_rights, RightType, Typing}
@@ -24,33 +20,7 @@ use Rattle.tw_code.specs.accepting.Typing.{value_types, rights_given, start_typi
 use Rattle.tw_code.specs.machine.Holders.{over, id_of}
 use Rattle.tw_no_trap.proofs.Over.{over_params}
 use Rattle.tw_no_trap.specs.Invariant.{RightsFit, ValuesFit, ArgFits, ArgsFit}
-use Rattle.tw_types.proofs.Totals.{IsEntry, get_entry}
 use Rattle.tw_types.proofs.SameTypes.{same_scalars, scalar_itself}
-
--- ---- the best task is one of those that wait
-
-better_is : (first e : ℕ × Task) (o : Option (ℕ × Task)) → better first o ≡ e → (e ≡ first) ⊎ (o ≡ Some e)
-better_is first e None h = inl (sym h)
-better_is first e (Some second) h = by (int_lt first.1.priority second.1.priority) h
-  where
-    by : (b : Bool) → (if b then second else first) ≡ e → (e ≡ first) ⊎ (Some second ≡ Some e)
-    by true h = inr (ap Some h)
-    by false h = inl (sym h)
-
-best_is : (actor : Actor) (es : List (ℕ × Task)) (e : ℕ × Task) → best_of actor es ≡ Some e → IsEntry e es
-best_is actor [] e h = cc
-best_is actor (first ∷ others) e h = by (is_eligible actor first.1) (λ later. best_is actor others e later) h
-  where
-    by : (b : Bool) → (best_of actor others ≡ Some e → IsEntry e others) → (if b then Some (better first (best_of actor others)) else best_of actor others) ≡ Some e → IsEntry e (first ∷ others)
-    by true known h = elim (better_is first e (best_of actor others) (same_Some (better first (best_of actor others)) e h)) [
-      | inl is ↦ inl is
-      | inr later ↦ inr (known later)
-    ]
-    by false known h = inr (known h)
-
-pub best_waits : (actor : Actor) (tasks : Tasks) (e : ℕ × Task) → best actor tasks ≡ Some e → get tasks e.0 ≡ Some e.1
-unfolding best
-best_waits actor tasks e h = get_entry nat_cmp nat_cmp_total tasks e (best_is actor (entries tasks) e h)
 
 -- ---- its values
 

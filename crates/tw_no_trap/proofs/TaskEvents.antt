@@ -36,7 +36,8 @@ use Rattle.tw_no_trap.proofs.Given.{put_fit, rule_fit}
 use Rattle.tw_no_trap.proofs.Values.{AllYes}
 use Rattle.tw_no_trap.proofs.Registers.{Fits}
 use Rattle.tw_no_trap.proofs.Steps.{Keeps, goes_keeps, ok_keeps, enabled_keeps, only_if_keeps}
-use Rattle.tw_no_trap.proofs.Taking.{best_waits, filled_fits, args_values, start_fits, over_start}
+use Rattle.tw_types.proofs.Best.{best_waits}
+use Rattle.tw_no_trap.proofs.Taking.{args_values, filled_fits, over_start, start_fits}
 use Rattle.tw_no_trap.proofs.Sums.{sum_apart}
 
 module _ (program : List Procedure) (typings : Typings) where

@@ -19,7 +19,7 @@ use Rattle.tw_code.specs.machine.State.{with_task}
 use Rattle.tw_code.specs.accepting.Needs.{up_to}
 use Rattle.tw_code.proofs.Placed.{count_of}
 use Rattle.tw_queue.specs.Queues.{IsTarget}
-use Rattle.tw_code.proofs.Found.{IsOwn, MayBeReleased, release_found, own_rule_there}
+use Rattle.tw_code.proofs.Found.{IsOwn, MayBeReleased, own_rule_there, release_found}
 use Rattle.tw_parts.specs.Events.{Goes}
 use Rattle.tw_parts.specs.Fits.{AreParts, Stand}
 use Rattle.tw_frame.specs.Jobs.{bare_frame}

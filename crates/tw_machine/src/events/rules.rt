@@ -1,15 +1,12 @@
 //! The events of rules and notices.
 
-ghost use Rattle.std.specs.Prelude.{◌≡◌, ◌<◌, ◌^◌, ◌==◌, ◌&&◌, nat_lt, false, true, Err};
-ghost use Rattle.std.specs.FinSet.{from_list};
-ghost use Rattle.std.specs.Option.{MatchOption, option_copied};
-ghost use Rattle.tw_types.specs.declared.notice.Notice.{Notice as ANotice};
+ghost use Rattle.std.specs.Prelude.{◌≡◌, ◌<◌, ◌^◌, ◌==◌, ◌&&◌, nat_lt, Err};
+ghost use Rattle.std.specs.Option.{option_copied};
 ghost use Rattle.tw_types.specs.Outcome.{enabled};
 ghost use Rattle.tw_types.specs.Store.{server_of};
 ghost use Rattle.tw_code.specs.machine.Machine.{ask_event, deliver_event, own_rule, release_event};
 ghost use Rattle.tw_code.specs.machine.State.{State as Meaning};
 ghost use Rattle.tw_instr.specs.Attempts.{Changes, unless_barred};
-ghost use Rattle.tw_machine.specs.Due.{is_due};
 ghost use Rattle.tw_machine.specs.Events.{TablesChange, with_frames, with_tables};
 ghost use Rattle.tw_machine.specs.Memory.{AsksOpen, Goes};
 ghost use Rattle.tw_machine.specs.Parts.{frames_of};
@@ -82,24 +79,6 @@ fn is_of_server(layout: Layout, server: u8, id: DatumId) -> bool
 {
     let servers = layout.servers();
     server < servers && id.number() % u64::from(servers) == u64::from(server)
-}
-
-/// A notice that the server delivers, if one waits: the oldest, which no clause says.
-pub fn oldest_notice(layout: Layout, server: u8, notices: &Notices) -> Option<Notice>
-    ensures { MatchOption result ((n : ANotice) → is_due layout server notices.now n ≡ false) (λ n. is_due layout server notices.now n ≡ true) }
-{
-    oldest_of(layout, server, notices.as_slice())
-}
-
-fn oldest_of(layout: Layout, server: u8, notices: &[Notice]) -> Option<Notice>
-    ensures { MatchOption result ((n : ANotice) → is_due layout server (from_list notices.now) n ≡ false) (λ n. is_due layout server (from_list notices.now) n ≡ true) }
-{
-    for notice in notices {
-        if is_of_server(layout, server, notice.datum) {
-            return Some(*notice);
-        }
-    }
-    None
 }
 
 /// The server delivers a notice: the parameter that it names is ready, if the rule is pending.

@@ -2,11 +2,12 @@ use Rattle.std.proofs.Common.{sym, subst}
 use Rattle.tw_types.specs.Given.{members_by}
 use Rattle.tw_types.specs.Store.{Contains, Members}
 use Rattle.tw_datum.specs.Kept.{FitsType}
-use Rattle.tw_machine.proofs.InputData.{given_by, numbered_fit}
+use Rattle.tw_code.proofs.Givens.{given_kind}
+use Rattle.tw_machine.proofs.InputData.{numbered_fit}
 use Rattle.tw_machine.proofs.opened.add_container.Goals as goal
 
 pub add_closed-requires-clause-fits : goal.add_closed-requires-clause-fits
 add_closed-requires-clause-fits g c =
-    let by = given_by c.args.ty g.K.AsValue.scalar g.V.AsValue.scalar (members_by g.K.AsValue.value g.V.AsValue.value c.args.members.now) c.requires.fits in
+    let by = given_kind c.args.ty g.K.AsValue.scalar g.V.AsValue.scalar (members_by g.K.AsValue.value g.V.AsValue.value c.args.members.now) c.requires.fits in
     subst (λ (m : Members). FitsType c.args.ty (Contains m)) (sym c.in_ok-numbers.ensures)
     (numbered_fit g.K.AsValue.value g.V.AsValue.value g.K.AsValue.scalar g.met.K.AsValue.of_scalar c.args.ty by _ c.args.members.now)

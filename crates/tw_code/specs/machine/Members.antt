@@ -1,4 +1,4 @@
--- The data of an input, as they are added one after the other.
+-- The members of a container that is given, and their data as they are added one after the other.
 use Rattle.std.specs.Prelude.{Bool, ◌&&◌, List, [], fold}
 use Rattle.std.specs.List.{list_all}
 use Rattle.tw_types.specs.Nesting.{NestedScalar}
