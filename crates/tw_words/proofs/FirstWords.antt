@@ -1,8 +1,8 @@
 -- What stands first, as the reader finds it.
-use Rattle.std.proofs.Common.{◌≡◌, ◌≢◌, ℕ, suc, ◌+◌, ◌-◌, ◌<◌, ◌≤◌, Bool, true, false, cond, List, [], ◌∷◌, ◌++◌, length, get_or, take, drop, refl, sym, ap, subst, ◌∙◌, append_assoc, arith}
+use Rattle.std.proofs.Common.{[], ◌≡◌, ◌≢◌, ℕ, suc, ◌+◌, ◌-◌, ◌≤◌, Bool, true, false, cond, List, ◌∷◌, ◌++◌, length, get_or, take, drop, refl, sym, ap, subst, ◌∙◌, append_assoc, arith}
 use Rattle.std.specs.Prelude.{Err, IfOk, Ok, Result}
 use Rattle.std.proofs.lemmas.Bool.Decides.{nat_tests}
-use Rattle.std.proofs.lemmas.List.{take-append-drop, length-append}
+use Rattle.std.proofs.lemmas.List.{take-append-drop}
 use Rattle.tw_words.specs.Quoted.{BeginsQuoted}
 use Rattle.tw_words.proofs.Insides.{one_text}
 use Rattle.tw_words.specs.declared.word.Next as nexts
@@ -10,7 +10,8 @@ use Rattle.tw_words.specs.declared.word.Next.TheVariants as next
 use Rattle.tw_words.specs.Seen.{seen}
 use Rattle.tw_words.specs.reading.Next.{IsAfterGap, IsAtWord, IsNext, bare_length, is_at_edge}
 use Rattle.tw_words.specs.Words.{Bare, IsAtEdge, IsAtEnd, IsBare, IsBlank, IsBroken, IsFirstWord, IsGap, IsWord, Quoted, Word, is_comment_sign, is_edge, is_parting}
-use Rattle.tw_words.proofs.Once.{HasNoEdge, differ, end_here, gap_once, head_is, word_here}
+use Rattle.tw_words.proofs.Once.{HasNoEdge, differ, end_here, gap_once, word_here}
+use Rattle.tw_words.proofs.Insides.{head_is}
 use Rattle.tw_words.proofs.Texts.{slice_tail}
 
 -- ---- the gap
@@ -77,9 +78,6 @@ behind_gap next.Broken bytes rest a is = (λ blank. is.0 (blank_behind bytes res
 behind_gap (next.Found word after) bytes rest a is = behind_word (seen word) bytes rest after.now a is
 
 -- ---- where a word stands first, or a quote
-
-none_before : (bytes : List ℕ) → IsAtWord bytes → IsAfterGap bytes bytes
-none_before bytes at = record { gap = []; parts = refl; is_gap = tt; at_word = at }
 
 word_now : (word : Word) (bytes rest : List ℕ) → IsAtWord bytes → IsFirstWord word bytes rest → (text : List ℕ) × (bytes ≡ text ++ rest) × IsWord word text × IsAtEdge rest
 word_now word bytes rest at f =
@@ -181,18 +179,6 @@ bare_first (b ∷ rest) l at c q = record {
 }
 
 -- ---- the rest is shorter
-
-word_some : (word : Word) (text : List ℕ) → IsWord word text → 0 < length text
-word_some (Bare []) text is = absurd is.0
-word_some (Bare (b ∷ bs)) text (bare, same) = rw same (omega arith)
-word_some (Quoted q) text (inside, is, same) = rw same (omega arith)
-
-pub rest_shorter : (word : Word) (bytes rest : List ℕ) → IsFirstWord word bytes rest → length rest < length bytes
-rest_shorter word bytes rest f =
-    let some : 0 < length f.text = word_some word f.text f.is_word in
-    let all : length bytes ≡ length f.gap + length (f.text ++ rest) = ap length f.parts ∙ length-append f.gap (f.text ++ rest) in
-    let part : length (f.text ++ rest) ≡ length f.text + length rest = length-append f.text rest in
-    omega (arith, some, all, part)
 
 pub behind_gap_read : {E : Type 0} (read : Result nexts.Next E) (bytes rest : List ℕ) → IsAfterGap bytes rest → IfOk read (λ found. IsNext found rest) → IfOk read (λ found. IsNext found bytes)
 behind_gap_read (Ok found) bytes rest a is = behind_gap found bytes rest a is

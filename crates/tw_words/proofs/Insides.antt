@@ -11,7 +11,7 @@ use Rattle.tw_words.specs.reading.Inside.{Found, inside_from, with_byte}
 
 -- ---- what stands between quotes is read
 
-not_eq : (a b : ℕ) → a ≢ b → eqb a b ≡ false
+pub not_eq : (a b : ℕ) → a ≢ b → eqb a b ≡ false
 not_eq a b ne = grind (arith, nat_tests)
 
 -- a piece is read as its byte
@@ -133,10 +133,10 @@ found_inside (b ∷ bytes) (Digit first) front text rest before is =
 
 -- ---- a text between quotes that stands first
 
-tail_is : (b c : ℕ) (xs ys : List ℕ) → b ∷ xs ≡ c ∷ ys → xs ≡ ys
+pub tail_is : (b c : ℕ) (xs ys : List ℕ) → b ∷ xs ≡ c ∷ ys → xs ≡ ys
 tail_is b c xs ys e = cc
 
-head_is : (b c : ℕ) (xs ys : List ℕ) → b ∷ xs ≡ c ∷ ys → b ≡ c
+pub head_is : (b c : ℕ) (xs ys : List ℕ) → b ∷ xs ≡ c ∷ ys → b ≡ c
 head_is b c xs ys e = cc
 
 pub begins_read : (text : List ℕ) (b : ℕ) (bytes rest : List ℕ) → BeginsQuoted text (b ∷ bytes) rest → (b ≡ 34) × (inside_from Nothing bytes ≡ Some (text, rest))

@@ -7,3 +7,4 @@ pub mod Texts
 pub mod FirstWords
 pub mod Breaks
 pub mod Writing
+pub mod Decided

@@ -1,5 +1,5 @@
 -- Digits, one by one; and what two numbers a text can't spell.
-use Rattle.std.proofs.Common.{◌≡◌, ℕ, zero, suc, ◌-◌, ℤ, pos, negsuc, neg_ℤ, ◌+◌, ◌*◌, ◌<◌, ◌≤◌, ◌^◌, inl, inr, List, ◌∷◌, length, take, get_or, refl, sym, ap, subst, ◌∙◌, arith}
+use Rattle.std.proofs.Common.{◌≡◌, ℕ, zero, suc, ◌-◌, ℤ, pos, negsuc, neg_ℤ, ◌+◌, ◌*◌, ◌<◌, ◌^◌, inl, inr, List, ◌∷◌, length, take, get_or, refl, sym, ap, subst, ◌∙◌, arith}
 use Rattle.std.specs.Prelude.{min, Err}
 use Rattle.std.specs.Char.{digit_value}
 use Rattle.std.specs.Fmt.{decimal, signed_decimal}
@@ -7,9 +7,9 @@ use Rattle.std.specs.Str.Parse.{AllDigits, digits_value}
 use Rattle.std.proofs.lemmas.Bool.Decides.{nat_tests}
 use Rattle.std.proofs.lemmas.Fmt.{decimal_is_IsNumeral}
 use Rattle.std.proofs.lemmas.Int.Digits.{digits_more, digits_value_more}
-use Rattle.std.proofs.lemmas.List.{take_all}
 use Rattle.std.proofs.lemmas.Str.Parse.{digit_at}
 use Rattle.std.specs.Int.{IsInRange}
+use Rattle.tw_words.proofs.Insides.{tail_is}
 use Rattle.tw_words.specs.Laws.{NumbersAreReadBack}
 use Rattle.tw_words.specs.Number.{IsIn64, IsRead, SpellsDigits, SpellsNumber}
 use Rattle.tw_words.specs.declared.numbers.Flaw.{Flaw}
@@ -40,13 +40,6 @@ one_digit text past i value digit next h inside below is made = record {
     capped : (v w : ℕ) → w ≡ v * 10 + digit → value ≡ min past v → min past (10 * value + digit) ≡ min past w
     capped v w e f = omega arith
 
--- all have been read
-pub all_digits : (text : List ℕ) (past i value : ℕ) → HasRead text past i value → length text ≤ i → 0 < length text → SpellsDigits (digits_value 10 text) text
-all_digits text past i value h all some = record { digits = (some, subst (AllDigits 10) (take_all i text all) h.digits); value = refl }
-
-pub whole_value : (text : List ℕ) (past i value : ℕ) → HasRead text past i value → length text ≤ i → value ≡ min past (digits_value 10 text)
-whole_value text past i value h all = h.value ∙ ap (λ (ds : List ℕ). min past (digits_value 10 ds)) (take_all i text all)
-
 -- ---- signs
 
 pub no_sign : (n : ℕ) (rest : List ℕ) → SpellsDigits n (45 ∷ rest) → ⊥
@@ -56,9 +49,6 @@ no_sign n rest h = absurd (omega (arith, h.digits.1.0))
 
 pub one_size : (n m : ℕ) (text : List ℕ) → SpellsDigits n text → SpellsDigits m text → n ≡ m
 one_size n m text h k = sym h.value ∙ k.value
-
-tail_is : (b c : ℕ) (xs ys : List ℕ) → b ∷ xs ≡ c ∷ ys → xs ≡ ys
-tail_is b c xs ys e = cc
 
 pub one_number : (n m : ℤ) (text : List ℕ) → SpellsNumber n text → SpellsNumber m text → n ≡ m
 one_number n m text (inl (a, h, e)) (inl (b, k, f)) = e ∙ ap pos (one_size a b text h k) ∙ sym f

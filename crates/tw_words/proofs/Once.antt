@@ -1,21 +1,15 @@
 -- One word alone stands first, and one list of words in a line.
-use Rattle.std.proofs.Common.{◌≡◌, ℕ, Bool, true, false, List, [], ◌∷◌, ◌++◌, refl, sym, ap, subst, ◌∙◌}
+use Rattle.std.proofs.Common.{[], ◌≡◌, ℕ, Bool, true, false, List, ◌∷◌, ◌++◌, refl, sym, ap, subst, ◌∙◌}
 use Rattle.std.specs.Prelude.{◌||◌}
 use Rattle.std.specs.List.{AllByRecursion}
 use Rattle.std.proofs.lemmas.Bool.{eqb-true}
 use Rattle.tw_words.specs.Quoted.{SpellsQuoted}
-use Rattle.tw_words.proofs.Insides.{one_text}
+use Rattle.tw_words.proofs.Insides.{head_is, one_text, tail_is}
 use Rattle.tw_words.specs.reading.Next.{IsAtWord}
 use Rattle.tw_words.specs.Words.{AreFirstWords, Bare, IsAtEdge, IsAtEnd, IsBare, IsBlank, IsBroken, IsBrokenLine, IsFirstWord, IsGap, IsLine, IsWord, Quoted, Word, is_comment_sign, is_edge, is_parting}
 
 pub differ : true ≡ false → ⊥
 differ e = cc
-
-pub head_is : (b c : ℕ) (xs ys : List ℕ) → b ∷ xs ≡ c ∷ ys → b ≡ c
-head_is b c xs ys e = cc
-
-pub tail_is : (b c : ℕ) (xs ys : List ℕ) → b ∷ xs ≡ c ∷ ys → xs ≡ ys
-tail_is b c xs ys e = cc
 
 -- no edge stands in these bytes
 abbrev pub HasNoEdge : List ℕ → Type 0
@@ -118,9 +112,6 @@ broken_rest w v ws line rest (end, (after, first, more), broken) other =
     let one = first_word_once w v line after rest first other in
     (one.0, (end, subst (λ (bytes : List ℕ). AreFirstWords ws bytes end) one.1 more, broken))
 
-pub broken_first : (w v : Word) (ws : List Word) (line rest : List ℕ) → IsBrokenLine (w ∷ ws) line → IsFirstWord v line rest → w ≡ v
-broken_first w v ws line rest l first = (broken_rest w v ws line rest l first).0
-
 pub broken_here : (line : List ℕ) → IsBrokenLine [] line → IsBroken line
 broken_here line (end, same, broken) = subst IsBroken (sym same) broken
 
@@ -129,14 +120,6 @@ broken_no_line [] [] line l k = (broken_here line l).0 (line_blank line k)
 broken_no_line [] (v ∷ vs) line l (end, (after, first, more), blank) = (broken_here line l).1 v after first
 broken_no_line (w ∷ ws) [] line (end, (after, first, more), broken) k = blank_no_word w line after (line_blank line k) first
 broken_no_line (w ∷ ws) (v ∷ vs) line l (end, (after, first, more), blank) = broken_no_line ws vs after (broken_rest w v ws line after l first).1 (end, more, blank)
-
-pub broken_once : (ws vs : List Word) (line : List ℕ) → IsBrokenLine ws line → IsBrokenLine vs line → ws ≡ vs
-broken_once [] [] line l k = refl
-broken_once [] (v ∷ vs) line l (end, (after, first, more), broken) = absurd ((broken_here line l).1 v after first)
-broken_once (w ∷ ws) [] line (end, (after, first, more), broken) k = absurd ((broken_here line k).1 w after first)
-broken_once (w ∷ ws) (v ∷ vs) line l (end, (after, first, more), broken) =
-    let one = broken_rest w v ws line after l first in
-    ap (λ (x : Word). x ∷ ws) one.0 ∙ ap (λ (xs : List Word). v ∷ xs) (broken_once ws vs after one.1 (end, more, broken))
 
 -- a word more
 pub first_words_more : (ws : List Word) (w : Word) (line bytes rest : List ℕ) → AreFirstWords ws line bytes → IsFirstWord w bytes rest → AreFirstWords (ws ++ w ∷ []) line rest

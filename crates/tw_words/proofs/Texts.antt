@@ -1,19 +1,11 @@
 -- What is left of a line in UTF-8 is UTF-8.
-use Rattle.std.proofs.Common.{◌≡◌, ℕ, suc, ◌-◌, ◌<◌, ◌≤◌, zero, true, List, [], ◌∷◌, ◌++◌, length, get_or, take, drop, sym, ap, subst, ◌∙◌, append_assoc, arith}
+use Rattle.std.proofs.Common.{◌≡◌, ℕ, suc, ◌-◌, ◌<◌, ◌≤◌, true, List, [], ◌∷◌, ◌++◌, length, get_or, take, drop, sym, ap, subst, ◌∙◌, append_assoc, arith}
 use Rattle.std.specs.Prelude.{IsUtf8}
-use Rattle.std.specs.Str.{IsAscii}
 use Rattle.std.proofs.lemmas.Bool.Decides.{nat_tests}
 use Rattle.std.proofs.lemmas.List.{take_all}
-use Rattle.std.proofs.lemmas.Str.{IsUtf8-append, IsUtf8-from_ascii, IsUtf8-nil}
-use Rattle.tw_words.proofs.Utf8.{cut_rest}
+use Rattle.std.proofs.lemmas.Str.{IsUtf8-append, IsUtf8-nil}
+use Rattle.tw_words.proofs.Utf8.{cut_rest, one_ascii}
 use Rattle.tw_words.specs.Words.{IsAtEdge, IsFirstWord, Word, is_edge, is_parting}
-
-one_ascii : (b : ℕ) → b < 128 → IsUtf8 (b ∷ [])
-one_ascii b lt = IsUtf8-from_ascii (b ∷ []) ascii
-  where
-    ascii : IsAscii (b ∷ [])
-    ascii zero = lt
-    ascii (suc i) = omega arith
 
 edge_small : (b : ℕ) → is_edge b ≡ true → b < 128
 edge_small b e = grind (arith, nat_tests)

@@ -11,7 +11,7 @@ use Rattle.tw_words.specs.Quoted.{IsInside, backslash, hex, line_feed, nothing, 
 use Rattle.tw_words.specs.reading.Inside.{inside_from}
 use Rattle.tw_words.proofs.Insides.{found_inside}
 
-one_ascii : (b : ℕ) → b < 128 → IsUtf8 (b ∷ [])
+pub one_ascii : (b : ℕ) → b < 128 → IsUtf8 (b ∷ [])
 one_ascii b lt = IsUtf8-from_ascii (b ∷ []) ascii
   where
     ascii : IsAscii (b ∷ [])

@@ -1,8 +1,8 @@
 -- Words that are written one after the other, parted by spaces, are the words of the line.
-use Rattle.std.proofs.Common.{◌≡◌, ◌≢◌, ◌==◌, ℕ, suc, ℤ, pos, negsuc, ◌/◌, ◌%◌, ◌<◌, ◌≤◌, ◌^◌, Bool, true, false, eqb, codes, List, [], ◌∷◌, ◌++◌, length, refl, sym, ap, arith}
-use Rattle.std.specs.Prelude.{◌||◌, FitsSigned, if◌then◌else◌, nat_lt}
-use Rattle.std.specs.Fmt.{decimal, signed_decimal}
-use Rattle.std.specs.Int.{IsInRange, w64}
+use Rattle.std.proofs.Common.{[], ◌≡◌, ◌==◌, ℕ, ◌/◌, ◌%◌, ◌<◌, ◌≤◌, ◌^◌, Bool, true, false, codes, List, ◌∷◌, ◌++◌, length, refl, sym, ap, arith}
+use Rattle.std.specs.Prelude.{◌||◌, if◌then◌else◌, nat_lt}
+use Rattle.std.specs.Fmt.{decimal}
+use Rattle.std.specs.Int.{IsInRange}
 use Rattle.std.specs.List.{AllByRecursion, flat_map, join_with_byte}
 use Rattle.std.specs.Str.Parse.{AllDigits}
 use Rattle.std.proofs.lemmas.Bool.Decides.{nat_tests}
@@ -10,9 +10,9 @@ use Rattle.std.proofs.lemmas.Fmt.{decimal_is_IsNumeral}
 use Rattle.std.proofs.lemmas.List.{append-nil}
 use Rattle.std.proofs.lemmas.Str.Parse.{digit_at}
 use Rattle.tw_words.specs.Quoted.{escaped, hex_digit, quoted}
-use Rattle.tw_words.proofs.Written.{quoted_spells}
-use Rattle.tw_words.specs.Words.{Bare, IsBare, IsBlank, IsFirstWord, IsLine, IsWord, Quoted, Word, is_edge}
+use Rattle.tw_words.specs.Words.{IsBare, IsBlank, IsFirstWord, IsLine, IsWord, Word, is_edge}
 use Rattle.tw_words.proofs.Breaks.{IsOneLine}
+use Rattle.tw_words.proofs.Insides.{not_eq}
 use Rattle.tw_words.proofs.Once.{HasNoEdge}
 
 -- each text stands for its word
@@ -60,29 +60,11 @@ joined_all P (t ∷ u ∷ ts) space are = all_append P t (32 ∷ join_with_byte 
 pub joined_one_line : (texts : List (List ℕ)) → AllByRecursion IsOneLine texts → IsOneLine (join_with_byte 32 texts)
 joined_one_line texts are = joined_all (λ b. (b == 10 || b == 13) ≡ false) texts refl are
 
-pub joined_no_line_feed : (texts : List (List ℕ)) → AllByRecursion (AllByRecursion (λ b. (b == 10) ≡ false)) texts → AllByRecursion (λ b. (b == 10) ≡ false) (join_with_byte 32 texts)
-joined_no_line_feed texts are = joined_all (λ b. (b == 10) ≡ false) texts refl are
-
--- ---- words
-
-pub bare_word : (bytes : List ℕ) → IsBare bytes → IsWord (Bare bytes) bytes
-bare_word bytes bare = (bare, refl)
-
-pub quoted_word : (text : List ℕ) → IsWord (Quoted text) (quoted text)
-quoted_word text = quoted_spells text
-
-pub bare_append : (front back : List ℕ) → IsBare front → HasNoEdge back → IsBare (front ++ back)
-bare_append [] back bare clean = absurd bare
-bare_append (b ∷ front) back bare clean = (bare.0, all_append (λ c. is_edge c ≡ false) (b ∷ front) back bare.1 clean)
-
 -- ---- texts between quotes
-
-apart : (a b : ℕ) → a ≢ b → eqb a b ≡ false
-apart a b ne = grind (arith, nat_tests)
 
 -- a byte past both
 past : (b : ℕ) → 14 ≤ b → (b == 10 || b == 13) ≡ false
-past b h = rw (apart b 10 (λ e. omega (arith, h, e)), apart b 13 (λ e. omega (arith, h, e))) refl
+past b h = rw (not_eq b 10 (λ e. omega (arith, h, e)), not_eq b 13 (λ e. omega (arith, h, e))) refl
 
 hex_past : (n : ℕ) → 14 ≤ hex_digit n
 hex_past n = grind (arith, nat_tests)
@@ -109,41 +91,18 @@ quoted_one_line text = (refl, all_append (λ c. (c == 10 || c == 13) ≡ false) 
 -- ---- numbers
 
 digit_clean : (b : ℕ) → IsInRange 48 57 b → is_edge b ≡ false
-digit_clean b h = rw (apart b 32 (λ e. omega (arith, h.0, e)), apart b 9 (λ e. omega (arith, h.0, e)), apart b 13 (λ e. omega (arith, h.0, e)), apart b 59 (λ e. omega (arith, h.1, e))) refl
+digit_clean b h = rw (not_eq b 32 (λ e. omega (arith, h.0, e)), not_eq b 9 (λ e. omega (arith, h.0, e)), not_eq b 13 (λ e. omega (arith, h.0, e)), not_eq b 59 (λ e. omega (arith, h.1, e))) refl
 
 digits_clean : (ds : List ℕ) → AllDigits 10 ds → HasNoEdge ds
 digits_clean [] are = tt
 digits_clean (d ∷ ds) are = (digit_clean d (digit_at (d ∷ ds) 0 are (omega arith)), digits_clean ds are.1)
 
-digits_one_line : (ds : List ℕ) → AllDigits 10 ds → IsOneLine ds
-digits_one_line [] are = tt
-digits_one_line (d ∷ ds) are = (past d (omega (arith, (digit_at (d ∷ ds) 0 are (omega arith)).0)), digits_one_line ds are.1)
-
 digits_bare : (ds : List ℕ) → 0 < length ds → AllDigits 10 ds → IsBare ds
 digits_bare [] some are = absurd (omega (arith, some))
 digits_bare (d ∷ ds) some are = (λ e. omega (arith, (digit_at (d ∷ ds) 0 are (omega arith)).0, e), digits_clean (d ∷ ds) are)
-
--- one byte before what has no edge
-pub bare_after : (b : ℕ) (bytes : List ℕ) → b ≢ 34 → is_edge b ≡ false → HasNoEdge bytes → IsBare (b ∷ bytes)
-bare_after b bytes unquoted clean rest = (unquoted, (clean, rest))
 
 pub decimal_clean : (n : ℕ) → n < 2 ^ 64 → HasNoEdge (decimal n)
 decimal_clean n h = digits_clean (decimal n) (decimal_is_IsNumeral n h).0.1
 
 pub decimal_bare : (n : ℕ) → n < 2 ^ 64 → IsBare (decimal n)
 decimal_bare n h = let is = (decimal_is_IsNumeral n h).0 in digits_bare (decimal n) is.0 is.1
-
-pub decimal_one_line : (n : ℕ) → n < 2 ^ 64 → IsOneLine (decimal n)
-decimal_one_line n h = digits_one_line (decimal n) (decimal_is_IsNumeral n h).0.1
-
-pub signed_clean : (z : ℤ) → FitsSigned w64 z → HasNoEdge (signed_decimal z)
-signed_clean (pos n) h = decimal_clean n (omega (arith, h.sfits))
-signed_clean (negsuc n) h = (refl, decimal_clean (suc n) (omega (arith, h.sfits)))
-
-pub signed_bare : (z : ℤ) → FitsSigned w64 z → IsBare (signed_decimal z)
-signed_bare (pos n) h = decimal_bare n (omega (arith, h.sfits))
-signed_bare (negsuc n) h = bare_after 45 (decimal (suc n)) (λ e. omega (arith, e)) refl (decimal_clean (suc n) (omega (arith, h.sfits)))
-
-pub signed_one_line : (z : ℤ) → FitsSigned w64 z → IsOneLine (signed_decimal z)
-signed_one_line (pos n) h = decimal_one_line n (omega (arith, h.sfits))
-signed_one_line (negsuc n) h = (refl, decimal_one_line (suc n) (omega (arith, h.sfits)))

@@ -4,6 +4,7 @@
 //! words are parted by spaces, tabs and carriage returns; a `;` outside a quoted text begins a comment.
 #![tactic(auto)]
 
+mod behind;
 mod escape;
 mod first;
 mod laws;
@@ -11,6 +12,7 @@ mod numbers;
 mod quoted;
 mod word;
 
+pub use behind::put;
 pub use first::after;
 pub use laws::{numbers_are_read_back, quoted_texts_are_read_back};
 pub use numbers::{Flaw, digits, number};
