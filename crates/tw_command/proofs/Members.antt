@@ -1,8 +1,7 @@
 -- Lists with commas between their members, read from left to right.
-use Rattle.std.proofs.Common.{◌≡◌, ◌≢◌, ◌==◌, true, false, ℕ, List, [], ◌∷◌, ◌++◌, refl, sym, ap, subst, ◌∙◌, append_assoc, arith}
+use Rattle.std.proofs.Common.{◌≡◌, ◌≢◌, ◌==◌, true, false, ℕ, List, [], ◌∷◌, ◌++◌, refl, sym, ap, subst, ◌∙◌, append_assoc}
 use Rattle.std.specs.Prelude.{length}
 use Rattle.std.specs.List.{AllByRecursion}
-use Rattle.std.proofs.lemmas.Bool.{eqb-true}
 use Rattle.tw_command.specs.InputWords.{AreBehind, AreJoined}
 use Rattle.tw_command.specs.reading.Members.{HasNoFirst, IsFirst, IsStop}
 
@@ -44,10 +43,6 @@ not_true e = cc
 -- a test for none failed
 pub some_bytes : (xs : List ℕ) → false ≡ (length xs == 0) → xs ≢ []
 some_bytes xs h e = not_true (h ∙ ap (λ (ys : List ℕ). length ys == 0) e)
-
-pub no_bytes : (xs : List ℕ) → true ≡ (length xs == 0) → xs ≡ []
-no_bytes [] h = refl
-no_bytes (x ∷ xs) h = let none : length (x ∷ xs) ≡ 0 = eqb-true (length (x ∷ xs)) 0 (sym h) in absurd (omega (arith, none))
 
 module _ {A : Type 0} (Spells : A → List ℕ → Type 0) where
   -- one or more
@@ -110,10 +105,6 @@ module _ {A : Type 0} (Spells : A → List ℕ → Type 0) where
       rest_of : (xs : List A) → AreBehind Spells xs (44 ∷ others) → AreSome xs others
       rest_of [] b = never_comma others b
       rest_of (y ∷ ys) b = (b.0, b.1, b.2, b.3, comma_is others (b.0 ++ b.1) b.4)
-
-  -- the last one
-  pub last_read : (list rest after : List ℕ) (members : List A) (x : A) → AreRead list members rest → IsFirst 44 Spells rest x after → after ≡ [] → AreJoined Spells (members ++ x ∷ []) list
-  last_read list rest after members x h found end = h.sound (x ∷ []) (found.first, after, found.spells, end, found.parts)
 
   -- none stands there
   pub missing : (list rest : List ℕ) (members : List A) → AreRead list members rest → HasNoFirst 44 Spells rest → (ys : List A) → AreJoined Spells ys list → ⊥

@@ -19,8 +19,7 @@ use Rattle.clap.proofs.WalkLemmas.{both, first_value-rows}
 use Rattle.tw_words.specs.Number.{IsRead, SpellsDigits}
 use Rattle.tw_words.specs.declared.numbers.Flaw.{Flaw}
 use Rattle.tw_words.specs.declared.numbers.Flaw.TheVariants.{Form, Limit}
-use Rattle.tw_types.specs.Layout.{ActorCounts}
-use Rattle.tw_command.specs.Options.{HasActors, NumberOption, actor_options, actors_told, engines, limit, number_in, number_of, number_options, option_faults, servers, workers}
+use Rattle.tw_command.specs.Options.{NumberOption, actor_options, engines, limit, number_in, number_of, number_options, option_faults, servers, workers}
 use Rattle.tw_command.specs.Order.{HasReason}
 use Rattle.tw_command.specs.CommandLine.{Asked}
 use Rattle.tw_command.specs.declared.command.NoOrder.TheVariants.{Refused}
@@ -105,16 +104,6 @@ has_fault kinds asked e = subst (λ (k : Kinds). HasReason k asked Refused) (sym
   where
     no_help : ValueValidation ≡ DisplayHelp → ⊥
     no_help e = cc
-
--- where each has one, they are those that are told
-pub all_taken : (rows : List Row) (layout : ActorCounts) (n : ℕ) → HasActors rows layout → number_of limit rows ≡ Some n → option_faults number_options rows ≡ []
-all_taken rows layout n h e = rw (h.0, h.1, h.2, e) refl
-
-pub actors_taken : (rows : List Row) (layout : ActorCounts) → HasActors rows layout → option_faults actor_options rows ≡ []
-actors_taken rows layout h = rw (h.0, h.1, h.2) refl
-
-pub actors_are : (rows : List Row) (layout : ActorCounts) → HasActors rows layout → layout ≡ actors_told rows
-actors_are rows layout h = rw (h.0, h.1, h.2) refl
 
 -- ---- a flag
 

@@ -6,6 +6,7 @@ ghost use Rattle.std.specs.Str.{bytes_eq};
 ghost use Rattle.tw_command.specs.Explanations.{IsExplanation, assembly_numbers, byte_numbers, is_among, is_number, session_numbers, trap_numbers, verifier_numbers};
 
 use std::alloc::{AllocError, Global};
+use tw_words::put;
 
 /// What is told of a number.
 #[derive(Clone, Copy)]
@@ -413,12 +414,6 @@ fn row_of(word: &str) -> Option<Explanation>
         .or(bytes_row(word))
         .or(verifier_row(word))
         .or(trap_row(word))
-}
-
-fn put(out: &mut Vec<u8>, text: &str) -> Result<(), AllocError>
-    ensures { OnOk result (out.new.items ≡ out.old.items ++ text.now) }
-{
-    out.extend_from_slice(text.as_bytes())
 }
 
 /// Adds a line of an explanation, behind its first.
