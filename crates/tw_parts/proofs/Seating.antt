@@ -3,12 +3,13 @@ use Rattle.std.proofs.Common.{◌≡◌, ◌≢◌, ◌<◌, ◌≤◌, ◌+◌,
 use Rattle.std.proofs.lemmas.Bool.Decides.{nat_tests}
 use Rattle.std.proofs.lemmas.List.{get_or-set_same, get_or-set_other}
 use Rattle.std.proofs.lemmas.List.Sums.{sum_by-cons}
-use Rattle.std.specs.Cmp.{Equal-is, tied_itself}
-use Rattle.std.specs.Ordering.{eq_by_cmp, is_eq}
+use Rattle.std.specs.Cmp.{Equal-is}
+use Rattle.std.specs.Ordering.{eq_by_cmp}
 use Rattle.std.specs.FinMap.{find, from_entries, get, get-from_entries, get-insert, get-remove, insert, len, len-empty, len-insert, remove, same_map}
 use Rattle.tw_types.specs.declared.actor.Actor.{Actor}
 use Rattle.tw_types.specs.declared.actor.Actor.TheVariants.{Engine, Server, Worker}
 use Rattle.tw_types.specs.Actor.{actor_cmp}
+use Rattle.tw_types.proofs.Orders.{other_key, own_key}
 use Rattle.tw_types.proofs.ActorOrder.{actor_cmp_total, actor_cmp-IsAntisymmetric}
 use Rattle.tw_frame.specs.Jobs.{FrameView}
 use Rattle.tw_parts.specs.Seats.{AreSeats, HasSeat, Seated, actor_of, seat_of, seated, who_sit}
@@ -45,23 +46,13 @@ low_seat (Worker n) h = omega arith
 same_actor : (a b : Actor) → eq_by_cmp actor_cmp a b ≡ true → a ≡ b
 same_actor a b e = actor_cmp-IsAntisymmetric a b ((Equal-is (actor_cmp a b)).0 e)
 
-other_actor : (a b : Actor) → (a ≡ b → ⊥) → eq_by_cmp actor_cmp a b ≡ false
-other_actor a b h = by (eq_by_cmp actor_cmp a b) refl
-  where
-    by : (t : Bool) → eq_by_cmp actor_cmp a b ≡ t → t ≡ false
-    by true e = absurd (h (same_actor a b e))
-    by false e = refl
-
-itself : (a : Actor) → eq_by_cmp actor_cmp a a ≡ true
-itself a = ap is_eq (tied_itself actor_cmp_total a)
-
 -- ---- what is found
 
 -- an actor that stands at no place from here on isn't found
 unfound : (a : Actor) (n : ℕ) (seats : Seats) → ((k : ℕ) → n ≤ k → a ≡ actor_of k → ⊥) → find actor_cmp a (who_sit n seats) ≡ None
 unfound a n [] h = refl
 unfound a n (None ∷ seats) h = unfound a (suc n) seats (λ k l. h k (omega (arith, l)))
-unfound a n (Some f ∷ seats) h = ap (λ b. cond b (Some f) (find actor_cmp a (who_sit (suc n) seats))) (other_actor a (actor_of n) (h n (omega arith))) ∙ unfound a (suc n) seats (λ k l. h k (omega (arith, l)))
+unfound a n (Some f ∷ seats) h = ap (λ b. cond b (Some f) (find actor_cmp a (who_sit (suc n) seats))) (other_key actor_cmp-IsAntisymmetric a (actor_of n) (h n (omega arith))) ∙ unfound a (suc n) seats (λ k l. h k (omega (arith, l)))
 
 found_at : (a : Actor) (n j : ℕ) (seats : Seats) → a ≡ actor_of (n + j) → find actor_cmp a (who_sit n seats) ≡ get_or seats j None
 found_at a n j [] is = refl
@@ -72,12 +63,12 @@ found_at a n zero (None ∷ seats) is = unfound a (suc n) seats (λ k l same.
     zero_more n = omega arith
 found_at a n zero (Some f ∷ seats) is =
     let here : n + zero ≡ n = omega arith in
-    ap (λ b. cond b (Some f) (find actor_cmp a (who_sit (suc n) seats))) (ap (eq_by_cmp actor_cmp a) (ap actor_of (sym here) ∙ sym is) ∙ itself a)
+    ap (λ b. cond b (Some f) (find actor_cmp a (who_sit (suc n) seats))) (ap (eq_by_cmp actor_cmp a) (ap actor_of (sym here) ∙ sym is) ∙ own_key actor_cmp_total a)
 found_at a n (suc j) (None ∷ seats) is = let next : n + suc j ≡ suc n + j = omega arith in found_at a (suc n) j seats (is ∙ ap actor_of next)
 found_at a n (suc j) (Some f ∷ seats) is =
     let next : n + suc j ≡ suc n + j = omega arith in
     ap (λ b. cond b (Some f) (find actor_cmp a (who_sit (suc n) seats)))
-    (other_actor a (actor_of n) (λ same. let e : n + suc j ≡ n = sym (seat_is (n + suc j)) ∙ ap seat_of (sym is ∙ same) ∙ seat_is n in omega arith))
+    (other_key actor_cmp-IsAntisymmetric a (actor_of n) (λ same. let e : n + suc j ≡ n = sym (seat_is (n + suc j)) ∙ ap seat_of (sym is ∙ same) ∙ seat_is n in omega arith))
     ∙ found_at a (suc n) j seats (is ∙ ap actor_of next)
 
 none_more : (n : ℕ) → n ≡ 0 + n
@@ -108,7 +99,7 @@ module _ (seats : Seats) (a : Actor) (h : HasSeat a) (inside : seat_of a < lengt
 
       none : eq_by_cmp actor_cmp (actor_of (seat_of q)) q ≡ false → get (seated (set seats (seat_of a) o)) q ≡ get (seated seats) q
       none e =
-          let no : actor_of (seat_of q) ≡ q → ⊥ = λ own. let t : false ≡ true = sym e ∙ ap (λ x. eq_by_cmp actor_cmp x q) own ∙ itself q in cc in
+          let no : actor_of (seat_of q) ≡ q → ⊥ = λ own. let t : false ≡ true = sym e ∙ ap (λ x. eq_by_cmp actor_cmp x q) own ∙ own_key actor_cmp_total q in cc in
           stray (set seats (seat_of a) o) q no ∙ sym (stray seats q no)
 
       either : q ≢ a → (t : Bool) → eq_by_cmp actor_cmp (actor_of (seat_of q)) q ≡ t → get (seated (set seats (seat_of a) o)) q ≡ get (seated seats) q
@@ -117,7 +108,7 @@ module _ (seats : Seats) (a : Actor) (h : HasSeat a) (inside : seat_of a < lengt
 
       by : (t : Bool) → eq_by_cmp actor_cmp q a ≡ t → get (seated (set seats (seat_of a) o)) q ≡ cond t o (get (seated seats) q)
       by true e = let same = same_actor q a e in ap (get (seated (set seats (seat_of a) o))) same ∙ get_seated (set seats (seat_of a) o) a h ∙ get_or-set_same seats (seat_of a) o None inside
-      by false e = either (λ same. let t : false ≡ true = sym e ∙ ap (λ x. eq_by_cmp actor_cmp x a) same ∙ itself a in cc) (eq_by_cmp actor_cmp (actor_of (seat_of q)) q) refl
+      by false e = either (λ same. let t : false ≡ true = sym e ∙ ap (λ x. eq_by_cmp actor_cmp x a) same ∙ own_key actor_cmp_total a in cc) (eq_by_cmp actor_cmp (actor_of (seat_of q)) q) refl
 
 pub seated_put : (seats : Seats) (a : Actor) (f : FrameView) → HasSeat a → seat_of a < length seats → seated (set seats (seat_of a) (Some f)) ≡ insert (seated seats) a f
 seated_put seats a f h inside = same_map actor_cmp_total actor_cmp-IsAntisymmetric _ _ (λ q. get_set seats a h inside (Some f) q ∙ sym (get-insert actor_cmp_total (seated seats) a f q))
@@ -176,13 +167,13 @@ module _ (seats : Seats) (taken : ℕ) (all : AreSeats seats taken) (m : Seated)
 
 -- the others' tasks are the same
 pub get_other : (m : Seated) (a : Actor) (f : FrameView) (q : Actor) → q ≢ a → get (insert m a f) q ≡ get m q
-get_other m a f q apart = get-insert actor_cmp_total m a f q ∙ ap (λ t. cond t (Some f) (get m q)) (other_actor q a apart)
+get_other m a f q apart = get-insert actor_cmp_total m a f q ∙ ap (λ t. cond t (Some f) (get m q)) (other_key actor_cmp-IsAntisymmetric q a apart)
 
 pub get_other_left : (m : Seated) (a q : Actor) → q ≢ a → get (remove m a) q ≡ get m q
-get_other_left m a q apart = get-remove actor_cmp_total m a q ∙ ap (λ t. cond t None (get m q)) (other_actor q a apart)
+get_other_left m a q apart = get-remove actor_cmp_total m a q ∙ ap (λ t. cond t None (get m q)) (other_key actor_cmp-IsAntisymmetric q a apart)
 
 pub get_own : (m : Seated) (a : Actor) (f : FrameView) → get (insert m a f) a ≡ Some f
-get_own m a f = get-insert actor_cmp_total m a f a ∙ ap (λ t. cond t (Some f) (get m a)) (itself a)
+get_own m a f = get-insert actor_cmp_total m a f a ∙ ap (λ t. cond t (Some f) (get m a)) (own_key actor_cmp_total a)
 
 -- who sits there again
 pub same_seat : (m : Seated) (a : Actor) (f : FrameView) → get m a ≡ Some f → insert m a f ≡ m

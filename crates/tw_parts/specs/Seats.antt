@@ -1,28 +1,14 @@
 -- A seat for each actor of the greatest layout: four engines, four servers, sixteen workers.
-use Rattle.std.specs.Prelude.{◌≡◌, ◌<◌, ℕ, suc, ◌+◌, ◌-◌, nat_lt, if◌then◌else◌, List, [], ◌∷◌, length, Option, IsSome, Some, None, count_by, is_some}
+use Rattle.std.specs.Prelude.{◌≡◌, ℕ, suc, List, [], ◌∷◌, length, Option, IsSome, Some, None, count_by, is_some}
 use Rattle.std.specs.FinMap.{FinMap, from_entries}
 use Rattle.tw_types.specs.declared.actor.Actor.{Actor}
-use Rattle.tw_types.specs.declared.actor.Actor.TheVariants.{Engine, Server, Worker}
 use Rattle.tw_types.specs.Actor.{actor_cmp}
+pub use Rattle.tw_types.specs.Actor.{HasPlace as HasSeat, actor_of_place as actor_of, place_of as seat_of}
 use Rattle.tw_frame.specs.Jobs.{FrameView}
 
 -- the tasks that run, by their actors
 abbrev pub Seated : Type 0
 Seated = FinMap actor_cmp FrameView
-
-abbrev pub seat_of : Actor → ℕ
-seat_of (Engine number) = number
-seat_of (Server number) = 4 + number
-seat_of (Worker number) = 8 + number
-
-abbrev pub actor_of : ℕ → Actor
-actor_of seat = if nat_lt seat 4 then Engine seat else (if nat_lt seat 8 then Server (seat - 4) else Worker (seat - 8))
-
--- there may be this actor in a layout
-abbrev pub HasSeat : Actor → Type 0
-HasSeat (Engine number) = number < 4
-HasSeat (Server number) = number < 4
-HasSeat (Worker number) = number < 16
 
 -- those who sit, where the first seat has this number
 abbrev pub who_sit : ℕ → List (Option FrameView) → List (Actor × FrameView)

@@ -54,17 +54,6 @@ impl<'a> Model for Seats<'a> {
     ghost invariant = { λ s. AreSeats s.seats.items s.taken × AreKept s.seats.items s.rooms.items };
 }
 
-fn seat_of(actor: Actor) -> usize
-    requires { HasSeat actor }
-    ensures { result ≡ seat_of actor }
-{
-    match actor {
-        Actor::Engine(number) => usize::from(number),
-        Actor::Server(number) => 4 + usize::from(number),
-        Actor::Worker(number) => 8 + usize::from(number),
-    }
-}
-
 /// Who sits there.
 fn sitting<'s, 'a>(seats: &'s [Option<Frame<'a>>], seat: usize) -> Option<&'s Frame<'a>>
     requires { seat < length seats.now }
@@ -202,7 +191,7 @@ impl<'a> Seats<'a> {
         requires { HasSeat actor }
         ensures { option_copied result ≡ get self.now actor }
     {
-        sitting(&self.seats, seat_of(actor))
+        sitting(&self.seats, actor.place())
     }
 
     /// The best task of an actor without one begins, if there is one; a draft for its first job.
@@ -222,7 +211,7 @@ impl<'a> Seats<'a> {
         let Some(best) = tasks.best(actor) else {
             return Ok(None);
         };
-        let number = seat_of(actor);
+        let number = actor.place();
         let start = match lift(&mut self.rooms, number).start(alloc, best, verified) {
             Ok(start) => start,
             Err(rooms) => {
@@ -245,7 +234,7 @@ impl<'a> Seats<'a> {
         requires sits { IsSome (get self.old actor) }
         ensures { self.new ≡ remove self.old actor }
     {
-        let number = seat_of(actor);
+        let number = actor.place();
         let Some(frame) = unseat(&mut self.seats, number) else {
             unreachable!();
         };
@@ -259,7 +248,7 @@ impl<'a> Seats<'a> {
         requires sits { (f : FrameView) × (get self.old actor ≡ Some f) × (done.before ≡ job_of f) × (f.spent < 2 ^ 63) }
         ensures { (f : FrameView) → get self.old actor ≡ Some f → (self.new ≡ insert self.old actor (come f done.entry)) × (result ≡ draft_of (come f done.entry)) }
     {
-        advance_in(&mut self.seats, seat_of(actor), done)
+        advance_in(&mut self.seats, actor.place(), done)
     }
 
     /// Then hands over arguments, and goes on to the next place.
@@ -283,7 +272,7 @@ impl<'a> Seats<'a> {
     {
         hand_over_in(
             &mut self.seats,
-            seat_of(actor),
+            actor.place(),
             done,
             params,
             args,
@@ -299,7 +288,7 @@ impl<'a> Seats<'a> {
         ensures { (f : FrameView) → get self.old actor ≡ Some f
             → (result ≡ job_of (record f { event_no = event_no })) × (self.new ≡ insert self.old actor (record f { event_no = event_no })) }
     {
-        lend_in(&mut self.seats, seat_of(actor), event_no, draft)
+        lend_in(&mut self.seats, actor.place(), event_no, draft)
     }
 
     /// The actor's task does an instruction on data behind the Done; a draft of its values, or the Done again.
@@ -316,6 +305,6 @@ impl<'a> Seats<'a> {
         ensures { (f : FrameView) → get self.old actor ≡ Some f → (g : FrameView) × (self.new ≡ insert self.old actor g)
             × IsAnswer instr.now store.old store.new f g done.entry result }
     {
-        data_in(&mut self.seats, seat_of(actor), store, alloc, done, instr)
+        data_in(&mut self.seats, actor.place(), store, alloc, done, instr)
     }
 }

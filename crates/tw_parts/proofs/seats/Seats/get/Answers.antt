@@ -4,7 +4,7 @@ use Rattle.tw_parts.proofs.Seating.{get_seated, low_seat}
 use Rattle.tw_parts.proofs.seats.Seats.get.Goals as goal
 
 pub sitting-requires : goal.sitting-requires
-sitting-requires c = omega (arith, c.seat_of.ensures, low_seat c.args.actor c.requires, c.self.invariant.0.many)
+sitting-requires c = omega (arith, c.place.ensures.is, low_seat c.args.actor c.requires, c.self.invariant.0.many)
 
 pub returns : goal.returns
-returns c = c.sitting.ensures ∙ ap (λ xs. get_or xs c.seat_of.result None) c.deref.ensures.value ∙ ap (λ k. get_or c.self.inside.seats.items k None) c.seat_of.ensures ∙ sym (get_seated c.self.inside.seats.items c.args.actor c.requires) ∙ ap (λ m. get m c.args.actor) c.self.view_is
+returns c = c.sitting.ensures ∙ ap (λ xs. get_or xs c.place.result None) c.deref.ensures.value ∙ ap (λ k. get_or c.self.inside.seats.items k None) c.place.ensures.is ∙ sym (get_seated c.self.inside.seats.items c.args.actor c.requires) ∙ ap (λ m. get m c.args.actor) c.self.view_is
