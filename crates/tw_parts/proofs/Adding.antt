@@ -6,9 +6,8 @@ use Rattle.std.proofs.lemmas.Bool.{cases_eq}
 use Rattle.std.proofs.lemmas.List.{append-nil, set-get_or}
 use Rattle.std.specs.Cmp.{IsTotalOrder, nat_cmp_total}
 use Rattle.std.specs.FinMap.{FinMap, IsAntisymmetric, empty, get, get-empty, get-insert, insert, nat_cmp-IsAntisymmetric, same_map}
-use Rattle.std.specs.Ordering.{eq_by_cmp, is_eq, nat_cmp}
+use Rattle.std.specs.Ordering.{eq_by_cmp, nat_cmp}
 use Rattle.std.specs.declared.cmp.Ordering.{Ordering}
-use Rattle.std.specs.declared.cmp.Ordering.TheVariants.{Less, Equal, Greater}
 use Rattle.tw_types.specs.declared.data_type.Scalar.{Scalar}
 use Rattle.tw_types.specs.declared.value.Value.{Value}
 use Rattle.tw_types.specs.declared.value.Value.TheVariants as value
@@ -22,6 +21,7 @@ use Rattle.tw_types.specs.StoreChecks.{may_insert, may_store}
 use Rattle.tw_types.specs.Value.{scalar_of}
 use Rattle.tw_types.specs.ValueOrder.{Subscript}
 use Rattle.tw_types.proofs.Freeing.{data_insert_other, data_insert_same}
+use Rattle.tw_types.proofs.Orders.{tied}
 use Rattle.tw_types.proofs.Results.{there_then}
 use Rattle.tw_types.proofs.Totals.{insert_other}
 use Rattle.tw_rights.specs.Rights.{Right}
@@ -31,11 +31,6 @@ use Rattle.tw_parts.specs.Givens.{AreAllLive, HasMember}
 use Rattle.tw_parts.specs.Opening.{IsAdded}
 
 -- ---- maps
-
-tied : (r : Ordering) → is_eq r ≡ true → r ≡ Equal
-tied Less e = cc
-tied Equal e = refl
-tied Greater e = cc
 
 module _ {K X : Type 0} {R : K → K → Ordering} (o : IsTotalOrder R) (same : IsAntisymmetric R) (m : FinMap R X) where
   -- the later one stays
@@ -185,9 +180,6 @@ module _ (s a : Served) (ty : NestedScalar) (w r : Right) (h : IsMade s a ty w r
 pub scalar_may : (v : Value) → may_store v (Some (new_datum (scalar_type (scalar_of v)))) ≡ Ok tt
 scalar_may (value.Int n) = refl
 scalar_may (value.Text t) = refl
-
-pub none_wait : (s : Served) (id : ℕ) (ty : NestedScalar) → get s.store.live id ≡ Some (new_datum ty) → HasNoticeRoom s id
-none_wait s id ty h = rw h (omega arith)
 
 module _ (s a : Served) (v : Value) (w r : Right) (h : IsMade s a (scalar_type (scalar_of v)) w r) where
   pub scalar_allowed : may_store v (get a.store.live w.id) ≡ Ok tt

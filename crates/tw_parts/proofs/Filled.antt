@@ -1,13 +1,12 @@
 -- A container that is filled with closed scalars by rising subscripts, and then closed.
-use Rattle.std.proofs.Common.{◌≡◌, ◌<◌, ◌≤◌, ◌+◌, ℕ, zero, suc, true, ◌&&◌, List, [], ◌∷◌, ◌++◌, fold, get_or, length, take, Some, None, refl, sym, ap, subst, ◌∙◌, arith}
+use Rattle.std.proofs.Common.{◌≡◌, ◌<◌, ◌≤◌, ◌+◌, ℕ, zero, suc, true, ◌&&◌, List, [], ◌∷◌, ◌++◌, get_or, length, take, Some, None, refl, sym, ap, subst, ◌∙◌, arith}
 use Rattle.std.specs.Prelude.{◌^◌, Ok}
 use Rattle.std.proofs.lemmas.Bool.{and_parts}
 use Rattle.std.proofs.lemmas.Grind.{fold-append}
 use Rattle.std.proofs.lemmas.Cmp.{tied_itself}
 use Rattle.std.proofs.lemmas.List.{length-map, length-take-le, map_more, take_all}
 use Rattle.std.specs.Ordering.{is_lt}
-use Rattle.std.specs.declared.cmp.Ordering.{Ordering}
-use Rattle.std.specs.declared.cmp.Ordering.TheVariants.{Less, Equal, Greater}
+use Rattle.std.specs.declared.cmp.Ordering.TheVariants.{Less, Equal}
 use Rattle.std.specs.FinMap as fin
 use Rattle.std.specs.FinMap.{get, get-empty, insert}
 use Rattle.tw_types.specs.declared.data_type.Scalar.{Scalar}
@@ -27,10 +26,12 @@ use Rattle.tw_types.proofs.ValueOrder.{value_cmp_total, value_cmp-IsAntisymmetri
 use Rattle.tw_rights.specs.Rights.{Right}
 use Rattle.tw_store.specs.Served.{HasNoticeRoom, IsLeft, Served}
 use Rattle.tw_code.specs.machine.Inputs.{is_given_for, rises, rises_from}
+use Rattle.tw_code.specs.machine.Members.{are_short, with_members}
 use Rattle.tw_code.specs.machine.Opening.{closed_scalar, numbered, with_container}
 use Rattle.tw_parts.specs.Givens.{AreAllLive, HasMember}
 use Rattle.tw_parts.specs.Opening.{IsAdded}
-use Rattle.tw_parts.proofs.Contained.{are_short, given_few, given_rises, given_short, given_type}
+use Rattle.tw_types.proofs.Orders.{below}
+use Rattle.tw_code.proofs.Givens.{given_few, given_rises, given_short, given_type, members_next}
 use Rattle.tw_parts.proofs.Adding.{IsReplaced, added_get, added_here, added_replaced, added_then, changed_is, insert_swapped, left_replaced, replaced, replaced_added}
 
 -- ---- subscripts that aren't there yet
@@ -53,11 +54,6 @@ numbered_more id k v (e ∷ es) new =
 
 -- ---- subscripts that rise
 
-less : (r : Ordering) → is_lt r ≡ true → r ≡ Less
-less Less e = refl
-less Equal e = cc
-less Greater e = cc
-
 apart : (j k : Subscript) → value_cmp j k ≡ Less → k ≡ j → ⊥
 apart j k up same =
     let itself : Less ≡ Equal = sym up ∙ ap (value_cmp j) same ∙ tied_itself value_cmp_total j in
@@ -66,10 +62,10 @@ apart j k up same =
 module _ {K V : Type 0} (subscript : K → Subscript) (value : V → Value) where
   later : (before : Subscript) (xs : List (K × V)) (i : ℕ) (d : K × V) → i < length xs → rises_from before (members_by subscript value xs) ≡ true → value_cmp before (subscript (get_or xs i d).0) ≡ Less
   later before [] i d low h = absurd (omega (arith, low))
-  later before (x ∷ xs) zero d low h = less _ (and_parts (is_lt (value_cmp before (subscript x.0))) (rises_from (subscript x.0) (members_by subscript value xs)) h).0
+  later before (x ∷ xs) zero d low h = below _ (and_parts (is_lt (value_cmp before (subscript x.0))) (rises_from (subscript x.0) (members_by subscript value xs)) h).0
   later before (x ∷ xs) (suc i) d low h =
       let both = and_parts (is_lt (value_cmp before (subscript x.0))) (rises_from (subscript x.0) (members_by subscript value xs)) h in
-      value_cmp_total.trans before (subscript x.0) (subscript (get_or xs i d).0) (less _ both.0) (later (subscript x.0) xs i d (omega (arith, low)) both.1)
+      value_cmp_total.trans before (subscript x.0) (subscript (get_or xs i d).0) (below _ both.0) (later (subscript x.0) xs i d (omega (arith, low)) both.1)
 
   rises_on : (e : K × V) (es : List (K × V)) → rises (members_by subscript value (e ∷ es)) ≡ true → rises (members_by subscript value es) ≡ true
   rises_on e [] h = refl
@@ -89,14 +85,6 @@ module _ {K V : Type 0} (subscript : K → Subscript) (value : V → Value) wher
   short_at (x ∷ xs) (suc i) d low h = short_at xs i d (omega (arith, low)) (and_parts (is_short (subscript x.0) && is_short (value x.1)) (are_short (members_by subscript value xs)) h).1
 
 -- ---- members
-
--- each member is a closed scalar
-abbrev pub with_members : Store → List (Subscript × Value) → Store
-with_members s es = fold (λ t e. added t (closed_scalar e.1)) s es
-
-members_next : (es : List (Subscript × Value)) (s : Store) → (with_members s es).next ≡ s.next + length es
-members_next [] s = omega arith
-members_next (e ∷ es) s = omega (arith, members_next es (added s (closed_scalar e.1)))
 
 members_get : (es : List (Subscript × Value)) (s : Store) (id : ℕ) → id < s.next → get (with_members s es).live id ≡ get s.live id
 members_get [] s id low = refl

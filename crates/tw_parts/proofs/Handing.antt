@@ -102,11 +102,6 @@ AreSuited held (p ∷ params) (register ∷ registers) = SuitsOr (is_val p.mode)
 
 -- ---- one argument and the others
 
--- what the definition says of a value and the others
-value_first : Value → Result bare.HandedOver Cause → Result bare.HandedOver Cause
-value_first x (Ok others) = Ok (bare.with_arg (ValueArg x) others)
-value_first x (Err why) = Err why
-
 module _ (places : Places) (p : Param) (params : List Param) (register : ℕ) (registers : List ℕ) (held : List (Option Held)) where
   by_value : (x : Value) (vals : List Value) (others : bare.HandedOver) → is_val p.mode ≡ true → Handed places params registers held vals others → Handed places (p ∷ params) (register ∷ registers) held (x ∷ vals) (bare.with_arg (ValueArg x) others)
   by_value x vals others val h = record {

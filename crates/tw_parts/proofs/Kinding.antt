@@ -1,5 +1,5 @@
 -- RULE and PUT: the kinds of the rights that leave the registers, and of those that are left.
-use Rattle.std.proofs.Common.{◌≡◌, ℕ, zero, suc, Bool, true, false, ◌&&◌, if◌then◌else◌, List, [], ◌∷◌, ◌++◌, Option, Some, None, refl, sym, ap, ◌∙◌, slice_set, slice_index_or, option_map, set}
+use Rattle.std.proofs.Common.{◌≡◌, ℕ, zero, suc, Bool, true, false, if◌then◌else◌, List, [], ◌∷◌, ◌++◌, Option, Some, None, refl, sym, ap, ◌∙◌, slice_set, slice_index_or, option_map, set}
 use Rattle.std.proofs.lemmas.List.{map-set}
 use Rattle.std.proofs.lemmas.Option.{same_Some}
 use Rattle.tw_types.specs.declared.data_type.Scalar.{Scalar}
@@ -15,6 +15,7 @@ use Rattle.tw_code.specs.accepting.Typing.{asks_args, asks_value, may_stand_for,
 use Rattle.tw_code.specs.machine.Rights.{RightType, Typing, right_at}
 use Rattle.tw_no_trap.proofs.Values.{AllYes, passed, yes_behind}
 use Rattle.tw_parts.specs.Fits.{kinds_in}
+use Rattle.tw_parts.proofs.Registers.{and_first}
 use Rattle.tw_parts.proofs.Handing.{AreSuited, Suits, SuitsOr, without_held}
 
 kind_there : (held : List (Option Held)) (typing : Typing) (k : ℕ) → kinds_of held ≡ kinds_in typing → option_map writes (slice_index_or held k None) ≡ option_map (λ (t : RightType). is_write t.mode) (right_at typing k)
@@ -57,10 +58,6 @@ same_kind waits mode.Ref t e = by t.mode e
     by mode.Ref e = refl
     by mode.Write e = cc
 same_kind waits mode.Write t e = e
-
-and_first : (a b : Bool) → (a && b) ≡ true → a ≡ true
-and_first true b e = refl
-and_first false b e = cc
 
 module _ (waits : Bool) (declared : List Scalar) where
   suits_at : (p : Param) (o : Option Held) (t : Option RightType) → option_map writes o ≡ option_map (λ (t : RightType). is_write t.mode) t → passes (may_stand_for waits p) t ≡ true → Suits p.mode o

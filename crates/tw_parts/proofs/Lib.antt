@@ -34,7 +34,6 @@ pub mod Telling
 pub mod Keeping
 pub mod Calling
 pub mod Answering
-pub mod Contained
 pub mod Adding
 pub mod Filled
 mod MainParameters

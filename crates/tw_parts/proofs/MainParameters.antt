@@ -1,6 +1,6 @@
 -- Main's parameters get their data one after the other: on the parts.
-use Rattle.std.proofs.Common.{map as each, ◌≡◌, ◌≢◌, ◌<◌, ◌≤◌, ◌+◌, ℕ, zero, suc, Bool, true, false, not, ◌&&◌, List, [], ◌∷◌, ◌++◌, Some, None, refl, sym, ap, subst, ◌∙◌, arith, cond, length, length-append, slice_get, fold, drop, drop-cons, get_or, append_assoc, append-nil}
-use Rattle.std.proofs.lemmas.List.{drop_all, map-append}
+use Rattle.std.proofs.Common.{map as each, ◌≡◌, ◌<◌, ◌≤◌, ◌+◌, ℕ, zero, suc, Bool, true, false, not, ◌&&◌, List, [], ◌∷◌, ◌++◌, Some, None, refl, sym, ap, subst, ◌∙◌, arith, cond, length, length-append, slice_get, drop, append_assoc}
+use Rattle.std.proofs.lemmas.List.{map-append}
 use Rattle.std.proofs.lemmas.Bool.{and_parts}
 use Rattle.std.proofs.lemmas.Bool.Decides.{nat_tests}
 use Rattle.std.proofs.lemmas.Option.{same_Some}
@@ -9,19 +9,16 @@ use Rattle.std.specs.FinMap.{empty, get, insert, get-insert}
 use Rattle.std.specs.Prelude.{replicate}
 use Rattle.std.specs.List.{list_all}
 use Rattle.std.specs.Ordering.{eq_by_cmp, nat_cmp}
-use Rattle.tw_types.specs.Nesting.{NestedScalar}
 use Rattle.tw_types.specs.declared.input.Input.{Input}
 use Rattle.tw_types.specs.declared.param.Mode.{Mode}
 use Rattle.tw_types.specs.declared.param.Mode.TheVariants as mode
 use Rattle.tw_types.specs.declared.param.Param.{Param}
-use Rattle.tw_types.specs.declared.value.Value.{Value}
-use Rattle.tw_types.specs.DataType.{container_of, is_flat, scalar_type}
-use Rattle.tw_types.specs.Given.{Given, Single, Container, given_by}
+use Rattle.tw_types.specs.DataType.{is_flat}
+use Rattle.tw_types.specs.Given.{given_by}
 use Rattle.tw_types.specs.Mode.{is_val, is_write}
-use Rattle.tw_types.specs.Store.{Contains, Datum, Store, added, empty_store}
+use Rattle.tw_types.specs.Store.{Store, added, empty_store}
 use Rattle.tw_types.specs.StoreCalls.{created}
 use Rattle.tw_types.specs.Task.{RightArg}
-use Rattle.tw_types.specs.ValueOrder.{Subscript}
 use Rattle.tw_rights.specs.declared.arg.Arg.{Arg}
 use Rattle.tw_rights.specs.declared.arg.Arg.TheVariants.{Read, Write}
 use Rattle.tw_rights.specs.Bare.{bare_arg}
@@ -29,14 +26,14 @@ use Rattle.tw_rights.specs.Rights.{Right}
 use Rattle.tw_store.specs.Served.{Served}
 use Rattle.tw_store.specs.Slots.{Places}
 use Rattle.tw_code.specs.accepting.MainShape.{is_main_param}
-use Rattle.tw_code.specs.machine.Inputs.{are_inputs_of, input_params, is_given_for, is_input_of}
-use Rattle.tw_code.specs.machine.Opening.{Opened, added_given, closed_scalar, nothing_opened, numbered, opened, with_container, with_given, with_input, with_output}
+use Rattle.tw_code.specs.machine.Inputs.{are_inputs_of, input_params, is_input_of}
+use Rattle.tw_code.proofs.Givens.{input_next, skips, takes}
+use Rattle.tw_code.specs.machine.Opening.{Opened, nothing_opened, opened, with_given, with_input, with_output}
 use Rattle.tw_code.specs.machine.Rights.{right_of}
 use Rattle.tw_parts.specs.Fits.{ArgStands, ArgsStand, AreAt, IsAt}
 use Rattle.tw_parts.specs.OpenedParts.{Adds, AreBefore, AreForAll, IsMade, MayAdd, OpenedParts}
 use Rattle.tw_parts.specs.Opening.{IsAdded}
 use Rattle.tw_parts.specs.Givens.{AreAllLive}
-use Rattle.tw_parts.proofs.Contained.{given_few}
 use Rattle.tw_parts.proofs.Adding.{empty_live, made_live}
 use Rattle.tw_parts.proofs.Keeping.{all_kept, args_kept}
 
@@ -76,23 +73,6 @@ id_before : (next : ℕ) (ids : List ℕ) (k d : ℕ) → AreBefore next ids →
 id_before next [] k d h e = cc
 id_before next (id ∷ ids) zero d h e = subst (λ (n : ℕ). n < next) (same_Some id d e) h.0
 id_before next (id ∷ ids) (suc k) d h e = id_before next ids k d h.1 e
-
--- ---- how many data an input has
-
-members_next : (es : List (Subscript × Value)) (s : Store) → (fold (λ (t : Store) (e : Subscript × Value). added t (closed_scalar e.1)) s es).next ≡ s.next + length es
-members_next [] s = omega arith
-members_next (e ∷ es) s = omega (arith, members_next es (added s (closed_scalar e.1)))
-
-abbrev AreFew : Store → Store → Type 0
-AreFew old new = (old.next < new.next) × (new.next ≤ old.next + 1001)
-
-pub input_next : (ty : NestedScalar) (given : Given) (s : Store) → is_given_for ty given ≡ true → AreFew s (added_given s given)
-input_next ty (Single x) s h = (omega arith, omega arith)
-input_next ty (Container by inside es) s h =
-    let count : length es ≤ 1000 = given_few ty by inside es h in
-    let container : Datum = record { ty = container_of by (scalar_type inside); content = Contains (numbered (s.next + 1) es); reads = 1; writes = 0; subscribers = [] } in
-    let all : (with_container s by inside es).next ≡ s.next + 1 + length es = members_next es (added s container) in
-    (omega (arith, count, all), omega (arith, count, all))
 
 -- ---- one parameter more
 
@@ -225,18 +205,6 @@ begun_first first params inputs h = record {
   is_made = λ servers m. m;
 }
 
--- the next parameter, and the others
-pub next_param : (params : List Param) (k : ℕ) (p : Param) → k < length params → p ≡ get_or params k p → drop k params ≡ p ∷ drop (k + 1) params
-next_param params k p h is =
-    let more : k + 1 ≡ suc k = omega arith in
-    drop-cons params k p h ∙ ap (λ q. q ∷ drop (suc k) params) (sym is) ∙ ap (λ (n : ℕ). p ∷ drop n params) (sym more)
-
-skips : (p : Param) (others : List Param) → is_write p.mode ≡ true → input_params (p ∷ others) ≡ input_params others
-skips p others write = rw write refl
-
-takes : (p : Param) (others : List Param) → is_write p.mode ≡ false → input_params (p ∷ others) ≡ p ∷ input_params others
-takes p others read = rw read refl
-
 no_value : (a b : Bool) → (not a && b) ≡ true → a ≡ false
 no_value true b e = cc
 no_value false b e = refl
@@ -286,9 +254,6 @@ module _ (first : OpenedParts) (params : List Param) (inputs : List Input) (inde
     count_here : length rest ≡ suc (length (input_params others))
     count_here = left_here.count ∙ ap length (takes p others read)
 
-    pub some_left : length rest ≢ 0
-    some_left none = omega (arith, none, count_here)
-
     module _ (i : Input) (after : List Input) (given : rest ≡ i ∷ after) where
       fit_here : are_inputs_of (p ∷ input_params others) (i ∷ after) ≡ true
       fit_here = ap (are_inputs_of (p ∷ input_params others)) (sym given) ∙ ap (λ ps. are_inputs_of ps rest) (sym (takes p others read)) ∙ left_here.fit
@@ -313,12 +278,3 @@ module _ (first : OpenedParts) (params : List Param) (inputs : List Input) (inde
         };
         is_made = λ servers nothing. adds servers begun.done begun.made (begun.is_made servers nothing);
       }
-
--- all have
-pub all_begun : (first : OpenedParts) (params : List Param) (inputs : List Input) (index : ℕ) (o : OpenedParts) (rest : List Input) → length params ≤ index → IsBegun first params inputs index o rest
-    → (servers : ℕ) → IsMade servers [] first nothing_opened → IsMade servers params o (opened nothing_opened params inputs)
-all_begun first params inputs index o rest past begun servers nothing =
-    let none : drop index params ≡ [] = drop_all index params past in
-    let done : begun.done ≡ params = sym (begun.all ∙ ap (λ ps. begun.done ++ ps) none ∙ append-nil begun.done) in
-    let made : begun.made ≡ opened nothing_opened params inputs = sym (begun.opened ∙ ap (λ ps. opened begun.made ps rest) none) in
-    subst (λ (m : Opened). IsMade servers params o m) made (subst (λ (ps : List Param). IsMade servers ps o begun.made) done (begun.is_made servers nothing))

@@ -88,11 +88,6 @@ set_own (x ∷ xs) zero (suc k) o h e = inl e
 set_own (x ∷ xs) (suc r) zero o h e = inl e
 set_own (x ∷ xs) (suc r) (suc k) o h e = set_own xs r k o h e
 
-pub set_none : (xs : List (Option Held)) (r : ℕ) → slice_index_or (slice_set xs r None) r None ≡ None
-set_none [] r = refl
-set_none (x ∷ xs) zero = refl
-set_none (x ∷ xs) (suc r) = set_none xs r
-
 -- what was taken out is put back
 pub set_again : (xs : List (Option Held)) (r : ℕ) (o : Option Held) → slice_index_or xs r None ≡ o → slice_set (slice_set xs r None) r o ≡ xs
 set_again [] r o e = refl

@@ -1,5 +1,5 @@
 -- Each empty seat has room for a task, whoever comes and goes.
-use Rattle.std.proofs.Common.{◌≡◌, ◌<◌, ℕ, zero, suc, List, [], ◌∷◌, length, Option, Some, None, replicate, get_or, set, refl, sym, ap, subst, arith}
+use Rattle.std.proofs.Common.{◌≡◌, ◌<◌, ℕ, zero, suc, List, [], ◌∷◌, length, Option, Some, None, get_or, set, refl, sym, ap, subst, arith}
 use Rattle.std.specs.Prelude.{IsSome}
 use Rattle.tw_frame.specs.Jobs.{FrameView}
 use Rattle.tw_parts.specs.Seats.{AreKept}
@@ -67,8 +67,3 @@ kept_laid (None ∷ seats) (room ∷ rooms) kept zero = (refl, kept.1)
 kept_laid (Some g ∷ seats) (room ∷ rooms) kept zero = kept
 kept_laid (None ∷ seats) (room ∷ rooms) kept (suc k) = (kept.0, kept_laid seats rooms kept.1 k)
 kept_laid (Some g ∷ seats) (room ∷ rooms) kept (suc k) = kept_laid seats rooms kept k
-
--- all are empty, and all have room
-pub kept_first : (n : ℕ) → AreKept (replicate n None) (replicate n (Some tt))
-kept_first zero = tt
-kept_first (suc n) = (refl, kept_first n)

@@ -1,6 +1,5 @@
 -- An actor takes a task: on the parts.
-use Rattle.std.proofs.Common.{map as each, ◌≡◌, ◌-◌, ℕ, zero, suc, Bool, true, List, [], ◌∷◌, ◌++◌, Option, Some, None, Result, Ok, Err, refl, sym, ap, subst, ◌∙◌, slice_get, option_map, length, replicate, option_to_list}
-use Rattle.std.proofs.lemmas.List.{length-map}
+use Rattle.std.proofs.Common.{map as each, ◌≡◌, ◌-◌, ℕ, zero, suc, true, List, [], ◌∷◌, ◌++◌, Option, Some, None, Result, Ok, Err, refl, sym, ap, subst, ◌∙◌, slice_get, option_map, length, replicate, option_to_list}
 use Rattle.std.specs.Cmp.{nat_cmp_total}
 use Rattle.std.specs.FinMap.{get, insert, remove, nat_cmp-IsAntisymmetric}
 use Rattle.tw_types.specs.declared.actor.Actor.{Actor}
@@ -18,7 +17,6 @@ use Rattle.tw_types.proofs.ActorOrder.{actor_cmp_total, actor_cmp-IsAntisymmetri
 use Rattle.tw_types.proofs.Best.{best_waits}
 use Rattle.tw_rights.specs.declared.arg.Arg.{Arg}
 use Rattle.tw_rights.specs.declared.arg.Arg.TheVariants.{Val, Read, Write}
-use Rattle.tw_rights.specs.Held.{id_of}
 use Rattle.tw_rights.specs.Rights.{Right}
 use Rattle.tw_store.specs.Slots.{Places}
 use Rattle.tw_code.specs.accepting.Typing.{rights_given}
@@ -27,11 +25,12 @@ use Rattle.tw_code.specs.machine.Arguments.{params_in}
 use Rattle.tw_verify.specs.Typed.{TypedProgram, typings_of}
 use Rattle.tw_code.specs.machine.Machine.{step}
 use Rattle.tw_code.specs.machine.Rights.{RightType, first_rights, right_of}
-use Rattle.tw_code.specs.machine.State.{frame_of, ids_in, with_frame}
+use Rattle.tw_code.specs.machine.State.{frame_of, with_frame}
 use Rattle.tw_no_trap.proofs.Running.{typed_at_start}
 use Rattle.tw_no_trap.proofs.Safe.{safe}
 use Rattle.tw_parts.specs.Events.{Goes}
 use Rattle.tw_parts.specs.Fits.{AreParts, ArePlaced, ArgStands, ArgsStand, FrameFits, Stand, kinds_in}
+use Rattle.tw_frame.proofs.Frames.{first_each}
 use Rattle.tw_frame.specs.Jobs.{DraftView, FrameView, MayStand, bare_frame}
 use Rattle.tw_rights.specs.Bare.{bare_file}
 use Rattle.tw_rights.specs.Filed.{filed, rights_in}
@@ -52,26 +51,6 @@ use Rattle.tw_parts.proofs.Seating.{get_other, get_own}
 use Rattle.tw_no_trap.specs.Invariant.{IsHeld}
 
 -- ---- the first registers
-
-each_none : {A B : Type 0} (f : A → B) (n : ℕ) → each (option_map f) (replicate n None) ≡ replicate n None
-each_none f zero = refl
-each_none f (suc n) = ap (λ xs. None ∷ xs) (each_none f n)
-
-each_first : {A B : Type 0} (f : A → B) (given : List A) (n : ℕ) → each (option_map f) (each Some given ++ replicate n None) ≡ each Some (each f given) ++ replicate n None
-each_first f [] n = each_none f n
-each_first f (x ∷ given) n = ap (λ xs. Some (f x) ∷ xs) (each_first f given n)
-
-pub first_each : {A B : Type 0} (f : A → B) (given : List A) → each (option_map f) (first_rights given) ≡ first_rights (each f given)
-first_each f given = each_first f given (16 - length given) ∙ ap (λ n. each Some (each f given) ++ replicate (16 - n) None) (sym (length-map given f))
-
-ids_given : (args : List Arg) → each id_of (rights_in args) ≡ ids_in (each bare_arg args)
-ids_given [] = refl
-ids_given (Val x ∷ args) = ids_given args
-ids_given (Read right ∷ args) = ap (λ xs. right.id ∷ xs) (ids_given args)
-ids_given (Write right ∷ args) = ap (λ xs. right.id ∷ xs) (ids_given args)
-
-typed_writes : RightType → Bool
-typed_writes t = is_write t.mode
 
 kinds_given : (places : Places) (params : List Param) (args : List Arg) → ArgsStand places params args → each writes (rights_in args) ≡ each (λ (t : RightType). is_write t.mode) (rights_given params)
 kinds_given places [] [] h = refl

@@ -1,5 +1,5 @@
 use Rattle.tw_parts.proofs.Adding.{IsMade, made_added, made_live}
-use Rattle.tw_parts.proofs.Contained.{given_type}
+use Rattle.tw_code.proofs.Givens.{given_type}
 use Rattle.tw_parts.proofs.Filled.{close_allowed, close_told, closed_on, fill_before, fill_begun, index_absent, index_all, index_element, index_key_short, index_more, index_room, index_value_short}
 use Rattle.tw_types.specs.Given.{members_by}
 use Rattle.tw_parts.proofs.givens.add_container.Goals as goal
