@@ -17,7 +17,7 @@ use Rattle.tw_types.specs.Layout.{ActorCounts}
 use Rattle.tw_pool.specs.Actors.{events_of}
 use Rattle.tw_host.specs.Ends.{told_of}
 use Rattle.tw_host.proofs.Lists.{map_map}
-use Rattle.tw_host.specs.Seats.{NoneOf, Told, actor_at, actors_of, seat_count, told_by}
+use Rattle.tw_host.specs.Seats.{NoneOf, Told, actor_at, actors_of, actor_count, told_by}
 
 -- ---- no two seats of a layout are one actor's
 
@@ -79,8 +79,8 @@ module _ {X : Type 0} (f : X → Actor) (layout : ActorCounts) where
       by true e = λ same. let under = ltb-true j k e in apart layout j k under (sym (before j d under) ∙ (same ∙ is))
       by false e = behind j d (ltb-false j k e) low
 
-  pub all_placed : (seats : List X) (k : ℕ) → length seats ≡ seat_count layout → seat_count layout ≤ k → InOrder seats k → map f seats ≡ actors_of layout
-  all_placed seats k long over before = fill_by_all (actor_at layout) (map f seats) (seat_count layout) (Engine 0) (length-map seats f ∙ long) (λ j low. before j (Engine 0) (omega (arith, low, over)))
+  pub all_placed : (seats : List X) (k : ℕ) → length seats ≡ actor_count layout → actor_count layout ≤ k → InOrder seats k → map f seats ≡ actors_of layout
+  all_placed seats k long over before = fill_by_all (actor_at layout) (map f seats) (actor_count layout) (Engine 0) (length-map seats f ∙ long) (λ j low. before j (Engine 0) (omega (arith, low, over)))
 
 pub moved_from : {X : Type 0} (xs ys zs : List X) → xs ≡ ys → IsPermutation xs zs → IsPermutation ys zs
 moved_from {X} xs ys zs same moved = subst (λ (l : List X). IsPermutation l zs) same moved

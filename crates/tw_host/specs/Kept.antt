@@ -4,7 +4,7 @@ use Rattle.tw_types.specs.Layout.{IsLayout}
 use Rattle.tw_code.specs.machine.Inputs.{AreInputsOf}
 use Rattle.tw_pool.specs.PoolView.{PoolView}
 use Rattle.tw_host.specs.Run.{Run, run_of}
-use Rattle.tw_host.specs.Seats.{seat_count}
+use Rattle.tw_host.specs.Seats.{actor_count}
 
 -- The pool is the run's, and the ledger's total counts its events. The ledger has a part for each seat, and none stays here
 pub record IsKept (run : Run) (parts total spare_parts spare_amount : ℕ) (pool : PoolView) : Type 0 where
@@ -13,6 +13,6 @@ pub record IsKept (run : Run) (parts total spare_parts spare_amount : ℕ) (pool
   pub given : AreInputsOf run.program.program run.inputs
   pub within : length pool.history ≤ run.limit
   pub counted : total ≡ length pool.history
-  pub seats : parts ≡ seat_count run.layout
+  pub seats : parts ≡ actor_count run.layout
   pub no_part : spare_parts ≡ 0
   pub no_amount : spare_amount ≡ 0

@@ -8,10 +8,9 @@ ghost use Rattle.tw_types.specs.declared.event.Event.{Event as AnEvent};
 ghost use Rattle.tw_types.specs.Layout.{IsLayout};
 ghost use Rattle.tw_pool.specs.Actors.{HasPlace, events_of};
 ghost use Rattle.tw_host.specs.Ends.{Closes};
-ghost use Rattle.tw_host.specs.Seats.{NoneOf, Told, actors_of, seat_count, told_by};
+ghost use Rattle.tw_host.specs.Seats.{NoneOf, Told, actors_of, actor_count, told_by};
 
 use crate::host::Host;
-use crate::layout::{actor_at, seat_count};
 use crate::locked::Locked;
 use crate::named::Named;
 use crate::seat::Seat;
@@ -85,12 +84,12 @@ fn place_of<N: Named>(seats: &[Seat<N>], from: usize, actor: Actor) -> Option<us
 
 /// Puts the seats in the order of their actors; or the first actor that has none.
 fn put_in_order<N: Named>(seats: &mut [Seat<N>], layout: Layout) -> Option<Actor>
-    requires { length seats.old ≡ seat_count layout }
+    requires { length seats.old ≡ actor_count layout }
     ensures moved { IsPermutation seats.old seats.new }
     ensures placed { let actors = map (λ s. s.actor) seats.new in MatchOption result (actors ≡ actors_of layout) (λ actor. NoneOf actor actors) }
 {
-    for k in 0..seat_count(layout) {
-        let actor = actor_at(layout, k);
+    for k in 0..layout.actor_count() {
+        let actor = layout.actor_at(k);
         let Some(place) = place_of(seats, k, actor) else {
             return Some(actor);
         };
@@ -143,7 +142,7 @@ fn settle<N: Named>(
 
 impl<'a, N: Named> Locked<'a, N> {
     fn close(self, mut seats: Vec<Seat<N>>, by_seat: Vec<Vec<Event>>) -> Closed
-        requires all { vec_len seats ≡ seat_count N.run.layout }
+        requires all { vec_len seats ≡ actor_count N.run.layout }
         requires empty { by_seat.items ≡ [] }
         requires room { vec_len seats ≤ vec_capacity by_seat }
         ensures { Closes N.run (map (λ s. told_by s.actor s.told.items) seats.items) result }
@@ -185,7 +184,7 @@ impl<'a, N: Named> Locked<'a, N> {
 impl<'a, N: Named> Host<'a, N> {
     /// Ends the run, with all its seats in whatever order: compares what each was told with its actor's events of the history.
     pub fn close(self, seats: Vec<Seat<N>>) -> Closed
-        requires all { vec_len seats ≡ seat_count N.run.layout }
+        requires all { vec_len seats ≡ actor_count N.run.layout }
         ensures { Closes N.run (map (λ s. told_by s.actor s.told.items) seats.items) result }
     {
         let Host {

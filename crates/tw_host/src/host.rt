@@ -2,10 +2,9 @@
 
 ghost use Rattle.std.specs.Prelude.{◌≡◌, ◌≤◌, IfErr, IfOk, [], map, vec_len, vec_capacity};
 ghost use Rattle.tw_pool.specs.Openings.{IsRefusal, MayOpen};
-ghost use Rattle.tw_host.specs.Seats.{actors_of, seat_count};
+ghost use Rattle.tw_host.specs.Seats.{actors_of, actor_count};
 ghost use Rattle.tw_host.specs.Tells.{IsAnswerOf, IsDoneOf, Tells};
 
-use crate::layout::seat_count;
 use crate::locked::{Locked, Strange};
 use crate::named::Named;
 use crate::seat::{Seat, rooms, seats_of};
@@ -40,7 +39,7 @@ pub struct Host<'a, N: Named> {
     pub(crate) by_seat: Vec<Vec<Event>>,
     ghost program: { verified.now ≡ N.run.program },
     ghost empty: { by_seat.items ≡ [] },
-    ghost room: { seat_count N.run.layout ≤ vec_capacity by_seat },
+    ghost room: { actor_count N.run.layout ≤ vec_capacity by_seat },
 }
 
 impl<'a, N: Named> Host<'a, N> {
@@ -54,16 +53,16 @@ impl<'a, N: Named> Host<'a, N> {
         layout: Layout,
         limit: usize,
     ) -> Result<(Host<'a, N>, Vec<Seat<N>>), OpenRefusal>
-        requires ledger { (blank.name ≡ N.name) × (blank.parts ≡ N.parts) × (blank.parts ≡ seat_count layout) }
+        requires ledger { (blank.name ≡ N.name) × (blank.parts ≡ N.parts) × (blank.parts ≡ actor_count layout) }
         requires run { N.run ≡ record { program = verified.now; inputs = inputs.now; layout = layout; limit = limit } }
         ensures allowed { IfOk result (λ _. MayOpen verified.now.program inputs.now layout limit) }
-        ensures len { IfOk result (λ r. vec_len r.1 ≡ seat_count layout) }
+        ensures len { IfOk result (λ r. vec_len r.1 ≡ actor_count layout) }
         ensures actors { IfOk result (λ r. map (λ s. s.actor) r.1.items ≡ actors_of layout) }
         ensures told { IfOk result (λ r. map (λ s. s.told.items) r.1.items ≡ map (λ _. []) (actors_of layout)) }
         ensures refused { IfErr result (IsRefusal verified.now.program inputs.now layout limit) }
     {
         let pool = Pool::open(alloc, verified, inputs, layout, limit)?;
-        let Ok((seats, by_seat)) = rooms(alloc, seat_count(layout)) else {
+        let Ok((seats, by_seat)) = rooms(alloc, layout.actor_count()) else {
             let _ = pool.shut();
             return Err(OpenRefusal::NoMemory);
         };

@@ -3,14 +3,12 @@
 
 mod close;
 mod host;
-mod layout;
 mod locked;
 mod named;
 mod seat;
 
 pub use close::Closed;
 pub use host::Host;
-pub use layout::{actor_at, seat_count};
 pub use locked::Strange;
 pub use named::Named;
 pub use seat::Seat;

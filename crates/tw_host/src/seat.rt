@@ -2,9 +2,8 @@
 
 ghost use Rattle.std.specs.Prelude.{◌≡◌, ◌+◌, ◌-◌, ◌≤◌, ◌++◌, [], vec_len, vec_capacity, drop, length, map, true, IfOk};
 ghost use Rattle.tw_types.specs.Actor.{is_in};
-ghost use Rattle.tw_host.specs.Seats.{actors_of, seat_count};
+ghost use Rattle.tw_host.specs.Seats.{actors_of, actor_count};
 
-use crate::layout::{actor_at, seat_count};
 use crate::named::Named;
 use std::alloc::{AllocError, Global};
 use std::sync::ledger::{Book, Share};
@@ -58,19 +57,19 @@ pub(crate) fn seats_of<N: Named>(
     all: &mut Share<N>,
 ) -> Vec<Seat<N>>
     requires empty { seats.items ≡ [] }
-    requires room { seat_count layout ≤ vec_capacity seats }
+    requires room { actor_count layout ≤ vec_capacity seats }
     requires layout { N.run.layout ≡ layout }
-    requires parts { all.old.parts ≡ seat_count layout }
+    requires parts { all.old.parts ≡ actor_count layout }
     requires amount { all.old.amount ≡ 0 }
-    ensures len { vec_len result ≡ seat_count layout }
+    ensures len { vec_len result ≡ actor_count layout }
     ensures actors { map (λ s. s.actor) result.items ≡ actors_of layout }
     ensures told { map (λ s. s.told.items) result.items ≡ map (λ _. []) (actors_of layout) }
     ensures parts { (all.new.parts ≡ 0) × (all.new.amount ≡ 0) }
 {
-    for seat in 0..seat_count(layout) {
+    for seat in 0..layout.actor_count() {
         let share = all.split_off(1, 0);
         seats.push_reserved(Seat {
-            actor: actor_at(layout, seat),
+            actor: layout.actor_at(seat),
             told: Vec::new(alloc),
             share,
         });

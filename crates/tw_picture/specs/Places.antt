@@ -1,7 +1,7 @@
 -- Where things stand in a picture, in pixels from its upper left corner.
 use Rattle.std.specs.Prelude.{◌+◌, ◌*◌, ℕ, nat_le, if◌then◌else◌}
 use Rattle.tw_types.specs.declared.actor.Actor.{Actor}
-use Rattle.tw_types.specs.declared.actor.Actor.TheVariants.{Engine, Server, Worker}
+use Rattle.tw_types.specs.Actor.{index_of}
 use Rattle.tw_types.specs.Layout.{ActorCounts}
 use Rattle.tw_picture.specs.declared.places.Scale.{Scale}
 use Rattle.tw_picture.specs.declared.places.Scale.TheVariants.{Wide, Middle, Narrow, Fine}
@@ -45,15 +45,9 @@ tick_step Fine = 50
 
 -- ---- from top to bottom
 
--- the lane of an actor, from 0: engines, then servers, then workers
-abbrev pub lane_of : ActorCounts → Actor → ℕ
-lane_of layout (Engine number) = number
-lane_of layout (Server number) = layout.engines + number
-lane_of layout (Worker number) = layout.engines + layout.servers + number
-
--- the upper edge of an actor's lane
+-- the upper edge of an actor's lane; they stand in the order of actors
 abbrev pub lane_top : ActorCounts → Actor → ℕ
-lane_top layout actor = 60 + 44 * lane_of layout actor
+lane_top layout actor = 60 + 44 * index_of layout actor
 
 -- the lower edge of the last lane
 abbrev pub bottom : ActorCounts → ℕ

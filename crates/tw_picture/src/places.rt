@@ -1,7 +1,7 @@
 //! Where things stand in the picture, in pixels.
 
 ghost use Rattle.std.specs.Prelude.{◌≡◌, ◌<◌, ◌^◌};
-ghost use Rattle.tw_picture.specs.Places.{across, bottom, lane_of, lane_top, mark_inset, mark_width, scale_of, span, tick_step};
+ghost use Rattle.tw_picture.specs.Places.{across, bottom, lane_top, mark_inset, mark_width, scale_of, span, tick_step};
 
 use tw_types::{Actor, Layout};
 
@@ -90,26 +90,12 @@ impl Scale {
     }
 }
 
-/// The lane of an actor, from 0: engines, then servers, then workers.
-fn lane_of(layout: Layout, actor: Actor) -> usize
-    ensures value { result ≡ lane_of layout actor }
-    ensures small { result < 1000 }
-{
-    let engines = usize::from(layout.engines());
-    let servers = usize::from(layout.servers());
-    match actor {
-        Actor::Engine(number) => usize::from(number),
-        Actor::Server(number) => engines + usize::from(number),
-        Actor::Worker(number) => engines + servers + usize::from(number),
-    }
-}
-
 /// The upper edge of an actor's lane.
 pub fn lane_top(layout: Layout, actor: Actor) -> usize
     ensures value { result ≡ lane_top layout actor }
     ensures small { result < 100000 }
 {
-    60 + 44 * lane_of(layout, actor)
+    60 + 44 * layout.index_of(actor)
 }
 
 /// The lower edge of the last lane.

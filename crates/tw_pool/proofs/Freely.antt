@@ -43,14 +43,13 @@ use Rattle.tw_parts.specs.Parts.{state_of}
 use Rattle.tw_parts.specs.declared.parts.Parts.{Parts}
 use Rattle.tw_pool.specs.declared.answer.Turn.{Turn}
 use Rattle.tw_pool.specs.declared.answer.Turn.TheVariants.{Idle, NoMemory, Run, Went as Made}
-use Rattle.tw_pool.specs.Actors.{HasPlace, events_of}
+use Rattle.tw_pool.specs.Actors.{events_of}
 use Rattle.tw_pool.specs.History.{HistoryView}
 use Rattle.tw_pool.specs.Kept.{AsksNone, IsFree, IsKept, MayTakeNow, ReleasesNone}
 use Rattle.tw_pool.specs.PoolView.{PoolView, HasState, with_events}
 use Rattle.tw_pool.specs.Turns.{GoesFree, IsTurnBy, Lends, Line, TakesMemory, lent_to}
 use Rattle.tw_pool.specs.Words.{FitsWord}
 use Rattle.tw_pool.proofs.Fitting.{few_parameters, low_datum, small_numbers}
-use Rattle.tw_pool.proofs.Counting.{has_place}
 use Rattle.tw_pool.proofs.Keeping.{ask_frames, deliver_frames, made_free, made_lent, no_task, own_count, release_frames, still}
 
 -- as what a pool is seen
@@ -133,9 +132,6 @@ module _ (verified : TypedProgram) (inputs : List Input) (layout : ActorCounts) 
   module _ (server : ℕ) (low : server < w.layout.servers) (room : length w.history < w.limit) (free : IsFree w (Server server)) where
     low_here : server < layout.servers
     low_here = subst (λ (x : PoolView). server < x.layout.servers) (sym seen) low
-
-    pub queue_here : server < length old.store.queues
-    queue_here = let many = h.parts.servers in omega (arith, low_here, many)
 
     pub deliver_idle : queue_at old.store.queues server ≡ [] → GoesFree w state (Server server) Idle []
     deliver_idle empty = inr ((λ due d. none_there d.notice (sym (h.parts.queued.all d.notice) ∙ d.waits) (own d.notice d.own)), (refl, refl))
@@ -302,9 +298,6 @@ module _ (verified : TypedProgram) (inputs : List Input) (layout : ActorCounts) 
   module _ (actor : Actor) (there : is_in w.layout actor ≡ true) (room : length w.history < w.limit) (free : IsFree w actor) (first : MayTakeNow w actor) where
     pub there_here : is_in layout actor ≡ true
     there_here = subst (λ (x : PoolView). is_in x.layout actor ≡ true) (sym seen) there
-
-    pub seat_here : HasPlace actor
-    seat_here = has_place layout actor h.parts.runnable.counts there_here
 
     pub taker_free : get old.seats actor ≡ None
     taker_free = no_task old h.notices actor (free_here actor free)

@@ -7,7 +7,7 @@ use Rattle.tw_types.specs.declared.actor.Actor.TheVariants.{Engine, Server, Work
 use Rattle.tw_types.specs.declared.event.Event.{Event}
 use Rattle.tw_types.specs.declared.event.Event.TheVariants.{Take, Local, Call, End, Ask, Deliver, Release}
 use Rattle.tw_code.specs.machine.History.{actor_of}
-use Rattle.tw_pool.specs.Actors.{HasPlace, place_of, actor_at}
+use Rattle.tw_pool.specs.Actors.{HasPlace, place_of, actor_of_place}
 use Rattle.tw_pool.specs.Words.{FitsWord, NumbersFit, kind_of, numbers_of, word_of, unpack, unpack_by, events_in}
 
 pub place_low : (a : Actor) → HasPlace a → place_of a < 24
@@ -15,7 +15,7 @@ place_low (Engine k) h = omega arith
 place_low (Server k) h = omega arith
 place_low (Worker k) h = omega arith
 
-actor_back : (a : Actor) → HasPlace a → actor_at (place_of a) ≡ a
+actor_back : (a : Actor) → HasPlace a → actor_of_place (place_of a) ≡ a
 actor_back (Engine k) h = let t : nat_lt k 4 ≡ true = grind (arith, nat_tests) in rw t refl
 actor_back (Server k) h =
     let t : nat_lt (4 + k) 4 ≡ false = grind (arith, nat_tests) in
@@ -69,8 +69,8 @@ round e h =
     let small = kind_low e in
     let kind : word_of e % 8 ≡ kind_of e = omega (arith, low, small) in
     let numbers : word_of e / 256 ≡ numbers_of e = omega (arith, low, small) in
-    ap (λ n. unpack_by n (actor_at (word_of e / 8 % 32)) (word_of e / 256)) kind
-    ∙ ap (λ n. unpack_by (kind_of e) (actor_at n) (word_of e / 256)) (maker_of e h.0)
+    ap (λ n. unpack_by n (actor_of_place (word_of e / 8 % 32)) (word_of e / 256)) kind
+    ∙ ap (λ n. unpack_by (kind_of e) (actor_of_place n) (word_of e / 256)) (maker_of e h.0)
     ∙ ap (λ a. unpack_by (kind_of e) a (word_of e / 256)) (actor_back (actor_of e) h.0)
     ∙ ap (unpack_by (kind_of e) (actor_of e)) numbers
     ∙ again e h.1

@@ -35,9 +35,6 @@ use Rattle.tw_pool.proofs.Freely.{has_state, line_still, state, viewed}
 
 -- ---- why a run is over
 
-pub closing_is : (p : PoolView) (s : State) (o : Option Ending) → o ≡ ending s → closing_at p s ≡ option_or (option_map closing_of o) (if p.stopped then Some Stopped else if length p.history == p.limit then Some Limit else None)
-closing_is p s o is = ap (λ x. option_or (option_map closing_of x) (if p.stopped then Some Stopped else if length p.history == p.limit then Some Limit else None)) (sym is)
-
 -- where it isn't, there is room
 pub room_left : (p : PoolView) (s : State) → length p.history ≤ p.limit → None ≡ closing_at p s → length p.history < p.limit
 room_left p s within goes_on = by (ending s) p.stopped (length p.history == p.limit) refl goes_on
@@ -147,9 +144,6 @@ module _ (verified : TypedProgram) (inputs : List Input) (layout : ActorCounts) 
 
   pub room_if : ((s : State) → HasState w s → None ≡ closing_at w s) → length w.history < w.limit
   room_if goes_on = room_left w here within_here (goes_on here at_here)
-
-  pub ending_here : (o : Option Ending) → o ≡ ending here → (s : State) → HasState w s → o ≡ ending s
-  ending_here o is s at = is ∙ ap ending (sym (only_here s at))
 
   unchanged : (line : State → Line) (answer : Turn) → line here answer [] → IsTurnBy line w answer w
   unchanged line answer is = subst (λ (v : PoolView). IsTurnBy line w answer v) seen (line_still verified inputs layout stopped told old h w seen line answer is)

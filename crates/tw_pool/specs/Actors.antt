@@ -1,27 +1,10 @@
--- Actors by places, and the events of one of them.
-use Rattle.std.specs.Prelude.{◌≡◌, ℕ, ◌+◌, ◌-◌, ◌<◌, ◌==◌, Bool, false, nat_lt, if◌then◌else◌, List, filter, length, get_or}
+-- The events of an actor, and how many each has made, by their places.
+use Rattle.std.specs.Prelude.{◌≡◌, ℕ, ◌==◌, Bool, false, List, filter, length, get_or}
 use Rattle.tw_types.specs.declared.actor.Actor.{Actor}
 use Rattle.tw_types.specs.declared.actor.Actor.TheVariants.{Engine, Server, Worker}
 use Rattle.tw_types.specs.declared.event.Event.{Event}
+pub use Rattle.tw_types.specs.Actor.{HasPlace, actor_of_place, place_of}
 use Rattle.tw_code.specs.machine.History.{actor_of}
-
--- ---- places: for four engines, four servers and sixteen workers
-
-abbrev pub place_of : Actor → ℕ
-place_of (Engine number) = number
-place_of (Server number) = 4 + number
-place_of (Worker number) = 8 + number
-
-abbrev pub actor_at : ℕ → Actor
-actor_at place = if nat_lt place 4 then Engine place else (if nat_lt place 8 then Server (place - 4) else Worker (place - 8))
-
--- there may be this actor in a layout
-abbrev pub HasPlace : Actor → Type 0
-HasPlace (Engine number) = number < 4
-HasPlace (Server number) = number < 4
-HasPlace (Worker number) = number < 16
-
--- ---- who makes events
 
 abbrev pub same_actor : Actor → Actor → Bool
 same_actor (Engine a) (Engine b) = a == b

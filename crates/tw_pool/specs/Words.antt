@@ -5,7 +5,7 @@ use Rattle.tw_types.specs.declared.event.Event.{Event}
 use Rattle.tw_types.specs.declared.event.Event.TheVariants.{Take, Local, Call, End, Ask, Deliver, Release}
 use Rattle.tw_types.specs.Actor.{number_in_kind}
 use Rattle.tw_code.specs.machine.History.{actor_of}
-use Rattle.tw_pool.specs.Actors.{HasPlace, actor_at, place_of}
+use Rattle.tw_pool.specs.Actors.{HasPlace, actor_of_place, place_of}
 
 -- ---- the events that have a word
 
@@ -58,7 +58,7 @@ unpack_by kind actor numbers =
     else Release (number_in_kind actor) numbers)))))
 
 unfoldable pub unpack : ℕ → Event
-unpack word = unpack_by (word % 8) (actor_at (word / 8 % 32)) (word / 256)
+unpack word = unpack_by (word % 8) (actor_of_place (word / 8 % 32)) (word / 256)
 
 -- a word that tells by the place in it who made its event
 abbrev pub IsPlaced : ℕ → Type 0

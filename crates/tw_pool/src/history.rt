@@ -6,7 +6,7 @@ ghost use Rattle.tw_code.specs.machine.History.{actor_of};
 ghost use Rattle.tw_pool.specs.Actors.{HasPlace, events_of, same_actor};
 ghost use Rattle.tw_pool.specs.Words.{FitsWord};
 
-use crate::words::{maker, pack, place_of, unpack};
+use crate::words::{maker, pack, unpack};
 use std::alloc::{AllocError, Global};
 use std::marker::Model;
 use tw_types::{Actor, Event};
@@ -78,7 +78,7 @@ impl History {
         requires { HasPlace actor }
         ensures { result ≡ length (events_of actor self.now.events) }
     {
-        self.counts[place_of(actor) as usize]
+        self.counts[actor.place()]
     }
 
     /// The event before which there are so many.
@@ -95,7 +95,7 @@ impl History {
         requires there { index < length self.now.events }
         ensures { option_map (λ event. same_actor (actor_of event) actor) (slice_get self.now.events index) ≡ Some result }
     {
-        maker(self.words[index]) == place_of(actor) as usize
+        maker(self.words[index]) == actor.place()
     }
 
     /// Tells one event more.

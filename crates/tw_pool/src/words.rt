@@ -2,28 +2,15 @@
 
 ghost use Rattle.std.specs.Prelude.{◌≡◌, ◌<◌, ◌+◌, ◌*◌, ◌%◌, ◌/◌, ◌^◌};
 ghost use Rattle.tw_code.specs.machine.History.{actor_of};
-ghost use Rattle.tw_pool.specs.Actors.{HasPlace, actor_at, place_of};
+ghost use Rattle.tw_pool.specs.Actors.{HasPlace, actor_of_place, place_of};
 ghost use Rattle.tw_pool.specs.Words.{FitsWord, unpack, word_of};
 
 use tw_types::{Actor, DatumId, Event, RuleNo};
 
-/// The actor's place among all that may be.
-pub(crate) fn place_of(actor: Actor) -> u64
-    requires { HasPlace actor }
-    ensures is { result ≡ place_of actor }
-    ensures low { result < 24 }
-{
-    match actor {
-        Actor::Engine(number) => u64::from(number),
-        Actor::Server(number) => 4 + u64::from(number),
-        Actor::Worker(number) => 8 + u64::from(number),
-    }
-}
-
 /// The actor of a place.
-fn actor_at(place: u64) -> Actor
+fn actor_of_place(place: u64) -> Actor
     requires { place < 32 }
-    ensures { result ≡ actor_at place }
+    ensures { result ≡ actor_of_place place }
 {
     if place < 4 {
         Actor::Engine(place as u8)
@@ -48,7 +35,7 @@ fn word(kind: u64, actor: Actor, numbers: u64) -> u64
     requires numbers { numbers < 2 ^ 56 }
     ensures { result ≡ kind + 8 * (place_of actor + 32 * numbers) }
 {
-    kind + 8 * (place_of(actor) + 32 * numbers)
+    kind + 8 * (actor.place() as u64 + 32 * numbers)
 }
 
 /// The word of an event.
@@ -78,7 +65,7 @@ pub(crate) fn pack(event: Event) -> u64
 pub(crate) fn unpack(word: u64) -> Event
     ensures { result ≡ unpack word }
 {
-    let actor = actor_at(word / 8 % 32);
+    let actor = actor_of_place(word / 8 % 32);
     let numbers = word / 256;
     let parameter = (numbers % 8) as u8;
     match word % 8 {

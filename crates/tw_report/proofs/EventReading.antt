@@ -1,5 +1,5 @@
 -- The words that are read as an event are those that spell it.
-use Rattle.std.proofs.Common.{◌≡◌, ◌==◌, ℕ, Bool, true, false, cond, List, [], ◌∷◌, codes, Option, Some, None, refl, sym, ap, subst, ◌∙◌, arith}
+use Rattle.std.proofs.Common.{[], ◌≡◌, ◌==◌, ℕ, Bool, true, false, cond, List, ◌∷◌, codes, Option, Some, None, refl, sym, ap, subst, ◌∙◌, arith}
 use Rattle.std.specs.Prelude.{min}
 use Rattle.std.proofs.Math.Nat.{min-le_right}
 use Rattle.std.specs.Int.{IsInRange}
@@ -13,7 +13,7 @@ use Rattle.tw_types.specs.declared.event.Event.{Event}
 use Rattle.tw_types.specs.declared.event.Event.TheVariants.{Take, Local, Call, End, Ask, Deliver, Release}
 use Rattle.tw_types.specs.Actor.{number_in_kind}
 use Rattle.tw_words.specs.Number.{SpellsDigits}
-use Rattle.tw_report.specs.Events.{IsByte, IsEvent, IsWord, Name, Number, Parameter, Part, SpellParts, SpellsPart, SpellsEvent, actor_part, event_parts, words_in}
+use Rattle.tw_report.specs.Events.{IsByte, IsEvent, Name, Number, Parameter, Part, SpellParts, SpellsPart, SpellsEvent, actor_part, event_parts, words_in}
 use Rattle.tw_report.specs.reading.Event.{actor_in, alone, ask_in, behind, deliver_in, event_in, first, for_actor, local_in, named, number_in, parameter_in, release_in, words_64}
 use Rattle.tw_report.specs.reading.Words.{with_word}
 use Rattle.tw_report.proofs.Readings.{number_read, number_spelled}
@@ -140,10 +140,6 @@ stepped {A} read next (word ∷ words) b e = by (read word) refl e
 alone_is : (made event : Event) (words : List (List ℕ)) → alone made words ≡ Some event → (words ≡ []) × (made ≡ event)
 alone_is made event [] e = (refl, cc)
 alone_is made event (word ∷ words) e = cc
-
--- the words behind the name
-abbrev IsBehind : (Event → Type 0) → List Part → Event → Event → List (List ℕ) → Type 0
-IsBehind May parts made event words = (made ≡ event) × SpellParts parts words
 
 one_more : (part : Part) (parts : List Part) (words : List (List ℕ)) (word : List ℕ) (rest : List (List ℕ)) → words ≡ word ∷ rest → SpellsPart part word → SpellParts parts rest → SpellParts (part ∷ parts) words
 one_more part parts words word rest is one others = subst (SpellParts (part ∷ parts)) (sym is) (one, others)

@@ -1,14 +1,13 @@
 -- A history as it is read, line by line.
-use Rattle.std.proofs.Common.{◌≡◌, ◌⊎◌, ◌==◌, ◌+◌, ◌-◌, ◌<◌, ◌≤◌, ℕ, suc, Bool, true, false, List, [], ◌∷◌, ◌++◌, codes, length, get_or, take, drop, Option, Some, None, Result, Ok, Err, inl, inr, refl, sym, ap, subst, ◌∙◌, append_assoc, arith}
+use Rattle.std.proofs.Common.{[], ◌≡◌, ◌⊎◌, ◌==◌, ◌+◌, ◌-◌, ◌<◌, ◌≤◌, ℕ, suc, Bool, true, false, List, ◌∷◌, ◌++◌, codes, length, get_or, take, drop, Option, Some, None, Result, Ok, Err, inl, inr, refl, sym, ap, subst, ◌∙◌, append_assoc, arith}
 use Rattle.std.specs.List.{AllByRecursion, onto_first}
 use Rattle.std.proofs.lemmas.Bool.{eqb-true}
-use Rattle.std.proofs.lemmas.List.{append-nil, length-append, length-drop, take-append-drop, take_all, take_at, take_more}
+use Rattle.std.proofs.lemmas.List.{append-nil, length-append, length-drop, take-append-drop, take_all, take_more}
 use Rattle.std.proofs.lemmas.List.Splits.{slice_split-cons_no}
 use Rattle.tw_types.specs.declared.event.Event.{Event}
-use Rattle.tw_words.proofs.Writing.{all_append}
 use Rattle.tw_report.specs.Events.{SpellsEvent}
-use Rattle.tw_report.specs.History.{AreParts, HasNoLineFeed, IsBlank, IsNoHistory, IsWord, Tell, behind_blank, behind_event, lines_in, text_of}
-use Rattle.tw_report.specs.reading.History.{Follows, IsFirstLine, IsReadTo, Takes, onto}
+use Rattle.tw_report.specs.History.{HasNoLineFeed, IsBlank, IsNoHistory, IsWord, Tell, behind_blank, behind_event, lines_in, text_of}
+use Rattle.tw_report.specs.reading.History.{IsFirstLine, IsReadTo, Takes, onto}
 use Rattle.tw_report.specs.declared.history.HistoryFault.{HistoryFault}
 use Rattle.tw_report.specs.declared.history.HistoryFault.TheVariants.{UnknownLine, NoMemory}
 
@@ -21,9 +20,6 @@ first_piece (b ∷ line) rest none = slice_split-cons_no (λ c. c == 10) b (line
 last_piece : (line : List ℕ) → HasNoLineFeed line → lines_in line ≡ line ∷ []
 last_piece [] none = refl
 last_piece (b ∷ line) none = slice_split-cons_no (λ c. c == 10) b line none.0 ∙ ap (onto_first b) (last_piece line none.1)
-
-pub no_feed_more : (text : List ℕ) (i : ℕ) → i < length text → (get_or text i 0 == 10) ≡ false → HasNoLineFeed (take i text) → HasNoLineFeed (take (i + 1) text)
-no_feed_more text i inside other none = subst HasNoLineFeed (sym (take_more text i 0 inside)) (all_append (λ b. (b == 10) ≡ false) (take i text) (get_or text i 0 ∷ []) none (other, tt))
 
 pub feed_found : (text front back : List ℕ) (i : ℕ) → i < length text → (get_or text i 0 == 10) ≡ true → HasNoLineFeed (take i text) → front ≡ take i text → back ≡ drop (i + 1) text → IsFirstLine text front (Some back)
 feed_found text front back i inside is none f b =
@@ -48,13 +44,6 @@ pub shorter : (text line rest : List ℕ) → IsFirstLine text line (Some rest) 
 shorter text line rest first = let all : length text ≡ length line + suc (length rest) = ap length first.1.1 ∙ length-append line (10 ∷ rest) in omega (arith, all)
 
 -- ---- events
-
-pub read_first : (text : List ℕ) → IsReadTo text [] 0 text
-read_first text = λ r t. by r t
-  where
-    by : (r : Result (List Event) ℕ) → Tell (lines_in text) r → Tell (lines_in text) (onto [] 0 r)
-    by (Ok events) t = t
-    by (Err line) t = let e : line ≡ 0 + line = omega arith in subst (λ (n : ℕ). Tell (lines_in text) (Err n)) e t
 
 abbrev Behind : List Event → List ℕ → List Event → Type 0
 Behind events line after = (IsBlank line × (after ≡ events)) ⊎ ((event : Event) × SpellsEvent event line × (after ≡ events ++ event ∷ []))
@@ -121,9 +110,6 @@ pub record CutTo (text : List ℕ) (count : ℕ) (rest : List ℕ) : Type 0 wher
   pub count_is : count ≡ length (text_of lines)
   pub split : lines_in text ≡ lines ++ lines_in rest
 
-pub cut_first : (text : List ℕ) → CutTo text 0 text
-cut_first text = record { lines = []; whole = tt; first = tt; parts = refl; count_is = refl; split = refl }
-
 text_more : (lines : List (List ℕ)) (line : List ℕ) → text_of (lines ++ line ∷ []) ≡ text_of lines ++ (line ++ 10 ∷ [])
 text_more [] line = append-nil (line ++ 10 ∷ [])
 text_more (l ∷ lines) line = ap (λ (t : List ℕ). (l ++ 10 ∷ []) ++ t) (text_more lines line) ∙ sym (append_assoc (l ++ 10 ∷ []) (text_of lines) (line ++ 10 ∷ []))
@@ -146,33 +132,3 @@ cut_more text rest line others count cut first not = record {
       omega (arith, all, one, cut.count_is);
   split = cut.split ∙ ap (λ (ls : List (List ℕ)). cut.lines ++ ls) first.1.0 ∙ sym (append_assoc cut.lines (line ∷ []) (lines_in others));
 }
-
-abbrev pub bytes_after : Option (List ℕ) → List ℕ
-bytes_after None = []
-bytes_after (Some rest) = rest
-
-pub cut_here : (text rest line : List ℕ) (follows : Option (List ℕ)) (count : ℕ) (front back : List ℕ) → CutTo text count rest → IsFirstLine rest line follows → IsWord (codes "events") line → front ≡ take count text → back ≡ bytes_after follows → AreParts text front back
-cut_here text rest line follows count front back cut first is f b =
-    let before : front ≡ text_of cut.lines = f ∙ ap (take count) cut.parts ∙ take_at (text_of cut.lines) rest count (sym cut.count_is) in
-    inl record { lines = cut.lines; line = line; front = before; whole = (first.0, cut.whole); is = is; first = cut.first; parts = by follows first.1 b before }
-  where
-    by : (follows : Option (List ℕ)) → Follows rest line follows → back ≡ bytes_after follows → front ≡ text_of cut.lines → (text ≡ front ++ (line ++ 10 ∷ back)) ⊎ ((text ≡ front ++ line) × (back ≡ []))
-    by None at b before = inr (cut.parts ∙ ap (λ (t : List ℕ). t ++ rest) (sym before) ∙ ap (λ (t : List ℕ). front ++ t) at.1, b)
-    by (Some others) at b before = inl (cut.parts ∙ ap (λ (t : List ℕ). t ++ rest) (sym before) ∙ ap (λ (t : List ℕ). front ++ t) (at.1 ∙ ap (λ (t : List ℕ). line ++ 10 ∷ t) (sym b)))
-
-pub cut_none : (text rest line : List ℕ) (count : ℕ) → CutTo text count rest → IsFirstLine rest line None → (IsWord (codes "events") line → ⊥) → AreParts text text []
-cut_none text rest line count cut first not =
-    inr (subst (AllByRecursion (λ l. IsWord (codes "events") l → ⊥)) (sym (cut.split ∙ ap (λ (ls : List (List ℕ)). cut.lines ++ ls) first.1.0)) (all_more (λ l. IsWord (codes "events") l → ⊥) cut.lines line cut.first not), refl, refl)
-
-pub cut_within : (text rest : List ℕ) (count : ℕ) → CutTo text count rest → count + length rest ≡ length text
-cut_within text rest count cut = let all : length text ≡ length (text_of cut.lines) + length rest = ap length cut.parts ∙ length-append (text_of cut.lines) rest in omega (arith, all, cut.count_is)
-
-pub parts_short : (text before after : List ℕ) → AreParts text before after → length after ≤ length text
-parts_short text before after (inl c) = by c.parts
-  where
-    by : (text ≡ before ++ (c.line ++ 10 ∷ after)) ⊎ ((text ≡ before ++ c.line) × (after ≡ [])) → length after ≤ length text
-    by (inl e) =
-        let all : length text ≡ length before + (length c.line + suc (length after)) = ap length e ∙ length-append before (c.line ++ 10 ∷ after) ∙ ap (λ (n : ℕ). length before + n) (length-append c.line (10 ∷ after)) in
-        omega (arith, all)
-    by (inr e) = subst (λ (t : List ℕ). length t ≤ length text) (sym e.1) (omega arith)
-parts_short text before after (inr (none, same, e)) = subst (λ (t : List ℕ). length t ≤ length text) (sym e) (omega arith)

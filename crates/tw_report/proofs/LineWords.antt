@@ -1,5 +1,5 @@
 -- A line's words, from left to right.
-use Rattle.std.proofs.Common.{◌≡◌, ◌≤◌, ◌<◌, ◌-◌, ℕ, suc, Bool, true, false, cond, List, [], ◌∷◌, length, get_or, take, drop, refl, sym, ap, ◌∙◌, arith}
+use Rattle.std.proofs.Common.{[], ◌≡◌, ◌≤◌, ◌-◌, ℕ, suc, Bool, true, false, cond, List, ◌∷◌, length, get_or, take, drop, refl, sym, ap, ◌∙◌, arith}
 use Rattle.std.specs.List.{filter, onto_first, slice_split}
 use Rattle.std.proofs.lemmas.List.Splits.{slice_split-cons_no, slice_split-cons_yes}
 use Rattle.tw_words.specs.Words.{is_parting}
@@ -16,14 +16,6 @@ gap_first b rest p = ap (filter has_bytes) (slice_split-cons_yes is_parting b re
 pub gap_shorter : (bytes rest : List ℕ) → 1 ≤ length rest → is_parting (get_or rest 0 0) ≡ true → words_in rest ≡ words_in bytes → words_in (take (length rest - 1) (drop 1 rest)) ≡ words_in bytes
 gap_shorter bytes [] l p e = absurd (omega (arith, l))
 gap_shorter bytes (b ∷ rest) l p e = ap words_in (slice_tail b rest) ∙ sym (gap_first b rest p) ∙ e
-
-pub at_word : (bytes : List ℕ) → is_parting (get_or bytes 0 0) ≡ false → IsAtWord bytes
-at_word [] p = tt
-at_word (b ∷ rest) p = p
-
-pub at_end : (bytes : List ℕ) → length bytes < 1 → IsAtWord bytes
-at_end [] l = tt
-at_end (b ∷ rest) l = absurd (omega (arith, l))
 
 -- ---- the word
 
@@ -63,19 +55,6 @@ word_some b rest at = let c = cut rest in ap (filter has_bytes) (slice_split-con
 pub word_first : (bytes : List ℕ) → IsAtWord bytes → words_in bytes ≡ with_word (take (word_length bytes) bytes) (words_in (drop (word_length bytes) bytes))
 word_first [] at = refl
 word_first (b ∷ rest) at = word_some b rest at ∙ rw at refl
-
--- ---- no word
-
-pub blank_words : (line rest : List ℕ) → words_in rest ≡ words_in line → length rest ≡ 0 → words_in line ≡ []
-blank_words line [] e l = sym e
-blank_words line (b ∷ rest) e l = absurd (omega (arith, l))
-
-pub words_blank : (line rest : List ℕ) → words_in rest ≡ words_in line → IsAtWord rest → words_in line ≡ [] → length rest ≡ 0
-words_blank line [] e at none = refl
-words_blank line (b ∷ rest) e at none = absurd (some (sym (word_some b rest at) ∙ e ∙ none))
-  where
-    some : {w : List ℕ} {ws : List (List ℕ)} → w ∷ ws ≡ [] → ⊥
-    some e = cc
 
 -- ---- as the code cuts
 

@@ -1,5 +1,5 @@
 -- Rules that are pending, one by one; and when there may be a circle.
-use Rattle.std.proofs.Common.{◌≡◌, ◌==◌, ◌+◌, ◌<◌, ℕ, Bool, true, false, cond, arith, List, [], ◌∷◌, ◌++◌, length, map, get_or, drop, Some, None, refl, sym, ap, ◌∙◌, append_assoc, add-one, drop-cons}
+use Rattle.std.proofs.Common.{[], ◌≡◌, ◌==◌, ◌+◌, ◌<◌, ℕ, Bool, true, false, cond, arith, List, ◌∷◌, ◌++◌, length, map, get_or, drop, Some, None, refl, sym, ap, ◌∙◌, append_assoc, add-one, drop-cons}
 use Rattle.std.proofs.lemmas.List.{append-nil}
 use Rattle.std.specs.Cmp.{nat_cmp_total}
 use Rattle.std.specs.FinMap.{entries, len}
@@ -8,17 +8,15 @@ use Rattle.std.specs.Map.{keys_of}
 use Rattle.std.specs.Ordering.{nat_cmp}
 use Rattle.tw_types.specs.declared.ending.Ending.{Ending}
 use Rattle.tw_types.specs.declared.ending.Ending.TheVariants.{Quiet, Stuck}
-use Rattle.tw_types.specs.declared.param.Param.{Param}
 use Rattle.tw_types.specs.declared.pending.Pending.{Pending}
 use Rattle.tw_types.specs.declared.stage.Stage.{Stage}
 use Rattle.tw_types.specs.Circle.{circle_of}
-use Rattle.tw_types.specs.Mode.{is_write}
 use Rattle.tw_types.specs.Rule.{Rule, is_waiting}
 use Rattle.tw_types.specs.Task.{Arg, ValueArg, RightArg}
 use Rattle.tw_types.proofs.Maps.{entries_view}
 use Rattle.tw_code.specs.declared.procedure.Procedure.{Procedure}
 use Rattle.tw_code.specs.machine.Ending.{ending, is_quiet}
-use Rattle.tw_code.specs.machine.Pending.{circle, pending_of, pending_rules, waited_for, written_by}
+use Rattle.tw_code.specs.machine.Pending.{circle, pending_of, pending_rules, waited_for}
 use Rattle.tw_code.specs.machine.State.{State}
 use Rattle.tw_machine.specs.Parts.{rules_of}
 
@@ -30,34 +28,15 @@ waited_more stage (RightArg id) stages args = by (is_waiting stage)
     by true = refl
     by false = refl
 
-pub written_more : (param : Param) (arg : Arg) (params : List Param) (args : List Arg) → written_by (param ∷ params) (arg ∷ args) ≡ written_by (param ∷ []) (arg ∷ []) ++ written_by params args
-written_more param (ValueArg x) params args = refl
-written_more param (RightArg id) params args = by (is_write param.mode)
-  where
-    by : (w : Bool) → cond w (id ∷ written_by params args) (written_by params args) ≡ cond w (id ∷ []) [] ++ written_by params args
-    by true = refl
-    by false = refl
-
 pub waited_none : (stages : List Stage) → waited_for stages [] ≡ []
 waited_none [] = refl
 waited_none (s ∷ stages) = refl
-
-pub written_none : (params : List Param) → written_by params [] ≡ []
-written_none [] = refl
-written_none (p ∷ params) = refl
 
 -- ---- the circle
 
 -- the rules of the table are those of the state
 pub pending_is : (program : List Procedure) (s : State) (es : List (ℕ × Rule)) (pending : List Pending) → rules_of es ≡ s.rules → IsStrictlySortedBy nat_cmp (keys_of es) → pending ≡ map (pending_of program) es → pending ≡ pending_rules program s
 pending_is program s es pending same sorted is = is ∙ ap (map (pending_of program)) (sym (entries_view nat_cmp_total es sorted)) ∙ ap (λ rules. map (pending_of program) (entries rules)) same
-
-pub circle_none : (program : List Procedure) (s : State) → ending s ≡ None → circle program s ≡ None
-circle_none program s none = by (is_quiet s) refl none
-  where
-    by : (q : Bool) → is_quiet s ≡ q → cond q (Some (cond (len s.rules == 0) Quiet (Stuck (len s.rules)))) None ≡ None → cond q (circle_of (pending_rules program s)) None ≡ None
-    by true is e = cc
-    by false is e = refl
 
 pub circle_some : (program : List Procedure) (s : State) (e : Ending) → ending s ≡ Some e → circle program s ≡ circle_of (pending_rules program s)
 circle_some program s end some = by (is_quiet s) refl some

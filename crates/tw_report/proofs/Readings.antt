@@ -1,31 +1,16 @@
 -- Numbers, as they are read.
-use Rattle.std.proofs.Common.{◌≡◌, ◌≤◌, ℕ, Bool, true, false, cond, List, [], ◌∷◌, Option, Some, None, Ok, Err, Decides, refl, sym, ap, subst, ◌∙◌, arith}
-use Rattle.std.specs.Prelude.{nat_lt}
-use Rattle.std.specs.Char.{digit_value}
+use Rattle.std.proofs.Common.{◌≡◌, ℕ, Bool, true, false, cond, List, Option, Some, None, Ok, Err, refl, sym, ap, subst, ◌∙◌}
 use Rattle.std.specs.Int.{IsInRange}
-use Rattle.std.specs.Str.Parse.{AllDigits, IsNumeral, digits_value}
-use Rattle.std.proofs.lemmas.Bool.Decides.{Decides-and, Decides-ltb, nat_tests}
+use Rattle.std.specs.Str.Parse.{digits_value}
 use Rattle.tw_words.specs.Number.{IsRead, SpellsDigits}
 use Rattle.tw_words.specs.declared.numbers.Flaw.{Flaw}
 use Rattle.tw_words.specs.declared.numbers.Flaw.TheVariants.{Form, Limit}
-use Rattle.tw_report.specs.reading.Event.{all_digits, are_digits, is_within, number_in}
+use Rattle.tw_words.specs.reading.Digits.{are_digits, is_within}
+use Rattle.tw_words.proofs.Decided.{digits_decide, within_decide}
+use Rattle.tw_report.specs.reading.Event.{number_in}
 
 pub differ : true ≡ false → ⊥
 differ e = cc
-
-all_decide : (text : List ℕ) → Decides (all_digits text) (AllDigits 10 text)
-all_decide [] = (λ _. tt, λ _. refl)
-all_decide (c ∷ cs) = Decides-and (nat_lt (digit_value c) 10) (all_digits cs) (Decides-ltb (digit_value c) 10) (all_decide cs)
-
-digits_decide : (text : List ℕ) → Decides (are_digits text) (IsNumeral 10 text)
-digits_decide [] = (λ e. absurd (differ (sym e)), λ h. absurd (omega (arith, h.0)))
-digits_decide (c ∷ cs) = (λ e. (omega arith, (all_decide (c ∷ cs)).0 e), λ h. (all_decide (c ∷ cs)).1 h.1)
-
-within_decide : (low high n : ℕ) → Decides (is_within low high n) (IsInRange low high n)
-within_decide low high n = (λ e. (grind (arith, nat_tests), grind (arith, nat_tests)), λ h. inside h.0 h.1)
-  where
-    inside : low ≤ n → n ≤ high → is_within low high n ≡ true
-    inside h k = grind (arith, nat_tests)
 
 -- the number that digits spell is read, where it is within the limits
 pub number_read : (low high n : ℕ) (text : List ℕ) → SpellsDigits n text → IsInRange low high n → number_in low high text ≡ Some n

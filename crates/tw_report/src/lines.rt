@@ -7,14 +7,8 @@ ghost use Rattle.tw_report.specs.Lines.{trap_line, two_digits, value_text, verif
 
 use std::alloc::{AllocError, Global};
 use tw_types::Value;
+pub use tw_words::put;
 use tw_words::put_quoted;
-
-/// Adds bytes as they stand.
-pub fn put(out: &mut Vec<u8>, text: &str) -> Result<(), AllocError>
-    ensures { OnOk result (out.new.items ≡ out.old.items ++ text.now) }
-{
-    out.extend_from_slice(text.as_bytes())
-}
 
 /// Adds a number in decimal digits.
 pub fn put_decimal(alloc: Global, out: &mut Vec<u8>, n: usize) -> Result<(), AllocError>

@@ -1,7 +1,7 @@
 //! Seats that are driven one after another in one thread.
 
 ghost use Rattle.std.specs.Prelude.{◌≡◌, ◌<◌, [], vec_len};
-ghost use Rattle.tw_host.specs.Seats.{seat_count};
+ghost use Rattle.tw_host.specs.Seats.{actor_count};
 
 use crate::programs::{SEVEN, STORE_SEVEN, has_just, program};
 use crate::seats::end_of;
@@ -11,7 +11,7 @@ use std::marker::Brand;
 use std::sync::Wait;
 use std::sync::ledger::Blank;
 use std::time::Clock;
-use tw_host::{Closed, Host, Named, Seat, seat_count};
+use tw_host::{Closed, Host, Named, Seat};
 use tw_types::Layout;
 use tw_verify::Verified;
 use tw_workers::{Driven, NoGate, drive};
@@ -42,9 +42,9 @@ fn driven_by<N: Named, R: Wait + Clock>(
     layout: Layout,
     is_stopped: bool,
 ) -> Option<(bool, Closed)>
-    requires ledger { (blank.name ≡ N.name) × (blank.parts ≡ N.parts) × (blank.parts ≡ seat_count layout) }
+    requires ledger { (blank.name ≡ N.name) × (blank.parts ≡ N.parts) × (blank.parts ≡ actor_count layout) }
     requires run { N.run ≡ record { program = verified.now; inputs = []; layout = layout; limit = 100 } }
-    requires three { seat_count layout ≡ 3 }
+    requires three { actor_count layout ≡ 3 }
 {
     let Ok((host, mut seats)) = Host::<N>::open(alloc, blank, verified, &[], layout, 100) else {
         return None;
@@ -66,7 +66,7 @@ fn driven<R: Wait + Clock>(
 ) -> Option<(bool, bool, usize, Option<Said>)> {
     let verified = program(alloc, STORE_SEVEN)?;
     let layout = Layout::new(1, 1, 1).ok()?;
-    if seat_count(layout) != 3 {
+    if layout.actor_count() != 3 {
         return None;
     }
     let blank = Blank::new(3);

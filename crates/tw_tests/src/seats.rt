@@ -1,7 +1,7 @@
 //! A host that is turned from its seats in one thread.
 
 ghost use Rattle.std.specs.Prelude.{◌≡◌};
-ghost use Rattle.tw_host.specs.Seats.{seat_count};
+ghost use Rattle.tw_host.specs.Seats.{actor_count};
 ghost use Rattle.tw_host.specs.Tells.{IsDoneOf};
 
 use crate::programs::{STORE_SEVEN, TWO_LEAVES, has_just, program};
@@ -11,7 +11,7 @@ use std::marker::Brand;
 use std::sync::Wait;
 use std::sync::ledger::Blank;
 use tw_frame::Done;
-use tw_host::{Closed, Host, Named, Seat, seat_count};
+use tw_host::{Closed, Host, Named, Seat};
 use tw_pool::History;
 use tw_types::{Input, Layout};
 use tw_verify::Verified;
@@ -37,7 +37,7 @@ fn played_by<N: Named, P: Play, R: Wait>(
     limit: usize,
     play: &mut P,
 ) -> Option<Closed>
-    requires ledger { (blank.name ≡ N.name) × (blank.parts ≡ N.parts) × (blank.parts ≡ seat_count layout) }
+    requires ledger { (blank.name ≡ N.name) × (blank.parts ≡ N.parts) × (blank.parts ≡ actor_count layout) }
     requires run { N.run ≡ record { program = verified.now; inputs = inputs.now; layout = layout; limit = limit } }
 {
     let Ok((host, mut seats)) = Host::<N>::open(alloc, blank, verified, inputs, layout, limit)
@@ -56,7 +56,7 @@ pub fn played<P: Play, R: Wait>(
     layout: Layout,
     play: &mut P,
 ) -> Option<Closed> {
-    let blank = Blank::new(seat_count(layout) as u64);
+    let blank = Blank::new(layout.actor_count() as u64);
     played_by::<Brand, P, R>(rt, alloc, blank, verified, &[], layout, 100, play)
 }
 

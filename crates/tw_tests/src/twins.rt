@@ -11,7 +11,7 @@ use crate::turns::{Said, Table, over};
 use std::alloc::Global;
 use std::sync::Wait;
 use tw_frame::Done;
-use tw_host::{Closed, Host, Named, Seat, actor_at, seat_count};
+use tw_host::{Closed, Host, Named, Seat};
 use tw_pool::{Final, History};
 use tw_types::{Actor, Event, Layout, Value};
 
@@ -206,15 +206,15 @@ fn is_of(told: &[Event], history: &History, actor: Actor) -> bool {
 
 /// Whether the lists are each actor's events, in the order of the actors.
 fn are_by_seat(by_seat: &[Vec<Event>], history: &History, layout: Layout) -> bool {
-    for k in 0..seat_count(layout) {
+    for k in 0..layout.actor_count() {
         let Some(told) = by_seat.get(k) else {
             return false;
         };
-        if !is_of(told.as_slice(), history, actor_at(layout, k)) {
+        if !is_of(told.as_slice(), history, layout.actor_at(k)) {
             return false;
         }
     }
-    by_seat.len() == seat_count(layout)
+    by_seat.len() == layout.actor_count()
 }
 
 /// The number in the first output.

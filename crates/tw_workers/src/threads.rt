@@ -3,7 +3,7 @@
 ghost use Rattle.std.specs.Prelude.{◌≡◌, List, IfErr, IfOk, length, vec_len};
 ghost use Rattle.tw_pool.specs.Openings.{IsRefusal, MayOpen};
 ghost use Rattle.tw_host.specs.Ends.{Closes};
-ghost use Rattle.tw_host.specs.Seats.{Told, seat_count};
+ghost use Rattle.tw_host.specs.Seats.{Told, actor_count};
 
 use crate::driver::drive_lent;
 use crate::gate::Gate;
@@ -15,7 +15,7 @@ use std::sync::ledger::Blank;
 use std::thread;
 use std::thread::{SpawnError, Threads};
 use std::time::Clock;
-use tw_host::{Closed, Host, Named, Seat, seat_count};
+use tw_host::{Closed, Host, Named, Seat};
 use tw_pool::OpenRefusal;
 use tw_types::{Input, Layout};
 use tw_verify::Verified;
@@ -57,8 +57,8 @@ pub fn run_all<'a, N: Named + Send + Sync, G: Gate + Sync, R: Threads + Wait + C
     mut seats: Vec<Seat<N>>,
     gate: &G,
 ) -> (Closed, bool)
-    requires all { vec_len seats ≡ seat_count N.run.layout }
-    ensures { (seats : List Told) × (length seats ≡ seat_count N.run.layout) × Closes N.run seats result.0 }
+    requires all { vec_len seats ≡ actor_count N.run.layout }
+    ensures { (seats : List Told) × (length seats ≡ actor_count N.run.layout) × Closes N.run seats result.0 }
 {
     let memory = drive_all(rt, alloc, &host, seats.as_mut_slice(), gate);
     (host.close(seats), memory)
@@ -75,10 +75,10 @@ fn run_named<N: Named + Send + Sync, G: Gate + Sync, R: Threads + Wait + Clock +
     limit: usize,
     gate: &G,
 ) -> Result<(Closed, bool), OpenRefusal>
-    requires ledger { (blank.name ≡ N.name) × (blank.parts ≡ N.parts) × (blank.parts ≡ seat_count layout) }
+    requires ledger { (blank.name ≡ N.name) × (blank.parts ≡ N.parts) × (blank.parts ≡ actor_count layout) }
     requires run { N.run ≡ record { program = verified.now; inputs = inputs.now; layout = layout; limit = limit } }
     ensures allowed { IfOk result (λ _. MayOpen verified.now.program inputs.now layout limit) }
-    ensures closes { IfOk result (λ r. (seats : List Told) × (length seats ≡ seat_count layout) × Closes N.run seats r.0) }
+    ensures closes { IfOk result (λ r. (seats : List Told) × (length seats ≡ actor_count layout) × Closes N.run seats r.0) }
     ensures refused { IfErr result (IsRefusal verified.now.program inputs.now layout limit) }
 {
     let (host, seats) = Host::<N>::open(alloc, blank, verified, inputs, layout, limit)?;
@@ -96,9 +96,9 @@ pub fn run<G: Gate + Sync, R: Threads + Wait + Clock + Sync>(
     gate: &G,
 ) -> Result<(Closed, bool), OpenRefusal>
     ensures allowed { IfOk result (λ _. MayOpen verified.now.program inputs.now layout limit) }
-    ensures closes { IfOk result (λ r. (seats : List Told) × (length seats ≡ seat_count layout) × Closes (record { program = verified.now; inputs = inputs.now; layout = layout; limit = limit }) seats r.0) }
+    ensures closes { IfOk result (λ r. (seats : List Told) × (length seats ≡ actor_count layout) × Closes (record { program = verified.now; inputs = inputs.now; layout = layout; limit = limit }) seats r.0) }
     ensures refused { IfErr result (IsRefusal verified.now.program inputs.now layout limit) }
 {
-    let blank = Blank::new(seat_count(layout) as u64);
+    let blank = Blank::new(layout.actor_count() as u64);
     run_named::<Brand, G, R>(rt, alloc, blank, verified, inputs, layout, limit, gate)
 }

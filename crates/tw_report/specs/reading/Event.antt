@@ -1,6 +1,5 @@
 -- What words say, from left to right.
-use Rattle.std.specs.Prelude.{ℕ, Bool, true, false, ◌&&◌, ◌==◌, min, nat_lt, if◌then◌else◌, List, [], ◌∷◌, codes, Option, Some, None}
-use Rattle.std.specs.Char.{digit_value}
+use Rattle.std.specs.Prelude.{ℕ, ◌==◌, min, if◌then◌else◌, List, [], ◌∷◌, codes, Option, Some, None}
 use Rattle.std.specs.Option.{option_and_then, option_map, option_or}
 use Rattle.std.specs.Str.{bytes_eq}
 use Rattle.std.specs.Str.Parse.{digits_value}
@@ -8,19 +7,9 @@ use Rattle.tw_types.specs.declared.actor.Actor.{Actor}
 use Rattle.tw_types.specs.declared.actor.Actor.TheVariants.{Engine, Server, Worker}
 use Rattle.tw_types.specs.declared.event.Event.{Event}
 use Rattle.tw_types.specs.declared.event.Event.TheVariants.{Take, Local, Call, End, Ask, Deliver, Release}
+use Rattle.tw_words.specs.reading.Digits.{are_digits, is_within}
 
 -- ---- one word
-
-abbrev pub all_digits : List ℕ → Bool
-all_digits [] = true
-all_digits (d ∷ ds) = nat_lt (digit_value d) 10 && all_digits ds
-
-abbrev pub are_digits : List ℕ → Bool
-are_digits [] = false
-are_digits (d ∷ ds) = all_digits (d ∷ ds)
-
-abbrev pub is_within : ℕ → ℕ → ℕ → Bool
-is_within low high n = if nat_lt n low then false else if nat_lt high n then false else true
 
 -- the number between these limits
 unfoldable pub number_in : ℕ → ℕ → List ℕ → Option ℕ

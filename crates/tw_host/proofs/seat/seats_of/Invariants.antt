@@ -1,14 +1,14 @@
 use Rattle.std.proofs.Common.{◌≡◌, ◌+◌, ◌≤◌, [], map, vec_len, vec_capacity}
 use Rattle.std.specs.List.{range_with_len}
-use Rattle.tw_host.specs.Seats.{actor_at, seat_count}
+use Rattle.tw_host.specs.Seats.{actor_at, actor_count}
 use Rattle.tw_host.proofs.seat.seats_of.Given as goal
 
 abbrev pub invariant-loop-seat : goal.invariant-loop-seat
 invariant-loop-seat g l = record {
-  parts : l.all.parts + l.seat ≡ seat_count l.layout;
+  parts : l.all.parts + l.seat ≡ actor_count l.layout;
   amount : l.all.amount ≡ 0;
   len : vec_len l.seats ≡ l.seat;
-  room : seat_count l.layout ≤ vec_capacity l.seats;
+  room : actor_count l.layout ≤ vec_capacity l.seats;
   actors : map (λ s. s.actor) l.seats.items ≡ map (actor_at l.layout) (range_with_len 0 l.seat);
   told : map (λ s. s.told.items) l.seats.items ≡ map (λ _. []) (map (actor_at l.layout) (range_with_len 0 l.seat));
 }
