@@ -3,15 +3,14 @@ use Rattle.std.proofs.Common.{◌≡◌, ℕ, List, [], ◌∷◌, ◌++◌, map
 use Rattle.std.specs.List.{AllByRecursion, flat_map}
 use Rattle.tw_code.specs.declared.instr.Instr.{Instr}
 use Rattle.tw_code.specs.declared.version.Version.{Version}
-use Rattle.tw_code.specs.format.Reading.{has_code}
-use Rattle.tw_code.specs.format.Table.{code_of}
+use Rattle.tw_code.specs.format.Table.{has_opcode}
 use Rattle.tw_words.specs.Words.{Word, Bare}
 use Rattle.tw_asm.proofs.Colons.{before}
 use Rattle.tw_asm.proofs.Lined.{Had, HasLine, MayLine, found, goals_by, label_named, line_had, line_read, parts_may, parts_of, spelled, unnumbered}
 use Rattle.tw_asm.proofs.OperandWords.{IsFine}
 use Rattle.tw_asm.proofs.Readings.{Reads}
 use Rattle.tw_asm.proofs.Spelled.{bare_is, parts_more}
-use Rattle.tw_asm.proofs.Table.{code_had, draft_is, found_back, had_made, instr_of, line_of, made, made_had, named_in, no_colon, parts_are, row_opcode, within, within_back}
+use Rattle.tw_asm.proofs.Table.{draft_is, found_back, had_made, instr_of, line_of, made, made_had, named_in, no_colon, parts_are, row_opcode, within, within_back}
 use Rattle.tw_asm.specs.Parts.{Part, Name, Natural, instr_parts, kind_word, param_parts, register_part}
 use Rattle.tw_asm.specs.Seen.{IsRead, NoName, OnlyName, Read}
 use Rattle.tw_asm.specs.LineAnswers.{IsFlawed}
@@ -69,7 +68,7 @@ module _ (version : Version) (G : Goals) where
       → SpellParts G (instr_parts (instr_of version p x)) (Bare word ∷ ws) → IsCode version G o ws (Code (instr_of version p x))
   code_parts o p x word ws is had h =
       let k = first_is G (word_of p) (parts_of (line_of version p) x) (Bare word) ws (subst (λ (ps : List Part). SpellParts G ps (Bare word ∷ ws)) (parts_are version p x) h) in
-      let has : has_code version (code_of p) ≡ true = ap (λ (q : Opcode). has_code version (code_of q)) (sym (row_opcode version p x)) ∙ code_had version (instr_of version p x) had in
+      let has : has_opcode version p ≡ true = ap (has_opcode version) (sym (row_opcode version p x)) ∙ had.0 in
       let same : p ≡ o = one_code p o (sym (ap (opcode_in version) (bare_is word (word_of p) k.0) ∙ named_in version p has) ∙ is) in
       at p o same x k.1 (had_made version p x had)
     where

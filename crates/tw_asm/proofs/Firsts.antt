@@ -6,14 +6,14 @@ use Rattle.std.specs.Option.{is_some}
 use Rattle.std.proofs.lemmas.List.{append_cancel_right}
 use Rattle.tw_asm.proofs.Lined.{Had, parts_of}
 use Rattle.tw_asm.proofs.Names.{name_decide}
-use Rattle.tw_asm.proofs.Table.{code_had, found_back, instr_of, line_of, made_had, named_in, parts_are}
+use Rattle.tw_asm.proofs.Table.{found_back, instr_of, is_sayable, line_of, made_had, named_in, parts_are, sayable, unsayable}
 use Rattle.tw_asm.specs.Parts.{Part, Name, operand_parts}
 use Rattle.tw_asm.specs.Statement.{IsInstrWord, IsLabelWord, IsName}
 use Rattle.tw_code.specs.declared.opcode.Opcode.{Opcode}
 use Rattle.tw_code.specs.declared.version.Version.{Version}
 use Rattle.tw_code.specs.format.Table.{row}
 use Rattle.tw_asm.specs.Names.{word_of}
-use Rattle.tw_asm.specs.reading.Lines.{Content, Line, LineContent, Operand, args, goal, literal, more, natural, nothing, number, one, opcode_in, right, target, type, value}
+use Rattle.tw_asm.specs.reading.Lines.{Content, Line, LineContent, Operand, args, goal, literal, more, natural, never, nothing, number, opcode_in, right, target, type, value}
 use Rattle.tw_asm.specs.reading.Operands.{further, is_name}
 use Rattle.tw_types.specs.DataType.{scalar_type}
 use Rattle.tw_types.specs.declared.data_type.Scalar.TheVariants.{Int}
@@ -37,21 +37,21 @@ some_operand (natural low high) = 0
 some_operand literal = []
 some_operand target = None
 
-abbrev some_content : (l : Line) → LineContent l
-some_content nothing = tt
-some_content (one o) = some_operand o
-some_content goal = further 0
-some_content (type version) = scalar_type Int
-some_content args = []
-some_content (more o l) = (some_operand o, some_content l)
+abbrev some_content : (l : Line) → is_sayable l ≡ true → LineContent l
+some_content nothing s = tt
+some_content goal s = further 0
+some_content (type version) s = scalar_type Int
+some_content args s = []
+some_content (more o l) s = (some_operand o, some_content l s)
+some_content never s = absurd (unsayable s)
 
-some_had : (l : Line) → Had l (some_content l)
-some_had nothing = tt
-some_had (one o) = tt
-some_had goal = tt
-some_had (type version) = tt
-some_had args = tt
-some_had (more o l) = some_had l
+some_had : (l : Line) (s : is_sayable l ≡ true) → Had l (some_content l s)
+some_had nothing s = tt
+some_had goal s = (tt, tt)
+some_had (type version) s = (tt, tt)
+some_had args s = (tt, tt)
+some_had (more o l) s = (tt, some_had l s)
+some_had never s = tt
 
 pub named_word : (version : Version) (word : List ℕ) (r : Bool) → r ≡ is_some (opcode_in version word) → IsTrue r ↔ IsInstrWord version word
 named_word version word r is = (λ t. there (opcode_in version word) refl (sym is ∙ t), λ h. is ∙ back h)
@@ -62,18 +62,18 @@ named_word version word r is = (λ t. there (opcode_in version word) refl (sym i
         no : false ≡ true → ⊥
         no t = cc
     there (Some o) e t =
-        let x = some_content (line_of version o) in
+        let x = some_content (line_of version o) (sayable version o) in
         let name = found_back version word o e in (
           instr_of version o x,
           parts_of (line_of version o) x,
-          made_had version o x name.1 (some_had (line_of version o)),
+          made_had version o x name.1 (some_had (line_of version o) (sayable version o)),
           parts_are version o x ∙ ap (λ (name : List ℕ). Name name ∷ parts_of (line_of version o) x) (sym name.0),
         )
 
     back : IsInstrWord version word → is_some (opcode_in version word) ≡ true
     back (i, operands, had, e) =
         let same : word ≡ word_of (row i).0 = one_name word (word_of (row i).0) operands (flat_map operand_parts (row i).1) (sym e) in
-        ap (λ (name : List ℕ). is_some (opcode_in version name)) same ∙ ap (λ (found : Option Opcode). is_some found) (named_in version (row i).0 (code_had version i had))
+        ap (λ (name : List ℕ). is_some (opcode_in version name)) same ∙ ap (λ (found : Option Opcode). is_some found) (named_in version (row i).0 had.0)
       where
         one_name : (a b : List ℕ) (ps qs : List Part) → Name a ∷ ps ≡ Name b ∷ qs → a ≡ b
         one_name a b ps qs e = cc

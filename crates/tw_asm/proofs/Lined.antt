@@ -12,7 +12,7 @@ use Rattle.tw_asm.proofs.Versions.{any_type}
 use Rattle.tw_asm.specs.Parts.{Part, Natural, TypeOf, Skip}
 use Rattle.tw_asm.specs.Seen.{NoName, OnlyName}
 use Rattle.tw_asm.specs.Statement.{Goals, HasType, IsName, SpellParts, SpellsPart, SpellsWith}
-use Rattle.tw_asm.specs.reading.Lines.{Content, Line, LineContent, Operand, args, each, goal, label_in, line_in, literal, more, natural, nothing, number, one, right, target, type, value}
+use Rattle.tw_asm.specs.reading.Lines.{Content, Line, LineContent, Operand, args, each, goal, label_in, line_in, literal, more, natural, never, nothing, number, right, target, type, value}
 use Rattle.tw_asm.specs.reading.Operands.{at_label, further, natural_in}
 
 abbrev pub IsArg : Word → ℕ → Type 0
@@ -21,9 +21,6 @@ IsArg w n = SpellsWith [] n (w ∷ [])
 abbrev pub HasLine : (l : Line) → List Word → LineContent l → Type 0
 HasLine nothing [] x = Unit {0}
 HasLine nothing (w ∷ ws) x = ⊥
-HasLine (one o) [] x = ⊥
-HasLine (one o) (w ∷ []) x = Has o w x
-HasLine (one o) (w ∷ v ∷ ws) x = ⊥
 HasLine goal [] x = ⊥
 HasLine goal (w ∷ []) x = HasGoal w x.skip x.label
 HasLine goal (w ∷ v ∷ ws) x = ⊥
@@ -31,21 +28,19 @@ HasLine (type version) ws x = IsTypeIn version ws x
 HasLine args ws x = HaveEach IsArg ws x
 HasLine (more o l) [] x = ⊥
 HasLine (more o l) (w ∷ ws) x = Has o w x.0 × HasLine l ws x.1
+HasLine never ws x = ⊥
 
 abbrev pub MayLine : (l : Line) → LineContent l → Type 0
 MayLine nothing x = Unit {0}
-MayLine (one o) x = May o x
 MayLine goal x = MayGoal x.skip x.label
 MayLine (type version) x = IsShallow x
 MayLine args x = IsList 0 8 IsRegister x
 MayLine (more o l) x = May o x.0 × MayLine l x.1
+MayLine never x = Unit {0}
 
 pub line_read : (l : Line) (ws : List Word) → AllByRecursion IsFine ws → Reads (HasLine l ws) (MayLine l) (line_in l ws)
 line_read nothing [] fine = (tt, tt)
 line_read nothing (w ∷ ws) fine = λ x h. h
-line_read (one o) [] fine = λ x h. h
-line_read (one o) (w ∷ []) fine = operand_read o w fine.0
-line_read (one o) (w ∷ v ∷ ws) fine = λ x h. h
 line_read goal [] fine = λ x h. h
 line_read goal (w ∷ []) fine = goal_read w
 line_read goal (w ∷ v ∷ ws) fine = λ x h. h
@@ -55,43 +50,44 @@ line_read args ws fine =
     (each_read IsArg IsRegister (natural_in 0 15) (λ w. natural_read 0 15 w) ws)
 line_read (more o l) [] fine = λ x h. h
 line_read (more o l) (w ∷ ws) fine = both_read (Has o w) (May o) (HasLine l ws) (MayLine l) _ (line_in l ws) (operand_read o w fine.0) (line_read l ws fine.1)
+line_read never ws fine = λ x h. h
 
 -- ---- parts
 
 abbrev pub parts_of : (l : Line) → LineContent l → List Part
 parts_of nothing x = []
-parts_of (one o) x = part_of o x ∷ []
 parts_of goal x = Skip x.skip ∷ []
 parts_of (type version) x = TypeOf x ∷ []
 parts_of args x = map Natural x
 parts_of (more o l) x = part_of o x.0 ∷ parts_of l x.1
+parts_of never x = []
 
 -- the limits but for names
 abbrev pub MayParts : (l : Line) → LineContent l → Type 0
 MayParts nothing x = Unit {0}
-MayParts (one o) x = May o x
-MayParts goal x = IsSkip x.skip
-MayParts (type version) x = IsTypeOf Two x
-MayParts args x = IsList 0 8 IsRegister x
+MayParts goal x = IsSkip x.skip × Unit {0}
+MayParts (type version) x = IsTypeOf Two x × Unit {0}
+MayParts args x = IsList 0 8 IsRegister x × Unit {0}
 MayParts (more o l) x = May o x.0 × MayParts l x.1
+MayParts never x = Unit {0}
 
 -- what is read as a type, the version has
 abbrev pub Had : (l : Line) → LineContent l → Type 0
 Had nothing x = Unit {0}
-Had (one o) x = Unit {0}
-Had goal x = Unit {0}
-Had (type version) x = HasType version x
-Had args x = Unit {0}
-Had (more o l) x = Had l x.1
+Had goal x = Unit {0} × Unit {0}
+Had (type version) x = HasType version x × Unit {0}
+Had args x = Unit {0} × Unit {0}
+Had (more o l) x = Unit {0} × Had l x.1
+Had never x = Unit {0}
 
 pub line_had : (l : Line) (ws : List Word) (x : LineContent l) → HasLine l ws x → Had l x
 line_had nothing ws x h = tt
-line_had (one o) ws x h = tt
-line_had goal ws x h = tt
-line_had (type version) ws x h = h.1
-line_had args ws x h = tt
+line_had goal ws x h = (tt, tt)
+line_had (type version) ws x h = (h.1, tt)
+line_had args ws x h = (tt, tt)
 line_had (more o l) [] x h = absurd h
-line_had (more o l) (w ∷ ws) x h = line_had l ws x.1 h.1
+line_had (more o l) (w ∷ ws) x h = (tt, line_had l ws x.1 h.1)
+line_had never ws x h = tt
 
 abbrev pub goals_by : Option (List ℕ) → Goals
 goals_by None = NoName
@@ -134,9 +130,6 @@ goal_up w skip (Some name) (z, is_name, e) = (w ∷ [], [], refl, inr (name, (z,
 pub spelled : (l : Line) (ws : List Word) (x : LineContent l) → HasLine l ws x → SpellParts (goals_by (label_in l x)) (parts_of l x) ws
 spelled nothing [] x h = refl
 spelled nothing (w ∷ ws) x h = absurd h
-spelled (one o) [] x h = absurd h
-spelled (one o) (w ∷ []) x h = (w ∷ [], [], refl, h, refl)
-spelled (one o) (w ∷ v ∷ ws) x h = absurd h
 spelled goal [] x h = absurd h
 spelled goal (w ∷ []) x h = goal_up w x.skip x.label h
 spelled goal (w ∷ v ∷ ws) x h = absurd h
@@ -144,6 +137,7 @@ spelled (type version) ws x h = (ws, [], append_nil ws, h.0, refl)
 spelled args ws x h = args_up NoName ws x h
 spelled (more o l) [] x h = absurd h
 spelled (more o l) (w ∷ ws) x h = (w ∷ [], ws, refl, plain o x.0 NoName (goals_by (label_in l x.1)) (w ∷ []) h.0, spelled l ws x.1 h.1)
+spelled never ws x h = absurd h
 
 -- ---- and back
 
@@ -182,7 +176,7 @@ module _ (G : Goals) (names : (skip : ℕ) (name : List ℕ) → G skip name →
 
   goal_down : (ws : List Word) (skip : ℕ) (first others : List Word) → ws ≡ first ++ others → SpellsPart G (Skip skip) first → others ≡ [] → (label : Option (List ℕ)) → Found goal ws (record { skip = skip; label = label })
   goal_down ws skip first others cut (inl h) none label =
-      at_first goal (record { skip = skip; label = label }) (Bare (codes "+" ++ h.0)) first others ws cut h.2 none (further skip, (h.0, h.1, refl), λ short m. m)
+      at_first goal (record { skip = skip; label = label }) (Bare (codes "+" ++ h.0)) first others ws cut h.2 none (further skip, (h.0, h.1, refl), λ short m. m.0)
   goal_down ws skip first others cut (inr h) none label =
       at_first goal (record { skip = skip; label = label }) (Bare h.0) first others ws cut h.2 none (at_label h.0, (refl, names skip h.0 h.1, refl), λ short m. short skip h.0 h.1)
 
@@ -192,19 +186,17 @@ module _ (G : Goals) (names : (skip : ℕ) (name : List ℕ) → G skip name →
     where
       some : w ∷ ws ≡ [] → ⊥
       some e = cc
-  found (one o) ws x had (first, others, cut, h, none) =
-      let w = word_alone o x G first h in
-      at_first (one o) x w.0 first others ws cut w.1 none (x, plain o x G NoName (w.0 ∷ []) (subst (SpellsPart G (part_of o x)) w.1 h), λ _ m. m)
   found goal ws x had (first, others, cut, h, none) = goal_down ws x.skip first others cut h none x.label
   found (type version) ws x had (first, others, cut, h, none) =
       let whole : ws ≡ first = cut ∙ (ap (λ (vs : List Word). first ++ vs) none ∙ sym (append_nil first)) in
-      (x, (whole ∙ h, had), λ _ m. m.0)
-  found args ws x had h = (x, args_down ws x h, λ _ m. m)
+      (x, (whole ∙ h, had.0), λ _ m. m.0.0)
+  found args ws x had h = (x, args_down ws x h, λ _ m. m.0)
   found (more o l) ws x had (first, others, cut, h, rest) =
       let w = word_alone o x.0 G first h in
-      let y = found l others x.1 had rest in
+      let y = found l others x.1 had.1 rest in
       subst (λ (vs : List Word). Found (more o l) vs x) (sym (cut ∙ ap (λ (vs : List Word). vs ++ others) w.1))
       ((x.0, y.0), (plain o x.0 G NoName (w.0 ∷ []) (subst (SpellsPart G (part_of o x.0)) w.1 h), y.1), λ short m. (m.0, y.2 short m.1))
+  found never ws x had h = absurd x
 
 -- a line that names a label has no number of instructions
 goal_named : (w : Word) (skip other : ℕ) (label : Option (List ℕ)) (name : List ℕ) → HasGoal w skip label → label ≡ Some name → SpellParts (λ _ _. ⊥) (Skip other ∷ []) (w ∷ []) → ⊥
@@ -230,10 +222,6 @@ unnumbered nothing ws x y name h e s = none e
   where
     none : None ≡ Some name → ⊥
     none e = cc
-unnumbered (one o) ws x y name h e s = none e
-  where
-    none : None ≡ Some name → ⊥
-    none e = cc
 unnumbered goal [] x y name h e s = h
 unnumbered goal (w ∷ []) x y name h e s = goal_named w x.skip y.skip x.label name h e s
 unnumbered goal (w ∷ v ∷ ws) x y name h e s = h
@@ -252,30 +240,27 @@ unnumbered (more o l) (w ∷ ws) x y name h e (first, others, cut, k, rest) =
   where
     tail_is : {v : Word} {vs : List Word} → w ∷ ws ≡ v ∷ vs → ws ≡ vs
     tail_is e = cc
+unnumbered never ws x y name h e s = h
 
 -- what is read within the limits has its parts within theirs
 pub parts_may : (l : Line) (ws : List Word) (x : LineContent l) → HasLine l ws x → MayLine l x → MayParts l x
 parts_may nothing ws x h m = tt
-parts_may (one o) ws x h m = m
 parts_may goal [] x h m = absurd h
-parts_may goal (w ∷ []) x h m = by x.skip x.label h m
+parts_may goal (w ∷ []) x h m = (by x.skip x.label h m, tt)
   where
     by : (skip : ℕ) (label : Option (List ℕ)) → HasGoal w skip label → MayGoal skip label → IsSkip skip
     by skip None h m = m
     by skip (Some name) h m = (omega arith, omega (arith, h.0))
 parts_may goal (w ∷ v ∷ ws) x h m = absurd h
-parts_may (type version) ws x h m = (m, any_type x.containers)
-parts_may args ws x h m = m
+parts_may (type version) ws x h m = ((m, any_type x.containers), tt)
+parts_may args ws x h m = (m, tt)
 parts_may (more o l) [] x h m = absurd h
 parts_may (more o l) (w ∷ ws) x h m = (m.0, parts_may l ws x.1 h.1 m.1)
+parts_may never ws x h m = tt
 
 -- a label that is read is a name, and short within the limits
 pub label_named : (l : Line) (ws : List Word) (x : LineContent l) (name : List ℕ) → HasLine l ws x → label_in l x ≡ Some name → IsName name × (MayLine l x → length name ≤ 64)
 label_named nothing ws x name h e = absurd (none e)
-  where
-    none : None ≡ Some name → ⊥
-    none e = cc
-label_named (one o) ws x name h e = absurd (none e)
   where
     none : None ≡ Some name → ⊥
     none e = cc
@@ -302,3 +287,4 @@ label_named args ws x name h e = absurd (none e)
     none e = cc
 label_named (more o l) [] x name h e = absurd h
 label_named (more o l) (w ∷ ws) x name h e = let k = label_named l ws x.1 name h.1 e in (k.0, λ m. k.1 m.1)
+label_named never ws x name h e = absurd h

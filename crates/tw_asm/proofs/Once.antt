@@ -1,13 +1,15 @@
 -- Words spell one statement alone, and its first word says which sort of statement it is.
 use Rattle.std.proofs.Common.{◌≡◌, inl, inr, ℕ, Bool, true, List, [], ◌∷◌, ◌++◌, map, codes, Some, None, refl, sym, ap, subst, ◌∙◌}
 use Rattle.std.specs.Prelude.{if◌then◌else◌, ◌==◌}
-use Rattle.std.specs.List.{flat_map}
+use Rattle.std.specs.List.{AllByRecursion, flat_map}
 use Rattle.std.proofs.lemmas.List.{append_cancel_right}
-use Rattle.tw_code.specs.declared.instr.DataInstr.{DataInstr}
-use Rattle.tw_code.specs.declared.instr.DataInstr.TheVariants as on_data
+use Rattle.tw_code.specs.declared.form.Form.{Form}
+use Rattle.tw_code.specs.declared.form.Form.TheVariants as form
 use Rattle.tw_code.specs.declared.instr.Instr.{Instr}
-use Rattle.tw_code.specs.declared.instr.Instr.TheVariants as instr
+use Rattle.tw_code.specs.declared.opcode.Opcode.{Opcode}
 use Rattle.tw_code.specs.declared.version.Version.{Version}
+use Rattle.tw_code.specs.format.Table.{Operand, has_opcode, holds}
+use Rattle.tw_code.specs.format.Table as table
 use Rattle.tw_words.specs.Words.{Word, Bare}
 use Rattle.tw_types.specs.declared.actor.Kind.{Kind}
 use Rattle.tw_types.specs.declared.actor.Kind.TheVariants.{Control, Leaf}
@@ -17,11 +19,11 @@ use Rattle.tw_types.specs.declared.param.Mode.{Mode}
 use Rattle.tw_types.specs.declared.param.Mode.TheVariants.{Val, Closed, Ref, Write}
 use Rattle.tw_types.specs.declared.param.Param.{Param}
 use Rattle.tw_asm.specs.Parts.{Part, Name, Natural, TypeOf, head_parts, instr_parts, kind_word, mode_word, param_parts, register_part, registers_parts, scalar_word, version_parts}
-use Rattle.tw_asm.specs.Seen.{IsRead, NoName, OnlyName, data_with_skip, with_skip}
-use Rattle.tw_asm.specs.Statement.{Code, Goals, HasDataInstr, HasForm, HasInstr, Head, IsExpected, Label, OfVersion, Registers, SpellParts, Spells, Statement, statement_parts}
+use Rattle.tw_asm.specs.Seen.{IsRead, NoName, OnlyName, with_skip}
+use Rattle.tw_asm.specs.Statement.{Code, Goals, HasForm, HasInstr, HasOperand, Head, IsExpected, Label, OfVersion, Registers, SpellParts, Spells, Statement, statement_parts}
 use Rattle.tw_asm.specs.declared.statement.First.{First}
 use Rattle.tw_asm.specs.declared.statement.First.TheVariants as first
-use Rattle.tw_asm.proofs.Rows.{AreAlike, alike_by_sorts, behind_first, class_of_word, different, ends_in_colon, first_name, have_sorts, name_of, operands_of, row, row_among, rows, same}
+use Rattle.tw_asm.proofs.Rows.{AreAlike, alike_by_sorts, behind_first, class_of_word, different, ends_in_colon, first_name, have_sorts, name_of, operands_of, others, reskip_operand, row, row_among, rows, same}
 use Rattle.tw_asm.proofs.Spelled.{AreNames, ByName, Resolved, all_tied, as_is, bare_is, by_name, cons_is, named, parts_more, resolved, tied_are, unnamed, with_goal}
 
 -- ---- what a statement's parts are of
@@ -214,14 +216,14 @@ no_names skip name h = absurd h
 pub spells_more : {version : Version} (a b : Goals) → ((skip : ℕ) (name : List ℕ) → a skip name → b skip name) → (s : Statement) (words : List Word) → Spells version a s words → Spells version b s words
 spells_more a b more s words h = record { form = h.form; parts = parts_more a b more (statement_parts s) words h.parts }
 
-data_had_still : (version : Version) (skip : ℕ) (i : DataInstr) → HasDataInstr version i → HasDataInstr version (data_with_skip skip i)
-data_had_still version skip (on_data.Insert by container subscript member old) h = h
-data_had_still version skip i h = h
+operands_had_still : (version : Version) (skip : ℕ) (os : List Operand) → AllByRecursion (HasOperand version) os → AllByRecursion (HasOperand version) (map (reskip_operand skip) os)
+operands_had_still version skip [] h = tt
+operands_had_still version skip ((holds form.Skip old) ∷ os) h = (tt, operands_had_still version skip os h.1)
+operands_had_still version skip (o ∷ os) h = (h.0, operands_had_still version skip os h.1)
 
 pub had_still : (version : Version) (skip : ℕ) (i : Instr) → HasInstr version i → HasInstr version (with_skip skip i)
-had_still version skip (instr.Local i) h = tt
-had_still version skip (instr.Data i) h = data_had_still version skip i h
-had_still version skip i h = h
+had_still version skip i h =
+    subst (λ (r : Opcode × List Operand). (has_opcode version r.0 ≡ true) × AllByRecursion (HasOperand version) r.1) (sym (others skip i)) (h.0, operands_had_still version skip (table.row i).1 h.1)
 
 -- an instruction that names a label, with the skip for which that stands
 pub resolved_spells : (version : Version) (goals : Goals) (name : List ℕ) (skip : ℕ) (i : Instr) (words : List Word) → IsRead version (record { statement = Code i; goal = Some name }) words → goals skip name

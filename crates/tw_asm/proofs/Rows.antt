@@ -1,9 +1,10 @@
--- The table of instructions once more, row by row: which sorts of parts follow a name, and which instruction they make. So
--- what holds of each instruction's parts is gone through once, in `row`.
+-- The table of instructions as parts see it: which sorts of parts follow a name, and which instruction they make. So what holds of
+-- each instruction's parts is gone through once, in `row`.
 use Rattle.std.proofs.Common.{◌≡◌, ◌==◌, ◌⊎◌, inl, inr, ℕ, zero, suc, ℤ, pos, Bool, true, false, List, [], ◌∷◌, ◌++◌, map, codes, Option, None, refl, sym, ap, ◌∙◌, eq-eqb}
 use Rattle.std.specs.Prelude.{◌&&◌, if◌then◌else◌}
 use Rattle.std.proofs.lemmas.Bool.{eqb-true}
-use Rattle.tw_code.specs.declared.instr.Action.{Action}
+use Rattle.tw_code.specs.declared.form.Form.{Form}
+use Rattle.tw_code.specs.declared.form.Form.TheVariants as form
 use Rattle.tw_code.specs.declared.instr.Arithmetic.{Arithmetic}
 use Rattle.tw_code.specs.declared.instr.Arithmetic.TheVariants.{Add, Subtract, Multiply, Divide, Remainder}
 use Rattle.tw_code.specs.declared.instr.DataInstr.{DataInstr}
@@ -14,6 +15,13 @@ use Rattle.tw_code.specs.declared.instr.LocalInstr.{LocalInstr}
 use Rattle.tw_code.specs.declared.instr.LocalInstr.TheVariants as local
 use Rattle.tw_code.specs.declared.instr.Priority.{Priority}
 use Rattle.tw_code.specs.declared.instr.Priority.TheVariants.{Constant, Computed}
+use Rattle.tw_code.specs.declared.opcode.Opcode.{Opcode}
+use Rattle.tw_code.specs.declared.opcode.Opcode.TheVariants as op
+use Rattle.tw_code.specs.declared.opcode.TheConstants.{OPCODES}
+use Rattle.tw_code.specs.format.Table.{Contents, Operand, forms_of, holds}
+use Rattle.tw_code.specs.format.Table as table
+use Rattle.tw_code.proofs.TableRows.{instr_of}
+use Rattle.tw_asm.specs.Names.{word_of}
 use Rattle.tw_types.specs.DataType.{scalar_type}
 use Rattle.tw_types.specs.Nesting.{NestedScalar}
 use Rattle.tw_types.specs.declared.data_type.Scalar.TheVariants.{Int, Text}
@@ -99,69 +107,58 @@ abbrev target_in : Part → Option ℕ
 target_in (Target target) = target
 target_in part = None
 
-abbrev at : List Part → ℕ → Part
-at [] k = Natural 0
-at (part ∷ parts) zero = part
-at (part ∷ parts) (suc k) = at parts k
-
-abbrev behind_three : List Part → List Part
-behind_three (a ∷ b ∷ c ∷ parts) = parts
-behind_three parts = []
-
-abbrev priority_in : Part → Priority
-priority_in (Number number) = Constant number
-priority_in (Value register) = Computed register
-priority_in part = Constant (pos 0)
-
-abbrev action_from : List Part → Action
-action_from parts = record { procedure = size (at parts 0); priority = priority_in (at parts 1); target = target_in (at parts 2); args = map size (behind_three parts) }
-
 -- ---- the rows
+
+-- the sort of an operand's part
+abbrev sort_in : Form → ℕ
+sort_in form.Value = 1
+sort_in form.Right = 2
+sort_in form.Number = 3
+sort_in form.Turns = 4
+sort_in form.Literal = 5
+sort_in form.TypeOf = 6
+sort_in form.Skip = 7
+sort_in form.Callee = 4
+sort_in form.Target = 8
+sort_in form.Args = 4
+
+-- those of arguments are numbers without sign
+abbrev sorts_in : List Form → List ℕ
+sorts_in [] = []
+sorts_in (form.Args ∷ fs) = []
+sorts_in (f ∷ fs) = sort_in f ∷ sorts_in fs
+
+abbrev part_in : List Part → Part
+part_in [] = Natural 0
+part_in (part ∷ parts) = part
+
+abbrev parts_behind : List Part → List Part
+parts_behind [] = []
+parts_behind (part ∷ parts) = parts
+
+abbrev contents_in : (fs : List Form) → List Part → Contents fs
+contents_in [] parts = tt
+contents_in (form.Value ∷ fs) parts = (size (part_in parts), contents_in fs (parts_behind parts))
+contents_in (form.Right ∷ fs) parts = (size (part_in parts), contents_in fs (parts_behind parts))
+contents_in (form.Number ∷ fs) parts = (signed (part_in parts), contents_in fs (parts_behind parts))
+contents_in (form.Turns ∷ fs) parts = (size (part_in parts), contents_in fs (parts_behind parts))
+contents_in (form.Literal ∷ fs) parts = (text (part_in parts), contents_in fs (parts_behind parts))
+contents_in (form.TypeOf ∷ fs) parts = (type_in (part_in parts), contents_in fs (parts_behind parts))
+contents_in (form.Skip ∷ fs) parts = (size (part_in parts), contents_in fs (parts_behind parts))
+contents_in (form.Callee ∷ fs) parts = (size (part_in parts), contents_in fs (parts_behind parts))
+contents_in (form.Target ∷ fs) parts = (target_in (part_in parts), contents_in fs (parts_behind parts))
+contents_in (form.Args ∷ fs) parts = (map size parts, contents_in fs [])
 
 pub record Row : Type 0 where
   pub name : List ℕ
   pub sorts : List ℕ
   pub make : List Part → Instr
 
+abbrev row_by : Opcode → Row
+row_by o = record { name = word_of o; sorts = sorts_in (forms_of o); make = λ parts. instr_of o (contents_in (forms_of o) parts) }
+
 abbrev pub rows : List Row
-rows =
-    record { name = codes "INT"; sorts = 1 ∷ 3 ∷ []; make = λ parts. instr.Local (local.Int (size (at parts 0)) (signed (at parts 1))) } ∷
-    record { name = codes "TEXT"; sorts = 1 ∷ 5 ∷ []; make = λ parts. instr.Local (local.Text (size (at parts 0)) (text (at parts 1))) } ∷
-    record { name = codes "COPY"; sorts = 1 ∷ 1 ∷ []; make = λ parts. instr.Local (local.Copy (size (at parts 0)) (size (at parts 1))) } ∷
-    record { name = codes "ADD"; sorts = 1 ∷ 1 ∷ 1 ∷ 7 ∷ []; make = λ parts. instr.Local (local.Compute Add (size (at parts 0)) (size (at parts 1)) (size (at parts 2)) (size (at parts 3))) } ∷
-    record { name = codes "SUB"; sorts = 1 ∷ 1 ∷ 1 ∷ 7 ∷ []; make = λ parts. instr.Local (local.Compute Subtract (size (at parts 0)) (size (at parts 1)) (size (at parts 2)) (size (at parts 3))) } ∷
-    record { name = codes "MUL"; sorts = 1 ∷ 1 ∷ 1 ∷ 7 ∷ []; make = λ parts. instr.Local (local.Compute Multiply (size (at parts 0)) (size (at parts 1)) (size (at parts 2)) (size (at parts 3))) } ∷
-    record { name = codes "DIV"; sorts = 1 ∷ 1 ∷ 1 ∷ 7 ∷ []; make = λ parts. instr.Local (local.Compute Divide (size (at parts 0)) (size (at parts 1)) (size (at parts 2)) (size (at parts 3))) } ∷
-    record { name = codes "REM"; sorts = 1 ∷ 1 ∷ 1 ∷ 7 ∷ []; make = λ parts. instr.Local (local.Compute Remainder (size (at parts 0)) (size (at parts 1)) (size (at parts 2)) (size (at parts 3))) } ∷
-    record { name = codes "CAT"; sorts = 1 ∷ 1 ∷ 1 ∷ 7 ∷ []; make = λ parts. instr.Local (local.Concatenate (size (at parts 0)) (size (at parts 1)) (size (at parts 2)) (size (at parts 3))) } ∷
-    record { name = codes "LEN"; sorts = 1 ∷ 1 ∷ []; make = λ parts. instr.Local (local.Length (size (at parts 0)) (size (at parts 1))) } ∷
-    record { name = codes "SHOW"; sorts = 1 ∷ 1 ∷ []; make = λ parts. instr.Local (local.Show (size (at parts 0)) (size (at parts 1))) } ∷
-    record { name = codes "READI"; sorts = 1 ∷ 1 ∷ 7 ∷ []; make = λ parts. instr.Local (local.ReadInt (size (at parts 0)) (size (at parts 1)) (size (at parts 2))) } ∷
-    record { name = codes "JMP"; sorts = 7 ∷ []; make = λ parts. instr.Local (local.Jump (size (at parts 0))) } ∷
-    record { name = codes "JEQ"; sorts = 1 ∷ 1 ∷ 7 ∷ []; make = λ parts. instr.Local (local.JumpEqual (size (at parts 0)) (size (at parts 1)) (size (at parts 2))) } ∷
-    record { name = codes "JLT"; sorts = 1 ∷ 1 ∷ 7 ∷ []; make = λ parts. instr.Local (local.JumpLess (size (at parts 0)) (size (at parts 1)) (size (at parts 2))) } ∷
-    record { name = codes "REPEAT"; sorts = 4 ∷ []; make = λ parts. instr.Local (local.Repeat (size (at parts 0))) } ∷
-    record { name = codes "END"; sorts = []; make = λ parts. instr.Local local.End } ∷
-    record { name = codes "NEW"; sorts = 2 ∷ 2 ∷ 6 ∷ []; make = λ parts. instr.Data (on_data.New (size (at parts 0)) (size (at parts 1)) (type_in (at parts 2))) } ∷
-    record { name = codes "STORE"; sorts = 2 ∷ 1 ∷ []; make = λ parts. instr.Data (on_data.Store (size (at parts 0)) (size (at parts 1))) } ∷
-    record { name = codes "GET"; sorts = 1 ∷ 2 ∷ []; make = λ parts. instr.Data (on_data.Get (size (at parts 0)) (size (at parts 1))) } ∷
-    record { name = codes "INS"; sorts = 2 ∷ 1 ∷ 2 ∷ 7 ∷ []; make = λ parts. instr.Data (on_data.Insert Int (size (at parts 0)) (size (at parts 1)) (size (at parts 2)) (size (at parts 3))) } ∷
-    record { name = codes "LOOK"; sorts = 2 ∷ 2 ∷ 1 ∷ 7 ∷ []; make = λ parts. instr.Data (on_data.Look Int (size (at parts 0)) (size (at parts 1)) (size (at parts 2)) (size (at parts 3))) } ∷
-    record { name = codes "SIZE"; sorts = 1 ∷ 2 ∷ []; make = λ parts. instr.Data (on_data.Size (size (at parts 0)) (size (at parts 1))) } ∷
-    record { name = codes "SUBAT"; sorts = 1 ∷ 2 ∷ 1 ∷ 7 ∷ []; make = λ parts. instr.Data (on_data.SubscriptAt Int (size (at parts 0)) (size (at parts 1)) (size (at parts 2)) (size (at parts 3))) } ∷
-    record { name = codes "DUPR"; sorts = 2 ∷ 2 ∷ []; make = λ parts. instr.Data (on_data.CopyRead (size (at parts 0)) (size (at parts 1))) } ∷
-    record { name = codes "DUPW"; sorts = 2 ∷ 2 ∷ []; make = λ parts. instr.Data (on_data.CopyWrite (size (at parts 0)) (size (at parts 1))) } ∷
-    record { name = codes "DROPR"; sorts = 2 ∷ []; make = λ parts. instr.Data (on_data.DropRead (size (at parts 0))) } ∷
-    record { name = codes "DROPW"; sorts = 2 ∷ []; make = λ parts. instr.Data (on_data.DropWrite (size (at parts 0))) } ∷
-    record { name = codes "RULE"; sorts = 4 ∷ 3 ∷ 8 ∷ []; make = λ parts. instr.Rule (action_from parts) } ∷
-    record { name = codes "PUT"; sorts = 4 ∷ 3 ∷ 8 ∷ []; make = λ parts. instr.Put (action_from parts) } ∷
-    record { name = codes "RET"; sorts = []; make = λ parts. instr.Ret } ∷
-    record { name = codes "TINS"; sorts = 2 ∷ 1 ∷ 2 ∷ 7 ∷ []; make = λ parts. instr.Data (on_data.Insert Text (size (at parts 0)) (size (at parts 1)) (size (at parts 2)) (size (at parts 3))) } ∷
-    record { name = codes "TLOOK"; sorts = 2 ∷ 2 ∷ 1 ∷ 7 ∷ []; make = λ parts. instr.Data (on_data.Look Text (size (at parts 0)) (size (at parts 1)) (size (at parts 2)) (size (at parts 3))) } ∷
-    record { name = codes "TSUBAT"; sorts = 1 ∷ 2 ∷ 1 ∷ 7 ∷ []; make = λ parts. instr.Data (on_data.SubscriptAt Text (size (at parts 0)) (size (at parts 1)) (size (at parts 2)) (size (at parts 3))) } ∷
-    record { name = codes "RULEV"; sorts = 4 ∷ 1 ∷ 8 ∷ []; make = λ parts. instr.Rule (action_from parts) } ∷
-    record { name = codes "PUTV"; sorts = 4 ∷ 1 ∷ 8 ∷ []; make = λ parts. instr.Put (action_from parts) } ∷
-    []
+rows = map row_by OPCODES
 
 abbrev pub names : List (List ℕ)
 names = map (λ r. r.name) rows
@@ -313,6 +310,36 @@ row (instr.Data i) = data_row i
 row (instr.Rule action) = rule_row action.procedure action.priority action.target action.args
 row (instr.Put action) = put_row action.procedure action.priority action.target action.args
 row instr.Ret = record { parts = refl; known = refl; class = refl; sorts = refl; made = refl; reskipped = λ skip. refl; last = refl }
+
+-- ---- an instruction with another skip has its other operands
+
+abbrev pub reskip_operand : ℕ → Operand → Operand
+reskip_operand skip (holds form.Skip old) = (holds form.Skip skip)
+reskip_operand skip o = o
+
+abbrev HasOthers : ℕ → Instr → Type 0
+HasOthers skip i = table.row (with_skip skip i) ≡ ((table.row i).0, map (reskip_operand skip) (table.row i).1)
+
+local_others : (skip : ℕ) (i : LocalInstr) → HasOthers skip (instr.Local i)
+local_others skip (local.Int to value) = refl
+local_others skip i = refl
+
+data_others : (skip : ℕ) (i : DataInstr) → HasOthers skip (instr.Data i)
+data_others skip (on_data.New write read ty) = refl
+data_others skip i = refl
+
+action_others : (skip : ℕ) (o : Opcode) (procedure : ℕ) (priority : Priority) (target : Option ℕ) (args : List ℕ)
+    → ◌≡◌ {A = Opcode × List Operand} (o, table.action_operands (record { procedure = procedure; priority = priority; target = target; args = args }))
+    (o, map (reskip_operand skip) (table.action_operands (record { procedure = procedure; priority = priority; target = target; args = args })))
+action_others skip o procedure (Constant n) target args = refl
+action_others skip o procedure (Computed register) target args = refl
+
+pub others : (skip : ℕ) (i : Instr) → HasOthers skip i
+others skip (instr.Local i) = local_others skip i
+others skip (instr.Data i) = data_others skip i
+others skip (instr.Rule action) = action_others skip (table.opcode_of_priority op.Rule op.RuleComputed action.priority) action.procedure action.priority action.target action.args
+others skip (instr.Put action) = action_others skip (table.opcode_of_priority op.Put op.PutComputed action.priority) action.procedure action.priority action.target action.args
+others skip instr.Ret = refl
 
 -- ---- names
 

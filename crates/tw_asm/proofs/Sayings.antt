@@ -13,7 +13,6 @@ use Rattle.tw_asm.proofs.Readings.{Reads}
 use Rattle.tw_asm.proofs.Sequences.{HaveEach, each_long, each_read, few_read}
 use Rattle.tw_asm.proofs.Spelled.{bare_is}
 use Rattle.tw_asm.proofs.Table as tables
-use Rattle.tw_asm.proofs.Table.{code_had}
 use Rattle.tw_asm.proofs.TypeWords.{other_bytes}
 use Rattle.tw_asm.proofs.Versions.{by_number}
 use Rattle.tw_asm.specs.Parts.{Part, Name, Natural, kind_word, operand_parts, param_parts, register_part, scalar_word}
@@ -32,7 +31,7 @@ use Rattle.tw_types.specs.declared.data_type.Scalar.{Scalar}
 pub code_first : (version : Version) (G : Goals) (i : Instr) (word : List ℕ) (ws : List Word) → Spells version G (Code i) (Bare word ∷ ws) → (o : Opcode) × (opcode_in version word ≡ Some o)
 code_first version G i word ws h =
     let k = first_is G (word_of (row i).0) (flat_map operand_parts (row i).1) (Bare word) ws h.parts in
-    ((row i).0, ap (opcode_in version) (bare_is word (word_of (row i).0) k.0) ∙ tables.named_in version (row i).0 (code_had version i h.form))
+    ((row i).0, ap (opcode_in version) (bare_is word (word_of (row i).0) k.0) ∙ tables.named_in version (row i).0 h.form.0)
 
 pub nonempty : (G : Goals) (name : List ℕ) (parts : List Part) → SpellParts G (Name name ∷ parts) [] → ⊥
 nonempty G name parts (first, others, cut, h, rest) = no_word (cut ∙ ap (λ (vs : List Word). vs ++ others) h)

@@ -1,5 +1,5 @@
 -- The procedures that have been read, and the words that spell them.
-use Rattle.std.proofs.Common.{◌≡◌, ◌≢◌, ℕ, suc, ◌+◌, ◌<◌, ◌≤◌, List, [], ◌∷◌, ◌++◌, length, map, Option, Some, None, inl, inr, refl, sym, subst, ap, ◌∙◌, append_assoc, arith}
+use Rattle.std.proofs.Common.{true, ◌≡◌, ◌≢◌, ℕ, suc, ◌+◌, ◌<◌, ◌≤◌, List, [], ◌∷◌, ◌++◌, length, map, Option, Some, None, inl, inr, refl, sym, subst, ap, ◌∙◌, append_assoc, arith}
 use Rattle.std.proofs.lemmas.List.{append-nil, get_or_default, length-append, map-append}
 use Rattle.std.proofs.lemmas.List.Quantifiers.{all_pairs_push}
 use Rattle.std.specs.Str.Lines.{lines}
@@ -7,18 +7,17 @@ use Rattle.std.specs.List.{AllByRecursion, AllPairs, Contains}
 use Rattle.tw_types.specs.declared.actor.Kind.{Kind}
 use Rattle.tw_types.specs.declared.data_type.Scalar.{Scalar}
 use Rattle.tw_types.specs.declared.param.Param.{Param}
-use Rattle.tw_code.specs.declared.instr.DataInstr.{DataInstr}
-use Rattle.tw_code.specs.declared.instr.DataInstr.TheVariants as on_data
+use Rattle.tw_code.specs.declared.form.Form.{Form}
+use Rattle.tw_code.specs.declared.form.Form.TheVariants as form
 use Rattle.tw_code.specs.declared.instr.Instr.{Instr}
-use Rattle.tw_code.specs.declared.instr.Instr.TheVariants as instr
-use Rattle.tw_code.specs.declared.instr.LocalInstr.{LocalInstr}
-use Rattle.tw_code.specs.declared.instr.LocalInstr.TheVariants as local
+use Rattle.tw_code.specs.declared.opcode.Opcode.{Opcode}
 use Rattle.tw_code.specs.declared.procedure.Procedure.{Procedure}
 use Rattle.tw_code.specs.declared.version.Version.{Version}
-use Rattle.tw_code.specs.declared.version.Version.TheVariants.{One}
-use Rattle.tw_code.specs.format.Program.{IsDataInstr, IsInstr, IsInstrOf, IsLocalInstr, IsProcedureOf, IsProgramOf}
+use Rattle.tw_code.specs.declared.version.Version.TheVariants.{One, Two}
+use Rattle.tw_code.specs.format.Program.{IsInstr, IsInstrOf, IsOperand, IsProcedureOf, IsProgramOf}
+use Rattle.tw_code.specs.format.Table.{Operand, has_opcode, holds, row}
 use Rattle.tw_words.specs.Words.{Bare, IsLine, Word}
-use Rattle.tw_asm.specs.Seen.{IsRead, NoName, Read, data_with_skip, local_with_skip, with_skip}
+use Rattle.tw_asm.specs.Seen.{IsRead, NoName, Read, with_skip}
 use Rattle.tw_asm.specs.Statement.{Statement, OfVersion, Head, Registers, Label, Code, AnyShortName, Goals, HasInstr, IsInLimits, Spells, version_by}
 use Rattle.tw_asm.specs.Fault.{IsWhole, MayStand}
 use Rattle.tw_asm.specs.Spelling.{AreCode, GoesTo, HaveWords, Placed, SpellProcedures, SpellsProcedure, SpellsProgram, SpellsVersion}
@@ -26,6 +25,7 @@ use Rattle.tw_asm.specs.reading.Goals.{AreLinkedCode, AreLinkedProcedures, HasLa
 use Rattle.tw_asm.specs.reading.Progress.{AtStart, BehindHead, BehindVersion, Within, Drafted, HasSections, IsGoalOf, LinesRead, Place, Progress, Section, begun, ended, line_step, outset, progress_from, situation_of, step}
 use Rattle.tw_asm.proofs.Once.{had_still, resolved_spells, spells_more}
 use Rattle.tw_asm.proofs.Begins.{first_of_words}
+use Rattle.tw_asm.proofs.Rows.{others, reskip_operand}
 use Rattle.tw_asm.proofs.Stages.{body_head, body_start, head_body, head_start, progress, start_body, start_head, version_body, version_head, version_start}
 use Rattle.tw_asm.proofs.Steps.{read_says}
 use Rattle.tw_asm.proofs.Versions.{by_number, narrowed, params_narrowed}
@@ -94,25 +94,14 @@ linked_code version all place _ _ _ [] (a_draft _ d ws labels drafts others q mo
 linked_code version all place _ _ _ (i ∷ is) (a_draft _ d ws labels drafts others q more) l =
     AreCode.instruction place i ws labels is others (linked_spells version all place d.instr d.goal i ws q l.0) (linked_code version all (place + 1) labels drafts others is more l.1)
 
-local_fits : (skip : ℕ) (i : LocalInstr) → skip ≤ 65535 → IsLocalInstr i → IsLocalInstr (local_with_skip skip i)
-local_fits skip (local.Compute operation to left right old) f l = (l.0, l.1, l.2, (omega arith, f))
-local_fits skip (local.Concatenate to left right old) f l = (l.0, l.1, l.2, (omega arith, f))
-local_fits skip (local.ReadInt to from old) f l = (l.0, l.1, (omega arith, f))
-local_fits skip (local.Jump old) f l = (omega arith, f)
-local_fits skip (local.JumpEqual left right old) f l = (l.0, l.1, (omega arith, f))
-local_fits skip (local.JumpLess left right old) f l = (l.0, l.1, (omega arith, f))
-local_fits skip i f l = l
-
-data_fits : (skip : ℕ) (i : DataInstr) → skip ≤ 65535 → IsDataInstr i → IsDataInstr (data_with_skip skip i)
-data_fits skip (on_data.Insert by container subscript member old) f l = (l.0, l.1, l.2, l.3, (omega arith, f))
-data_fits skip (on_data.Look by member container subscript old) f l = (l.0, l.1, l.2, l.3, (omega arith, f))
-data_fits skip (on_data.SubscriptAt by to container index old) f l = (l.0, l.1, l.2, l.3, (omega arith, f))
-data_fits skip i f l = l
+operands_fit : (skip : ℕ) (os : List Operand) → skip ≤ 65535 → AllByRecursion IsOperand os → AllByRecursion IsOperand (map (reskip_operand skip) os)
+operands_fit skip [] f l = tt
+operands_fit skip ((holds form.Skip old) ∷ os) f l = ((omega arith, f), operands_fit skip os f l.1)
+operands_fit skip (o ∷ os) f l = (l.0, operands_fit skip os f l.1)
 
 skip_fits : (skip : ℕ) (i : Instr) → skip ≤ 65535 → IsInstr i → IsInstr (with_skip skip i)
-skip_fits skip (instr.Local i) f l = local_fits skip i f l
-skip_fits skip (instr.Data i) f l = data_fits skip i f l
-skip_fits skip i f l = l
+skip_fits skip i f l =
+    subst (λ (r : Opcode × List Operand). (has_opcode Two r.0 ≡ true) × AllByRecursion IsOperand r.1) (sym (others skip i)) (l.0, operands_fit skip (row i).1 f l.1)
 
 linked_fits : (all : List Placed) (place : ℕ) (draft : Instr) (goal : Option (List ℕ)) (i : Instr) → IsInstr draft → IsLinkedTo all place goal draft i → IsInstr i
 linked_fits all place draft None i f l = subst IsInstr (sym l) f

@@ -1,16 +1,13 @@
 -- What a version has, and what is of it within the limits.
 use Rattle.std.proofs.Common.{◌≡◌, ℕ, zero, suc, ◌≤◌, true, List, [], ◌∷◌, refl, arith}
 use Rattle.std.specs.List.{AllByRecursion}
-use Rattle.tw_code.specs.declared.instr.DataInstr.{DataInstr}
-use Rattle.tw_code.specs.declared.instr.DataInstr.TheVariants as on_data
+use Rattle.tw_code.specs.declared.form.Form.{Form}
+use Rattle.tw_code.specs.declared.form.Form.TheVariants as form
 use Rattle.tw_code.specs.declared.instr.Instr.{Instr}
-use Rattle.tw_code.specs.declared.instr.Instr.TheVariants as instr
-use Rattle.tw_code.specs.declared.instr.Priority.{Priority}
-use Rattle.tw_code.specs.declared.instr.Priority.TheVariants.{Constant, Computed}
-use Rattle.tw_code.specs.declared.instr.Action.{Action}
 use Rattle.tw_code.specs.declared.version.Version.{Version}
 use Rattle.tw_code.specs.declared.version.Version.TheVariants.{One, Two}
-use Rattle.tw_code.specs.format.Program.{IsActionOf, IsAction, IsDataInstr, IsDataInstrOf, IsInstr, IsInstrOf, IsParam, IsParamOf, IsPriorityOf, IsSubscriptOf, IsTypeUnderOf, IsWithin}
+use Rattle.tw_code.specs.format.Program.{IsInstr, IsInstrOf, IsOperand, IsOperandOf, IsParam, IsParamOf, IsSubscriptOf, IsTypeUnderOf, IsWithin}
+use Rattle.tw_code.specs.format.Table.{Operand, holds, row}
 use Rattle.tw_types.specs.DataType.{depth_of, is_scalar}
 use Rattle.tw_types.specs.Nesting.{NestedScalar}
 use Rattle.tw_types.specs.declared.data_type.Scalar.{Scalar}
@@ -18,7 +15,7 @@ use Rattle.tw_types.specs.declared.data_type.Scalar.TheVariants.{Int, Text}
 use Rattle.tw_types.specs.declared.param.Mode.{Mode}
 use Rattle.tw_types.specs.declared.param.Mode.TheVariants.{Val, Closed, Ref, Write}
 use Rattle.tw_types.specs.declared.param.Param.{Param}
-use Rattle.tw_asm.specs.Statement.{HasDataInstr, HasInstr, HasParam, HasPriority, HasType, IsTypeOfMode, version_by, version_number}
+use Rattle.tw_asm.specs.Statement.{HasInstr, HasOperand, HasParam, HasType, IsTypeOfMode, version_by, version_number}
 
 -- ---- numbers
 
@@ -45,47 +42,28 @@ any_type (Text ∷ inner) = (tt, any_type inner)
 
 -- ---- instructions
 
-priority_narrowed : (version : Version) (priority : Priority) → HasPriority version priority → IsPriorityOf Two priority → IsPriorityOf version priority
-priority_narrowed version (Constant n) has h = h
-priority_narrowed One (Computed register) has h = absurd has
-priority_narrowed Two (Computed register) has h = h
+operand_narrowed : (version : Version) (o : Operand) → HasOperand version o → IsOperand o → IsOperandOf version o
+operand_narrowed version (holds form.TypeOf ty) has h = (h.0, has)
+operand_narrowed version o has h = h
 
-action_narrowed : (version : Version) (action : Action) → HasPriority version action.priority → IsAction action → IsActionOf version action
-action_narrowed version action has h = record { procedure = h.procedure; priority = priority_narrowed version action.priority has h.priority; target = h.target; args = h.args }
-
-data_narrowed : (version : Version) (i : DataInstr) → HasDataInstr version i → IsDataInstr i → IsDataInstrOf version i
-data_narrowed version (on_data.New write read ty) has h = (h.0, h.1, (h.2.0, has))
-data_narrowed version (on_data.Insert by container subscript member skip) has h = (has, h.1, h.2, h.3, h.4)
-data_narrowed version (on_data.Look by member container subscript skip) has h = (has, h.1, h.2, h.3, h.4)
-data_narrowed version (on_data.SubscriptAt by to container index skip) has h = (has, h.1, h.2, h.3, h.4)
-data_narrowed version i has h = h
+operands_narrowed : (version : Version) (os : List Operand) → AllByRecursion (HasOperand version) os → AllByRecursion IsOperand os → AllByRecursion (IsOperandOf version) os
+operands_narrowed version [] has h = tt
+operands_narrowed version (o ∷ os) has h = (operand_narrowed version o has.0 h.0, operands_narrowed version os has.1 h.1)
 
 pub narrowed : (version : Version) (i : Instr) → HasInstr version i → IsInstr i → IsInstrOf version i
-narrowed version (instr.Local i) has h = h
-narrowed version (instr.Data i) has h = data_narrowed version i has h
-narrowed version (instr.Rule action) has h = action_narrowed version action has h
-narrowed version (instr.Put action) has h = action_narrowed version action has h
-narrowed version instr.Ret has h = tt
+narrowed version i has h = (has.0, operands_narrowed version (row i).1 has.1 h.1)
 
-had_priority : (version : Version) (priority : Priority) → IsPriorityOf version priority → HasPriority version priority
-had_priority version (Constant n) h = tt
-had_priority One (Computed register) h = h
-had_priority Two (Computed register) h = tt
+had_operand : (version : Version) (o : Operand) → IsOperandOf version o → HasOperand version o
+had_operand version (holds form.TypeOf ty) h = h.1
+had_operand version o h = tt
 
-had_data : (version : Version) (i : DataInstr) → IsDataInstrOf version i → HasDataInstr version i
-had_data version (on_data.New write read ty) h = h.2.1
-had_data version (on_data.Insert by container subscript member skip) h = h.0
-had_data version (on_data.Look by member container subscript skip) h = h.0
-had_data version (on_data.SubscriptAt by to container index skip) h = h.0
-had_data version i h = tt
+had_operands : (version : Version) (os : List Operand) → AllByRecursion (IsOperandOf version) os → AllByRecursion (HasOperand version) os
+had_operands version [] h = tt
+had_operands version (o ∷ os) h = (had_operand version o h.0, had_operands version os h.1)
 
 -- what is of a version, it has
 pub had : (version : Version) (i : Instr) → IsInstrOf version i → HasInstr version i
-had version (instr.Local i) h = tt
-had version (instr.Data i) h = had_data version i h
-had version (instr.Rule action) h = had_priority version action.priority h.priority
-had version (instr.Put action) h = had_priority version action.priority h.priority
-had version instr.Ret h = tt
+had version i h = (h.0, had_operands version (row i).1 h.1)
 
 -- ---- parameters
 

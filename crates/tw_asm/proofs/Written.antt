@@ -13,22 +13,16 @@ use Rattle.std.proofs.lemmas.List.{map-append}
 use Rattle.std.proofs.lemmas.Str.{IsUtf8-append, IsUtf8-from_ascii, IsUtf8-nil}
 use Rattle.std.proofs.lemmas.Str.Ascii.{IsAscii-cons, IsAscii-nil}
 use Rattle.std.proofs.lemmas.Str.Parse.{digit_from_value}
-use Rattle.tw_code.specs.declared.instr.Action.{Action}
-use Rattle.tw_code.specs.declared.instr.Arithmetic.{Arithmetic}
-use Rattle.tw_code.specs.declared.instr.Arithmetic.TheVariants.{Add, Subtract, Multiply, Divide, Remainder}
-use Rattle.tw_code.specs.declared.instr.DataInstr.{DataInstr}
-use Rattle.tw_code.specs.declared.instr.DataInstr.TheVariants as on_data
+use Rattle.tw_code.specs.declared.form.Form.{Form}
+use Rattle.tw_code.specs.declared.form.Form.TheVariants as form
 use Rattle.tw_code.specs.declared.instr.Instr.{Instr}
-use Rattle.tw_code.specs.declared.instr.Instr.TheVariants as instr
-use Rattle.tw_code.specs.declared.instr.LocalInstr.{LocalInstr}
-use Rattle.tw_code.specs.declared.instr.LocalInstr.TheVariants as local
-use Rattle.tw_code.specs.declared.instr.Priority.{Priority}
-use Rattle.tw_code.specs.declared.instr.Priority.TheVariants.{Constant, Computed}
+use Rattle.tw_code.specs.declared.opcode.Opcode.{Opcode}
 use Rattle.tw_code.specs.declared.version.Version.{Version}
 use Rattle.tw_code.specs.declared.version.Version.TheVariants.{Two}
 use Rattle.tw_code.specs.declared.opcode.Opcode.TheVariants as op
-use Rattle.tw_code.specs.format.Table.{action_operands, opcode_of_operation, opcode_of_priority}
-use Rattle.tw_code.specs.format.Program.{IsAction, IsDataInstr, IsInstr, IsLocalInstr, IsPriorityOf, IsRegister, IsSkip, IsTarget}
+use Rattle.tw_code.specs.format.Table as table
+use Rattle.tw_code.specs.format.Table.{Operand, holds}
+use Rattle.tw_code.specs.format.Program.{IsInstr, IsOperand, IsRegister, IsSkip, IsTarget}
 use Rattle.tw_words.specs.Words.{Bare, IsLine, IsWord, Quoted, Word, is_edge}
 use Rattle.tw_types.specs.declared.actor.Kind.{Kind}
 use Rattle.tw_types.specs.declared.actor.Kind.TheVariants.{Control, Leaf}
@@ -297,78 +291,42 @@ module _ (goals : Goals) (skip_word : ℕ → List ℕ) where
 
 -- ---- the parts of statements in their limits
 
-operation_clear : (operation : Arithmetic) → IsClearWord (word_of (opcode_of_operation operation))
-operation_clear Add = clear_word (codes "ADD") refl
-operation_clear Subtract = clear_word (codes "SUB") refl
-operation_clear Multiply = clear_word (codes "MUL") refl
-operation_clear Divide = clear_word (codes "DIV") refl
-operation_clear Remainder = clear_word (codes "REM") refl
+-- each name is a word
+word_clear : (o : Opcode) → IsClearWord (word_of o)
+word_clear op.Int = clear_word (codes "INT") refl
+word_clear o = clear_word (word_of o) refl
 
-local_in : (i : LocalInstr) → IsLocalInstr i → AllByRecursion IsInPart (statement_parts (Code (instr.Local i)))
-local_in (local.Int to value) h = (clear_word (codes "INT") refl, (h.0, (h.1, tt)))
-local_in (local.Text to text) h = (clear_word (codes "TEXT") refl, (h.0, (h.1.utf8, tt)))
-local_in (local.Copy to from) h = (clear_word (codes "COPY") refl, (h.0, (h.1, tt)))
-local_in (local.Concatenate to left right skip) h = (clear_word (codes "CAT") refl, (h.0, (h.1, (h.2, (h.3, tt)))))
-local_in (local.Length to from) h = (clear_word (codes "LEN") refl, (h.0, (h.1, tt)))
-local_in (local.Show to from) h = (clear_word (codes "SHOW") refl, (h.0, (h.1, tt)))
-local_in (local.ReadInt to from skip) h = (clear_word (codes "READI") refl, (h.0, (h.1, (h.2, tt))))
-local_in (local.Jump skip) h = (clear_word (codes "JMP") refl, (h, tt))
-local_in (local.JumpEqual left right skip) h = (clear_word (codes "JEQ") refl, (h.0, (h.1, (h.2, tt))))
-local_in (local.JumpLess left right skip) h = (clear_word (codes "JLT") refl, (h.0, (h.1, (h.2, tt))))
-local_in (local.Compute operation to left right skip) h = (operation_clear operation, (h.0, (h.1, (h.2, (h.3, tt)))))
-local_in (local.Repeat turns) h = (clear_word (codes "REPEAT") refl, (few h.1, tt))
-  where
-    few : turns ≤ 1000 → turns ≤ 65535
-    few high = omega arith
-local_in local.End h = (clear_word (codes "END") refl, tt)
-
-data_in : (i : DataInstr) → IsDataInstr i → AllByRecursion IsInPart (statement_parts (Code (instr.Data i)))
-data_in (on_data.New write read ty) h = (clear_word (codes "NEW") refl, (h.0, (h.1, (tt, tt))))
-data_in (on_data.Store datum from) h = (clear_word (codes "STORE") refl, (h.0, (h.1, tt)))
-data_in (on_data.Get to datum) h = (clear_word (codes "GET") refl, (h.0, (h.1, tt)))
-data_in (on_data.Insert Int container subscript member skip) h = (clear_word (codes "INS") refl, (h.1, (h.2, (h.3, (h.4, tt)))))
-data_in (on_data.Insert Text container subscript member skip) h = (clear_word (codes "TINS") refl, (h.1, (h.2, (h.3, (h.4, tt)))))
-data_in (on_data.Look Int member container subscript skip) h = (clear_word (codes "LOOK") refl, (h.1, (h.2, (h.3, (h.4, tt)))))
-data_in (on_data.Look Text member container subscript skip) h = (clear_word (codes "TLOOK") refl, (h.1, (h.2, (h.3, (h.4, tt)))))
-data_in (on_data.Size to container) h = (clear_word (codes "SIZE") refl, (h.0, (h.1, tt)))
-data_in (on_data.SubscriptAt Int to container index skip) h = (clear_word (codes "SUBAT") refl, (h.1, (h.2, (h.3, (h.4, tt)))))
-data_in (on_data.SubscriptAt Text to container index skip) h = (clear_word (codes "TSUBAT") refl, (h.1, (h.2, (h.3, (h.4, tt)))))
-data_in (on_data.CopyRead to from) h = (clear_word (codes "DUPR") refl, (h.0, (h.1, tt)))
-data_in (on_data.CopyWrite to from) h = (clear_word (codes "DUPW") refl, (h.0, (h.1, tt)))
-data_in (on_data.DropRead right) h = (clear_word (codes "DROPR") refl, (h, tt))
-data_in (on_data.DropWrite right) h = (clear_word (codes "DROPW") refl, (h, tt))
-
-args_in : (args : List ℕ) → AllByRecursion IsRegister args → AllByRecursion IsInPart (map Natural args ++ [])
+args_in : (args : List ℕ) → AllByRecursion IsRegister args → AllByRecursion IsInPart (map Natural args)
 args_in [] h = tt
 args_in (arg ∷ args) h = (few h.0.1, args_in args h.1)
   where
     few : arg ≤ 15 → arg ≤ 65535
     few high = omega arith
 
-operands_in : (action : Action) → IsAction action → AllByRecursion IsInPart (flat_map operand_parts (action_operands action))
-operands_in action h = by action.priority h.priority
+operand_in : (o : Operand) → IsOperand o → AllByRecursion IsInPart (operand_parts o)
+operand_in (holds form.Value register) h = (h, tt)
+operand_in (holds form.Right register) h = (h, tt)
+operand_in (holds form.Number n) h = (h, tt)
+operand_in (holds form.Turns turns) h = (few h.1, tt)
   where
-    few : action.procedure ≤ 255 → action.procedure ≤ 65535
+    few : turns ≤ 1000 → turns ≤ 65535
     few high = omega arith
+operand_in (holds form.Literal text) h = (h.utf8, tt)
+operand_in (holds form.TypeOf ty) h = (tt, tt)
+operand_in (holds form.Skip skip) h = (h, tt)
+operand_in (holds form.Callee procedure) h = (few h.1, tt)
+  where
+    few : procedure ≤ 255 → procedure ≤ 65535
+    few high = omega arith
+operand_in (holds form.Target target) h = (h, tt)
+operand_in (holds form.Args registers) h = args_in registers h.1
 
-    by : (priority : Priority) → IsPriorityOf Two priority → AllByRecursion IsInPart (flat_map operand_parts (action_operands (record action { priority = priority })))
-    by (Constant n) fits = (few h.procedure.1, (fits, (h.target, args_in action.args h.args.1)))
-    by (Computed register) fits = (few h.procedure.1, (fits, (h.target, args_in action.args h.args.1)))
-
-rule_clear : (priority : Priority) → IsClearWord (word_of (opcode_of_priority op.Rule op.RuleComputed priority))
-rule_clear (Constant n) = clear_word (codes "RULE") refl
-rule_clear (Computed register) = clear_word (codes "RULEV") refl
-
-put_clear : (priority : Priority) → IsClearWord (word_of (opcode_of_priority op.Put op.PutComputed priority))
-put_clear (Constant n) = clear_word (codes "PUT") refl
-put_clear (Computed register) = clear_word (codes "PUTV") refl
+operands_in : (os : List Operand) → AllByRecursion IsOperand os → AllByRecursion IsInPart (flat_map operand_parts os)
+operands_in [] h = tt
+operands_in (o ∷ os) h = all_append IsInPart (operand_parts o) (flat_map operand_parts os) (operand_in o h.0) (operands_in os h.1)
 
 instr_in : (i : Instr) → IsInstr i → AllByRecursion IsInPart (statement_parts (Code i))
-instr_in (instr.Local i) h = local_in i h
-instr_in (instr.Data i) h = data_in i h
-instr_in (instr.Rule action) h = (rule_clear action.priority, operands_in action h)
-instr_in (instr.Put action) h = (put_clear action.priority, operands_in action h)
-instr_in instr.Ret h = (clear_word (codes "RET") refl, tt)
+instr_in i h = (word_clear (table.row i).0, operands_in (table.row i).1 h.1)
 
 kind_clear : (kind : Kind) → IsClearWord (kind_word kind)
 kind_clear Control = clear_word (codes "control") refl

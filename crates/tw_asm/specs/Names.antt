@@ -1,9 +1,10 @@
 -- The names of instructions.
-use Rattle.std.specs.Prelude.{ℕ, List, [], ◌∷◌, codes, Option}
+use Rattle.std.specs.Prelude.{ℕ, List, codes, Option}
 use Rattle.std.specs.List.{find}
 use Rattle.std.specs.Str.{bytes_eq}
 use Rattle.tw_code.specs.declared.opcode.Opcode.{Opcode}
 use Rattle.tw_code.specs.declared.opcode.Opcode.TheVariants as op
+use Rattle.tw_code.specs.declared.opcode.TheConstants.{OPCODES}
 
 abbrev pub word_of : Opcode → List ℕ
 word_of op.Int = codes "INT"
@@ -43,13 +44,5 @@ word_of op.SubscriptAtByText = codes "TSUBAT"
 word_of op.RuleComputed = codes "RULEV"
 word_of op.PutComputed = codes "PUTV"
 
--- each of them
-abbrev pub opcodes : List Opcode
-opcodes =
-    op.Int ∷ op.Text ∷ op.Copy ∷ op.Add ∷ op.Subtract ∷ op.Multiply ∷ op.Divide ∷ op.Remainder ∷ op.Concatenate ∷ op.Length ∷ op.Show ∷ op.ReadInt ∷
-    op.Jump ∷ op.JumpEqual ∷ op.JumpLess ∷ op.Repeat ∷ op.End ∷ op.New ∷ op.Store ∷ op.Get ∷ op.Insert ∷ op.Look ∷ op.Size ∷ op.SubscriptAt ∷
-    op.CopyRead ∷ op.CopyWrite ∷ op.DropRead ∷ op.DropWrite ∷ op.Rule ∷ op.Put ∷ op.Ret ∷
-    op.InsertByText ∷ op.LookByText ∷ op.SubscriptAtByText ∷ op.RuleComputed ∷ op.PutComputed ∷ []
-
 unfoldable pub opcode_of : List ℕ → Option Opcode
-opcode_of name = find (λ opcode. bytes_eq (word_of opcode) name) opcodes
+opcode_of name = find (λ opcode. bytes_eq (word_of opcode) name) OPCODES

@@ -1,9 +1,9 @@
 -- What a statement of assembly text has, part by part, in the order of the text.
 use Rattle.std.specs.Prelude.{ℕ, ℤ, List, [], ◌∷◌, ◌++◌, map, codes, Option, Some, None}
 use Rattle.std.specs.List.{flat_map}
+use Rattle.tw_code.specs.declared.form.Form.TheVariants as form
 use Rattle.tw_code.specs.declared.instr.Instr.{Instr}
-use Rattle.tw_code.specs.format.Table.{Operand, row}
-use Rattle.tw_code.specs.format.Table as operand
+use Rattle.tw_code.specs.format.Table.{Operand, holds, row}
 use Rattle.tw_types.specs.Nesting.{NestedScalar}
 use Rattle.tw_types.specs.declared.actor.Kind.{Kind}
 use Rattle.tw_types.specs.declared.actor.Kind.TheVariants.{Control, Leaf}
@@ -54,19 +54,19 @@ container_word Text = codes "tcont"
 abbrev pub type_words : NestedScalar → List (List ℕ)
 type_words ty = map container_word ty.containers ++ (scalar_word ty.scalar ∷ [])
 
--- ---- instructions: a line a kind of operand
+-- ---- instructions: a line a form of operands
 
 abbrev pub operand_parts : Operand → List Part
-operand_parts (operand.Value register) = Value register ∷ []
-operand_parts (operand.Right register) = Right register ∷ []
-operand_parts (operand.Number number) = Number number ∷ []
-operand_parts (operand.Turns turns) = Natural turns ∷ []
-operand_parts (operand.Literal text) = Literal text ∷ []
-operand_parts (operand.TypeOf ty) = TypeOf ty ∷ []
-operand_parts (operand.Skip skip) = Skip skip ∷ []
-operand_parts (operand.Callee procedure) = Natural procedure ∷ []
-operand_parts (operand.Target target) = Target target ∷ []
-operand_parts (operand.Args registers) = map Natural registers
+operand_parts (holds form.Value register) = Value register ∷ []
+operand_parts (holds form.Right register) = Right register ∷ []
+operand_parts (holds form.Number number) = Number number ∷ []
+operand_parts (holds form.Turns turns) = Natural turns ∷ []
+operand_parts (holds form.Literal text) = Literal text ∷ []
+operand_parts (holds form.TypeOf ty) = TypeOf ty ∷ []
+operand_parts (holds form.Skip skip) = Skip skip ∷ []
+operand_parts (holds form.Callee procedure) = Natural procedure ∷ []
+operand_parts (holds form.Target target) = Target target ∷ []
+operand_parts (holds form.Args registers) = map Natural registers
 
 -- its name, and each of its operands
 abbrev pub instr_parts : Instr → List Part

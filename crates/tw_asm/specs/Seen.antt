@@ -47,36 +47,21 @@ IsRead version read words = IsInLimits read.statement × spelled read.goal
 -- ---- an instruction with another skip, where it has one
 
 abbrev pub local_with_skip : ℕ → LocalInstr → LocalInstr
-local_with_skip skip (local.Int to value) = local.Int to value
-local_with_skip skip (local.Text to text) = local.Text to text
-local_with_skip skip (local.Copy to from) = local.Copy to from
 local_with_skip skip (local.Compute operation to left right old) = local.Compute operation to left right skip
 local_with_skip skip (local.Concatenate to left right old) = local.Concatenate to left right skip
-local_with_skip skip (local.Length to from) = local.Length to from
-local_with_skip skip (local.Show to from) = local.Show to from
 local_with_skip skip (local.ReadInt to from old) = local.ReadInt to from skip
 local_with_skip skip (local.Jump old) = local.Jump skip
 local_with_skip skip (local.JumpEqual left right old) = local.JumpEqual left right skip
 local_with_skip skip (local.JumpLess left right old) = local.JumpLess left right skip
-local_with_skip skip (local.Repeat turns) = local.Repeat turns
-local_with_skip skip local.End = local.End
+local_with_skip skip i = i
 
 abbrev pub data_with_skip : ℕ → DataInstr → DataInstr
-data_with_skip skip (on_data.New write read ty) = on_data.New write read ty
-data_with_skip skip (on_data.Store datum from) = on_data.Store datum from
-data_with_skip skip (on_data.Get to datum) = on_data.Get to datum
 data_with_skip skip (on_data.Insert by container subscript member old) = on_data.Insert by container subscript member skip
 data_with_skip skip (on_data.Look by member container subscript old) = on_data.Look by member container subscript skip
-data_with_skip skip (on_data.Size to container) = on_data.Size to container
 data_with_skip skip (on_data.SubscriptAt by to container index old) = on_data.SubscriptAt by to container index skip
-data_with_skip skip (on_data.CopyRead to from) = on_data.CopyRead to from
-data_with_skip skip (on_data.CopyWrite to from) = on_data.CopyWrite to from
-data_with_skip skip (on_data.DropRead right) = on_data.DropRead right
-data_with_skip skip (on_data.DropWrite right) = on_data.DropWrite right
+data_with_skip skip i = i
 
 abbrev pub with_skip : ℕ → Instr → Instr
 with_skip skip (instr.Local i) = instr.Local (local_with_skip skip i)
 with_skip skip (instr.Data i) = instr.Data (data_with_skip skip i)
-with_skip skip (instr.Rule action) = instr.Rule action
-with_skip skip (instr.Put action) = instr.Put action
-with_skip skip instr.Ret = instr.Ret
+with_skip skip i = i

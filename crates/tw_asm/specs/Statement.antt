@@ -9,15 +9,12 @@ use Rattle.tw_types.specs.declared.data_type.Scalar.{Scalar}
 use Rattle.tw_types.specs.declared.param.Mode.{Mode}
 use Rattle.tw_types.specs.declared.param.Mode.TheVariants.{Val, Closed, Ref, Write}
 use Rattle.tw_types.specs.declared.param.Param.{Param}
-use Rattle.tw_code.specs.declared.instr.DataInstr.{DataInstr}
-use Rattle.tw_code.specs.declared.instr.DataInstr.TheVariants as on_data
+use Rattle.tw_code.specs.declared.form.Form.TheVariants as form
 use Rattle.tw_code.specs.declared.instr.Instr.{Instr}
-use Rattle.tw_code.specs.declared.instr.Instr.TheVariants as instr
-use Rattle.tw_code.specs.declared.instr.Priority.{Priority}
-use Rattle.tw_code.specs.declared.instr.Priority.TheVariants.{Constant, Computed}
 use Rattle.tw_code.specs.declared.version.Version.{Version}
 use Rattle.tw_code.specs.declared.version.Version.TheVariants.{One, Two}
 use Rattle.tw_code.specs.format.Program.{IsInstr, IsList, IsParam, IsSubscriptOf, IsWithin}
+use Rattle.tw_code.specs.format.Table.{Operand, has_opcode, holds, row}
 use Rattle.tw_words.specs.Number.{SpellsDigits, SpellsNumber}
 use Rattle.tw_words.specs.Words.{Word, Bare, Quoted}
 use Rattle.tw_asm.specs.declared.statement.First.{First}
@@ -104,24 +101,13 @@ SpellParts goals (part ∷ parts) words =
 abbrev pub HasType : Version → NestedScalar → Type 0
 HasType version ty = AllByRecursion (IsSubscriptOf version) ty.containers
 
-abbrev pub HasPriority : Version → Priority → Type 0
-HasPriority version (Constant n) = Unit {0}
-HasPriority One (Computed register) = ⊥
-HasPriority Two (Computed register) = Unit {0}
+abbrev pub HasOperand : Version → Operand → Type 0
+HasOperand version (holds form.TypeOf ty) = HasType version ty
+HasOperand version o = Unit {0}
 
-abbrev pub HasDataInstr : Version → DataInstr → Type 0
-HasDataInstr version (on_data.New write read ty) = HasType version ty
-HasDataInstr version (on_data.Insert by container subscript member skip) = IsSubscriptOf version by
-HasDataInstr version (on_data.Look by member container subscript skip) = IsSubscriptOf version by
-HasDataInstr version (on_data.SubscriptAt by to container index skip) = IsSubscriptOf version by
-HasDataInstr version i = Unit {0}
-
+-- its opcode, and each type in it
 abbrev pub HasInstr : Version → Instr → Type 0
-HasInstr version (instr.Local i) = Unit {0}
-HasInstr version (instr.Data i) = HasDataInstr version i
-HasInstr version (instr.Rule action) = HasPriority version action.priority
-HasInstr version (instr.Put action) = HasPriority version action.priority
-HasInstr version instr.Ret = Unit {0}
+HasInstr version i = (has_opcode version (row i).0 ≡ true) × AllByRecursion (HasOperand version) (row i).1
 
 -- ---- statements
 

@@ -5,7 +5,7 @@ ghost use Rattle.tw_words.specs.Seen.{seen as seen_word};
 ghost use Rattle.tw_code.specs.declared.instr.Instr.TheVariants as instr;
 ghost use Rattle.tw_code.specs.declared.instr.LocalInstr.TheVariants as local;
 ghost use Rattle.tw_code.specs.declared.instr.Priority.TheVariants.{Computed, Constant};
-ghost use Rattle.tw_asm.specs.reading.Lines.{Gives, action_line, action_of, draft_in, drafted, goal, line_in, literal, more, number, one, value};
+ghost use Rattle.tw_asm.specs.reading.Lines.{Gives, args, draft_in, drafted, goal, line_in, literal, more, natural, nothing, number, target, value};
 ghost use Rattle.tw_asm.specs.reading.Operands.{as_is};
 
 use crate::gathering::args_of;
@@ -36,13 +36,13 @@ fn going<'a>(instr: Instr, goal: Goal<'a>) -> Unlinked<'a>
 }
 
 /// A value register and a text.
-fn value_and_literal(alloc: Global, words: &[Word<'_>]) -> Result<(u8, Text), Refusal>
-    ensures { Gives (λ x. x) result (line_in (more value (one literal)) (map seen_word words.now)) }
+fn value_and_literal(alloc: Global, words: &[Word<'_>]) -> Result<(u8, (Text, ())), Refusal>
+    ensures { Gives (λ x. x) result (line_in (more value (more literal nothing)) (map seen_word words.now)) }
 {
     match words {
-        [first, text] => {
+        [first, text, others @ ..] => {
             let text = literal_of(alloc, text)?;
-            Ok(both_of(value_of(first), text)?)
+            Ok(both_of(value_of(first), both_of(text, nothing_of(others)))?)
         }
         _ => Err(Refusal::Flawed(Flaw::Form)),
     }
@@ -53,7 +53,7 @@ fn action_parts(
     alloc: Global,
     words: &[Word<'_>],
 ) -> Result<(u8, (i64, (Option<u8>, Items<u8>))), Refusal>
-    ensures { Gives (λ x. x) result (line_in (action_line number) (map seen_word words.now)) }
+    ensures { Gives (λ x. x) result (line_in (more (natural 0 255) (more number (more target args))) (map seen_word words.now)) }
 {
     match words {
         [procedure, priority, target, args @ ..] => {
@@ -73,7 +73,7 @@ fn computed_parts(
     alloc: Global,
     words: &[Word<'_>],
 ) -> Result<(u8, (u8, (Option<u8>, Items<u8>))), Refusal>
-    ensures { Gives (λ x. x) result (line_in (action_line value) (map seen_word words.now)) }
+    ensures { Gives (λ x. x) result (line_in (more (natural 0 255) (more value (more target args))) (map seen_word words.now)) }
 {
     match words {
         [procedure, priority, target, args @ ..] => {
@@ -90,7 +90,7 @@ fn computed_parts(
 
 /// An action whose priority is a constant.
 fn constant(parts: (u8, (i64, (Option<u8>, Items<u8>)))) -> Action
-    ensures { result ≡ action_of Constant parts }
+    ensures { result ≡ record { procedure = parts.0; priority = Constant parts.1.0; target = parts.1.1.0; args = parts.1.1.1 } }
 {
     let (procedure, (priority, (target, args))) = parts;
     Action {
@@ -103,7 +103,7 @@ fn constant(parts: (u8, (i64, (Option<u8>, Items<u8>)))) -> Action
 
 /// An action whose priority is computed.
 fn computed(parts: (u8, (u8, (Option<u8>, Items<u8>)))) -> Action
-    ensures { result ≡ action_of Computed parts }
+    ensures { result ≡ record { procedure = parts.0; priority = Computed parts.1.0; target = parts.1.1.0; args = parts.1.1.1 } }
 {
     let (procedure, (priority, (target, args))) = parts;
     Action {
@@ -136,34 +136,34 @@ pub fn draft_of<'a>(alloc: Global, version: Version, opcode: Opcode, words: &[Wo
     ensures { Gives drafted result (draft_in version opcode (map seen_word words.now)) }
 {
     match opcode {
-        Opcode::Int => { let (to, value) = value_and_number(words)?; Ok(straight(Instr::Local(LocalInstr::Int { to, value }))) }
-        Opcode::Text => { let (to, text) = value_and_literal(alloc, words)?; Ok(straight(Instr::Local(LocalInstr::Text { to, text }))) }
-        Opcode::Copy => { let (to, from) = two_values(words)?; Ok(straight(Instr::Local(LocalInstr::Copy { to, from }))) }
+        Opcode::Int => { let (to, (value, ())) = value_and_number(words)?; Ok(straight(Instr::Local(LocalInstr::Int { to, value }))) }
+        Opcode::Text => { let (to, (text, ())) = value_and_literal(alloc, words)?; Ok(straight(Instr::Local(LocalInstr::Text { to, text }))) }
+        Opcode::Copy => { let (to, (from, ())) = two_values(words)?; Ok(straight(Instr::Local(LocalInstr::Copy { to, from }))) }
         Opcode::Add => Ok(compute(Arithmetic::Add, words)?),
         Opcode::Subtract => Ok(compute(Arithmetic::Subtract, words)?),
         Opcode::Multiply => Ok(compute(Arithmetic::Multiply, words)?),
         Opcode::Divide => Ok(compute(Arithmetic::Divide, words)?),
         Opcode::Remainder => Ok(compute(Arithmetic::Remainder, words)?),
         Opcode::Concatenate => { let (to, (left, (right, goal))) = three_values_and_goal(words)?; Ok(going(Instr::Local(LocalInstr::Concatenate { to, left, right, skip: goal.skip }), goal)) }
-        Opcode::Length => { let (to, from) = two_values(words)?; Ok(straight(Instr::Local(LocalInstr::Length { to, from }))) }
-        Opcode::Show => { let (to, from) = two_values(words)?; Ok(straight(Instr::Local(LocalInstr::Show { to, from }))) }
+        Opcode::Length => { let (to, (from, ())) = two_values(words)?; Ok(straight(Instr::Local(LocalInstr::Length { to, from }))) }
+        Opcode::Show => { let (to, (from, ())) = two_values(words)?; Ok(straight(Instr::Local(LocalInstr::Show { to, from }))) }
         Opcode::ReadInt => { let (to, (from, goal)) = two_values_and_goal(words)?; Ok(going(Instr::Local(LocalInstr::ReadInt { to, from, skip: goal.skip }), goal)) }
         Opcode::Jump => { let goal = only_goal(words)?; Ok(going(Instr::Local(LocalInstr::Jump { skip: goal.skip }), goal)) }
         Opcode::JumpEqual => { let (left, (right, goal)) = two_values_and_goal(words)?; Ok(going(Instr::Local(LocalInstr::JumpEqual { left, right, skip: goal.skip }), goal)) }
         Opcode::JumpLess => { let (left, (right, goal)) = two_values_and_goal(words)?; Ok(going(Instr::Local(LocalInstr::JumpLess { left, right, skip: goal.skip }), goal)) }
-        Opcode::Repeat => { let turns = only_turns(words)?; Ok(straight(Instr::Local(LocalInstr::Repeat { turns }))) }
+        Opcode::Repeat => { let (turns, ()) = only_turns(words)?; Ok(straight(Instr::Local(LocalInstr::Repeat { turns }))) }
         Opcode::End => { nothing_of(words)?; Ok(straight(Instr::Local(LocalInstr::End))) }
         Opcode::New => { let (write, (read, ty)) = two_rights_and_type(version, words)?; Ok(straight(Instr::Data(DataInstr::New { write, read, ty }))) }
-        Opcode::Store => { let (datum, from) = right_and_value(words)?; Ok(straight(Instr::Data(DataInstr::Store { datum, from }))) }
-        Opcode::Get => { let (to, datum) = value_and_right(words)?; Ok(straight(Instr::Data(DataInstr::Get { to, datum }))) }
+        Opcode::Store => { let (datum, (from, ())) = right_and_value(words)?; Ok(straight(Instr::Data(DataInstr::Store { datum, from }))) }
+        Opcode::Get => { let (to, (datum, ())) = value_and_right(words)?; Ok(straight(Instr::Data(DataInstr::Get { to, datum }))) }
         Opcode::Insert => { let (container, (subscript, (member, goal))) = right_value_right_and_goal(words)?; Ok(going(Instr::Data(DataInstr::Insert { by: Scalar::Int, container, subscript, member, skip: goal.skip }), goal)) }
         Opcode::Look => { let (member, (container, (subscript, goal))) = right_right_value_and_goal(words)?; Ok(going(Instr::Data(DataInstr::Look { by: Scalar::Int, member, container, subscript, skip: goal.skip }), goal)) }
-        Opcode::Size => { let (to, container) = value_and_right(words)?; Ok(straight(Instr::Data(DataInstr::Size { to, container }))) }
+        Opcode::Size => { let (to, (container, ())) = value_and_right(words)?; Ok(straight(Instr::Data(DataInstr::Size { to, container }))) }
         Opcode::SubscriptAt => { let (to, (container, (index, goal))) = value_right_value_and_goal(words)?; Ok(going(Instr::Data(DataInstr::SubscriptAt { by: Scalar::Int, to, container, index, skip: goal.skip }), goal)) }
-        Opcode::CopyRead => { let (to, from) = two_rights(words)?; Ok(straight(Instr::Data(DataInstr::CopyRead { to, from }))) }
-        Opcode::CopyWrite => { let (to, from) = two_rights(words)?; Ok(straight(Instr::Data(DataInstr::CopyWrite { to, from }))) }
-        Opcode::DropRead => { let right = only_right(words)?; Ok(straight(Instr::Data(DataInstr::DropRead { right }))) }
-        Opcode::DropWrite => { let right = only_right(words)?; Ok(straight(Instr::Data(DataInstr::DropWrite { right }))) }
+        Opcode::CopyRead => { let (to, (from, ())) = two_rights(words)?; Ok(straight(Instr::Data(DataInstr::CopyRead { to, from }))) }
+        Opcode::CopyWrite => { let (to, (from, ())) = two_rights(words)?; Ok(straight(Instr::Data(DataInstr::CopyWrite { to, from }))) }
+        Opcode::DropRead => { let (right, ()) = only_right(words)?; Ok(straight(Instr::Data(DataInstr::DropRead { right }))) }
+        Opcode::DropWrite => { let (right, ()) = only_right(words)?; Ok(straight(Instr::Data(DataInstr::DropWrite { right }))) }
         Opcode::Rule => { let parts = action_parts(alloc, words)?; Ok(straight(Instr::Rule(constant(parts)))) }
         Opcode::Put => { let parts = action_parts(alloc, words)?; Ok(straight(Instr::Put(constant(parts)))) }
         Opcode::Ret => { nothing_of(words)?; Ok(straight(Instr::Ret)) }

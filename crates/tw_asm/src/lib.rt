@@ -33,4 +33,5 @@ pub use fault::{AsmFault, FaultNo};
 pub use laws::{one_first_fault, one_line_each, spells_once};
 pub use line_numbers::LineNumbers;
 pub use listing::{LabelPlaces, put_head_lines, put_right};
+pub use opcode::form_at;
 pub use write::put_version;

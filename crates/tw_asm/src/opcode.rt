@@ -1,12 +1,12 @@
 //! Names of instructions.
 
-ghost use Rattle.std.specs.Prelude.{◌≡◌};
-ghost use Rattle.std.specs.List.{find};
-ghost use Rattle.std.specs.Str.{bytes_eq};
+ghost use Rattle.std.specs.Prelude.{◌≡◌, slice_get};
+ghost use Rattle.std.specs.Option.{option_and_then};
+ghost use Rattle.tw_code.specs.format.Table.{forms_of};
 ghost use Rattle.tw_asm.specs.Names.{opcode_of, word_of};
 ghost use Rattle.tw_asm.specs.reading.Lines.{opcode_in};
 
-use tw_code::{Opcode, Version};
+use tw_code::{Form, OPCODES, Opcode, Version};
 
 /// The name of an instruction.
 pub fn word_of(opcode: Opcode) -> &'static str
@@ -52,62 +52,15 @@ pub fn word_of(opcode: Opcode) -> &'static str
     }
 }
 
-/// The first of these with this name.
-fn named_among(name: &[u8], opcodes: &[Opcode]) -> Option<Opcode>
-    ensures { result ≡ find (λ opcode. bytes_eq (word_of opcode) name.now) opcodes.now }
-{
-    opcodes
-        .iter()
-        .copied()
-        .find(|opcode| word_of(*opcode).as_bytes() == name)
-}
-
 /// The instruction of this name, whatever the version.
 #[tactic(auto, unfolding(crate::specs::Names::opcode_of))]
 fn opcode_named(name: &[u8]) -> Option<Opcode>
     ensures { result ≡ opcode_of name.now }
 {
-    named_among(
-        name,
-        &[
-            Opcode::Int,
-            Opcode::Text,
-            Opcode::Copy,
-            Opcode::Add,
-            Opcode::Subtract,
-            Opcode::Multiply,
-            Opcode::Divide,
-            Opcode::Remainder,
-            Opcode::Concatenate,
-            Opcode::Length,
-            Opcode::Show,
-            Opcode::ReadInt,
-            Opcode::Jump,
-            Opcode::JumpEqual,
-            Opcode::JumpLess,
-            Opcode::Repeat,
-            Opcode::End,
-            Opcode::New,
-            Opcode::Store,
-            Opcode::Get,
-            Opcode::Insert,
-            Opcode::Look,
-            Opcode::Size,
-            Opcode::SubscriptAt,
-            Opcode::CopyRead,
-            Opcode::CopyWrite,
-            Opcode::DropRead,
-            Opcode::DropWrite,
-            Opcode::Rule,
-            Opcode::Put,
-            Opcode::Ret,
-            Opcode::InsertByText,
-            Opcode::LookByText,
-            Opcode::SubscriptAtByText,
-            Opcode::RuleComputed,
-            Opcode::PutComputed,
-        ],
-    )
+    OPCODES
+        .iter()
+        .copied()
+        .find(|opcode| word_of(*opcode).as_bytes() == name)
 }
 
 /// The instruction of this name, if the version has it.
@@ -115,7 +68,18 @@ pub fn opcode_in(version: Version, name: &[u8]) -> Option<Opcode>
     ensures { result ≡ opcode_in version name.now }
 {
     match opcode_named(name) {
-        Some(opcode) if version.has_code(opcode.code()) => Some(opcode),
+        Some(opcode) if opcode.is_in(version) => Some(opcode),
         _ => None,
+    }
+}
+
+/// The form of the operand at this place, from 0, in a line of this name, if the version has such an instruction and it has so many
+/// operands. A type and arguments have all words that are left.
+pub fn form_at(version: Version, name: &[u8], place: usize) -> Option<Form>
+    ensures { result ≡ option_and_then (λ o. slice_get (forms_of o) place) (opcode_in version name.now) }
+{
+    match opcode_in(version, name) {
+        Some(opcode) => opcode.forms().get(place).copied(),
+        None => None,
     }
 }

@@ -2,8 +2,7 @@
 
 ghost use Rattle.std.specs.Prelude.{◌≡◌, map};
 ghost use Rattle.tw_words.specs.Seen.{seen as seen_word};
-ghost use Rattle.tw_asm.specs.reading.Lines.{line_in, value, right, number, natural, one, goal, type, more, nothing};
-ghost use Rattle.tw_asm.specs.reading.Operands.{as_is};
+ghost use Rattle.tw_asm.specs.reading.Lines.{goal, line_in, more, natural, nothing, number, right, type, value};
 
 use crate::gathering::type_of;
 use crate::operands::*;
@@ -14,7 +13,7 @@ use tw_words::Word;
 
 /// No operands.
 pub fn nothing_of(words: &[Word<'_>]) -> Result<(), Flaw>
-    ensures { as_is (λ _. tt) result ≡ line_in nothing (map seen_word words.now) }
+    ensures { result ≡ line_in nothing (map seen_word words.now) }
 {
     match words {
         [] => Ok(()),
@@ -25,42 +24,42 @@ pub fn nothing_of(words: &[Word<'_>]) -> Result<(), Flaw>
 // ---- one operand
 
 /// A value register.
-fn only_value(words: &[Word<'_>]) -> Result<u8, Flaw>
-    ensures { result ≡ line_in (one value) (map seen_word words.now) }
+fn only_value(words: &[Word<'_>]) -> Result<(u8, ()), Flaw>
+    ensures { result ≡ line_in (more value nothing) (map seen_word words.now) }
 {
     match words {
-        [word] => value_of(word),
-        _ => Err(Flaw::Form),
+        [word, others @ ..] => both_of(value_of(word), nothing_of(others)),
+        [] => Err(Flaw::Form),
     }
 }
 
 /// A right register.
-pub fn only_right(words: &[Word<'_>]) -> Result<u8, Flaw>
-    ensures { result ≡ line_in (one right) (map seen_word words.now) }
+pub fn only_right(words: &[Word<'_>]) -> Result<(u8, ()), Flaw>
+    ensures { result ≡ line_in (more right nothing) (map seen_word words.now) }
 {
     match words {
-        [word] => right_of(word),
-        _ => Err(Flaw::Form),
+        [word, others @ ..] => both_of(right_of(word), nothing_of(others)),
+        [] => Err(Flaw::Form),
     }
 }
 
 /// A number.
-fn only_number(words: &[Word<'_>]) -> Result<i64, Flaw>
-    ensures { result ≡ line_in (one number) (map seen_word words.now) }
+fn only_number(words: &[Word<'_>]) -> Result<(i64, ()), Flaw>
+    ensures { result ≡ line_in (more number nothing) (map seen_word words.now) }
 {
     match words {
-        [word] => number_of(word),
-        _ => Err(Flaw::Form),
+        [word, others @ ..] => both_of(number_of(word), nothing_of(others)),
+        [] => Err(Flaw::Form),
     }
 }
 
 /// The number of turns of a loop.
-pub fn only_turns(words: &[Word<'_>]) -> Result<u16, Flaw>
-    ensures { result ≡ line_in (one (natural 1 1000)) (map seen_word words.now) }
+pub fn only_turns(words: &[Word<'_>]) -> Result<(u16, ()), Flaw>
+    ensures { result ≡ line_in (more (natural 1 1000) nothing) (map seen_word words.now) }
 {
     match words {
-        [word] => turns_of(word),
-        _ => Err(Flaw::Form),
+        [word, others @ ..] => both_of(turns_of(word), nothing_of(others)),
+        [] => Err(Flaw::Form),
     }
 }
 
@@ -77,8 +76,8 @@ pub fn only_goal<'a>(words: &[Word<'a>]) -> Result<Goal<'a>, Flaw>
 // ---- an operand and the others
 
 /// A value register and a number.
-pub fn value_and_number(words: &[Word<'_>]) -> Result<(u8, i64), Flaw>
-    ensures { result ≡ line_in (more value (one number)) (map seen_word words.now) }
+pub fn value_and_number(words: &[Word<'_>]) -> Result<(u8, (i64, ())), Flaw>
+    ensures { result ≡ line_in (more value (more number nothing)) (map seen_word words.now) }
 {
     match words {
         [first, others @ ..] => both_of(value_of(first), only_number(others)),
@@ -87,8 +86,8 @@ pub fn value_and_number(words: &[Word<'_>]) -> Result<(u8, i64), Flaw>
 }
 
 /// Two value registers.
-pub fn two_values(words: &[Word<'_>]) -> Result<(u8, u8), Flaw>
-    ensures { result ≡ line_in (more value (one value)) (map seen_word words.now) }
+pub fn two_values(words: &[Word<'_>]) -> Result<(u8, (u8, ())), Flaw>
+    ensures { result ≡ line_in (more value (more value nothing)) (map seen_word words.now) }
 {
     match words {
         [first, others @ ..] => both_of(value_of(first), only_value(others)),
@@ -97,8 +96,8 @@ pub fn two_values(words: &[Word<'_>]) -> Result<(u8, u8), Flaw>
 }
 
 /// A right register and a value register.
-pub fn right_and_value(words: &[Word<'_>]) -> Result<(u8, u8), Flaw>
-    ensures { result ≡ line_in (more right (one value)) (map seen_word words.now) }
+pub fn right_and_value(words: &[Word<'_>]) -> Result<(u8, (u8, ())), Flaw>
+    ensures { result ≡ line_in (more right (more value nothing)) (map seen_word words.now) }
 {
     match words {
         [first, others @ ..] => both_of(right_of(first), only_value(others)),
@@ -107,8 +106,8 @@ pub fn right_and_value(words: &[Word<'_>]) -> Result<(u8, u8), Flaw>
 }
 
 /// A value register and a right register.
-pub fn value_and_right(words: &[Word<'_>]) -> Result<(u8, u8), Flaw>
-    ensures { result ≡ line_in (more value (one right)) (map seen_word words.now) }
+pub fn value_and_right(words: &[Word<'_>]) -> Result<(u8, (u8, ())), Flaw>
+    ensures { result ≡ line_in (more value (more right nothing)) (map seen_word words.now) }
 {
     match words {
         [first, others @ ..] => both_of(value_of(first), only_right(others)),
@@ -117,8 +116,8 @@ pub fn value_and_right(words: &[Word<'_>]) -> Result<(u8, u8), Flaw>
 }
 
 /// Two right registers.
-pub fn two_rights(words: &[Word<'_>]) -> Result<(u8, u8), Flaw>
-    ensures { result ≡ line_in (more right (one right)) (map seen_word words.now) }
+pub fn two_rights(words: &[Word<'_>]) -> Result<(u8, (u8, ())), Flaw>
+    ensures { result ≡ line_in (more right (more right nothing)) (map seen_word words.now) }
 {
     match words {
         [first, others @ ..] => both_of(right_of(first), only_right(others)),

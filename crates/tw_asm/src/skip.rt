@@ -7,34 +7,13 @@ ghost use Rattle.tw_asm.specs.Seen.{data_with_skip, local_with_skip, with_skip};
 
 use tw_code::{DataInstr, Flow, Instr, LocalInstr};
 
+#[rattlefmt::skip]
 fn local_with_skip(instr: LocalInstr, skip: u16) -> LocalInstr
     ensures { result ≡ local_with_skip skip instr }
 {
     match instr {
-        LocalInstr::Compute {
-            operation,
-            to,
-            left,
-            right,
-            ..
-        } => LocalInstr::Compute {
-            operation,
-            to,
-            left,
-            right,
-            skip,
-        },
-        LocalInstr::Concatenate {
-            to,
-            left,
-            right,
-            ..
-        } => LocalInstr::Concatenate {
-            to,
-            left,
-            right,
-            skip,
-        },
+        LocalInstr::Compute { operation, to, left, right, .. } => LocalInstr::Compute { operation, to, left, right, skip },
+        LocalInstr::Concatenate { to, left, right, .. } => LocalInstr::Concatenate { to, left, right, skip },
         LocalInstr::ReadInt { to, from, .. } => LocalInstr::ReadInt { to, from, skip },
         LocalInstr::Jump { .. } => LocalInstr::Jump { skip },
         LocalInstr::JumpEqual { left, right, .. } => LocalInstr::JumpEqual { left, right, skip },
@@ -43,49 +22,14 @@ fn local_with_skip(instr: LocalInstr, skip: u16) -> LocalInstr
     }
 }
 
+#[rattlefmt::skip]
 fn data_with_skip(instr: DataInstr, skip: u16) -> DataInstr
     ensures { result ≡ data_with_skip skip instr }
 {
     match instr {
-        DataInstr::Insert {
-            by,
-            container,
-            subscript,
-            member,
-            ..
-        } => DataInstr::Insert {
-            by,
-            container,
-            subscript,
-            member,
-            skip,
-        },
-        DataInstr::Look {
-            by,
-            member,
-            container,
-            subscript,
-            ..
-        } => DataInstr::Look {
-            by,
-            member,
-            container,
-            subscript,
-            skip,
-        },
-        DataInstr::SubscriptAt {
-            by,
-            to,
-            container,
-            index,
-            ..
-        } => DataInstr::SubscriptAt {
-            by,
-            to,
-            container,
-            index,
-            skip,
-        },
+        DataInstr::Insert { by, container, subscript, member, .. } => DataInstr::Insert { by, container, subscript, member, skip },
+        DataInstr::Look { by, member, container, subscript, .. } => DataInstr::Look { by, member, container, subscript, skip },
+        DataInstr::SubscriptAt { by, to, container, index, .. } => DataInstr::SubscriptAt { by, to, container, index, skip },
         without => without,
     }
 }

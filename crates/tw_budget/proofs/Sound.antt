@@ -13,26 +13,15 @@ use Rattle.tw_code.specs.declared.instr.Instr.{Instr}
 use Rattle.tw_code.specs.declared.instr.Instr.TheVariants as instr
 use Rattle.tw_code.specs.declared.procedure.Procedure.{Procedure}
 use Rattle.tw_code.specs.accepting.Flow.{data_flow, flow_of, flows, local_flow}
-use Rattle.tw_code.specs.format.Program.{IsInstr, IsLocalInstr, IsProcedure}
+use Rattle.tw_code.specs.format.Program.{IsInstr, IsProcedure}
 use Rattle.tw_code.specs.accepting.Structure.{IsStructured}
 use Rattle.tw_budget.specs.Sound.{IsSound}
 
--- a REPEAT has turns
-local_turns : (i : LocalInstr) (turns : ℕ) → IsLocalInstr i → local_flow i ≡ Begin turns → 0 < turns
-local_turns (local.Int to value) turns h e = cc
-local_turns (local.Text to text) turns h e = cc
-local_turns (local.Copy to from) turns h e = cc
-local_turns (local.Compute operation to left right skip) turns h e = cc
-local_turns (local.Concatenate to left right skip) turns h e = cc
-local_turns (local.Length to from) turns h e = cc
-local_turns (local.Show to from) turns h e = cc
-local_turns (local.ReadInt to from skip) turns h e = cc
-local_turns (local.Jump skip) turns h e = cc
-local_turns (local.JumpEqual left right skip) turns h e = cc
-local_turns (local.JumpLess left right skip) turns h e = cc
+-- a REPEAT has turns, and nothing else begins a loop
+local_turns : (i : LocalInstr) (turns : ℕ) → IsInstr (instr.Local i) → local_flow i ≡ Begin turns → 0 < turns
 local_turns (local.Repeat given) turns h e =
     let same : given ≡ turns = ap (λ (f : Flow). turns_in f) e in
-    omega (arith, h.0, same)
+    omega (arith, h.1.0.0, same)
   where
     turns_in : Flow → ℕ
     turns_in Straight = 0
@@ -41,20 +30,11 @@ local_turns (local.Repeat given) turns h e =
     turns_in (Begin n) = n
     turns_in Close = 0
     turns_in Stop = 0
-local_turns local.End turns h e = cc
+local_turns i turns h e = cc
 
 no_turns : (i : DataInstr) (turns : ℕ) → data_flow i ≡ Begin turns → ⊥
 no_turns (on_data.New write read ty) turns e = cc
-no_turns (on_data.Store datum from) turns e = cc
-no_turns (on_data.Get to datum) turns e = cc
-no_turns (on_data.Insert by container subscript member skip) turns e = cc
-no_turns (on_data.Look by member container subscript skip) turns e = cc
-no_turns (on_data.Size to container) turns e = cc
-no_turns (on_data.SubscriptAt by to container index skip) turns e = cc
-no_turns (on_data.CopyRead to from) turns e = cc
-no_turns (on_data.CopyWrite to from) turns e = cc
-no_turns (on_data.DropRead right) turns e = cc
-no_turns (on_data.DropWrite right) turns e = cc
+no_turns i turns e = cc
 
 has_turns : (i : Instr) (turns : ℕ) → IsInstr i → flow_of i ≡ Begin turns → 0 < turns
 has_turns (instr.Local i) turns h e = local_turns i turns h e

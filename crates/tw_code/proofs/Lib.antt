@@ -22,6 +22,7 @@ pub mod Sets
 pub mod Shown
 pub mod Staged
 pub mod Subscribed
+pub mod TableRows
 pub mod Taken
 pub mod TextFormat
 pub mod Types

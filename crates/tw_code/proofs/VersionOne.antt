@@ -1,5 +1,5 @@
 -- Version 1 is spelled as it was.
-use Rattle.std.proofs.Common.{◌≡◌, ℕ, List, [], ◌∷◌, ◌++◌, length, Option, Option, Some, true, refl, sym, ap, subst, ◌∙◌}
+use Rattle.std.proofs.Common.{◌≡◌, ℕ, List, [], ◌∷◌, ◌++◌, length, Option, Some, true, false, refl, sym, ap, subst, ◌∙◌}
 use Rattle.std.specs.Prelude.{slice_get}
 use Rattle.std.specs.List.{concat, flat_map, AllByRecursion}
 use Rattle.tw_types.specs.declared.data_type.Scalar.{Scalar}
@@ -9,22 +9,22 @@ use Rattle.tw_types.specs.declared.param.Mode.TheVariants.{Val, Closed, Ref, Wri
 use Rattle.tw_types.specs.declared.param.Param.{Param}
 use Rattle.tw_types.specs.DataType.{is_scalar}
 use Rattle.tw_types.specs.Nesting.{NestedScalar}
+use Rattle.tw_code.specs.declared.form.Form.{Form}
+use Rattle.tw_code.specs.declared.form.Form.TheVariants.{Value, Right, Number, Turns, Literal, TypeOf, Skip, Callee, Target, Args}
 use Rattle.tw_code.specs.declared.instr.Priority.{Priority}
 use Rattle.tw_code.specs.declared.instr.Priority.TheVariants.{Constant, Computed}
 use Rattle.tw_code.specs.declared.instr.DataInstr.{DataInstr}
 use Rattle.tw_code.specs.declared.instr.DataInstr.TheVariants as on_data
 use Rattle.tw_code.specs.declared.instr.Instr.{Instr}
 use Rattle.tw_code.specs.declared.instr.Instr.TheVariants as instr
-use Rattle.tw_code.specs.declared.instr.LocalInstr.{LocalInstr}
-use Rattle.tw_code.specs.declared.instr.LocalInstr.TheVariants as local
 use Rattle.tw_code.specs.declared.opcode.Opcode.{Opcode}
 use Rattle.tw_code.specs.declared.opcode.Opcode.TheVariants as opcode
 use Rattle.tw_code.specs.declared.procedure.Procedure.{Procedure}
 use Rattle.tw_code.specs.declared.version.Version.{Version}
 use Rattle.tw_code.specs.declared.version.Version.TheVariants.{One, Two}
-use Rattle.tw_code.specs.format.Program.{IsDataInstrOf, IsInstrOf, IsParamOf, IsPriorityOf, IsProcedureOf, IsProgramOf, IsSubscriptOf, IsTypeUnderOf, IsVersioned}
+use Rattle.tw_code.specs.format.Program.{IsInstrOf, IsOperandOf, IsParamOf, IsProcedureOf, IsProgramOf, IsSubscriptOf, IsTypeUnderOf, IsVersioned}
 use Rattle.tw_code.specs.format.Spelling.{Item, byte, mode_code, magic, nested_items, type_items, param_items, operand_items, instr_items, procedure_items, spelling}
-use Rattle.tw_code.specs.format.Table.{action_operands, code_of, opcode_by, opcode_of_priority}
+use Rattle.tw_code.specs.format.Table.{Operand, action_operands, code_of, has_opcode, holds, opcode_by, opcode_of_priority, row}
 use Rattle.tw_code.specs.format.VersionOne as one
 use Rattle.tw_code.specs.format.VersionOne.{SpellProgram, KeepsVersionOne}
 
@@ -55,51 +55,40 @@ same_param p h = ap (λ (items : List Item). byte (mode_code p.mode) ∷ items) 
 
 -- ---- instructions
 
-by_integers : (own other : Opcode) (by : Scalar) → IsSubscriptOf One by → opcode_by own other by ≡ own
-by_integers own other Int h = refl
-by_integers own other Text h = absurd h
+same_operand : (o : Operand) → IsOperandOf One o → operand_items o ≡ one.operand_items o
+same_operand (holds TypeOf ty) h = same_nested ty.containers ty.scalar h.1
+same_operand o h = refl
 
-same_local : (i : LocalInstr) → instr_items (instr.Local i) ≡ one.instr_items (instr.Local i)
-same_local (local.Int to value) = refl
-same_local (local.Text to text) = refl
-same_local (local.Copy to from) = refl
-same_local (local.Compute operation to left right skip) = refl
-same_local (local.Concatenate to left right skip) = refl
-same_local (local.Length to from) = refl
-same_local (local.Show to from) = refl
-same_local (local.ReadInt to from skip) = refl
-same_local (local.Jump skip) = refl
-same_local (local.JumpEqual left right skip) = refl
-same_local (local.JumpLess left right skip) = refl
-same_local (local.Repeat turns) = refl
-same_local local.End = refl
+-- the code is that of version 1, and so are the operands
+same_items : (i : Instr) → IsInstrOf One i → row i ≡ one.row i → instr_items i ≡ one.instr_items i
+same_items i h is =
+    ap (λ (items : List Item). byte (code_of (row i).0) ∷ items) (alike (IsOperandOf One) operand_items one.operand_items same_operand (row i).1 h.1)
+    ∙ ap (λ (r : Opcode × List Operand). byte (code_of r.0) ∷ flat_map one.operand_items r.1) is
 
--- of RULE and PUT, each with its own opcode
-same_action : (own other : Opcode) (procedure : ℕ) (priority : Priority) (target : Option ℕ) (args : List ℕ) → IsPriorityOf One priority
-    → byte (code_of (opcode_of_priority own other priority)) ∷ flat_map operand_items (action_operands (record { procedure = procedure; priority = priority; target = target; args = args }))
-    ≡ byte (code_of own) ∷ flat_map one.operand_items (action_operands (record { procedure = procedure; priority = priority; target = target; args = args }))
-same_action own other procedure (Constant n) target args h = refl
-same_action own other procedure (Computed register) target args h = absurd h
+-- what has several opcodes has one in version 1
+by_integers : (own other : Opcode) (by : Scalar) → has_opcode One other ≡ false → has_opcode One (opcode_by own other by) ≡ true → opcode_by own other by ≡ own
+by_integers own other Int new h = refl
+by_integers own other Text new h = absurd cc
 
-same_data : (i : DataInstr) → IsDataInstrOf One i → instr_items (instr.Data i) ≡ one.instr_items (instr.Data i)
-same_data (on_data.New write read ty) h = ap (λ (items : List Item). byte 0x30 ∷ byte write ∷ byte read ∷ (items ++ [])) (same_nested ty.containers ty.scalar h.2.1)
-same_data (on_data.Store datum from) h = refl
-same_data (on_data.Get to datum) h = refl
-same_data (on_data.Insert by container subscript member skip) h = rw (by_integers _ _ by h.0) refl
-same_data (on_data.Look by member container subscript skip) h = rw (by_integers _ _ by h.0) refl
-same_data (on_data.Size to container) h = refl
-same_data (on_data.SubscriptAt by to container index skip) h = rw (by_integers _ _ by h.0) refl
-same_data (on_data.CopyRead to from) h = refl
-same_data (on_data.CopyWrite to from) h = refl
-same_data (on_data.DropRead right) h = refl
-same_data (on_data.DropWrite right) h = refl
+constant : (own other : Opcode) (priority : Priority) → has_opcode One other ≡ false → has_opcode One (opcode_of_priority own other priority) ≡ true → opcode_of_priority own other priority ≡ own
+constant own other (Constant n) new h = refl
+constant own other (Computed register) new h = absurd cc
+
+same_data : (i : DataInstr) → IsInstrOf One (instr.Data i) → row (instr.Data i) ≡ one.row (instr.Data i)
+same_data (on_data.Insert by container subscript member skip) h = rw (by_integers opcode.Insert opcode.InsertByText by refl h.0) refl
+same_data (on_data.Look by member container subscript skip) h = rw (by_integers opcode.Look opcode.LookByText by refl h.0) refl
+same_data (on_data.SubscriptAt by to container index skip) h = rw (by_integers opcode.SubscriptAt opcode.SubscriptAtByText by refl h.0) refl
+same_data i h = refl
+
+same_row : (i : Instr) → IsInstrOf One i → row i ≡ one.row i
+same_row (instr.Local i) h = refl
+same_row (instr.Data i) h = same_data i h
+same_row (instr.Rule action) h = ap (λ (o : Opcode). (o, action_operands action)) (constant opcode.Rule opcode.RuleComputed action.priority refl h.0)
+same_row (instr.Put action) h = ap (λ (o : Opcode). (o, action_operands action)) (constant opcode.Put opcode.PutComputed action.priority refl h.0)
+same_row instr.Ret h = refl
 
 same_instr : (i : Instr) → IsInstrOf One i → instr_items i ≡ one.instr_items i
-same_instr (instr.Local i) h = same_local i
-same_instr (instr.Data i) h = same_data i h
-same_instr (instr.Rule action) h = same_action opcode.Rule opcode.RuleComputed action.procedure action.priority action.target action.args h.priority
-same_instr (instr.Put action) h = same_action opcode.Put opcode.PutComputed action.procedure action.priority action.target action.args h.priority
-same_instr instr.Ret h = refl
+same_instr i h = same_items i h (same_row i h)
 
 -- ---- programs
 

@@ -38,11 +38,6 @@ impl LocalInstr {
         ensures { result ≡ local_flow self.now }
     {
         match self {
-            LocalInstr::Int { .. }
-            | LocalInstr::Text { .. }
-            | LocalInstr::Copy { .. }
-            | LocalInstr::Length { .. }
-            | LocalInstr::Show { .. } => Flow::Straight,
             LocalInstr::Compute { skip, .. }
             | LocalInstr::Concatenate { skip, .. }
             | LocalInstr::ReadInt { skip, .. }
@@ -51,6 +46,7 @@ impl LocalInstr {
             LocalInstr::Jump { skip } => Flow::Jump(*skip),
             LocalInstr::Repeat { turns } => Flow::Begin(*turns),
             LocalInstr::End => Flow::Close,
+            _ => Flow::Straight,
         }
     }
 }
@@ -61,17 +57,10 @@ impl DataInstr {
         ensures { result ≡ data_flow self }
     {
         match self {
-            DataInstr::New { .. }
-            | DataInstr::Store { .. }
-            | DataInstr::Get { .. }
-            | DataInstr::Size { .. }
-            | DataInstr::CopyRead { .. }
-            | DataInstr::CopyWrite { .. }
-            | DataInstr::DropRead { .. }
-            | DataInstr::DropWrite { .. } => Flow::Straight,
             DataInstr::Insert { skip, .. }
             | DataInstr::Look { skip, .. }
             | DataInstr::SubscriptAt { skip, .. } => Flow::Branch(skip),
+            _ => Flow::Straight,
         }
     }
 }

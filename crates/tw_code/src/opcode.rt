@@ -1,10 +1,12 @@
-//! The instruction set: each instruction's code.
+//! The instruction set: of each instruction its code, the versions that have it, and the forms of its operands.
 
-ghost use Rattle.std.specs.Prelude.{◌≡◌};
-ghost use Rattle.tw_code.specs.format.Reading.{HasCode};
-ghost use Rattle.tw_code.specs.format.Table.{code_of};
+ghost use Rattle.std.specs.Prelude.{◌≡◌, ◌==◌};
+ghost use Rattle.std.specs.List.{find};
+ghost use Rattle.tw_code.specs.format.Table.{code_of, forms_of, has_opcode, opcode_at};
 
+use crate::form::Form;
 use crate::version::Version;
+use Form::{Args, Callee, Literal, Number, Right, Skip, Target, Turns, TypeOf, Value};
 
 /// An instruction without its operands, by its code.
 #[derive(Clone, Copy)]
@@ -47,6 +49,17 @@ pub enum Opcode {
     PutComputed = 0x54,
 }
 
+/// Each of them.
+#[rattlefmt::skip]
+pub const OPCODES: [Opcode; 36] = [
+    Opcode::Int, Opcode::Text, Opcode::Copy, Opcode::Add, Opcode::Subtract, Opcode::Multiply, Opcode::Divide,
+    Opcode::Remainder, Opcode::Concatenate, Opcode::Length, Opcode::Show, Opcode::ReadInt, Opcode::Jump,
+    Opcode::JumpEqual, Opcode::JumpLess, Opcode::Repeat, Opcode::End, Opcode::New, Opcode::Store, Opcode::Get,
+    Opcode::Insert, Opcode::Look, Opcode::Size, Opcode::SubscriptAt, Opcode::CopyRead, Opcode::CopyWrite,
+    Opcode::DropRead, Opcode::DropWrite, Opcode::Rule, Opcode::Put, Opcode::Ret, Opcode::InsertByText,
+    Opcode::LookByText, Opcode::SubscriptAtByText, Opcode::RuleComputed, Opcode::PutComputed,
+];
+
 impl Opcode {
     /// The byte with which an instruction of it begins.
     pub fn code(self) -> u8
@@ -54,54 +67,59 @@ impl Opcode {
     {
         self as u8
     }
+
+    /// Whether a version has it.
+    #[rattlefmt::skip]
+    pub fn is_in(self, version: Version) -> bool
+        ensures { result ≡ has_opcode version self }
+    {
+        match version {
+            Version::One => !matches!(self, Opcode::InsertByText | Opcode::LookByText | Opcode::SubscriptAtByText | Opcode::RuleComputed | Opcode::PutComputed),
+            Version::Two => true,
+        }
+    }
+
+    /// The forms of its operands, in the order of the bytes and of the text.
+    #[rattlefmt::skip]
+    pub fn forms(self) -> &'static [Form]
+        ensures { result.now ≡ forms_of self }
+    {
+        match self {
+            Opcode::Int => &[Value, Number],
+            Opcode::Text => &[Value, Literal],
+            Opcode::Copy | Opcode::Length | Opcode::Show => &[Value, Value],
+            Opcode::Add | Opcode::Subtract | Opcode::Multiply | Opcode::Divide | Opcode::Remainder | Opcode::Concatenate => &[Value, Value, Value, Skip],
+            Opcode::ReadInt | Opcode::JumpEqual | Opcode::JumpLess => &[Value, Value, Skip],
+            Opcode::Jump => &[Skip],
+            Opcode::Repeat => &[Turns],
+            Opcode::End | Opcode::Ret => &[],
+            Opcode::New => &[Right, Right, TypeOf],
+            Opcode::Store => &[Right, Value],
+            Opcode::Get | Opcode::Size => &[Value, Right],
+            Opcode::Insert | Opcode::InsertByText => &[Right, Value, Right, Skip],
+            Opcode::Look | Opcode::LookByText => &[Right, Right, Value, Skip],
+            Opcode::SubscriptAt | Opcode::SubscriptAtByText => &[Value, Right, Value, Skip],
+            Opcode::CopyRead | Opcode::CopyWrite => &[Right, Right],
+            Opcode::DropRead | Opcode::DropWrite => &[Right],
+            Opcode::Rule | Opcode::Put => &[Callee, Number, Target, Args],
+            Opcode::RuleComputed | Opcode::PutComputed => &[Callee, Value, Target, Args],
+        }
+    }
 }
 
-/// The instruction of this code, if the version has one.
-#[tactic(auto, unfolding(crate::specs::format::Reading::instr_at))]
-#[rattlefmt::skip]
-pub fn opcode_of(version: Version, code: u8) -> Option<Opcode>
-    ensures { HasCode version result code }
+/// The one of this code, whatever the version.
+fn opcode_of_code(code: u8) -> Option<Opcode>
+    ensures { result ≡ find (λ o. code_of o == code) OPCODES }
 {
-    if !version.has_code(code) {
-        return None;
-    }
-    match code {
-        0x01 => Some(Opcode::Int),
-        0x02 => Some(Opcode::Text),
-        0x03 => Some(Opcode::Copy),
-        0x10 => Some(Opcode::Add),
-        0x11 => Some(Opcode::Subtract),
-        0x12 => Some(Opcode::Multiply),
-        0x13 => Some(Opcode::Divide),
-        0x14 => Some(Opcode::Remainder),
-        0x18 => Some(Opcode::Concatenate),
-        0x19 => Some(Opcode::Length),
-        0x1a => Some(Opcode::Show),
-        0x1b => Some(Opcode::ReadInt),
-        0x20 => Some(Opcode::Jump),
-        0x21 => Some(Opcode::JumpEqual),
-        0x22 => Some(Opcode::JumpLess),
-        0x23 => Some(Opcode::Repeat),
-        0x24 => Some(Opcode::End),
-        0x30 => Some(Opcode::New),
-        0x31 => Some(Opcode::Store),
-        0x32 => Some(Opcode::Get),
-        0x33 => Some(Opcode::Insert),
-        0x34 => Some(Opcode::Look),
-        0x35 => Some(Opcode::Size),
-        0x36 => Some(Opcode::SubscriptAt),
-        0x37 => Some(Opcode::CopyRead),
-        0x38 => Some(Opcode::CopyWrite),
-        0x39 => Some(Opcode::DropRead),
-        0x3a => Some(Opcode::DropWrite),
-        0x40 => Some(Opcode::Rule),
-        0x41 => Some(Opcode::Put),
-        0x42 => Some(Opcode::Ret),
-        0x50 => Some(Opcode::InsertByText),
-        0x51 => Some(Opcode::LookByText),
-        0x52 => Some(Opcode::SubscriptAtByText),
-        0x53 => Some(Opcode::RuleComputed),
-        0x54 => Some(Opcode::PutComputed),
+    OPCODES.iter().copied().find(|opcode| opcode.code() == code)
+}
+
+/// The one of this code, if the version has one.
+pub fn opcode_at(version: Version, code: u8) -> Option<Opcode>
+    ensures { result ≡ opcode_at version code }
+{
+    match opcode_of_code(code) {
+        Some(opcode) if opcode.is_in(version) => Some(opcode),
         _ => None,
     }
 }

@@ -1,20 +1,22 @@
 //! Instructions from bytes, a row each.
 
-ghost use Rattle.std.specs.Prelude.{◌≡◌};
-ghost use Rattle.tw_code.specs.declared.instr.LocalInstr.TheVariants as local;
-ghost use Rattle.tw_code.specs.declared.instr.Priority.TheVariants.{Constant, Computed};
-ghost use Rattle.tw_code.specs.format.Reading.{Gives, action_at, action_of, as_is, instr_at, number_at, operands_at, register_at, skip_at, text_at, three_registers_and_skip_at, type_at, wide_at};
-ghost use Rattle.tw_code.specs.format.Table.{code_of};
+ghost use Rattle.std.specs.Prelude.{[], ◌∷◌};
+ghost use Rattle.tw_code.specs.declared.form.Form.TheVariants.{Args, Callee, Number, Skip, Target, Value};
+ghost use Rattle.tw_code.specs.declared.instr.LocalInstr.TheVariants.{Compute};
+ghost use Rattle.tw_code.specs.declared.instr.Priority.TheVariants.{Computed, Constant};
+ghost use Rattle.tw_code.specs.declared.version.Version.TheVariants.{One};
+ghost use Rattle.tw_code.specs.format.Reading.{Gives, args_at, as_is, byte_at, contents_at, instr_at, made_at, number_at, register_at, skip_at, target_at, text_at, type_at, wide_at};
+ghost use Rattle.tw_code.specs.format.Table.{action_of, row_of};
 
-use crate::actions::{computed_action_of, constant_action_of};
+use crate::actions::{args_of, target_of};
 use crate::fault::{FaultNo, Stop};
-use crate::instr::{Action, Arithmetic, DataInstr, Instr, LocalInstr};
+use crate::instr::{Action, Arithmetic, DataInstr, Instr, LocalInstr, Priority};
 use crate::items::*;
-use crate::opcode::{Opcode, opcode_of};
+use crate::opcode::{Opcode, opcode_at};
 use crate::texts::text_of;
 use crate::version::Version;
 use std::alloc::Global;
-use tw_types::{DataType, Scalar, Text};
+use tw_types::{DataType, Items, Scalar, Text};
 
 fn register<'a>(bytes: &mut &'a [u8]) -> Result<u8, Stop>
     ensures { Gives (λ x. (x, bytes.new.now)) result (register_at bytes.old.now) }
@@ -68,27 +70,38 @@ fn data_type<'a>(version: Version, bytes: &mut &'a [u8]) -> Result<DataType, Sto
     }
 }
 
-fn constant_action<'a>(alloc: Global, bytes: &mut &'a [u8]) -> Result<Action, Stop>
-    ensures { Gives (λ x. (x, bytes.new.now)) result
-        (as_is (action_of (λ n. Constant n)) (action_at number_at) bytes.old.now) }
+fn callee<'a>(bytes: &mut &'a [u8]) -> Result<u8, Stop>
+    ensures { Gives (λ x. (x, bytes.new.now)) result (byte_at 0 255 bytes.old.now) }
 {
-    let (action, rest) = constant_action_of(alloc, bytes)?;
+    let (callee, rest) = byte_of(0, u8::MAX, bytes)?;
     *bytes = rest;
-    Ok(action)
+    Ok(callee)
 }
 
-fn computed_action<'a>(alloc: Global, bytes: &mut &'a [u8]) -> Result<Action, Stop>
-    ensures { Gives (λ x. (x, bytes.new.now)) result
-        (as_is (action_of (λ r. Computed r)) (action_at register_at) bytes.old.now) }
+fn target<'a>(bytes: &mut &'a [u8]) -> Result<Option<u8>, Stop>
+    ensures { Gives (λ x. (x, bytes.new.now)) result (target_at bytes.old.now) }
 {
-    let (action, rest) = computed_action_of(alloc, bytes)?;
+    let (target, rest) = target_of(bytes)?;
     *bytes = rest;
-    Ok(action)
+    Ok(target)
 }
 
+fn args<'a>(alloc: Global, bytes: &mut &'a [u8]) -> Result<Items<u8>, Stop>
+    ensures { Gives (λ x. (x, bytes.new.now)) result (args_at bytes.old.now) }
+{
+    match args_of(alloc, bytes) {
+        Ok((args, rest)) => {
+            *bytes = rest;
+            Ok(args)
+        }
+        Err(e) => Err(e),
+    }
+}
+
+/// The operands of ADD to REM.
 fn compute<'a>(operation: Arithmetic, bytes: &mut &'a [u8]) -> Result<LocalInstr, Stop>
     ensures { Gives (λ x. (x, bytes.new.now)) result
-        (as_is (λ x. local.Compute operation x.0 x.1.0 x.1.1.0 x.1.1.1) three_registers_and_skip_at bytes.old.now) }
+        (as_is (λ x. Compute operation x.0 x.1.0 x.1.1.0 x.1.1.1.0) (contents_at One (Value ∷ Value ∷ Value ∷ Skip ∷ [])) bytes.old.now) }
 {
     Ok(LocalInstr::Compute {
         operation,
@@ -99,10 +112,34 @@ fn compute<'a>(operation: Arithmetic, bytes: &mut &'a [u8]) -> Result<LocalInstr
     })
 }
 
+/// The operands of RULE, and of PUT.
+fn constant_action<'a>(alloc: Global, bytes: &mut &'a [u8]) -> Result<Action, Stop>
+    ensures { Gives (λ x. (x, bytes.new.now)) result (as_is (action_of Constant) (contents_at One (Callee ∷ Number ∷ Target ∷ Args ∷ [])) bytes.old.now) }
+{
+    Ok(Action {
+        procedure: callee(bytes)?,
+        priority: Priority::Constant(number(bytes)?),
+        target: target(bytes)?,
+        args: args(alloc, bytes)?,
+    })
+}
+
+/// The operands of RULEV, and of PUTV, whose priority is in a value register.
+fn computed_action<'a>(alloc: Global, bytes: &mut &'a [u8]) -> Result<Action, Stop>
+    ensures { Gives (λ x. (x, bytes.new.now)) result (as_is (action_of Computed) (contents_at One (Callee ∷ Value ∷ Target ∷ Args ∷ [])) bytes.old.now) }
+{
+    Ok(Action {
+        procedure: callee(bytes)?,
+        priority: Priority::Computed(register(bytes)?),
+        target: target(bytes)?,
+        args: args(alloc, bytes)?,
+    })
+}
+
 /// The operands of an instruction, a row each.
 #[rattlefmt::skip]
 fn operands_of<'a>(alloc: Global, version: Version, opcode: Opcode, bytes: &mut &'a [u8]) -> Result<Instr, Stop>
-    ensures { Gives (λ x. (x, bytes.new.now)) result (operands_at version (code_of opcode) bytes.old.now) }
+    ensures { Gives (λ x. (x, bytes.new.now)) result (made_at version (row_of opcode) bytes.old.now) }
 {
     match opcode {
         Opcode::Int => Ok(Instr::Local(LocalInstr::Int { to: register(bytes)?, value: number(bytes)? })),
@@ -151,7 +188,7 @@ pub fn instr_of(alloc: Global, version: Version, bytes: &[u8]) -> Result<(Instr,
 {
     match bytes {
         [] => Err(Stop::missing()),
-        [code, rest @ ..] => match opcode_of(version, *code) {
+        [code, rest @ ..] => match opcode_at(version, *code) {
             Some(opcode) => {
                 let mut left = rest;
                 let instr = operands_of(alloc, version, opcode, &mut left)?;

@@ -2,7 +2,8 @@
 
 ghost use Rattle.std.specs.Prelude.{◌≡◌, List, OnOk, map};
 ghost use Rattle.tw_code.specs.declared.opcode.Opcode.{Opcode};
-ghost use Rattle.tw_code.specs.format.Program.{IsAction, IsDataInstr, IsInstr, IsLocalInstr};
+ghost use Rattle.tw_code.specs.declared.instr.Instr.TheVariants.{Local};
+ghost use Rattle.tw_code.specs.format.Program.{IsAction, IsDataInstr, IsInstr};
 ghost use Rattle.tw_code.specs.format.Sink.{AreOperands, seen};
 ghost use Rattle.tw_code.specs.format.Table.{Operand, action_operands, data_row, local_row, opcode_by, opcode_of_operation, opcode_of_priority, priority_operand, row};
 
@@ -56,7 +57,7 @@ fn opcode_of_operation(operation: Arithmetic) -> Opcode
 /// A row an instruction: its opcode and its operands.
 #[rattlefmt::skip]
 fn put_local<S: Sink>(sink: &mut S, instr: &LocalInstr) -> Result<(), AllocError>
-    requires { IsLocalInstr instr.now }
+    requires { IsInstr (Local instr.now) }
     ensures { OnOk result (S.puts sink.old (local_row instr.now).0 (local_row instr.now).1 sink.new) }
 {
     match instr {

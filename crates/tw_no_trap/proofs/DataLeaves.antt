@@ -18,14 +18,14 @@ use Rattle.tw_no_trap.proofs.Values.{AllYes}
 
 module _ (p : Procedure) (typing : Typing) (c : Context) (r w : ℕ → ℕ) (fits : Fits typing c r w) (values : ValuesFit p.registers c.position.values) (long : length typing ≡ 16) where
   pub data_leaves : (i : DataInstr) → IsDataInstr i → AllYes (asks_data p.registers i typing) → Goes (data_instr i c) (Leaves p.registers i typing c r w)
-  data_leaves (on_data.New write read ty) is met = new_leaves p typing c r w fits values long write read ty (omega (arith, is.0.1)) (omega (arith, is.1.1)) is.2.0 met
+  data_leaves (on_data.New write read ty) is met = new_leaves p typing c r w fits values long write read ty (omega (arith, is.1.0.1)) (omega (arith, is.1.1.0.1)) is.1.1.1.0.0 met
   data_leaves (on_data.Store datum from) is met = store_leaves p typing c r w fits values datum from met
   data_leaves (on_data.Get to datum) is met = get_leaves p typing c r w fits values to datum met
   data_leaves (on_data.Insert by container subscript member skip) is met = insert_leaves p typing c r w fits values by container subscript member skip met
-  data_leaves (on_data.Look by member container subscript skip) is met = look_leaves p typing c r w fits values long by member container subscript skip (omega (arith, is.1.1)) met
+  data_leaves (on_data.Look by member container subscript skip) is met = look_leaves p typing c r w fits values long by member container subscript skip (omega (arith, is.1.0.1)) met
   data_leaves (on_data.Size to container) is met = size_leaves p typing c r w fits values to container met
   data_leaves (on_data.SubscriptAt by to container index skip) is met = subscript_leaves p typing c r w fits values by to container index skip met
-  data_leaves (on_data.CopyRead to from) is met = copy_read_leaves p typing c r w fits values long to from (omega (arith, is.0.1)) met
-  data_leaves (on_data.CopyWrite to from) is met = copy_write_leaves p typing c r w fits values long to from (omega (arith, is.0.1)) met
+  data_leaves (on_data.CopyRead to from) is met = copy_read_leaves p typing c r w fits values long to from (omega (arith, is.1.0.1)) met
+  data_leaves (on_data.CopyWrite to from) is met = copy_write_leaves p typing c r w fits values long to from (omega (arith, is.1.0.1)) met
   data_leaves (on_data.DropRead right) is met = drop_read_leaves p typing c r w fits values right met
   data_leaves (on_data.DropWrite right) is met = drop_write_leaves p typing c r w fits values right met

@@ -1,19 +1,13 @@
--- What the words behind a name say: a line an instruction.
+-- What the words behind a name say.
 use Rattle.std.specs.Prelude.{◌≡◌, ℕ, ℤ, List, [], ◌∷◌, ◌++◌, length, codes, Option, Some, None, Result, Ok, Err, nat_lt, ◌==◌, if◌then◌else◌}
 use Rattle.std.specs.Str.{bytes_eq}
-use Rattle.tw_code.specs.declared.instr.Action.{Action}
-use Rattle.tw_code.specs.declared.instr.Arithmetic.TheVariants.{Add, Subtract, Multiply, Divide, Remainder}
-use Rattle.tw_code.specs.declared.instr.DataInstr.TheVariants as on_data
+use Rattle.tw_code.specs.declared.form.Form.{Form as OperandForm}
+use Rattle.tw_code.specs.declared.form.Form.TheVariants as form
 use Rattle.tw_code.specs.declared.instr.Instr.{Instr}
-use Rattle.tw_code.specs.declared.instr.Instr.TheVariants as instr
-use Rattle.tw_code.specs.declared.instr.LocalInstr.TheVariants as local
-use Rattle.tw_code.specs.declared.instr.Priority.{Priority}
-use Rattle.tw_code.specs.declared.instr.Priority.TheVariants.{Constant, Computed}
 use Rattle.tw_code.specs.declared.opcode.Opcode.{Opcode}
-use Rattle.tw_code.specs.declared.opcode.Opcode.TheVariants as op
 use Rattle.tw_code.specs.declared.version.Version.{Version}
-use Rattle.tw_code.specs.format.Reading.{has_code}
-use Rattle.tw_code.specs.format.Table.{code_of}
+use Rattle.tw_code.specs.format.Table as table
+use Rattle.tw_code.specs.format.Table.{Contents, a_row, if_had}
 use Rattle.tw_words.specs.Words.{Word, Bare, Quoted}
 use Rattle.tw_asm.specs.Names.{opcode_of}
 use Rattle.tw_asm.specs.Parts.{kind_word}
@@ -168,26 +162,24 @@ operand_in target w = target_in w
 -- the operands of an instruction
 pub data Line : Type 0 where
   nothing : Line
-  one : Operand → Line
   goal : Line
   type : Version → Line
   args : Line
   more : Operand → Line → Line
+  -- no words are that
+  never : Line
 
 abbrev pub LineContent : Line → Type 0
 LineContent nothing = Unit {0}
-LineContent (one o) = Content o
 LineContent goal = Goal
 LineContent (type version) = NestedScalar
 LineContent args = List ℕ
 LineContent (more o l) = Content o × LineContent l
+LineContent never = ⊥
 
 abbrev pub line_in : (l : Line) → List Word → Result (LineContent l) Flaw
 line_in nothing [] = Ok tt
 line_in nothing (w ∷ ws) = Err Form
-line_in (one o) [] = Err Form
-line_in (one o) (w ∷ []) = operand_in o w
-line_in (one o) (w ∷ x ∷ ws) = Err Form
 line_in goal [] = Err Form
 line_in goal (w ∷ []) = goal_in w
 line_in goal (w ∷ x ∷ ws) = Err Form
@@ -195,67 +187,54 @@ line_in (type version) ws = type_in version ws
 line_in args ws = few 8 (each (natural_in 0 15) ws)
 line_in (more o l) [] = Err Form
 line_in (more o l) (w ∷ ws) = both (operand_in o w) (line_in l ws)
+line_in never ws = Err Form
 
 -- the label that is named, if any
 abbrev pub label_in : (l : Line) → LineContent l → Option (List ℕ)
 label_in nothing x = None
-label_in (one o) x = None
 label_in goal x = x.label
 label_in (type version) x = None
 label_in args x = None
 label_in (more o l) x = label_in l x.1
+label_in never x = None
 
--- ---- a line an instruction
+-- ---- the operands of these forms; a skip, a type and arguments stand last
 
--- with the priority in this form
-abbrev pub action_line : Operand → Line
-action_line priority = more (natural 0 255) (more priority (more target args))
+abbrev pub line_of : Version → List OperandForm → Line
+line_of version [] = nothing
+line_of version (form.Value ∷ forms) = more value (line_of version forms)
+line_of version (form.Right ∷ forms) = more right (line_of version forms)
+line_of version (form.Number ∷ forms) = more number (line_of version forms)
+line_of version (form.Turns ∷ forms) = more (natural 1 1000) (line_of version forms)
+line_of version (form.Literal ∷ forms) = more literal (line_of version forms)
+line_of version (form.TypeOf ∷ []) = type version
+line_of version (form.Skip ∷ []) = goal
+line_of version (form.Callee ∷ forms) = more (natural 0 255) (line_of version forms)
+line_of version (form.Target ∷ forms) = more target (line_of version forms)
+line_of version (form.Args ∷ []) = args
+line_of version (f ∷ forms) = never
 
--- with this made of it
-abbrev pub action_of : {P : Type 0} → (P → Priority) → ℕ × (P × (Option ℕ × List ℕ)) → Action
-action_of make x = record { procedure = x.0; priority = make x.1.0; target = x.1.1.0; args = x.1.1.1 }
+abbrev pub contents_of : (version : Version) (forms : List OperandForm) → LineContent (line_of version forms) → Contents forms
+contents_of version [] x = tt
+contents_of version (form.TypeOf ∷ []) x = (x, tt)
+contents_of version (form.TypeOf ∷ f ∷ forms) x = absurd x
+contents_of version (form.Skip ∷ []) x = (x.skip, tt)
+contents_of version (form.Skip ∷ f ∷ forms) x = absurd x
+contents_of version (form.Args ∷ []) x = (x, tt)
+contents_of version (form.Args ∷ f ∷ forms) x = absurd x
+contents_of version (f ∷ forms) x = (x.0, contents_of version forms x.1)
 
--- its operands, and the instruction that they make
+-- ---- an instruction
+
+-- its operands, and what they make
 pub data Row : Type 0 where
   row : (l : Line) → (LineContent l → Instr) → Row
 
+abbrev pub row_by : Version → table.Row → Row
+row_by version (a_row code forms make) = row (line_of version forms) (λ x. make (contents_of version forms x))
+
 abbrev pub row_of : Version → Opcode → Row
-row_of version op.Int = row (more value (one number)) (λ x. instr.Local (local.Int x.0 x.1))
-row_of version op.Text = row (more value (one literal)) (λ x. instr.Local (local.Text x.0 x.1))
-row_of version op.Copy = row (more value (one value)) (λ x. instr.Local (local.Copy x.0 x.1))
-row_of version op.Add = row (more value (more value (more value goal))) (λ x. instr.Local (local.Compute Add x.0 x.1.0 x.1.1.0 x.1.1.1.skip))
-row_of version op.Subtract = row (more value (more value (more value goal))) (λ x. instr.Local (local.Compute Subtract x.0 x.1.0 x.1.1.0 x.1.1.1.skip))
-row_of version op.Multiply = row (more value (more value (more value goal))) (λ x. instr.Local (local.Compute Multiply x.0 x.1.0 x.1.1.0 x.1.1.1.skip))
-row_of version op.Divide = row (more value (more value (more value goal))) (λ x. instr.Local (local.Compute Divide x.0 x.1.0 x.1.1.0 x.1.1.1.skip))
-row_of version op.Remainder = row (more value (more value (more value goal))) (λ x. instr.Local (local.Compute Remainder x.0 x.1.0 x.1.1.0 x.1.1.1.skip))
-row_of version op.Concatenate = row (more value (more value (more value goal))) (λ x. instr.Local (local.Concatenate x.0 x.1.0 x.1.1.0 x.1.1.1.skip))
-row_of version op.Length = row (more value (one value)) (λ x. instr.Local (local.Length x.0 x.1))
-row_of version op.Show = row (more value (one value)) (λ x. instr.Local (local.Show x.0 x.1))
-row_of version op.ReadInt = row (more value (more value goal)) (λ x. instr.Local (local.ReadInt x.0 x.1.0 x.1.1.skip))
-row_of version op.Jump = row goal (λ x. instr.Local (local.Jump x.skip))
-row_of version op.JumpEqual = row (more value (more value goal)) (λ x. instr.Local (local.JumpEqual x.0 x.1.0 x.1.1.skip))
-row_of version op.JumpLess = row (more value (more value goal)) (λ x. instr.Local (local.JumpLess x.0 x.1.0 x.1.1.skip))
-row_of version op.Repeat = row (one (natural 1 1000)) (λ x. instr.Local (local.Repeat x))
-row_of version op.End = row nothing (λ x. instr.Local local.End)
-row_of version op.New = row (more right (more right (type version))) (λ x. instr.Data (on_data.New x.0 x.1.0 x.1.1))
-row_of version op.Store = row (more right (one value)) (λ x. instr.Data (on_data.Store x.0 x.1))
-row_of version op.Get = row (more value (one right)) (λ x. instr.Data (on_data.Get x.0 x.1))
-row_of version op.Insert = row (more right (more value (more right goal))) (λ x. instr.Data (on_data.Insert Int x.0 x.1.0 x.1.1.0 x.1.1.1.skip))
-row_of version op.Look = row (more right (more right (more value goal))) (λ x. instr.Data (on_data.Look Int x.0 x.1.0 x.1.1.0 x.1.1.1.skip))
-row_of version op.Size = row (more value (one right)) (λ x. instr.Data (on_data.Size x.0 x.1))
-row_of version op.SubscriptAt = row (more value (more right (more value goal))) (λ x. instr.Data (on_data.SubscriptAt Int x.0 x.1.0 x.1.1.0 x.1.1.1.skip))
-row_of version op.CopyRead = row (more right (one right)) (λ x. instr.Data (on_data.CopyRead x.0 x.1))
-row_of version op.CopyWrite = row (more right (one right)) (λ x. instr.Data (on_data.CopyWrite x.0 x.1))
-row_of version op.DropRead = row (one right) (λ x. instr.Data (on_data.DropRead x))
-row_of version op.DropWrite = row (one right) (λ x. instr.Data (on_data.DropWrite x))
-row_of version op.Rule = row (action_line number) (λ x. instr.Rule (action_of Constant x))
-row_of version op.Put = row (action_line number) (λ x. instr.Put (action_of Constant x))
-row_of version op.Ret = row nothing (λ x. instr.Ret)
-row_of version op.InsertByText = row (more right (more value (more right goal))) (λ x. instr.Data (on_data.Insert Text x.0 x.1.0 x.1.1.0 x.1.1.1.skip))
-row_of version op.LookByText = row (more right (more right (more value goal))) (λ x. instr.Data (on_data.Look Text x.0 x.1.0 x.1.1.0 x.1.1.1.skip))
-row_of version op.SubscriptAtByText = row (more value (more right (more value goal))) (λ x. instr.Data (on_data.SubscriptAt Text x.0 x.1.0 x.1.1.0 x.1.1.1.skip))
-row_of version op.RuleComputed = row (action_line value) (λ x. instr.Rule (action_of Computed x))
-row_of version op.PutComputed = row (action_line value) (λ x. instr.Put (action_of Computed x))
+row_of version o = row_by version (table.row_of o)
 
 -- an instruction, and the label that it names
 abbrev pub draft_by : Row → List Word → Result (Instr × Option (List ℕ)) Flaw
@@ -265,10 +244,6 @@ abbrev pub draft_in : Version → Opcode → List Word → Result (Instr × Opti
 draft_in version o ws = draft_by (row_of version o) ws
 
 -- the instruction of this name, if the version has it
-abbrev pub if_had : Version → Option Opcode → Option Opcode
-if_had version None = None
-if_had version (Some o) = if has_code version (code_of o) then Some o else None
-
 abbrev pub opcode_in : Version → List ℕ → Option Opcode
 opcode_in version name = if_had version (opcode_of name)
 

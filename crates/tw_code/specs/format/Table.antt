@@ -1,6 +1,10 @@
--- The table of instructions: the code of each opcode; and of each instruction its opcode and its operands, in the order of the
--- bytes and of the text. How an operand is spelled in bytes says Spelling, and in text the assembler's Parts.
-use Rattle.std.specs.Prelude.{ℕ, ℤ, List, [], ◌∷◌, Option}
+-- The table of instructions: of each opcode its code, the forms of its operands, in the order of the bytes and of the text, and the
+-- instruction that they make, and the first version that has it; and of each instruction its opcode and its operands. How an operand
+-- is spelled in bytes says Spelling, and in text the assembler's Parts.
+use Rattle.std.specs.Prelude.{ℕ, ℤ, Bool, true, false, List, [], ◌∷◌, Option, Some, None, ◌==◌, if◌then◌else◌}
+use Rattle.std.specs.List.{find}
+use Rattle.tw_code.specs.declared.form.Form.{Form}
+use Rattle.tw_code.specs.declared.form.Form.TheVariants.{Value, Right, Number, Turns, Literal, TypeOf, Skip, Callee, Target, Args}
 use Rattle.tw_code.specs.declared.instr.Action.{Action}
 use Rattle.tw_code.specs.declared.instr.Arithmetic.{Arithmetic}
 use Rattle.tw_code.specs.declared.instr.Arithmetic.TheVariants as operation
@@ -9,71 +13,126 @@ use Rattle.tw_code.specs.declared.instr.DataInstr.TheVariants as on_data
 use Rattle.tw_code.specs.declared.instr.Instr.{Instr}
 use Rattle.tw_code.specs.declared.instr.Instr.TheVariants as instr
 use Rattle.tw_code.specs.declared.instr.LocalInstr.{LocalInstr}
+use Rattle.tw_code.specs.declared.instr.LocalInstr.TheVariants as local
 use Rattle.tw_code.specs.declared.instr.Priority.{Priority}
 use Rattle.tw_code.specs.declared.instr.Priority.TheVariants.{Constant, Computed}
-use Rattle.tw_code.specs.declared.instr.LocalInstr.TheVariants as local
 use Rattle.tw_code.specs.declared.opcode.Opcode.{Opcode}
 use Rattle.tw_code.specs.declared.opcode.Opcode.TheVariants as opcode
+use Rattle.tw_code.specs.declared.opcode.TheConstants.{OPCODES}
+use Rattle.tw_code.specs.declared.version.Version.{Version}
+use Rattle.tw_code.specs.declared.version.Version.TheVariants.{One, Two}
 use Rattle.tw_types.specs.Nesting.{NestedScalar}
 use Rattle.tw_types.specs.declared.data_type.Scalar.{Scalar}
 use Rattle.tw_types.specs.declared.data_type.Scalar.TheVariants.{Int, Text}
 
-abbrev pub code_of : Opcode → ℕ
-code_of opcode.Int = 0x01
-code_of opcode.Text = 0x02
-code_of opcode.Copy = 0x03
-code_of opcode.Add = 0x10
-code_of opcode.Subtract = 0x11
-code_of opcode.Multiply = 0x12
-code_of opcode.Divide = 0x13
-code_of opcode.Remainder = 0x14
-code_of opcode.Concatenate = 0x18
-code_of opcode.Length = 0x19
-code_of opcode.Show = 0x1a
-code_of opcode.ReadInt = 0x1b
-code_of opcode.Jump = 0x20
-code_of opcode.JumpEqual = 0x21
-code_of opcode.JumpLess = 0x22
-code_of opcode.Repeat = 0x23
-code_of opcode.End = 0x24
-code_of opcode.New = 0x30
-code_of opcode.Store = 0x31
-code_of opcode.Get = 0x32
-code_of opcode.Insert = 0x33
-code_of opcode.Look = 0x34
-code_of opcode.Size = 0x35
-code_of opcode.SubscriptAt = 0x36
-code_of opcode.CopyRead = 0x37
-code_of opcode.CopyWrite = 0x38
-code_of opcode.DropRead = 0x39
-code_of opcode.DropWrite = 0x3a
-code_of opcode.Rule = 0x40
-code_of opcode.Put = 0x41
-code_of opcode.Ret = 0x42
-code_of opcode.InsertByText = 0x50
-code_of opcode.LookByText = 0x51
-code_of opcode.SubscriptAtByText = 0x52
-code_of opcode.RuleComputed = 0x53
-code_of opcode.PutComputed = 0x54
+-- ---- operands
+
+-- what an operand of a form holds
+abbrev pub Content : Form → Type 0
+Content Value = ℕ
+Content Right = ℕ
+Content Number = ℤ
+Content Turns = ℕ
+Content Literal = List ℕ
+Content TypeOf = NestedScalar
+Content Skip = ℕ
+Content Callee = ℕ
+Content Target = Option ℕ
+Content Args = List ℕ
+
+abbrev pub Contents : List Form → Type 0
+Contents [] = Unit {0}
+Contents (form ∷ forms) = Content form × Contents forms
 
 pub data Operand : Type 0 where
-  -- a value register, a right register
-  Value : ℕ → Operand
-  Right : ℕ → Operand
-  Number : ℤ → Operand
-  -- how many turns a loop has
-  Turns : ℕ → Operand
-  -- a text
-  Literal : List ℕ → Operand
-  TypeOf : NestedScalar → Operand
-  -- how many instructions to skip
-  Skip : ℕ → Operand
-  -- the number of a procedure
-  Callee : ℕ → Operand
-  -- the number of an actor, or any
-  Target : Option ℕ → Operand
-  -- registers; the parameter's mode says of which bank
-  Args : List ℕ → Operand
+  holds : (form : Form) → Content form → Operand
+
+-- ---- a line an opcode
+
+-- its code, the forms of its operands, and the instruction that they make
+pub data Row : Type 0 where
+  a_row : ℕ → (forms : List Form) → (Contents forms → Instr) → Row
+
+-- the task that RULE and PUT name, with its priority made of what was given
+abbrev pub action_of : {P : Type 0} → (P → Priority) → ℕ × (P × (Option ℕ × (List ℕ × Unit {0}))) → Action
+action_of make x = record { procedure = x.0; priority = make x.1.0; target = x.1.1.0; args = x.1.1.1.0 }
+
+abbrev pub row_of : Opcode → Row
+row_of opcode.Int = a_row 0x01 (Value ∷ Number ∷ []) (λ x. instr.Local (local.Int x.0 x.1.0))
+row_of opcode.Text = a_row 0x02 (Value ∷ Literal ∷ []) (λ x. instr.Local (local.Text x.0 x.1.0))
+row_of opcode.Copy = a_row 0x03 (Value ∷ Value ∷ []) (λ x. instr.Local (local.Copy x.0 x.1.0))
+row_of opcode.Add = a_row 0x10 (Value ∷ Value ∷ Value ∷ Skip ∷ []) (λ x. instr.Local (local.Compute operation.Add x.0 x.1.0 x.1.1.0 x.1.1.1.0))
+row_of opcode.Subtract = a_row 0x11 (Value ∷ Value ∷ Value ∷ Skip ∷ []) (λ x. instr.Local (local.Compute operation.Subtract x.0 x.1.0 x.1.1.0 x.1.1.1.0))
+row_of opcode.Multiply = a_row 0x12 (Value ∷ Value ∷ Value ∷ Skip ∷ []) (λ x. instr.Local (local.Compute operation.Multiply x.0 x.1.0 x.1.1.0 x.1.1.1.0))
+row_of opcode.Divide = a_row 0x13 (Value ∷ Value ∷ Value ∷ Skip ∷ []) (λ x. instr.Local (local.Compute operation.Divide x.0 x.1.0 x.1.1.0 x.1.1.1.0))
+row_of opcode.Remainder = a_row 0x14 (Value ∷ Value ∷ Value ∷ Skip ∷ []) (λ x. instr.Local (local.Compute operation.Remainder x.0 x.1.0 x.1.1.0 x.1.1.1.0))
+row_of opcode.Concatenate = a_row 0x18 (Value ∷ Value ∷ Value ∷ Skip ∷ []) (λ x. instr.Local (local.Concatenate x.0 x.1.0 x.1.1.0 x.1.1.1.0))
+row_of opcode.Length = a_row 0x19 (Value ∷ Value ∷ []) (λ x. instr.Local (local.Length x.0 x.1.0))
+row_of opcode.Show = a_row 0x1a (Value ∷ Value ∷ []) (λ x. instr.Local (local.Show x.0 x.1.0))
+row_of opcode.ReadInt = a_row 0x1b (Value ∷ Value ∷ Skip ∷ []) (λ x. instr.Local (local.ReadInt x.0 x.1.0 x.1.1.0))
+row_of opcode.Jump = a_row 0x20 (Skip ∷ []) (λ x. instr.Local (local.Jump x.0))
+row_of opcode.JumpEqual = a_row 0x21 (Value ∷ Value ∷ Skip ∷ []) (λ x. instr.Local (local.JumpEqual x.0 x.1.0 x.1.1.0))
+row_of opcode.JumpLess = a_row 0x22 (Value ∷ Value ∷ Skip ∷ []) (λ x. instr.Local (local.JumpLess x.0 x.1.0 x.1.1.0))
+row_of opcode.Repeat = a_row 0x23 (Turns ∷ []) (λ x. instr.Local (local.Repeat x.0))
+row_of opcode.End = a_row 0x24 [] (λ x. instr.Local local.End)
+row_of opcode.New = a_row 0x30 (Right ∷ Right ∷ TypeOf ∷ []) (λ x. instr.Data (on_data.New x.0 x.1.0 x.1.1.0))
+row_of opcode.Store = a_row 0x31 (Right ∷ Value ∷ []) (λ x. instr.Data (on_data.Store x.0 x.1.0))
+row_of opcode.Get = a_row 0x32 (Value ∷ Right ∷ []) (λ x. instr.Data (on_data.Get x.0 x.1.0))
+row_of opcode.Insert = a_row 0x33 (Right ∷ Value ∷ Right ∷ Skip ∷ []) (λ x. instr.Data (on_data.Insert Int x.0 x.1.0 x.1.1.0 x.1.1.1.0))
+row_of opcode.Look = a_row 0x34 (Right ∷ Right ∷ Value ∷ Skip ∷ []) (λ x. instr.Data (on_data.Look Int x.0 x.1.0 x.1.1.0 x.1.1.1.0))
+row_of opcode.Size = a_row 0x35 (Value ∷ Right ∷ []) (λ x. instr.Data (on_data.Size x.0 x.1.0))
+row_of opcode.SubscriptAt = a_row 0x36 (Value ∷ Right ∷ Value ∷ Skip ∷ []) (λ x. instr.Data (on_data.SubscriptAt Int x.0 x.1.0 x.1.1.0 x.1.1.1.0))
+row_of opcode.CopyRead = a_row 0x37 (Right ∷ Right ∷ []) (λ x. instr.Data (on_data.CopyRead x.0 x.1.0))
+row_of opcode.CopyWrite = a_row 0x38 (Right ∷ Right ∷ []) (λ x. instr.Data (on_data.CopyWrite x.0 x.1.0))
+row_of opcode.DropRead = a_row 0x39 (Right ∷ []) (λ x. instr.Data (on_data.DropRead x.0))
+row_of opcode.DropWrite = a_row 0x3a (Right ∷ []) (λ x. instr.Data (on_data.DropWrite x.0))
+row_of opcode.Rule = a_row 0x40 (Callee ∷ Number ∷ Target ∷ Args ∷ []) (λ x. instr.Rule (action_of Constant x))
+row_of opcode.Put = a_row 0x41 (Callee ∷ Number ∷ Target ∷ Args ∷ []) (λ x. instr.Put (action_of Constant x))
+row_of opcode.Ret = a_row 0x42 [] (λ x. instr.Ret)
+row_of opcode.InsertByText = a_row 0x50 (Right ∷ Value ∷ Right ∷ Skip ∷ []) (λ x. instr.Data (on_data.Insert Text x.0 x.1.0 x.1.1.0 x.1.1.1.0))
+row_of opcode.LookByText = a_row 0x51 (Right ∷ Right ∷ Value ∷ Skip ∷ []) (λ x. instr.Data (on_data.Look Text x.0 x.1.0 x.1.1.0 x.1.1.1.0))
+row_of opcode.SubscriptAtByText = a_row 0x52 (Value ∷ Right ∷ Value ∷ Skip ∷ []) (λ x. instr.Data (on_data.SubscriptAt Text x.0 x.1.0 x.1.1.0 x.1.1.1.0))
+row_of opcode.RuleComputed = a_row 0x53 (Callee ∷ Value ∷ Target ∷ Args ∷ []) (λ x. instr.Rule (action_of Computed x))
+row_of opcode.PutComputed = a_row 0x54 (Callee ∷ Value ∷ Target ∷ Args ∷ []) (λ x. instr.Put (action_of Computed x))
+
+abbrev pub code_in : Row → ℕ
+code_in (a_row code forms make) = code
+
+abbrev pub forms_in : Row → List Form
+forms_in (a_row code forms make) = forms
+
+abbrev pub code_of : Opcode → ℕ
+code_of o = code_in (row_of o)
+
+abbrev pub forms_of : Opcode → List Form
+forms_of o = forms_in (row_of o)
+
+-- the first version that has it
+abbrev pub since : Opcode → Version
+since opcode.InsertByText = Two
+since opcode.LookByText = Two
+since opcode.SubscriptAtByText = Two
+since opcode.RuleComputed = Two
+since opcode.PutComputed = Two
+since o = One
+
+-- a version has what it or one before it brought
+abbrev pub has_since : Version → Version → Bool
+has_since One One = true
+has_since One Two = false
+has_since Two brought = true
+
+abbrev pub has_opcode : Version → Opcode → Bool
+has_opcode version o = has_since version (since o)
+
+-- an opcode that was found, if the version has it
+abbrev pub if_had : Version → Option Opcode → Option Opcode
+if_had version None = None
+if_had version (Some o) = if has_opcode version o then Some o else None
+
+-- the opcode of this code, if the version has one
+abbrev pub opcode_at : Version → ℕ → Option Opcode
+opcode_at version code = if_had version (find (λ o. code_of o == code) OPCODES)
 
 -- ---- a line an instruction
 
@@ -85,18 +144,18 @@ opcode_of_operation operation.Divide = opcode.Divide
 opcode_of_operation operation.Remainder = opcode.Remainder
 
 abbrev pub local_row : LocalInstr → Opcode × List Operand
-local_row (local.Int to value) = (opcode.Int, Value to ∷ Number value ∷ [])
-local_row (local.Text to text) = (opcode.Text, Value to ∷ Literal text ∷ [])
-local_row (local.Copy to from) = (opcode.Copy, Value to ∷ Value from ∷ [])
-local_row (local.Compute operation to left right skip) = (opcode_of_operation operation, Value to ∷ Value left ∷ Value right ∷ Skip skip ∷ [])
-local_row (local.Concatenate to left right skip) = (opcode.Concatenate, Value to ∷ Value left ∷ Value right ∷ Skip skip ∷ [])
-local_row (local.Length to from) = (opcode.Length, Value to ∷ Value from ∷ [])
-local_row (local.Show to from) = (opcode.Show, Value to ∷ Value from ∷ [])
-local_row (local.ReadInt to from skip) = (opcode.ReadInt, Value to ∷ Value from ∷ Skip skip ∷ [])
-local_row (local.Jump skip) = (opcode.Jump, Skip skip ∷ [])
-local_row (local.JumpEqual left right skip) = (opcode.JumpEqual, Value left ∷ Value right ∷ Skip skip ∷ [])
-local_row (local.JumpLess left right skip) = (opcode.JumpLess, Value left ∷ Value right ∷ Skip skip ∷ [])
-local_row (local.Repeat turns) = (opcode.Repeat, Turns turns ∷ [])
+local_row (local.Int to value) = (opcode.Int, holds Value to ∷ holds Number value ∷ [])
+local_row (local.Text to text) = (opcode.Text, holds Value to ∷ holds Literal text ∷ [])
+local_row (local.Copy to from) = (opcode.Copy, holds Value to ∷ holds Value from ∷ [])
+local_row (local.Compute operation to left right skip) = (opcode_of_operation operation, holds Value to ∷ holds Value left ∷ holds Value right ∷ holds Skip skip ∷ [])
+local_row (local.Concatenate to left right skip) = (opcode.Concatenate, holds Value to ∷ holds Value left ∷ holds Value right ∷ holds Skip skip ∷ [])
+local_row (local.Length to from) = (opcode.Length, holds Value to ∷ holds Value from ∷ [])
+local_row (local.Show to from) = (opcode.Show, holds Value to ∷ holds Value from ∷ [])
+local_row (local.ReadInt to from skip) = (opcode.ReadInt, holds Value to ∷ holds Value from ∷ holds Skip skip ∷ [])
+local_row (local.Jump skip) = (opcode.Jump, holds Skip skip ∷ [])
+local_row (local.JumpEqual left right skip) = (opcode.JumpEqual, holds Value left ∷ holds Value right ∷ holds Skip skip ∷ [])
+local_row (local.JumpLess left right skip) = (opcode.JumpLess, holds Value left ∷ holds Value right ∷ holds Skip skip ∷ [])
+local_row (local.Repeat turns) = (opcode.Repeat, holds Turns turns ∷ [])
 local_row local.End = (opcode.End, [])
 
 -- one opcode where subscripts are integers, and another where they are texts
@@ -105,17 +164,17 @@ opcode_by for_integers for_texts Int = for_integers
 opcode_by for_integers for_texts Text = for_texts
 
 abbrev pub data_row : DataInstr → Opcode × List Operand
-data_row (on_data.New write read ty) = (opcode.New, Right write ∷ Right read ∷ TypeOf ty ∷ [])
-data_row (on_data.Store datum from) = (opcode.Store, Right datum ∷ Value from ∷ [])
-data_row (on_data.Get to datum) = (opcode.Get, Value to ∷ Right datum ∷ [])
-data_row (on_data.Insert by container subscript member skip) = (opcode_by opcode.Insert opcode.InsertByText by, Right container ∷ Value subscript ∷ Right member ∷ Skip skip ∷ [])
-data_row (on_data.Look by member container subscript skip) = (opcode_by opcode.Look opcode.LookByText by, Right member ∷ Right container ∷ Value subscript ∷ Skip skip ∷ [])
-data_row (on_data.Size to container) = (opcode.Size, Value to ∷ Right container ∷ [])
-data_row (on_data.SubscriptAt by to container index skip) = (opcode_by opcode.SubscriptAt opcode.SubscriptAtByText by, Value to ∷ Right container ∷ Value index ∷ Skip skip ∷ [])
-data_row (on_data.CopyRead to from) = (opcode.CopyRead, Right to ∷ Right from ∷ [])
-data_row (on_data.CopyWrite to from) = (opcode.CopyWrite, Right to ∷ Right from ∷ [])
-data_row (on_data.DropRead right) = (opcode.DropRead, Right right ∷ [])
-data_row (on_data.DropWrite right) = (opcode.DropWrite, Right right ∷ [])
+data_row (on_data.New write read ty) = (opcode.New, holds Right write ∷ holds Right read ∷ holds TypeOf ty ∷ [])
+data_row (on_data.Store datum from) = (opcode.Store, holds Right datum ∷ holds Value from ∷ [])
+data_row (on_data.Get to datum) = (opcode.Get, holds Value to ∷ holds Right datum ∷ [])
+data_row (on_data.Insert by container subscript member skip) = (opcode_by opcode.Insert opcode.InsertByText by, holds Right container ∷ holds Value subscript ∷ holds Right member ∷ holds Skip skip ∷ [])
+data_row (on_data.Look by member container subscript skip) = (opcode_by opcode.Look opcode.LookByText by, holds Right member ∷ holds Right container ∷ holds Value subscript ∷ holds Skip skip ∷ [])
+data_row (on_data.Size to container) = (opcode.Size, holds Value to ∷ holds Right container ∷ [])
+data_row (on_data.SubscriptAt by to container index skip) = (opcode_by opcode.SubscriptAt opcode.SubscriptAtByText by, holds Value to ∷ holds Right container ∷ holds Value index ∷ holds Skip skip ∷ [])
+data_row (on_data.CopyRead to from) = (opcode.CopyRead, holds Right to ∷ holds Right from ∷ [])
+data_row (on_data.CopyWrite to from) = (opcode.CopyWrite, holds Right to ∷ holds Right from ∷ [])
+data_row (on_data.DropRead right) = (opcode.DropRead, holds Right right ∷ [])
+data_row (on_data.DropWrite right) = (opcode.DropWrite, holds Right right ∷ [])
 
 -- one opcode where the priority is a constant, and another where it is computed
 abbrev pub opcode_of_priority : Opcode → Opcode → Priority → Opcode
@@ -124,11 +183,11 @@ opcode_of_priority constant computed (Computed register) = computed
 
 -- a computed priority is its register
 abbrev pub priority_operand : Priority → Operand
-priority_operand (Constant n) = Number n
-priority_operand (Computed register) = Value register
+priority_operand (Constant n) = holds Number n
+priority_operand (Computed register) = holds Value register
 
 abbrev pub action_operands : Action → List Operand
-action_operands action = Callee action.procedure ∷ priority_operand action.priority ∷ Target action.target ∷ Args action.args ∷ []
+action_operands action = holds Callee action.procedure ∷ priority_operand action.priority ∷ holds Target action.target ∷ holds Args action.args ∷ []
 
 abbrev pub row : Instr → Opcode × List Operand
 row (instr.Local i) = local_row i

@@ -2,6 +2,7 @@
 -- further bytes since, and stand here without them; items and codes are those of Spelling and of Table.
 use Rattle.std.specs.Prelude.{◌≡◌, ◌↔◌, ℕ, List, [], ◌∷◌, ◌++◌, Some, slice_get}
 use Rattle.std.specs.List.{concat, flat_map}
+use Rattle.tw_code.specs.declared.form.Form.TheVariants.{Value, Right, Number, Turns, Literal, TypeOf, Skip, Callee, Target, Args}
 use Rattle.tw_code.specs.declared.instr.DataInstr.{DataInstr}
 use Rattle.tw_code.specs.declared.instr.DataInstr.TheVariants as on_data
 use Rattle.tw_code.specs.declared.instr.Instr.{Instr}
@@ -12,7 +13,7 @@ use Rattle.tw_code.specs.declared.procedure.Procedure.{Procedure}
 use Rattle.tw_code.specs.declared.version.Version.TheVariants.{One}
 use Rattle.tw_code.specs.format.Program.{IsProgramOf, IsVersioned, Versioned}
 use Rattle.tw_code.specs.format.Spelling.{Item, byte, wide, number, kind_code, mode_code, scalar_items, text_items, target_code, counted_items, register_items, magic, spelling}
-use Rattle.tw_code.specs.format.Table.{Operand, Value, Right, Number, Turns, Literal, TypeOf, Skip, Callee, Target, Args, action_operands, code_of, local_row}
+use Rattle.tw_code.specs.format.Table.{Operand, holds, action_operands, code_of, local_row}
 use Rattle.tw_types.specs.Nesting.{NestedScalar}
 use Rattle.tw_types.specs.declared.data_type.Scalar.{Scalar}
 use Rattle.tw_types.specs.declared.param.Param.{Param}
@@ -29,29 +30,29 @@ abbrev pub param_items : Param → List Item
 param_items p = byte (mode_code p.mode) ∷ type_items p.ty
 
 abbrev pub operand_items : Operand → List Item
-operand_items (Value register) = byte register ∷ []
-operand_items (Right register) = byte register ∷ []
-operand_items (Number n) = number n ∷ []
-operand_items (Turns turns) = wide turns ∷ []
-operand_items (Literal text) = text_items text
-operand_items (TypeOf ty) = type_items ty
-operand_items (Skip skip) = wide skip ∷ []
-operand_items (Callee procedure) = byte procedure ∷ []
-operand_items (Target target) = byte (target_code target) ∷ []
-operand_items (Args registers) = counted_items byte register_items registers
+operand_items (holds Value register) = byte register ∷ []
+operand_items (holds Right register) = byte register ∷ []
+operand_items (holds Number n) = number n ∷ []
+operand_items (holds Turns turns) = wide turns ∷ []
+operand_items (holds Literal text) = text_items text
+operand_items (holds TypeOf ty) = type_items ty
+operand_items (holds Skip skip) = wide skip ∷ []
+operand_items (holds Callee procedure) = byte procedure ∷ []
+operand_items (holds Target target) = byte (target_code target) ∷ []
+operand_items (holds Args registers) = counted_items byte register_items registers
 
 abbrev pub data_row : DataInstr → Opcode × List Operand
-data_row (on_data.New write read ty) = (opcode.New, Right write ∷ Right read ∷ TypeOf ty ∷ [])
-data_row (on_data.Store datum from) = (opcode.Store, Right datum ∷ Value from ∷ [])
-data_row (on_data.Get to datum) = (opcode.Get, Value to ∷ Right datum ∷ [])
-data_row (on_data.Insert by container subscript member skip) = (opcode.Insert, Right container ∷ Value subscript ∷ Right member ∷ Skip skip ∷ [])
-data_row (on_data.Look by member container subscript skip) = (opcode.Look, Right member ∷ Right container ∷ Value subscript ∷ Skip skip ∷ [])
-data_row (on_data.Size to container) = (opcode.Size, Value to ∷ Right container ∷ [])
-data_row (on_data.SubscriptAt by to container index skip) = (opcode.SubscriptAt, Value to ∷ Right container ∷ Value index ∷ Skip skip ∷ [])
-data_row (on_data.CopyRead to from) = (opcode.CopyRead, Right to ∷ Right from ∷ [])
-data_row (on_data.CopyWrite to from) = (opcode.CopyWrite, Right to ∷ Right from ∷ [])
-data_row (on_data.DropRead right) = (opcode.DropRead, Right right ∷ [])
-data_row (on_data.DropWrite right) = (opcode.DropWrite, Right right ∷ [])
+data_row (on_data.New write read ty) = (opcode.New, holds Right write ∷ holds Right read ∷ holds TypeOf ty ∷ [])
+data_row (on_data.Store datum from) = (opcode.Store, holds Right datum ∷ holds Value from ∷ [])
+data_row (on_data.Get to datum) = (opcode.Get, holds Value to ∷ holds Right datum ∷ [])
+data_row (on_data.Insert by container subscript member skip) = (opcode.Insert, holds Right container ∷ holds Value subscript ∷ holds Right member ∷ holds Skip skip ∷ [])
+data_row (on_data.Look by member container subscript skip) = (opcode.Look, holds Right member ∷ holds Right container ∷ holds Value subscript ∷ holds Skip skip ∷ [])
+data_row (on_data.Size to container) = (opcode.Size, holds Value to ∷ holds Right container ∷ [])
+data_row (on_data.SubscriptAt by to container index skip) = (opcode.SubscriptAt, holds Value to ∷ holds Right container ∷ holds Value index ∷ holds Skip skip ∷ [])
+data_row (on_data.CopyRead to from) = (opcode.CopyRead, holds Right to ∷ holds Right from ∷ [])
+data_row (on_data.CopyWrite to from) = (opcode.CopyWrite, holds Right to ∷ holds Right from ∷ [])
+data_row (on_data.DropRead right) = (opcode.DropRead, holds Right right ∷ [])
+data_row (on_data.DropWrite right) = (opcode.DropWrite, holds Right right ∷ [])
 
 abbrev pub row : Instr → Opcode × List Operand
 row (instr.Local i) = local_row i

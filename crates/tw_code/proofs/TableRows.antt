@@ -1,0 +1,125 @@
+-- The table of instructions: what an opcode makes of operands has that opcode and those operands, and each instruction is made of
+-- its own. A line where an instruction has several opcodes; all others go by computing.
+use Rattle.std.proofs.Common.{◌≡◌, ◌==◌, ℕ, ℤ, pos, List, [], ◌∷◌, Option, Some, None, refl}
+use Rattle.std.specs.List.{find}
+use Rattle.tw_code.specs.declared.form.Form.{Form}
+use Rattle.tw_code.specs.declared.form.Form.TheVariants.{Value, Right, Number, Turns, Literal, TypeOf, Skip, Callee, Target, Args}
+use Rattle.tw_code.specs.declared.instr.Arithmetic.{Arithmetic}
+use Rattle.tw_code.specs.declared.instr.Arithmetic.TheVariants as operation
+use Rattle.tw_code.specs.declared.instr.DataInstr.{DataInstr}
+use Rattle.tw_code.specs.declared.instr.DataInstr.TheVariants as on_data
+use Rattle.tw_code.specs.declared.instr.Instr.{Instr}
+use Rattle.tw_code.specs.declared.instr.Instr.TheVariants as instr
+use Rattle.tw_code.specs.declared.instr.LocalInstr.{LocalInstr}
+use Rattle.tw_code.specs.declared.instr.LocalInstr.TheVariants as local
+use Rattle.tw_code.specs.declared.instr.Priority.{Priority}
+use Rattle.tw_code.specs.declared.instr.Priority.TheVariants.{Constant, Computed}
+use Rattle.tw_code.specs.declared.opcode.Opcode.{Opcode}
+use Rattle.tw_code.specs.declared.opcode.Opcode.TheVariants as opcode
+use Rattle.tw_code.specs.declared.opcode.TheConstants.{OPCODES}
+use Rattle.tw_code.specs.format.Table.{Content, Contents, Operand, Row, a_row, code_of, forms_in, forms_of, holds, row, row_of}
+use Rattle.tw_types.specs.declared.data_type.Scalar.TheVariants.{Int, Text}
+
+abbrev pub operands_of : (forms : List Form) → Contents forms → List Operand
+operands_of [] x = []
+operands_of (form ∷ forms) x = (holds form x.0) ∷ operands_of forms x.1
+
+abbrev pub instr_in : (r : Row) → Contents (forms_in r) → Instr
+instr_in (a_row code forms make) = make
+
+-- the instruction of an opcode and of what its operands hold
+abbrev pub instr_of : (o : Opcode) → Contents (forms_of o) → Instr
+instr_of o = instr_in (row_of o)
+
+-- each opcode has a code of its own
+pub code_known : (o : Opcode) → find (λ p. code_of p == code_of o) OPCODES ≡ Some o
+code_known opcode.Int = refl
+code_known o = refl
+
+pub is_made : (o : Opcode) (x : Contents (forms_of o)) → row (instr_of o x) ≡ (o, operands_of (forms_of o) x)
+is_made opcode.Int x = refl
+is_made o x = refl
+
+-- ---- what operands hold, by the forms that they should have
+
+-- an operand of this form, with what another holds if it has that form
+abbrev content_in : (form : Form) → Operand → Content form
+content_in Value (holds Value register) = register
+content_in Value o = 0
+content_in Right (holds Right register) = register
+content_in Right o = 0
+content_in Number (holds Number n) = n
+content_in Number o = pos 0
+content_in Turns (holds Turns turns) = turns
+content_in Turns o = 0
+content_in Literal (holds Literal text) = text
+content_in Literal o = []
+content_in TypeOf (holds TypeOf ty) = ty
+content_in TypeOf o = record { containers = []; scalar = Int }
+content_in Skip (holds Skip skip) = skip
+content_in Skip o = 0
+content_in Callee (holds Callee procedure) = procedure
+content_in Callee o = 0
+content_in Target (holds Target target) = target
+content_in Target o = None
+content_in Args (holds Args registers) = registers
+content_in Args o = []
+
+abbrev no_operand : Operand
+no_operand = (holds Skip 0)
+
+abbrev head : List Operand → Operand
+head [] = no_operand
+head (o ∷ os) = o
+
+abbrev tail : List Operand → List Operand
+tail [] = []
+tail (o ∷ os) = os
+
+abbrev pub contents_in : (forms : List Form) → List Operand → Contents forms
+contents_in [] os = tt
+contents_in (form ∷ forms) os = (content_in form (head os), contents_in forms (tail os))
+
+-- ---- each instruction
+
+-- it is made of what its operands hold
+abbrev pub IsMadeOf : Instr → (o : Opcode) → Contents (forms_of o) → Type 0
+IsMadeOf i o x = ((row i).1 ≡ operands_of (forms_of o) x) × (instr_of o x ≡ i)
+
+abbrev IsMadeSo : Instr → Type 0
+IsMadeSo i = IsMadeOf i (row i).0 (contents_in (forms_of (row i).0) (row i).1)
+
+compute_made : (operation : Arithmetic) (to left right skip : ℕ) → IsMadeSo (instr.Local (local.Compute operation to left right skip))
+compute_made operation.Add to left right skip = (refl, refl)
+compute_made operation to left right skip = (refl, refl)
+
+local_made : (i : LocalInstr) → IsMadeSo (instr.Local i)
+local_made (local.Compute operation to left right skip) = compute_made operation to left right skip
+local_made i = (refl, refl)
+
+data_made : (i : DataInstr) → IsMadeSo (instr.Data i)
+data_made (on_data.Insert Int container subscript member skip) = (refl, refl)
+data_made (on_data.Insert Text container subscript member skip) = (refl, refl)
+data_made (on_data.Look Int member container subscript skip) = (refl, refl)
+data_made (on_data.Look Text member container subscript skip) = (refl, refl)
+data_made (on_data.SubscriptAt Int to container index skip) = (refl, refl)
+data_made (on_data.SubscriptAt Text to container index skip) = (refl, refl)
+data_made i = (refl, refl)
+
+rule_made : (procedure : ℕ) (priority : Priority) (target : Option ℕ) (args : List ℕ) → IsMadeSo (instr.Rule (record { procedure = procedure; priority = priority; target = target; args = args }))
+rule_made procedure (Constant n) target args = (refl, refl)
+rule_made procedure (Computed register) target args = (refl, refl)
+
+put_made : (procedure : ℕ) (priority : Priority) (target : Option ℕ) (args : List ℕ) → IsMadeSo (instr.Put (record { procedure = procedure; priority = priority; target = target; args = args }))
+put_made procedure (Constant n) target args = (refl, refl)
+put_made procedure (Computed register) target args = (refl, refl)
+
+made : (i : Instr) → IsMadeSo i
+made (instr.Local i) = local_made i
+made (instr.Data i) = data_made i
+made (instr.Rule action) = rule_made action.procedure action.priority action.target action.args
+made (instr.Put action) = put_made action.procedure action.priority action.target action.args
+made instr.Ret = (refl, refl)
+
+pub made_row : (i : Instr) → (x : Contents (forms_of (row i).0)) × ((row i).1 ≡ operands_of (forms_of (row i).0) x) × (instr_of (row i).0 x ≡ i)
+made_row i = let m = made i in (contents_in (forms_of (row i).0) (row i).1, m.0, m.1)
