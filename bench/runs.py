@@ -1,14 +1,19 @@
-"""Times runs of `tw` and of peers in turn, and prints the least time of each with its ratio to what it is measured by."""
+"""Times runs of `tw` and of peers in turn, prints the least of each with its ratio to what it is measured by, and a table of all at the end."""
 import os
 import re
 import resource
 import subprocess
 import sys
+import tempfile
 import time
 
 program, here, peers = sys.argv[1:]
 LIMIT = "--limit=1000000"
 LEAF = "proc leaf\nregs\nRET\n"
+WORKERS = (1, 2, 4, 16)
+ENGINE_RUNS = ("put", "rules", "cont")
+# What docs/PROOFS.md keeps of a sitting: rows of a name, what was measured, and the aim.
+table = []
 
 
 def hex_of(text):
@@ -44,6 +49,10 @@ def least_of(times, runs):
     return least
 
 
+def several(numbers, form="{:.2f}"):
+    return ", ".join(form.format(number) for number in numbers)
+
+
 def waiting_then_chain(waiting):
     """Main puts so many tasks, and one of a higher priority that puts the next such as it ends."""
     rounds, rest = divmod(waiting, 1000)
@@ -55,20 +64,22 @@ def empty_tasks(thousands):
     return f"proc control\nregs\nREPEAT {thousands}\n" + "PUT 1 0 any\n" * 1000 + "END\nRET\n" + LEAF
 
 
-def long_tasks(count):
+def long_tasks(count, thousands):
+    """So many tasks of some so many thousand adds, each with the END of its turn."""
     return (f"proc control\nregs\nREPEAT {count}\nPUT 1 0 any\nEND\nRET\n"
-            "proc leaf\nregs int int\nINT v1 1\nREPEAT 1000\nREPEAT 50\nADD v0 v0 v1 +0\nEND\nEND\nRET\n")
+            f"proc leaf\nregs int int\nINT v1 1\nREPEAT 1000\nREPEAT {thousands}\nADD v0 v0 v1 +0\nEND\nEND\nRET\n")
 
 
 def of_one_engine():
     print("Events of one engine, a million at most, beside lua5.4 with 20 million turns: seconds on the clock, of processors, ratios")
     runs = {"lua5.4": lambda: timed(["lua5.4", os.path.join(here, "loop.lua"), "20000"])}
-    for name in ("put", "rules", "cont"):
+    for name in ENGINE_RUNS:
         runs[name] = tw_run(read(name + ".tw"), LIMIT)
     least = least_of(9, runs)
     lua = least["lua5.4"]
     for name, (clock, processors) in least.items():
         print(f"{clock:8.3f} {processors:8.3f}   {clock / lua[0]:6.2f} {processors / lua[1]:6.2f}  {name}")
+    table.append(("`put.tw`, `rules.tw`, `cont.tw` of lua5.4's loop by the clock", several(least[name][0] / lua[0] for name in ENGINE_RUNS), "0.45, 0.35, 0.8"))
 
 
 def beside_waiting():
@@ -90,24 +101,74 @@ def rate_of(written):
 
 def empty_leaf_tasks():
     tasks = 330_000
-    print("Empty leaf tasks put by one engine: millions a second, on 1, 2, 4 workers or threads")
+    print("Empty leaf tasks put by one engine: millions a second, on", *WORKERS, "workers or threads")
+    peer = {}
     for name in ("tbb", "omp"):
-        rates = [max(rate_of(timed([os.path.join(peers, name), "2000000", str(threads)])[2]) for _ in range(5)) for threads in (1, 2, 4)]
-        print("   ".join(f"{rate / 1e6:6.2f}" for rate in rates), name)
+        peer[name] = [max(rate_of(timed([os.path.join(peers, name), "2000000", str(threads)])[2]) for _ in range(9)) / 1e6 for threads in WORKERS]
+        print("   ".join(f"{rate:6.2f}" for rate in peer[name]), name)
     text = empty_tasks(tasks // 1000)
-    runs = {workers: tw_run(text, LIMIT, f"--workers={workers}") for workers in (1, 2, 4)}
+    runs = {workers: tw_run(text, LIMIT, f"--workers={workers}") for workers in WORKERS}
+    least = least_of(9, runs)
+    own = [tasks / least[workers][0] / 1e6 for workers in WORKERS]
+    print("   ".join(f"{rate:6.2f}" for rate in own), "tw")
+    table.append(("empty tasks on 1, 2, 4 workers, against oneTBB", several(mine / its for mine, its in zip(own[:3], peer["tbb"])), "1, 1, 1"))
+    table.append(("the same on 4 and 16 workers against our own on 1", several((own[2] / own[0], own[3] / own[0])), "0.9, 0.9"))
+
+
+def seconds_of_jobs(thousands, threads):
+    return lambda: (float(timed([os.path.join(peers, "jobs"), "500", str(thousands * 1000), str(threads)])[2]), 0.0, "")
+
+
+def long_jobs(thousands, aim):
+    print(f"500 tasks of {thousands},000 adds: seconds on the clock, and how many times as fast as on one worker; oneTBB beside it")
+    text = long_tasks(500, thousands)
+    runs = {("tw", workers): tw_run(text, LIMIT, f"--workers={workers}") for workers in WORKERS}
+    runs |= {("tbb", workers): seconds_of_jobs(thousands, workers) for workers in WORKERS}
     least = least_of(5, runs)
-    print("   ".join(f"{tasks / least[workers][0] / 1e6:6.2f}" for workers in runs), "tw")
+    for (name, workers), (clock, _) in least.items():
+        print(f"{clock:8.3f}   {least[name, 1][0] / clock:6.2f}  {workers} workers, {name}")
+    faster = {name: least[name, 1][0] / least[name, 4][0] for name in ("tw", "tbb")}
+    table.append((f"500 jobs of {2 * thousands},000 instructions on 4 workers, times as fast as on 1; oneTBB's with as many adds", several((faster["tw"], faster["tbb"])), aim))
 
 
-def long_jobs():
-    print("500 tasks of 100,000 local instructions: seconds on the clock, and how many times as fast as on one worker")
-    text = long_tasks(500)
-    runs = {workers: tw_run(text, LIMIT, f"--workers={workers}") for workers in (1, 2, 4)}
-    least = least_of(5, runs)
-    for workers, (clock, _) in least.items():
-        print(f"{clock:8.3f}   {least[1][0] / clock:6.2f}  {workers} workers")
+def peak_memory(text, *words):
+    """The most memory that a run had at once, in MiB."""
+    with tempfile.TemporaryFile() as given:
+        given.write(hex_of(text))
+        given.seek(0)
+        run = subprocess.Popen([program, "run", *words], stdin=given, stdout=subprocess.DEVNULL)
+        _, _, used = os.wait4(run.pid, 0)
+        run.returncode = 0
+    return used.ru_maxrss / 1024
 
 
-for measure in (of_one_engine, beside_waiting, empty_leaf_tasks, long_jobs):
-    measure()
+def memory():
+    print("The most memory at once, of a million events and of none: MiB")
+    most, least = peak_memory(read("put.tw"), LIMIT), peak_memory(LEAF.replace("leaf", "control"), "--limit=1")
+    print(f"{most:8.1f} {least:8.1f}")
+    table.append(("memory of a million events of `put.tw` (most of the process), beside a run of none", f"{most:.1f} MiB, {least:.1f} MiB", "half"))
+
+
+def start_to_end():
+    print("A run of store_seven from start to end: milliseconds on the clock")
+    with open(os.path.join(here, "..", "examples", "store_seven.hex"), "rb") as file:
+        given = file.read()
+    least = least_of(99, {"store_seven": lambda: timed([program, "run"], given)})["store_seven"][0] * 1000
+    print(f"{least:8.2f}")
+    table.append(("start to end of `store_seven`", f"{least:.2f} ms", "not slower"))
+
+
+def print_table():
+    print("| | measured | aim |\n|---|---|---|")
+    for name, measured, aim in table:
+        print(f"| {name} | {measured} | {aim} |")
+
+
+of_one_engine()
+beside_waiting()
+empty_leaf_tasks()
+long_jobs(50, "3.5")
+long_jobs(500, "3.5")
+memory()
+start_to_end()
+print_table()
