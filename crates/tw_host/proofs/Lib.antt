@@ -2,4 +2,5 @@ mod Lists
 mod Fitting
 pub mod Owning
 mod Turning
+pub mod Holding
 mod Ordering

@@ -14,7 +14,7 @@ use Rattle.tw_host.proofs.Fitting.{fits}
 use Rattle.tw_host.proofs.Owning.{is_answer_of}
 
 -- the events behind the old ones are those that were appended
-behind : {X : Type 0} (xs ys : List X) → drop (length xs) (xs ++ ys) ≡ ys
+pub behind : {X : Type 0} (xs ys : List X) → drop (length xs) (xs ++ ys) ≡ ys
 behind [] ys = refl
 behind (x ∷ xs) ys = behind xs ys
 

@@ -132,6 +132,7 @@ fn settle<N: Named>(
             actor: _,
             told,
             share,
+            apart: _,
         } = seat;
         all.merge(share);
         by_seat.push_reserved(told);
@@ -191,6 +192,7 @@ impl<'a, N: Named> Host<'a, N> {
             verified: _,
             locked,
             by_seat,
+            news: _,
         } = self;
         locked.into_inner().close(seats, by_seat)
     }

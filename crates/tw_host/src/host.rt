@@ -3,10 +3,13 @@
 ghost use Rattle.std.specs.Prelude.{◌≡◌, ◌≤◌, IfErr, IfOk, [], map, vec_len, vec_capacity};
 ghost use Rattle.tw_pool.specs.Openings.{IsRefusal, MayOpen};
 ghost use Rattle.tw_host.specs.Seats.{actors_of, actor_count};
+ghost use Rattle.tw_host.specs.Holds.{TellsAll};
 ghost use Rattle.tw_host.specs.Tells.{IsAnswerOf, IsDoneOf, Tells};
 
+use crate::hold::MOST_TURNS;
 use crate::locked::{Locked, Strange};
 use crate::named::Named;
+use crate::news::News;
 use crate::seat::{Seat, rooms, seats_of};
 use crossbeam_utils::Backoff;
 use std::alloc::Global;
@@ -14,7 +17,7 @@ use std::sync::ledger::Blank;
 use std::sync::{Mutex, MutexGuard, Wait};
 use tw_frame::Done;
 use tw_pool::{OpenRefusal, Pool, Turn};
-use tw_types::{Event, Input, Layout};
+use tw_types::{Actor, Event, Input, Layout};
 use tw_verify::Verified;
 
 /// How often the lock is asked for before the thread sleeps for it.
@@ -37,6 +40,7 @@ pub struct Host<'a, N: Named> {
     pub(crate) verified: &'a Verified,
     pub(crate) locked: Mutex<Locked<'a, N>>,
     pub(crate) by_seat: Vec<Vec<Event>>,
+    pub(crate) news: News,
     ghost program: { verified.now ≡ N.run.program },
     ghost empty: { by_seat.items ≡ [] },
     ghost room: { actor_count N.run.layout ≤ vec_capacity by_seat },
@@ -73,6 +77,7 @@ impl<'a, N: Named> Host<'a, N> {
             verified,
             locked,
             by_seat,
+            news: News::new(),
         };
         Ok((host, seats))
     }
@@ -105,8 +110,41 @@ impl<'a, N: Named> Host<'a, N> {
         locked_soon(&self.locked, rt).turn(alloc, seat, done)
     }
 
+    /// Turns of the seat's actor, one behind another, under one hold of the lock: as long as a turn answers Went or Ended, or lends a
+    /// job whose next instruction isn't local, and at most sixteen. The seat is told the events that they append. Where memory for these
+    /// is refused the pool isn't touched. Where the seat's list isn't the pool's nothing is changed either.
+    #[inline(always)]
+    pub fn turns(
+        &self,
+        rt: &impl Wait,
+        alloc: Global,
+        seat: &mut Seat<N>,
+        done: Option<Done<'a>>,
+    ) -> Result<Turn<'a>, Strange<'a>>
+        requires program { IsDoneOf N.run.program done }
+        ensures actor { seat.new.actor ≡ seat.old.actor }
+        ensures told { TellsAll N.run seat.old.actor seat.old.told.items seat.new.told.items done.entry result }
+        ensures program { IfOk result (IsAnswerOf N.run.program) }
+    {
+        if seat.told.reserve(2 * MOST_TURNS).is_err() {
+            return Ok(Turn::NoMemory(done));
+        }
+        let told = seat.told.len();
+        let mut locked = locked_soon(&self.locked, rt);
+        let answer = locked.turns(alloc, seat, done);
+        self.news.tell(seat.actor, seat.told.len() - told, &answer);
+        answer
+    }
+
+    /// A number that has changed since it was last looked at where something came that an idle actor of this kind may do, or the run
+    /// is over. It decides nothing, and is read without the lock.
+    pub fn news(&self, actor: Actor) -> u64 {
+        self.news.of(actor)
+    }
+
     /// From now on no turn makes an event.
     pub fn stop(&self, rt: &impl Wait) {
         self.locked.lock(rt).stop();
+        self.news.end();
     }
 }

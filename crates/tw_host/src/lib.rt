@@ -2,9 +2,11 @@
 #![tactic(auto)]
 
 mod close;
+mod hold;
 mod host;
 mod locked;
 mod named;
+mod news;
 mod seat;
 
 pub use close::Closed;

@@ -1,8 +1,10 @@
 //! What lies under the lock.
 
 ghost use Rattle.std.specs.Prelude.{◌≡◌, ◌+◌, ◌≤◌, vec_len, vec_capacity, true, IfOk};
+ghost use Rattle.tw_host.specs.Holds.{TellsAll};
 ghost use Rattle.tw_host.specs.Tells.{IsAnswerOf, IsDoneOf, Tells};
 
+use crate::hold::turns;
 use crate::named::Named;
 use crate::seat::{Seat, tell};
 use std::alloc::Global;
@@ -63,6 +65,30 @@ impl<'a, N: Named> Locked<'a, N> {
         }
         let before = self.pool.history().len();
         let answer = self.pool.turn(alloc, seat.actor, done);
+        tell(self.pool.history(), before, &mut self.book, seat);
+        Ok(answer)
+    }
+
+    /// Turns of the seat's actor, one behind another. The seat is told the events that they append.
+    pub(crate) fn turns(
+        &mut self,
+        alloc: Global,
+        seat: &mut Seat<N>,
+        done: Option<Done<'a>>,
+    ) -> Result<Turn<'a>, Strange<'a>>
+        requires room { vec_len seat.old.told + 32 ≤ vec_capacity seat.old.told }
+        requires program { IsDoneOf N.run.program done }
+        ensures actor { seat.new.actor ≡ seat.old.actor }
+        ensures told { TellsAll N.run seat.old.actor seat.old.told.items seat.new.told.items done.entry result }
+        ensures program { IfOk result (IsAnswerOf N.run.program) }
+    {
+        let told = seat.told.len() as u64;
+        let count = self.pool.count(seat.actor);
+        if count != told {
+            return Err(Strange { count, done });
+        }
+        let before = self.pool.history().len();
+        let answer = turns(&mut self.pool, alloc, seat.actor, done);
         tell(self.pool.history(), before, &mut self.book, seat);
         Ok(answer)
     }

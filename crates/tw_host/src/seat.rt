@@ -15,6 +15,8 @@ pub struct Seat<N: Named> {
     pub(crate) actor: Actor,
     pub(crate) told: Vec<Event>,
     pub(crate) share: Share<N>,
+    /// Nothing: two seats side by side have no line of memory in common, since each thread writes its own.
+    pub(crate) apart: [u64; 8],
     pub ghost in_layout: { is_in N.run.layout actor ≡ true },
     pub ghost one_part: { share.parts ≡ 1 },
     pub ghost counted: { share.amount ≡ vec_len told },
@@ -72,6 +74,7 @@ pub(crate) fn seats_of<N: Named>(
             actor: layout.actor_at(seat),
             told: Vec::new(alloc),
             share,
+            apart: [0; 8],
         });
     }
     seats
@@ -94,6 +97,7 @@ pub(crate) fn tell<N: Named>(
         actor: _,
         told,
         share,
+        apart: _,
     } = seat;
     for k in before..history.len() {
         told.push_reserved(history.event(k));

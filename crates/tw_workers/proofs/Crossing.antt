@@ -35,6 +35,7 @@ use Rattle.tw_pool.specs.contracts.pool.Pool
 use Rattle.tw_host.specs.declared.named.Named as Named
 use Rattle.tw_host.specs.contracts.locked.Locked
 use Rattle.tw_host.specs.contracts.host.Host
+use Rattle.tw_host.proofs.news.News.TheSendSync as OfNews
 
 store : IsSend Store.the_row
 store = search (Crossing.crosses, TheKnot.crosses, sendable) depth 60 fits 20000
@@ -56,7 +57,7 @@ module _ (κ : NamedLft) (N : RattleType) (named : Named.Ghosts N.Denot) (ledger
   locked = search (pool, Book.the_send, Share.the_send, sendable) depth 60 fits 20000
 
   host : IsSync (Host.the_row κ N named ledger)
-  host = search (locked, OfVerified.the_sync, OfEvent.the_sync, Crossing.crosses, sendable) depth 60 fits 20000
+  host = search (locked, OfNews.the_sync, OfVerified.the_sync, OfEvent.the_sync, Crossing.crosses, sendable) depth 60 fits 20000
 
   flag : IsSync AtomicBool.the_row
   flag = search (sendable, Crossing.crosses) depth 60 fits 20000

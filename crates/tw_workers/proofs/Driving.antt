@@ -5,7 +5,7 @@ use Rattle.tw_frame.specs.Jobs.{DoneView}
 use Rattle.tw_host.specs.Run.{Run}
 use Rattle.tw_host.specs.Seats.{Told}
 use Rattle.tw_workers.specs.AtHost.{AtSeat}
-use Rattle.tw_workers.specs.Driving.{Answer, Drives, Ends, GoesOn, Step, Turned, Stopped, Before, Ran, After, ends, goes}
+use Rattle.tw_workers.specs.Driving.{Answer, Drives, Ends, GoesOn, Step, Turned, Held, Stopped, Before, Ran, After, asked, ends, goes}
 
 -- ---- lists of steps
 
@@ -20,26 +20,27 @@ seen view R p q (x ∷ xs) is = (view is.0, is.1, seen view R is.0 q xs is.2)
 -- ---- the rest of a drive
 
 -- the Done that is handed in is the one that was there
-module _ (was given : Option DoneView) (taken : given ≡ was) (past : List Step) (so_far : (rest : List Step) (memory : Bool) → Drives was rest memory → Drives None (past ++ rest) memory) (answer : Answer) (behind : List Step) where
-  turned : (rest : List Step) (memory : Bool) → Drives given (Turned given answer ∷ rest) memory → Drives None (past ++ (Turned given answer ∷ rest)) memory
-  turned rest memory drives = so_far (Turned given answer ∷ rest) memory (subst (λ o. Drives o (Turned given answer ∷ rest) memory) taken drives)
+module _ (was given : Option DoneView) (taken : given ≡ was) (past : List Step) (so_far : (rest : List Step) (memory : Bool) → Drives was rest memory → Drives None (past ++ rest) memory) (several : Bool) (answer : Answer) (behind : List Step) where
+  turned : (rest : List Step) (memory : Bool) → Drives given (asked several given answer ∷ rest) memory → Drives None (past ++ (asked several given answer ∷ rest)) memory
+  turned rest memory drives = so_far (asked several given answer ∷ rest) memory (subst (λ o. Drives o (asked several given answer ∷ rest) memory) taken drives)
 
-  pub on : (next : Option DoneView) → GoesOn answer behind next → (rest : List Step) (memory : Bool) → Drives next rest memory → Drives None ((past ++ (Turned given answer ∷ behind)) ++ rest) memory
+  pub on : (next : Option DoneView) → GoesOn answer behind next → (rest : List Step) (memory : Bool) → Drives next rest memory → Drives None ((past ++ (asked several given answer ∷ behind)) ++ rest) memory
   on next is rest memory drives =
-      subst (λ steps. Drives None steps memory) (sym (append_assoc past (Turned given answer ∷ behind) rest)) (turned (behind ++ rest) memory (goes answer behind next rest is drives))
+      subst (λ steps. Drives None steps memory) (sym (append_assoc past (asked several given answer ∷ behind) rest)) (turned (behind ++ rest) memory (goes several answer behind next rest is drives))
 
-  pub over : (memory : Bool) → Ends answer behind memory → Drives None (past ++ (Turned given answer ∷ behind)) memory
-  over memory is = turned behind memory (ends answer behind is)
+  pub over : (memory : Bool) → Ends answer behind memory → Drives None (past ++ (asked several given answer ∷ behind)) memory
+  over memory is = turned behind memory (ends several answer behind is)
 
 -- ---- at a host
 
-same_actor : (run : Run) (old : Told) (step : Step) (new : Told) → AtSeat run old step new → new.actor ≡ old.actor
-same_actor run old (Turned given answer) new is = is.0
-same_actor run old Stopped new is = ap (λ (t : Told). t.actor) is
-same_actor run old (Before actor task) new is = ap (λ (t : Told). t.actor) is
-same_actor run old (Ran job done) new is = ap (λ (t : Told). t.actor) is
-same_actor run old (After actor task) new is = ap (λ (t : Told). t.actor) is
+same_actor : (run : Run) (unwatched : Type 0) (old : Told) (step : Step) (new : Told) → AtSeat run unwatched old step new → new.actor ≡ old.actor
+same_actor run unwatched old (Turned given answer) new is = is.0
+same_actor run unwatched old (Held given answer) new is = is.1
+same_actor run unwatched old Stopped new is = ap (λ (t : Told). t.actor) is
+same_actor run unwatched old (Before actor task) new is = ap (λ (t : Told). t.actor) is
+same_actor run unwatched old (Ran job done) new is = ap (λ (t : Told). t.actor) is
+same_actor run unwatched old (After actor task) new is = ap (λ (t : Told). t.actor) is
 
-pub kept_actor : (run : Run) (old new : Told) (steps : List Step) → FoldsTo (AtSeat run) old steps new → new.actor ≡ old.actor
-kept_actor run old new [] is = ap (λ (t : Told). t.actor) (sym is)
-kept_actor run old new (x ∷ xs) is = kept_actor run is.0 new xs is.2 ∙ same_actor run old x is.0 is.1
+pub kept_actor : (run : Run) (unwatched : Type 0) (old new : Told) (steps : List Step) → FoldsTo (AtSeat run unwatched) old steps new → new.actor ≡ old.actor
+kept_actor run unwatched old new [] is = ap (λ (t : Told). t.actor) (sym is)
+kept_actor run unwatched old new (x ∷ xs) is = kept_actor run unwatched is.0 new xs is.2 ∙ same_actor run unwatched old x is.0 is.1

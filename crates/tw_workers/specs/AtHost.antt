@@ -1,14 +1,17 @@
 -- What a step says of a host's seat.
 use Rattle.std.specs.Prelude.{◌≡◌}
+use Rattle.tw_host.specs.Holds.{TellsAll}
 use Rattle.tw_host.specs.Run.{Run}
 use Rattle.tw_host.specs.Seats.{Told}
 use Rattle.tw_host.specs.Tells.{Tells}
-use Rattle.tw_workers.specs.Driving.{Step, Turned, Stopped, Before, Ran, After}
+use Rattle.tw_workers.specs.Driving.{Step, Turned, Held, Stopped, Before, Ran, After}
 
--- A turn tells the seat what the host promises, and nothing else tells it anything; it stays its actor's
-abbrev pub AtSeat : Run → Told → Step → Told → Type 0
-AtSeat run old (Turned given answer) new = (new.actor ≡ old.actor) × Tells run old.actor old.events new.events given answer
-AtSeat run old Stopped new = new ≡ old
-AtSeat run old (Before actor task) new = new ≡ old
-AtSeat run old (Ran job done) new = new ≡ old
-AtSeat run old (After actor task) new = new ≡ old
+-- A turn tells the seat what the host promises, and so do several under one hold, which are made only where the gate doesn't watch. Nothing
+-- else tells it anything, and it stays its actor's
+abbrev pub AtSeat : Run → Type 0 → Told → Step → Told → Type 0
+AtSeat run unwatched old (Turned given answer) new = (new.actor ≡ old.actor) × Tells run old.actor old.events new.events given answer
+AtSeat run unwatched old (Held given answer) new = unwatched × (new.actor ≡ old.actor) × TellsAll run old.actor old.events new.events given answer
+AtSeat run unwatched old Stopped new = new ≡ old
+AtSeat run unwatched old (Before actor task) new = new ≡ old
+AtSeat run unwatched old (Ran job done) new = new ≡ old
+AtSeat run unwatched old (After actor task) new = new ≡ old

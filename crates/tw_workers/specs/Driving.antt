@@ -9,13 +9,20 @@ use Rattle.tw_host.specs.declared.locked.Strange.{Strange}
 abbrev pub Answer : Type 0
 Answer = Result Turn Strange
 
--- a turn with what it was given and what it answered; a stop of the run; a job, and the two calls of the gate round it
+-- a turn with what it was given and what it answered; several under one hold of the lock, with what the first was given and what the last
+-- answered; a stop of the run; a job, and the two calls of the gate round it
 pub data Step : Type 0 where
   Turned : Option DoneView → Answer → Step
+  Held : Option DoneView → Answer → Step
   Stopped : Step
   Before : Actor → ℕ → Step
   Ran : JobView → DoneView → Step
   After : Actor → ℕ → Step
+
+-- one turn, or several under one hold
+abbrev pub asked : Bool → Option DoneView → Answer → Step
+asked false given answer = Turned given answer
+asked true given answer = Held given answer
 
 -- ---- behind a turn
 
@@ -62,6 +69,6 @@ Follows answer steps (Err memory) = Ends answer steps memory
 
 -- a driver that hands this in makes these steps, and memory ran out or not
 pub data Drives : Option DoneView → List Step → Bool → Type 0 where
-  ends : {given : Option DoneView} {memory : Bool} (answer : Answer) (rest : List Step) → Ends answer rest memory → Drives given (Turned given answer ∷ rest) memory
-  goes : {given : Option DoneView} {memory : Bool} (answer : Answer) (behind : List Step) (next : Option DoneView) (rest : List Step)
-      → GoesOn answer behind next → Drives next rest memory → Drives given (Turned given answer ∷ (behind ++ rest)) memory
+  ends : {given : Option DoneView} {memory : Bool} (several : Bool) (answer : Answer) (rest : List Step) → Ends answer rest memory → Drives given (asked several given answer ∷ rest) memory
+  goes : {given : Option DoneView} {memory : Bool} (several : Bool) (answer : Answer) (behind : List Step) (next : Option DoneView) (rest : List Step)
+      → GoesOn answer behind next → Drives next rest memory → Drives given (asked several given answer ∷ (behind ++ rest)) memory

@@ -1,11 +1,11 @@
 //! What a driver works at.
 
-ghost use Rattle.std.specs.Prelude.{◌≡◌, Ok, IfOk};
+ghost use Rattle.std.specs.Prelude.{◌≡◌, Bool, Ok, IfOk};
 ghost use Rattle.tw_verify.specs.Typed.{TypedProgram};
 ghost use Rattle.tw_host.specs.Seats.{told_by};
 ghost use Rattle.tw_host.specs.Tells.{IsAnswerOf, IsDoneOf};
 ghost use Rattle.tw_workers.specs.AtHost.{AtSeat};
-ghost use Rattle.tw_workers.specs.Driving.{Step, Turned, Stopped, Before, Ran, After};
+ghost use Rattle.tw_workers.specs.Driving.{Step, Turned, Stopped, Before, Ran, After, asked};
 
 use crate::gate::Gate;
 use std::alloc::Global;
@@ -36,6 +36,21 @@ pub trait Desk<'a> {
         ensures does { does seat.old (Turned done.entry result) seat.new }
         ensures program { IfOk result (IsAnswerOf program) };
 
+    /// One turn, or several under one hold of the lock.
+    fn turns<R: Wait>(
+        &self,
+        rt: &R,
+        alloc: Global,
+        seat: &mut Self::Seat,
+        done: Option<Done<'a>>,
+    ) -> Result<Turn<'a>, Strange<'a>>
+        requires { IsDoneOf program done }
+        ensures does { (several : Bool) × does seat.old (asked several done.entry result) seat.new }
+        ensures program { IfOk result (IsAnswerOf program) };
+
+    /// A number that has changed since it was last looked at where something came that an idle seat may do.
+    fn news(&self, seat: &Self::Seat) -> u64;
+
     fn stop<R: Wait>(&self, rt: &R, seat: &mut Self::Seat)
         ensures { does seat.old Stopped seat.new };
 
@@ -62,7 +77,7 @@ impl<'h, 'a, N: Named, G: Gate> Desk<'a> for Guarded<'h, 'a, N, G> {
 
     ghost program = { N.run.program };
 
-    ghost does = { λ old step new. AtSeat N.run (told_by old.actor old.told.items) step (told_by new.actor new.told.items) };
+    ghost does = { λ old step new. AtSeat N.run G.unwatched (told_by old.actor old.told.items) step (told_by new.actor new.told.items) };
 
     fn turn<R: Wait>(
         &self,
@@ -72,6 +87,24 @@ impl<'h, 'a, N: Named, G: Gate> Desk<'a> for Guarded<'h, 'a, N, G> {
         done: Option<Done<'a>>,
     ) -> Result<Turn<'a>, Strange<'a>> {
         self.host.turn(rt, alloc, seat, done)
+    }
+
+    fn turns<R: Wait>(
+        &self,
+        rt: &R,
+        alloc: Global,
+        seat: &mut Seat<N>,
+        done: Option<Done<'a>>,
+    ) -> Result<Turn<'a>, Strange<'a>> {
+        if self.gate.watches() {
+            self.host.turn(rt, alloc, seat, done)
+        } else {
+            self.host.turns(rt, alloc, seat, done)
+        }
+    }
+
+    fn news(&self, seat: &Seat<N>) -> u64 {
+        self.host.news(seat.actor())
     }
 
     fn stop<R: Wait>(&self, rt: &R, _seat: &mut Seat<N>) {

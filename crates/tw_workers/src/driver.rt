@@ -106,7 +106,7 @@ fn go_on<'a, D: Desk<'a>, R: Wait + Clock>(
             Ok(None)
         }
         Ok(Turn::Idle) => {
-            rest.wait(rt);
+            rest.wait(rt, desk, seat);
             Ok(None)
         }
         Ok(Turn::NoMemory(done)) => {
@@ -133,7 +133,8 @@ pub fn drive_at<'a, D: Desk<'a>, R: Wait + Clock>(
     let mut rest = Rest::new();
     let mut done: Option<Done<'a>> = None;
     for _ in rt.forever() {
-        let answer = desk.turn(rt, alloc, seat, done.take());
+        rest.look(desk, seat);
+        let answer = desk.turns(rt, alloc, seat, done.take());
         match go_on(rt, alloc, desk, seat, &mut rest, answer) {
             Ok(next) => done = next,
             Err(memory) => return memory,
@@ -151,7 +152,7 @@ pub(crate) fn drive_lent<'a, N: Named, G: Gate, R: Wait + Clock>(
     gate: &G,
 ) -> bool
     ensures actor { seat.new.actor ≡ seat.old.actor }
-    ensures driven { (steps : List Step) × FoldsTo (AtSeat N.run) (told_by seat.old.actor seat.old.told.items) steps (told_by seat.new.actor seat.new.told.items) × Drives None steps result }
+    ensures driven { (steps : List Step) × FoldsTo (AtSeat N.run G.unwatched) (told_by seat.old.actor seat.old.told.items) steps (told_by seat.new.actor seat.new.told.items) × Drives None steps result }
 {
     let guarded = Guarded { host, gate };
     drive_at(rt, alloc, &guarded, seat)
@@ -167,7 +168,7 @@ pub fn drive<'a, N: Named, G: Gate, R: Wait + Clock>(
     gate: &G,
 ) -> Driven<N>
     ensures actor { result.seat.actor ≡ seat.actor }
-    ensures driven { (steps : List Step) × FoldsTo (AtSeat N.run) (told_by seat.actor seat.told.items) steps (told_by result.seat.actor result.seat.told.items) × Drives None steps result.memory }
+    ensures driven { (steps : List Step) × FoldsTo (AtSeat N.run G.unwatched) (told_by seat.actor seat.told.items) steps (told_by result.seat.actor result.seat.told.items) × Drives None steps result.memory }
 {
     let mut seat = seat;
     let memory = drive_lent(rt, alloc, host, &mut seat, gate);

@@ -1,5 +1,5 @@
 use Rattle.std.proofs.Common.{◌∷◌, ◌++◌, rules}
-use Rattle.tw_workers.specs.Driving.{Turned}
+use Rattle.tw_workers.specs.Driving.{asked}
 use Rattle.tw_workers.proofs.Driving.{joined, on, over}
 use Rattle.tw_workers.proofs.driver.drive_at.Goals as goal
 
@@ -8,15 +8,16 @@ loop-preserved g c =
     let so_far = c.loop.invariant.driven in
     let behind = c.in-Ok.ensures.steps in
     let given = c.take.result in
-    let answer = c.turn-answer.result in
+    let answer = c.turns-answer.result in
+    let several = c.turns-answer.ensures.does.0 in
     record {
       next = search rules;
       finite = search rules;
       program = c.in-Ok.ensures.program;
       driven = (
-        so_far.0 ++ Turned given answer ∷ behind.0,
-        joined g.D.Desk.does _ _ _ so_far.0 (Turned given answer ∷ behind.0) so_far.1 (_, c.turn-answer.ensures.does, behind.1),
-        on _ given c.take.ensures.value so_far.0 so_far.2 answer behind.0 _ behind.2,
+        so_far.0 ++ asked several given answer ∷ behind.0,
+        joined g.D.Desk.does _ _ _ so_far.0 (asked several given answer ∷ behind.0) so_far.1 (_, c.turns-answer.ensures.does.1, behind.1),
+        on _ given c.take.ensures.value so_far.0 so_far.2 several answer behind.0 _ behind.2,
       );
     }
 
@@ -25,8 +26,9 @@ returns-in-Err g c =
     let so_far = c.loop.invariant.driven in
     let behind = c.in-Err.ensures.steps in
     let given = c.take.result in
-    let answer = c.turn-answer.result in (
-      so_far.0 ++ Turned given answer ∷ behind.0,
-      joined g.D.Desk.does _ _ _ so_far.0 (Turned given answer ∷ behind.0) so_far.1 (_, c.turn-answer.ensures.does, behind.1),
-      over _ given c.take.ensures.value so_far.0 so_far.2 answer behind.0 _ behind.2,
+    let answer = c.turns-answer.result in
+    let several = c.turns-answer.ensures.does.0 in (
+      so_far.0 ++ asked several given answer ∷ behind.0,
+      joined g.D.Desk.does _ _ _ so_far.0 (asked several given answer ∷ behind.0) so_far.1 (_, c.turns-answer.ensures.does.1, behind.1),
+      over _ given c.take.ensures.value so_far.0 so_far.2 several answer behind.0 _ behind.2,
     )

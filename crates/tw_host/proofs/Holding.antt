@@ -1,0 +1,137 @@
+-- What turns under one hold of the lock say to a seat.
+use Rattle.std.proofs.Common.{◌≡◌, ◌+◌, ◌*◌, ◌<◌, ◌≤◌, ℕ, zero, suc, Bool, true, false, not, refl, sym, ap, subst, ◌∙◌, arith, List, [], ◌∷◌, ◌++◌, append_assoc, length, length-append, slice_get, Option, Some, None, drop, inl}
+use Rattle.std.specs.Prelude.{is_some}
+use Rattle.std.proofs.lemmas.List.Elements.{filter-append}
+use Rattle.std.proofs.lemmas.Option.{same_Some}
+use Rattle.tw_types.specs.declared.actor.Actor.{Actor}
+use Rattle.tw_types.specs.declared.event.Event.{Event}
+use Rattle.tw_types.specs.Outcome.{Went, NotEnabled}
+use Rattle.tw_code.specs.declared.instr.Instr.TheVariants as instr
+use Rattle.tw_code.specs.declared.procedure.Procedure.{Procedure}
+use Rattle.tw_code.specs.machine.History.{actor_of}
+use Rattle.tw_code.specs.machine.Machine.{local_of, local_steps}
+use Rattle.tw_code.specs.machine.Position.{Position}
+use Rattle.tw_frame.specs.Jobs.{DoneView, IsDone, JobView}
+use Rattle.tw_frame.specs.Ready.{IsStop, StopsAt}
+use Rattle.tw_verify.specs.Typed.{TypedProgram}
+use Rattle.tw_pool.specs.declared.answer.Turn.{Turn}
+use Rattle.tw_pool.specs.declared.answer.Turn.TheVariants as turn
+use Rattle.tw_pool.specs.Actors.{events_of, same_actor}
+use Rattle.tw_pool.specs.PoolView.{PoolView, with_events}
+use Rattle.tw_pool.specs.Turns.{IsTurn}
+use Rattle.tw_host.specs.Holds.{AreTold, AreTurns, HandsOn, Waits}
+use Rattle.tw_host.specs.Run.{Run, run_of}
+use Rattle.tw_host.specs.Tells.{IsAnswerOf, IsDoneOf}
+use Rattle.tw_host.proofs.Turning as turning
+
+-- ---- a job whose next instruction isn't local
+
+no_step : (p : Procedure) (at after : Position) (steps : ℕ) → IsStop p.code at.place → local_steps steps p.code at ≡ Went after → (steps ≡ 0) × (after ≡ at)
+no_step p at after zero stop went = let same : at ≡ after = cc in (refl, sym same)
+no_step p at after (suc n) stop went =
+    let none : local_steps (suc n) p.code at ≡ NotEnabled = rw (stop.is, stop.other) refl in
+    let no : NotEnabled ≡ Went after = sym none ∙ went in cc
+
+never_short : (p : Procedure) (at after : Position) → after ≡ at → IsStop p.code at.place → (short : Bool) → StopsAt short p.code p.registers after.place → short ≡ false
+never_short p at after is stop false stops = refl
+never_short p at after is stop true stops =
+    let both = sym stop.is ∙ (ap (λ (a : Position). slice_get p.code a.place) (sym is) ∙ stops.is) in
+    let same : stop.here ≡ instr.Local stops.here = same_Some stop.here (instr.Local stops.here) both in
+    let no : None ≡ Some stops.here = sym stop.other ∙ ap local_of same in cc
+
+pub still : (program : List Procedure) (procedure : ℕ) (before after : Position) (steps : ℕ) (short : Bool) (p : Procedure) → slice_get program procedure ≡ Some p → IsStop p.code before.place
+    → IsDone program procedure before after steps short → (steps ≡ 0) × (short ≡ false)
+still program procedure before after steps short p here stop d =
+    let same : d.p ≡ p = same_Some d.p p (sym d.here ∙ here) in
+    let went : local_steps steps p.code before ≡ Went after = subst (λ (q : Procedure). local_steps steps q.code before ≡ Went after) same d.reached.went in
+    let none = no_step p before after steps stop went in (none.0, never_short p before after none.1 stop short (subst (λ (q : Procedure). StopsAt short q.code q.registers after.place) same d.stops))
+
+pub waits_still : (job : JobView) (done : DoneView) → Waits job → done.before ≡ job → IsDone done.before.program.program done.before.procedure done.before.position done.after done.steps done.short
+    → (done.steps ≡ 0) × (done.short ≡ false)
+waits_still job done waits is d =
+    let there = subst (λ (j : JobView). Waits j) (sym is) waits in
+    still done.before.program.program done.before.procedure done.before.position done.after done.steps done.short there.0 there.1 there.2 d
+
+pub none_there : {A : Type 0} (o : Option A) (b : Bool) → b ≡ is_some o → not b ≡ true → o ≡ None
+none_there None b is holds = refl
+none_there (Some x) b is holds = let no : false ≡ true = sym (ap not is) ∙ holds in cc
+
+-- ---- turns, one behind another
+
+pub next_done : (program : TypedProgram) (answer : Turn) (next : Option DoneView) → IsAnswerOf program answer → HandsOn answer next → IsDoneOf program next
+next_done program (turn.Over closing) next is on = absurd on
+next_done program (turn.Foreign done) next is on = absurd on
+next_done program turn.Owed next is on = absurd on
+next_done program (turn.NoMemory given) next is on = absurd on
+next_done program (turn.Run job) next is on = subst (λ (o : Option DoneView). IsDoneOf program o) (sym on.1.1) (ap (λ (j : JobView). j.program) on.1.2 ∙ is)
+next_done program turn.Ended next is on = subst (λ (o : Option DoneView). IsDoneOf program o) (sym on) tt
+next_done program turn.Went next is on = subst (λ (o : Option DoneView). IsDoneOf program o) (sym on) tt
+next_done program turn.Idle next is on = absurd on
+
+-- what so many turns append
+pub record Adds (old new : PoolView) (actor : Actor) (answer : Turn) (count : ℕ) : Type 0 where
+  pub es : List Event
+  pub appended : new ≡ with_events old es
+  pub few : length es ≤ 2 * count
+  pub own : events_of actor es ≡ es
+  pub within : length old.history ≤ old.limit → length new.history ≤ old.limit
+  pub answers : IsAnswerOf old.program answer
+
+pub one : (old new : PoolView) (actor : Actor) (given : Option DoneView) (answer : Turn) → IsTurn old actor given answer new → IsDoneOf old.program given → Adds old new actor answer 1
+one old new actor given answer t owed =
+    let own = turning.own old new actor given answer t in
+    record { es = t.events; appended = t.appended; few = omega (arith, own.few); own = own.own; within = turning.within old new actor given answer t; answers = turning.answers old new actor given answer t owed }
+
+pub all : (before : List Turn) (old new : PoolView) (actor : Actor) (given : Option DoneView) (answer : Turn) → AreTurns old actor given before answer new → IsDoneOf old.program given → Adds old new actor answer (length before + 1)
+all [] old new actor given answer t owed = one old new actor given answer t owed
+all (first ∷ rest) old new actor given answer t owed =
+    let a = one old t.1 actor given first t.2 owed in
+    let same : t.1.program ≡ old.program = ap (λ (p : PoolView). p.program) a.appended in
+    let limit : t.1.limit ≡ old.limit = ap (λ (p : PoolView). p.limit) a.appended in
+    let next : IsDoneOf t.1.program t.0 = subst (λ (program : TypedProgram). IsDoneOf program t.0) (sym same) (next_done old.program first t.0 a.answers t.3) in
+    let b = all rest t.1 new actor t.0 answer t.4 next in
+    record {
+      es = a.es ++ b.es;
+      appended = b.appended ∙ (ap (λ (p : PoolView). with_events p b.es) a.appended ∙ ap (λ (h : List Event). record old { history = h }) (append_assoc old.history a.es b.es));
+      few = omega (arith, a.few, b.few, length-append a.es b.es);
+      own = filter-append (λ (e : Event). same_actor (actor_of e) actor) a.es b.es ∙ (ap (λ es. es ++ events_of actor b.es) a.own ∙ ap (λ es. a.es ++ es) b.own);
+      within = λ low. let first_low = a.within low in let then_low = b.within (omega (arith, first_low, limit)) in omega (arith, then_low, limit);
+      answers = subst (λ (program : TypedProgram). IsAnswerOf program answer) same b.answers;
+    }
+
+module _ (old new : PoolView) (actor : Actor) (answer : Turn) (count : ℕ) (a : Adds old new actor answer count) where
+  grown : new.history ≡ old.history ++ a.es
+  grown = ap (λ (p : PoolView). p.history) a.appended
+
+  news_are : drop (length old.history) new.history ≡ a.es
+  news_are = rw grown (turning.behind old.history a.es)
+
+  pub longer : length new.history ≡ length old.history + length a.es
+  longer = ap length grown ∙ length-append old.history a.es
+
+  pub same_run : run_of new ≡ run_of old
+  same_run = ap run_of a.appended
+
+  pub told : (run : Run) (given : Option DoneView) (turns : List Turn) (before after : List Event) → AreTurns old actor given turns answer new → length turns < 16 → length a.es ≤ 32 → run_of old ≡ run → length old.history ≤ run.limit
+      → length (events_of actor old.history) ≡ length before → after ≡ before ++ drop (length old.history) new.history → AreTold run actor before after given answer
+  told run given turns before after are few short is low same after_is = record {
+    es = a.es;
+    told = after_is ∙ ap (λ es. before ++ es) news_are;
+    few = short;
+    own = a.own;
+    turns = inl (record { pool = old; of_run = is; within = low; same_count = same; before = turns; few = few; turns = subst (λ (q : PoolView). AreTurns old actor given turns answer q) a.appended are });
+  }
+
+-- ---- as a hold goes on
+
+module _ (old : PoolView) (actor : Actor) (given : Option DoneView) (now : PoolView) (owed : Option DoneView) (past : List Turn)
+    (so_far : (rest : List Turn) (answer : Turn) (new : PoolView) → AreTurns now actor owed rest answer new → AreTurns old actor given (past ++ rest) answer new) where
+  -- one turn more
+  pub on : (first : Turn) (next : Option DoneView) (between : PoolView) → IsTurn now actor owed first between → HandsOn first next
+      → (rest : List Turn) (answer : Turn) (new : PoolView) → AreTurns between actor next rest answer new → AreTurns old actor given ((past ++ first ∷ []) ++ rest) answer new
+  on first next between t goes rest answer new more =
+      subst (λ (turns : List Turn). AreTurns old actor given turns answer new) (sym (append_assoc past (first ∷ []) rest)) (so_far (first ∷ rest) answer new (next, between, t, goes, more))
+
+  -- the last turn
+  pub last : (answer : Turn) (new : PoolView) → IsTurn now actor owed answer new → length past < 16 → (before : List Turn) × (length before < 16) × AreTurns old actor given before answer new
+  last answer new t few = (past ++ [], omega (arith, few, length-append past []), so_far [] answer new t)

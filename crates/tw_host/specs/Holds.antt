@@ -1,0 +1,63 @@
+-- What several turns of one seat under one hold of the lock answer, and tell the seat.
+use Rattle.std.specs.Prelude.{◌≡◌, ◌<◌, ◌≤◌, ◌*◌, ◌⊎◌, ℕ, false, List, [], ◌∷◌, ◌++◌, length, Option, Some, None, Result, Ok, Err, slice_get}
+use Rattle.tw_types.specs.declared.actor.Actor.{Actor}
+use Rattle.tw_types.specs.declared.event.Event.{Event}
+use Rattle.tw_code.specs.declared.procedure.Procedure.{Procedure}
+use Rattle.tw_frame.specs.Jobs.{DoneView, JobView}
+use Rattle.tw_frame.specs.Ready.{IsStop}
+use Rattle.tw_pool.specs.declared.answer.Turn.{Turn}
+use Rattle.tw_pool.specs.declared.answer.Turn.TheVariants as turn
+use Rattle.tw_pool.specs.Actors.{events_of}
+use Rattle.tw_pool.specs.PoolView.{PoolView, with_events}
+use Rattle.tw_pool.specs.Turns.{IsTurn}
+use Rattle.tw_host.specs.declared.locked.Strange.{Strange}
+use Rattle.tw_host.specs.Run.{Run, run_of}
+use Rattle.tw_host.specs.Tells.{Tells}
+
+-- how many turns there are at most
+abbrev pub most_turns : ℕ
+most_turns = 16
+
+-- the next instruction of a job isn't local
+abbrev pub Waits : JobView → Type 0
+Waits job = (p : Procedure) × (slice_get job.program.program job.procedure ≡ Some p) × IsStop p.code job.position.place
+
+-- What the same hold hands in behind an answer: nothing behind an event that lends no job, and behind the end of a task; of a job whose
+-- next instruction isn't local its Done, which has no steps. Behind any other answer it hands in nothing more
+abbrev pub HandsOn : Turn → Option DoneView → Type 0
+HandsOn (turn.Over closing) next = ⊥
+HandsOn (turn.Foreign done) next = ⊥
+HandsOn turn.Owed next = ⊥
+HandsOn (turn.NoMemory given) next = ⊥
+HandsOn (turn.Run job) next = Waits job × ((done : DoneView) × (next ≡ Some done) × (done.before ≡ job) × (done.steps ≡ 0) × (done.short ≡ false))
+HandsOn turn.Ended next = next ≡ None
+HandsOn turn.Went next = next ≡ None
+HandsOn turn.Idle next = ⊥
+
+-- turns of an actor, each in the state that the one before left: some answers, behind each of which the hold goes on, and the last one
+abbrev pub AreTurns : PoolView → Actor → Option DoneView → List Turn → Turn → PoolView → Type 0
+AreTurns old actor given [] answer new = IsTurn old actor given answer new
+AreTurns old actor given (first ∷ rest) answer new =
+    (next : Option DoneView) × (between : PoolView) × IsTurn old actor given first between × HandsOn first next × AreTurns between actor next rest answer new
+
+-- some pool of the run, within its limit, in which the actor has so many events, makes such turns, and they append just these
+pub record SomeTurns (run : Run) (actor : Actor) (count : ℕ) (given : Option DoneView) (answer : Turn) (es : List Event) : Type 0 where
+  pub pool : PoolView
+  pub of_run : run_of pool ≡ run
+  pub within : length pool.history ≤ run.limit
+  pub same_count : length (events_of actor pool.history) ≡ count
+  pub before : List Turn
+  pub few : length before < most_turns
+  pub turns : AreTurns pool actor given before answer (with_events pool es)
+
+-- the seat of an actor had been told the old events, and is told these; or memory for them was refused, and no pool has turned
+pub record AreTold (run : Run) (actor : Actor) (old new : List Event) (given : Option DoneView) (answer : Turn) : Type 0 where
+  pub es : List Event
+  pub told : new ≡ old ++ es
+  pub few : length es ≤ 2 * most_turns
+  pub own : events_of actor es ≡ es
+  pub turns : SomeTurns run actor (length old) given answer es ⊎ ((answer ≡ turn.NoMemory given) × (es ≡ []))
+
+abbrev pub TellsAll : Run → Actor → List Event → List Event → Option DoneView → Result Turn Strange → Type 0
+TellsAll run actor old new given (Ok answer) = AreTold run actor old new given answer
+TellsAll run actor old new given (Err strange) = Tells run actor old new given (Err strange)
