@@ -1,12 +1,11 @@
 -- The texts of forests that are put together.
-use Rattle.std.proofs.Common.{arith, ◌≡◌, ◌+◌, ◌<◌, ◌≤◌, ℕ, zero, suc, Bool, true, false, List, [], ◌∷◌, ◌++◌, length, take, get_or, refl, sym, ap, ◌∙◌, append_assoc, OnOk}
+use Rattle.std.proofs.Common.{arith, ◌≡◌, ◌+◌, ◌<◌, ◌≤◌, ℕ, zero, suc, Bool, true, false, List, [], ◌∷◌, ◌++◌, length, take, get_or, refl, sym, ap, subst, ◌∙◌, append_assoc, OnOk}
 use Rattle.std.specs.Prelude.{Result, Ok, Err, if◌then◌else◌}
 use Rattle.std.proofs.lemmas.List.{append-nil, flat_map_more, take_all, take_more}
 use Rattle.std.specs.List.{flat_map}
 use Rattle.tw_picture.specs.declared.attributes.Attribute.{Attribute}
 use Rattle.tw_picture.specs.declared.attributes.Name.{Name}
-use Rattle.tw_picture.specs.Picture.{all, below}
-use Rattle.tw_picture.specs.Xml.{Forest, Nothing, Words, Element, close_text, escaped, joined, open_text, plain, titled, with_words, xml_text}
+use Rattle.tw_picture.specs.Xml.{Forest, Nothing, Words, Element, all, below, close_text, escaped, joined, open_text, plain, titled, with_words, xml_text}
 
 pub nothing_text : xml_text Nothing ≡ []
 unfolding xml_text
@@ -83,6 +82,14 @@ module _ {T E : Type 0} (r : Result T E) where
       go : (q : Result T E) → OnOk q (new ≡ mid ++ xml_text two) → OnOk q (new ≡ old ++ xml_text (joined first rest))
       go (Ok x) h = both_added old mid new first rest (before ∙ ap (λ (f : Forest). old ++ xml_text f) same) (h ∙ ap (λ (f : Forest). mid ++ xml_text f) other)
       go (Err e) h = h
+
+  -- what is written otherwise
+  pub same_added : (old new : List ℕ) (one two : Forest) → one ≡ two → OnOk r (new ≡ old ++ xml_text one) → OnOk r (new ≡ old ++ xml_text two)
+  same_added old new one two same after = subst (λ (f : Forest). OnOk r (new ≡ old ++ xml_text f)) same after
+
+  -- where there is something
+  pub some_added : (old new : List ℕ) (b : Bool) (one two : Forest) → b ≡ false → one ≡ two → OnOk r (new ≡ old ++ xml_text one) → OnOk r (new ≡ old ++ xml_text (if b then Nothing else two))
+  some_added old new b one two e same after = same_added old new one (if b then Nothing else two) (same ∙ ap (λ (t : Bool). if t then Nothing else two) (sym e)) after
 
   -- an element: its beginning, what stands in it, and its end
   pub around : (old mid next new : List ℕ) (name : Name) (row attributes : List Attribute) (text : List ℕ) (shape : Forest) → row ≡ attributes → mid ≡ old ++ open_text name row → next ≡ mid ++ text

@@ -1,2 +1,3 @@
+pub mod Circles
 pub mod Forests
 pub mod History

@@ -1,11 +1,21 @@
--- What a drawing shows of a history: its events, its tasks, and how it ended.
-use Rattle.std.specs.Prelude.{◌≡◌, ◌<◌, ◌^◌, ℕ, suc, List, [], ◌∷◌, Option, Some, None, IsSome, length, map, take}
+-- What a drawing shows of a history: its events, its tasks, what led to them, and how it ended.
+use Rattle.std.specs.Prelude.{◌≡◌, ◌+◌, ◌<◌, ◌^◌, ◌==◌, ℕ, suc, Bool, false, if◌then◌else◌, List, [], ◌∷◌, ◌++◌, Option, Some, None, drop, length, map, option_to_list, slice_get, take}
 use Rattle.std.specs.FinMap.{get}
 use Rattle.std.specs.List.{flat_map}
+use Rattle.std.specs.Ordering.{eq_by_cmp}
+use Rattle.tw_types.specs.declared.actor.Actor.{Actor}
 use Rattle.tw_types.specs.declared.event.Event.{Event}
 use Rattle.tw_types.specs.declared.event.Event.TheVariants.{Take, Local, Call, End, Ask, Deliver, Release}
 use Rattle.tw_types.specs.declared.pending.Link.{Link}
+use Rattle.tw_types.specs.Actor.{actor_cmp}
+use Rattle.tw_types.specs.Circle.{rules_of}
+use Rattle.tw_types.specs.Layout.{ActorCounts}
+use Rattle.tw_types.specs.Outcome.{Went}
+use Rattle.tw_types.specs.Task.{Task}
+use Rattle.tw_code.specs.declared.procedure.Procedure.{Procedure}
 use Rattle.tw_code.specs.machine.Ending.{ending}
+use Rattle.tw_code.specs.machine.History.{actor_of, if_went, put_between}
+use Rattle.tw_code.specs.machine.Machine.{run, step}
 use Rattle.tw_code.specs.machine.Pending.{circle}
 use Rattle.tw_code.specs.machine.State.{State}
 use Rattle.tw_machine.specs.PlainView.{PlainView}
@@ -14,6 +24,8 @@ use Rattle.tw_picture.specs.declared.drawing.Bar.{Bar}
 use Rattle.tw_picture.specs.declared.drawing.Drawing.{Drawing}
 use Rattle.tw_picture.specs.declared.drawing.Mark.{Mark}
 use Rattle.tw_picture.specs.declared.drawing.Place.{Place}
+use Rattle.tw_picture.specs.declared.drawing.Thread.{Thread}
+use Rattle.tw_picture.specs.declared.drawing.Wait.{Wait}
 use Rattle.tw_picture.specs.declared.trail.Trail.{Trail}
 
 -- ---- events
@@ -23,57 +35,131 @@ abbrev pub numbered : ℕ → List Event → List Mark
 numbered number [] = []
 numbered number (event ∷ events) = record { number = number; event = event } ∷ numbered (suc number) events
 
+-- an event with its number, and the machine's state before it and behind it
+pub record Moment : Type 0 where
+  pub number : ℕ
+  pub event : Event
+  pub before : State
+  pub behind : State
+
+-- those of the events that go from a state, numbered from this one on
+abbrev pub moments : List Procedure → ActorCounts → ℕ → List Event → State → List Moment
+moments program layout number [] s = []
+moments program layout number (event ∷ events) s =
+    if_went (step program layout event s) (λ next. record { number = number; event = event; before = s; behind = next } ∷ moments program layout (suc number) events next)
+
+abbrev pub history : PlainView → List Event → List Moment
+history first events = moments first.program first.layout 1 events first.state
+
 -- ---- tasks
 
--- a Take of this number begins a task
-abbrev pub taken_at : ℕ → Event → List Place
-taken_at number (Take actor) = record { actor = actor; number = number } ∷ []
-taken_at number (Local actor n) = []
-taken_at number (Call actor) = []
-taken_at number (End actor) = []
-taken_at number (Ask engine rule parameter) = []
-taken_at number (Deliver server datum rule parameter) = []
-taken_at number (Release engine rule) = []
+-- Behind a Take the actor's frame tells which task it runs, of which procedure: a bar begins there.
+abbrev pub begun_at : ℕ → Event → State → List Bar
+begun_at number (Take actor) s = map (λ f. record { task = f.task; procedure = f.procedure; actor = actor; from = number; to = None }) (option_to_list (get s.frames actor))
+begun_at number (Local actor n) s = []
+begun_at number (Call actor) s = []
+begun_at number (End actor) s = []
+begun_at number (Ask engine rule parameter) s = []
+begun_at number (Deliver server datum rule parameter) s = []
+begun_at number (Release engine rule) s = []
 
-abbrev pub taken : Mark → List Place
-taken m = taken_at m.number m.event
+abbrev pub begun : Moment → List Bar
+begun m = begun_at m.number m.event m.behind
 
--- where a bar begins
-abbrev pub begun : Bar → Place
-begun b = record { actor = b.actor; number = b.from }
+abbrev pub is_end_of : Actor → Event → Bool
+is_end_of actor (Take other) = false
+is_end_of actor (Local other n) = false
+is_end_of actor (Call other) = false
+is_end_of actor (End other) = eq_by_cmp actor_cmp other actor
+is_end_of actor (Ask engine rule parameter) = false
+is_end_of actor (Deliver server datum rule parameter) = false
+is_end_of actor (Release engine rule) = false
 
--- behind a Take its actor runs a task
-abbrev pub IsTaken : State → Event → Type 0
-IsTaken s (Take actor) = IsSome (get s.frames actor)
-IsTaken s (Local actor n) = Unit {0}
-IsTaken s (Call actor) = Unit {0}
-IsTaken s (End actor) = Unit {0}
-IsTaken s (Ask engine rule parameter) = Unit {0}
-IsTaken s (Deliver server datum rule parameter) = Unit {0}
-IsTaken s (Release engine rule) = Unit {0}
+-- the number of the actor's first End among these
+abbrev pub first_end : Actor → List Mark → Option ℕ
+first_end actor [] = None
+first_end actor (m ∷ marks) = if is_end_of actor m.event then Some m.number else first_end actor marks
 
--- ---- a history
+-- A bar ends at its actor's first End behind the Take; where there is none its task still runs, and the bar is open.
+abbrev pub ended : List Mark → Bar → Bar
+ended marks b = record b { to = first_end b.actor (drop b.from marks) }
 
--- a mark for each event, numbered from 1, and a bar for each Take, in their order
-pub record IsTrail (events : List Event) (t : Trail) : Type 0 where
-  pub marks : t.marks.items ≡ numbered 1 events
-  pub bars : map begun t.tasks.bars.items ≡ flat_map taken (numbered 1 events)
+-- ---- what led to tasks
 
--- so few that their numbers fit
-abbrev pub HasFew : Trail → Type 0
-HasFew t = length t.marks.items < 2 ^ 31
+-- the number of the task that the event put, by a PUT or a Release, with the event's place
+abbrev pub made : Moment → List (ℕ × Place)
+made m = map (λ task. (task, record { actor = actor_of m.event; number = m.number })) (put_between m.before m.behind)
+
+-- where the task of this number was made
+abbrev pub maker : ℕ → List (ℕ × Place) → Option Place
+maker task [] = None
+maker task (p ∷ others) = if p.0 == task then Some p.1 else maker task others
+
+-- a line from where a bar's task was made to where the bar begins; none to main's, which no event makes
+abbrev pub led : List (ℕ × Place) → Bar → List Thread
+led makers b = map (λ from. record { task = b.task; from = from; to = record { actor = b.actor; number = b.from } }) (option_to_list (maker b.task makers))
+
+-- ---- a circle of rules
 
 -- the rules of a circle, if there is one
 abbrev pub links_in : Option (List Link) → List Link
 links_in None = []
 links_in (Some links) = links
 
--- The machine stands behind the events: these are drawn, and how it has ended, with the first thousand rules of the circle
--- where it is stuck.
-pub record IsDrawing (plain : PlainView) (events : List Event) (d : Drawing) : Type 0 where
-  pub layout : d.layout ≡ plain.layout
+-- each waits for the next one, and the last for the first
+abbrev pub IsRound : List Link → Type 0
+IsRound [] = Unit {0}
+IsRound (l ∷ links) = map (λ m. m.next) (l ∷ links) ≡ rules_of links ++ l.rule ∷ []
+
+-- the place of the next one
+abbrev pub place_behind : ℕ → ℕ → ℕ
+place_behind place count = if place + 1 == count then 0 else place + 1
+
+-- each stands at its own place in the circle, the first of them at this one, and its arrow leads to the rule that may write its datum
+abbrev pub AreArrows : List Link → ℕ → List Wait → Type 0
+AreArrows links place [] = Unit {0}
+AreArrows links place (w ∷ waits) = (w.from ≡ place) × (slice_get (rules_of links) w.to ≡ Some w.link.next) × AreArrows links (suc place) waits
+
+-- ---- the drawing
+
+-- From the first state the events lead to this one. These are drawn, and how it has ended, with the first thousand rules of the
+-- circle where it is stuck.
+pub record IsDrawing (first : PlainView) (events : List Event) (s : State) (d : Drawing) : Type 0 where
+  pub layout : d.layout ≡ first.layout
   pub count : d.events ≡ length events
   pub marks : d.marks.items ≡ numbered 1 events
-  pub bars : map begun d.bars.items ≡ flat_map taken (numbered 1 events)
-  pub closing : d.closing.items ≡ ending_lines (ending plain.state) None
-  pub circle : map (λ w. w.link) d.waits.items ≡ take 1000 (links_in (circle plain.program plain.state))
+  pub bars : d.bars.items ≡ map (ended d.marks.items) (flat_map begun (history first events))
+  pub threads : d.threads.items ≡ flat_map (led (flat_map made (history first events))) d.bars.items
+  pub closing : d.closing.items ≡ ending_lines (ending s) None
+  pub waits : map (λ w. w.link) d.waits.items ≡ take 1000 (links_in (circle first.program s))
+  pub arrows : AreArrows (links_in (circle first.program s)) 0 d.waits.items
+  pub rules : d.rules ≡ length d.waits.items
+
+-- ---- what is gathered
+
+-- each task that waits has an earlier number than the next one
+abbrev pub HasEarlier : State → Type 0
+HasEarlier s = (n : ℕ) (task : Task) → get s.tasks n ≡ Some task → n < s.next_task
+
+-- where a history begins: main is the first task, and the next one is the second
+pub record IsOpening (s : State) : Type 0 where
+  pub next : s.next_task ≡ 2
+  pub earlier : HasEarlier s
+
+-- the places with the numbers from this one on
+abbrev pub in_order : ℕ → List Place → List (ℕ × Place)
+in_order number [] = []
+in_order number (place ∷ places) = (number, place) ∷ in_order (suc number) places
+
+-- of events that lead to a state, a mark for each, a bar without its end for each Take, and where each task from the second on was made
+pub record IsTrail (first : PlainView) (events : List Event) (s : State) (t : Trail) : Type 0 where
+  pub reached : run first.program first.layout events first.state ≡ Went s
+  pub earlier : HasEarlier s
+  pub marks : t.marks.items ≡ numbered 1 events
+  pub bars : t.bars.items ≡ flat_map begun (history first events)
+  pub makers : in_order 2 t.makers.items ≡ flat_map made (history first events)
+  pub next : length t.makers.items + 2 ≡ s.next_task
+
+-- so few that their numbers fit
+abbrev pub HasFew : Trail → Type 0
+HasFew t = length t.marks.items < 2 ^ 31

@@ -1,5 +1,5 @@
 -- What is drawn of an actor, of an event, of a task, of what led to a task, and of a rule that waits.
-use Rattle.std.specs.Prelude.{◌+◌, ◌-◌, ◌*◌, ◌%◌, ◌==◌, ℕ, zero, suc, List, [], ◌∷◌, ◌++◌, codes, decimal, nat_lt, if◌then◌else◌}
+use Rattle.std.specs.Prelude.{◌+◌, ◌-◌, ◌*◌, ◌/◌, ◌%◌, ◌==◌, ◌&&◌, ℕ, Bool, List, [], ◌∷◌, ◌++◌, codes, decimal, drop, filter, length, max, min, nat_le, nat_lt, take, Option, Some, None, if◌then◌else◌}
 use Rattle.tw_types.specs.declared.actor.Actor.{Actor}
 use Rattle.tw_types.specs.declared.actor.Actor.TheVariants.{Engine, Server, Worker}
 use Rattle.tw_types.specs.declared.event.Event.{Event}
@@ -20,9 +20,9 @@ use Rattle.tw_picture.specs.declared.drawing.Bar.{Bar}
 use Rattle.tw_picture.specs.declared.drawing.Mark.{Mark}
 use Rattle.tw_picture.specs.declared.drawing.Thread.{Thread}
 use Rattle.tw_picture.specs.declared.drawing.Wait.{Wait}
-use Rattle.tw_picture.specs.declared.places.Scale.{Scale}
-use Rattle.tw_picture.specs.Places.{across, bottom, lane_top, mark_inset, mark_width, span, tick_step}
-use Rattle.tw_picture.specs.Xml.{Forest, Nothing, joined, plain, titled, with_words}
+use Rattle.tw_picture.specs.declared.places.View.{View}
+use Rattle.tw_picture.specs.Places.{across, bottom, column_start, is_coarse, is_shown, is_wide, lane_of, lane_top, line_step, mark_inset, mark_width, tick_step}
+use Rattle.tw_picture.specs.Xml.{Forest, Nothing, below, joined, plain, titled, with_words}
 
 -- ---- rows of attributes
 
@@ -62,33 +62,94 @@ abbrev pub mark_title : Mark → List ℕ
 mark_title m = codes "event " ++ (decimal m.number ++ (codes ": " ++ event_line m.event))
 
 -- in the lane of its actor
-abbrev pub mark_shape : ActorCounts → Scale → Mark → Forest
-mark_shape layout scale m =
-    titled name.Rectangle (rectangle (class_of m.event) (across scale m.number + mark_inset scale) (lane_top layout (actor_of m.event) + 22) (mark_width scale) 12) (mark_title m)
+abbrev pub mark_box : ActorCounts → View → Mark → Forest
+mark_box layout v m = titled name.Rectangle (rectangle (class_of m.event) (across v m.number + mark_inset v) (lane_top layout (actor_of m.event) + 19) (mark_width v) 12) (mark_title m)
+
+-- where it is shown
+abbrev pub mark_shape : ActorCounts → View → Mark → Forest
+mark_shape layout v m = if is_shown v m.number then mark_box layout v m else Nothing
+
+-- ---- events, where they are too many
+
+-- the marks from one number up to another, which is the first left out
+abbrev pub marks_in : List Mark → ℕ → ℕ → List Mark
+marks_in marks from to = take (to - from) (drop (from - 1) marks)
+
+-- all of the height for half of the events
+abbrev pub column_height : ℕ → ℕ → ℕ
+column_height count events = min (max (36 * count / max events 1) 1) 18
+
+abbrev pub column_title : ℕ → ℕ → ℕ → List ℕ
+column_title from to count = codes "events " ++ (decimal from ++ (codes " to " ++ (decimal (to - 1) ++ (codes ": " ++ decimal count))))
+
+-- so many of a column's events are of a lane
+abbrev pub column_box : ℕ → ℕ → ℕ → List ℕ → Forest
+column_box lane column height title = titled name.Rectangle (rectangle word.Column (90 + 10 * column) (60 + 44 * lane + 34 - height) 10 height) title
+
+-- how many of the marks stand in a lane
+abbrev pub count_in : ActorCounts → ℕ → List Mark → ℕ
+count_in layout lane marks = length (filter (λ m. lane_of layout (actor_of m.event) == lane) marks)
+
+-- where there are any
+abbrev pub column_of : ActorCounts → ℕ → ℕ → ℕ → ℕ → List Mark → Forest
+column_of layout lane number from to there =
+    let count = count_in layout lane there in
+    if count == 0 then Nothing else column_box lane number (column_height count (length there)) (column_title from to count)
+
+abbrev pub column : ActorCounts → View → List Mark → ℕ → ℕ → Forest
+column layout v marks lane number =
+    let from = column_start v number in
+    let to = column_start v (number + 1) in
+    column_of layout lane number from to (marks_in marks from to)
 
 -- ---- tasks
 
+-- an open bar has no last event
+abbrev pub events_text : ℕ → Option ℕ → List ℕ
+events_text from None = codes ", from event " ++ (decimal from ++ codes " on")
+events_text from (Some to) = codes ", events " ++ (decimal from ++ (codes " to " ++ decimal to))
+
 abbrev pub bar_title : Bar → List ℕ
-bar_title b = (codes "task " ++ (decimal b.task ++ (codes " of procedure " ++ decimal b.procedure))) ++ (codes ", events " ++ (decimal b.from ++ (codes " to " ++ decimal b.to)))
+bar_title b = (codes "task " ++ (decimal b.task ++ (codes " of procedure " ++ decimal b.procedure))) ++ events_text b.from b.to
 
-abbrev pub label_text : Bar → List ℕ
-label_text b = codes "t" ++ (decimal b.task ++ (codes " p" ++ decimal b.procedure))
+-- the last of its events that is shown
+abbrev pub end_in : View → Option ℕ → ℕ
+end_in v None = v.last
+end_in v (Some to) = min to v.last
 
--- from the beginning of its first event to the end of its last
-abbrev pub bar_width : Scale → Bar → ℕ
-bar_width scale b = span scale (b.to - b.from) + span scale 1
+-- from the beginning of its first event to the end of its last, as far as they are shown
+abbrev pub bar_width : View → Bar → ℕ
+bar_width v b = across v (end_in v b.to + 1) - across v b.from
+
+-- some of its events are shown; and where these are too many for a mark each, it is long
+abbrev pub has_bar : View → Bar → Bool
+has_bar v b = nat_le b.from v.last && (nat_le v.first (end_in v b.to) && nat_le (if is_coarse v then 24 else 0) (bar_width v b))
+
+abbrev pub bar_class : Option ℕ → Word
+bar_class None = word.Open
+bar_class (Some to) = word.Bar
 
 -- from its Take to its End
-abbrev pub bar_box : ActorCounts → Scale → Bar → Forest
-bar_box layout scale b = titled name.Rectangle (rectangle word.Bar (across scale b.from) (lane_top layout b.actor + 18) (bar_width scale b) 20) (bar_title b)
+abbrev pub bar_box : ActorCounts → View → Bar → Forest
+bar_box layout v b = titled name.Rectangle (rectangle (bar_class b.to) (across v b.from) (lane_top layout b.actor + 16) (bar_width v b) 18) (bar_title b)
 
--- where there is room for it
-abbrev pub bar_label : ActorCounts → Scale → Bar → Forest
-bar_label layout scale b =
-    if nat_lt (bar_width scale b) 54 then Nothing else with_words name.Text (labelled word.Label (across scale b.from + 1) (lane_top layout b.actor + 14)) (label_text b)
+-- its task and its procedure, or its procedure, or nothing: seven units for a letter
+abbrev pub label_text : Bar → ℕ → List ℕ
+label_text b width =
+    let short = codes "p" ++ decimal b.procedure in
+    let full = codes "t" ++ (decimal b.task ++ (codes " p" ++ decimal b.procedure)) in
+    if nat_le (length full) (width / 7) then full else if nat_le (length short) (width / 7) then short else []
 
-abbrev pub bar_shape : ActorCounts → Scale → Bar → Forest
-bar_shape layout scale b = joined (bar_box layout scale b) (bar_label layout scale b)
+abbrev pub bar_label : ActorCounts → View → Bar → Forest
+bar_label layout v b =
+    let text = label_text b (bar_width v b) in
+    if length text == 0 then Nothing else with_words name.Text (labelled word.Label (across v b.from + 1) (lane_top layout b.actor + 12)) text
+
+abbrev pub bar_parts : ActorCounts → View → Bar → Forest
+bar_parts layout v b = joined (bar_box layout v b) (bar_label layout v b)
+
+abbrev pub bar_shape : ActorCounts → View → Bar → Forest
+bar_shape layout v b = if has_bar v b then bar_parts layout v b else Nothing
 
 -- ---- what led to tasks
 
@@ -96,11 +157,21 @@ abbrev pub thread_title : Thread → List ℕ
 thread_title t = codes "task " ++ (decimal t.task ++ (codes ", made at event " ++ (decimal t.from.number ++ (codes ", taken at event " ++ decimal t.to.number))))
 
 -- from the mark of the event that made the task to just above the beginning of its bar
-abbrev pub thread_shape : ActorCounts → Scale → Thread → Forest
-thread_shape layout scale t =
-    let from : Point = record { x = across scale t.from.number + mark_inset scale; y = lane_top layout t.from.actor + 28 } in
-    let to : Point = record { x = across scale t.to.number; y = lane_top layout t.to.actor + 16 } in
-    titled name.Path (way_row word.Thread (value.Curve from to)) (thread_title t)
+abbrev pub thread_way : ActorCounts → View → Thread → Value
+thread_way layout v t =
+    let from : Point = record { x = across v t.from.number + mark_inset v; y = lane_top layout t.from.actor + 25 } in
+    let to : Point = record { x = across v t.to.number; y = lane_top layout t.to.actor + 15 } in
+    value.Curve from to
+
+abbrev pub thread_box : ActorCounts → View → Thread → Forest
+thread_box layout v t = titled name.Path (way_row (if is_wide v then word.Thread else word.Thin) (thread_way layout v t)) (thread_title t)
+
+-- its Take is shown, and is one of those to which a line is drawn
+abbrev pub has_line : View → Thread → Bool
+has_line v t = is_shown v t.to.number && (t.task % line_step v == 0)
+
+abbrev pub thread_shape : ActorCounts → View → Thread → Forest
+thread_shape layout v t = if has_line v t then thread_box layout v t else Nothing
 
 -- ---- actors
 
@@ -109,24 +180,32 @@ actor_name (Engine n) = codes "engine " ++ decimal n
 actor_name (Server n) = codes "server " ++ decimal n
 actor_name (Worker n) = codes "worker " ++ decimal n
 
+-- so that it is seen wherever one looks, every 960 units
+abbrev pub name_again : ℕ → List ℕ → ℕ → Forest
+name_again top words place = with_words name.Text (labelled word.Again (970 + 960 * place) (top + 42)) words
+
 abbrev pub lane : ActorCounts → ℕ → Actor → Forest
 lane layout width actor =
-    joined (titled name.Rectangle (rectangle word.Lane 0 (lane_top layout actor + 1) width 42) (actor_name actor))
-    (with_words name.Text (labelled word.Actor 10 (lane_top layout actor + 32)) (actor_name actor))
+    let top = lane_top layout actor in
+    joined (titled name.Rectangle (rectangle word.Lane 0 (top + 1) width 42) (actor_name actor))
+    (joined (with_words name.Text (labelled word.Actor 10 (top + 30)) (actor_name actor)) (below (name_again top (actor_name actor)) (width / 970)))
 
 -- ---- numbers of events
 
 abbrev pub tick_row : ℕ → ℕ → List Attribute
 tick_row x down_to = fixed key.Class word.Tick ∷ number key.FromX x ∷ number key.FromY 46 ∷ number key.ToX x ∷ number key.ToY down_to ∷ []
 
-abbrev pub tick : ActorCounts → Scale → ℕ → Forest
-tick layout scale event =
-    joined (plain name.Line (tick_row (across scale event) (bottom layout)))
-    (with_words name.Text (labelled word.Number (across scale event + 3) 55) (decimal event))
+abbrev pub tick : ActorCounts → View → ℕ → Forest
+tick layout v event =
+    joined (plain name.Line (tick_row (across v event) (bottom layout)))
+    (with_words name.Text (labelled word.Number (across v event + 3) 55) (decimal event))
 
 -- where it is due
-abbrev pub tick_of : ActorCounts → Scale → Mark → Forest
-tick_of layout scale m = if m.number % tick_step scale == 0 then tick layout scale m.number else Nothing
+abbrev pub has_tick : View → ℕ → Bool
+has_tick v number = is_shown v number && (number % tick_step v == 0)
+
+abbrev pub tick_of : ActorCounts → View → Mark → Forest
+tick_of layout v m = if has_tick v m.number then tick layout v m.number else Nothing
 
 -- ---- rules that wait
 

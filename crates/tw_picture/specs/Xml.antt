@@ -1,5 +1,5 @@
 -- XML as it is written: elements with their attributes, and what stands in them.
-use Rattle.std.specs.Prelude.{◌+◌, ◌/◌, ◌==◌, ◌||◌, ◌&&◌, ℕ, List, [], ◌∷◌, ◌++◌, codes, decimal, nat_lt, if◌then◌else◌}
+use Rattle.std.specs.Prelude.{◌+◌, ◌/◌, ◌==◌, ◌||◌, ◌&&◌, ℕ, zero, suc, List, [], ◌∷◌, ◌++◌, codes, decimal, nat_lt, if◌then◌else◌}
 use Rattle.std.specs.List.{flat_map}
 use Rattle.tw_picture.specs.declared.attributes.Attribute.{Attribute}
 use Rattle.tw_picture.specs.declared.attributes.Key.{Key}
@@ -51,6 +51,7 @@ key_text key.X = codes "x"
 key_text key.Y = codes "y"
 key_text key.Width = codes "width"
 key_text key.Height = codes "height"
+key_text key.ViewBox = codes "viewBox"
 key_text key.FromX = codes "x1"
 key_text key.FromY = codes "y1"
 key_text key.ToX = codes "x2"
@@ -69,10 +70,14 @@ word_text word.Tip = codes "tip"
 word_text word.Arrowhead = codes "M 0 0 L 8 4 L 0 8 z"
 word_text word.Lane = codes "lane"
 word_text word.Actor = codes "actor"
+word_text word.Again = codes "again"
 word_text word.Tick = codes "tick"
 word_text word.Number = codes "number"
 word_text word.Thread = codes "thread"
+word_text word.Thin = codes "thin"
 word_text word.Bar = codes "bar"
+word_text word.Open = codes "open"
+word_text word.Column = codes "column"
 word_text word.Label = codes "label"
 word_text word.Take = codes "take"
 word_text word.Local = codes "local"
@@ -108,6 +113,7 @@ value_text (value.Word word) = flat_map escaped (word_text word)
 value_text (value.Number number) = decimal number
 value_text (value.Curve from to) = curve_text from to
 value_text (value.Under from to below) = under_text from to below
+value_text (value.Frame width height) = point_text (codes "0 0 ") width height
 
 unfoldable pub attribute_text : Attribute → List ℕ
 attribute_text a = codes " " ++ (key_text a.key ++ (codes "=\"" ++ (value_text a.value ++ codes "\"")))
@@ -142,3 +148,15 @@ with_words name attributes words = Element name attributes (Words words Nothing)
 -- a title is shown where the pointer rests on the element
 abbrev pub titled : Name → List Attribute → List ℕ → Forest
 titled tag attributes words = Element tag attributes (with_words name.Title [] words) Nothing
+
+-- ---- many
+
+-- what is drawn of each, one behind the other
+abbrev pub all : {X : Type 0} → (X → Forest) → List X → Forest
+all f [] = Nothing
+all f (x ∷ xs) = joined (f x) (all f xs)
+
+-- what is drawn of each number below this one
+abbrev pub below : (ℕ → Forest) → ℕ → Forest
+below f zero = Nothing
+below f (suc n) = joined (below f n) (f n)

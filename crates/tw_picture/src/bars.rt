@@ -1,17 +1,16 @@
 //! Tasks, as they are drawn.
 
 ghost use Rattle.std.specs.Prelude.{◌≡◌, ◌++◌, codes, decimal, IfOk, OnOk};
-ghost use Rattle.tw_picture.specs.Picture.{all};
-ghost use Rattle.tw_picture.specs.Shapes.{bar_shape, bar_box, bar_label, bar_title, bar_width, label_text, labelled};
-ghost use Rattle.tw_picture.specs.Xml.{xml_text};
+ghost use Rattle.tw_picture.specs.Shapes.{bar_shape, bar_box, bar_class, bar_label, bar_parts, bar_title, bar_width, end_in, events_text, has_bar, label_text, labelled};
+ghost use Rattle.tw_picture.specs.Xml.{all, xml_text};
 
 use crate::attributes::{Attribute, Key, Name, Word, fixed, number};
 use crate::drawing::Bar;
-use crate::elements::{put_titled, put_words};
+use crate::elements::{numbered, put_titled, put_words};
 use crate::marks::rectangle;
-use crate::places::{Scale, lane_top};
+use crate::places::{View, lane_top};
 use std::alloc::{AllocError, Global};
-use tw_report::put_numbered;
+use tw_report::{put, put_numbered};
 use tw_types::Layout;
 
 /// A text's row of attributes: where its first letter stands.
@@ -38,6 +37,40 @@ fn put_two(
     put_numbered(alloc, out, second.0, second.1)
 }
 
+/// Adds a number between words.
+fn put_within(
+    alloc: Global,
+    out: &mut Vec<u8>,
+    before: &str,
+    number: usize,
+    behind: &str,
+) -> Result<(), AllocError>
+    ensures { OnOk result (out.new.items ≡ out.old.items ++ (before.now ++ (decimal number ++ behind.now))) }
+{
+    put_numbered(alloc, out, before, number)?;
+    put(out, behind)
+}
+
+/// Adds the events of a bar; an open one has no last.
+fn put_events(
+    alloc: Global,
+    out: &mut Vec<u8>,
+    from: u32,
+    to: Option<u32>,
+) -> Result<(), AllocError>
+    ensures { OnOk result (out.new.items ≡ out.old.items ++ events_text from to) }
+{
+    match to {
+        None => put_within(alloc, out, ", from event ", from as usize, " on"),
+        Some(to) => put_two(
+            alloc,
+            out,
+            (", events ", from as usize),
+            (" to ", to as usize),
+        ),
+    }
+}
+
 /// What a bar shows at the pointer: its task, its procedure and its events.
 fn bar_title(alloc: Global, bar: &Bar) -> Result<Vec<u8>, AllocError>
     ensures { IfOk result (λ title. title.items ≡ bar_title bar.now) }
@@ -50,101 +83,150 @@ fn bar_title(alloc: Global, bar: &Bar) -> Result<Vec<u8>, AllocError>
         ("task ", task),
         (" of procedure ", usize::from(bar.procedure)),
     )?;
-    put_two(
-        alloc,
-        &mut title,
-        (", events ", bar.from as usize),
-        (" to ", bar.to as usize),
-    )?;
+    put_events(alloc, &mut title, bar.from, bar.to)?;
     Ok(title)
 }
 
-/// The words at a bar: its task and its procedure.
-fn label_text(alloc: Global, bar: &Bar) -> Result<Vec<u8>, AllocError>
-    ensures { IfOk result (λ text. text.items ≡ label_text bar.now) }
+/// The words at a bar: its task and its procedure where there is room for both, or its procedure, or nothing.
+fn label_text(alloc: Global, bar: &Bar, width: usize) -> Result<Vec<u8>, AllocError>
+    ensures { IfOk result (λ text. text.items ≡ label_text bar.now width) }
 {
-    let mut text = Vec::new(alloc);
-    put_numbered(alloc, &mut text, "t", bar.task.number() as usize)?;
-    put_numbered(alloc, &mut text, " p", usize::from(bar.procedure))?;
-    Ok(text)
+    let short = numbered(alloc, "p", u64::from(bar.procedure))?;
+    let mut full = numbered(alloc, "t", bar.task.number())?;
+    put_numbered(alloc, &mut full, " p", usize::from(bar.procedure))?;
+    if full.len() <= width / 7 {
+        Ok(full)
+    } else if short.len() <= width / 7 {
+        Ok(short)
+    } else {
+        Ok(Vec::new(alloc))
+    }
 }
 
-/// From the beginning of a bar's first event to the end of its last.
-fn bar_width(scale: Scale, bar: &Bar) -> usize
-    ensures { result ≡ bar_width scale bar.now }
+/// The last event of a bar that is shown; an open one has no last.
+fn end_in(view: View, to: Option<u32>) -> u32
+    ensures { result ≡ end_in view to }
+{
+    match to {
+        None => view.last(),
+        Some(to) => to.min(view.last()),
+    }
+}
+
+/// From the beginning of a bar's first event to the end of its last, as far as they are shown.
+fn bar_width(view: View, bar: &Bar) -> usize
+    ensures { result ≡ bar_width view bar.now }
 {
     let bar = *bar;
-    scale.span(bar.to.saturating_sub(bar.from)) + scale.span(1)
+    let behind = view.across(end_in(view, bar.to) as usize + 1);
+    behind.saturating_sub(view.across(bar.from as usize))
+}
+
+/// Whether a bar is drawn: it is shown, and where there are too many events for a mark each, it is long.
+fn has_bar(view: View, bar: &Bar) -> bool
+    ensures { result ≡ has_bar view bar.now }
+{
+    let bar = *bar;
+    let least = if view.is_coarse() { 24 } else { 0 };
+    bar.from <= view.last()
+        && view.first() <= end_in(view, bar.to)
+        && least <= bar_width(view, &bar)
+}
+
+fn bar_class(bar: &Bar) -> Word
+    ensures { result ≡ bar_class bar.now.to }
+{
+    match bar.to {
+        None => Word::Open,
+        Some(_) => Word::Bar,
+    }
 }
 
 fn put_bar_box(
     alloc: Global,
     out: &mut Vec<u8>,
     layout: Layout,
-    scale: Scale,
+    view: View,
     bar: &Bar,
 ) -> Result<(), AllocError>
-    ensures { OnOk result (out.new.items ≡ out.old.items ++ xml_text (bar_box layout scale bar.now)) }
+    ensures { OnOk result (out.new.items ≡ out.old.items ++ xml_text (bar_box layout view bar.now)) }
 {
     let title = bar_title(alloc, bar)?;
-    let top = lane_top(layout, bar.actor) + 18;
+    let top = lane_top(layout, bar.actor) + 16;
     let row = rectangle(
-        Word::Bar,
-        scale.across(bar.from),
+        bar_class(bar),
+        view.across(bar.from as usize),
         top,
-        bar_width(scale, bar),
-        20,
+        bar_width(view, bar),
+        18,
     );
     put_titled(alloc, out, Name::Rectangle, &row, &title)
 }
 
-/// Adds the words at a bar, where there is room for them.
+/// Adds the words at a bar.
 fn put_bar_label(
     alloc: Global,
     out: &mut Vec<u8>,
     layout: Layout,
-    scale: Scale,
+    view: View,
     bar: &Bar,
 ) -> Result<(), AllocError>
-    ensures { OnOk result (out.new.items ≡ out.old.items ++ xml_text (bar_label layout scale bar.now)) }
+    ensures { OnOk result (out.new.items ≡ out.old.items ++ xml_text (bar_label layout view bar.now)) }
 {
-    if bar_width(scale, bar) < 54 {
+    let text = label_text(alloc, bar, bar_width(view, bar))?;
+    if text.is_empty() {
         return Ok(());
     }
-    let text = label_text(alloc, bar)?;
     let row = labelled(
         Word::Label,
-        scale.across(bar.from) + 1,
-        lane_top(layout, bar.actor) + 14,
+        view.across(bar.from as usize) + 1,
+        lane_top(layout, bar.actor) + 12,
     );
     put_words(alloc, out, Name::Text, &row, &text)
 }
 
+fn put_parts(
+    alloc: Global,
+    out: &mut Vec<u8>,
+    layout: Layout,
+    view: View,
+    bar: &Bar,
+) -> Result<(), AllocError>
+    ensures { OnOk result (out.new.items ≡ out.old.items ++ xml_text (bar_parts layout view bar.now)) }
+{
+    put_bar_box(alloc, out, layout, view, bar)?;
+    put_bar_label(alloc, out, layout, view, bar)
+}
+
+/// Adds a bar, if it is drawn.
 fn put_bar(
     alloc: Global,
     out: &mut Vec<u8>,
     layout: Layout,
-    scale: Scale,
+    view: View,
     bar: &Bar,
 ) -> Result<(), AllocError>
-    ensures { OnOk result (out.new.items ≡ out.old.items ++ xml_text (bar_shape layout scale bar.now)) }
+    ensures { OnOk result (out.new.items ≡ out.old.items ++ xml_text (bar_shape layout view bar.now)) }
 {
-    put_bar_box(alloc, out, layout, scale, bar)?;
-    put_bar_label(alloc, out, layout, scale, bar)
+    if has_bar(view, bar) {
+        put_parts(alloc, out, layout, view, bar)
+    } else {
+        Ok(())
+    }
 }
 
-/// Adds a bar for each task.
+/// Adds a bar for each task that is shown.
 pub fn put_bars(
     alloc: Global,
     out: &mut Vec<u8>,
     layout: Layout,
-    scale: Scale,
+    view: View,
     bars: &[Bar],
 ) -> Result<(), AllocError>
-    ensures { OnOk result (out.new.items ≡ out.old.items ++ xml_text (all (bar_shape layout scale) bars.now)) }
+    ensures { OnOk result (out.new.items ≡ out.old.items ++ xml_text (all (bar_shape layout view) bars.now)) }
 {
     for bar in bars {
-        put_bar(alloc, out, layout, scale, bar)?;
+        put_bar(alloc, out, layout, view, bar)?;
     }
     Ok(())
 }

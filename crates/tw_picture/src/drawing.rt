@@ -16,14 +16,14 @@ pub struct Place {
     pub number: u32,
 }
 
-/// A task that an actor ran, from one event to another.
+/// A task that an actor ran, from its Take to its End, if that has come.
 #[derive(Clone, Copy)]
 pub struct Bar {
     pub task: TaskNo,
     pub procedure: u8,
     pub actor: Actor,
     pub from: u32,
-    pub to: u32,
+    pub to: Option<u32>,
 }
 
 /// What led to a task: the event that made it, and the event that took it.

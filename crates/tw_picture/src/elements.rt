@@ -65,6 +65,7 @@ fn put_value(alloc: Global, out: &mut Vec<u8>, value: Value) -> Result<(), Alloc
         Value::Number(number) => put_numbered(alloc, out, "", number),
         Value::Curve(from, to) => put_curve(alloc, out, from, to),
         Value::Under(from, to, below) => put_under(alloc, out, from, to, below),
+        Value::Frame(width, height) => put_point(alloc, out, "0 0 ", width, height),
     }
 }
 

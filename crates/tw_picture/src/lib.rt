@@ -3,6 +3,8 @@
 
 mod attributes;
 mod bars;
+mod circle;
+mod columns;
 mod drawing;
 mod elements;
 mod escaping;
@@ -17,4 +19,5 @@ mod trail;
 
 pub use drawing::{Bar, Drawing, Mark, Place, Thread, Wait};
 pub use page::picture;
+pub use places::Settings;
 pub use trail::Trail;

@@ -1,9 +1,8 @@
 //! A circle of rules that wait for one another, as it is drawn.
 
 ghost use Rattle.std.specs.Prelude.{◌≡◌, ◌++◌, ◌<◌, ◌^◌, OnOk};
-ghost use Rattle.tw_picture.specs.Picture.{all};
 ghost use Rattle.tw_picture.specs.Shapes.{arrow, arrow_height, back, box_left, forward, wait_shape, wait_arrow, wait_box};
-ghost use Rattle.tw_picture.specs.Xml.{xml_text};
+ghost use Rattle.tw_picture.specs.Xml.{all, xml_text};
 
 use crate::attributes::{Name, Point, Value, Word};
 use crate::bars::labelled;

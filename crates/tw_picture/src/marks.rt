@@ -1,15 +1,14 @@
 //! Events, as they are drawn.
 
 ghost use Rattle.std.specs.Prelude.{◌≡◌, ◌++◌, IfOk, OnOk};
-ghost use Rattle.tw_picture.specs.Picture.{all};
 ghost use Rattle.tw_code.specs.machine.History.{actor_of};
-ghost use Rattle.tw_picture.specs.Shapes.{class_of, mark_shape, mark_title, rectangle, way_row};
-ghost use Rattle.tw_picture.specs.Xml.{xml_text};
+ghost use Rattle.tw_picture.specs.Shapes.{class_of, mark_box, mark_shape, mark_title, rectangle, way_row};
+ghost use Rattle.tw_picture.specs.Xml.{all, xml_text};
 
 use crate::attributes::{Attribute, Key, Name, Value, Word, fixed, number, route};
 use crate::drawing::Mark;
 use crate::elements::put_titled;
-use crate::places::{Scale, lane_top};
+use crate::places::{View, lane_top};
 use std::alloc::{AllocError, Global};
 use tw_report::{put, put_event_line, put_numbered};
 use tw_types::{Actor, Event, Layout};
@@ -72,34 +71,52 @@ fn mark_title(alloc: Global, mark: &Mark) -> Result<Vec<u8>, AllocError>
     Ok(title)
 }
 
+/// Adds the mark of an event.
+fn put_box(
+    alloc: Global,
+    out: &mut Vec<u8>,
+    layout: Layout,
+    view: View,
+    mark: &Mark,
+) -> Result<(), AllocError>
+    ensures { OnOk result (out.new.items ≡ out.old.items ++ xml_text (mark_box layout view mark.now)) }
+{
+    let title = mark_title(alloc, mark)?;
+    let x = view.across(mark.number as usize) + view.mark_inset();
+    let y = lane_top(layout, actor_of(&mark.event)) + 19;
+    let row = rectangle(class_of(&mark.event), x, y, view.mark_width(), 12);
+    put_titled(alloc, out, Name::Rectangle, &row, &title)
+}
+
+/// Adds the mark of an event that is shown.
 fn put_mark(
     alloc: Global,
     out: &mut Vec<u8>,
     layout: Layout,
-    scale: Scale,
+    view: View,
     mark: &Mark,
 ) -> Result<(), AllocError>
-    ensures { OnOk result (out.new.items ≡ out.old.items ++ xml_text (mark_shape layout scale mark.now)) }
+    ensures { OnOk result (out.new.items ≡ out.old.items ++ xml_text (mark_shape layout view mark.now)) }
 {
-    let title = mark_title(alloc, mark)?;
-    let x = scale.across(mark.number) + scale.mark_inset();
-    let y = lane_top(layout, actor_of(&mark.event)) + 22;
-    let row = rectangle(class_of(&mark.event), x, y, scale.mark_width(), 12);
-    put_titled(alloc, out, Name::Rectangle, &row, &title)
+    if view.is_shown(mark.number) {
+        put_box(alloc, out, layout, view, mark)
+    } else {
+        Ok(())
+    }
 }
 
-/// Adds a mark for each event.
+/// Adds a mark for each event that is shown.
 pub fn put_marks(
     alloc: Global,
     out: &mut Vec<u8>,
     layout: Layout,
-    scale: Scale,
+    view: View,
     marks: &[Mark],
 ) -> Result<(), AllocError>
-    ensures { OnOk result (out.new.items ≡ out.old.items ++ xml_text (all (mark_shape layout scale) marks.now)) }
+    ensures { OnOk result (out.new.items ≡ out.old.items ++ xml_text (all (mark_shape layout view) marks.now)) }
 {
     for mark in marks {
-        put_mark(alloc, out, layout, scale, mark)?;
+        put_mark(alloc, out, layout, view, mark)?;
     }
     Ok(())
 }

@@ -1,15 +1,14 @@
 //! What led to tasks, as it is drawn.
 
 ghost use Rattle.std.specs.Prelude.{◌≡◌, ◌++◌, IfOk, OnOk};
-ghost use Rattle.tw_picture.specs.Picture.{all};
-ghost use Rattle.tw_picture.specs.Shapes.{thread_shape, thread_title};
-ghost use Rattle.tw_picture.specs.Xml.{xml_text};
+ghost use Rattle.tw_picture.specs.Shapes.{has_line, thread_box, thread_shape, thread_title, thread_way};
+ghost use Rattle.tw_picture.specs.Xml.{all, xml_text};
 
 use crate::attributes::{Name, Point, Value, Word};
 use crate::drawing::Thread;
 use crate::elements::put_titled;
 use crate::marks::way_row;
-use crate::places::{Scale, lane_top};
+use crate::places::{View, lane_top};
 use std::alloc::{AllocError, Global};
 use tw_report::put_numbered;
 use tw_types::Layout;
@@ -34,40 +33,77 @@ fn thread_title(alloc: Global, thread: &Thread) -> Result<Vec<u8>, AllocError>
     Ok(title)
 }
 
+/// The curve from a mark to just above the beginning of a bar.
+fn thread_way(layout: Layout, view: View, thread: &Thread) -> Value
+    ensures { result ≡ thread_way layout view thread.now }
+{
+    let from = Point {
+        x: view.across(thread.from.number as usize) + view.mark_inset(),
+        y: lane_top(layout, thread.from.actor) + 25,
+    };
+    let to = Point {
+        x: view.across(thread.to.number as usize),
+        y: lane_top(layout, thread.to.actor) + 15,
+    };
+    Value::Curve(from, to)
+}
+
 fn put_thread(
     alloc: Global,
     out: &mut Vec<u8>,
     layout: Layout,
-    scale: Scale,
+    view: View,
     thread: &Thread,
 ) -> Result<(), AllocError>
-    ensures { OnOk result (out.new.items ≡ out.old.items ++ xml_text (thread_shape layout scale thread.now)) }
+    ensures { OnOk result (out.new.items ≡ out.old.items ++ xml_text (thread_box layout view thread.now)) }
 {
     let title = thread_title(alloc, thread)?;
-    let from = Point {
-        x: scale.across(thread.from.number) + scale.mark_inset(),
-        y: lane_top(layout, thread.from.actor) + 28,
+    let class = if view.is_wide() {
+        Word::Thread
+    } else {
+        Word::Thin
     };
-    let to = Point {
-        x: scale.across(thread.to.number),
-        y: lane_top(layout, thread.to.actor) + 16,
-    };
-    let row = way_row(Word::Thread, Value::Curve(from, to));
+    let row = way_row(class, thread_way(layout, view, thread));
     put_titled(alloc, out, Name::Path, &row, &title)
 }
 
-/// Adds a line for each task that an event made.
+/// Whether a line is drawn: its Take is shown, and it is one of those that are drawn.
+fn has_line(view: View, thread: &Thread) -> bool
+    ensures { result ≡ has_line view thread.now }
+{
+    let thread = *thread;
+    view.is_shown(thread.to.number) && thread.task.number() % view.line_step() == 0
+}
+
+/// Adds a line, if it is among those that are drawn.
+fn put_thread_of(
+    alloc: Global,
+    out: &mut Vec<u8>,
+    layout: Layout,
+    view: View,
+    thread: &Thread,
+) -> Result<(), AllocError>
+    ensures { OnOk result (out.new.items ≡ out.old.items ++ xml_text (thread_shape layout view thread.now)) }
+{
+    if has_line(view, thread) {
+        put_thread(alloc, out, layout, view, thread)
+    } else {
+        Ok(())
+    }
+}
+
+/// Adds a line to each task that is taken among the events that are shown, or to some of these.
 pub fn put_threads(
     alloc: Global,
     out: &mut Vec<u8>,
     layout: Layout,
-    scale: Scale,
+    view: View,
     threads: &[Thread],
 ) -> Result<(), AllocError>
-    ensures { OnOk result (out.new.items ≡ out.old.items ++ xml_text (all (thread_shape layout scale) threads.now)) }
+    ensures { OnOk result (out.new.items ≡ out.old.items ++ xml_text (all (thread_shape layout view) threads.now)) }
 {
     for thread in threads {
-        put_thread(alloc, out, layout, scale, thread)?;
+        put_thread_of(alloc, out, layout, view, thread)?;
     }
     Ok(())
 }

@@ -1,49 +1,61 @@
 //! A history, gathered event by event for its drawing.
 
-ghost use Rattle.std.specs.Prelude.{◌≡◌, ◌++◌, ◌≤◌, [], ◌∷◌, List, IfOk, OnOk, length, map, take};
+ghost use Rattle.std.specs.Prelude.{◌≡◌, ◌+◌, ◌++◌, ◌≤◌, [], ◌∷◌, List, IfOk, OnOk, if◌then◌else◌, is_some, length, map, slice_get, take};
+ghost use Rattle.std.specs.FinMap.{get};
+ghost use Rattle.std.specs.List.{flat_map};
 ghost use Rattle.tw_types.specs.declared.event.Event.{Event as AnEvent};
+ghost use Rattle.tw_types.specs.Outcome.{Went};
+ghost use Rattle.tw_code.specs.machine.History.{actor_of};
+ghost use Rattle.tw_code.specs.machine.Machine.{step};
 ghost use Rattle.tw_code.specs.machine.Pending.{circle};
-ghost use Rattle.tw_picture.specs.History.{HasFew, IsDrawing, IsTaken, IsTrail, begun, links_in, taken};
+ghost use Rattle.tw_code.specs.machine.State.{State as AState};
+ghost use Rattle.tw_machine.specs.PlainView.{PlainView};
+ghost use Rattle.tw_picture.specs.History.{AreArrows, HasFew, IsDrawing, IsOpening, IsTrail, begun_at, ended, first_end, in_order, is_end_of, led, links_in, maker};
 
-use crate::drawing::{Bar, Drawing, Mark, Place, Thread, Wait};
+use crate::circle::waits_at;
+use crate::drawing::{Bar, Drawing, Mark, Place, Thread};
 use crate::marks::actor_of;
 use std::alloc::{AllocError, Global};
-use tw_machine::{Frame, Plain};
-use tw_report::{circle_state, ending_line};
-use tw_types::{Actor, Event, Link, TaskNo};
+use tw_machine::Plain;
+use tw_report::ending_line;
+use tw_types::{Actor, Event, TaskNo};
 
-/// The most rules of a circle that are drawn.
-const MOST_RULES: usize = 1000;
+/// The number of the first task that an event makes; task 1 is main's.
+const FIRST_MADE: u64 = 2;
 
-/// The bar of a task that still runs, by its index.
-#[derive(Clone, Copy)]
-struct Running {
-    actor: Actor,
-    bar: usize,
+/// Begins the bar of the task that an event has taken, if it has.
+fn begin(bars: &mut Vec<Bar>, plain: &Plain, mark: &Mark) -> Result<(), AllocError>
+    ensures { OnOk result (bars.new.items ≡ bars.old.items ++ begun_at mark.now.number mark.now.event plain.now.state) }
+{
+    let Event::Take(actor) = mark.event else {
+        return Ok(());
+    };
+    let Some(frame) = plain.state().frame(actor) else {
+        return Ok(());
+    };
+    bars.push(Bar {
+        task: frame.task(),
+        procedure: frame.procedure(),
+        actor,
+        from: mark.number,
+        to: None,
+    })?;
+    Ok(())
 }
 
-/// Lets a bar go on to an event.
-fn lengthen(bars: &mut [Bar], index: usize, number: u32)
-    ensures { map begun bars.new ≡ map begun bars.old }
+/// Whether a task waits.
+fn waits(plain: &Plain, number: u64) -> bool
+    ensures { result ≡ is_some (get plain.now.state.tasks number) }
 {
-    if index < bars.len() {
-        bars[index].to = number;
-    }
-}
-
-/// Lets the bars of tasks that still run go on to the last event.
-fn lengthen_all(bars: &mut [Bar], running: &[Running], last: u32)
-    ensures { map begun bars.new ≡ map begun bars.old }
-{
-    for task in running {
-        lengthen(bars, task.bar, last);
-    }
+    plain.state().tasks().contains_key(&number)
 }
 
 /// Keeps an event as the maker of the task that comes next, if that task waits now.
-fn keep_maker(makers: &mut Vec<Place>, plain: &Plain, mark: &Mark) -> Result<(), AllocError> {
-    let next = makers.len() as u64 + 2;
-    if plain.state().tasks().contains_key(&next) {
+fn keep_maker(makers: &mut Vec<Place>, plain: &Plain, mark: &Mark) -> Result<(), AllocError>
+    ensures { OnOk result (makers.new.items ≡ makers.old.items ++ (if is_some (get plain.now.state.tasks (length makers.old.items + 2)) then record { actor = actor_of mark.now.event; number = mark.now.number } ∷ [] else [])) }
+{
+    let next = makers.len() as u64 + FIRST_MADE;
+    if waits(plain, next) {
         makers.push(Place {
             actor: actor_of(&mark.event),
             number: mark.number,
@@ -52,176 +64,147 @@ fn keep_maker(makers: &mut Vec<Place>, plain: &Plain, mark: &Mark) -> Result<(),
     Ok(())
 }
 
-/// What has been gathered of tasks.
-#[derive(Drop)]
-struct Tasks {
-    bars: Vec<Bar>,
-    threads: Vec<Thread>,
-    /// Where tasks were made, by their numbers from 2 on; task 1 is main's.
-    makers: Vec<Place>,
-    running: Vec<Running>,
-}
-
-impl Tasks {
-    /// Where a task was made; main's has no maker.
-    fn maker(&self, task: TaskNo) -> Option<Place> {
-        let index = task.number().checked_sub(2)?;
-        self.makers.get(index as usize).copied()
-    }
-
-    /// Leads a line from where a task was made to where it is taken.
-    fn lead(&mut self, task: TaskNo, to: Place) -> Result<(), AllocError>
-        ensures { OnOk result (self.new.bars.items ≡ self.old.bars.items) }
-    {
-        match self.maker(task) {
-            Some(from) => Ok(self.threads.push(Thread { task, from, to })?),
-            None => Ok(()),
-        }
-    }
-
-    /// Begins the bar of a task that is taken.
-    fn begin(&mut self, frame: &Frame, place: Place) -> Result<(), AllocError>
-        ensures { OnOk result (map begun self.new.bars.items ≡ map begun self.old.bars.items ++ place ∷ []) }
-    {
-        self.running.push(Running {
-            actor: place.actor,
-            bar: self.bars.len(),
-        })?;
-        self.bars.push(Bar {
-            task: frame.task(),
-            procedure: frame.procedure(),
-            actor: place.actor,
-            from: place.number,
-            to: place.number,
-        })?;
-        self.lead(frame.task(), place)
-    }
-
-    /// Ends the bar of the task that an actor runs.
-    fn end(&mut self, actor: Actor, number: u32)
-        ensures { map begun self.new.bars.items ≡ map begun self.old.bars.items }
-    {
-        if let Some(index) = self.running.iter().position(|task| task.actor == actor) {
-            let ended = self.running.swap_remove(index);
-            lengthen(&mut self.bars, ended.bar, number);
-        }
-    }
-
-    /// The bars and the lines, where those that still run go on to the last event.
-    fn ended(self, last: u32) -> (Vec<Bar>, Vec<Thread>)
-        ensures { map begun result.0.items ≡ map begun self.bars.items }
-    {
-        let mut bars = self.bars;
-        lengthen_all(&mut bars, &self.running, last);
-        (bars, self.threads)
-    }
-
-    /// Begins a bar at a Take, and ends one at an End.
-    fn follow(&mut self, plain: &Plain, mark: &Mark) -> Result<(), AllocError>
-        requires taken { IsTaken plain.now.state mark.now.event }
-        ensures { OnOk result (map begun self.new.bars.items ≡ map begun self.old.bars.items ++ taken mark.now) }
-    {
-        keep_maker(&mut self.makers, plain, mark)?;
-        match mark.event {
-            Event::Take(actor) => {
-                let Some(frame) = plain.state().frame(actor) else {
-                    unreachable!();
-                };
-                let number = mark.number;
-                self.begin(frame, Place { actor, number })
-            }
-            Event::End(actor) => {
-                self.end(actor, mark.number);
-                Ok(())
-            }
-            Event::Local(_, _) => Ok(()),
-            Event::Call(_) => Ok(()),
-            Event::Ask(_, _, _) => Ok(()),
-            Event::Deliver(_, _, _, _) => Ok(()),
-            Event::Release(_, _) => Ok(()),
-        }
-    }
-}
-
-/// The circle's rules, up to a thousand, each with the place of the next.
-fn waits_of(alloc: Global, links: &[Link]) -> Result<Vec<Wait>, AllocError>
-    ensures same { IfOk result (λ waits. map (λ w. w.link) waits.items ≡ take 1000 links.now) }
-    ensures few { IfOk result (λ waits. length waits.items ≤ 1000) }
+fn place_at(places: &[Place], index: usize) -> Option<Place>
+    ensures { result ≡ slice_get places.now index }
 {
-    let mut waits = Vec::new(alloc);
-    let most = links.len().min(MOST_RULES);
-    for (index, link) in links[..most].iter().enumerate() {
-        let next = index + 1;
-        let to = if next == links.len() { 0 } else { next };
-        waits.push(Wait {
-            from: index as u32,
-            to: to as u32,
-            link: *link,
-        })?;
-    }
-    Ok(waits)
+    places.get(index).copied()
 }
 
-/// The circle in which the machine is stuck, if it is in one.
-fn waits_at(alloc: Global, plain: &Plain) -> Result<Vec<Wait>, AllocError>
-    ensures same { IfOk result (λ waits. map (λ w. w.link) waits.items ≡ take 1000 (links_in (circle plain.now.program plain.now.state))) }
-    ensures few { IfOk result (λ waits. length waits.items ≤ 1000) }
+/// Where a task was made; main's has no maker.
+fn maker_of(makers: &[Place], task: TaskNo) -> Option<Place>
+    ensures { result ≡ maker task (in_order 2 makers.now) }
 {
-    match circle_state(alloc, plain)? {
-        Some(links) => waits_of(alloc, &links),
-        None => Ok(Vec::new(alloc)),
+    let number = task.number();
+    if number < FIRST_MADE {
+        return None;
     }
+    place_at(makers, (number - FIRST_MADE) as usize)
+}
+
+fn is_end_of(event: &Event, actor: Actor) -> bool
+    ensures { result ≡ is_end_of actor event.now }
+{
+    match *event {
+        Event::End(other) => other == actor,
+        Event::Take(_) | Event::Local(_, _) | Event::Call(_) => false,
+        Event::Ask(_, _, _) | Event::Deliver(_, _, _, _) | Event::Release(_, _) => false,
+    }
+}
+
+/// The number of an actor's first End among these.
+fn first_end(marks: &[Mark], actor: Actor) -> Option<u32>
+    ensures { result ≡ first_end actor marks.now }
+{
+    for mark in marks {
+        if is_end_of(&mark.event, actor) {
+            return Some(mark.number);
+        }
+    }
+    None
+}
+
+/// The bar with its end.
+fn ended(marks: &[Mark], bar: &Bar) -> Bar
+    ensures { result ≡ ended marks.now bar.now }
+{
+    let begun = (bar.from as usize).min(marks.len());
+    Bar {
+        to: first_end(&marks[begun..], bar.actor),
+        ..*bar
+    }
+}
+
+/// The bars with their ends.
+fn all_ended(alloc: Global, marks: &[Mark], bars: &[Bar]) -> Result<Vec<Bar>, AllocError>
+    ensures { IfOk result (λ all. all.items ≡ map (ended marks.now) bars.now) }
+{
+    let mut all = Vec::new(alloc);
+    for bar in bars {
+        all.push(ended(marks, bar))?;
+    }
+    Ok(all)
+}
+
+/// Leads a line from where a bar's task was made to where the bar begins.
+fn lead(threads: &mut Vec<Thread>, makers: &[Place], bar: &Bar) -> Result<(), AllocError>
+    ensures { OnOk result (threads.new.items ≡ threads.old.items ++ led (in_order 2 makers.now) bar.now) }
+{
+    let Some(from) = maker_of(makers, bar.task) else {
+        return Ok(());
+    };
+    threads.push(Thread {
+        task: bar.task,
+        from,
+        to: Place {
+            actor: bar.actor,
+            number: bar.from,
+        },
+    })?;
+    Ok(())
+}
+
+/// The lines to all bars.
+fn threads_to(alloc: Global, makers: &[Place], bars: &[Bar]) -> Result<Vec<Thread>, AllocError>
+    ensures { IfOk result (λ threads. threads.items ≡ flat_map (led (in_order 2 makers.now)) bars.now) }
+{
+    let mut threads = Vec::new(alloc);
+    for bar in bars {
+        lead(&mut threads, makers, bar)?;
+    }
+    Ok(threads)
 }
 
 /// What has been gathered of a history, so far.
 #[derive(Drop)]
 pub struct Trail {
     marks: Vec<Mark>,
-    tasks: Tasks,
+    /// Without their ends.
+    bars: Vec<Bar>,
+    /// Where tasks were made, by their numbers from 2 on.
+    makers: Vec<Place>,
 }
 
 impl Trail {
-    /// That of no events.
+    /// That of no events, from an opening on.
     pub fn new(alloc: Global) -> Trail
-        ensures { IsTrail [] result }
+        ensures { (first : PlainView) → IsOpening first.state → IsTrail first [] first.state result }
     {
+        let marks = Vec::new(alloc);
+        let bars = Vec::new(alloc);
+        let makers = Vec::new(alloc);
         Trail {
-            marks: Vec::new(alloc),
-            tasks: Tasks {
-                bars: Vec::new(alloc),
-                threads: Vec::new(alloc),
-                makers: Vec::new(alloc),
-                running: Vec::new(alloc),
-            },
+            marks,
+            bars,
+            makers,
         }
     }
 
     /// Keeps the event that led to where the machine stands.
     pub fn keep(&mut self, plain: &Plain, event: Event) -> Result<(), AllocError>
-        requires few { HasFew self.old }
-        requires taken { IsTaken plain.now.state event }
-        ensures { OnOk result ((events : List AnEvent) → IsTrail events self.old → IsTrail (events ++ event ∷ []) self.new) }
+        requires { HasFew self.old }
+        ensures { OnOk result ((first : PlainView) (events : List AnEvent) (s : AState) → IsTrail first events s self.old → step first.program first.layout event s ≡ Went plain.now.state → IsTrail first (events ++ event ∷ []) plain.now.state self.new) }
     {
         let mark = Mark {
             number: self.marks.len() as u32 + 1,
             event,
         };
         self.marks.push(mark)?;
-        self.tasks.follow(plain, &mark)
+        begin(&mut self.bars, plain, &mark)?;
+        keep_maker(&mut self.makers, plain, &mark)
     }
 
     /// The drawing of the events that have led to where the machine stands.
     pub fn drawing(self, alloc: Global, plain: &Plain) -> Result<Drawing, AllocError>
         requires { HasFew self }
-        ensures { IfOk result (λ d. (events : List AnEvent) → IsTrail events self → IsDrawing plain.now events d) }
+        ensures { IfOk result (λ d. (first : PlainView) (events : List AnEvent) → plain.now ≡ record first { state = plain.now.state } → IsTrail first events plain.now.state self → IsDrawing first events plain.now.state d) }
     {
+        let bars = all_ended(alloc, &self.marks, &self.bars)?;
+        let threads = threads_to(alloc, &self.makers, &bars)?;
         let waits = waits_at(alloc, plain)?;
         let closing = ending_line(alloc, plain)?;
-        let events = self.marks.len() as u32;
-        let (bars, threads) = self.tasks.ended(events);
         Ok(Drawing {
             layout: plain.layout(),
-            events,
+            events: self.marks.len() as u32,
             marks: self.marks,
             bars,
             threads,

@@ -1,7 +1,7 @@
-use Rattle.std.proofs.Common.{refl}
-use Rattle.tw_picture.proofs.Forests.{behind}
+use Rattle.std.proofs.Common.{sym}
+use Rattle.tw_picture.specs.Shapes.{has_bar}
+use Rattle.tw_picture.proofs.Forests.{none_left}
 use Rattle.tw_picture.proofs.bars.put_bar.Goals as goal
 
-pub returns : goal.returns
-returns c =
-    behind c.put_bar_label.result _ _ _ _ _ _ _ (cc) c.in_ok-put_bar_box.ensures (cc) c.put_bar_label.ensures
+pub returns-else-has_bar : goal.returns-else-has_bar
+returns-else-has_bar c = none_left _ (has_bar c.args.view c.args.bar.now) _ (sym c.if-has_bar.ensures)

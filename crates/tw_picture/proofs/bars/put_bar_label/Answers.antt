@@ -1,8 +1,10 @@
-use Rattle.std.proofs.Common.{◌<◌, ℕ, subst}
-use Rattle.std.proofs.lemmas.Bool.{lt-ltb}
-use Rattle.tw_picture.specs.Shapes.{bar_width}
+use Rattle.std.proofs.Common.{◌≡◌, ◌==◌, ◌∙◌, ℕ, List, ap, length, sym, true}
+use Rattle.tw_picture.specs.Shapes.{bar_width, label_text}
 use Rattle.tw_picture.proofs.Forests.{none_added}
 use Rattle.tw_picture.proofs.bars.put_bar_label.Goals as goal
 
-pub returns-then-bar_width-lt54 : goal.returns-then-bar_width-lt54
-returns-then-bar_width-lt54 c = none_added _ _ _ (lt-ltb (bar_width c.args.scale c.args.bar.now) 54 (subst (λ (w : ℕ). w < 54) c.bar_width.ensures c.if-bar_width-lt54.true))
+pub returns-then-is_empty : goal.returns-then-is_empty
+returns-then-is_empty c =
+    let bar = c.args.bar.now in
+    none_added _ (length (label_text bar (bar_width c.args.view bar)) == 0) _
+    (ap (λ (w : ℕ). length (label_text bar w) == 0) (sym c.bar_width.ensures) ∙ ap (λ (text : List ℕ). length text == 0) (sym c.in_ok-text.ensures) ∙ ap (λ (n : ℕ). n == 0) (sym c.in_ok-text.text.ok.0) ∙ sym c.is_empty.ensures ∙ c.if-is_empty.true)

@@ -4,4 +4,4 @@ use Rattle.tw_picture.proofs.heading.put_heading.Goals as goal
 
 pub returns : goal.returns
 returns c =
-    behind c.put_kinds.result _ _ _ _ _ _ _ (cc) c.in_ok-put_words.ensures (refl) (behind c.put_kinds.result _ _ _ _ _ _ _ (cc) c.in_ok-put_tip.ensures (refl) (behind c.put_kinds.result _ _ _ _ _ _ _ (cc) c.in_ok-put_words-2.ensures (cc) c.put_kinds.ensures))
+    behind c.put_key.result _ _ _ _ _ _ _ (cc) c.in_ok-put_words.ensures (refl) (behind c.put_key.result _ _ _ _ _ _ _ (cc) c.in_ok-put_tip.ensures (refl) (behind c.put_key.result _ _ _ _ _ _ _ (cc) c.in_ok-put_lines.ensures (cc) c.put_key.ensures))

@@ -1,8 +1,7 @@
 use Rattle.std.proofs.Common.{◌≡◌, ◌++◌}
 use Rattle.tw_types.specs.declared.actor.Actor.TheVariants.{Engine}
-use Rattle.tw_picture.specs.Picture.{below}
 use Rattle.tw_picture.specs.Shapes.{lane}
-use Rattle.tw_picture.specs.Xml.{xml_text}
+use Rattle.tw_picture.specs.Xml.{below, xml_text}
 use Rattle.tw_picture.proofs.lanes.put_engines.Given as goal
 
 abbrev pub invariant-loop-number : goal.invariant-loop-number

@@ -5,4 +5,4 @@ use Rattle.tw_picture.specs.Xml.{xml_text}
 use Rattle.tw_picture.proofs.marks.put_marks.Given as goal
 
 abbrev pub invariant-loop-mark : goal.invariant-loop-mark
-invariant-loop-mark l = l.out.items ≡ l.fn.out.items ++ flat_map (λ x. xml_text (mark_shape l.layout l.scale x)) (take l.mark-index l.marks)
+invariant-loop-mark l = l.out.items ≡ l.fn.out.items ++ flat_map (λ x. xml_text (mark_shape l.layout l.view x)) (take l.mark-index l.marks)

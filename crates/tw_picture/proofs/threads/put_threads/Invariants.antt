@@ -5,4 +5,4 @@ use Rattle.tw_picture.specs.Xml.{xml_text}
 use Rattle.tw_picture.proofs.threads.put_threads.Given as goal
 
 abbrev pub invariant-loop-thread : goal.invariant-loop-thread
-invariant-loop-thread l = l.out.items ≡ l.fn.out.items ++ flat_map (λ x. xml_text (thread_shape l.layout l.scale x)) (take l.thread-index l.threads)
+invariant-loop-thread l = l.out.items ≡ l.fn.out.items ++ flat_map (λ x. xml_text (thread_shape l.layout l.view x)) (take l.thread-index l.threads)
