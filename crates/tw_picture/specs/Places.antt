@@ -1,7 +1,7 @@
 -- What of a history is drawn, and where it stands in the picture, in units from its upper left corner.
 use Rattle.std.specs.Prelude.{◌+◌, ◌-◌, ◌*◌, ◌/◌, ◌&&◌, ℕ, Bool, List, [], ◌∷◌, max, min, nat_le, nat_lt, if◌then◌else◌}
 use Rattle.tw_types.specs.declared.actor.Actor.{Actor}
-use Rattle.tw_types.specs.Actor.{index_of}
+use Rattle.tw_types.specs.declared.actor.Actor.TheVariants.{Engine, Server, Worker}
 use Rattle.tw_types.specs.Layout.{ActorCounts}
 use Rattle.tw_picture.specs.declared.places.Settings.{Settings}
 use Rattle.tw_picture.specs.declared.places.View.{View}
@@ -79,9 +79,15 @@ column_start v column = v.first + shown v * column / max (column_count v) 1
 
 -- ---- from top to bottom
 
--- the upper edge of an actor's lane; they stand in the order of actors
+-- the lane of an actor, from 0: engines, then servers, then workers
+abbrev pub lane_of : ActorCounts → Actor → ℕ
+lane_of layout (Engine number) = number
+lane_of layout (Server number) = layout.engines + number
+lane_of layout (Worker number) = layout.engines + layout.servers + number
+
+-- the upper edge of an actor's lane
 abbrev pub lane_top : ActorCounts → Actor → ℕ
-lane_top layout actor = 60 + 44 * index_of layout actor
+lane_top layout actor = 60 + 44 * lane_of layout actor
 
 abbrev pub lane_count : ActorCounts → ℕ
 lane_count layout = layout.engines + layout.servers + layout.workers

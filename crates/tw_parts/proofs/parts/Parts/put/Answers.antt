@@ -45,7 +45,7 @@ values_of-requires-clause-suit c =
 pub reserve-requires : goal.reserve-requires
 reserve-requires c =
     let s = c.requires.stands in
-    in_queue c.args.action.now.target (operands c.args.done.before.program.program s.parts.runnable.is s.f.procedure s.q s.here c.args.done.after.place (instr.Put c.args.action.now) s.behind).target
+    in_queue c.args.action.now.target (operands c.args.done.before.program.program s.parts.runnable.is s.f.procedure s.q s.here c.args.done.after.place (instr.Put c.args.action.now) s.behind).1.1.1.0
 
 pub hand_over-over-requires-clause-seat : goal.hand_over-over-requires-clause-seat
 hand_over-over-requires-clause-seat c = seat_there c.args.self.now c.args.actor c.args.done (instr.Put c.args.action.now) c.requires.stands
@@ -74,7 +74,7 @@ put-requires-clause-new c =
 pub put-requires-clause-target : goal.put-requires-clause-target
 put-requires-clause-target c =
     let s = c.requires.stands in
-    in_queue c.args.action.now.target (operands c.args.done.before.program.program s.parts.runnable.is s.f.procedure s.q s.here c.args.done.after.place (instr.Put c.args.action.now) s.behind).target
+    in_queue c.args.action.now.target (operands c.args.done.before.program.program s.parts.runnable.is s.f.procedure s.q s.here c.args.done.after.place (instr.Put c.args.action.now) s.behind).1.1.1.0
 
 pub returns-clause-put : goal.returns-clause-put
 returns-clause-put c = λ layout f owed notices h.
