@@ -248,7 +248,7 @@ impl Typing {
     }
 
     /// Without the argument that stands for a parameter, if that is a right.
-    pub(crate) fn without(self, param: Param, arg: u8) -> Typing
+    pub fn without(self, param: Param, arg: u8) -> Typing
         requires { IsRegister arg }
         ensures { result ≡ without_args (param ∷ []) (arg ∷ []) self }
     {

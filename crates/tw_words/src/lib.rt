@@ -17,4 +17,4 @@ pub use first::after;
 pub use laws::{numbers_are_read_back, quoted_texts_are_read_back};
 pub use numbers::{Flaw, digits, number};
 pub use quoted::{put_quoted, quoted_text};
-pub use word::{Line, Word, words_of};
+pub use word::{Line, Next, Word, next_word, without_gap, words_of};

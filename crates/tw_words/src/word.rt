@@ -27,7 +27,7 @@ pub struct Line<'a> {
 
 /// What stands first in what is left of a line.
 #[derive(Drop)]
-enum Next<'a> {
+pub enum Next<'a> {
     /// A comment, or nothing.
     End,
     /// Something that is no word.
@@ -49,7 +49,7 @@ fn ends_word(byte: u8) -> bool
 }
 
 /// What follows the gap that stands first.
-fn without_gap(bytes: &[u8]) -> &[u8]
+pub fn without_gap(bytes: &[u8]) -> &[u8]
     requires { IsUtf8 bytes.now }
     ensures after { IsAfterGap bytes.now result.now }
     ensures utf8 { IsUtf8 result.now }
@@ -126,7 +126,8 @@ fn next_here(alloc: Global, bytes: &[u8]) -> Result<Next<'_>, AllocError>
     }
 }
 
-fn next_word(alloc: Global, bytes: &[u8]) -> Result<Next<'_>, AllocError>
+/// The word that stands first, behind a gap or none; or why there is none.
+pub fn next_word(alloc: Global, bytes: &[u8]) -> Result<Next<'_>, AllocError>
     requires { IsUtf8 bytes.now }
     ensures { IfOk result (λ next. IsNext next bytes.now) }
 {
