@@ -76,6 +76,19 @@ pub fn first_number(rules: &HashMap<u64, Pending>) -> Option<u64>
     rules.keys().next().copied()
 }
 
+/// A number that is there, if there is one: from this one on the least below the next, where there is such a one.
+pub fn number_from(rules: &HashMap<u64, Pending>, from: u64, next: u64) -> Option<u64>
+    ensures { MatchOption result (rules.now.entries ≡ []) (λ number. IsSome (entry_of rules.now.entries number)) }
+{
+    let first = first_number(rules)?;
+    for number in from..next {
+        if rules.contains_key(&number) {
+            return Some(number);
+        }
+    }
+    Some(first)
+}
+
 /// Adds a rule for which there is room.
 pub fn put(rules: &mut HashMap<u64, Pending>, number: u64, rule: Pending)
     requires room { 0 < spare rules.old }

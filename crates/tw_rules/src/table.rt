@@ -10,7 +10,7 @@ ghost use Rattle.tw_types.specs.Rule.{is_releasable, is_settled, is_unasked, nex
 ghost use Rattle.tw_rules.specs.Table.{AreArgsOf, action_of, arg_at, new_rule, read_right, right_at, room_for, stage_at, staged, told};
 
 use crate::agenda::Agenda;
-use crate::entries::{find, first_number, pending, put, set_stage, take};
+use crate::entries::{find, number_from, pending, put, set_stage, take};
 use crate::pending::{Pending, first_stages};
 use crate::plain::PlainRule;
 use crate::planned::PlannedTask;
@@ -253,19 +253,22 @@ impl RuleTable {
         args
     }
 
-    /// Spends every right, and tells the rules that were pending, in no order.
+    /// Spends every right, and tells the rules that were pending. They are taken by rising number, so that who sorts them finds them
+    /// sorted; nothing rests on that.
     fn spend_all(self) -> Vec<PlainRule>
         ensures { IsPermutation (each told (map.entries self.rules)) result.items }
     {
         let RuleTable {
             mut rules,
-            next: _,
+            next,
             agendas: _,
             mut told,
         } = self;
-        while let Some(number) = first_number(&rules) {
+        let mut from = 0;
+        while let Some(number) = number_from(&rules, from, next) {
             let rule = take(&mut rules, number);
             told.push_reserved(rule.spend(number));
+            from = number.saturating_add(1);
         }
         rules.destroy_empty();
         told
