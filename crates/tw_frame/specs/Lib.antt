@@ -4,6 +4,7 @@ pub mod Jobs
 pub mod Ready
 pub mod Drafts
 -- What only private functions speak of.
+pub mod Errands
 pub mod Banks
 pub mod Pieces
 pub mod Standing

@@ -3,29 +3,25 @@
 ghost use Rattle.std.specs.Prelude.{◌≡◌, slice_set};
 ghost use Rattle.tw_frame.specs.Drafts.{MaySet};
 
-use crate::context::Context;
-use crate::rooms::Ahead;
+use crate::errand::Errand;
 use std::marker::Model;
 use tw_types::Value;
-use tw_verify::Verified;
 
 /// All values of a task's registers, made where memory may be refused, for a call that takes none.
 #[derive(Drop)]
 pub struct Draft<'a> {
-    pub(crate) verified: &'a Verified,
-    pub(crate) lent: Box<Context<'a>>,
-    pub(crate) ahead: Ahead<'a>,
-    pub(crate) procedure: u8,
+    pub(crate) errand: Box<Option<Errand<'a>>>,
 }
 
 impl<'a> Model for Draft<'a> {
-    ghost use Rattle.tw_frame.specs.Jobs.{DraftView, AreOf};
+    ghost use Rattle.tw_frame.specs.Jobs.{DraftView};
+    ghost use Rattle.tw_frame.specs.Errands.{IsThere, draft_in};
 
     ghost Value = { DraftView };
 
-    ghost view = { λ d. record { program = d.verified.now; procedure = d.procedure; values = d.lent.value.registers.values } };
+    ghost view = { λ d. draft_in d.errand.value };
 
-    ghost invariant = { λ d. AreOf d.verified.now.program d.procedure d.lent.value.registers.types };
+    ghost invariant = { λ d. IsThere d.errand.value };
 }
 
 impl<'a> Draft<'a> {
@@ -34,6 +30,9 @@ impl<'a> Draft<'a> {
         requires { MaySet self.old.values register value }
         ensures { self.new ≡ record self.old { values = slice_set self.old.values register value } }
     {
-        self.lent.registers.replace(register, value);
+        match self.errand.as_mut() {
+            Some(errand) => errand.lent.set(register, value),
+            None => unreachable!(),
+        }
     }
 }

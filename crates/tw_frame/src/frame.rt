@@ -16,7 +16,8 @@ ghost use Rattle.tw_frame.specs.Jobs.{MayStand, bare_frame, draft_of, job_of};
 
 use crate::context::Context;
 use crate::draft::Draft;
-use crate::job::{Came, Done, Job, Lent};
+use crate::errand::{Did, Errand, NoErrand};
+use crate::job::{Done, Job, Lent};
 use crate::loops::Loops;
 use crate::rooms::{Ahead, EmptyFile, Rooms};
 use crate::start::Start;
@@ -84,14 +85,26 @@ impl<'a> Frame<'a> {
             mut own,
             lent,
             ahead,
+            errand,
             rights,
         } = start;
         own.stand_at(0, Loops::new());
-        let draft = Draft {
+        let Ahead { after, again } = ahead;
+        let lent = Lent {
             verified,
+            task: no,
             procedure,
-            lent,
-            ahead,
+            actor,
+            event_no: 0,
+            at: lent,
+        };
+        let draft = Draft {
+            errand: errand.hold(Errand {
+                lent,
+                after,
+                again,
+                did: Did::nothing(),
+            }),
         };
         let frame = Frame {
             verified,
@@ -143,25 +156,33 @@ impl<'a> Frame<'a> {
         ensures kept { self.new ≡ record self.old { event_no = event_no } }
     {
         self.event_no = event_no;
-        let Draft {
-            verified: _,
-            procedure: _,
-            mut lent,
-            ahead,
-        } = draft;
+        let Draft { mut errand } = draft;
         let own: &Context<'a> = &self.own;
-        lent.stand_at(own.place, own.loops.copy());
-        Job {
-            lent: Lent {
-                verified: self.verified,
-                task: self.task,
-                procedure: self.procedure,
-                actor: self.actor,
-                event_no,
-                at: lent,
-            },
-            ahead,
+        let (place, loops) = (own.place, own.loops.copy());
+        match errand.as_mut() {
+            Some(errand) => errand
+                .lent
+                .go_out(self.task, self.actor, event_no, place, loops),
+            None => unreachable!(),
         }
+        Job { errand }
+    }
+
+    /// Takes what was done of the job that was lent last, which this is, and gives a draft of the values with which the frame goes on.
+    pub fn take_back(&mut self, done: Done<'a>) -> Draft<'a>
+        requires own { done.before ≡ job_of self.old }
+        requires spent { self.old.spent < 2 ^ 63 }
+        ensures taken { self.new ≡ record self.old { position = done.entry.after; spent = self.old.spent + done.entry.steps } }
+        ensures draft { result ≡ draft_of self.new }
+    {
+        let steps = done.steps();
+        let Done { mut errand } = done;
+        self.spent += steps;
+        match errand.as_mut() {
+            Some(errand) => errand.hand_back(&mut self.own),
+            None => unreachable!(),
+        }
+        Draft { errand }
     }
 
     /// Takes what was done of the job that was lent last, and gives a draft of the values with which the frame goes on;
@@ -176,36 +197,10 @@ impl<'a> Frame<'a> {
         ensures back { IfErr result (λ back. back ≡ done.entry) }
         ensures foreign { OnErr result (done.entry.before ≡ job_of self.old → ⊥) }
     {
-        if !self.has_lent(&done.before) {
+        if !self.has_lent(done.before()) {
             return Err(done);
         }
-        let steps = done.steps();
-        let Done {
-            before,
-            came,
-            steps: _,
-            short: _,
-        } = done;
-        self.spent += steps;
-        let (lent, ahead) = match came {
-            Came::Nowhere(ahead) => (before.at, ahead),
-            Came::There(Ahead { after, again }) => {
-                let own = std::mem::replace(&mut self.own, after);
-                (
-                    again,
-                    Ahead {
-                        after: own,
-                        again: before.at,
-                    },
-                )
-            }
-        };
-        Ok(Draft {
-            verified: self.verified,
-            procedure: self.procedure,
-            lent,
-            ahead,
-        })
+        Ok(self.take_back(done))
     }
 
     /// Takes what was done of the job that was lent last; another Done is handed back.
@@ -361,6 +356,7 @@ impl<'a> Frame<'a> {
     }
 
     /// Hands over arguments, in memory that has room for them, and goes on to the next place.
+    #[inline(always)]
     pub fn hand_over(
         &mut self,
         params: &[Param],
@@ -389,21 +385,23 @@ impl<'a> Frame<'a> {
 
     /// Spends every right, and gives its memory and that of a Done for the seat's next task.
     pub fn end(self, alloc: Global, done: Done<'a>) -> Rooms<'a> {
-        let Done {
-            before,
-            came,
-            steps: _,
-            short: _,
-        } = done;
-        let ahead = match came {
-            Came::Nowhere(ahead) => ahead,
-            Came::There(ahead) => ahead,
+        let Done { errand } = done;
+        let (there, errand) = NoErrand::of(errand);
+        let Some(there) = there else {
+            unreachable!();
         };
+        let Errand {
+            lent,
+            after,
+            again,
+            did: _,
+        } = there;
         let (own, rights) = self.spend();
         let mut rooms = Rooms {
             own,
-            lent: before.at,
-            ahead,
+            lent: lent.at,
+            ahead: Ahead { after, again },
+            errand,
             rights,
         };
         rooms.empty(alloc);

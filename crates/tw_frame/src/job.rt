@@ -4,10 +4,14 @@ ghost use Rattle.std.specs.Prelude.{◌≡◌, ◌<◌, ℕ, List, IfOk, OnErr, 
 ghost use Rattle.tw_types.specs.Value.{IsProper};
 ghost use Rattle.tw_types.specs.ValueOrder.{named};
 ghost use Rattle.tw_types.specs.declared.value.Value.TheVariants as value;
-ghost use Rattle.tw_frame.specs.Jobs.{IsDone, IsJob, IsRun, position_of};
+ghost use Rattle.tw_code.specs.machine.Position.{with_value};
+ghost use Rattle.tw_frame.specs.Drafts.{MaySet};
+ghost use Rattle.tw_frame.specs.Errands.{IsRun, IsRunOf, done_of};
+ghost use Rattle.tw_frame.specs.Jobs.{AreOf, IsDone, IsJob, MayStand, position_of};
 
 use crate::context::Context;
-use crate::rooms::Ahead;
+use crate::errand::Errand;
+use crate::loops::Loops;
 use crate::run::run_from;
 use std::alloc::{AllocError, Global};
 use std::marker::Model;
@@ -26,56 +30,47 @@ pub struct Lent<'a> {
 }
 
 impl<'a> Model for Lent<'a> {
-    ghost use Rattle.tw_frame.specs.Jobs.{JobView, IsJob, position_of};
+    ghost use Rattle.tw_frame.specs.Jobs.{AreOf, JobView, position_of};
 
     ghost Value = { JobView };
 
     ghost view = { λ j. record { program = j.verified.now; task = j.task; procedure = j.procedure; actor = j.actor; event_no = j.event_no; position = position_of j.at.value } };
 
-    ghost invariant = { λ j. IsJob j.verified.now.program j.procedure j.at.value.registers.types (position_of j.at.value) };
+    ghost invariant = { λ j. AreOf j.verified.now.program j.procedure j.at.value.registers.types };
 }
 
 /// A task as it is lent, with room for what is done of it.
 #[derive(Drop)]
 pub struct Job<'a> {
-    pub(crate) lent: Lent<'a>,
-    pub(crate) ahead: Ahead<'a>,
+    pub(crate) errand: Box<Option<Errand<'a>>>,
 }
 
 impl<'a> Model for Job<'a> {
     ghost use Rattle.tw_frame.specs.Jobs.{JobView};
+    ghost use Rattle.tw_frame.specs.Errands.{MayRun, lent_in};
 
     ghost Value = { JobView };
 
-    ghost view = { λ j. j.lent };
-}
+    ghost view = { λ j. lent_in j.errand.value };
 
-/// Where a task came to.
-#[derive(Drop)]
-pub(crate) enum Came<'a> {
-    /// No step was made, since the first instruction isn't local or the values couldn't be copied twice. The rooms are left.
-    Nowhere(Ahead<'a>),
-    /// It stands there, and there again for the next job.
-    There(Ahead<'a>),
+    ghost invariant = { λ j. MayRun j.errand.value };
 }
 
 /// What was done of a job. Only `run` makes one.
 #[derive(Drop)]
 pub struct Done<'a> {
-    pub(crate) before: Lent<'a>,
-    pub(crate) came: Came<'a>,
-    pub(crate) steps: u64,
-    pub(crate) short: bool,
+    pub(crate) errand: Box<Option<Errand<'a>>>,
 }
 
 impl<'a> Model for Done<'a> {
-    ghost use Rattle.tw_frame.specs.Jobs.{DoneView, IsKept, after_of};
+    ghost use Rattle.tw_frame.specs.Jobs.{DoneView};
+    ghost use Rattle.tw_frame.specs.Errands.{WasRun, done_in};
 
     ghost Value = { DoneView };
 
-    ghost view = { λ d. record { before = d.before; after = after_of d.before.position d.came; steps = d.steps; short = d.short } };
+    ghost view = { λ d. done_in d.errand.value };
 
-    ghost invariant = { λ d. IsKept d.before.program.program d.before.procedure d.before.position d.came d.steps d.short };
+    ghost invariant = { λ d. WasRun d.errand.value };
 }
 
 impl<'a> Lent<'a> {
@@ -140,6 +135,52 @@ impl<'a> Lent<'a> {
     {
         self.event_no
     }
+
+    /// Runs it, in a copy, and copies where it came to once more.
+    pub(crate) fn run(
+        &self,
+        alloc: Global,
+        after: &mut Context<'a>,
+        again: &mut Context<'a>,
+    ) -> Went
+        requires { MayStand self.now.program.program self.now.procedure self.now.position }
+        ensures { IsRun self.now.program.program self.now.procedure self.now.position after.new again.new result }
+    {
+        run_in(alloc, self.verified, self.procedure, &self.at, after, again)
+    }
+
+    /// Is lent again, with the same values.
+    pub(crate) fn go_out(
+        &mut self,
+        task: TaskNo,
+        actor: Actor,
+        event_no: u64,
+        place: usize,
+        loops: Loops,
+    )
+        ensures { self.new ≡ record self.old { task = task; actor = actor; event_no = event_no; position = record self.old.position { place = place; loops = loops } } }
+    {
+        self.task = task;
+        self.actor = actor;
+        self.event_no = event_no;
+        self.at.stand_at(place, loops);
+    }
+
+    /// Stands where another context stands, which has the same registers' types.
+    pub(crate) fn exchange(&mut self, other: &mut Box<Context<'a>>)
+        requires { AreOf self.old.program.program self.old.procedure other.old.value.registers.types }
+        ensures { self.new ≡ record self.old { position = position_of other.old.value } }
+    {
+        std::mem::swap(&mut self.at, other);
+    }
+
+    /// One value replaced by another of its type.
+    pub(crate) fn set(&mut self, register: u8, value: Value)
+        requires { MaySet self.old.position.values register value }
+        ensures { self.new ≡ record self.old { position = with_value self.old.position register value } }
+    {
+        self.at.registers.replace(register, value);
+    }
 }
 
 /// How a run went: after so many steps, and whether memory was wanting for the next one.
@@ -159,7 +200,7 @@ fn run_in<'a>(
     again: &mut Context<'a>,
 ) -> Went
     requires { IsJob verified.now.program procedure at.now.registers.types (position_of at.now) }
-    ensures { IsRun verified.now.program procedure at.now after.new again.new result }
+    ensures { IsRun verified.now.program procedure (position_of at.now) after.new again.new result }
 {
     let procedure = usize::from(procedure);
     let procedures = verified.program().procedures();
@@ -194,53 +235,44 @@ impl<'a> Job<'a> {
     pub fn lent(&self) -> &Lent<'a>
         ensures { result.now ≡ self.now }
     {
-        &self.lent
+        match self.errand.as_ref() {
+            Some(errand) => &errand.lent,
+            None => unreachable!(),
+        }
     }
 
     /// Runs it up to its next instruction that isn't local; or, short, up to a local one whose memory is refused. The values
     /// are copied twice, before and after, so that the next job takes no memory; no copy is made where the first
     /// instruction isn't local. Where the values can't be copied there is no step.
+    #[inline(always)]
     pub fn run(self, alloc: Global) -> Done<'a>
         ensures { result.before ≡ self.entry }
     {
-        let Job { lent, ahead } = self;
-        let Ahead {
-            mut after,
-            mut again,
-        } = ahead;
-        let verified = lent.verified;
-        let went = run_in(
-            alloc,
-            verified,
-            lent.procedure,
-            &lent.at,
-            &mut after,
-            &mut again,
-        );
-        let ahead = Ahead { after, again };
-        match went {
-            Went::Nowhere { short } => Done {
-                before: lent,
-                came: Came::Nowhere(ahead),
-                steps: 0,
-                short,
-            },
-            Went::There { steps, short } => Done {
-                before: lent,
-                came: Came::There(ahead),
-                steps,
-                short,
-            },
+        let Job { mut errand } = self;
+        match errand.as_mut() {
+            Some(errand) => errand.run(alloc),
+            None => unreachable!(),
         }
+        Done { errand }
     }
 }
 
 impl<'a> Done<'a> {
+    fn errand(&self) -> &Errand<'a>
+        ensures is { done_of result.now ≡ self.now }
+        ensures run { IsRunOf result.now }
+    {
+        match self.errand.as_ref() {
+            Some(errand) => errand,
+            None => unreachable!(),
+        }
+    }
+
     /// The job that was run.
     pub fn before(&self) -> &Lent<'a>
         ensures { result.now ≡ self.now.before }
     {
-        &self.before
+        &self.errand().lent
     }
 
     /// The place to which it came.
@@ -282,9 +314,11 @@ impl<'a> Done<'a> {
     fn context_after(&self) -> &Context<'a>
         ensures { position_of result.now ≡ self.now.after }
     {
-        match &self.came {
-            Came::There(ahead) => &ahead.after,
-            Came::Nowhere(_) => &self.before.at,
+        let errand = self.errand();
+        if errand.did.came {
+            &errand.after
+        } else {
+            &errand.lent.at
         }
     }
 
@@ -293,13 +327,13 @@ impl<'a> Done<'a> {
         ensures is { result ≡ self.now.steps }
         ensures done { IsDone self.now.before.program.program self.now.before.procedure self.now.before.position self.now.after self.now.steps self.now.short }
     {
-        self.steps
+        self.errand().did.steps
     }
 
     /// Whether it stopped before a local instruction whose memory was refused.
     pub fn short(&self) -> bool
         ensures { result ≡ self.now.short }
     {
-        self.short
+        self.errand().did.short
     }
 }

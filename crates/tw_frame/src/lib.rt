@@ -5,6 +5,7 @@
 mod context;
 mod dispatch;
 mod draft;
+mod errand;
 mod frame;
 mod job;
 mod loops;

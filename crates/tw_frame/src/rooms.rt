@@ -4,6 +4,7 @@ ghost use Rattle.std.specs.Prelude.{◌≡◌};
 ghost use Rattle.tw_rights.specs.Filed.{filed, rights_in};
 
 use crate::context::Context;
+use crate::errand::NoErrand;
 use std::alloc::{AllocError, AllocFailed, Global};
 use std::marker::Model;
 use tw_rights::{Bundle, RightFile};
@@ -70,6 +71,7 @@ pub struct Rooms<'a> {
     pub(crate) own: Box<Context<'a>>,
     pub(crate) lent: Box<Context<'a>>,
     pub(crate) ahead: Ahead<'a>,
+    pub(crate) errand: NoErrand<'a>,
     pub(crate) rights: EmptyFile,
 }
 
@@ -86,11 +88,13 @@ impl<'a> Rooms<'a> {
         let lent = Context::boxed(alloc)?;
         let after = Context::boxed(alloc)?;
         let again = Context::boxed(alloc)?;
+        let errand = NoErrand::new(alloc)?;
         let rights = EmptyFile::new(alloc)?;
         Ok(Rooms {
             own,
             lent,
             ahead: Ahead { after, again },
+            errand,
             rights,
         })
     }
@@ -101,6 +105,7 @@ impl<'a> Rooms<'a> {
             own: _,
             lent: _,
             ahead: _,
+            errand: _,
             rights,
         } = self;
         rights.shut();

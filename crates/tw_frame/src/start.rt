@@ -9,6 +9,7 @@ ghost use Rattle.tw_frame.specs.Banks.{HasText};
 ghost use Rattle.tw_frame.specs.Drafts.{HasTexts, MayStart, started, value_in};
 
 use crate::context::Context;
+use crate::errand::NoErrand;
 use crate::registers::Registers;
 use crate::rooms::{Ahead, EmptyFile, Rooms};
 use std::alloc::{AllocError, Global};
@@ -23,6 +24,7 @@ pub struct Start<'a> {
     pub(crate) own: Box<Context<'a>>,
     pub(crate) lent: Box<Context<'a>>,
     pub(crate) ahead: Ahead<'a>,
+    pub(crate) errand: NoErrand<'a>,
     pub(crate) rights: EmptyFile,
     pub(crate) procedure: u8,
 }
@@ -126,6 +128,7 @@ impl<'a> Rooms<'a> {
             mut own,
             mut lent,
             ahead,
+            errand,
             rights,
         } = self;
         let began = begin_both(
@@ -142,12 +145,14 @@ impl<'a> Rooms<'a> {
                 own,
                 lent,
                 ahead,
+                errand,
                 rights,
             }),
             Err(_) => Err(Rooms {
                 own,
                 lent,
                 ahead,
+                errand,
                 rights,
             }),
         }

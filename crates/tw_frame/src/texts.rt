@@ -163,6 +163,7 @@ impl Texts {
     }
 
     /// Become what others are.
+    #[inline(always)]
     pub(crate) fn copy_from(&mut self, alloc: Global, others: &Texts) -> Result<(), AllocError>
         ensures copy { OnOk result (self.new ≡ others.now) }
         ensures refused { OnErr result (self.new ≡ self.old) }

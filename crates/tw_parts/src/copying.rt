@@ -22,6 +22,7 @@ pub(crate) fn priority_of(done: &Done<'_>, priority: Priority) -> i64
 }
 
 /// Copies of the values in the registers that are named for value parameters, as they are where the Done came to.
+#[inline(always)]
 pub(crate) fn values_of(
     alloc: Global,
     done: &Done<'_>,

@@ -18,10 +18,7 @@ pub(crate) fn come<'a>(frame: &mut Frame<'a>, done: Done<'a>) -> Draft<'a>
     ensures came { frame.new ≡ come frame.old done.entry }
     ensures draft { result ≡ draft_of frame.new }
 {
-    match frame.exchange(done) {
-        Ok(draft) => draft,
-        Err(_done) => unreachable!(),
-    }
+    frame.take_back(done)
 }
 
 /// The task in a seat comes as far as the Done says.
@@ -43,6 +40,7 @@ pub(crate) fn advance_in<'a>(
 }
 
 /// Then it hands over arguments, and goes on to the next place.
+#[inline(always)]
 pub(crate) fn hand_over_in<'a>(
     seats: &mut Vec<Option<Frame<'a>>>,
     seat: usize,

@@ -66,6 +66,7 @@ impl<'a> Parts<'a> {
     }
 
     /// The end of the run, if it has ended by itself.
+    #[inline(always)]
     pub fn ending(&self, layout: Layout) -> Option<Ending>
         requires parts { (verified : TypedProgram) × (notices : Notices) × AreParts verified layout self.now notices }
         ensures { (verified : TypedProgram) (notices : Notices) → AreParts verified layout self.now notices → result ≡ ending (state_of self.now notices) }

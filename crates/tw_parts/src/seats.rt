@@ -252,6 +252,7 @@ impl<'a> Seats<'a> {
     }
 
     /// Then hands over arguments, and goes on to the next place.
+    #[inline(always)]
     pub(crate) fn hand_over(
         &mut self,
         actor: Actor,

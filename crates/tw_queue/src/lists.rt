@@ -44,6 +44,7 @@ impl Lists {
     }
 
     /// Makes room for the rank of one task for this target.
+    #[inline(always)]
     pub fn reserve(&mut self, target: Option<u8>) -> Result<(), AllocError>
         requires { lane_of target < 17 }
         ensures same { self.new.lanes ≡ self.old.lanes }
@@ -56,6 +57,7 @@ impl Lists {
     }
 
     /// Puts the rank of a task for this target.
+    #[inline(always)]
     pub fn push(&mut self, target: Option<u8>, rank: Rank) -> Result<(), AllocError>
         requires { lane_of target < 17 }
         ensures pushed { OnOk result (IsPushed (lane_of target) rank (ranks_at self.old.lanes) (ranks_at self.new.lanes)) }
@@ -88,6 +90,7 @@ impl Lists {
     }
 
     /// The lane of that rank, with the rank.
+    #[inline(always)]
     fn best_lane(&self, number: u8) -> Option<(usize, Rank)>
         ensures { IsBestLane number self.now.lanes result }
     {

@@ -67,6 +67,7 @@ impl TaskQueues {
     }
 
     /// Makes room for one task of this kind and this target.
+    #[inline(always)]
     pub fn reserve(&mut self, kind: Kind, target: Option<u8>) -> Result<(), AllocError>
         requires { IsTarget target }
         ensures same { self.new.tasks ≡ self.old.tasks }
@@ -79,6 +80,7 @@ impl TaskQueues {
     }
 
     /// Puts a task, or hands it back where memory is refused.
+    #[inline(always)]
     pub fn put(
         &mut self,
         kind: Kind,
