@@ -1,6 +1,6 @@
 mod Lists
 mod Fitting
 pub mod Owning
-mod Turning
+pub mod Turning
 pub mod Holding
 mod Ordering

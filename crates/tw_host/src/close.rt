@@ -1,10 +1,9 @@
 //! The end of a run.
 
-ghost use Rattle.std.specs.Prelude.{◌≡◌, ◌≢◌, ◌↔◌, ◌+◌, ◌<◌, ◌≤◌, ◌∷◌, [], List, ℕ, IsTrue, MatchOption, length, map, slice_index_or, sum_by, vec_len, vec_capacity};
+ghost use Rattle.std.specs.Prelude.{◌≡◌, ◌≢◌, ◌↔◌, ◌+◌, ◌<◌, ◌≤◌, [], ℕ, IsTrue, MatchOption, length, map, slice_index_or, sum_by, vec_len, vec_capacity};
 ghost use Rattle.std.specs.List.{All};
 ghost use Rattle.std.specs.List.Sorted.{IsPermutation};
 ghost use Rattle.tw_types.specs.declared.actor.Actor.{Actor as AnActor};
-ghost use Rattle.tw_types.specs.declared.event.Event.{Event as AnEvent};
 ghost use Rattle.tw_types.specs.Layout.{IsLayout};
 ghost use Rattle.tw_pool.specs.Actors.{HasPlace, events_of};
 ghost use Rattle.tw_host.specs.Ends.{Closes};
@@ -15,8 +14,8 @@ use crate::locked::Locked;
 use crate::named::Named;
 use crate::seat::Seat;
 use std::sync::ledger::Share;
-use tw_pool::{Final, History};
-use tw_types::{Actor, Event, Layout};
+use tw_pool::{Events, Final, History};
+use tw_types::{Actor, Layout};
 
 /// The end of a run.
 #[derive(Drop)]
@@ -25,40 +24,37 @@ pub enum Closed {
     Ended {
         history: History,
         outcome: Final,
-        by_seat: Vec<Vec<Event>>,
+        by_seat: Vec<Events>,
     },
     /// The seat of an actor was told something else than its actor's events, or no seat is the actor's.
     Differs {
         actor: Actor,
-        told: Vec<Event>,
+        told: Events,
         history: History,
     },
 }
 
-/// What stands behind an event with which a list begins.
-fn behind<'t>(told: &'t [Event], event: &Event) -> Option<&'t [Event]>
-    ensures { MatchOption result ((rest : List AnEvent) → told.now ≢ event.now ∷ rest) (λ rest. told.now ≡ event.now ∷ rest.now) }
-{
-    let (first, rest) = told.split_first()?;
-    if *first == *event { Some(rest) } else { None }
-}
-
-/// Whether a list is an actor's events of the history.
-fn is_events_of(told: &[Event], history: &History, actor: Actor) -> bool
+/// Whether a list is an actor's events of the history. Who made none is told nothing, and the history isn't read for it.
+fn is_events_of(told: &Events, history: &History, actor: Actor) -> bool
     requires { HasPlace actor }
-    ensures { IsTrue result ↔ (told.now ≡ events_of actor history.now.events) }
+    ensures { IsTrue result ↔ (told.now.items ≡ events_of actor history.now.events) }
 {
-    let mut rest = told;
+    if history.count(actor) == 0 {
+        return told.len() == 0;
+    }
+    let mut next = 0;
     for k in 0..history.len() {
         if history.is_by(k, actor) {
-            let event = history.event(k);
-            let Some(others) = behind(rest, &event) else {
+            if next == told.len() {
                 return false;
-            };
-            rest = others;
+            }
+            if !told.is_at(next, history, k) {
+                return false;
+            }
+            next += 1;
         }
     }
-    rest.is_empty()
+    next == told.len()
 }
 
 /// Whether a seat is an actor's.
@@ -107,7 +103,7 @@ fn first_differing<N: Named>(seats: &[Seat<N>], history: &History) -> Option<(us
 {
     for k in 0..seats.len() {
         let seat = &seats[k];
-        if !is_events_of(seat.told.as_slice(), history, seat.actor) {
+        if !is_events_of(&seat.told, history, seat.actor) {
             return Some((k, seat.actor));
         }
     }
@@ -117,9 +113,9 @@ fn first_differing<N: Named>(seats: &[Seat<N>], history: &History) -> Option<(us
 /// Takes the lists and the parts of all seats.
 fn settle<N: Named>(
     seats: Vec<Seat<N>>,
-    mut by_seat: Vec<Vec<Event>>,
+    mut by_seat: Vec<Events>,
     all: &mut Share<N>,
-) -> Vec<Vec<Event>>
+) -> Vec<Events>
     requires empty { by_seat.items ≡ [] }
     requires room { vec_len seats ≤ vec_capacity by_seat }
     ensures lists { map (λ v. v.items) result.items ≡ map (λ s. s.told.items) seats.items }
@@ -142,7 +138,7 @@ fn settle<N: Named>(
 }
 
 impl<'a, N: Named> Locked<'a, N> {
-    fn close(self, mut seats: Vec<Seat<N>>, by_seat: Vec<Vec<Event>>) -> Closed
+    fn close(self, mut seats: Vec<Seat<N>>, by_seat: Vec<Events>) -> Closed
         requires all { vec_len seats ≡ actor_count N.run.layout }
         requires empty { by_seat.items ≡ [] }
         requires room { vec_len seats ≤ vec_capacity by_seat }
@@ -155,7 +151,7 @@ impl<'a, N: Named> Locked<'a, N> {
         } = self;
         let absent = put_in_order(seats.as_mut_slice(), pool.layout());
         let differing = first_differing(seats.as_slice(), pool.history());
-        let nothing = Vec::new(*by_seat.allocator());
+        let nothing = Events::new(*by_seat.allocator());
         let mut by_seat = settle(seats, by_seat, &mut spare);
         book.audit(&mut spare);
         let (outcome, history) = pool.shut();

@@ -16,8 +16,8 @@ use std::alloc::Global;
 use std::sync::ledger::Blank;
 use std::sync::{Mutex, MutexGuard, Wait};
 use tw_frame::Done;
-use tw_pool::{OpenRefusal, Pool, Turn};
-use tw_types::{Actor, Event, Input, Layout};
+use tw_pool::{Events, OpenRefusal, Pool, Turn};
+use tw_types::{Actor, Input, Layout};
 use tw_verify::Verified;
 
 /// How often the lock is asked for before the thread sleeps for it.
@@ -39,7 +39,7 @@ fn locked_soon<'b, T, R: Wait>(lock: &'b Mutex<T>, rt: &R) -> MutexGuard<'b, T> 
 pub struct Host<'a, N: Named> {
     pub(crate) verified: &'a Verified,
     pub(crate) locked: Mutex<Locked<'a, N>>,
-    pub(crate) by_seat: Vec<Vec<Event>>,
+    pub(crate) by_seat: Vec<Events>,
     pub(crate) news: News,
     ghost program: { verified.now ≡ N.run.program },
     ghost empty: { by_seat.items ≡ [] },

@@ -1,6 +1,6 @@
 //! What lies under the lock.
 
-ghost use Rattle.std.specs.Prelude.{◌≡◌, ◌+◌, ◌≤◌, vec_len, vec_capacity, true, IfOk};
+ghost use Rattle.std.specs.Prelude.{◌≡◌, ◌+◌, ◌≤◌, length, true, IfOk};
 ghost use Rattle.tw_host.specs.Holds.{TellsAll};
 ghost use Rattle.tw_host.specs.Tells.{IsAnswerOf, IsDoneOf, Tells};
 
@@ -53,7 +53,7 @@ impl<'a, N: Named> Locked<'a, N> {
         seat: &mut Seat<N>,
         done: Option<Done<'a>>,
     ) -> Result<Turn<'a>, Strange<'a>>
-        requires room { vec_len seat.old.told + 2 ≤ vec_capacity seat.old.told }
+        requires room { length seat.old.told.items + 2 ≤ seat.old.told.capacity }
         requires program { IsDoneOf N.run.program done }
         ensures actor { seat.new.actor ≡ seat.old.actor }
         ensures told { Tells N.run seat.old.actor seat.old.told.items seat.new.told.items done.entry result }
@@ -76,7 +76,7 @@ impl<'a, N: Named> Locked<'a, N> {
         seat: &mut Seat<N>,
         done: Option<Done<'a>>,
     ) -> Result<Turn<'a>, Strange<'a>>
-        requires room { vec_len seat.old.told + 32 ≤ vec_capacity seat.old.told }
+        requires room { length seat.old.told.items + 32 ≤ seat.old.told.capacity }
         requires program { IsDoneOf N.run.program done }
         ensures actor { seat.new.actor ≡ seat.old.actor }
         ensures told { TellsAll N.run seat.old.actor seat.old.told.items seat.new.told.items done.entry result }

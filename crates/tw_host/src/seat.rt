@@ -7,19 +7,19 @@ ghost use Rattle.tw_host.specs.Seats.{actors_of, actor_count};
 use crate::named::Named;
 use std::alloc::{AllocError, Global};
 use std::sync::ledger::{Book, Share};
-use tw_pool::History;
-use tw_types::{Actor, Event, Layout};
+use tw_pool::{Events, History};
+use tw_types::{Actor, Layout};
 
 /// The place from which one actor turns the host, with the events that it was told. It must be given back.
 pub struct Seat<N: Named> {
     pub(crate) actor: Actor,
-    pub(crate) told: Vec<Event>,
+    pub(crate) told: Events,
     pub(crate) share: Share<N>,
     /// Nothing: two seats side by side have no line of memory in common, since each thread writes its own.
     pub(crate) apart: [u64; 8],
     pub ghost in_layout: { is_in N.run.layout actor ≡ true },
     pub ghost one_part: { share.parts ≡ 1 },
-    pub ghost counted: { share.amount ≡ vec_len told },
+    pub ghost counted: { share.amount ≡ length told.items },
 }
 
 impl<N: Named> Seat<N> {
@@ -31,10 +31,10 @@ impl<N: Named> Seat<N> {
     }
 
     /// The events that the actor was told, in order.
-    pub fn told(&self) -> &[Event]
-        ensures { result.now ≡ self.now.told.items }
+    pub fn told(&self) -> &Events
+        ensures { result.now ≡ self.now.told }
     {
-        self.told.as_slice()
+        &self.told
     }
 }
 
@@ -42,7 +42,7 @@ impl<N: Named> Seat<N> {
 pub(crate) fn rooms<N: Named>(
     alloc: Global,
     count: usize,
-) -> Result<(Vec<Seat<N>>, Vec<Vec<Event>>), AllocError>
+) -> Result<(Vec<Seat<N>>, Vec<Events>), AllocError>
     ensures seats { IfOk result (λ r. (r.0.items ≡ []) × (count ≤ vec_capacity r.0)) }
     ensures lists { IfOk result (λ r. (r.1.items ≡ []) × (count ≤ vec_capacity r.1)) }
 {
@@ -72,7 +72,7 @@ pub(crate) fn seats_of<N: Named>(
         let share = all.split_off(1, 0);
         seats.push_reserved(Seat {
             actor: layout.actor_at(seat),
-            told: Vec::new(alloc),
+            told: Events::new(alloc),
             share,
             apart: [0; 8],
         });
@@ -88,7 +88,7 @@ pub(crate) fn tell<N: Named>(
     seat: &mut Seat<N>,
 )
     requires before { before ≤ length history.now.events }
-    requires room { vec_len seat.old.told + (length history.now.events - before) ≤ vec_capacity seat.old.told }
+    requires room { length seat.old.told.items + (length history.now.events - before) ≤ seat.old.told.capacity }
     ensures told { seat.new.told.items ≡ seat.old.told.items ++ drop before history.now.events }
     ensures actor { seat.new.actor ≡ seat.old.actor }
     ensures total { book.new.total + before ≡ book.old.total + length history.now.events }
@@ -100,7 +100,7 @@ pub(crate) fn tell<N: Named>(
         apart: _,
     } = seat;
     for k in before..history.len() {
-        told.push_reserved(history.event(k));
+        told.push_from(history, k);
         book.add(share, 1);
     }
 }

@@ -1,6 +1,6 @@
 //! What comes of a Done.
 
-ghost use Rattle.std.specs.Prelude.{◌≡◌, ◌<◌, ◌++◌, ◌∷◌, [], IfErr, IfOk, IfSome, OnErr, OnOk, None, Some, true, false, length, option_to_list};
+ghost use Rattle.std.specs.Prelude.{◌≡◌, ◌<◌, ◌++◌, ◌∷◌, [], IfErr, IfOk, IfSome, OnErr, OnOk, None, Some, true, false, length, option_to_list, slice_get};
 ghost use Rattle.tw_types.specs.Actor.{is_in};
 ghost use Rattle.tw_types.specs.declared.event.Event.TheVariants.{Call as CallBy, End as EndBy};
 ghost use Rattle.tw_code.specs.declared.instr.Instr.TheVariants as instr_is;
@@ -12,9 +12,12 @@ ghost use Rattle.tw_parts.specs.Events.{IsDrafted, IsOwed, MakesBehind, StandsAt
 ghost use Rattle.tw_parts.specs.Memory.{InstrTakes};
 ghost use Rattle.tw_pool.specs.declared.answer.Closing.TheVariants.{Limit};
 ghost use Rattle.tw_pool.specs.declared.answer.Turn.TheVariants as answer;
-ghost use Rattle.tw_pool.specs.Kept.{IsOwedBy};
-ghost use Rattle.tw_pool.specs.Turns.{Answers, IsTurnBy, Lends, OrNoMemory, instr_behind, is_last, steps_of};
+ghost use Rattle.tw_pool.specs.Kept.{IsOwedBy, HasTask};
+ghost use Rattle.tw_pool.specs.Turns.{Answers, IsTurnBy, Lends, OrNoMemory, instr_behind, is_last, steps_of, Makes, TakesBack, Turns, lent_to};
 ghost use Rattle.tw_pool.specs.Words.{FitsWord};
+ghost use Rattle.std.specs.Option.{option_and_then};
+ghost use Rattle.tw_code.specs.declared.instr.Instr.{Instr as AnInstr};
+ghost use Rattle.tw_code.specs.declared.procedure.Procedure.{Procedure};
 
 use crate::answer::{Closing, Turn};
 use crate::history::History;
@@ -24,6 +27,7 @@ use tw_code::Instr;
 use tw_frame::{Done, Draft};
 use tw_parts::Parts;
 use tw_types::{Actor, Event};
+use tw_verify::Verified;
 
 /// Does the instruction at which the actor's task stands behind the Done, which is neither local nor RET.
 fn call_by<'a>(
@@ -62,6 +66,24 @@ fn tell(history: &mut History, event: Option<Event>)
     }
 }
 
+fn is_ret(instr: &Instr) -> bool
+    ensures { result ≡ is_ret instr.now }
+{
+    match instr {
+        Instr::Ret => true,
+        Instr::Local(_) | Instr::Data(_) | Instr::Rule(_) | Instr::Put(_) => false,
+    }
+}
+
+/// The instruction at a place of a procedure.
+fn instr_at(verified: &Verified, procedure: u8, place: usize) -> &Instr
+    requires { (i : AnInstr) × (option_and_then (λ (p : Procedure). slice_get p.code place) (slice_get verified.now.program procedure) ≡ Some i) }
+    ensures { option_and_then (λ (p : Procedure). slice_get p.code place) (slice_get verified.now.program procedure) ≡ Some result.now }
+{
+    let p = &verified.program().procedures()[usize::from(procedure)];
+    &p.code.as_slice()[place]
+}
+
 impl<'a> Pool<'a> {
     /// The actor's task goes on by its steps, and its job is lent again.
     pub(crate) fn go_on(&mut self, actor: Actor, done: Done<'a>) -> Turn<'a>
@@ -79,7 +101,7 @@ impl<'a> Pool<'a> {
     }
 
     /// The actor's task goes on by its steps, which are the last event that there may be.
-    pub(crate) fn fill_up(&mut self, actor: Actor, done: Done<'a>) -> Turn<'a>
+    fn fill_up(&mut self, actor: Actor, done: Done<'a>) -> Turn<'a>
         requires actor { is_in self.old.layout actor ≡ true }
         requires room { length self.old.history < self.old.limit }
         requires owed { IsOwedBy self.old actor done }
@@ -94,13 +116,7 @@ impl<'a> Pool<'a> {
     }
 
     /// The actor's task goes on by its steps, and does the instruction behind them.
-    pub(crate) fn call(
-        &mut self,
-        alloc: Global,
-        actor: Actor,
-        instr: &Instr,
-        done: Done<'a>,
-    ) -> Turn<'a>
+    fn call(&mut self, alloc: Global, actor: Actor, instr: &Instr, done: Done<'a>) -> Turn<'a>
         requires actor { is_in self.old.layout actor ≡ true }
         requires room { length self.old.history < self.old.limit }
         requires owed { IsOwedBy self.old actor done }
@@ -123,7 +139,7 @@ impl<'a> Pool<'a> {
     }
 
     /// The actor's task goes on by its steps, and ends.
-    pub(crate) fn end(&mut self, alloc: Global, actor: Actor, done: Done<'a>) -> Turn<'a>
+    fn end(&mut self, alloc: Global, actor: Actor, done: Done<'a>) -> Turn<'a>
         requires actor { is_in self.old.layout actor ≡ true }
         requires room { length self.old.history < self.old.limit }
         requires owed { IsOwedBy self.old actor done }
@@ -137,5 +153,69 @@ impl<'a> Pool<'a> {
         tell(&mut self.history, event);
         self.history.push(Event::End(actor));
         Turn::Ended
+    }
+
+    /// What comes of a Done that isn't short, with room for all its events.
+    fn go_past(&mut self, alloc: Global, actor: Actor, done: Done<'a>) -> Turn<'a>
+        requires actor { is_in self.old.layout actor ≡ true }
+        requires room { length self.old.history < self.old.limit }
+        requires owed { IsOwedBy self.old actor done }
+        requires program { done.before.program ≡ self.old.program }
+        requires whole { done.short ≡ false }
+        requires fits { is_last self.old done ≡ false }
+        ensures { IsTurnBy (λ s. Makes self.old actor (Some done.entry) (steps_of actor done.entry) (event_of actor (instr_behind self.old.program.program done.entry))) self.old result self.new }
+    {
+        let _steps = done.steps();
+        let instr = instr_at(self.verified, done.before().procedure(), done.after_place());
+        if is_ret(instr) {
+            self.end(alloc, actor, done)
+        } else {
+            self.call(alloc, actor, instr, done)
+        }
+    }
+
+    /// Whether two events are wanted, and there is room for one.
+    fn is_last(&self, done: &Done<'a>) -> bool
+        requires { length self.now.history < self.now.limit }
+        ensures { result ≡ is_last self.now done.now }
+    {
+        if done.steps() == 0 {
+            return false;
+        }
+        self.history.has_room_for_one()
+    }
+
+    /// What comes of a Done of the job that is lent to the actor.
+    fn take_back(&mut self, alloc: Global, actor: Actor, done: Done<'a>) -> Turn<'a>
+        requires actor { is_in self.old.layout actor ≡ true }
+        requires room { length self.old.history < self.old.limit }
+        requires owed { IsOwedBy self.old actor done }
+        requires program { done.before.program ≡ self.old.program }
+        ensures { IsTurnBy (λ s. TakesBack done.entry.short (is_last self.old done.entry) self.old actor done.entry) self.old result self.new }
+    {
+        if done.short() {
+            return self.go_on(actor, done);
+        }
+        if self.is_last(&done) {
+            return self.fill_up(actor, done);
+        }
+        self.go_past(alloc, actor, done)
+    }
+
+    /// What comes of a Done where the actor has a task.
+    pub(crate) fn hand_in(&mut self, alloc: Global, actor: Actor, done: Done<'a>) -> Turn<'a>
+        requires actor { is_in self.old.layout actor ≡ true }
+        requires room { length self.old.history < self.old.limit }
+        requires runs { HasTask self.old actor }
+        requires program { done.before.program ≡ self.old.program }
+        ensures { IsTurnBy (λ s. Turns self.old s actor (lent_to self.old s actor) (Some done.entry)) self.old result self.new }
+    {
+        let Some(frame) = self.parts.seats.get(actor) else {
+            unreachable!();
+        };
+        if !frame.has_lent(done.before()) {
+            return Turn::Foreign(done);
+        }
+        self.take_back(alloc, actor, done)
     }
 }

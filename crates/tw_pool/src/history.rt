@@ -4,7 +4,7 @@ ghost use Rattle.std.specs.Prelude.{◌≡◌, ◌<◌, ◌++◌, ◌∷◌, ◌
 ghost use Rattle.std.specs.Option.{option_map};
 ghost use Rattle.tw_code.specs.machine.History.{actor_of};
 ghost use Rattle.tw_pool.specs.Actors.{HasPlace, events_of, same_actor};
-ghost use Rattle.tw_pool.specs.Words.{FitsWord};
+ghost use Rattle.tw_pool.specs.Words.{FitsWord, unpack};
 
 use crate::words::{maker, pack, unpack};
 use std::alloc::{AllocError, Global};
@@ -89,6 +89,14 @@ impl History {
         unpack(self.words[index])
     }
 
+    /// The word of the event before which there are so many.
+    pub(crate) fn word(&self, index: usize) -> u64
+        requires { index < length self.now.events }
+        ensures { slice_get self.now.events index ≡ Some (unpack result) }
+    {
+        self.words[index]
+    }
+
     /// Whether an actor made the event before which there are so many; the event isn't unpacked.
     pub fn is_by(&self, index: usize, actor: Actor) -> bool
         requires place { HasPlace actor }
@@ -99,6 +107,7 @@ impl History {
     }
 
     /// Tells one event more.
+    #[inline(always)]
     pub fn push(&mut self, event: Event)
         requires fits { FitsWord event }
         requires room { length self.old.events < self.old.limit }

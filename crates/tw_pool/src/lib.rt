@@ -3,6 +3,7 @@
 
 mod answer;
 mod ends;
+mod events;
 mod free;
 mod hand_in;
 mod history;
@@ -14,6 +15,7 @@ mod words;
 
 pub use answer::{Closing, Turn};
 pub use ends::Final;
+pub use events::Events;
 pub use history::History;
 pub use open::OpenRefusal;
 pub use pool::Pool;

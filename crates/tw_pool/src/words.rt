@@ -39,6 +39,7 @@ fn word(kind: u64, actor: Actor, numbers: u64) -> u64
 }
 
 /// The word of an event.
+#[inline(always)]
 pub(crate) fn pack(event: Event) -> u64
     requires { FitsWord event }
     ensures { result ≡ word_of event }

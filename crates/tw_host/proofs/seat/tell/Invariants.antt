@@ -1,11 +1,11 @@
-use Rattle.std.proofs.Common.{◌≡◌, ◌+◌, ◌-◌, ◌≤◌, ◌++◌, drop, length, vec_len, vec_capacity}
+use Rattle.std.proofs.Common.{◌≡◌, ◌+◌, ◌-◌, ◌≤◌, ◌++◌, drop, length}
 use Rattle.tw_host.proofs.seat.tell.Given as goal
 
 abbrev pub invariant-loop-k : goal.invariant-loop-k
 invariant-loop-k g l = record {
   told : l.told.items ++ drop l.k l.history.events ≡ l.fn.seat.told.items ++ drop l.before l.history.events;
-  room : vec_len l.told + (length l.history.events - l.k) ≤ vec_capacity l.told;
+  room : length l.told.items + (length l.history.events - l.k) ≤ l.told.capacity;
   total : l.book.total + l.before ≡ l.fn.book.total + l.k;
   parts : l.share.parts ≡ 1;
-  amount : l.share.amount ≡ vec_len l.told;
+  amount : l.share.amount ≡ length l.told.items;
 }

@@ -46,7 +46,7 @@ returns g c =
     let whole = c.audit.ensures.whole (omega (arith, c.settle-by_seat.ensures.parts, inv.no_part, c.requires.all, inv.seats)) in
     let same_sum = sums (λ s. told_by s.actor s.told.items) items seats moved _ back in
     record {
-      other = inr (lacking (λ s. s.actor) (λ s. s.told.items) items seats moved c.in-Some-absent.actor c.in-Some-absent.ensures.placed, c.new-nothing.ensures.items);
+      other = inr (lacking (λ s. s.actor) (λ s. s.told.items) items seats moved c.in-Some-absent.actor c.in-Some-absent.ensures.placed, c.new-nothing.ensures);
       together = omega (arith, c.settle-by_seat.ensures.amount, whole, inv.counted, inv.no_amount, ap length shut.events, same_sum);
     }
 
