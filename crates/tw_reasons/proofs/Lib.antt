@@ -1,0 +1,16 @@
+pub mod Asking
+pub mod Bringing
+pub mod Classes
+pub mod Differing
+pub mod Fewness
+pub mod Forms
+pub mod Getting
+pub mod GoingOn
+pub mod Heads
+pub mod Lines
+pub mod Reasoning
+pub mod Saying
+pub mod Standing
+pub mod Telling
+pub mod Types
+pub mod Whys

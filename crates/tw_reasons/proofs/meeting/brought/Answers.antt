@@ -1,0 +1,18 @@
+use Rattle.std.proofs.Common.{◌≡◌, sym, subst}
+use Rattle.tw_code.specs.accepting.WellTyped.{Brings}
+use Rattle.tw_code.specs.machine.Rights.{Typing}
+use Rattle.tw_reasons.specs.Meetings.{IsDifference}
+use Rattle.tw_reasons.specs.declared.meeting.Difference.{Difference}
+use Rattle.tw_reasons.proofs.Bringing.{brings_of, if_some}
+use Rattle.tw_reasons.proofs.Getting.{here, there}
+use Rattle.tw_reasons.proofs.meeting.brought.Goals as goal
+
+pub returns-then-goes_on : goal.returns-then-goes_on
+returns-then-goes_on c =
+    let goes = c.goes_on.ensures c.if-goes_on.true in
+    let code = there c.as_slice.result.now c.args.procedure.now.code c.args.before c.in_ok-instr.instr.now c.as_slice.ensures c.in_ok-instr.ensures.lookup.3.0 c.in_ok-instr.ensures.lookup.1 in
+    let from = here c.args.typings.now c.args.before c.in_ok-from.from.now c.in_ok-from.ensures.lookup.3.0 c.in_ok-from.ensures.lookup.1 in
+    let brings = brings_of c.args.procedures.now c.args.procedure.now c.args.typings.now c.args.before c.args.place c.args.way c.in_ok-instr.instr.now c.in_ok-from.from.now c.requires.earlier code goes from in
+    let brought = subst (λ (t : Typing). Brings c.args.procedures.now c.args.procedure.now c.args.typings.now c.args.before c.args.place t) (sym c.after-other.ensures) brings in
+    if_some (IsDifference c.args.here.now c.after-other.result) (λ (d : Difference). (other : Typing) × Brings c.args.procedures.now c.args.procedure.now c.args.typings.now c.args.before c.args.place other × IsDifference c.args.here.now other d) c.first_difference.result
+    (λ d is. (c.after-other.result, brought, is)) c.first_difference.ensures

@@ -1,0 +1,14 @@
+use Rattle.std.proofs.Common.{◌≡◌, ◌∙◌, List, [], ℕ, ap, map, subst, sym}
+use Rattle.tw_words.specs.Seen.{IsRead, seen}
+use Rattle.tw_words.specs.Words.{Word}
+use Rattle.tw_asm.specs.Statement.{Say}
+use Rattle.tw_words.specs.declared.word.Word as words
+use Rattle.tw_reasons.proofs.Saying.{line_told}
+use Rattle.tw_reasons.proofs.situation.line_says.Goals as goal
+
+pub returns : goal.returns
+returns c =
+    let read = subst (λ (b : List ℕ). IsRead (map seen c.in_ok-read.read.words.items) c.in_ok-read.read.whole b) c.as_bytes.ensures.value c.in_ok-read.ensures in
+    let same : c.deref.result.now ≡ c.in_ok-read.read.words.items = c.deref.ensures.value in
+    line_told c.in_ok-read.read.words.items c.in_ok-read.read.whole c.args.line.now c.said_in.result read (λ none. c.said_in.ensures.nothing (same ∙ none))
+    (λ version statement say. c.said_in.ensures.says version statement (subst (λ (ws : List words.Word). Say version statement (map seen ws)) (sym same) say))

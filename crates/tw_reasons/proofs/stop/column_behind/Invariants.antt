@@ -1,0 +1,9 @@
+use Rattle.std.proofs.Common.{◌≡◌, ◌+◌, ◌≤◌, drop, count_by}
+use Rattle.tw_reasons.specs.Stops.{begins_character, column_behind}
+use Rattle.tw_reasons.proofs.stop.column_behind.Given as goal
+
+abbrev pub invariant-loop-byte : goal.invariant-loop-byte
+invariant-loop-byte l = record {
+  counted : l.column + count_by begins_character (drop l.byte-index l.front) ≡ column_behind l.front;
+  few : l.column ≤ l.byte-index + 1;
+}

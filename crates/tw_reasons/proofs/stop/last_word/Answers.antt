@@ -1,0 +1,32 @@
+use Rattle.std.proofs.Common.{◌≡◌, ◌+◌, ◌≤◌, List, length, refl, []}
+use Rattle.tw_words.specs.declared.word.Next.TheVariants as next
+use Rattle.tw_words.specs.Seen.{seen}
+use Rattle.tw_words.specs.Words.{IsFirstWord}
+use Rattle.tw_words.proofs.FirstWords.{behind_gap}
+use Rattle.tw_words.proofs.Texts.{rest_utf8}
+use Rattle.tw_reasons.proofs.Standing.{one_passed, one_room}
+use Rattle.tw_reasons.proofs.stop.last_word.Goals as goal
+
+pub words-preserved-in-Found : goal.words-preserved-in-Found
+words-preserved-in-Found c =
+    let here : IsFirstWord (seen c.in-Found.field-0) c.without_gap-here.result.now c.in-Found.after.now = rw c.in-Found.is at c.in_ok-after.ensures in
+    let first : IsFirstWord (seen c.in-Found.field-0) c.words.rest.now c.in-Found.after.now = behind_gap (next.Found c.in-Found.field-0 c.in-Found.after) c.words.rest.now c.without_gap-here.result.now c.without_gap-here.ensures.after here in
+    let passed = c.words.invariant.passed in
+    record {
+      utf8 = rest_utf8 (seen c.in-Found.field-0) c.words.rest.now c.in-Found.after.now first c.words.invariant.utf8;
+      passed = one_passed (seen c.in-Found.field-0) c.args.line.now c.words.rest.now c.in-Found.after.now c.words.before passed first;
+      room = one_room (seen c.in-Found.field-0) c.args.line.now c.words.rest.now c.in-Found.after.now c.words.before c.words.invariant.room first;
+      last = c.stop_with.ensures.stands passed.0 c.words.rest.now passed.1 c.without_gap-here.ensures.after passed.2 (c.word_found.ensures (seen c.in-Found.field-0) here);
+    }
+
+pub words-preserved-in-Found-2 : goal.words-preserved-in-Found-2
+words-preserved-in-Found-2 c =
+    let here : IsFirstWord (seen c.in-Found.field-0) c.without_gap-here.result.now c.in-Found.after.now = rw c.in-Found.is at c.in_ok-after.ensures in
+    let first : IsFirstWord (seen c.in-Found.field-0) c.words.rest.now c.in-Found.after.now = behind_gap (next.Found c.in-Found.field-0 c.in-Found.after) c.words.rest.now c.without_gap-here.result.now c.without_gap-here.ensures.after here in
+    let passed = c.words.invariant.passed in
+    record {
+      utf8 = rest_utf8 (seen c.in-Found.field-0) c.words.rest.now c.in-Found.after.now first c.words.invariant.utf8;
+      passed = one_passed (seen c.in-Found.field-0) c.args.line.now c.words.rest.now c.in-Found.after.now c.words.before passed first;
+      room = one_room (seen c.in-Found.field-0) c.args.line.now c.words.rest.now c.in-Found.after.now c.words.before c.words.invariant.room first;
+      last = c.stop_with.ensures.stands passed.0 c.words.rest.now passed.1 c.without_gap-here.ensures.after passed.2 (c.word_found.ensures (seen c.in-Found.field-0) here);
+    }

@@ -1,0 +1,8 @@
+use Rattle.std.proofs.Common.{◌∙◌, ℕ, Result, ap}
+use Rattle.tw_asm.proofs.Numbers.{digits_same}
+use Rattle.tw_asm.specs.declared.refusal.Flaw.{Flaw}
+use Rattle.tw_reasons.specs.Going.{has_form}
+use Rattle.tw_reasons.proofs.words.spells_natural.Goals as goal
+
+pub returns : goal.returns
+returns c = λ form. c.takes.ensures form ∙ ap (λ (r : Result ℕ Flaw). has_form r) (digits_same c.args.low c.args.high c.args.text.now c.digits.result c.digits.ensures)

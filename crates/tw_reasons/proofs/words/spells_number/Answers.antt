@@ -1,0 +1,8 @@
+use Rattle.std.proofs.Common.{◌∙◌, ℤ, Result, ap}
+use Rattle.tw_asm.proofs.Numbers.{signed_same}
+use Rattle.tw_asm.specs.declared.refusal.Flaw.{Flaw}
+use Rattle.tw_reasons.specs.Going.{has_form}
+use Rattle.tw_reasons.proofs.words.spells_number.Goals as goal
+
+pub returns : goal.returns
+returns c = λ form. c.takes.ensures form ∙ ap (λ (r : Result ℤ Flaw). has_form r) (signed_same c.args.text.now c.number.result c.number.ensures)

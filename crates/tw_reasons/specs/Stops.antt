@@ -1,0 +1,45 @@
+-- Where a line of a text is told to stop: at which word, at which column, and what stands there.
+use Rattle.std.specs.Prelude.{◌≡◌, ℕ, ◌+◌, ◌||◌, Bool, false, List, [], ◌∷◌, ◌++◌, codes, decimal, length, count_by, nat_lt, if◌then◌else◌}
+use Rattle.std.specs.List.{starts_with}
+use Rattle.std.specs.Prelude.{nat_eq}
+use Rattle.tw_words.specs.Words.{AreFirstWords, IsBlank, IsBroken, IsFirstWord, Word}
+use Rattle.tw_words.specs.reading.Next.{IsAfterGap}
+use Rattle.tw_reasons.specs.declared.breaks.Break.{Break}
+use Rattle.tw_reasons.specs.declared.stop.Found.{Found}
+use Rattle.tw_reasons.specs.declared.stop.Found.TheVariants as found
+use Rattle.tw_reasons.specs.declared.stop.Stop.{Stop}
+
+-- ---- columns
+
+-- a byte that goes on with no character
+abbrev pub begins_character : ℕ → Bool
+begins_character b = nat_lt b 128 || nat_lt 191 b
+
+-- the column behind these bytes, counted in characters from 1
+abbrev pub column_behind : List ℕ → ℕ
+column_behind front = count_by begins_character front + 1
+
+-- ---- words
+
+-- these words stand first in the line, behind them a gap or none, then this rest, all behind these bytes
+pub record Stands (line : List ℕ) (before : List Word) (front rest : List ℕ) : Type 0 where
+  pub parts : line ≡ front ++ rest
+  pub after : List ℕ
+  pub words : AreFirstWords before line after
+  pub gap : IsAfterGap after rest
+
+-- what stands first in the rest: nothing, a word as it stands there, or something that is no word
+abbrev pub IsFound : Found → List ℕ → Type 0
+IsFound found.End rest = IsBlank rest
+IsFound (found.Word text) rest = (word : Word) × (after : List ℕ) × IsFirstWord word rest after × (rest ≡ text.now ++ after)
+IsFound (found.Broken broken) rest = IsBroken rest
+
+-- a stop in a line: which word it is, from 1, its column, and what stands there
+pub record IsStop (line : List ℕ) (stop : Stop) : Type 0 where
+  pub before : List Word
+  pub front : List ℕ
+  pub rest : List ℕ
+  pub stands : Stands line before front rest
+  pub word : stop.word ≡ length before + 1
+  pub column : stop.column ≡ column_behind front
+  pub found : IsFound stop.found rest

@@ -1,0 +1,53 @@
+//! Why something that begins with a quote is no word.
+
+ghost use Rattle.std.specs.Prelude.{IsUtf8};
+
+use std::alloc::{AllocError, Global};
+use tw_words::quoted_text;
+
+/// Why something is no word.
+#[derive(Clone, Copy, PartialEq, Eq)]
+pub(crate) enum Break {
+    /// The second quote isn't there.
+    Unclosed,
+    /// A `\` stands before something that it doesn't go with.
+    Escape,
+    /// No word ends behind the second quote.
+    Behind,
+}
+
+fn is_hex(byte: u8) -> bool {
+    byte.is_ascii_hexdigit()
+}
+
+/// Whether a `\` stands before something that it doesn't go with, up to a quote or the end.
+fn has_other_escape(inside: &[u8]) -> bool {
+    let mut rest = inside;
+    'bytes: loop {
+        match rest {
+            [] | [b'"', ..] => return false,
+            [b'\\', b'"' | b'\\' | b'n', after @ ..] => rest = after,
+            [b'\\', b'x', b'0'..=b'7', low, after @ ..] if is_hex(*low) => rest = after,
+            [b'\\', ..] => return true,
+            [_, after @ ..] => rest = after,
+        }
+    }
+}
+
+/// Why what begins with a quote is no word.
+pub(crate) fn break_of(alloc: Global, here: &[u8]) -> Result<Break, AllocError>
+    requires { IsUtf8 here.now }
+{
+    if quoted_text(alloc, here)?.is_some() {
+        return Ok(Break::Behind);
+    }
+    let inside = match here {
+        [_, inside @ ..] => inside,
+        [] => here,
+    };
+    if has_other_escape(inside) {
+        Ok(Break::Escape)
+    } else {
+        Ok(Break::Unclosed)
+    }
+}

@@ -1,0 +1,28 @@
+//! Why an assembly text, or the program of one, was refused: lines of text that stand behind the refusal.
+//!
+//! * Of a text: `put_text_reason` tells the line, and at which word and column it stops being a statement.
+//! * Of a program: `put_program_reason` tells the register that is wrong, what it holds and what was asked of it.
+#![tactic(auto)]
+
+mod asked;
+mod breaks;
+mod due;
+mod find;
+mod labels;
+mod laws;
+mod meeting;
+mod program_reason;
+mod put;
+mod rights;
+mod situation;
+mod step;
+mod stop;
+mod suits;
+mod text_reason;
+mod words;
+
+pub use laws::asks_the_same;
+pub use program_reason::{put_main_reason, put_program_reason};
+pub use rights::put_type;
+pub use situation::{Says, head_line, line_says};
+pub use text_reason::put_text_reason;

@@ -1,0 +1,410 @@
+//! Why a program isn't accepted.
+
+ghost use Rattle.std.specs.Prelude.{◌≡◌, ◌⊎◌, ◌<◌, ◌+◌, ◌-◌, ◌++◌, [], ℕ, List, Some, length, nat_lt, OnOk, slice_get};
+ghost use Rattle.tw_asm.specs.Origins.{at_place};
+ghost use Rattle.tw_code.specs.format.Program.{IsInstr, IsProcedure};
+ghost use Rattle.tw_code.specs.machine.Arguments.{params_of};
+ghost use Rattle.tw_verify.specs.Refusal.{verify_refusal_number};
+ghost use Rattle.tw_reasons.specs.Meetings.{IsMeeting};
+ghost use Rattle.tw_reasons.specs.Reasons.{AddsReason, AddsTold, TellsMeeting, arguments_text, count_line, goal_line, holding_text, meeting_line, misplaced_line, named_by, outside_text, param_line, params_line, place_text, shape_line, side_text, skip_of, told_line, unknown_line, unmatched_line, unwanted_text, vain_line};
+
+use crate::asked::{Asked, Held, put_asked, put_held};
+use crate::find::asked_at;
+use crate::meeting::{Meeting, first_difference, loop_begin, meeting_at};
+use crate::put::{put, put_number, put_numbered};
+use crate::rights::{put_param, put_right};
+use std::alloc::{AllocError, Global};
+use tw_asm::LineNumbers;
+use tw_code::{Flow, Instr, Procedure};
+use tw_types::{Kind, Param};
+use tw_verify::{Refused, RightType, Typing, VerifyRefusal};
+
+// ---- a register that is asked in vain
+
+fn put_told(alloc: Global, out: &mut Vec<u8>, asked: Option<Asked>) -> Result<(), AllocError>
+    ensures { OnOk result (out.new.items ≡ out.old.items ++ told_line asked) }
+{
+    match asked {
+        Some(asked) => put_asked(alloc, out, &asked),
+        None => Ok(()),
+    }
+}
+
+/// What a place asks a register in vain.
+#[rattlefmt::skip]
+fn put_vain(alloc: Global, out: &mut Vec<u8>, number: u8, procedures: &[Procedure], procedure: &Procedure, place: usize, instr: &Instr, typings: &[Typing]) -> Result<(), AllocError>
+    requires is { IsProcedure procedure.now }
+    requires instr { IsInstr instr.now }
+    ensures { OnOk result (out.new.items ≡ out.old.items ++ vain_line number procedures.now procedure.now place instr.now (slice_get typings.now place)) }
+{
+    match typings.get(place) {
+        Some(typing) => put_told(alloc, out, asked_at(number, procedures, procedure, place, instr, typing)),
+        None => Ok(()),
+    }
+}
+
+// ---- typings that differ
+
+/// Adds the line of the text from which the instruction at a place comes, or the place.
+fn put_place(
+    alloc: Global,
+    out: &mut Vec<u8>,
+    lines: &LineNumbers,
+    procedure: usize,
+    place: usize,
+) -> Result<(), AllocError>
+    ensures { OnOk result (out.new.items ≡ out.old.items ++ place_text (at_place lines.now.procedures procedure place) place) }
+{
+    match lines.at(procedure, place) {
+        Some(line) => put_numbered(alloc, out, "line ", line),
+        None => put_numbered(alloc, out, "place ", place),
+    }
+}
+
+fn put_holding(out: &mut Vec<u8>, right: Option<RightType>) -> Result<(), AllocError>
+    ensures { OnOk result (out.new.items ≡ out.old.items ++ holding_text right) }
+{
+    match right {
+        Some(right) => put_right(out, right),
+        None => put(out, "empty"),
+    }
+}
+
+/// What a way brings.
+fn put_side(
+    alloc: Global,
+    out: &mut Vec<u8>,
+    lines: &LineNumbers,
+    procedure: usize,
+    place: usize,
+    right: Option<RightType>,
+) -> Result<(), AllocError>
+    ensures { OnOk result (out.new.items ≡ out.old.items ++ side_text lines.now.procedures procedure place right) }
+{
+    put_holding(out, right)?;
+    put(out, " behind ")?;
+    put_place(alloc, out, lines, procedure, place)
+}
+
+/// Which register differs where ways meet, and what each way brings.
+fn put_meeting(
+    alloc: Global,
+    out: &mut Vec<u8>,
+    lines: &LineNumbers,
+    procedure: usize,
+    found: &Meeting,
+) -> Result<(), AllocError>
+    ensures { OnOk result (out.new.items ≡ out.old.items ++ meeting_line lines.now.procedures procedure found.now) }
+{
+    put_numbered(alloc, out, "d", found.difference.register as usize)?;
+    put(out, " is ")?;
+    put_side(
+        alloc,
+        out,
+        lines,
+        procedure,
+        found.first,
+        found.difference.first,
+    )?;
+    put(out, ", ")?;
+    put_side(
+        alloc,
+        out,
+        lines,
+        procedure,
+        found.second,
+        found.difference.second,
+    )?;
+    put(out, "\n")
+}
+
+/// Which register a loop changes.
+fn put_changed(
+    alloc: Global,
+    out: &mut Vec<u8>,
+    code: &[Instr],
+    place: usize,
+    typings: &[Typing],
+) -> Result<(), AllocError>
+    ensures { OnOk result ((text : List ℕ) × (out.new.items ≡ out.old.items ++ text)) }
+{
+    let Some(first) = loop_begin(code, place) else {
+        return Ok(());
+    };
+    let Some(begun) = typings.get(first) else {
+        return Ok(());
+    };
+    let Some(here) = typings.get(place) else {
+        return Ok(());
+    };
+    let Some(found) = first_difference(here, begun) else {
+        return Ok(());
+    };
+    put_held(alloc, out, found.register, Held::Right(found.first))?;
+    put(out, ", asked: ")?;
+    put_holding(out, found.second)?;
+    put(out, ", as where the loop begins\n")
+}
+
+// ---- goals, ends and calls
+
+fn skip_of(flow: Flow) -> usize
+    ensures is { result ≡ skip_of flow }
+    ensures small { result < 65536 }
+{
+    match flow {
+        Flow::Branch(skip) | Flow::Jump(skip) => skip as usize,
+        Flow::Straight | Flow::Begin(_) | Flow::Close | Flow::Stop => 0,
+    }
+}
+
+fn is_inside(goal: usize, count: usize) -> bool
+    ensures { result ≡ nat_lt goal count }
+{
+    goal < count
+}
+
+/// Why a goal isn't one.
+fn put_outside(
+    alloc: Global,
+    out: &mut Vec<u8>,
+    goal: usize,
+    count: usize,
+) -> Result<(), AllocError>
+    ensures { OnOk result (out.new.items ≡ out.old.items ++ outside_text goal count) }
+{
+    if is_inside(goal, count) {
+        put(out, ", which is not in the same loop\n")
+    } else {
+        put_numbered(alloc, out, ", the code has ", count)?;
+        put(out, "\n")
+    }
+}
+
+fn put_goal(alloc: Global, out: &mut Vec<u8>, goal: usize, count: usize) -> Result<(), AllocError>
+    ensures { OnOk result (out.new.items ≡ out.old.items ++ goal_line goal count) }
+{
+    put_numbered(alloc, out, "the goal is place ", goal)?;
+    put_outside(alloc, out, goal, count)
+}
+
+fn put_unmatched(out: &mut Vec<u8>, flow: Flow) -> Result<(), AllocError>
+    ensures { OnOk result (out.new.items ≡ out.old.items ++ unmatched_line flow) }
+{
+    match flow {
+        Flow::Close => put(out, "it has no REPEAT\n"),
+        _ => put(out, "it has no END, or stands in four loops\n"),
+    }
+}
+
+fn put_misplaced(out: &mut Vec<u8>, flow: Flow) -> Result<(), AllocError>
+    ensures { OnOk result (out.new.items ≡ out.old.items ++ misplaced_line flow) }
+{
+    match flow {
+        Flow::Stop => put(out, "it stands in a loop\n"),
+        _ => put(out, "the last instruction must be RET\n"),
+    }
+}
+
+/// The procedure that an instruction names, and how many arguments it has for it.
+fn named_by(instr: &Instr) -> (usize, usize)
+    ensures { result ≡ named_by instr.now }
+{
+    match instr {
+        Instr::Rule(action) => (action.procedure as usize, action.args.as_slice().len()),
+        Instr::Put(action) => (action.procedure as usize, action.args.as_slice().len()),
+        Instr::Local(_) | Instr::Data(_) | Instr::Ret => (0, 0),
+    }
+}
+
+fn put_unknown(
+    alloc: Global,
+    out: &mut Vec<u8>,
+    procedure: usize,
+    last: usize,
+) -> Result<(), AllocError>
+    ensures { OnOk result (out.new.items ≡ out.old.items ++ unknown_line procedure last) }
+{
+    put_numbered(alloc, out, "procedure ", procedure)?;
+    put_numbered(alloc, out, " is asked, the last one is ", last)?;
+    put(out, "\n")
+}
+
+/// The number of the last procedure.
+fn last_of(procedures: &[Procedure]) -> usize
+    ensures { result ≡ length procedures.now - 1 }
+{
+    procedures.len().saturating_sub(1)
+}
+
+fn param_count(procedures: &[Procedure], procedure: usize) -> usize
+    ensures { result ≡ length (params_of procedures.now procedure) }
+{
+    match procedures.get(procedure) {
+        Some(callee) => callee.params.as_slice().len(),
+        None => 0,
+    }
+}
+
+fn arguments_text(args: usize) -> &'static str
+    ensures { result.now ≡ arguments_text args }
+{
+    if args == 1 { " argument" } else { " arguments" }
+}
+
+fn put_count(alloc: Global, out: &mut Vec<u8>, args: usize, params: usize) -> Result<(), AllocError>
+    ensures { OnOk result (out.new.items ≡ out.old.items ++ count_line args params) }
+{
+    put_number(alloc, out, args)?;
+    put(out, arguments_text(args))?;
+    put_numbered(alloc, out, ", asked: ", params)?;
+    put(out, "\n")
+}
+
+// ---- a place
+
+/// Tells where two ways meet, if they do.
+#[rattlefmt::skip]
+fn put_differing(alloc: Global, out: &mut Vec<u8>, lines: &LineNumbers, procedures: &[Procedure], number: usize, procedure: &Procedure, place: usize, typings: &[Typing]) -> Result<(), AllocError>
+    requires { IsProcedure procedure.now }
+    ensures { OnOk result ((text : List ℕ) × ((text ≡ []) ⊎ TellsMeeting lines.now.procedures procedures.now procedure.now number typings.now place text) × (out.new.items ≡ out.old.items ++ text)) }
+{
+    match meeting_at(procedures, procedure, typings, place) {
+        Some(found) => put_meeting(alloc, out, lines, number, &found),
+        None => Ok(()),
+    }
+}
+
+/// A refusal of the verifier a line.
+#[rattlefmt::skip]
+fn put_at(alloc: Global, out: &mut Vec<u8>, lines: &LineNumbers, refused: &Refused, procedure: &Procedure, instr: &Instr, typings: &[Typing]) -> Result<(), AllocError>
+    requires is { IsProcedure procedure.now }
+    requires instr { IsInstr instr.now }
+    requires place { refused.now.place < length procedure.now.code }
+    ensures { OnOk result (AddsReason refused.now.no lines.now.procedures refused.now.program.procedures procedure.now refused.now.procedure refused.now.place instr.now typings.now out.old.items out.new.items) }
+{
+    let procedures = refused.program.procedures();
+    let place = refused.place;
+    match refused.no {
+        VerifyRefusal::UndeclaredValue => put_vain(alloc, out, 1, procedures, procedure, place, instr, typings),
+        VerifyRefusal::WrongValueType => put_vain(alloc, out, 2, procedures, procedure, place, instr, typings),
+        VerifyRefusal::RightNotEmpty => put_vain(alloc, out, 3, procedures, procedure, place, instr, typings),
+        VerifyRefusal::WrongRight => put_vain(alloc, out, 4, procedures, procedure, place, instr, typings),
+        VerifyRefusal::SkipLeavesBlock => put_goal(alloc, out, place + 1 + skip_of(instr.flow()), procedure.code.as_slice().len()),
+        VerifyRefusal::Unmatched => put_unmatched(out, instr.flow()),
+        VerifyRefusal::TypingsDiffer => put_differing(alloc, out, lines, procedures, refused.procedure, procedure, place, typings),
+        VerifyRefusal::TypingChanged => put_changed(alloc, out, procedure.code.as_slice(), place, typings),
+        VerifyRefusal::Unreached => put(out, "no way leads here\n"),
+        VerifyRefusal::RightLeft => put_vain(alloc, out, 10, procedures, procedure, place, instr, typings),
+        VerifyRefusal::MisplacedRet => put_misplaced(out, instr.flow()),
+        VerifyRefusal::UnknownProcedure => put_unknown(alloc, out, named_by(instr).0, last_of(procedures)),
+        VerifyRefusal::ArgumentCount => put_count(alloc, out, named_by(instr).1, param_count(procedures, named_by(instr).0)),
+        VerifyRefusal::ActionInLeaf => put(out, "the procedure is a leaf, asked: control\n"),
+        VerifyRefusal::ScalarWrite => put_vain(alloc, out, 15, procedures, procedure, place, instr, typings),
+        VerifyRefusal::BudgetTooLarge => put(out, "some walk is longer than 1000000000 instructions\n"),
+        VerifyRefusal::MainShape | VerifyRefusal::NoMemory => Ok(()),
+    }
+}
+
+fn put_in(
+    alloc: Global,
+    out: &mut Vec<u8>,
+    lines: &LineNumbers,
+    refused: &Refused,
+    procedure: &Procedure,
+) -> Result<(), AllocError>
+    requires within { refused.now.procedure < length refused.now.program.procedures }
+    requires is { IsProcedure procedure.now }
+    ensures { OnOk result (slice_get refused.now.program.procedures refused.now.procedure ≡ Some procedure.now
+        → AddsTold refused.now.no lines.now.procedures refused.now.program.procedures refused.now.procedure refused.now.place out.old.items out.new.items) }
+{
+    match procedure.code.as_slice().get(refused.place) {
+        Some(instr) => {
+            let typings = refused.typings(alloc, refused.procedure)?;
+            put_at(
+                alloc,
+                out,
+                lines,
+                refused,
+                procedure,
+                instr,
+                typings.as_slice(),
+            )
+        }
+        None => Ok(()),
+    }
+}
+
+/// Adds what is wrong at the place of a refusal, behind the line of the instruction there.
+pub fn put_program_reason(
+    alloc: Global,
+    out: &mut Vec<u8>,
+    lines: &LineNumbers,
+    refused: &Refused,
+) -> Result<(), AllocError>
+    ensures { OnOk result (AddsTold refused.now.no lines.now.procedures refused.now.program.procedures refused.now.procedure refused.now.place out.old.items out.new.items) }
+{
+    match refused.program.procedures().get(refused.procedure) {
+        Some(procedure) => put_in(alloc, out, lines, refused, procedure),
+        None => Ok(()),
+    }
+}
+
+// ---- main
+
+fn unwanted_text(is_val: bool) -> &'static str
+    ensures { result.now ≡ unwanted_text is_val }
+{
+    if is_val {
+        ", asked: no value\n"
+    } else {
+        ", asked: a scalar or a container of scalars\n"
+    }
+}
+
+fn put_param_line(
+    alloc: Global,
+    out: &mut Vec<u8>,
+    number: usize,
+    param: &Param,
+) -> Result<(), AllocError>
+    ensures { OnOk result (out.new.items ≡ out.old.items ++ param_line number param.now) }
+{
+    put_numbered(alloc, out, "parameter ", number)?;
+    put(out, " is ")?;
+    put_param(out, *param)?;
+    put(out, unwanted_text(param.mode.is_val()))
+}
+
+/// Tells the first parameter from one on that main may not have.
+fn put_params_line(
+    alloc: Global,
+    out: &mut Vec<u8>,
+    number: u8,
+    params: &[Param],
+) -> Result<(), AllocError>
+    requires { number + length params.now < 100 }
+    ensures { OnOk result (out.new.items ≡ out.old.items ++ params_line number params.now) }
+{
+    match params {
+        [] => Ok(()),
+        [param, others @ ..] => {
+            if !param.mode.is_val() && param.ty.is_flat() {
+                put_params_line(alloc, out, number + 1, others)
+            } else {
+                put_param_line(alloc, out, number as usize, param)
+            }
+        }
+    }
+}
+
+/// Adds what is wrong with the shape of main.
+pub fn put_main_reason(alloc: Global, out: &mut Vec<u8>, main: &Procedure) -> Result<(), AllocError>
+    requires { length main.now.params < 99 }
+    ensures { OnOk result (out.new.items ≡ out.old.items ++ shape_line main.now.kind main.now.params) }
+{
+    match main.kind {
+        Kind::Leaf => put(out, "main is a leaf, asked: control\n"),
+        Kind::Control => put_params_line(alloc, out, 1, main.params.as_slice()),
+    }
+}

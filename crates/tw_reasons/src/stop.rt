@@ -1,0 +1,230 @@
+//! Where a line stops being a statement.
+
+ghost use Rattle.std.specs.Prelude.{◌≡◌, ◌+◌, ◌≤◌, ℕ, List, IfOk, IfSome, IsUtf8, length};
+ghost use Rattle.tw_words.specs.Words.{AreFirstWords, IsFirstWord, Word as AWord};
+ghost use Rattle.tw_words.specs.reading.Next.{IsAfterGap};
+ghost use Rattle.tw_reasons.specs.Stops.{IsFound, IsStop, begins_character, column_behind};
+
+use crate::breaks::{Break, break_of};
+use crate::due::Due;
+use crate::step::Ahead;
+use crate::words::{Ask, is_name};
+use std::alloc::{AllocError, Global};
+use tw_code::Version;
+use tw_words::{Next, Word, next_word, without_gap};
+
+/// What stands where a line stops.
+#[derive(Clone, Copy)]
+pub(crate) enum Found<'a> {
+    /// The line's end, or a comment.
+    End,
+    /// A word, as it stands in the line.
+    Word(&'a [u8]),
+    /// Something that is no word.
+    Broken(Break),
+}
+
+/// Where a line stops.
+#[derive(Clone, Copy)]
+pub(crate) struct Stop<'a> {
+    /// The number of the word that would stand there, from 1.
+    pub(crate) word: usize,
+    /// Counted in characters, from 1.
+    pub(crate) column: usize,
+    pub(crate) found: Found<'a>,
+    /// What may stand there; nothing but the line's end, where it is none.
+    pub(crate) due: Option<Due>,
+}
+
+fn begins_character(byte: u8) -> bool
+    ensures { result ≡ begins_character byte }
+{
+    byte < 128 || 191 < byte
+}
+
+/// The column behind these bytes.
+fn column_behind(front: &[u8]) -> usize
+    ensures { result ≡ column_behind front.now }
+{
+    let mut column = 1;
+    for byte in front {
+        if begins_character(*byte) {
+            column += 1;
+        }
+    }
+    column
+}
+
+/// The stop behind so many words, where this is found.
+fn stop_with<'a>(
+    line: &'a [u8],
+    here: &'a [u8],
+    before: usize,
+    found: Found<'a>,
+    due: Option<Due>,
+) -> Stop<'a>
+    requires { before ≤ length line.now }
+    ensures word { result.word ≡ before + 1 }
+    ensures stands { (words : List AWord) (after : List ℕ) → AreFirstWords words line.entry.now after → IsAfterGap after here.entry.now
+        → before ≡ length words → IsFound found.entry here.entry.now → IsStop line.entry.now result }
+{
+    let front = &line[..line.len().saturating_sub(here.len())];
+    Stop {
+        word: before + 1,
+        column: column_behind(front),
+        found,
+        due,
+    }
+}
+
+/// The word that is followed by this, as it stands.
+fn word_found<'a>(here: &'a [u8], after: &[u8]) -> Found<'a>
+    ensures { (word : AWord) → IsFirstWord word here.entry.now after.now → IsFound result here.entry.now }
+{
+    Found::Word(&here[..here.len().saturating_sub(after.len())])
+}
+
+/// Where a line stops behind its first word, if it does.
+fn stop_behind<'a>(
+    alloc: Global,
+    ask: Ask,
+    version: Version,
+    line: &'a [u8],
+    first: &[u8],
+    after: &'a [u8],
+) -> Result<Option<Stop<'a>>, AllocError>
+    requires utf8 { IsUtf8 after.now }
+    requires first { (word : AWord) × IsFirstWord word line.now after.now }
+    ensures { IfOk result (λ stop. IfSome stop (IsStop line.entry.now)) }
+{
+    let mut ahead = Ahead::behind_first(first);
+    let mut rest = after;
+    let mut before = 1usize;
+    'words: loop {
+        let here = without_gap(rest);
+        let due = ahead.due(version);
+        match next_word(alloc, here)? {
+            Next::Found(word, after) => match ahead.behind(ask, version, &word) {
+                Some(more) => {
+                    ahead = more;
+                    rest = after;
+                    before += 1;
+                }
+                None => {
+                    let found = word_found(here, after);
+                    return Ok(Some(stop_with(line, here, before, found, due)));
+                }
+            },
+            Next::End => {
+                if ahead.may_end(version) {
+                    return Ok(None);
+                }
+                return Ok(Some(stop_with(line, here, before, Found::End, due)));
+            }
+            Next::Broken => {
+                let found = Found::Broken(break_of(alloc, here)?);
+                return Ok(Some(stop_with(line, here, before, found, due)));
+            }
+        }
+    }
+}
+
+/// What stands first where no gap does.
+fn found_in<'a>(alloc: Global, here: &'a [u8]) -> Result<Found<'a>, AllocError>
+    requires { IsUtf8 here.now }
+    ensures { IfOk result (λ found. IsFound found here.entry.now) }
+{
+    match next_word(alloc, here)? {
+        Next::Found(_, after) => Ok(word_found(here, after)),
+        Next::End => Ok(Found::End),
+        Next::Broken => Ok(Found::Broken(break_of(alloc, here)?)),
+    }
+}
+
+/// Where the bytes of a line stop in its first word.
+fn first_word<'a>(alloc: Global, line: &'a [u8]) -> Result<Stop<'a>, AllocError>
+    requires { IsUtf8 line.now }
+    ensures stands { IfOk result (λ stop. IsStop line.entry.now stop) }
+    ensures word { IfOk result (λ stop. stop.word ≡ 1) }
+{
+    let here = without_gap(line);
+    let found = found_in(alloc, here)?;
+    Ok(stop_with(line, here, 0, found, None))
+}
+
+/// Where a line stops in its first word.
+pub(crate) fn first_stop<'a>(alloc: Global, line: &'a str) -> Result<Stop<'a>, AllocError>
+    ensures stands { IfOk result (λ stop. IsStop line.entry.now stop) }
+    ensures word { IfOk result (λ stop. stop.word ≡ 1) }
+{
+    first_word(alloc, line.as_bytes())
+}
+
+/// Where the bytes of a line that begins as a statement stop being one, if they do.
+fn bytes_stop<'a>(
+    alloc: Global,
+    ask: Ask,
+    version: Version,
+    line: &'a [u8],
+) -> Result<Option<Stop<'a>>, AllocError>
+    requires { IsUtf8 line.now }
+    ensures { IfOk result (λ stop. IfSome stop (IsStop line.entry.now)) }
+{
+    match next_word(alloc, line)? {
+        Next::Found(word, after) => match &word {
+            Word::Bare(first) => stop_behind(alloc, ask, version, line, first, after),
+            Word::Quoted(_) => Ok(None),
+        },
+        Next::End => Ok(None),
+        Next::Broken => Ok(None),
+    }
+}
+
+/// Where a line that begins as a statement stops being one, if it does.
+pub(crate) fn line_stop<'a>(
+    alloc: Global,
+    ask: Ask,
+    version: Version,
+    line: &'a str,
+) -> Result<Option<Stop<'a>>, AllocError>
+    ensures { IfOk result (λ stop. IfSome stop (IsStop line.entry.now)) }
+{
+    bytes_stop(alloc, ask, version, line.as_bytes())
+}
+
+/// The last word of the bytes of a line.
+fn last_word<'a>(alloc: Global, line: &'a [u8]) -> Result<Option<Stop<'a>>, AllocError>
+    requires { IsUtf8 line.now }
+    ensures { IfOk result (λ stop. IfSome stop (IsStop line.entry.now)) }
+{
+    let mut last = None;
+    let mut rest = line;
+    let mut before = 0usize;
+    'words: loop {
+        let here = without_gap(rest);
+        match next_word(alloc, here)? {
+            Next::Found(_, after) => {
+                last = Some(stop_with(line, here, before, word_found(here, after), None));
+                rest = after;
+                before += 1;
+            }
+            Next::End => return Ok(last),
+            Next::Broken => return Ok(last),
+        }
+    }
+}
+
+/// The last word of a line.
+pub(crate) fn last_stop<'a>(alloc: Global, line: &'a str) -> Result<Option<Stop<'a>>, AllocError>
+    ensures { IfOk result (λ stop. IfSome stop (IsStop line.entry.now)) }
+{
+    last_word(alloc, line.as_bytes())
+}
+
+/// Whether a label is too long.
+pub(crate) fn is_long_label(word: &[u8]) -> bool {
+    match word {
+        [name @ .., b':'] => is_name(name) && name.len() > 64,
+        _ => false,
+    }
+}
