@@ -1,5 +1,5 @@
 -- A word spells one input alone, and one input word alone is the first that spells none.
-use Rattle.std.proofs.Common.{◌≡◌, ◌<◌, ◌+◌, ℕ, suc, false, eqb, Bor, List, [], ◌∷◌, ◌++◌, drop, get_or, length, map, take, refl, sym, ap, subst, ◌∙◌, append_assoc, arith, codes, inl, inr}
+use Rattle.std.proofs.Common.{◌≡◌, ◌<◌, ◌+◌, ℕ, suc, false, eqb, Bor, List, [], ◌∷◌, ◌++◌, drop, get_or, length, map, take, Some, None, refl, sym, ap, subst, ◌∙◌, append_assoc, arith, codes, inl, inr}
 use Rattle.std.proofs.lemmas.List.{append_cancel_left, length-map, length-take, map-append, take-append-drop, take-map, take_more}
 use Rattle.std.proofs.lemmas.Bool.{eqb-false}
 use Rattle.tw_types.specs.declared.input.Input.{Input}
@@ -175,14 +175,18 @@ pub never_refused : (asked : Asked) (order : Order) (number : ℕ) → IsAsked a
 never_refused Assembles order number is_asked h = h
 never_refused (Disassembles source listed) order number is_asked h = h
 never_refused (Checks source listed) order number is_asked h = h
-never_refused (Runs source layout most traced words) order number (run, is, layout_is, limit_is, trace_is, spelled) h = none_refused words run.inputs number spelled h
-never_refused (Replays source answer layout words) order number (replay, is, answer_is, layout_is, spelled) h = none_refused words replay.inputs number spelled h
+never_refused (Runs source layout most traced (Some words)) order number (run, is, layout_is, limit_is, trace_is, spelled) h = none_refused words run.inputs number spelled h
+never_refused (Runs source layout most traced None) order number is_asked h = h
+never_refused (Replays source answer layout (Some words)) order number (replay, is, answer_is, layout_is, spelled) h = none_refused words replay.inputs number spelled h
+never_refused (Replays source answer layout None) order number is_asked h = h
 never_refused (Explains explained) order number is_asked h = h
 
 pub one_number : (asked : Asked) (number other : ℕ) → IsRefusedInput asked number → IsRefusedInput asked other → number ≡ other
 one_number Assembles number other h k = absurd h
 one_number (Disassembles source listed) number other h k = absurd h
 one_number (Checks source listed) number other h k = absurd h
-one_number (Runs source layout most traced words) number other h k = one_refused_word words number other h k
-one_number (Replays source answer layout words) number other h k = one_refused_word words number other h k
+one_number (Runs source layout most traced (Some words)) number other h k = one_refused_word words number other h k
+one_number (Runs source layout most traced None) number other h k = absurd h
+one_number (Replays source answer layout (Some words)) number other h k = one_refused_word words number other h k
+one_number (Replays source answer layout None) number other h k = absurd h
 one_number (Explains explained) number other h k = absurd h

@@ -1,6 +1,6 @@
 -- The number of an option, by what the reader of digits answers; and what is read of a flag.
-use Rattle.std.proofs.Common.{arith, ◌≡◌, ◌<◌, ◌∙◌, ◌&&◌, ℕ, Bool, true, false, List, [], ◌∷◌, length, get_or, inl, refl, sym, ap, cond, subst, Option, Some, None, codes, unwrap_or}
-use Rattle.std.specs.Prelude.{nat_le, nat_lt, is_some, Result, Ok, Err}
+use Rattle.std.proofs.Common.{arith, ◌≡◌, ◌<◌, ◌∙◌, ◌&&◌, ℕ, Bool, true, false, List, [], ◌∷◌, length, get_or, inl, refl, sym, ap, cond, subst, Option, Some, None, codes, unwrap_or, inr}
+use Rattle.std.specs.Prelude.{nat_le, nat_lt, is_some, not, Result, Ok, Err}
 use Rattle.std.specs.Char.{digit_value}
 use Rattle.std.specs.Int.{IsInRange}
 use Rattle.std.specs.List.{list_all}
@@ -14,15 +14,22 @@ use Rattle.std.proofs.lemmas.Slice.Eq.{bytes_eq-Decides}
 use Rattle.clap.specs.ValueTests.{is_numeral}
 use Rattle.clap.specs.Words.{Kinds, ReadsOne, Row, Text, first_value, rows_of}
 use Rattle.clap.specs.declared.parser.matches.Found.{Found}
-use Rattle.clap.specs.declared.error.ErrorKind.TheVariants.{DisplayHelp, ValueValidation}
+use Rattle.clap.specs.Kinds.{or_else}
+use Rattle.clap.specs.Walk.{is_empty}
+use Rattle.clap.specs.declared.error.ErrorKind.{ErrorKind}
+use Rattle.clap.specs.declared.error.ErrorKind.TheVariants.{ArgumentConflict, ValueValidation}
 use Rattle.clap.proofs.WalkLemmas.{both, first_value-rows}
 use Rattle.tw_words.specs.Number.{IsRead, SpellsDigits}
 use Rattle.tw_words.specs.declared.numbers.Flaw.{Flaw}
 use Rattle.tw_words.specs.declared.numbers.Flaw.TheVariants.{Form, Limit}
-use Rattle.tw_command.specs.Options.{NumberOption, actor_options, engines, limit, number_in, number_of, number_options, option_faults, servers, workers}
-use Rattle.tw_command.specs.Order.{HasReason}
-use Rattle.tw_command.specs.CommandLine.{Asked}
-use Rattle.tw_command.specs.declared.command.NoOrder.TheVariants.{Refused}
+use Rattle.tw_command.specs.Options.{NumberOption, actor_options, actors_told, engines, inputs, is_given, limit, number_in, number_of, number_options, option_faults, servers, source_told, told, trace, workers}
+use Rattle.tw_command.specs.Order.{HasReason, IsInputReason, IsRequest}
+use Rattle.tw_command.specs.CommandLine.{Asked, IsRefusedInput, Replays, Runs, given_words, input_faults, replay_asked, replay_faults, run_asked, run_faults, words_told}
+use Rattle.tw_command.specs.InputWords.{IsRefusedWord}
+use Rattle.tw_command.specs.reading.Inputs.{HasInputs}
+use Rattle.tw_command.specs.declared.command.Answer.{Answer}
+use Rattle.tw_command.specs.declared.command.NoOrder.{NoOrder}
+use Rattle.tw_command.specs.declared.command.NoOrder.TheVariants.{Explanation, Help, InputWord, NoMemory, Refused}
 
 -- ---- the digits
 
@@ -99,11 +106,70 @@ actors_refused rows e = by (is_some (number_of engines rows)) (is_some (number_o
     by true false w l e = refl
     by false s w l e = refl
 
+has_kind : (kind : ErrorKind) (kinds : Kinds) (asked : Asked) → (IsRequest kind → ⊥) → kinds ≡ kind ∷ [] → HasReason kinds asked Refused
+has_kind kind kinds asked other e = subst (λ (k : Kinds). HasReason k asked Refused) (sym e) (kind, inl refl, other)
+
 pub has_fault : (kinds : Kinds) (asked : Asked) → kinds ≡ ValueValidation ∷ [] → HasReason kinds asked Refused
-has_fault kinds asked e = subst (λ (k : Kinds). HasReason k asked Refused) (sym e) (ValueValidation, inl refl, no_help)
+has_fault kinds asked e = has_kind ValueValidation kinds asked other e
   where
-    no_help : ValueValidation ≡ DisplayHelp → ⊥
-    no_help e = cc
+    other : IsRequest ValueValidation → ⊥
+    other (inl e) = cc
+    other (inr e) = cc
+
+has_conflict : (kinds : Kinds) (asked : Asked) → kinds ≡ ArgumentConflict ∷ [] → HasReason kinds asked Refused
+has_conflict kinds asked e = has_kind ArgumentConflict kinds asked other e
+  where
+    other : IsRequest ArgumentConflict → ⊥
+    other (inl e) = cc
+    other (inr e) = cc
+
+-- ---- the inputs
+
+-- where they are to be read and there are words
+pub both_refused : (rows : List Row) (asked : Asked) → is_given inputs rows ≡ true → not (is_empty (given_words rows)) ≡ true → HasReason (input_faults rows) asked Refused
+both_refused rows asked read given = has_conflict (input_faults rows) asked (rw (read, given) refl)
+
+-- where they are to be read alone
+pub none_given : (rows : List Row) → is_given inputs rows ≡ true → not (is_empty (given_words rows)) ≡ false → (input_faults rows ≡ []) × HasInputs (words_told rows) None
+none_given rows read none = (rw (read, none) refl, rw read tt)
+
+-- where they are words
+pub no_conflict : (rows : List Row) → is_given inputs rows ≡ false → input_faults rows ≡ []
+no_conflict rows other = rw other refl
+
+pub words_are : (rows : List Row) → is_given inputs rows ≡ false → words_told rows ≡ Some (given_words rows)
+words_are rows other = rw other refl
+
+-- why words spell no inputs is why there is no order
+words_refused : (kinds : Kinds) (asked : Asked) (words : List Text) (reason : NoOrder) → kinds ≡ [] → ((number : ℕ) → IsRefusedWord words number → IsRefusedInput asked number) → IsInputReason words reason → HasReason kinds asked reason
+words_refused kinds asked words NoMemory none so h = tt
+words_refused kinds asked words (Help text) none so h = absurd h
+words_refused kinds asked words Refused none so h = absurd h
+words_refused kinds asked words (InputWord number) none so h = (none, so number h)
+words_refused kinds asked words (Explanation text) none so h = absurd h
+
+pub run_words : (rows : List Row) (reason : NoOrder) → is_given inputs rows ≡ false → IsInputReason (given_words rows) reason → HasReason (input_faults rows) (run_asked rows) reason
+run_words rows reason other h =
+    words_refused (input_faults rows) (run_asked rows) (given_words rows) reason (no_conflict rows other)
+    (λ number r. subst (λ (words : Option (List Text)). IsRefusedInput (Runs (source_told rows) (actors_told rows) (told limit rows) (is_given trace rows) words) number) (sym (words_are rows other)) r) h
+
+pub replay_words : (rows : List Row) (answer : Answer) (reason : NoOrder) → is_given inputs rows ≡ false → IsInputReason (given_words rows) reason → HasReason (input_faults rows) (replay_asked answer rows) reason
+replay_words rows answer reason other h =
+    words_refused (input_faults rows) (replay_asked answer rows) (given_words rows) reason (no_conflict rows other)
+    (λ number r. subst (λ (words : Option (List Text)). IsRefusedInput (Replays (source_told rows) answer (actors_told rows) words) number) (sym (words_are rows other)) r) h
+
+-- what is wrong with an option is wrong with the command, and else what is wrong with the inputs
+pub run_refused : (rows : List Row) → option_faults number_options rows ≡ ValueValidation ∷ [] → run_faults rows ≡ ValueValidation ∷ []
+run_refused rows e = ap (λ (k : Kinds). or_else k (input_faults rows)) e
+
+pub replay_refused : (rows : List Row) → option_faults actor_options rows ≡ ValueValidation ∷ [] → replay_faults rows ≡ ValueValidation ∷ []
+replay_refused rows e = ap (λ (k : Kinds). or_else k (input_faults rows)) e
+
+pub run_behind : (rows : List Row) → option_faults number_options rows ≡ [] → run_faults rows ≡ input_faults rows
+run_behind rows e = ap (λ (k : Kinds). or_else k (input_faults rows)) e
+
+pub replay_behind : (rows : List Row) → option_faults actor_options rows ≡ [] → replay_faults rows ≡ input_faults rows
+replay_behind rows e = ap (λ (k : Kinds). or_else k (input_faults rows)) e
 
 -- ---- a flag
 

@@ -57,8 +57,9 @@ refused a words e n asked line kinds reason =
 
     go : (n : NoOrder) → IsReason (kind_of e) n → HasKind (fault_of a words) e → HasReason (word_faults words) asked n
     go NoMemory r h = tt
-    go (Help text) r (inl h) = cc
-    go (Help text) r (inr h) = subst (λ (k : ErrorKind). IsAmong k (word_faults words)) r (among h)
+    go (Help text) (inl r) (inl h) = cc
+    go (Help text) (inr r) (inl h) = cc
+    go (Help text) r (inr h) = (kind_of e, among h, r)
     go Refused r (inl h) = absurd (r.1 h)
     go Refused r (inr h) = (kind_of e, among h, r.0)
     go (InputWord number) r h = absurd r

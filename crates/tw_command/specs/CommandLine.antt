@@ -1,21 +1,27 @@
 -- The command line: what clap is told of it, and what the words then ask for.
-use Rattle.std.specs.Prelude.{◌≡◌, ◌++◌, ℕ, Bool, true, List, [], ◌∷◌, Option, Some, None, codes, bytes_eq, fold, if◌then◌else◌, map, unwrap_or}
+use Rattle.std.specs.Prelude.{◌≡◌, ◌++◌, ◌&&◌, ℕ, Bool, true, not, List, [], ◌∷◌, Option, Some, None, codes, bytes_eq, fold, if◌then◌else◌, map, unwrap_or}
 use Rattle.clap.specs.Kinds.{or_else}
 use Rattle.clap.specs.Lexer.{usize_max}
+use Rattle.clap.specs.Walk.{is_empty}
 use Rattle.clap.specs.Words.{App, Kinds, Row, Rule, Text, all_of, fault_of, new_app, new_rule, subcommand_of, with_rule, with_subcommand}
+use Rattle.clap.specs.declared.error.ErrorKind.TheVariants.{ArgumentConflict}
+use Rattle.tw_types.specs.declared.input.Input.{Input}
 use Rattle.tw_types.specs.Layout.{ActorCounts}
 use Rattle.tw_command.specs.InputWords.{AreSpelled, IsRefusedWord}
-use Rattle.tw_command.specs.Options.{NumberOption, actor_options, actors_told, flag_rule, is_given, limit, number_options, option_faults, option_rule, places, places_told, source_told, text, told, trace}
+use Rattle.tw_command.specs.Options.{NumberOption, actor_options, actors_told, flag_rule, inputs, is_given, limit, number_options, option_faults, option_rule, places, places_told, source_told, text, told, trace}
 use Rattle.tw_command.specs.Explanations.{IsExplanation, number_faults, number_rule, number_word}
 use Rattle.tw_command.specs.declared.command.Answer.{Answer}
 use Rattle.tw_command.specs.declared.command.Answer.TheVariants.{Report, Picture}
 use Rattle.tw_command.specs.declared.command.Order.{Order}
-use Rattle.tw_command.specs.declared.command.Order.TheVariants.{Assemble, Program, Replay}
+use Rattle.tw_command.specs.declared.command.InputsOrder.TheVariants.{ToReplay, ToRun}
+use Rattle.tw_command.specs.declared.command.Order.TheVariants.{Assemble, Inputs, Program, Replay}
 use Rattle.tw_command.specs.declared.command.Places.{Places}
 use Rattle.tw_command.specs.declared.command.Places.TheVariants.{Hidden}
 use Rattle.tw_command.specs.declared.command.ProgramOrder.TheVariants.{Disassemble, Verified}
 use Rattle.tw_command.specs.declared.command.VerifiedOrder.TheVariants.{Check, Run}
+use Rattle.tw_command.specs.declared.command.ReplayOptions.{ReplayOptions}
 use Rattle.tw_command.specs.declared.command.ReplayOrder.{ReplayOrder}
+use Rattle.tw_command.specs.declared.command.RunOptions.{RunOptions}
 use Rattle.tw_command.specs.declared.command.RunOrder.{RunOrder}
 use Rattle.tw_command.specs.declared.command.Source.{Source}
 use Rattle.tw_command.specs.declared.command.Source.TheVariants.{Hex}
@@ -41,19 +47,19 @@ options_line name options flags =
     with_rule (fold with_rule (new_app name) (map (λ o. option_rule o.name) options ++ map flag_rule flags)) input_rule
 
 abbrev pub run_line : App
-run_line = options_line (codes "run") number_options (trace ∷ text ∷ [])
+run_line = options_line (codes "run") number_options (trace ∷ text ∷ inputs ∷ [])
 
 -- a command that is given a history
 abbrev pub replay_line : Text → App
-replay_line name = options_line name actor_options (text ∷ [])
+replay_line name = options_line name actor_options (text ∷ inputs ∷ [])
 
--- the words come without the program's own name, and a command must be among them
+-- the words come without the program's own name, and a command must be among them, or what asks for help or the version
 abbrev pub bare_line : App
 bare_line = record (new_app (codes "tw")) {
   top = record (new_app (codes "tw")).top {
     no_binary_name = true;
-    disable_help_subcommand = true;
     subcommand_required = true;
+    has_version = true;
   };
 }
 
@@ -69,24 +75,28 @@ command_line = fold (λ line command. with_subcommand line command.top) bare_lin
 abbrev pub given_words : List Row → List Text
 given_words rows = unwrap_or (all_of (codes "input") rows) []
 
+-- these, where they don't stand in what is read
+abbrev pub words_told : List Row → Option (List Text)
+words_told rows = if is_given inputs rows then None else Some (given_words rows)
+
 -- the command that was named, and how the program is written that it reads; `disasm` and `check` with whether places are
--- listed; `run` with its actors, the most events of the run, whether its history is written, and the input words; `replay` or
--- `picture`, by what is written, with its actors and the input words; `explain` with its number
+-- listed; `run` with its actors, the most events of the run, whether its history is written, and the input words, if they
+-- don't stand in what is read; `replay` or `picture`, by what is written, with its actors and the same; `explain` with its number
 pub data Asked : Type 0 where
   Assembles : Asked
   Disassembles : Source → Places → Asked
   Checks : Source → Places → Asked
-  Runs : Source → ActorCounts → ℕ → Bool → List Text → Asked
-  Replays : Source → Answer → ActorCounts → List Text → Asked
+  Runs : Source → ActorCounts → ℕ → Bool → Option (List Text) → Asked
+  Replays : Source → Answer → ActorCounts → Option (List Text) → Asked
   Explains : Text → Asked
 
 -- `run`, by what clap found behind it
 abbrev pub run_asked : List Row → Asked
-run_asked rows = Runs (source_told rows) (actors_told rows) (told limit rows) (is_given trace rows) (given_words rows)
+run_asked rows = Runs (source_told rows) (actors_told rows) (told limit rows) (is_given trace rows) (words_told rows)
 
 -- `replay` or `picture`, by what clap found behind it
 abbrev pub replay_asked : Answer → List Row → Asked
-replay_asked answer rows = Replays (source_told rows) answer (actors_told rows) (given_words rows)
+replay_asked answer rows = Replays (source_told rows) answer (actors_told rows) (words_told rows)
 
 abbrev pub asked_of : Option (Text × List Row) → Asked
 asked_of None = Checks Hex Hidden
@@ -103,16 +113,27 @@ asked_of (Some named) =
 abbrev pub asked_by_words : List Text → Asked
 asked_by_words words = asked_of (subcommand_of command_line words)
 
--- the order that is asked for: each input word spells its input
+-- how a program is run, or a history replayed, with these inputs
+abbrev pub run_with : RunOptions → List Input → RunOrder
+run_with options given = record { layout = options.layout; limit = options.limit; trace = options.trace; inputs = given }
+
+abbrev pub replay_with : ReplayOptions → List Input → ReplayOrder
+replay_with options given = record { answer = options.answer; layout = options.layout; inputs = given }
+
+-- the order that is asked for: each input word spells its input, or the inputs are to be read
 abbrev pub IsAsked : Asked → Order → Type 0
 IsAsked Assembles order = order ≡ Assemble
 IsAsked (Disassembles source listed) order = order ≡ Program source (Disassemble listed)
 IsAsked (Checks source listed) order = order ≡ Program source (Verified (Check listed))
-IsAsked (Runs source layout most traced words) order =
+IsAsked (Runs source layout most traced (Some words)) order =
     (run : RunOrder) × (order ≡ Program source (Verified (Run run)))
     × (run.layout ≡ layout) × (run.limit ≡ most) × (run.trace ≡ traced) × AreSpelled run.inputs words
-IsAsked (Replays source answer layout words) order =
+IsAsked (Runs source layout most traced None) order =
+    (run : RunOptions) × (order ≡ Inputs source (ToRun run)) × (run.layout ≡ layout) × (run.limit ≡ most) × (run.trace ≡ traced)
+IsAsked (Replays source answer layout (Some words)) order =
     (replay : ReplayOrder) × (order ≡ Replay source replay) × (replay.answer ≡ answer) × (replay.layout ≡ layout) × AreSpelled replay.inputs words
+IsAsked (Replays source answer layout None) order =
+    (replay : ReplayOptions) × (order ≡ Inputs source (ToReplay replay)) × (replay.answer ≡ answer) × (replay.layout ≡ layout)
 IsAsked (Explains number) order = ⊥
 
 -- or the word of this number, counted from 1, is the first that spells no input
@@ -120,8 +141,10 @@ abbrev pub IsRefusedInput : Asked → ℕ → Type 0
 IsRefusedInput Assembles number = ⊥
 IsRefusedInput (Disassembles source listed) number = ⊥
 IsRefusedInput (Checks source listed) number = ⊥
-IsRefusedInput (Runs source layout most traced words) number = IsRefusedWord words number
-IsRefusedInput (Replays source answer layout words) number = IsRefusedWord words number
+IsRefusedInput (Runs source layout most traced (Some words)) number = IsRefusedWord words number
+IsRefusedInput (Runs source layout most traced None) number = ⊥
+IsRefusedInput (Replays source answer layout (Some words)) number = IsRefusedWord words number
+IsRefusedInput (Replays source answer layout None) number = ⊥
 IsRefusedInput (Explains other) number = ⊥
 
 -- or a number is to be explained, and this is its explanation
@@ -135,13 +158,24 @@ IsExplained (Explains number) explanation = IsExplanation number explanation
 
 -- ---- what refuses the words
 
+-- where input words are given, and are to be read besides
+abbrev pub input_faults : List Row → Kinds
+input_faults rows = if is_given inputs rows && not (is_empty (given_words rows)) then ArgumentConflict ∷ [] else []
+
+-- of `run`, and of `replay` and `picture`
+abbrev pub run_faults : List Row → Kinds
+run_faults rows = or_else (option_faults number_options rows) (input_faults rows)
+
+abbrev pub replay_faults : List Row → Kinds
+replay_faults rows = or_else (option_faults actor_options rows) (input_faults rows)
+
 -- of the options, or of the number behind `explain`
 abbrev pub faults_behind : Option (Text × List Row) → Kinds
 faults_behind None = []
 faults_behind (Some named) =
-    if bytes_eq named.0 (codes "run") then option_faults number_options named.1 else
-    if bytes_eq named.0 (codes "replay") then option_faults actor_options named.1 else
-    if bytes_eq named.0 (codes "picture") then option_faults actor_options named.1 else
+    if bytes_eq named.0 (codes "run") then run_faults named.1 else
+    if bytes_eq named.0 (codes "replay") then replay_faults named.1 else
+    if bytes_eq named.0 (codes "picture") then replay_faults named.1 else
     if bytes_eq named.0 (codes "explain") then number_faults (number_word named.1) else
     []
 

@@ -52,6 +52,10 @@ text = codes "text"
 abbrev pub places : Text
 places = codes "places"
 
+-- the flag of `run`, `replay` and `picture`: the inputs stand in what is read
+abbrev pub inputs : Text
+inputs = codes "inputs"
+
 -- what clap is told of an option of this name
 abbrev pub option_rule : Text → Rule
 option_rule name = record (new_rule name) { long = Some name }

@@ -1,16 +1,18 @@
 //! The command line.
 
-ghost use Rattle.std.specs.Prelude.{◌≡◌, false, [], ◌∷◌, map, IfOk, IfErr, IfSome, MatchOption, string_bytes};
+ghost use Rattle.std.specs.Prelude.{◌≡◌, false, not, [], ◌∷◌, map, IfOk, IfErr, IfSome, MatchOption, string_bytes};
+ghost use Rattle.clap.specs.Walk.{is_empty};
 ghost use Rattle.clap.specs.Words.{app_of, found_of, kind_of, rows_of, rule_of, subcommand_rows_of};
 ghost use Rattle.clap.specs.declared.Command.TheViews.{out-Command};
 ghost use Rattle.clap.specs.declared.error.ErrorKind.TheVariants.{ValueValidation};
-ghost use Rattle.tw_command.specs.CommandLine.{Explains, IsAsked, asked_by_words, asked_of, faults_behind, given_words};
-ghost use Rattle.tw_command.specs.CommandLine.{bare_line, command_line, explain_line, input_rule, plain_line, program_line, replay_asked, replay_line, run_asked, run_line, word_faults};
-ghost use Rattle.tw_command.specs.declared.command.Order.TheVariants.{Program, Replay};
+ghost use Rattle.tw_command.specs.CommandLine.{Explains, IsAsked, asked_by_words, asked_of, faults_behind, given_words, input_faults, replay_faults, run_faults, words_told};
+ghost use Rattle.tw_command.specs.CommandLine.{bare_line, command_line, explain_line, input_rule, plain_line, program_line, replay_asked, replay_line, replay_with, run_asked, run_line, run_with, word_faults};
+ghost use Rattle.tw_command.specs.declared.command.Answer.{Answer as Answers};
+ghost use Rattle.tw_command.specs.declared.command.Order.TheVariants.{Program};
 ghost use Rattle.tw_command.specs.declared.command.ProgramOrder.TheVariants.{Verified};
-ghost use Rattle.tw_command.specs.declared.command.VerifiedOrder.TheVariants.{Run};
 ghost use Rattle.tw_command.specs.InputWords.{AreSpelled};
-ghost use Rattle.tw_command.specs.Options.{HasActors, actor_options, flag_rule, is_given, limit, number_of, number_options, option_faults, option_rule, places, places_told, source_told, text};
+ghost use Rattle.tw_command.specs.reading.Inputs.{HasInputs};
+ghost use Rattle.tw_command.specs.Options.{HasActors, actor_options, flag_rule, inputs, is_given, limit, number_of, option_faults, option_rule, places, places_told, source_told, text};
 ghost use Rattle.tw_command.specs.Explanations.{number_faults, number_rule, number_word};
 ghost use Rattle.std.specs.Int.{IsInRange};
 ghost use Rattle.tw_command.specs.Order.{HasReason, IsInputReason, IsReason};
@@ -18,9 +20,9 @@ ghost use Rattle.tw_command.specs.declared.command.NoOrder.TheVariants.{NoMemory
 
 use crate::explanations::explained;
 use crate::help::{
-    ABOUT, ASM, CHECK, CommandHelp, DISASM, ENGINES_HELP, EXPLAIN, INPUT_HELP, LIMIT_HELP,
-    NUMBER_HELP, PICTURE, PLACES_HELP, REPLAY, RUN, SERVERS_HELP, TEXT_HELP, TRACE_HELP,
-    WORKERS_HELP,
+    ABOUT, ASM, CHECK, CommandHelp, DISASM, ENGINES_HELP, EXPLAIN, INPUT_HELP, INPUTS_HELP,
+    LIMIT_HELP, NUMBER_HELP, PICTURE, PLACES_HELP, REPLAY, RUN, SERVERS_HELP, TEXT_HELP,
+    TRACE_HELP, VERSION, WORKERS_HELP,
 };
 use crate::input_words::input_of;
 use crate::limit::EventLimit;
@@ -97,6 +99,58 @@ pub struct ReplayOrder {
     pub inputs: Items<Input>,
 }
 
+/// How a program is run whose inputs are to be read.
+#[derive(Clone, Copy)]
+pub struct RunOptions {
+    /// The actors.
+    pub layout: Layout,
+    /// How many events may be made.
+    pub limit: EventLimit,
+    /// Whether the history is written before the report.
+    pub trace: bool,
+}
+
+/// How a history is replayed whose program's inputs are to be read.
+#[derive(Clone, Copy)]
+pub struct ReplayOptions {
+    /// What is written of it.
+    pub answer: Answer,
+    /// The actors.
+    pub layout: Layout,
+}
+
+impl RunOptions {
+    pub fn with_inputs(self, inputs: Items<Input>) -> RunOrder
+        ensures { result ≡ run_with self inputs }
+    {
+        RunOrder {
+            layout: self.layout,
+            limit: self.limit,
+            trace: self.trace,
+            inputs,
+        }
+    }
+}
+
+impl ReplayOptions {
+    pub fn with_inputs(self, inputs: Items<Input>) -> ReplayOrder
+        ensures { result ≡ replay_with self inputs }
+    {
+        ReplayOrder {
+            answer: self.answer,
+            layout: self.layout,
+            inputs,
+        }
+    }
+}
+
+/// What is asked for of a program behind which its inputs stand.
+#[derive(Clone, Copy)]
+pub enum InputsOrder {
+    ToRun(RunOptions),
+    ToReplay(ReplayOptions),
+}
+
 /// What the words ask for.
 #[derive(Drop)]
 pub enum Order {
@@ -106,14 +160,16 @@ pub enum Order {
     Program(Source, ProgramOrder),
     /// Replay the history that is read behind a program, which is written so.
     Replay(Source, ReplayOrder),
+    /// Do this with the program that is read, which is written so, and with the inputs that are read behind it.
+    Inputs(Source, InputsOrder),
 }
 
 /// Why the words give no order.
 #[derive(Drop)]
 pub enum NoOrder {
-    /// They ask for this help.
+    /// They ask for this help, or for the version.
     Help(String),
-    /// No command of `tw` takes them, or an option has no number in its range.
+    /// No command of `tw` takes them, an option has no number in its range, or inputs are given in two ways.
     Refused,
     /// The input word of this number, counted from 1, is the first that spells no input; all else is taken.
     InputWord(usize),
@@ -180,6 +236,14 @@ fn places_arg<'a>(alloc: Global) -> Arg<'a>
     flag_arg(alloc, "places", PLACES_HELP)
 }
 
+/// The option that says that the inputs are to be read.
+fn inputs_arg<'a>(alloc: Global) -> Arg<'a>
+    ensures rule { rule_of result ≡ flag_rule inputs }
+    ensures local { result.global ≡ false }
+{
+    flag_arg(alloc, "inputs", INPUTS_HELP)
+}
+
 /// A command that reads a program and writes something of it.
 fn program_command<'a>(
     alloc: Global,
@@ -230,7 +294,8 @@ fn run_command<'a>(alloc: Global) -> Result<Command<'a>, AllocError>
     let limit = workers.arg(option_arg(alloc, "limit", LIMIT_HELP))?;
     let trace = limit.arg(flag_arg(alloc, "trace", TRACE_HELP))?;
     let text = trace.arg(text_arg(alloc))?;
-    let whole = text.arg(input_arg(alloc))?;
+    let inputs = text.arg(inputs_arg(alloc))?;
+    let whole = inputs.arg(input_arg(alloc))?;
     Ok(whole)
 }
 
@@ -248,7 +313,8 @@ fn replay_command<'a>(
     let servers = engines.arg(option_arg(alloc, "servers", SERVERS_HELP))?;
     let workers = servers.arg(option_arg(alloc, "workers", WORKERS_HELP))?;
     let text = workers.arg(text_arg(alloc))?;
-    let whole = text.arg(input_arg(alloc))?;
+    let inputs = text.arg(inputs_arg(alloc))?;
+    let whole = inputs.arg(input_arg(alloc))?;
     Ok(whole)
 }
 
@@ -258,8 +324,8 @@ fn bare_command<'a>(alloc: Global) -> Result<Command<'a>, AllocError>
 {
     let bare = Command::new(alloc, "tw")
         .about(ABOUT)
+        .version(VERSION)
         .no_binary_name(true)
-        .disable_help_subcommand(true)
         .subcommand_required(true);
     let named = bare.bin_name("tw")?;
     Ok(named)
@@ -289,7 +355,7 @@ fn reason_of(alloc: Global, error: &Error) -> NoOrder
     ensures { IsReason (kind_of error.now) result }
 {
     match error.kind() {
-        ErrorKind::DisplayHelp => match error.to_string(alloc) {
+        ErrorKind::DisplayHelp | ErrorKind::DisplayVersion => match error.to_string(alloc) {
             Ok(text) => NoOrder::Help(text),
             Err(_) => NoOrder::NoMemory,
         },
@@ -360,8 +426,8 @@ fn places_given(matches: &ArgMatches<'_>) -> Places
     }
 }
 
-/// The inputs that words spell.
-fn inputs_of(alloc: Global, words: &[&str]) -> Result<Items<Input>, NoOrder>
+/// The inputs that words spell, one each; or `NoOrder::InputWord`, or want of memory.
+pub fn inputs_of(alloc: Global, words: &[&str]) -> Result<Items<Input>, NoOrder>
     ensures spelled { IfOk result (λ inputs. AreSpelled inputs (map (λ word. word.now) words.now)) }
     ensures refused { IfErr result (IsInputReason (map (λ word. word.now) words.now)) }
 {
@@ -376,7 +442,7 @@ fn inputs_of(alloc: Global, words: &[&str]) -> Result<Items<Input>, NoOrder>
 }
 
 /// The inputs that the words behind `run`, `replay` or `picture` spell.
-fn inputs_given(alloc: Global, matches: &ArgMatches<'_>) -> Result<Items<Input>, NoOrder>
+fn inputs_in_words(alloc: Global, matches: &ArgMatches<'_>) -> Result<Items<Input>, NoOrder>
     ensures spelled { IfOk result (λ inputs. AreSpelled inputs (given_words (rows_of (found_of matches.now)))) }
     ensures refused { IfErr result (IsInputReason (given_words (rows_of (found_of matches.now)))) }
 {
@@ -386,12 +452,39 @@ fn inputs_given(alloc: Global, matches: &ArgMatches<'_>) -> Result<Items<Input>,
     }
 }
 
+/// Whether there are such words.
+fn has_words(matches: &ArgMatches<'_>) -> bool
+    ensures { result ≡ not (is_empty (given_words (rows_of (found_of matches.now)))) }
+{
+    match matches.get_strs("input") {
+        Some(words) => !words.is_empty(),
+        None => false,
+    }
+}
+
+/// The inputs, where they don't stand in what is read.
+fn inputs_given(alloc: Global, matches: &ArgMatches<'_>) -> Result<Option<Items<Input>>, NoOrder>
+    ensures taken { IfOk result (λ given. (input_faults (rows_of (found_of matches.now)) ≡ [])
+        × HasInputs (words_told (rows_of (found_of matches.now))) given) }
+    ensures run { IfErr result (HasReason (input_faults (rows_of (found_of matches.now))) (run_asked (rows_of (found_of matches.now)))) }
+    ensures replay { (answer : Answers) → IfErr result
+        (HasReason (input_faults (rows_of (found_of matches.now))) (replay_asked answer (rows_of (found_of matches.now)))) }
+{
+    if !flag_given(matches, "inputs") {
+        return Ok(Some(inputs_in_words(alloc, matches)?));
+    }
+    if has_words(matches) {
+        return Err(NoOrder::Refused);
+    }
+    Ok(None)
+}
+
 /// The order to run, by what was found behind `run`.
-fn run_order(alloc: Global, matches: &ArgMatches<'_>) -> Result<RunOrder, NoOrder>
-    ensures taken { IfOk result (λ order. (option_faults number_options (rows_of (found_of matches.now)) ≡ [])
-        × IsAsked (run_asked (rows_of (found_of matches.now))) (Program (source_told (rows_of (found_of matches.now))) (Verified (Run order)))) }
+fn run_order(alloc: Global, matches: &ArgMatches<'_>) -> Result<Order, NoOrder>
+    ensures taken { IfOk result (λ order. (run_faults (rows_of (found_of matches.now)) ≡ [])
+        × IsAsked (run_asked (rows_of (found_of matches.now))) order) }
     ensures refused { IfErr result
-        (HasReason (option_faults number_options (rows_of (found_of matches.now))) (run_asked (rows_of (found_of matches.now)))) }
+        (HasReason (run_faults (rows_of (found_of matches.now))) (run_asked (rows_of (found_of matches.now)))) }
 {
     let Some(layout) = layout_given(matches) else {
         return Err(NoOrder::Refused);
@@ -399,35 +492,35 @@ fn run_order(alloc: Global, matches: &ArgMatches<'_>) -> Result<RunOrder, NoOrde
     let Some(limit) = limit_given(matches) else {
         return Err(NoOrder::Refused);
     };
-    let inputs = inputs_given(alloc, matches)?;
-    Ok(RunOrder {
+    let options = RunOptions {
         layout,
         limit,
         trace: flag_given(matches, "trace"),
-        inputs,
-    })
+    };
+    match inputs_given(alloc, matches)? {
+        Some(inputs) => Ok(Order::Program(
+            source_given(matches),
+            ProgramOrder::Verified(VerifiedOrder::Run(options.with_inputs(inputs))),
+        )),
+        None => Ok(Order::Inputs(source_given(matches), InputsOrder::ToRun(options))),
+    }
 }
 
 /// The order to replay and write this, by what was found behind the command.
-fn replay_order(
-    alloc: Global,
-    answer: Answer,
-    matches: &ArgMatches<'_>,
-) -> Result<ReplayOrder, NoOrder>
-    ensures taken { IfOk result (λ order. (option_faults actor_options (rows_of (found_of matches.now)) ≡ [])
-        × IsAsked (replay_asked answer (rows_of (found_of matches.now))) (Replay (source_told (rows_of (found_of matches.now))) order)) }
+fn replay_order(alloc: Global, answer: Answer, matches: &ArgMatches<'_>) -> Result<Order, NoOrder>
+    ensures taken { IfOk result (λ order. (replay_faults (rows_of (found_of matches.now)) ≡ [])
+        × IsAsked (replay_asked answer (rows_of (found_of matches.now))) order) }
     ensures refused { IfErr result
-        (HasReason (option_faults actor_options (rows_of (found_of matches.now))) (replay_asked answer (rows_of (found_of matches.now)))) }
+        (HasReason (replay_faults (rows_of (found_of matches.now))) (replay_asked answer (rows_of (found_of matches.now)))) }
 {
     let Some(layout) = layout_given(matches) else {
         return Err(NoOrder::Refused);
     };
-    let inputs = inputs_given(alloc, matches)?;
-    Ok(ReplayOrder {
-        answer,
-        layout,
-        inputs,
-    })
+    let options = ReplayOptions { answer, layout };
+    match inputs_given(alloc, matches)? {
+        Some(inputs) => Ok(Order::Replay(source_given(matches), options.with_inputs(inputs))),
+        None => Ok(Order::Inputs(source_given(matches), InputsOrder::ToReplay(options))),
+    }
 }
 
 fn explanation_of(alloc: Global, word: &str) -> NoOrder
@@ -466,17 +559,6 @@ fn verified_order(source: Source, order: VerifiedOrder) -> Order
     Order::Program(source, ProgramOrder::Verified(order))
 }
 
-/// The order to replay and write this, with the program's source.
-fn replayed_order(alloc: Global, answer: Answer, matches: &ArgMatches<'_>) -> Result<Order, NoOrder>
-    ensures taken { IfOk result (λ order. (option_faults actor_options (rows_of (found_of matches.now)) ≡ [])
-        × IsAsked (replay_asked answer (rows_of (found_of matches.now))) order) }
-    ensures refused { IfErr result
-        (HasReason (option_faults actor_options (rows_of (found_of matches.now))) (replay_asked answer (rows_of (found_of matches.now)))) }
-{
-    let order = replay_order(alloc, answer, matches)?;
-    Ok(Order::Replay(source_given(matches), order))
-}
-
 fn order_of(alloc: Global, matches: &ArgMatches<'_>) -> Result<Order, NoOrder>
     ensures taken { IfOk result (λ order. (faults_behind (subcommand_rows_of matches.now) ≡ [])
         × IsAsked (asked_of (subcommand_rows_of matches.now)) order) }
@@ -484,12 +566,9 @@ fn order_of(alloc: Global, matches: &ArgMatches<'_>) -> Result<Order, NoOrder>
         (HasReason (faults_behind (subcommand_rows_of matches.now)) (asked_of (subcommand_rows_of matches.now))) }
 {
     match matches.subcommand() {
-        Some(("run", given)) => {
-            let order = run_order(alloc, given)?;
-            Ok(verified_order(source_given(given), VerifiedOrder::Run(order)))
-        }
-        Some(("replay", given)) => replayed_order(alloc, Answer::Report, given),
-        Some(("picture", given)) => replayed_order(alloc, Answer::Picture, given),
+        Some(("run", given)) => run_order(alloc, given),
+        Some(("replay", given)) => replay_order(alloc, Answer::Report, given),
+        Some(("picture", given)) => replay_order(alloc, Answer::Picture, given),
         Some(("asm", _)) => Ok(Order::Assemble),
         Some(("disasm", given)) => Ok(Order::Program(
             source_given(given),

@@ -8,6 +8,9 @@ pub(crate) struct CommandHelp<'a> {
     pub whole: &'a str,
 }
 
+/// The program's version, which the newest section of CHANGELOG.md names.
+pub(crate) const VERSION: &str = "0.11";
+
 pub(crate) const ABOUT: &str = "Assembles, checks and runs dataflow programs of the task host.";
 
 pub(crate) const ASM: CommandHelp<'static> = CommandHelp {
@@ -30,8 +33,9 @@ Exit status: 0 written, 1 refused, 2 command line refused, 5 memory ran out, 7 a
 pub(crate) const CHECK: CommandHelp<'static> = CommandHelp {
     about: "Verifies a program and tells its budgets",
     whole: "The program is read from standard input as hex text: two digits a byte; spaces, tabs and line ends are skipped.
-With --text it is read as assembly text, as `tw asm` reads it; a refusal of the program then tells the line of the text
-that the refused place comes from, as `at line 17: STORE d0 v0`.
+With --text it is read as assembly text, as `tw asm` reads it; behind a refusal then stand the line of the text that is
+refused, as `at line 17: STORE d0 v0`, and why: the word, what was expected and what stood there, or the register, what it
+holds and what was asked.
 Where it is accepted, a line for each procedure tells how many instructions a task of it does at most, and a last
 line how many engines and workers its targets need.
 With --places the program is listed before these lines as `tw disasm --places` lists it, and behind each instruction
@@ -42,13 +46,16 @@ Exit status: 0 accepted, 1 refused, 2 command line refused, 5 memory ran out, 7 
 pub(crate) const RUN: CommandHelp<'static> = CommandHelp {
     about: "Runs a program and reports its outputs",
     whole: "The program is read from standard input as hex text: two digits a byte; spaces, tabs and line ends are skipped.
-With --text it is read as assembly text, as `tw asm` reads it; a refusal of the program then tells the line of the text
-that the refused place comes from, as `at line 17: STORE d0 v0`.
+With --text it is read as assembly text, as `tw asm` reads it; behind a refusal then stand the line of the text that is
+refused, as `at line 17: STORE d0 v0`, and why: the word, what was expected and what stood there, or the register, what it
+holds and what was asked.
 Its inputs are the words behind the command, one word each, in the order of main's parameters. Examples: int:-7,
 text:abc, ints:1=7,5=-3, texts:1=\"abc\",2=\"\", tints:\"a\"=1 and ttexts:\"a\"=\"b\"; the subscripts of a container rise, and it
 may have no member.
 Between quotes \\\", \\\\, \\n and \\x with two hex digits are read.
-Options stand before, behind or between the inputs. --trace and --text take no value; the others take a number in
+With --inputs they stand in what is read: behind the program a line `inputs`, then the same words, one a line, up to a
+line `end` or the end. A word is all of its line; empty lines are skipped. No input is a word behind the command then.
+Options stand before, behind or between the inputs. --trace, --text and --inputs take no value; the others take a number in
 decimal digits.
 The report has a line for each output, with a line for each member behind a container's, and then how the run ended.
 With --trace the history stands before the report: a line `events`, a line for each event, in their order, and a line
@@ -64,7 +71,8 @@ pub(crate) const REPLAY: CommandHelp<'static> = CommandHelp {
 What is read from standard input is a program as hex text, or with --text as assembly text, a line `events`, a line for
 each event, and a line `end` or the end. Without a line `events` there are no events; what stands behind `end` isn't
 looked at. A history is what `tw run --trace` writes, or any other: take w0, local w0 3, call w0, end w0, ask e0 1 0, deliver s0 2 1 0, release e0 1.
-The program isn't verified first. Its inputs are words behind the command, as those of `tw run`.
+The program isn't verified first. Its inputs are words behind the command, as those of `tw run`, or with --inputs lines
+behind the program, as there, that stand before the line `events`.
 The report ends with a line that tells how the run ended, or with `running`.
 Exit status: 0 quiet or still running, 1 refused or an event that isn't enabled, 2 command line or input word refused,
 3 stuck, 5 memory ran out, 6 trap, 7 a read or write failed.",
@@ -102,6 +110,9 @@ pub(crate) const TRACE_HELP: &str =
 
 pub(crate) const INPUT_HELP: &str =
     "An input: int:, text:, ints:, texts:, tints: or ttexts:, and its value";
+
+pub(crate) const INPUTS_HELP: &str =
+    "Read the inputs: they stand behind the program and a line `inputs`, one a line";
 
 pub(crate) const TEXT_HELP: &str = "Read the program as assembly text, and not as hex text";
 

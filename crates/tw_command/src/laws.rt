@@ -1,7 +1,7 @@
 //! What the reading of words says at some words.
 
-ghost use Rattle.std.specs.Prelude.{◌≡◌, ℕ, true, false, List, [], ◌∷◌, codes};
-ghost use Rattle.clap.specs.declared.error.ErrorKind.TheVariants.{ArgumentConflict, DisplayHelp, InvalidSubcommand};
+ghost use Rattle.std.specs.Prelude.{◌≡◌, ℕ, true, false, List, [], ◌∷◌, Some, None, codes};
+ghost use Rattle.clap.specs.declared.error.ErrorKind.TheVariants.{ArgumentConflict, DisplayHelp, DisplayVersion, InvalidSubcommand};
 ghost use Rattle.clap.specs.declared.error.ErrorKind.TheVariants.{InvalidValue, MissingRequiredArgument, TooManyValues, UnknownArgument, ValueValidation};
 ghost use Rattle.tw_command.specs.CommandLine.{Assembles, Checks, Disassembles, Explains, Replays, Runs, asked_by_words, word_faults};
 ghost use Rattle.tw_command.specs.declared.command.Answer.TheVariants.{Picture, Report};
@@ -16,34 +16,34 @@ pub fn commands_are_taken()
     ensures disasm { (word_faults (codes "disasm" ∷ []) ≡ []) × (asked_by_words (codes "disasm" ∷ []) ≡ Disassembles Hex Hidden) }
     ensures check { (word_faults (codes "check" ∷ []) ≡ []) × (asked_by_words (codes "check" ∷ []) ≡ Checks Hex Hidden) }
     ensures run { (word_faults (codes "run" ∷ []) ≡ [])
-        × (asked_by_words (codes "run" ∷ []) ≡ Runs Hex (actors 1 1 1) 10000 false []) }
+        × (asked_by_words (codes "run" ∷ []) ≡ Runs Hex (actors 1 1 1) 10000 false (Some [])) }
     ensures inputs { (word_faults (codes "run" ∷ codes "int:7" ∷ codes "text:a" ∷ []) ≡ [])
         × (asked_by_words (codes "run" ∷ codes "int:7" ∷ codes "text:a" ∷ [])
-        ≡ Runs Hex (actors 1 1 1) 10000 false (codes "int:7" ∷ codes "text:a" ∷ [])) }
+        ≡ Runs Hex (actors 1 1 1) 10000 false (Some (codes "int:7" ∷ codes "text:a" ∷ []))) }
     ensures first { (rest : List ℕ) → (word_faults (codes "run" ∷ (105 ∷ rest) ∷ []) ≡ [])
-        × (asked_by_words (codes "run" ∷ (105 ∷ rest) ∷ []) ≡ Runs Hex (actors 1 1 1) 10000 false ((105 ∷ rest) ∷ [])) }
+        × (asked_by_words (codes "run" ∷ (105 ∷ rest) ∷ []) ≡ Runs Hex (actors 1 1 1) 10000 false (Some ((105 ∷ rest) ∷ []))) }
     ensures before { (word_faults (codes "run" ∷ codes "--workers" ∷ codes "16" ∷ codes "int:7" ∷ []) ≡ [])
         × (asked_by_words (codes "run" ∷ codes "--workers" ∷ codes "16" ∷ codes "int:7" ∷ [])
-        ≡ Runs Hex (actors 1 1 16) 10000 false (codes "int:7" ∷ [])) }
+        ≡ Runs Hex (actors 1 1 16) 10000 false (Some (codes "int:7" ∷ []))) }
     ensures between { (word_faults (codes "run" ∷ codes "int:7" ∷ codes "--servers=3" ∷ codes "int:8" ∷ []) ≡ [])
         × (asked_by_words (codes "run" ∷ codes "int:7" ∷ codes "--servers=3" ∷ codes "int:8" ∷ [])
-        ≡ Runs Hex (actors 1 3 1) 10000 false (codes "int:7" ∷ codes "int:8" ∷ [])) }
+        ≡ Runs Hex (actors 1 3 1) 10000 false (Some (codes "int:7" ∷ codes "int:8" ∷ []))) }
     ensures behind { (word_faults (codes "run" ∷ codes "int:7" ∷ codes "--limit" ∷ codes "9" ∷ codes "--engines=2" ∷ [])
         ≡ [])
         × (asked_by_words (codes "run" ∷ codes "int:7" ∷ codes "--limit" ∷ codes "9" ∷ codes "--engines=2" ∷ [])
-        ≡ Runs Hex (actors 2 1 1) 9 false (codes "int:7" ∷ [])) }
+        ≡ Runs Hex (actors 2 1 1) 9 false (Some (codes "int:7" ∷ []))) }
     ensures trace { (word_faults (codes "run" ∷ codes "--trace" ∷ codes "int:7" ∷ []) ≡ [])
         × (asked_by_words (codes "run" ∷ codes "--trace" ∷ codes "int:7" ∷ [])
-        ≡ Runs Hex (actors 1 1 1) 10000 true (codes "int:7" ∷ [])) }
+        ≡ Runs Hex (actors 1 1 1) 10000 true (Some (codes "int:7" ∷ []))) }
     ensures last { (word_faults (codes "run" ∷ codes "int:7" ∷ codes "--limit" ∷ codes "100" ∷ codes "--trace" ∷ []) ≡ [])
         × (asked_by_words (codes "run" ∷ codes "int:7" ∷ codes "--limit" ∷ codes "100" ∷ codes "--trace" ∷ [])
-        ≡ Runs Hex (actors 1 1 1) 100 true (codes "int:7" ∷ [])) }
+        ≡ Runs Hex (actors 1 1 1) 100 true (Some (codes "int:7" ∷ []))) }
     ensures replay { (word_faults (codes "replay" ∷ codes "--workers" ∷ codes "2" ∷ codes "int:7" ∷ []) ≡ [])
         × (asked_by_words (codes "replay" ∷ codes "--workers" ∷ codes "2" ∷ codes "int:7" ∷ [])
-        ≡ Replays Hex Report (actors 1 1 2) (codes "int:7" ∷ [])) }
+        ≡ Replays Hex Report (actors 1 1 2) (Some (codes "int:7" ∷ []))) }
     ensures picture { (word_faults (codes "picture" ∷ codes "--workers" ∷ codes "2" ∷ codes "int:7" ∷ []) ≡ [])
         × (asked_by_words (codes "picture" ∷ codes "--workers" ∷ codes "2" ∷ codes "int:7" ∷ [])
-        ≡ Replays Hex Picture (actors 1 1 2) (codes "int:7" ∷ [])) }
+        ≡ Replays Hex Picture (actors 1 1 2) (Some (codes "int:7" ∷ []))) }
     ensures text { (word_faults (codes "check" ∷ codes "--text" ∷ []) ≡ [])
         × (asked_by_words (codes "check" ∷ codes "--text" ∷ []) ≡ Checks Assembly Hidden) }
     ensures places { (word_faults (codes "check" ∷ codes "--places" ∷ codes "--text" ∷ []) ≡ [])
@@ -52,18 +52,25 @@ pub fn commands_are_taken()
         × (asked_by_words (codes "disasm" ∷ codes "--places" ∷ []) ≡ Disassembles Hex Shown) }
     ensures run_text { (word_faults (codes "run" ∷ codes "int:7" ∷ codes "--text" ∷ []) ≡ [])
         × (asked_by_words (codes "run" ∷ codes "int:7" ∷ codes "--text" ∷ [])
-        ≡ Runs Assembly (actors 1 1 1) 10000 false (codes "int:7" ∷ [])) }
+        ≡ Runs Assembly (actors 1 1 1) 10000 false (Some (codes "int:7" ∷ []))) }
     ensures replay_text { (word_faults (codes "replay" ∷ codes "--text" ∷ []) ≡ [])
-        × (asked_by_words (codes "replay" ∷ codes "--text" ∷ []) ≡ Replays Assembly Report (actors 1 1 1) []) }
+        × (asked_by_words (codes "replay" ∷ codes "--text" ∷ []) ≡ Replays Assembly Report (actors 1 1 1) (Some [])) }
+    ensures run_inputs { (word_faults (codes "run" ∷ codes "--inputs" ∷ codes "--text" ∷ []) ≡ [])
+        × (asked_by_words (codes "run" ∷ codes "--inputs" ∷ codes "--text" ∷ []) ≡ Runs Assembly (actors 1 1 1) 10000 false None) }
+    ensures replay_inputs { (word_faults (codes "replay" ∷ codes "--inputs" ∷ []) ≡ [])
+        × (asked_by_words (codes "replay" ∷ codes "--inputs" ∷ []) ≡ Replays Hex Report (actors 1 1 1) None) }
     ensures explain { (word_faults (codes "explain" ∷ codes "V04" ∷ []) ≡ [])
         × (asked_by_words (codes "explain" ∷ codes "V04" ∷ []) ≡ Explains (codes "V04")) }
 {}
 
 /// Words are refused that name no command, or come after `check`; so is an option that isn't known, comes twice, or has
-/// no number in its range, a flag with a value, and a number that isn't one to be explained.
+/// no number in its range, a flag with a value, inputs in two ways, and a number that isn't one to be explained.
 pub fn strangers_are_refused()
     ensures command { word_faults (codes "walk" ∷ []) ≡ UnknownArgument ∷ InvalidSubcommand ∷ [] }
     ensures help { word_faults (codes "run" ∷ codes "--help" ∷ []) ≡ DisplayHelp ∷ [] }
+    ensures version { word_faults (codes "--version" ∷ []) ≡ DisplayVersion ∷ [] }
+    ensures both_inputs { word_faults (codes "run" ∷ codes "--inputs" ∷ codes "int:7" ∷ []) ≡ ArgumentConflict ∷ [] }
+    ensures no_inputs { word_faults (codes "check" ∷ codes "--inputs" ∷ []) ≡ UnknownArgument ∷ [] }
     ensures option { word_faults (codes "run" ∷ codes "--engine" ∷ []) ≡ UnknownArgument ∷ [] }
     ensures input { word_faults (codes "check" ∷ codes "int:7" ∷ []) ≡ UnknownArgument ∷ [] }
     ensures second { word_faults (codes "check" ∷ codes "--workers" ∷ codes "2" ∷ []) ≡ UnknownArgument ∷ [] }

@@ -12,8 +12,8 @@ mod limit;
 mod lists;
 
 pub use command::{
-    Answer, NoOrder, Order, Places, ProgramOrder, ReplayOrder, RunOrder, Source, VerifiedOrder,
-    read_order,
+    Answer, InputsOrder, NoOrder, Order, Places, ProgramOrder, ReplayOptions, ReplayOrder,
+    RunOptions, RunOrder, Source, VerifiedOrder, inputs_of, read_order,
 };
 pub use input_words::input_of;
 pub use laws::{commands_are_taken, strangers_are_refused, words_spell_one_input};

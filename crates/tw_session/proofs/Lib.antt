@@ -1,5 +1,7 @@
-pub mod Explained
+pub mod Answering
+pub mod InputLines
 pub mod Ran
+pub mod Nones
 pub mod Places
 pub mod Sources
 pub mod Tracing

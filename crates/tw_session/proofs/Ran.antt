@@ -23,7 +23,7 @@ use Rattle.tw_command.specs.declared.command.RunOrder.{RunOrder}
 use Rattle.tw_report.specs.Ends.{IsEndReport}
 use Rattle.tw_report.specs.Report.{end_report}
 use Rattle.tw_session.specs.Reply.{reply}
-use Rattle.tw_session.specs.Run.{EndsSo, RepliesByRun, close_of, run_as, trace_text}
+use Rattle.tw_session.specs.Run.{EndsSo, RepliesByRun, close_of, limit_told, run_as, trace_text}
 
 -- by how the run has ended by itself, whether it was stopped, and whether there is room for no event
 abbrev closing_by : Option Ending → (stopped full : Bool) → Option Closing
@@ -44,10 +44,10 @@ ends_so order history s None false false closing is at told other = absurd (none
     none e = cc
 
 -- of a run whose seats were all given back, and which wasn't stopped
-pub ran : (verified : TypedProgram) (order : RunOrder) (seats : List Told) (by_seat : List (List Event)) (final : FinalView) (history : HistoryView) (closing : Closing) (text : List ℕ)
+pub ran : (source : Option (List ℕ)) (verified : TypedProgram) (order : RunOrder) (seats : List Told) (by_seat : List (List Event)) (final : FinalView) (history : HistoryView) (closing : Closing) (text : List ℕ)
     → IsEnded (run_as verified order) seats by_seat final history → final.closing ≡ Some closing → closing ≢ Stopped → IsEndReport final text
-    → RepliesByRun verified.program order (reply (trace_text order.trace history.events ++ text) (close_of closing))
-ran verified order seats by_seat final history closing text e over other is_report =
+    → RepliesByRun source verified.program order (reply (trace_text order.trace history.events ++ (text ++ limit_told source order closing)) (close_of closing))
+ran source verified order seats by_seat final history closing text e over other is_report =
     let p = e.pool in
     let shut = e.shut in
     let s = shut.state in
@@ -66,5 +66,5 @@ ran verified order seats by_seat final history closing text e over other is_repo
         reaches = subst (λ (es : List Event). reached verified.program order.inputs order.layout es ≡ Went s) (sym shut.events) leads;
         ends = here;
       },
-      ap (λ (t : List ℕ). reply (trace_text order.trace history.events ++ t) (close_of closing)) told_so,
+      ap (λ (t : List ℕ). reply (trace_text order.trace history.events ++ (t ++ limit_told source order closing)) (close_of closing)) told_so,
     )

@@ -1,14 +1,18 @@
 -- What a session writes, and how it ends: to be believed for `session` and `reply_to` are all files, and those of
 -- tw_command for the words and of tw_report for the texts. Begin with Session; a run is Run, a replay and its picture Replay,
--- a check Check, a program with its places Listing, assembly text Text, statuses Status.
+-- a check Check, a program with its places Listing, the program that is read Program, text Text, inputs that
+-- are read Inputs, statuses Status.
 pub mod Input
 pub mod Reply
+pub mod Program
 pub mod Text
 pub mod Status
+pub mod Inputs
 pub mod Check
 pub mod Listing
 pub mod Run
 pub mod Replay
 pub mod Session
--- What the code keeps of a text.
+-- What the code keeps of a text, and of lines with inputs.
 pub mod Source
+pub mod Parts

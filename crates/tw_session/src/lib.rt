@@ -7,7 +7,9 @@
 mod check;
 mod drawn;
 mod input;
+mod inputs;
 mod listing;
+mod program;
 mod replay;
 mod reply;
 mod run;

@@ -1,39 +1,40 @@
 //! What a session answers to the bytes that it reads.
 
-ghost use Rattle.std.specs.Prelude.{◌≡◌, ◌≢◌, ◌<◌, ◌≤◌, IfOk, length};
-ghost use Rattle.tw_command.specs.declared.command.Order.TheVariants.{Assemble, Replay};
-ghost use Rattle.tw_command.specs.declared.command.Source.TheVariants.{Assembly};
-ghost use Rattle.tw_session.specs.Session.{IsChecked, IsRefused, IsWritten, MayReply, RepliesByAccepted, RepliesByBytes, RepliesByDigits};
-ghost use Rattle.tw_session.specs.Session.{RepliesByInput, RepliesByProgram, RepliesBySource, RepliesByText, RepliesByVerified, StandsBefore, places_of};
+ghost use Rattle.std.specs.Prelude.{◌≡◌, ◌<◌, IfOk, codes};
+ghost use Rattle.tw_session.specs.Session.{IsChecked, IsRefused, IsWritten, MayReply, RepliesByAccepted, RepliesByProgram, RepliesByVerified, RepliesWithInputs, StandsBefore, places_of};
+ghost use Rattle.tw_session.specs.Inputs.{RepliesByWords, before_inputs, behind_inputs, words_in};
+ghost use Rattle.tw_command.specs.CommandLine.{run_with};
+ghost use Rattle.tw_command.specs.declared.command.InputsOrder.TheVariants.{ToRun};
+ghost use Rattle.tw_command.specs.declared.command.ProgramOrder.TheVariants as ordered;
+ghost use Rattle.tw_command.specs.declared.command.VerifiedOrder.TheVariants.{Run};
+ghost use Rattle.std.specs.Str.Lines.{lines};
 ghost use Rattle.tw_session.specs.Listing.{disassembled};
+ghost use Rattle.tw_session.specs.Program.{RepliesBySource, RepliesByText, text_told};
 ghost use Rattle.tw_session.specs.Reply.{reply};
-ghost use Rattle.tw_session.specs.Input.{digits_in};
-ghost use Rattle.tw_session.specs.Source.{MayBeSource, behind_of};
-ghost use Rattle.tw_session.specs.Text.{RepliesByAssembly};
-ghost use Rattle.tw_asm.specs.Fault.{fault_number};
-ghost use Rattle.tw_asm.specs.declared.fault.FaultNo.TheVariants as asm;
-ghost use Rattle.tw_report.specs.Lines.{asm_line, opening_line};
-ghost use Rattle.tw_code.specs.format.Reading.{program_of};
+ghost use Rattle.tw_session.specs.Source.{MayBeSource, text_of};
+ghost use Rattle.tw_report.specs.Lines.{opening_line};
 ghost use Rattle.tw_code.specs.accepting.WellTyped.{IsAccepted, IsFirstRefusal};
 ghost use Rattle.tw_verify.specs.Refusal.{verify_refusal_number};
-ghost use Rattle.hex.specs.Hex.{decode_of};
 
 use crate::check::check_text;
-use crate::input::{MOST_BYTES, digits};
+use crate::input::MOST_BYTES;
+use crate::inputs::{input_parts, refused_words_reply};
 use crate::listing::{places_text, refused_text, typed_text};
-use crate::replay::replay_reply;
+use crate::program::{ReadProgram, no_program_reply, read_program, reasoned_reply};
+use crate::replay::{replay_inputs_reply, replay_reply};
 use crate::run::run_of;
 use crate::source::{SourceText, put_behind};
 use crate::status::Close;
-use hex::FromHexError;
 use std::alloc::{AllocError, Global};
 use std::sync::Wait;
 use std::thread::Threads;
 use std::time::Clock;
-use tw_asm::{AsmFault, assemble, assemble_lined, disassemble};
-use tw_code::{FaultNo, Program, decode, encode};
-use tw_command::{Order, Places, ProgramOrder, ReplayOrder, Source, VerifiedOrder};
-use tw_report::{put, put_asm_line, put_fault_line, put_opening_line, put_verify_line};
+use tw_asm::disassemble;
+use tw_code::{Program, encode};
+use tw_command::{
+    InputsOrder, Order, Places, ProgramOrder, RunOptions, Source, VerifiedOrder, inputs_of,
+};
+use tw_report::{put, put_opening_line, put_verify_line};
 use tw_verify::{Refused, Verified, VerifyRefusal, verify};
 
 /// What a session writes, and how it ends.
@@ -41,6 +42,16 @@ use tw_verify::{Refused, Verified, VerifyRefusal, verify};
 pub struct Reply {
     pub text: Vec<u8>,
     pub close: Close,
+}
+
+/// What is refused by this text.
+pub fn refused_by(text: Vec<u8>) -> Reply
+    ensures { reply result.text.items result.close ≡ reply text.items Close.Refused }
+{
+    Reply {
+        text,
+        close: Close::Refused,
+    }
 }
 
 pub fn fixed_reply(alloc: Global, line: &str, close: Close) -> Result<Reply, AllocError>
@@ -51,6 +62,13 @@ pub fn fixed_reply(alloc: Global, line: &str, close: Close) -> Result<Reply, All
     Ok(Reply { text, close })
 }
 
+/// The reply where what is to be text isn't UTF-8.
+pub fn not_utf8_reply(alloc: Global) -> Result<Reply, AllocError>
+    ensures { IfOk result (λ r. reply r.text.items r.close ≡ reply (codes "refused H03\n") Close.Refused) }
+{
+    fixed_reply(alloc, "refused H03\n", Close::Refused)
+}
+
 /// The reply where a program isn't opened.
 pub fn opening_reply(alloc: Global, number: u8) -> Result<Reply, AllocError>
     requires { number < 100 }
@@ -58,10 +76,7 @@ pub fn opening_reply(alloc: Global, number: u8) -> Result<Reply, AllocError>
 {
     let mut text = Vec::new(alloc);
     put_opening_line(&mut text, number)?;
-    Ok(Reply {
-        text,
-        close: Close::Refused,
-    })
+    Ok(refused_by(text))
 }
 
 /// What a check tells of an accepted program, behind its listing where that is asked for.
@@ -83,18 +98,19 @@ fn checked_text(alloc: Global, places: Places, verified: &Verified) -> Result<Ve
 fn accepted_reply<H: Threads + Wait + Clock + Sync>(
     rt: &H,
     alloc: Global,
+    source: &Option<SourceText<'_>>,
     order: &VerifiedOrder,
     verified: Verified,
 ) -> Result<Reply, AllocError>
     requires { IsAccepted verified.program }
-    ensures { IfOk result (λ r. RepliesByAccepted order.now verified.program (reply r.text.items r.close)) }
+    ensures { IfOk result (λ r. RepliesByAccepted (text_of source.now) order.now verified.program (reply r.text.items r.close)) }
 {
     match order {
         VerifiedOrder::Check(places) => Ok(Reply {
             text: checked_text(alloc, *places, &verified)?,
             close: Close::Success,
         }),
-        VerifiedOrder::Run(order) => run_of(rt, alloc, order, &verified),
+        VerifiedOrder::Run(order) => run_of(rt, alloc, source, order, &verified),
     }
 }
 
@@ -127,7 +143,7 @@ fn refusal_reply(
 ) -> Result<Reply, AllocError>
     requires source { MayBeSource source.now refused.now.program.procedures }
     requires first { IsFirstRefusal refused.now.program.procedures (verify_refusal_number refused.now.no) refused.now.procedure refused.now.place }
-    ensures { IfOk result (λ r. IsRefused places (behind_of source.now) refused.now.program.procedures (reply r.text.items r.close)) }
+    ensures { IfOk result (λ r. IsRefused places (text_of source.now) refused.now.program.procedures (reply r.text.items r.close)) }
 {
     let mut text = text_before(alloc, places, refused)?;
     put_verify_line(
@@ -137,11 +153,8 @@ fn refusal_reply(
         refused.procedure,
         refused.place,
     )?;
-    put_behind(alloc, &mut text, source, refused.procedure, refused.place)?;
-    Ok(Reply {
-        text,
-        close: Close::Refused,
-    })
+    put_behind(alloc, &mut text, source, refused)?;
+    Ok(refused_by(text))
 }
 
 /// Verifies a program, and does what is ordered if it is accepted.
@@ -153,10 +166,10 @@ fn verified_reply<H: Threads + Wait + Clock + Sync>(
     program: Program,
 ) -> Result<Reply, AllocError>
     requires { MayBeSource source.now program.procedures }
-    ensures { IfOk result (λ r. RepliesByVerified (behind_of source.now) order.now program.procedures (reply r.text.items r.close)) }
+    ensures { IfOk result (λ r. RepliesByVerified (text_of source.now) order.now program.procedures (reply r.text.items r.close)) }
 {
     match verify(alloc, program) {
-        Ok(verified) => accepted_reply(rt, alloc, order, verified),
+        Ok(verified) => accepted_reply(rt, alloc, source, order, verified),
         Err(refused) => match refused.no {
             VerifyRefusal::NoMemory => Err(AllocError),
             _ => refusal_reply(alloc, source, places_of(order), &refused),
@@ -186,7 +199,7 @@ fn program_reply<H: Threads + Wait + Clock + Sync>(
     program: Program,
 ) -> Result<Reply, AllocError>
     requires { MayBeSource source.now program.procedures }
-    ensures { IfOk result (λ r. RepliesByProgram (behind_of source.now) order.now program (reply r.text.items r.close)) }
+    ensures { IfOk result (λ r. RepliesByProgram (text_of source.now) order.now program (reply r.text.items r.close)) }
 {
     match order {
         ProgramOrder::Disassemble(places) => Ok(Reply {
@@ -197,114 +210,25 @@ fn program_reply<H: Threads + Wait + Clock + Sync>(
     }
 }
 
-/// Decodes bytes, and does what is ordered with the program that they spell.
-fn bytes_reply<H: Threads + Wait + Clock + Sync>(
-    rt: &H,
-    alloc: Global,
-    order: &ProgramOrder,
-    bytes: &[u8],
-) -> Result<Reply, AllocError>
-    ensures { IfOk result (λ r. RepliesByBytes order.now (program_of bytes.now) (reply r.text.items r.close)) }
-{
-    match decode(alloc, bytes) {
-        Ok(program) => program_reply(rt, alloc, &None, order, program),
-        Err(fault) => match fault.no {
-            FaultNo::NoMemory => Err(AllocError),
-            no => {
-                let mut text = Vec::new(alloc);
-                put_fault_line(alloc, &mut text, no.number(), fault.offset)?;
-                Ok(Reply {
-                    text,
-                    close: Close::Refused,
-                })
-            }
-        },
-    }
-}
-
-/// Turns hex text into bytes, and answers to these.
-fn digits_reply<H: Threads + Wait + Clock + Sync>(
-    rt: &H,
-    alloc: Global,
-    order: &ProgramOrder,
-    input: Vec<u8>,
-) -> Result<Reply, AllocError>
-    ensures { IfOk result (λ r.
-        RepliesByDigits order.now (decode_of (digits_in input.items)) (reply r.text.items r.close)) }
-{
-    match hex::decode(alloc, digits(input)) {
-        Ok(bytes) => bytes_reply(rt, alloc, order, &bytes),
-        Err(FromHexError::OutOfMemory) => Err(AllocError),
-        Err(_) => fixed_reply(alloc, "refused H01\n", Close::Refused),
-    }
-}
-
-/// The reply where a text spells no program.
-pub fn text_fault_reply(alloc: Global, fault: AsmFault) -> Result<Reply, AllocError>
-    ensures { IfOk result (λ r. (fault.no ≢ asm.NoMemory) × (reply r.text.items r.close ≡ reply (asm_line (fault_number fault.no) fault.line) Close.Refused)) }
-{
-    match fault.no {
-        tw_asm::FaultNo::NoMemory => Err(AllocError),
-        no => {
-            let mut text = Vec::new(alloc);
-            put_asm_line(alloc, &mut text, no.number(), fault.line)?;
-            Ok(Reply {
-                text,
-                close: Close::Refused,
-            })
-        }
-    }
-}
-
-/// Assembles a text, and does what is ordered with its program.
-fn text_reply<H: Threads + Wait + Clock + Sync>(
-    rt: &H,
-    alloc: Global,
-    order: &ProgramOrder,
-    text: &str,
-) -> Result<Reply, AllocError>
-    ensures { IfOk result (λ r. RepliesByText order.now text.now (reply r.text.items r.close)) }
-{
-    match assemble_lined(alloc, text) {
-        Ok(lined) => {
-            let source = Some(SourceText {
-                text,
-                lines: lined.lines,
-            });
-            program_reply(rt, alloc, &source, order, lined.program)
-        }
-        Err(fault) => text_fault_reply(alloc, fault),
-    }
-}
-
-/// The reply to bytes that are to be a program in assembly text.
-fn utf8_reply<H: Threads + Wait + Clock + Sync>(
-    rt: &H,
-    alloc: Global,
-    order: &ProgramOrder,
-    input: Vec<u8>,
-) -> Result<Reply, AllocError>
-    ensures { IfOk result (λ r. RepliesBySource Assembly order.now input.items (reply r.text.items r.close)) }
-{
-    match String::from_utf8(input) {
-        Ok(text) => text_reply(rt, alloc, order, &text),
-        Err(_) => fixed_reply(alloc, "refused H03\n", Close::Refused),
-    }
-}
-
 /// The reply to a program in hex text or in assembly text.
 fn source_reply<H: Threads + Wait + Clock + Sync>(
     rt: &H,
     alloc: Global,
     source: Source,
     order: &ProgramOrder,
-    input: Vec<u8>,
+    input: &[u8],
 ) -> Result<Reply, AllocError>
-    ensures { IfOk result (λ r. RepliesBySource source order.now input.items (reply r.text.items r.close)) }
+    ensures { IfOk result (λ r. RepliesBySource source input.now (RepliesByProgram (text_told source input.now) order.now) (reply r.text.items r.close)) }
 {
-    match source {
-        Source::Hex => digits_reply(rt, alloc, order, input),
-        Source::Assembly => utf8_reply(rt, alloc, order, input),
+    match read_program(alloc, source, input) {
+        Ok(read) => {
+            let ReadProgram {
+                program,
+                source: text,
+            } = read;
+            program_reply(rt, alloc, &text, order, program)
+        }
+        Err(why) => reasoned_reply(alloc, input, why),
     }
 }
 
@@ -324,53 +248,75 @@ fn hex_reply(alloc: Global, program: &Program) -> Result<Reply, AllocError>
 }
 
 /// The program of an assembly text as hex digits, or the text's first fault.
-fn assembly_reply(alloc: Global, text: &str) -> Result<Reply, AllocError>
-    ensures { IfOk result (λ r. RepliesByAssembly text.now IsWritten (reply r.text.items r.close)) }
+fn assembled_reply(alloc: Global, input: &[u8]) -> Result<Reply, AllocError>
+    ensures { IfOk result (λ r. RepliesByText input.now IsWritten (reply r.text.items r.close)) }
 {
-    match assemble(alloc, text) {
-        Ok(program) => hex_reply(alloc, &program),
-        Err(fault) => text_fault_reply(alloc, fault),
+    match read_program(alloc, Source::Assembly, input) {
+        Ok(read) => hex_reply(alloc, &read.program),
+        Err(why) => no_program_reply(alloc, why),
     }
 }
 
-/// The reply to bytes that are to be assembly text.
-fn assembled_reply(alloc: Global, input: Vec<u8>) -> Result<Reply, AllocError>
-    ensures { IfOk result (λ r. RepliesByInput Assemble input.items (reply r.text.items r.close)) }
-{
-    match String::from_utf8(input) {
-        Ok(text) => assembly_reply(alloc, &text),
-        Err(_) => fixed_reply(alloc, "refused H03\n", Close::Refused),
-    }
-}
-
-/// The reply to what is to be a program with a history behind it.
-fn replayed_reply(
+/// The reply to a program, run with the inputs that stand behind it.
+fn inputs_reply<H: Threads + Wait + Clock + Sync>(
+    rt: &H,
     alloc: Global,
     source: Source,
-    order: &ReplayOrder,
-    input: Vec<u8>,
+    options: RunOptions,
+    text: &str,
 ) -> Result<Reply, AllocError>
-    requires { length input.items ≤ 16777216 }
-    ensures { IfOk result (λ r. RepliesByInput (Replay source order.now) input.items (reply r.text.items r.close)) }
+    ensures { IfOk result (λ r. RepliesByWords (words_in (behind_inputs (lines text.now)))
+        (λ given. RepliesBySource source (before_inputs (lines text.now))
+        (RepliesByProgram (text_told source (before_inputs (lines text.now))) (ordered.Verified (Run (run_with options given)))))
+        (reply r.text.items r.close)) }
 {
-    replay_reply(alloc, source, order, &input)
+    let parts = input_parts(alloc, text)?;
+    match inputs_of(alloc, &parts.words) {
+        Ok(inputs) => {
+            let order = ProgramOrder::Verified(VerifiedOrder::Run(options.with_inputs(inputs)));
+            source_reply(rt, alloc, source, &order, &parts.program)
+        }
+        Err(why) => refused_words_reply(alloc, why),
+    }
+}
+
+/// The reply to what is to be text, with a program and the inputs behind it.
+fn run_inputs_reply<H: Threads + Wait + Clock + Sync>(
+    rt: &H,
+    alloc: Global,
+    source: Source,
+    options: RunOptions,
+    input: &[u8],
+) -> Result<Reply, AllocError>
+    ensures { IfOk result (λ r. RepliesWithInputs source (ToRun options) input.now (reply r.text.items r.close)) }
+{
+    match str::from_utf8(input) {
+        Ok(text) => inputs_reply(rt, alloc, source, options, text),
+        Err(_) => not_utf8_reply(alloc),
+    }
 }
 
 /// The whole reply to an order and the bytes that were read; refused where memory is.
 pub fn reply_to<H: Threads + Wait + Clock + Sync>(
     rt: &H,
     alloc: Global,
-    order: &Order,
+    order: Order,
     input: Vec<u8>,
 ) -> Result<Reply, AllocError>
-    ensures { IfOk result (λ r. MayReply order.now input.items (reply r.text.items r.close)) }
+    ensures { IfOk result (λ r. MayReply order input.items (reply r.text.items r.close)) }
 {
     if input.len() > MOST_BYTES {
         return fixed_reply(alloc, "refused H02\n", Close::Refused);
     }
     match order {
-        Order::Assemble => assembled_reply(alloc, input),
-        Order::Program(source, order) => source_reply(rt, alloc, *source, order, input),
-        Order::Replay(source, order) => replayed_reply(alloc, *source, order, input),
+        Order::Assemble => assembled_reply(alloc, &input),
+        Order::Program(source, order) => source_reply(rt, alloc, source, &order, &input),
+        Order::Replay(source, order) => replay_reply(alloc, source, &order, &input),
+        Order::Inputs(source, InputsOrder::ToRun(options)) => {
+            run_inputs_reply(rt, alloc, source, options, &input)
+        }
+        Order::Inputs(source, InputsOrder::ToReplay(options)) => {
+            replay_inputs_reply(alloc, source, options, &input)
+        }
     }
 }

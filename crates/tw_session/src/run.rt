@@ -1,12 +1,14 @@
 //! What `run` answers.
 
-ghost use Rattle.std.specs.Prelude.{◌≡◌, ◌≢◌, ◌++◌, IfOk, IfSome, List, OnOk, Some};
+ghost use Rattle.std.specs.Prelude.{◌≡◌, ◌≢◌, ◌++◌, IfOk, IfSome, List, OnOk, Some, codes, decimal};
 ghost use Rattle.tw_host.specs.Ends.{Closes};
 ghost use Rattle.tw_host.specs.Seats.{Told};
 ghost use Rattle.tw_session.specs.Reply.{reply};
-ghost use Rattle.tw_session.specs.Run.{RepliesByOpening, RepliesByRun, close_of, run_as, threads_refused, trace_text};
+ghost use Rattle.tw_session.specs.Run.{RepliesByOpening, RepliesByRun, close_of, limit_told, run_as, threads_refused, trace_text};
+ghost use Rattle.tw_session.specs.Source.{text_of};
 
 use crate::reply::{Reply, fixed_reply, opening_reply};
+use crate::source::SourceText;
 use crate::status::Close;
 use std::alloc::{AllocError, Global};
 use std::sync::Wait;
@@ -15,7 +17,7 @@ use std::time::Clock;
 use tw_command::RunOrder;
 use tw_host::Closed;
 use tw_pool::{Closing, Final, History, OpenRefusal};
-use tw_report::{put, put_event_line, report};
+use tw_report::{put, put_event_line, put_numbered, report};
 use tw_verify::Verified;
 use tw_workers::{NoGate, run};
 
@@ -62,6 +64,32 @@ fn put_trace(
     put(out, "end\n")
 }
 
+fn put_limit_line(alloc: Global, out: &mut Vec<u8>, events: usize) -> Result<(), AllocError>
+    ensures { OnOk result (out.new.items ≡ out.old.items ++ (codes "events " ++ (decimal events ++ codes "; --limit takes up to 1000000\n"))) }
+{
+    put_numbered(alloc, out, "events ", events)?;
+    put(out, "; --limit takes up to 1000000\n")
+}
+
+/// Adds what stands behind `limit`, where the program was read from a text.
+fn put_limit(
+    alloc: Global,
+    out: &mut Vec<u8>,
+    source: &Option<SourceText<'_>>,
+    order: &RunOrder,
+    closing: Closing,
+) -> Result<(), AllocError>
+    ensures { OnOk result (out.new.items ≡ out.old.items ++ limit_told (text_of source.now) order.now closing) }
+{
+    match source {
+        Some(_) => match closing {
+            Closing::Limit => put_limit_line(alloc, out, order.limit.events()),
+            Closing::Quiet | Closing::Stuck(_) | Closing::Stopped => Ok(()),
+        },
+        None => Ok(()),
+    }
+}
+
 /// The reply where the threads have come to no end.
 fn threads_reply(alloc: Global) -> Result<Reply, AllocError>
     ensures { IfOk result (λ r. reply r.text.items r.close ≡ threads_refused) }
@@ -72,12 +100,13 @@ fn threads_reply(alloc: Global) -> Result<Reply, AllocError>
 /// The reply where all seats were given back.
 fn closed_reply(
     alloc: Global,
+    source: &Option<SourceText<'_>>,
     order: &RunOrder,
     verified: &Verified,
     closed: Closed,
 ) -> Result<Reply, AllocError>
     requires { (seats : List Told) × Closes (run_as verified.now order.now) seats closed }
-    ensures { IfOk result (λ r. RepliesByRun verified.now.program order.now (reply r.text.items r.close)) }
+    ensures { IfOk result (λ r. RepliesByRun (text_of source.now) verified.now.program order.now (reply r.text.items r.close)) }
 {
     match closed {
         Closed::Ended {
@@ -91,6 +120,7 @@ fn closed_reply(
                 put_trace(alloc, &mut text, order.trace, &history)?;
                 let told = report(alloc, &outcome)?;
                 text.extend_from_slice(&told)?;
+                put_limit(alloc, &mut text, source, order, closing)?;
                 Ok(Reply {
                     text,
                     close: close_of(closing),
@@ -105,10 +135,11 @@ fn closed_reply(
 pub fn run_of<H: Threads + Wait + Clock + Sync>(
     rt: &H,
     alloc: Global,
+    source: &Option<SourceText<'_>>,
     order: &RunOrder,
     verified: &Verified,
 ) -> Result<Reply, AllocError>
-    ensures { IfOk result (λ r. RepliesByOpening verified.now.program order.now (reply r.text.items r.close)) }
+    ensures { IfOk result (λ r. RepliesByOpening (text_of source.now) verified.now.program order.now (reply r.text.items r.close)) }
 {
     let inputs = order.inputs.as_slice();
     match run(
@@ -124,7 +155,7 @@ pub fn run_of<H: Threads + Wait + Clock + Sync>(
             if memory {
                 return Err(AllocError);
             }
-            closed_reply(alloc, order, verified, closed)
+            closed_reply(alloc, source, order, verified, closed)
         }
         Err(OpenRefusal::NoMemory) => Err(AllocError),
         Err(why) => opening_reply(alloc, why.number()),

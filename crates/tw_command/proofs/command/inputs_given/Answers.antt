@@ -1,16 +1,15 @@
-use Rattle.std.proofs.Common.{◌≡◌, ◌∙◌, sym, map, codes, Some, None}
-use Rattle.clap.specs.Words.{all_of, found_of, rows_of}
-use Rattle.clap.proofs.WalkLemmas.{raw_values-rows}
+use Rattle.std.proofs.Common.{◌∙◌, sym}
+use Rattle.clap.specs.Words.{found_of, rows_of}
+use Rattle.tw_command.specs.CommandLine.{replay_asked, run_asked}
+use Rattle.tw_command.proofs.Options.{both_refused}
 use Rattle.tw_command.proofs.command.inputs_given.Goals as goal
 
-pub returns-in-Some : goal.returns-in-Some
-returns-in-Some c =
-    let given : all_of (codes "input") (rows_of (found_of c.args.matches.now)) ≡ Some (map (λ v. v.now) c.in-Some.words.now) =
-    sym (c.in-Some.ensures ∙ raw_values-rows (found_of c.args.matches.now) (codes "input")) in
-    rw given c.inputs_of.ensures
+pub returns-then-has_words-clause-run : goal.returns-then-has_words-clause-run
+returns-then-has_words-clause-run c =
+    let rows = rows_of (found_of c.args.matches.now) in
+    both_refused rows (run_asked rows) (sym c.flag_given.ensures ∙ c.if-not-flag_given.false) (sym c.has_words.ensures ∙ c.if-has_words.true)
 
-pub returns-in-None : goal.returns-in-None
-returns-in-None c =
-    let given : all_of (codes "input") (rows_of (found_of c.args.matches.now)) ≡ None =
-    sym (c.in-None.ensures ∙ raw_values-rows (found_of c.args.matches.now) (codes "input")) in
-    rw given c.inputs_of-in-None.ensures
+pub returns-then-has_words-clause-replay : goal.returns-then-has_words-clause-replay
+returns-then-has_words-clause-replay c = λ answer.
+    let rows = rows_of (found_of c.args.matches.now) in
+    both_refused rows (replay_asked answer rows) (sym c.flag_given.ensures ∙ c.if-not-flag_given.false) (sym c.has_words.ensures ∙ c.if-has_words.true)

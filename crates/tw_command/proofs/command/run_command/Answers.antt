@@ -13,4 +13,5 @@ returns-clause-app c =
     let limit = c.in_ok-limit.ensures.shape c.option_arg-4.ensures.local ∙ ap₂ with_rule workers c.option_arg-4.ensures.rule in
     let trace = c.in_ok-trace.ensures.shape c.flag_arg.ensures.local ∙ ap₂ with_rule limit c.flag_arg.ensures.rule in
     let text = c.in_ok-text.ensures.shape c.text_arg.ensures.local ∙ ap₂ with_rule trace c.text_arg.ensures.rule in
-    c.in_ok-whole.ensures.shape c.input_arg.ensures.local ∙ ap₂ with_rule text c.input_arg.ensures.rule
+    let inputs = c.in_ok-inputs.ensures.shape c.inputs_arg.ensures.local ∙ ap₂ with_rule text c.inputs_arg.ensures.rule in
+    c.in_ok-whole.ensures.shape c.input_arg.ensures.local ∙ ap₂ with_rule inputs c.input_arg.ensures.rule

@@ -1,11 +1,14 @@
 use Rattle.clap.specs.Words.{found_of, rows_of}
 use Rattle.tw_command.specs.CommandLine.{run_asked}
-use Rattle.tw_command.proofs.Options.{actors_refused, has_fault, limit_refused}
+use Rattle.tw_command.proofs.Options.{actors_refused, has_fault, limit_refused, run_refused}
 use Rattle.tw_command.proofs.command.run_order.Goals as goal
 
 pub returns-in_default-clause-refused : goal.returns-in_default-clause-refused
-returns-in_default-clause-refused c = has_fault _ (run_asked (rows_of (found_of c.args.matches.now))) (actors_refused (rows_of (found_of c.args.matches.now)) c.in_default.ensures)
+returns-in_default-clause-refused c =
+    let rows = rows_of (found_of c.args.matches.now) in
+    has_fault _ (run_asked rows) (run_refused rows (actors_refused rows c.in_default.ensures))
 
 pub returns-in_default-limit_given-clause-refused : goal.returns-in_default-limit_given-clause-refused
 returns-in_default-limit_given-clause-refused c =
-    has_fault _ (run_asked (rows_of (found_of c.args.matches.now))) (limit_refused (rows_of (found_of c.args.matches.now)) c.in_default-limit_given.ensures)
+    let rows = rows_of (found_of c.args.matches.now) in
+    has_fault _ (run_asked rows) (run_refused rows (limit_refused rows c.in_default-limit_given.ensures))

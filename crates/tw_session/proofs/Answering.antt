@@ -1,0 +1,87 @@
+-- What comes of a reply that is written, and of words.
+use Rattle.std.proofs.Common.{◌≡◌, ◌≢◌, ℕ, List, [], ◌∷◌, codes, Option, Some, None, IfOk, IfSome, Result, Ok, Err, OnErr, inl, inr, refl, sym, subst}
+use Rattle.std.specs.Io.KnownBytes.{Appends}
+use Rattle.clap.specs.Words.{Kinds, Text}
+use Rattle.tw_command.specs.CommandLine.{Asked, Assembles, Checks, Disassembles, Explains, IsExplained, IsRefusedInput, Replays, Runs}
+use Rattle.tw_command.proofs.InputLaws.{never_refused, one_number}
+use Rattle.tw_session.specs.Inputs.{TellsInputWord}
+use Rattle.tw_session.specs.Reply.{Reply, reply}
+use Rattle.tw_session.specs.Session.{AnswersWords, MayAnswer, RefusesWords, TellsMeaning}
+use Rattle.tw_session.specs.Status.{ComesOfReply}
+use Rattle.tw_session.specs.declared.reply.Reply.{Reply as MadeReply}
+use Rattle.tw_session.specs.declared.status.Close.{Close}
+use Rattle.tw_session.specs.declared.status.Status.{Status}
+use Rattle.tw_session.specs.declared.status.Status.TheVariants.{Ended, NoMemory, ReadFailed, WriteFailed}
+
+-- a reply that was written, unless the write failed
+pub replied : (Answers : Reply → Type 0) (text : List ℕ) (close : Close) (status : Status) (old new : Option (List ℕ)) → Answers (reply text close)
+    → (status ≢ WriteFailed → (status ≡ Ended close) × Appends old new text) → ComesOfReply Answers status old new
+replied Answers text close (Ended other) old new h wrote =
+    let w = wrote (λ e. cc) in
+    (text, subst (λ (c : Close). Answers (reply text c)) (sym (same w.0)) h, w.1)
+  where
+    same : {a b : Close} → Ended a ≡ Ended b → a ≡ b
+    same e = cc
+replied Answers text close NoMemory old new h wrote = absurd (never ((wrote (λ e. cc)).0))
+  where
+    never : NoMemory ≡ Ended close → ⊥
+    never e = cc
+replied Answers text close ReadFailed old new h wrote = absurd (never ((wrote (λ e. cc)).0))
+  where
+    never : ReadFailed ≡ Ended close → ⊥
+    never e = cc
+replied Answers text close WriteFailed old new h wrote = tt
+
+-- want of memory
+pub no_reply : (Answers : Reply → Type 0) (status : Status) (old new : Option (List ℕ)) → (status ≢ WriteFailed → status ≡ NoMemory) → (status ≡ NoMemory → Appends old new (codes "memory\n")) → ComesOfReply Answers status old new
+no_reply Answers (Ended close) old new is wrote = absurd (never (is (λ e. cc)))
+  where
+    never : Ended close ≡ NoMemory → ⊥
+    never e = cc
+no_reply Answers NoMemory old new is wrote = wrote refl
+no_reply Answers ReadFailed old new is wrote = absurd (never (is (λ e. cc)))
+  where
+    never : ReadFailed ≡ NoMemory → ⊥
+    never e = cc
+no_reply Answers WriteFailed old new is wrote = tt
+
+-- where one may be made, what was written of it
+pub comes_of : {E : Type 0} (Answers : Reply → Type 0) (made : Result MadeReply E) (status : Status) (old new : Option (List ℕ)) → IfOk made (λ r. Answers (reply r.text.items r.close))
+    → IfOk made (λ r. status ≢ WriteFailed → (status ≡ Ended r.close) × Appends old new r.text.items) → OnErr made (status ≢ WriteFailed → status ≡ NoMemory)
+    → (status ≡ NoMemory → Appends old new (codes "memory\n")) → ComesOfReply Answers status old new
+comes_of Answers (Ok r) status old new h ended refused memory = replied Answers r.text.items r.close status old new h ended
+comes_of Answers (Err e) status old new h ended refused memory = no_reply Answers status old new refused memory
+
+pub whatever : {X : Type 0} {P : X → Type 0} (o : Option X) → ((x : X) → P x) → IfSome o P
+whatever None h = tt
+whatever (Some x) h = h x
+
+-- ---- words
+
+-- words that are taken
+pub taken : (kinds : Kinds) (asked : Asked) (input : List ℕ) (r : Reply) → kinds ≡ [] → AnswersWords kinds asked input r → MayAnswer asked input r
+taken [] asked input r e h = h
+taken (kind ∷ others) asked input r e h = absurd cc
+
+pub not_taken : (kinds : Kinds) (asked : Asked) (input : List ℕ) (r : Reply) → (kinds ≡ [] → ⊥) → AnswersWords kinds asked input r → RefusesWords kinds r
+not_taken [] asked input r e h = absurd (e refl)
+not_taken (kind ∷ others) asked input r e h = h
+
+-- where an explanation is asked for, no input word is refused
+not_refused : (asked : Asked) (text : List ℕ) (number : ℕ) → IsExplained asked text → IsRefusedInput asked number → ⊥
+not_refused Assembles text number e r = e
+not_refused (Disassembles source listed) text number e r = e
+not_refused (Checks source listed) text number e r = e
+not_refused (Runs source layout most traced words) text number e r = e
+not_refused (Replays source answer layout words) text number e r = e
+not_refused (Explains explained) text number e r = r
+
+pub word_told : (asked : Asked) (input : List ℕ) (number : ℕ) (r : Reply) → IsRefusedInput asked number → MayAnswer asked input r → TellsInputWord number r
+word_told asked input number r refused (inl (order, is_asked, h)) = absurd (never_refused asked order number is_asked refused)
+word_told asked input number r refused (inr (inl (other, is, h))) = subst (λ (n : ℕ). TellsInputWord n r) (one_number asked other number is refused) h
+word_told asked input number r refused (inr (inr h)) = absurd (not_refused asked r.text number h.0 refused)
+
+pub meaning_told : (number : Text) (input : List ℕ) (r : Reply) → MayAnswer (Explains number) input r → TellsMeaning (Explains number) r
+meaning_told number input r (inl (order, is_asked, h)) = absurd is_asked
+meaning_told number input r (inr (inl (other, is, h))) = absurd is
+meaning_told number input r (inr (inr h)) = h
