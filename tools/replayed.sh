@@ -22,6 +22,7 @@ inputs_of() {
         pipeline) echo int:39 ;;
         read_member) echo ints:3=42 ;;
         read_number) echo text:41 ;;
+        sized_loop) echo ints:1=7,5=-3 ;;
         text_input) echo text:ab ;;
         texts) echo 'texts:1="4",2="x",3="-1"' ;;
         two_inputs) echo ints:1=7,5=-3 int:-4 ;;

@@ -1,5 +1,6 @@
 #!/bin/sh
-# Runs each command `$ ./tw ..` that README.md, docs/ and examples/sessions.txt show, and compares what it writes to standard
+# Runs each command `$ ./tw ..` that README.md, docs/ and examples/sessions.txt show, and those of tools/scripted.txt, which only the script
+# can play, and compares what it writes to standard
 # output with what stands below it; of a refusal, also that standard error names its explanation; and that `./tw --help` lists
 # the commands that the program lists. Tells of each that differs, and fails where one does.
 #
@@ -13,12 +14,13 @@ root=$(dirname "$(dirname "$(readlink -f "$0")")")
 room=$(mktemp -d)
 trap 'rm -rf "$room"' EXIT
 awk -f "$root/tools/shown.awk" -v folder="$room" "$root/README.md" "$root"/docs/*.md
-ln -s "$root/examples" "$root/bench" "$room"
+ln -s "$root/examples" "$root/bench" "$root/CHANGELOG.md" "$room"
 # The marker ends the last command.
-{ cat "$room/shown.txt" "$root/examples/sessions.txt"; echo '$ '; } >"$room/all"
+{ cat "$room/shown.txt" "$root/examples/sessions.txt" "$root/tools/scripted.txt"; echo '$ '; } >"$room/all"
 
 if [ "$1" = --trial ]; then
     mkdir -p "$room/crates/tw_main" "$room/bin" "$room/new" "$room/known"
+    ln -s "$root/crates/tw_command" "$room/crates"
     cp "$root/tw" "$root/crates.txt" "$room"
     cat >"$room/bin/rt" <<TEXT
 #!/bin/sh
@@ -90,7 +92,7 @@ commands() {
     sed -n '/^Commands:/,/^$/s/^  \([a-z]* .*\)/\1/p'
 }
 if [ "$1" != --trial ]; then
-    "$root/crates/tw_main/out/tw_main" --help | commands >wanted
+    "$root/crates/tw_main/out/tw_main" --help | commands | grep -v '^help ' >wanted
     ./tw --help | commands | grep -v '^build \|^test ' >printed
     diff wanted printed || differ=$((differ + 1))
 fi
