@@ -1,7 +1,8 @@
 //! Layouts as a line tells them.
 
 use crate::complaint::Complaint;
-use std::alloc::{AllocError, Global};
+use crate::text::Text;
+use std::alloc::Global;
 use tw_types::Layout;
 
 /// The layout of a text such as `1 1 4`; without words two of each kind.
@@ -35,18 +36,19 @@ fn read_numbers(text: &str) -> Result<(u8, u8, u8), Complaint> {
 }
 
 /// What a layout of three numbers has, or why there is none.
-pub fn layout_text(alloc: Global, text: &str) -> Result<String, Complaint> {
-    let (engines, servers, workers) = read_numbers(text)?;
+pub fn layout_text(alloc: Global, words: &str) -> Result<String, Complaint> {
+    let (engines, servers, workers) = read_numbers(words)?;
+    let mut text = Text::new(alloc);
     match Layout::new(engines, servers, workers) {
-        Ok(layout) => Ok(numbers_text(alloc, layout)?),
-        Err(refusal) => Ok(refusal.to_string(alloc)?),
+        Ok(layout) => put_layout(&mut text, layout),
+        Err(refusal) => text.display(&refusal),
     }
+    text.into_line()
 }
 
-/// A layout as `engines 1 servers 1 workers 4`.
-pub fn numbers_text(alloc: Global, layout: Layout) -> Result<String, AllocError> {
-    let engines = layout.engines();
-    let servers = layout.servers();
-    let workers = layout.workers();
-    format!(in alloc; "engines {engines} servers {servers} workers {workers}")
+/// Adds a layout as `engines 1 servers 1 workers 4`.
+pub fn put_layout(text: &mut Text, layout: Layout) {
+    text.number("engines ", u64::from(layout.engines()));
+    text.number(" servers ", u64::from(layout.servers()));
+    text.number(" workers ", u64::from(layout.workers()));
 }

@@ -5,14 +5,16 @@ ghost use Rattle.tw_code.specs.machine.Bounds.{AreBelow, opening_bound};
 
 use crate::complaint::Complaint;
 use crate::events::read_events;
-use crate::layouts::{layout_of, numbers_text, read_layout};
+use crate::given::Given;
+use crate::layouts::{layout_of, put_layout, read_layout};
 use crate::play::{Course, played};
 use crate::programs::{read_program, with_bytes};
 use crate::state::put_state;
-use std::alloc::{AllocError, Global};
-use tw_machine::{OpenRefused, Plain, Stopped};
+use crate::text::Text;
+use std::alloc::Global;
+use tw_machine::{Plain, Stopped};
 use tw_session::input_of;
-use tw_types::{Actor, Input};
+use tw_types::{Actor, Event, Input};
 
 /// The machine of a program, opened as the words of a case say: a layout, and behind `with` the inputs.
 fn opened(alloc: Global, words: &str, bytes: &[u8]) -> Result<Plain, Complaint>
@@ -42,45 +44,39 @@ pub fn machine_text(
     events: &str,
 ) -> Result<String, Complaint> {
     let played = run(alloc, words, bytes, events)?;
+    let mut text = Text::new(alloc);
     match played.answers.as_slice().split_last() {
-        Some((last, others)) => Ok(answers_text(alloc, *last, others)?),
+        Some((last, others)) => {
+            put_refused(&mut text, others);
+            put_answer(&mut text, *last);
+            text.into_line()
+        }
         None => Err(Complaint::NoEvents),
     }
 }
 
-fn answers_text(
-    alloc: Global,
-    last: Result<(), Stopped>,
-    others: &[Result<(), Stopped>],
-) -> Result<String, AllocError> {
-    let mut parts = refused(alloc, others)?;
-    parts.push(answer_text(alloc, last)?)?;
-    parts.as_slice().join(alloc, " / ")
-}
-
-/// Those of the first events that didn't go.
-fn refused(alloc: Global, answers: &[Result<(), Stopped>]) -> Result<Vec<String>, AllocError> {
-    let mut parts = Vec::new(alloc);
-    let mut number = 0u64;
+/// Adds those of the first events that didn't go.
+fn put_refused(text: &mut Text, answers: &[Result<(), Stopped>]) {
+    let mut number = 0_u64;
     for answer in answers {
         number = number.saturating_add(1);
         if answer.is_err() {
-            let text = answer_text(alloc, *answer)?;
-            parts.push(format!(in alloc; "event {number} {text}")?)?;
+            text.number("event ", number);
+            text.put(" ");
+            put_answer(text, *answer);
         }
     }
-    Ok(parts)
 }
 
-fn answer_text(alloc: Global, answer: Result<(), Stopped>) -> Result<String, AllocError> {
+fn put_answer(text: &mut Text, answer: Result<(), Stopped>) {
     match answer {
-        Ok(()) => "went".to_string(alloc),
-        Err(Stopped::NotEnabled) => "not enabled".to_string(alloc),
+        Ok(()) => text.put("went\n"),
+        Err(Stopped::NotEnabled) => text.put("not enabled\n"),
         Err(Stopped::Trap(cause)) => {
-            let number = cause.number();
-            format!(in alloc; "trap C{number}")
+            text.number("trap C", u64::from(cause.number()));
+            text.put("\n");
         }
-        Err(Stopped::NoMemory) => "no memory".to_string(alloc),
+        Err(Stopped::NoMemory) => text.put("no memory\n"),
     }
 }
 
@@ -92,9 +88,10 @@ pub fn state_text(
     events: &str,
 ) -> Result<String, Complaint> {
     let played = run(alloc, words, bytes, events)?;
-    let mut parts = refused(alloc, played.answers.as_slice())?;
-    put_state(alloc, &mut parts, played.plain.state())?;
-    Ok(parts.as_slice().join(alloc, " / ")?)
+    let mut text = Text::new(alloc);
+    put_refused(&mut text, played.answers.as_slice());
+    put_state(&mut text, played.plain.state());
+    text.into_line()
 }
 
 /// How many local instructions go from where engine 0 stands, of at most so many.
@@ -121,30 +118,43 @@ fn local_steps(alloc: Global, plain: &Plain, most: u64) -> Result<u64, Complaint
 pub fn open_text(alloc: Global, inputs: &str, bytes: &[u8]) -> Result<String, Complaint> {
     let layout = layout_of((1, 1, 1))?;
     let inputs = read_inputs(alloc, inputs)?;
-    match Plain::open(
-        alloc,
-        read_program(alloc, bytes)?,
-        inputs.as_slice(),
-        layout,
-    ) {
-        Ok(plain) => opened_text(alloc, &plain, bytes),
-        Err(refused) => unopened_text(alloc, &refused, bytes),
+    let program = read_program(alloc, bytes)?;
+    let mut text = Text::new(alloc);
+    match Plain::open(alloc, program, inputs.as_slice(), layout) {
+        Ok(plain) => {
+            text.put("opened ");
+            put_layout(&mut text, plain.layout());
+            with_bytes(alloc, text, plain.program(), bytes)
+        }
+        Err(refused) => {
+            text.debug(&refused);
+            with_bytes(alloc, text, &refused.program, bytes)
+        }
     }
 }
 
-fn opened_text(alloc: Global, plain: &Plain, bytes: &[u8]) -> Result<String, Complaint> {
-    let layout = numbers_text(alloc, plain.layout())?;
-    let text = format!(in alloc; "opened {layout}")?;
-    with_bytes(alloc, text, plain.program(), bytes)
-}
-
-fn unopened_text(alloc: Global, refused: &OpenRefused, bytes: &[u8]) -> Result<String, Complaint> {
-    let text = format!(in alloc; "{refused:?}")?;
-    with_bytes(alloc, text, &refused.program, bytes)
+/// Makes all events on the machine of a program.
+pub fn steps_all(
+    alloc: Global,
+    bytes: &[u8],
+    given: &Given,
+    events: &[Event],
+) -> Result<(), Complaint> {
+    let program = read_program(alloc, bytes)?;
+    let plain = match Plain::open(alloc, program, given.inputs.as_slice(), given.layout) {
+        Ok(plain) => plain,
+        Err(_) => return Err(Complaint::NotOpened),
+    };
+    let course = played(alloc, plain, events)?;
+    if course.answers.iter().all(|answer| answer.is_ok()) {
+        Ok(())
+    } else {
+        Err(Complaint::MachineDiffers)
+    }
 }
 
 /// Inputs by their words, as `tw run` takes them.
-fn read_inputs(alloc: Global, text: &str) -> Result<Vec<Input>, Complaint> {
+pub fn read_inputs(alloc: Global, text: &str) -> Result<Vec<Input>, Complaint> {
     let mut inputs = Vec::new(alloc);
     for word in text.split_whitespace() {
         inputs.push(read_input(alloc, word)?)?;

@@ -3,12 +3,13 @@
 use crate::book::Book;
 use crate::bytes::read_bytes;
 use crate::complaint::Complaint;
+use crate::text::Text;
 use crate::words::{read_words, unescaped};
-use std::alloc::{AllocError, Global};
+use std::alloc::Global;
 use std::sync::Wait;
 use std::thread::Threads;
 use std::time::Clock;
-use tw_session::session;
+use tw_session::{InStream, OutStream, session};
 
 /// The status and the whole text of a session with these words and this input.
 pub fn tw_text<H: AllocGlobal + Threads + Wait + Clock + Sync>(
@@ -24,6 +25,19 @@ pub fn tw_text<H: AllocGlobal + Threads + Wait + Clock + Sync>(
     session_text(rt.alloc(), code, written, is_unread)
 }
 
+/// The status of a session. All sessions are called here, so that the contract of `session` is read once.
+pub fn code_of<H, R: InStream, W: OutStream>(
+    rt: &H,
+    words: &[String],
+    reader: &mut R,
+    writer: &mut W,
+) -> u8
+where
+    H: AllocGlobal + Threads + Wait + Clock + Sync,
+{
+    session(rt, words, reader, writer).code()
+}
+
 /// The status of a session, how many bytes it left unread, and what it wrote.
 pub fn ended<H: AllocGlobal + Threads + Wait + Clock + Sync>(
     rt: &H,
@@ -32,8 +46,8 @@ pub fn ended<H: AllocGlobal + Threads + Wait + Clock + Sync>(
 ) -> (u8, usize, Vec<u8>) {
     let mut reader = input;
     let mut writer = Vec::new(rt.alloc());
-    let status = session(rt, words, &mut reader, &mut writer);
-    (status.code(), reader.len(), writer)
+    let code = code_of(rt, words, &mut reader, &mut writer);
+    (code, reader.len(), writer)
 }
 
 /// The status of a session without input, and which of these phrases its text lacks.
@@ -44,25 +58,26 @@ pub fn phrases_text<H: AllocGlobal + Threads + Wait + Clock + Sync>(
 ) -> Result<String, Complaint> {
     let words = read_words(rt.alloc(), words)?;
     let (code, _, written) = ended(rt, words.as_slice(), &[]);
-    match String::from_utf8(written) {
-        Ok(text) => Ok(lacks_text(rt.alloc(), code, text.as_str(), phrases)?),
+    match str::from_utf8(written.as_slice()) {
+        Ok(written) => lacks_text(rt.alloc(), code, written, phrases),
         Err(_) => Err(Complaint::WrittenBytes),
     }
 }
 
-fn lacks_text(alloc: Global, code: u8, text: &str, phrases: &str) -> Result<String, AllocError> {
-    let mut told = code.to_string(alloc)?;
+fn lacks_text(alloc: Global, code: u8, written: &str, phrases: &str) -> Result<String, Complaint> {
+    let mut text = Text::new(alloc);
+    text.number("", u64::from(code));
     for phrase in phrases.split(" / ") {
-        if !text.contains(phrase) {
-            told.push_str(" without ")?;
-            told.push_str(phrase)?;
+        if !written.contains(phrase) {
+            text.put(" without ");
+            text.put(phrase);
         }
     }
-    Ok(told)
+    text.into_line()
 }
 
 /// The parts of an input, which ` then ` parts.
-fn read_input(alloc: Global, book: &Book, text: &str) -> Result<Vec<u8>, Complaint> {
+pub fn read_input(alloc: Global, book: &Book, text: &str) -> Result<Vec<u8>, Complaint> {
     let mut input = Vec::new(alloc);
     for part in text.split(" then ") {
         input.extend_from_slice(read_part(alloc, book, part)?.as_slice())?;
@@ -119,10 +134,17 @@ pub fn cuts_text<H: AllocGlobal + Threads + Wait + Clock + Sync>(
         let (code, _, written) = ended(rt, words.as_slice(), &input[..count]);
         let told = session_text(rt.alloc(), code, written, false)?;
         if !is_known(told.as_str()) {
-            return Ok(format!(in rt.alloc(); "the first {count} come to {told}")?);
+            let mut text = Text::new(rt.alloc());
+            text.number("the first ", count as u64);
+            text.put(" come to ");
+            text.put(told.as_str());
+            return text.into_line();
         }
     }
-    Ok(format!(in rt.alloc(); "{} cuts", input.len())?)
+    let mut text = Text::new(rt.alloc());
+    text.number("", input.len() as u64);
+    text.put(" cuts");
+    text.into_line()
 }
 
 /// Whether it tells the digits of bytes, or a text's fault and its line.
@@ -146,18 +168,12 @@ fn session_text(
     written: Vec<u8>,
     is_unread: bool,
 ) -> Result<String, Complaint> {
-    let Ok(text) = String::from_utf8(written) else {
-        return Err(Complaint::WrittenBytes);
-    };
-    let text = one_line(alloc, text.as_str())?;
-    let unread = if is_unread { " unread" } else { "" };
-    Ok(format!(in alloc; "{code}{unread} {text}")?)
-}
-
-/// The text with a slash for each line end but the last.
-fn one_line(alloc: Global, text: &str) -> Result<String, Complaint> {
-    match text.strip_suffix('\n') {
-        Some(lines) => Ok(lines.replace(alloc, "\n", " / ")?),
-        None => Ok(format!(in alloc; "{text} (without a line end)")?),
+    let mut text = Text::new(alloc);
+    text.number("", u64::from(code));
+    text.put(if is_unread { " unread " } else { " " });
+    text.put_bytes(written.as_slice());
+    if written.as_slice().last() != Some(&b'\n') {
+        text.put(" (without a line end)");
     }
+    text.into_line()
 }

@@ -2,6 +2,7 @@
 
 use crate::complaint::Complaint;
 use crate::sessions::ended;
+use crate::text::Text;
 use crate::words::read_words;
 use std::fs;
 use std::rt::Files;
@@ -24,7 +25,10 @@ pub fn shown_text<H: AllocGlobal + Files + Threads + Wait + Clock + Sync>(
         }
         commands = commands.saturating_add(1);
     }
-    Ok(format!(in rt.alloc(); "{commands} as shown")?)
+    let mut text = Text::new(rt.alloc());
+    text.number("", commands);
+    text.put(" as shown");
+    text.into_line()
 }
 
 /// What the last of some sessions prints, where each reads a file or what the one before wrote.

@@ -7,23 +7,17 @@ use std::{env, io};
 use tw_code::decode;
 use tw_verify::{Verified, verify};
 
-/// The bytes that the word behind `steps` spells in hex digits.
-fn bytes_of(rt: &(impl Env + AllocGlobal)) -> io::Result<Vec<u8>> {
-    match env::args(rt)?.nth(2) {
-        Some(word) => match hex::decode(rt.alloc(), word.as_str()) {
-            Ok(bytes) => Ok(bytes),
-            Err(_) => Ok(Vec::new(rt.alloc())),
-        },
-        None => Ok(Vec::new(rt.alloc())),
-    }
-}
-
-/// The number that the word behind these spells; 1 where there is none.
-fn count_of(rt: &(impl Env + AllocGlobal)) -> io::Result<u32> {
-    match env::args(rt)?.nth(3) {
-        Some(word) => Ok(word.as_str().parse::<u32>().unwrap_or(1)),
-        None => Ok(1),
-    }
+/// The bytes that the word behind `steps` spells in hex digits, and the number that the word behind that one spells: 1 where there is none.
+fn asked_of(rt: &(impl Env + AllocGlobal)) -> io::Result<(Vec<u8>, u32)> {
+    let mut words = env::args(rt)?.skip(2);
+    let bytes = match words.next() {
+        Some(word) => hex::decode(rt.alloc(), word.as_str()).ok(),
+        None => None,
+    };
+    let count = words
+        .next()
+        .map_or(1, |word| word.as_str().parse::<u32>().unwrap_or(1));
+    Ok((bytes.unwrap_or(Vec::new(rt.alloc())), count))
 }
 
 /// Main's local instructions, so many times, each with a task, a frame and a job of its own.
@@ -40,8 +34,7 @@ fn rounds_alone(alloc: Global, verified: &Verified, count: u32) -> Result<u64, A
 
 /// Tells how many local instructions main does, of the program and as many times as the words say.
 pub fn print_steps(rt: &HostRuntime) -> io::Result<()> {
-    let bytes = bytes_of(rt)?;
-    let count = count_of(rt)?;
+    let (bytes, count) = asked_of(rt)?;
     let Ok(program) = decode(rt.alloc(), &bytes) else {
         return println!(rt; "no program");
     };

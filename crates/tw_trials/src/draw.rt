@@ -11,3 +11,10 @@ pub fn draw(seed: &mut u64, bound: u64) -> u8
         .wrapping_add(1_442_695_040_888_963_407);
     u8::try_from((*seed >> 33) % bound).unwrap_or(0)
 }
+
+/// Where the sequence of a program begins.
+pub fn seed_of(number: u64) -> u64 {
+    number
+        .wrapping_add(1)
+        .wrapping_mul(11_400_714_819_323_198_485)
+}

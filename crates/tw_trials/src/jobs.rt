@@ -152,7 +152,7 @@ pub fn first_stretch(alloc: Global, count: u64, most: u64) -> Option<(&'static s
         if agreeing == count {
             return None;
         }
-        let Ok(bytes) = next_program(alloc, &mut seed) else {
+        let Some(bytes) = next_program(alloc, &mut seed) else {
             continue;
         };
         match agrees_again(alloc, &bytes, most) {

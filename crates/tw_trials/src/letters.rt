@@ -37,12 +37,12 @@ fn letter_of(digit: u32) -> Letter {
 pub fn spelled(alloc: Global, code: &[Letter]) -> Result<Vec<u8>, AllocError> {
     let length = u8::try_from(code.len()).unwrap_or(0);
     let mut bytes = Vec::new(alloc);
-    bytes.extend_from_slice(&HEAD)?;
-    bytes.extend_from_slice(&[0, length])?;
+    let mut is_whole = bytes.extend_from_slice(&HEAD).is_ok();
+    is_whole &= bytes.extend_from_slice(&[0, length]).is_ok();
     for letter in code {
-        spell(&mut bytes, *letter)?;
+        is_whole &= spell(&mut bytes, *letter).is_ok();
     }
-    Ok(bytes)
+    if is_whole { Ok(bytes) } else { Err(AllocError) }
 }
 
 fn spell(bytes: &mut Vec<u8>, letter: Letter) -> Result<(), AllocError> {

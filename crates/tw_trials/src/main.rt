@@ -1,127 +1,232 @@
-//! Trials that run long: each prints its first difference, if there is one, and a last line tells how many agree. With a word
-//! behind the name only those run in which memory may be refused, which are the first, and they are short; with the word `steps`
-//! a program's main runs by itself, to be measured.
+//! Trials that run long: each prints its first difference, if there is one, and a last line tells how many agree. With a number
+//! behind the name only whole runs are tried, of so many programs; with another word only those trials run in which memory may be
+//! refused, which are the first, and they are short; with the word `steps` a program's main runs by itself, to be measured.
 #![tactic(auto)]
 
 mod alone;
 mod calls;
+mod case;
+mod code;
+mod data;
 mod draw;
+mod inputs;
 mod jobs;
 mod letters;
-mod lives;
+mod local;
+mod long;
 mod members;
 mod numbered;
+mod prefixes;
+mod programs;
+mod put_calls;
 mod puts;
+mod replay;
+mod rights;
+mod rounds;
 mod rules;
 mod search;
+mod signature;
 mod stores;
 mod stretches;
+mod threads;
+mod trial;
 mod walks;
 
+use crate::trial::{Change, Tally, first_changed, too_few, tried};
+use std::alloc::Global;
+use std::sync::Wait;
+use std::thread::Threads;
+use std::time::Clock;
 use std::{env, io};
 
 /// More steps than a stretch has.
 const MOST: u64 = 1_000_000;
 
+/// How many programs are drawn and run, where no word says it.
+const PROGRAMS: u64 = 2_000;
+
+/// The most events of a run that is tried at each number of them.
+const FEW: usize = 60;
+
 /// What differs first, if something does, as a number of its kind.
 type Difference = Option<(&'static str, u64)>;
 
-/// Tells what differs in a trial; one more if nothing does.
-fn told(rt: &HostRuntime, agreeing: u64, name: &str, difference: Difference) -> io::Result<u64> {
-    if let Some((what, number)) = difference {
-        println!(rt; "{name}: {what} {number} differs")?;
-        return Ok(agreeing);
+/// How many trials agree, and whether each that differs could be told.
+#[derive(Drop)]
+struct Verdicts<'r, R> {
+    rt: &'r R,
+    agreeing: u64,
+    are_told: bool,
+}
+
+impl<R: Print + Threads + Wait + Clock + Sync> Verdicts<'_, R> {
+    /// Tells what differs in a trial; counts one that agrees.
+    fn add(&mut self, name: &str, difference: Difference) {
+        match difference {
+            Some((what, number)) => {
+                self.are_told &= println!(self.rt; "{name}: {what} {number} differs").is_ok();
+            }
+            None => self.agreeing = self.agreeing.wrapping_add(1),
+        }
     }
-    Ok(agreeing.wrapping_add(1))
-}
 
-/// What differs in a trial that has one answer only.
-fn whole(agrees: bool) -> Difference {
-    if agrees { None } else { Some(("its end", 0)) }
-}
+    /// The same of a trial that has one answer only.
+    fn whole(&mut self, name: &str, agrees: bool) {
+        self.add(name, if agrees { None } else { Some(("its end", 0)) });
+    }
 
-/// The trials in which memory may be refused, of so many calls; how many agree.
-fn refusal_trials(rt: &HostRuntime, calls: u16) -> io::Result<u64> {
-    let alloc = rt.alloc();
-    let agreeing = told(rt, 0, "calls of the store", stores::calls_go(alloc))?;
-    let puts = puts::calls_are_the_searchs(alloc, calls);
-    let agreeing = told(rt, agreeing, "puts and takes", puts)?;
-    let rules = rules::calls_are_the_lists(alloc, calls);
-    let agreeing = told(rt, agreeing, "calls of the rules", rules)?;
-    let jobs = jobs::first_stretch(alloc, u64::from(calls / 10), MOST);
-    told(rt, agreeing, "jobs", jobs)
-}
+    /// The trials in which memory may be refused, of so many calls.
+    fn refusal_trials(&mut self, alloc: Global, calls: u16) {
+        self.add("calls of the store", stores::calls_go(alloc));
+        self.add("puts and takes", puts::calls_are_the_searchs(alloc, calls));
+        self.add(
+            "calls of the rules",
+            rules::calls_are_the_lists(alloc, calls),
+        );
+        self.add(
+            "jobs",
+            jobs::first_stretch(alloc, u64::from(calls / 10), MOST),
+        );
+        self.whole("a control that is to differ", false);
+        let short = jobs::first_stretch(alloc, 10, 5);
+        self.add("jobs, a control of five steps that is to differ", short);
+    }
 
-/// The trials of the host's parts in which all memory is had; how many agree, with those before.
-fn whole_trials(rt: &HostRuntime, agreeing: u64) -> io::Result<u64> {
-    let alloc = rt.alloc();
-    let puts = puts::calls_are_the_searchs(alloc, 10_000);
-    let agreeing = told(rt, agreeing, "10,000 puts and takes", puts)?;
-    let rules = rules::calls_are_the_lists(alloc, 10_000);
-    let agreeing = told(rt, agreeing, "10,000 calls of the rules", rules)?;
-    let jobs = jobs::first_stretch(alloc, 10_000, MOST);
-    let mut agreeing = told(rt, agreeing, "10,000 jobs", jobs)?;
-    for (name, agrees) in [
-        (
+    /// The trials of the host's parts in which all memory is had.
+    fn whole_trials(&mut self, alloc: Global) {
+        self.add(
+            "10,000 puts and takes",
+            puts::calls_are_the_searchs(alloc, 10_000),
+        );
+        self.add(
+            "10,000 calls of the rules",
+            rules::calls_are_the_lists(alloc, 10_000),
+        );
+        self.add("10,000 jobs", jobs::first_stretch(alloc, 10_000, MOST));
+        self.whole(
             "a thousand members are found",
             members::thousand_are_found(alloc),
-        ),
-        (
+        );
+        self.whole(
             "a thousand members are freed",
             members::thousand_are_freed(alloc),
-        ),
-        ("a thousand data in turn", members::thousand_in_turn(alloc)),
-        (
-            "lives beside a hundred",
-            lives::lives_read(alloc, 100, 10_000) == Some(10_000),
-        ),
-        ("the order of tasks", puts::best_goes_first(alloc)),
-        ("worked calls of the rules", rules::worked_calls_go(alloc)),
-    ] {
-        agreeing = told(rt, agreeing, name, whole(agrees))?;
+        );
+        self.whole("a thousand data in turn", members::thousand_in_turn(alloc));
+        self.whole("lives beside a hundred", members::lives_are_read(alloc));
+        self.whole("the order of tasks", puts::best_goes_first(alloc));
+        self.whole("worked calls of the rules", rules::worked_calls_go(alloc));
     }
-    Ok(agreeing)
+
+    /// Tells how many programs came to what.
+    fn tell_tally(&mut self, programs: u64, tally: &Tally) {
+        let Tally {
+            refused,
+            quiet,
+            stuck,
+            limit,
+            events,
+            runs,
+            prefixes,
+            threads,
+            ..
+        } = *tally;
+        self.are_told &= println!(self.rt;
+            "{programs} programs in rounds: refused {refused}, quiet {quiet}, stuck {stuck}, limit {limit}, of {events} events"
+        ).is_ok();
+        self.are_told &= println!(self.rt;
+            "{runs} runs of at most {FEW} events, {prefixes} times at each number of them"
+        ).is_ok();
+        self.are_told &= println!(self.rt; "{threads} programs in threads").is_ok();
+    }
+
+    /// So many programs in rounds, at each number of their events and in threads, and whether each end came often enough; a long run; and
+    /// two controls.
+    fn run_trials(&mut self, alloc: Global, programs: u64) {
+        let tally = tried(self.rt, alloc, programs, FEW);
+        self.tell_tally(programs, &tally);
+        self.add("in rounds", of_program(tally.in_rounds));
+        self.add("at each number of events", of_program(tally.at_each));
+        self.add("in threads", of_program(tally.in_threads));
+        self.add("how often runs end so", too_few(&tally, programs));
+        self.whole("a long run", long::runs_agree(self.rt, alloc, 2));
+        let shorter = first_changed(alloc, 100, Change::Shorter);
+        self.add(
+            "without the last event, a control that is to differ",
+            of_program(shorter),
+        );
+        let slower = first_changed(alloc, 100, Change::Slower);
+        self.add(
+            "with a step less, a control that is to differ",
+            of_program(slower),
+        );
+    }
+
+    /// The verifier against all walks.
+    fn verifier_trials(&mut self, alloc: Global) {
+        for (name, digits, count, is_structured) in [
+            ("1 instruction", 1, 11, false),
+            ("2 instructions", 2, 121, false),
+            ("3 instructions", 3, 1_331, false),
+            ("4 instructions", 4, 14_641, false),
+            ("4 instructions and RET", 4, 14_641, true),
+            ("5 instructions and RET", 5, 161_051, true),
+        ] {
+            self.add(
+                name,
+                search::first_code(alloc, digits, count, is_structured),
+            );
+        }
+    }
 }
 
-/// The verifier against all walks; how many agree, with those before.
-fn verifier_trials(rt: &HostRuntime, agreeing: u64) -> io::Result<u64> {
-    let mut agreeing = agreeing;
-    for (name, digits, count, is_structured) in [
-        ("1 instruction", 1, 11, false),
-        ("2 instructions", 2, 121, false),
-        ("3 instructions", 3, 1_331, false),
-        ("4 instructions", 4, 14_641, false),
-        ("4 instructions and RET", 4, 14_641, true),
-        ("5 instructions and RET", 5, 161_051, true),
-    ] {
-        let difference = search::first_code(rt.alloc(), digits, count, is_structured);
-        agreeing = told(rt, agreeing, name, difference)?;
-    }
-    Ok(agreeing)
+fn of_program(number: Option<u64>) -> Difference {
+    Some(("program", number?))
 }
 
-/// All trials, or those alone in which memory may be refused.
-fn trials(rt: &HostRuntime, is_whole: bool) -> io::Result<()> {
-    let mut agreeing = refusal_trials(rt, 300)?;
-    if is_whole {
-        agreeing = whole_trials(rt, agreeing)?;
-        agreeing = verifier_trials(rt, agreeing)?;
-    }
-    agreeing = told(rt, agreeing, "a control that is to differ", whole(false))?;
-    let short = jobs::first_stretch(rt.alloc(), 10, 5);
-    agreeing = told(
+/// Which trials run.
+#[derive(Clone, Copy, PartialEq, Eq)]
+enum Asked {
+    All,
+    Refusals,
+    Runs(u64),
+}
+
+fn trials<R: AllocGlobal + Print + Threads + Wait + Clock + Sync>(
+    rt: &R,
+    asked: Asked,
+) -> io::Result<()> {
+    let alloc = rt.alloc();
+    let mut verdicts = Verdicts {
         rt,
-        agreeing,
-        "jobs, a control of five steps that is to differ",
-        short,
-    )?;
-    println!(rt; "{agreeing} trials agree")
+        agreeing: 0,
+        are_told: true,
+    };
+    match asked {
+        Asked::Runs(programs) => verdicts.run_trials(alloc, programs),
+        Asked::Refusals => verdicts.refusal_trials(alloc, 300),
+        Asked::All => {
+            verdicts.refusal_trials(alloc, 300);
+            verdicts.whole_trials(alloc);
+            verdicts.verifier_trials(alloc);
+            verdicts.run_trials(alloc, PROGRAMS);
+        }
+    }
+    let agreeing = verdicts.agreeing;
+    println!(rt; "{agreeing} trials agree")?;
+    if verdicts.are_told {
+        Ok(())
+    } else {
+        Err(io::Error::from(io::ErrorKind::BrokenPipe))
+    }
 }
 
 fn main(rt: HostRuntime) -> io::Result<()> {
     match env::args(&rt)?.nth(1) {
-        None => trials(&rt, true),
+        None => trials(&rt, Asked::All),
         Some(word) if word.as_str() == "steps" => alone::print_steps(&rt),
-        Some(_) => trials(&rt, false),
+        Some(word) => match word.as_str().parse::<u64>() {
+            Ok(programs) => trials(&rt, Asked::Runs(programs)),
+            Err(_) => trials(&rt, Asked::Refusals),
+        },
     }
 }

@@ -1,4 +1,4 @@
-//! A container of a thousand members, and a thousand data one after the other.
+//! A container of a thousand members, and data one after the other.
 
 ghost use Rattle.tw_store.specs.Served.{KnowsPlaces};
 
@@ -145,4 +145,30 @@ pub fn thousand_in_turn(alloc: Global) -> bool {
         went = is_made_and_freed(alloc, &mut store) && went;
     }
     went && store.next().number() == 1_001
+}
+
+/// Makes the next datum, sets it to the number, reads it and lets its read go; whether it was read as it was set, and is gone.
+fn is_read_and_freed(alloc: Global, store: &mut Store, number: i64) -> bool {
+    let id = store.next().number();
+    let set = Call::Set(id, Plain::Number(number));
+    answers(alloc, store, Call::Create(0, false), Answer::Id(id))
+        && answers(alloc, store, set, Answer::Done)
+        && answers(alloc, store, Call::Retrieve(id), Answer::Number(number))
+        && answers(alloc, store, Call::DropRead(id), Answer::Done)
+        && store.view(DatumId::new(id)).is_none()
+}
+
+/// Ten thousand ints, one after the other, are read as they were set, beside a hundred that stay.
+pub fn lives_are_read(alloc: Global) -> bool {
+    let Ok(mut store) = Store::new(alloc, 1) else {
+        return false;
+    };
+    let mut went = true;
+    for id in 1..101_u64 {
+        went &= answers(alloc, &mut store, Call::Create(0, false), Answer::Id(id));
+    }
+    for number in 0..10_000_i64 {
+        went = is_read_and_freed(alloc, &mut store, number) && went;
+    }
+    went && store.next().number() == 10_101
 }

@@ -293,13 +293,15 @@ fn are_listed(table: &RuleTable, list: &[Listed], next: u64) -> bool {
 /// Whether a rule that is told stands in the list.
 fn is_told_of(list: &[Listed], told: &PlainRule) -> bool {
     let number = told.number.number();
-    list.iter().any(|rule| {
-        rule.number == number
+    let mut is_there = false;
+    for rule in list {
+        is_there |= rule.number == number
             && rule.engine == told.engine
             && told.action == action_of(number)
             && told.args.as_slice() == plain_args(number, rule.modes).as_slice()
-            && rule.stages.as_slice() == told.stages.as_slice()
-    })
+            && rule.stages.as_slice() == told.stages.as_slice();
+    }
+    is_there
 }
 
 // ---- the worked calls

@@ -3,7 +3,7 @@
 ghost use Rattle.std.specs.Prelude.{◌<◌};
 
 use crate::draw::draw;
-use std::alloc::{AllocError, Global};
+use std::alloc::Global;
 
 /// The magic bytes, the version, and one procedure: control, without parameters, with three ints and three texts.
 const HEAD: [u8; 14] = [
@@ -27,12 +27,18 @@ const TEXTS: [&str; 6] = ["", "7", "-12", "007", "\u{fc}b", "9223372036854775808
 struct Code {
     bytes: Vec<u8>,
     count: u8,
+    /// Whether all that was added had memory.
+    is_whole: bool,
 }
 
 impl Code {
-    fn add(&mut self, bytes: &[u8]) -> Result<(), AllocError> {
+    fn put(&mut self, bytes: &[u8]) {
+        self.is_whole &= self.bytes.extend_from_slice(bytes).is_ok();
+    }
+
+    fn add(&mut self, bytes: &[u8]) {
         self.count = self.count.saturating_add(1);
-        self.bytes.extend_from_slice(bytes)
+        self.put(bytes);
     }
 }
 
@@ -44,23 +50,23 @@ fn text_register(seed: &mut u64) -> u8 {
     draw(seed, 3).saturating_add(3)
 }
 
-fn add_int(code: &mut Code, seed: &mut u64, to: u8) -> Result<(), AllocError> {
+fn add_int(code: &mut Code, seed: &mut u64, to: u8) {
     let mut bytes = [1, to, 0, 0, 0, 0, 0, 0, 0, 0];
     let number = NUMBERS[usize::from(draw(seed, 5)) % 5];
     for index in 0..8_usize {
         bytes[index + 2] = number[index];
     }
-    code.add(&bytes)
+    code.add(&bytes);
 }
 
-fn add_text(code: &mut Code, seed: &mut u64, to: u8) -> Result<(), AllocError> {
+fn add_text(code: &mut Code, seed: &mut u64, to: u8) {
     let text = TEXTS[usize::from(draw(seed, 6)) % 6];
-    code.add(&[2, to, 0, u8::try_from(text.len()).unwrap_or(0)])?;
-    code.bytes.extend_from_slice(text.as_bytes())
+    code.add(&[2, to, 0, u8::try_from(text.len()).unwrap_or(0)]);
+    code.put(text.as_bytes());
 }
 
 /// A local instruction with a skip, or COPY, LEN or SHOW; those behind it in its block are so many.
-fn add_other(code: &mut Code, seed: &mut u64, behind: u8) -> Result<(), AllocError> {
+fn add_other(code: &mut Code, seed: &mut u64, behind: u8) {
     let skip = draw(seed, u64::from(behind).saturating_add(1));
     let (int, left, right) = (int_register(seed), int_register(seed), int_register(seed));
     let (text, first, second) = (
@@ -87,7 +93,7 @@ fn add_other(code: &mut Code, seed: &mut u64, behind: u8) -> Result<(), AllocErr
 }
 
 /// Fewer instructions than the bound, one after the other.
-fn add_block(code: &mut Code, seed: &mut u64, bound: u64) -> Result<(), AllocError>
+fn add_block(code: &mut Code, seed: &mut u64, bound: u64)
     requires { 0 < bound }
 {
     let count = draw(seed, bound);
@@ -95,50 +101,50 @@ fn add_block(code: &mut Code, seed: &mut u64, bound: u64) -> Result<(), AllocErr
         let behind = count - index - 1;
         let (int, text) = (int_register(seed), text_register(seed));
         match draw(seed, 10) {
-            0 => add_int(code, seed, int)?,
-            1 => add_text(code, seed, text)?,
-            2 => code.add(&[0x20, 0, draw(seed, u64::from(behind).saturating_add(1)) / 3])?,
-            _ => add_other(code, seed, behind)?,
+            0 => add_int(code, seed, int),
+            1 => add_text(code, seed, text),
+            2 => code.add(&[0x20, 0, draw(seed, u64::from(behind).saturating_add(1)) / 3]),
+            _ => add_other(code, seed, behind),
         }
     }
-    Ok(())
 }
 
 /// A loop in a loop, with instructions before, between and behind them, and RET.
-fn add_loops(code: &mut Code, seed: &mut u64) -> Result<(), AllocError> {
-    add_block(code, seed, 4)?;
-    code.add(&[0x23, 0, draw(seed, 3).saturating_add(1)])?;
-    add_block(code, seed, 4)?;
-    code.add(&[0x23, 0, draw(seed, 5).saturating_add(1)])?;
-    add_block(code, seed, 5)?;
-    code.add(&[0x24])?;
-    add_block(code, seed, 3)?;
-    code.add(&[0x24])?;
-    add_block(code, seed, 4)?;
-    code.add(&[0x42])
+fn add_loops(code: &mut Code, seed: &mut u64) {
+    add_block(code, seed, 4);
+    code.add(&[0x23, 0, draw(seed, 3).saturating_add(1)]);
+    add_block(code, seed, 4);
+    code.add(&[0x23, 0, draw(seed, 5).saturating_add(1)]);
+    add_block(code, seed, 5);
+    code.add(&[0x24]);
+    add_block(code, seed, 3);
+    code.add(&[0x24]);
+    add_block(code, seed, 4);
+    code.add(&[0x42]);
 }
 
-/// The bytes of a program of one procedure with this code, of so many instructions.
-fn spelled(alloc: Global, code: &[u8], count: u8) -> Result<Vec<u8>, AllocError> {
-    let mut bytes = Vec::new(alloc);
-    bytes.extend_from_slice(&HEAD)?;
-    bytes.extend_from_slice(&[0, count])?;
-    bytes.extend_from_slice(code)?;
-    Ok(bytes)
-}
-
-/// The bytes of the next program of the sequence.
-pub fn next_program(alloc: Global, seed: &mut u64) -> Result<Vec<u8>, AllocError> {
+/// The bytes of the next program of the sequence, if there is memory for them. Its one procedure has so many instructions, which stands
+/// before them.
+pub fn next_program(alloc: Global, seed: &mut u64) -> Option<Vec<u8>> {
     let mut code = Code {
         bytes: Vec::new(alloc),
         count: 0,
+        is_whole: true,
     };
+    code.put(&HEAD);
+    code.put(&[0, 0]);
     for register in 0..3 {
-        add_int(&mut code, seed, register)?;
+        add_int(&mut code, seed, register);
     }
     for register in 3..6 {
-        add_text(&mut code, seed, register)?;
+        add_text(&mut code, seed, register);
     }
-    add_loops(&mut code, seed)?;
-    spelled(alloc, code.bytes.as_slice(), code.count)
+    add_loops(&mut code, seed);
+    let Code {
+        mut bytes,
+        count,
+        is_whole,
+    } = code;
+    *bytes.get_mut(HEAD.len() + 1)? = count;
+    if is_whole { Some(bytes) } else { None }
 }

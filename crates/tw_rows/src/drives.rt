@@ -1,0 +1,84 @@
+//! Cases of seats that are driven one after another in one thread.
+
+ghost use Rattle.std.specs.Prelude.{◌≡◌, ◌<◌, vec_len};
+ghost use Rattle.tw_host.specs.Seats.{actor_count};
+
+use crate::complaint::Complaint;
+use crate::given::{Given, read_given, read_verified};
+use crate::text::Text;
+use crate::threads::put_end;
+use std::alloc::Global;
+use std::marker::Brand;
+use std::sync::Wait;
+use std::sync::ledger::Blank;
+use std::time::Clock;
+use tw_host::{Closed, Host, Named, Seat};
+use tw_verify::Verified;
+use tw_workers::{Driven, NoGate, drive};
+
+/// Drives the first seat, which comes behind the others. Whether memory ran out.
+fn drive_first<'a, N: Named, R: Wait + Clock>(
+    rt: &R,
+    alloc: Global,
+    host: &Host<'a, N>,
+    seats: &mut Vec<Seat<N>>,
+) -> bool
+    requires { 0 < vec_len seats.old }
+    ensures { vec_len seats.new ≡ vec_len seats.old }
+{
+    let seat = seats.remove(0);
+    let Driven { seat, memory } = drive(rt, alloc, host, seat, &NoGate);
+    seats.push_reserved(seat);
+    memory
+}
+
+/// Drives the engine's seat to the end of the run, and then the others'; or stops the run first. Whether memory ran out, and how
+/// the host closes.
+fn driven_by<N: Named, R: Wait + Clock>(
+    rt: &R,
+    alloc: Global,
+    blank: Blank,
+    verified: &Verified,
+    given: &Given,
+    is_stopped: bool,
+) -> Option<(bool, Closed)>
+    requires ledger { (blank.name ≡ N.name) × (blank.parts ≡ N.parts) × (blank.parts ≡ actor_count given.now.layout) }
+    requires run { N.run ≡ record { program = verified.now; inputs = given.now.inputs.items; layout = given.now.layout; limit = given.now.limit } }
+    requires three { actor_count given.now.layout ≡ 3 }
+{
+    let inputs = given.inputs.as_slice();
+    let opened = Host::<N>::open(alloc, blank, verified, inputs, given.layout, given.limit);
+    let Ok((host, mut seats)) = opened else {
+        return None;
+    };
+    if is_stopped {
+        host.stop(rt);
+    }
+    let engine = drive_first(rt, alloc, &host, &mut seats);
+    let server = drive_first(rt, alloc, &host, &mut seats);
+    let worker = drive_first(rt, alloc, &host, &mut seats);
+    Some((engine | server | worker, host.close(seats)))
+}
+
+/// How many events there are, which, and the report, where the seats of one engine, server and worker are driven.
+pub fn drives_text<R: Wait + Clock>(
+    rt: &R,
+    alloc: Global,
+    words: &str,
+    bytes: &[u8],
+) -> Result<String, Complaint> {
+    let given = read_given(alloc, "1 1 1")?;
+    let verified = read_verified(alloc, bytes)?;
+    if given.layout.actor_count() != 3 {
+        return Err(Complaint::SeatCount);
+    }
+    let blank = Blank::new(3);
+    let is_stopped = words == "stopped";
+    let driven = driven_by::<Brand, R>(rt, alloc, blank, &verified, &given, is_stopped);
+    let Some((false, closed)) = driven else {
+        return Err(Complaint::NotOpened);
+    };
+    let mut text = Text::new(alloc);
+    put_end(alloc, &mut text, &closed, true);
+    text.into_line()
+}

@@ -1,0 +1,47 @@
+//! What the words and bytes of a case give to its runs.
+
+use crate::complaint::Complaint;
+use crate::layouts::read_layout;
+use crate::machine::read_inputs;
+use crate::programs::read_program;
+use crate::tables::Order;
+use std::alloc::Global;
+use tw_types::{Input, Layout};
+use tw_verify::{Verified, verify};
+
+/// What a run is given: the second inputs are another one's, beside it.
+#[derive(Drop)]
+pub struct Given {
+    pub inputs: Vec<Input>,
+    pub others: Vec<Input>,
+    pub layout: Layout,
+    pub limit: usize,
+    pub order: Order,
+}
+
+/// A layout, and where they stand ` reversed` or ` shuffled`, ` limit N`, ` with INPUTS` and ` and INPUTS`.
+pub fn read_given(alloc: Global, words: &str) -> Result<Given, Complaint> {
+    let (words, inputs) = words.split_once(" with ").unwrap_or((words, ""));
+    let (inputs, others) = inputs.split_once(" and ").unwrap_or((inputs, inputs));
+    let (words, limit) = words.split_once(" limit ").unwrap_or((words, "100"));
+    let (layout, order) = match words.rsplit_once(' ') {
+        Some((layout, "reversed")) => (layout, Order::Reversed),
+        Some((layout, "shuffled")) => (layout, Order::Shuffled),
+        _ => (words, Order::Kept),
+    };
+    Ok(Given {
+        inputs: read_inputs(alloc, inputs)?,
+        others: read_inputs(alloc, others)?,
+        layout: read_layout(layout)?,
+        limit: limit.parse::<usize>()?,
+        order,
+    })
+}
+
+/// The program that bytes spell, where it is accepted.
+pub fn read_verified(alloc: Global, bytes: &[u8]) -> Result<Verified, Complaint> {
+    match verify(alloc, read_program(alloc, bytes)?) {
+        Ok(verified) => Ok(verified),
+        Err(_) => Err(Complaint::Refused),
+    }
+}

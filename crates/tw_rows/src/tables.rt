@@ -1,0 +1,318 @@
+//! Pools and hosts that one thread turns, by one trait.
+
+ghost use Rattle.std.specs.Prelude.{◌≡◌, ◌<◌, IfSome, length, vec_len};
+ghost use Rattle.tw_host.specs.Seats.{actor_count};
+ghost use Rattle.tw_host.specs.Tells.{IsAnswerOf, IsDoneOf};
+
+use std::alloc::Global;
+use std::marker::PhantomData;
+use std::sync::Wait;
+use tw_frame::Done;
+use tw_host::{Closed, Host, Named, Seat};
+use tw_pool::{Closing, Final, History, Pool, Turn};
+use tw_types::{Actor, Event};
+
+/// A Done of the program of a run.
+#[derive(Drop)]
+pub struct Kept<'a, N: Named> {
+    done: Done<'a>,
+    run: PhantomData<N>,
+    ghost of: { done.before.program ≡ N.run.program },
+}
+
+/// What a turn answers.
+#[derive(Clone, Copy, PartialEq, Eq)]
+pub enum Said {
+    Quiet,
+    Stuck,
+    Stopped,
+    Limit,
+    Foreign,
+    Owed,
+    NoMemory,
+    Run,
+    Ended,
+    Went,
+    Idle,
+}
+
+impl Said {
+    pub fn words(self) -> &'static str {
+        match self {
+            Said::Quiet => "quiet",
+            Said::Stuck => "stuck",
+            Said::Stopped => "stopped",
+            Said::Limit => "limit",
+            Said::Foreign => "foreign",
+            Said::Owed => "owed",
+            Said::NoMemory => "no memory",
+            Said::Run => "run",
+            Said::Ended => "ended",
+            Said::Went => "went",
+            Said::Idle => "idle",
+        }
+    }
+
+    /// Whether the run is over.
+    pub fn is_over(self) -> bool {
+        matches!(
+            self,
+            Said::Quiet | Said::Stuck | Said::Stopped | Said::Limit
+        )
+    }
+
+    /// Whether the actor goes on.
+    pub fn goes_on(self) -> bool {
+        matches!(self, Said::Run | Said::Ended | Said::Went)
+    }
+}
+
+/// What a turn answers, with the number of the task or of the rules, and the Done of the job that it lends, or the Done that it gives
+/// back.
+#[derive(Drop)]
+pub struct Answer<K> {
+    pub said: Said,
+    pub number: u64,
+    /// Whether memory was refused to the job.
+    pub is_short: bool,
+    pub kept: Option<K>,
+}
+
+fn bare<'a, N: Named>(said: Said, number: u64) -> Answer<Kept<'a, N>> {
+    Answer {
+        said,
+        number,
+        is_short: false,
+        kept: None,
+    }
+}
+
+fn with_done<'a, N: Named>(said: Said, done: Done<'a>) -> Answer<Kept<'a, N>>
+    requires { done.before.program ≡ N.run.program }
+{
+    let number = done.before().task().number();
+    let is_short = done.short();
+    Answer {
+        said,
+        number,
+        is_short,
+        kept: Some(Kept {
+            done,
+            run: PhantomData,
+        }),
+    }
+}
+
+/// Why a run is over.
+pub fn over(closing: Closing) -> (Said, u64) {
+    match closing {
+        Closing::Quiet => (Said::Quiet, 0),
+        Closing::Stuck(rules) => (Said::Stuck, rules),
+        Closing::Stopped => (Said::Stopped, 0),
+        Closing::Limit => (Said::Limit, 0),
+    }
+}
+
+/// What a turn answers, whose job is run.
+fn answer_of<'a, N: Named>(alloc: Global, turn: Turn<'a>) -> Answer<Kept<'a, N>>
+    requires { IsAnswerOf N.run.program turn }
+{
+    match turn {
+        Turn::Over(closing) => {
+            let (said, number) = over(closing);
+            bare(said, number)
+        }
+        Turn::Foreign(done) => with_done(Said::Foreign, done),
+        Turn::Owed => bare(Said::Owed, 0),
+        Turn::NoMemory(None) => bare(Said::NoMemory, 0),
+        Turn::NoMemory(Some(done)) => with_done(Said::NoMemory, done),
+        Turn::Run(job) => with_done(Said::Run, job.run(alloc)),
+        Turn::Ended => bare(Said::Ended, 0),
+        Turn::Went => bare(Said::Went, 0),
+        Turn::Idle => bare(Said::Idle, 0),
+    }
+}
+
+fn done_of<'a, N: Named>(kept: Option<Kept<'a, N>>) -> Option<Done<'a>>
+    ensures { IsDoneOf N.run.program result }
+{
+    match kept {
+        Some(Kept { done, run: _ }) => Some(done),
+        None => None,
+    }
+}
+
+/// What one thread turns. A Done is handed in and given back as it is kept.
+pub trait Table<K> {
+    /// One turn of an actor, whose job is run; nothing where it is none of the run's, or its seat was told something else.
+    fn turn<R: Wait>(
+        &mut self,
+        rt: &R,
+        alloc: Global,
+        actor: Actor,
+        kept: Option<K>,
+    ) -> Option<Answer<K>>;
+
+    fn stop<R: Wait>(&mut self, rt: &R);
+
+    /// The event that an actor is told behind so many.
+    fn told(&self, actor: Actor, index: usize) -> Option<Event>;
+
+    /// How many events an actor is told.
+    fn count(&self, actor: Actor) -> usize;
+}
+
+/// A pool: each actor is told the whole history.
+pub struct Pooled<'a, N: Named> {
+    pool: Pool<'a>,
+    run: PhantomData<N>,
+    ghost of: { pool.program ≡ N.run.program },
+}
+
+impl<'a, N: Named> Pooled<'a, N> {
+    pub fn new(pool: Pool<'a>) -> Pooled<'a, N>
+        requires { pool.program ≡ N.run.program }
+    {
+        Pooled {
+            pool,
+            run: PhantomData,
+        }
+    }
+
+    pub fn shut(self) -> (Final, History) {
+        let Pooled { pool, run: _ } = self;
+        pool.shut()
+    }
+}
+
+impl<'a, N: Named> Table<Kept<'a, N>> for Pooled<'a, N> {
+    fn turn<R: Wait>(
+        &mut self,
+        _rt: &R,
+        alloc: Global,
+        actor: Actor,
+        kept: Option<Kept<'a, N>>,
+    ) -> Option<Answer<Kept<'a, N>>> {
+        if !self.pool.layout().has(actor) {
+            return None;
+        }
+        let done = done_of(kept);
+        let turn = self.pool.turn(alloc, actor, done);
+        Some(answer_of(alloc, turn))
+    }
+
+    fn stop<R: Wait>(&mut self, _rt: &R) {
+        self.pool.stop();
+    }
+
+    fn told(&self, _actor: Actor, index: usize) -> Option<Event> {
+        let history = self.pool.history();
+        if index < history.len() {
+            Some(history.event(index))
+        } else {
+            None
+        }
+    }
+
+    fn count(&self, _actor: Actor) -> usize {
+        self.pool.history().len()
+    }
+}
+
+/// In which order seats come back.
+#[derive(Clone, Copy, PartialEq, Eq)]
+pub enum Order {
+    Kept,
+    Reversed,
+    Shuffled,
+}
+
+/// A host with its seats.
+pub struct Seated<'a, M: Named, N: Named> {
+    host: Host<'a, M>,
+    seats: Vec<Seat<M>>,
+    run: PhantomData<N>,
+    ghost of: { M.run.program ≡ N.run.program },
+    ghost whole: { vec_len seats ≡ actor_count M.run.layout },
+}
+
+fn place_of<M: Named>(seats: &[Seat<M>], actor: Actor) -> Option<usize>
+    ensures { IfSome result (λ place. place < length seats.now) }
+{
+    for place in 0..seats.len() {
+        if seats[place].actor() == actor {
+            return Some(place);
+        }
+    }
+    None
+}
+
+impl<'a, M: Named, N: Named> Seated<'a, M, N> {
+    pub fn new(host: Host<'a, M>, seats: Vec<Seat<M>>) -> Seated<'a, M, N>
+        requires of { M.run.program ≡ N.run.program }
+        requires whole { vec_len seats ≡ actor_count M.run.layout }
+    {
+        Seated {
+            host,
+            seats,
+            run: PhantomData,
+        }
+    }
+
+    /// Brings the seats into another order.
+    pub fn reorder(&mut self, order: Order) {
+        if order != Order::Kept {
+            self.seats.reverse();
+        }
+        if order == Order::Shuffled && self.seats.len() > 2 {
+            self.seats.swap(0, 2);
+        }
+    }
+
+    pub fn close(self) -> Closed {
+        let Seated {
+            host,
+            seats,
+            run: _,
+        } = self;
+        host.close(seats)
+    }
+}
+
+impl<'a, M: Named, N: Named> Table<Kept<'a, N>> for Seated<'a, M, N> {
+    fn turn<R: Wait>(
+        &mut self,
+        rt: &R,
+        alloc: Global,
+        actor: Actor,
+        kept: Option<Kept<'a, N>>,
+    ) -> Option<Answer<Kept<'a, N>>> {
+        let done = done_of(kept);
+        let place = place_of(self.seats.as_slice(), actor)?;
+        match self.host.turn(rt, alloc, &mut self.seats[place], done) {
+            Ok(turn) => Some(answer_of(alloc, turn)),
+            Err(_) => None,
+        }
+    }
+
+    fn stop<R: Wait>(&mut self, rt: &R) {
+        self.host.stop(rt);
+    }
+
+    fn told(&self, actor: Actor, index: usize) -> Option<Event> {
+        let place = place_of(self.seats.as_slice(), actor)?;
+        let told = self.seats[place].told();
+        if index < told.len() {
+            Some(told.event(index))
+        } else {
+            None
+        }
+    }
+
+    fn count(&self, actor: Actor) -> usize {
+        match place_of(self.seats.as_slice(), actor) {
+            Some(place) => self.seats[place].told().len(),
+            None => 0,
+        }
+    }
+}

@@ -1,0 +1,97 @@
+//! What is told of a case, piece by piece.
+
+use crate::complaint::Complaint;
+use std::alloc::Global;
+use std::fmt::{Debug, Display};
+use tw_report::{put_event_line, put_numbered};
+use tw_types::Event;
+
+/// A text that grows. Where memory runs out it is lost, which is asked once, at its end: so whoever adds to it has no case for that.
+#[derive(Drop)]
+pub struct Text {
+    bytes: Vec<u8>,
+    alloc: Global,
+    is_whole: bool,
+}
+
+impl Text {
+    pub fn new(alloc: Global) -> Text {
+        Text {
+            bytes: Vec::new(alloc),
+            alloc,
+            is_whole: true,
+        }
+    }
+
+    pub fn put(&mut self, words: &str) {
+        self.put_bytes(words.as_bytes());
+    }
+
+    pub fn put_bytes(&mut self, bytes: &[u8]) {
+        self.is_whole &= self.bytes.extend_from_slice(bytes).is_ok();
+    }
+
+    /// Adds words and a number behind them.
+    pub fn number(&mut self, words: &str, number: u64) {
+        self.is_whole &= put_numbered(self.alloc, &mut self.bytes, words, number as usize).is_ok();
+    }
+
+    /// Adds words and whether something is so.
+    pub fn told(&mut self, words: &str, is_so: bool) {
+        self.put(words);
+        self.put(if is_so { "true" } else { "false" });
+    }
+
+    pub fn event(&mut self, event: &Event) {
+        self.is_whole &= put_event_line(self.alloc, &mut self.bytes, event).is_ok();
+    }
+
+    pub fn display<T: Display>(&mut self, shown: &T) {
+        match format!(in self.alloc; "{shown}") {
+            Ok(text) => self.put(text.as_str()),
+            Err(_) => self.is_whole = false,
+        }
+    }
+
+    pub fn debug<T: Debug>(&mut self, shown: &T) {
+        match format!(in self.alloc; "{shown:?}") {
+            Ok(text) => self.put(text.as_str()),
+            Err(_) => self.is_whole = false,
+        }
+    }
+
+    /// Memory ran out elsewhere.
+    pub fn lose(&mut self) {
+        self.is_whole = false;
+    }
+
+    /// Whether it is this text.
+    pub fn is(&self, other: &Text) -> bool {
+        self.is_whole && other.is_whole && self.bytes.as_slice() == other.bytes.as_slice()
+    }
+
+    /// Whether it begins and ends so.
+    pub fn stands_between(&self, first: &str, last: &str) -> bool {
+        let bytes = self.bytes.as_slice();
+        self.is_whole && bytes.starts_with(first.as_bytes()) && bytes.ends_with(last.as_bytes())
+    }
+
+    /// The text with a slash for each line end but the last.
+    pub fn into_line(self) -> Result<String, Complaint> {
+        let Text {
+            bytes,
+            alloc,
+            is_whole,
+        } = self;
+        if !is_whole {
+            return Err(Complaint::NoMemory);
+        }
+        match str::from_utf8(bytes.as_slice()) {
+            Ok(text) => {
+                let lines = text.strip_suffix('\n').unwrap_or(text);
+                Ok(lines.replace(alloc, "\n", " / ")?)
+            }
+            Err(_) => Err(Complaint::WrittenBytes),
+        }
+    }
+}

@@ -1,0 +1,172 @@
+//! Cases of runs in threads.
+
+use crate::complaint::Complaint;
+use crate::given::{read_given, read_verified};
+use crate::text::Text;
+use std::alloc::{AllocError, Global};
+use std::sync::Wait;
+use std::sync::atomic::{AtomicBool, AtomicU64, Ordering};
+use std::thread;
+use std::thread::Threads;
+use std::time::Clock;
+use tw_host::Closed;
+use tw_report::report;
+use tw_types::Actor;
+use tw_workers::{Gate, run};
+
+const MOST_POLLS: u64 = 1_000_000;
+
+/// Stands round the jobs of a run: each actor's task is there from the one call to the other. It may hold the first job until another
+/// actor has been given one.
+#[derive(Drop)]
+struct Watch {
+    holds: bool,
+    /// The task of each actor whose job is run, or 0.
+    tasks: Vec<AtomicU64>,
+    before: AtomicU64,
+    after: AtomicU64,
+    /// Whether a call came out of its order, or of another task, or the polls ran out.
+    is_broken: AtomicBool,
+    /// The place of the actor that was given a job first, and 1; 0 before there is one.
+    first: AtomicU64,
+    has_other: AtomicBool,
+}
+
+impl Watch {
+    fn new(alloc: Global, holds: bool) -> Result<Watch, AllocError> {
+        let mut tasks = Vec::new(alloc);
+        for _ in 0..24_u8 {
+            tasks.push(AtomicU64::new(0))?;
+        }
+        Ok(Watch {
+            holds,
+            tasks,
+            before: AtomicU64::new(0),
+            after: AtomicU64::new(0),
+            is_broken: AtomicBool::new(false),
+            first: AtomicU64::new(0),
+            has_other: AtomicBool::new(false),
+        })
+    }
+
+    fn change(&self, actor: Actor, from: u64, to: u64, count: &AtomicU64) {
+        let is_so = match self.tasks.get(place_of(actor)) {
+            Some(task) => task.swap(to, Ordering::SeqCst) == from,
+            None => false,
+        };
+        if !is_so {
+            self.is_broken.store(true, Ordering::SeqCst);
+        }
+        count.fetch_add(1, Ordering::SeqCst);
+    }
+
+    /// Waits for the job of another actor.
+    fn hold(&self) {
+        for _ in 0..MOST_POLLS {
+            if self.has_other.load(Ordering::SeqCst) {
+                return;
+            }
+            thread::yield_now();
+        }
+        self.is_broken.store(true, Ordering::SeqCst);
+    }
+
+    fn come(&self, worker: u64) {
+        match self
+            .first
+            .compare_exchange(0, worker, Ordering::SeqCst, Ordering::SeqCst)
+        {
+            Ok(_) => self.hold(),
+            Err(first) => {
+                if first != worker {
+                    self.has_other.store(true, Ordering::SeqCst);
+                }
+            }
+        }
+    }
+}
+
+fn place_of(actor: Actor) -> usize {
+    match actor {
+        Actor::Engine(number) => usize::from(number),
+        Actor::Server(number) => usize::from(number).wrapping_add(4),
+        Actor::Worker(number) => usize::from(number).wrapping_add(8),
+    }
+}
+
+impl Gate for Watch {
+    fn before_job<R: Wait>(&self, _rt: &R, actor: Actor, task: u64) {
+        self.change(actor, 0, task, &self.before);
+        if let Actor::Worker(number) = actor {
+            if self.holds {
+                self.come(u64::from(number) + 1);
+            }
+        }
+    }
+
+    fn after_job<R: Wait>(&self, _rt: &R, actor: Actor, task: u64) {
+        self.change(actor, task, 0, &self.after);
+    }
+}
+
+/// Adds what the gate saw.
+fn put_seen(text: &mut Text, watch: &Watch) {
+    text.number("before ", watch.before.load(Ordering::SeqCst));
+    text.number(" after ", watch.after.load(Ordering::SeqCst));
+    if watch.is_broken.load(Ordering::SeqCst) {
+        text.put(" out of order");
+    }
+    if watch.has_other.load(Ordering::SeqCst) {
+        text.put(" two at once");
+    }
+    text.put("\n");
+}
+
+/// Adds how many events there were, and which if that is asked, and the report.
+pub fn put_end(alloc: Global, text: &mut Text, closed: &Closed, is_traced: bool) {
+    let Closed::Ended {
+        history,
+        outcome,
+        ..
+    } = closed
+    else {
+        text.put("a seat was told something else");
+        return;
+    };
+    text.number("events ", history.len() as u64);
+    text.put("\n");
+    for index in 0..history.len() {
+        if is_traced {
+            text.event(&history.event(index));
+        }
+    }
+    match report(alloc, outcome) {
+        Ok(lines) => text.put_bytes(lines.as_slice()),
+        Err(_) => text.lose(),
+    }
+}
+
+/// What comes of a run in threads: how often the gate was called, how many events there were, and the report.
+pub fn threads_text<R: AllocGlobal + Threads + Wait + Clock + Sync>(
+    rt: &R,
+    words: &str,
+    bytes: &[u8],
+) -> Result<String, Complaint> {
+    let alloc = rt.alloc();
+    let (layout, holds) = match words.strip_prefix("held ") {
+        Some(layout) => (layout, true),
+        None => (words, false),
+    };
+    let given = read_given(alloc, layout)?;
+    let verified = read_verified(alloc, bytes)?;
+    let watch = Watch::new(alloc, holds)?;
+    let (inputs, limit) = (given.inputs.as_slice(), given.limit);
+    let Ok((closed, false)) = run(rt, alloc, &verified, inputs, given.layout, limit, &watch) else {
+        return Err(Complaint::NotOpened);
+    };
+    let mut text = Text::new(alloc);
+    put_seen(&mut text, &watch);
+    let is_traced = given.layout.engines() == 1 && given.layout.workers() == 1;
+    put_end(alloc, &mut text, &closed, is_traced);
+    text.into_line()
+}

@@ -1,7 +1,0 @@
-use Rattle.std.proofs.Common.{◌+◌, ◌*◌}
-use Rattle.tw_code.specs.machine.Bounds.{AreBelow, opening_bound}
-use Rattle.tw_run_trials.proofs.prefixes.all_agree.Given as goal
-
--- each event makes numbers and counts larger by at most its size
-abbrev pub invariant-loop-index : goal.invariant-loop-index
-invariant-loop-index l = AreBelow (opening_bound + 1000000000 * l.index) l.plain.state

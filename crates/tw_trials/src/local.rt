@@ -1,0 +1,67 @@
+//! Local instructions by chance. Value registers 0, 2 and 3 are ints, 1 and 4 are texts.
+
+use crate::code::Code;
+use crate::draw::draw;
+
+/// The line of a procedure's value registers.
+pub const REGISTERS: &str = "regs int text int int text\n";
+
+const INTS: [u8; 3] = [0, 2, 3];
+
+const TEXTS: [u8; 2] = [1, 4];
+
+const NUMBERS: [&str; 6] = ["0", "1", "2", "-3", "7", "9223372036854775807"];
+
+const WORDS: [&str; 4] = ["\"\"", "\"7\"", "\"-12\"", "\"ab\\n\""];
+
+/// A value register of an int.
+pub fn int(seed: &mut u64) -> u8 {
+    INTS[usize::from(draw(seed, 3)) % 3]
+}
+
+/// A value register of a text.
+pub fn text(seed: &mut u64) -> u8 {
+    TEXTS[usize::from(draw(seed, 2)) % 2]
+}
+
+fn put_int(code: &mut Code, seed: &mut u64) {
+    code.line("INT v# ", &[int(seed)], &[]);
+    code.put(NUMBERS[usize::from(draw(seed, 6)) % 6]);
+    code.put("\n");
+}
+
+fn put_text(code: &mut Code, seed: &mut u64) {
+    code.line("TEXT v# ", &[text(seed)], &[]);
+    code.put(WORDS[usize::from(draw(seed, 4)) % 4]);
+    code.put("\n");
+}
+
+/// A skip of the next instruction, and that.
+fn put_choice(code: &mut Code, seed: &mut u64) {
+    match draw(seed, 3) {
+        0 => code.line("JLT v# v#", &[int(seed), int(seed)], &[]),
+        1 => code.line("JEQ v# v#", &[text(seed), text(seed)], &[]),
+        _ => code.line("READI v# v#", &[int(seed), text(seed)], &[]),
+    }
+    code.put(" +1\n");
+    put_int(code, seed);
+}
+
+/// One local instruction, or two.
+pub fn put_local(code: &mut Code, seed: &mut u64) {
+    match draw(seed, 10) {
+        0 | 1 => put_int(code, seed),
+        2 => put_text(code, seed),
+        3 => code.line("ADD v# v# v# +0\n", &[int(seed), int(seed), int(seed)], &[]),
+        4 => code.line("MUL v# v# v# +0\n", &[int(seed), int(seed), int(seed)], &[]),
+        5 => code.line("DIV v# v# v# +0\n", &[int(seed), int(seed), int(seed)], &[]),
+        6 => code.line(
+            "CAT v# v# v# +0\n",
+            &[text(seed), text(seed), text(seed)],
+            &[],
+        ),
+        7 => code.line("SHOW v# v#\n", &[text(seed), int(seed)], &[]),
+        8 => code.line("LEN v# v#\n", &[int(seed), text(seed)], &[]),
+        _ => put_choice(code, seed),
+    }
+}

@@ -1,0 +1,64 @@
+//! Runs with each smaller number of events, beside the reference machine after so many.
+
+ghost use Rattle.std.specs.Prelude.{◌≤◌, length};
+ghost use Rattle.tw_code.specs.machine.Bounds.{AreBelow, opening_bound};
+
+use crate::case::Case;
+use crate::replay::{goes, tells, told_of};
+use crate::rounds::run_in_rounds;
+use std::alloc::Global;
+use tw_machine::Plain;
+use tw_pool::History;
+use tw_types::Event;
+
+/// Whether a history has just these events.
+fn has_events(history: &History, events: &[Event]) -> bool {
+    if history.len() != events.len() {
+        return false;
+    }
+    for index in 0..history.len() {
+        if history.event(index) != events[index] {
+            return false;
+        }
+    }
+    true
+}
+
+/// Whether the run makes these events, where there may be no more, and then tells what the machine tells.
+fn agrees_at(alloc: Global, case: &Case, plain: &Plain, events: &[Event]) -> bool {
+    let Some((left, history)) = run_in_rounds(alloc, case, events.len()) else {
+        return false;
+    };
+    match told_of(alloc, &left) {
+        Some(told) => has_events(&history, events) && tells(alloc, plain, &told),
+        None => false,
+    }
+}
+
+/// Whether the run agrees at each number of these events.
+fn all_agree(alloc: Global, case: &Case, first: Plain, events: &[Event]) -> bool
+    requires few { length events.now ≤ 1000000 }
+    requires low { AreBelow opening_bound first.state }
+{
+    let mut plain = first;
+    for (index, event) in events.iter().enumerate() {
+        if !goes(alloc, &mut plain, event, index) {
+            return false;
+        }
+        if !agrees_at(alloc, case, &plain, &events[..index + 1]) {
+            return false;
+        }
+    }
+    true
+}
+
+/// Whether a run agrees at each number of its events.
+pub fn agree_at_each(alloc: Global, case: &Case, events: &[Event]) -> bool {
+    if events.len() > 1_000_000 {
+        return false;
+    }
+    match case.machine(alloc) {
+        Some(plain) => all_agree(alloc, case, plain, events),
+        None => false,
+    }
+}
