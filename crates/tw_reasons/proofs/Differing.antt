@@ -1,5 +1,5 @@
 -- Registers of which two typings say the same.
-use Rattle.std.proofs.Common.{◌≡◌, Bool, true, false, ◌&&◌, not, List, [], ◌∷◌, Option, None, Some, refl, ap, subst, sym, ◌∙◌}
+use Rattle.std.proofs.Common.{◌≡◌, Bool, true, false, ◌&&◌, not, [], ◌∷◌, Option, refl, ap, sym, ◌∙◌}
 use Rattle.std.specs.Option.{option_eq}
 use Rattle.tw_code.specs.machine.Rights.{RightType}
 use Rattle.tw_verify.specs.Same.{same_right}

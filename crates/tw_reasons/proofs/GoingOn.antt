@@ -1,32 +1,26 @@
 -- A line is gone along just where some statement goes on so.
-use Rattle.std.proofs.Common.{◌≡◌, ◌+◌, ◌&&◌, ◌||◌, ◌==◌, ℕ, zero, suc, Bool, true, false, not, cond, List, [], ◌∷◌, ◌++◌, codes, drop, length, Option, None, Some, Result, Ok, Err, refl, sym, ap, subst, ◌∙◌, arith, add-one}
+use Rattle.std.proofs.Common.{◌≡◌, ◌+◌, ◌&&◌, ◌||◌, ◌==◌, ℕ, zero, suc, Bool, true, false, not, cond, List, [], ◌∷◌, codes, drop, length, Option, None, Some, Ok, Err, refl, sym, ap, ◌∙◌, add-one}
 use Rattle.std.specs.Prelude.{nat_lt, slice_get}
 use Rattle.std.specs.Borrow.{Bor}
 use Rattle.std.specs.Str.{bytes_eq}
-use Rattle.tw_types.specs.DataType.{container_of, is_scalar, scalar_type}
-use Rattle.tw_types.specs.Nesting.{NestedScalar}
-use Rattle.tw_types.specs.declared.data_type.Scalar.{Scalar}
-use Rattle.tw_types.specs.declared.param.Mode.{Mode}
-use Rattle.tw_types.specs.declared.param.Mode.TheVariants.{Val, Closed, Ref, Write}
-use Rattle.tw_types.specs.declared.param.Param.{Param}
+use Rattle.tw_types.specs.DataType.{scalar_type}
 use Rattle.tw_code.specs.declared.form.Form.{Form as OperandForm}
 use Rattle.tw_code.specs.declared.form.Form.TheVariants as form
 use Rattle.tw_code.specs.declared.version.Version.{Version}
 use Rattle.tw_words.specs.Words.{Word, Bare, Quoted}
-use Rattle.tw_asm.specs.declared.refusal.Flaw.{Flaw}
 use Rattle.tw_asm.specs.declared.refusal.Flaw.TheVariants.{Form, Limit}
-use Rattle.tw_asm.specs.reading.Lines.{Operand, Params, args, begins, contained, ended, ends, few, goal, goes_on, each, line_in, line_of, literal, more, natural, never, nothing, number, operand_in, param_of, params_from, put_first, right, target, type, type_from, type_in, under, value}
-use Rattle.tw_asm.specs.reading.Operands.{as_is, at_label, both, container_in, digits_in, further, goal_in, is_name, literal_in, mode_in, name_in, natural_in, number_in, register_in, scalar_in, target_in}
-use Rattle.tw_reasons.specs.Going.{after, behind_mode, behind_operand, ends_at, form_behind, found, go_on, goes, has_form, is_any, is_goal, is_operand, is_quoted, may_end, only_if}
+use Rattle.tw_asm.specs.reading.Lines.{Operand, goal, each, line_in, line_of, literal, natural, number, operand_in, right, target, type_in, value}
+use Rattle.tw_asm.specs.reading.Operands.{as_is, at_label, both, container_in, digits_in, further, goal_in, is_name, literal_in, name_in, natural_in, number_in, register_in, scalar_in, target_in}
+use Rattle.tw_reasons.specs.Going.{behind_operand, ends_at, form_behind, go_on, goes, has_form, is_any, is_goal, is_quoted, only_if}
 use Rattle.tw_reasons.specs.declared.step.Read.{Read}
 use Rattle.tw_reasons.specs.declared.step.Read.TheVariants as read
 use Rattle.tw_reasons.proofs.Classes.{Class, class_of, container, mode, other, scalar}
-use Rattle.tw_reasons.proofs.Forms.{all_form, and_false, and_swap, and_true, form_as_is, form_both, form_contained, form_each, form_few, form_put_first}
+use Rattle.tw_reasons.proofs.Forms.{all_form, and_false, and_true, form_as_is, form_both, form_contained, form_each, form_few}
 
 pub untrue : false ≡ true → ⊥
 untrue e = cc
 
-on_if : (b : Bool) (next : Read) (g : Read → Bool) → go_on (only_if b next) g ≡ (b && g next)
+pub on_if : (b : Bool) (next : Read) (g : Read → Bool) → go_on (only_if b next) g ≡ (b && g next)
 on_if true next g = refl
 on_if false next g = refl
 
@@ -53,7 +47,7 @@ type_more version w (x ∷ ws) = form_contained (container_in version w) (type_i
 
 -- ---- operands of one word
 
-name_form : (text : List ℕ) → has_form (name_in text) ≡ is_name text
+pub name_form : (text : List ℕ) → has_form (name_in text) ≡ is_name text
 unfolding name_in
 name_form text = by (is_name text) (nat_lt 64 (length text))
   where
@@ -90,7 +84,7 @@ target_form (Quoted text) = refl
 -- ---- operands, one after the other
 
 -- a skip, a type and arguments stand last
-abbrev stands_last : OperandForm → Bool
+abbrev pub stands_last : OperandForm → Bool
 stands_last form.Value = false
 stands_last form.Right = false
 stands_last form.Number = false

@@ -1,13 +1,12 @@
 -- The first line that begins a procedure, and lines up to one.
-use Rattle.std.proofs.Common.{◌≡◌, ◌+◌, ◌≤◌, ℕ, suc, Bool, true, false, List, [], ◌∷◌, ◌++◌, length, map, Bor, Option, Some, None, refl, sym, ap, subst, ◌∙◌, arith}
+use Rattle.std.proofs.Common.{◌≡◌, ◌+◌, ℕ, suc, true, false, List, [], ◌∷◌, ◌++◌, length, map, Bor, Option, Some, None, refl, sym, ap, subst, ◌∙◌, arith}
 use Rattle.std.specs.List.{AllByRecursion, enumerate_from}
 use Rattle.std.specs.Str.Lines.{lines}
-use Rattle.std.proofs.lemmas.List.{append-nil, length-append}
 use Rattle.tw_asm.specs.Statement.{Statement, Code, Head, Label, OfVersion, Registers}
 use Rattle.tw_asm.specs.Fault.{LineSays, LinesSay, Situation, after_line, at_start, situation, situation_from}
 use Rattle.tw_reasons.specs.Says.{HasNoHead, IsFirstHead, is_head, says_of}
 use Rattle.tw_reasons.specs.declared.situation.Says.{Says}
-use Rattle.tw_reasons.proofs.Saying.{SplitLast, split_last}
+use Rattle.tw_reasons.proofs.Saying.{split_last}
 
 untrue : true ≡ false → ⊥
 untrue e = cc

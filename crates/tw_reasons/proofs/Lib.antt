@@ -8,9 +8,13 @@ pub mod Getting
 pub mod GoingOn
 pub mod Heads
 pub mod Lines
+pub mod Judging
+pub mod ParamsGo
 pub mod Reasoning
 pub mod Saying
 pub mod Standing
+pub mod Starting
+pub mod Stopping
 pub mod Telling
 pub mod Types
 pub mod Whys

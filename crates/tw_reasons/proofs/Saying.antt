@@ -1,5 +1,5 @@
 -- A line's first word tells what the line says.
-use Rattle.std.proofs.Common.{◌≡◌, ◌≢◌, ◌+◌, ℕ, suc, Bool, true, false, List, [], ◌∷◌, ◌++◌, length, map, codes, Option, Some, None, Result, Ok, Err, refl, sym, ap, subst, ◌∙◌, arith}
+use Rattle.std.proofs.Common.{◌≡◌, ◌≢◌, ◌+◌, ℕ, suc, Bool, true, false, List, [], ◌∷◌, ◌++◌, length, map, codes, Option, Some, None, refl, sym, ap, subst, ◌∙◌, arith}
 use Rattle.std.specs.Str.{bytes_eq}
 use Rattle.std.specs.List.{flat_map}
 use Rattle.std.proofs.lemmas.Slice.Eq.{bytes_eq-Decides}
@@ -59,7 +59,7 @@ none_said version (Registers registers) say = nonempty AnyShortName (codes "regs
 none_said version (Label name) say = nonempty AnyShortName (name ++ codes ":") [] say.0.parts
 none_said version (Code i) say = nonempty AnyShortName (word_of (row i).0) (flat_map operand_parts (row i).1) say.0.parts
 
-quoted_apart : (text word : List ℕ) → Quoted text ≡ Bare word → ⊥
+pub quoted_apart : (text word : List ℕ) → Quoted text ≡ Bare word → ⊥
 quoted_apart text word e = cc
 
 pub quoted_said : (version : Version) (statement : Statement) (text : List ℕ) (ws : List Word) → Say version statement (Quoted text ∷ ws) → ⊥

@@ -1,5 +1,5 @@
 -- How types are written, word by word.
-use Rattle.std.proofs.Common.{◌≡◌, ℕ, List, [], ◌∷◌, ◌++◌, refl, sym, ap, ◌∙◌, append_assoc, codes}
+use Rattle.std.proofs.Common.{◌≡◌, ℕ, List, ◌++◌, ◌∙◌, append_assoc, codes}
 use Rattle.std.specs.List.{join_with_byte}
 
 -- a word and others behind it

@@ -13,7 +13,7 @@ use Rattle.tw_words.specs.Words.{Word, Bare, Quoted}
 use Rattle.tw_asm.specs.declared.refusal.Flaw.{Flaw}
 use Rattle.tw_asm.specs.declared.refusal.Flaw.TheVariants as flaw
 use Rattle.tw_asm.specs.reading.Lines.{kind_in, opcode_in}
-use Rattle.tw_asm.specs.reading.Operands.{container_in, digits_in, is_name, literal_in, mode_in, natural_in, number_in, register_in, scalar_in}
+use Rattle.tw_asm.specs.reading.Operands.{container_in, digits_in, is_name, mode_in, natural_in, number_in, register_in, scalar_in}
 use Rattle.tw_reasons.specs.declared.step.Read.{Read}
 use Rattle.tw_reasons.specs.declared.step.Read.TheVariants as read
 

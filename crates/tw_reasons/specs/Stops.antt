@@ -1,10 +1,11 @@
 -- Where a line of a text is told to stop: at which word, at which column, and what stands there.
-use Rattle.std.specs.Prelude.{◌≡◌, ℕ, ◌+◌, ◌||◌, Bool, false, List, [], ◌∷◌, ◌++◌, codes, decimal, length, count_by, nat_lt, if◌then◌else◌}
-use Rattle.std.specs.List.{starts_with}
-use Rattle.std.specs.Prelude.{nat_eq}
-use Rattle.tw_words.specs.Words.{AreFirstWords, IsBlank, IsBroken, IsFirstWord, Word}
+use Rattle.std.specs.Prelude.{◌≡◌, ℕ, ◌+◌, ◌||◌, Bool, List, ◌∷◌, ◌++◌, length, count_by, nat_lt}
+use Rattle.std.specs.Prelude.{IsUtf8}
+use Rattle.std.specs.List.{AllByRecursion}
+use Rattle.tw_asm.specs.Statement.{HaveForm}
+use Rattle.tw_code.specs.declared.version.Version.{Version}
+use Rattle.tw_words.specs.Words.{AreFirstWords, Bare, IsBlank, IsBroken, IsFirstWord, Quoted, Word}
 use Rattle.tw_words.specs.reading.Next.{IsAfterGap}
-use Rattle.tw_reasons.specs.declared.breaks.Break.{Break}
 use Rattle.tw_reasons.specs.declared.stop.Found.{Found}
 use Rattle.tw_reasons.specs.declared.stop.Found.TheVariants as found
 use Rattle.tw_reasons.specs.declared.stop.Stop.{Stop}
@@ -34,6 +35,8 @@ IsFound found.End rest = IsBlank rest
 IsFound (found.Word text) rest = (word : Word) × (after : List ℕ) × IsFirstWord word rest after × (rest ≡ text.now ++ after)
 IsFound (found.Broken broken) rest = IsBroken rest
 
+-- ---- a stop
+
 -- a stop in a line: which word it is, from 1, its column, and what stands there
 pub record IsStop (line : List ℕ) (stop : Stop) : Type 0 where
   pub before : List Word
@@ -43,3 +46,26 @@ pub record IsStop (line : List ℕ) (stop : Stop) : Type 0 where
   pub word : stop.word ≡ length before + 1
   pub column : stop.column ≡ column_behind front
   pub found : IsFound stop.found rest
+
+-- ---- words that begin no statement
+
+-- each text between quotes is UTF-8, as in a text all are
+abbrev pub IsText : Word → Type 0
+IsText (Bare word) = Unit {0}
+IsText (Quoted text) = IsUtf8 text
+
+-- a statement of the version begins with these words, or is just these
+abbrev pub Begin : Version → List Word → Type 0
+Begin version words = (others : List Word) × HaveForm version (words ++ others)
+
+-- with what stands first in the rest these words begin none, or where nothing stands there are none
+abbrev pub Ends : Version → List Word → List ℕ → Found → Type 0
+Ends version before rest found.End = HaveForm version before → ⊥
+Ends version before rest (found.Word text) = (word : Word) (after : List ℕ) (others : List Word) → IsFirstWord word rest after → AllByRecursion IsText others → HaveForm version (before ++ word ∷ others) → ⊥
+Ends version before rest (found.Broken broken) = Unit {0}
+
+-- the first stop at which the line goes on as no statement
+pub record IsFirstStop (version : Version) (line : List ℕ) (stop : Stop) : Type 0 where
+  pub stands : IsStop line stop
+  pub begin : Begin version stands.before
+  pub ends : Ends version stands.before stands.rest stop.found

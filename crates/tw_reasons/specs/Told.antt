@@ -7,14 +7,14 @@ use Rattle.tw_asm.specs.Statement.{Statement}
 use Rattle.tw_asm.specs.declared.fault.FaultNo.{FaultNo}
 use Rattle.tw_asm.specs.declared.fault.FaultNo.TheVariants as fault
 use Rattle.tw_reasons.specs.Says.{stage_of, stage_text}
-use Rattle.tw_reasons.specs.Stops.{IsStop}
+use Rattle.tw_reasons.specs.Stops.{IsFirstStop, IsStop}
 use Rattle.tw_reasons.specs.declared.breaks.Break.{Break}
 use Rattle.tw_reasons.specs.declared.breaks.Break.TheVariants.{Unclosed, Escape, Behind}
 use Rattle.tw_reasons.specs.declared.stop.Found.{Found}
 use Rattle.tw_reasons.specs.declared.stop.Found.TheVariants as found
 use Rattle.tw_reasons.specs.declared.stop.Stop.{Stop}
-use Rattle.tw_reasons.specs.declared.text_reason.Said.{Said}
-use Rattle.tw_reasons.specs.declared.text_reason.Said.TheVariants as said
+use Rattle.tw_reasons.specs.declared.told.Said.{Said}
+use Rattle.tw_reasons.specs.declared.told.Said.TheVariants as said
 
 -- ---- words that stood there
 
@@ -108,8 +108,13 @@ abbrev pub TellsFirst : Situation → List ℕ → List ℕ → Type 0
 TellsFirst s line reason =
     (stop : Stop) × IsStop line stop × (stop.word ≡ 1) × (reason ≡ stop_line stop (expected_text (stage_text (stage_of s.stage)) stop.found ++ line_text None))
 
+-- A02: the first word with which the line goes on as no statement, or its end where it has too few
+abbrev pub TellsOperand : Situation → List ℕ → List ℕ → Type 0
+TellsOperand s line reason = (stop : Stop) × (told : List ℕ) × IsFirstStop s.version line stop × (reason ≡ stop_line stop told)
+
 abbrev pub IsReasonIn : Situation → FaultNo → List ℕ → List ℕ → Type 0
 IsReasonIn s fault.Word line reason = TellsFirst s line reason
+IsReasonIn s fault.Operand line reason = TellsOperand s line reason
 IsReasonIn s which line reason = IsLineReason line reason
 
 -- why the line of this number is refused with a fault

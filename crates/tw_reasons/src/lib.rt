@@ -6,10 +6,13 @@
 
 mod asked;
 mod breaks;
+mod data_asked;
 mod due;
 mod find;
 mod labels;
 mod laws;
+mod local_asked;
+mod main_reason;
 mod meeting;
 mod program_reason;
 mod put;
@@ -19,10 +22,13 @@ mod step;
 mod stop;
 mod suits;
 mod text_reason;
+mod told;
+mod told_meeting;
 mod words;
 
 pub use laws::asks_the_same;
-pub use program_reason::{put_main_reason, put_program_reason};
+pub use main_reason::put_main_reason;
+pub use program_reason::put_program_reason;
 pub use rights::put_type;
 pub use situation::{Says, head_line, line_says};
 pub use text_reason::put_text_reason;

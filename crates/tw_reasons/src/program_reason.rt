@@ -6,18 +6,17 @@ ghost use Rattle.tw_code.specs.format.Program.{IsInstr, IsProcedure};
 ghost use Rattle.tw_code.specs.machine.Arguments.{params_of};
 ghost use Rattle.tw_verify.specs.Refusal.{verify_refusal_number};
 ghost use Rattle.tw_reasons.specs.Meetings.{IsMeeting};
-ghost use Rattle.tw_reasons.specs.Reasons.{AddsReason, AddsTold, TellsMeeting, arguments_text, count_line, goal_line, holding_text, meeting_line, misplaced_line, named_by, outside_text, param_line, params_line, place_text, shape_line, side_text, skip_of, told_line, unknown_line, unmatched_line, unwanted_text, vain_line};
+ghost use Rattle.tw_reasons.specs.Reasons.{AddsReason, AddsTold, TellsMeeting, arguments_text, count_line, goal_line, misplaced_line, named_by, outside_text, skip_of, told_line, unknown_line, unmatched_line, vain_line};
 
-use crate::asked::{Asked, Held, put_asked, put_held};
+use crate::asked::{Asked, put_asked};
 use crate::find::asked_at;
-use crate::meeting::{Meeting, first_difference, loop_begin, meeting_at};
+use crate::meeting::meeting_at;
 use crate::put::{put, put_number, put_numbered};
-use crate::rights::{put_param, put_right};
+use crate::told_meeting::{put_changed, put_meeting};
 use std::alloc::{AllocError, Global};
 use tw_asm::LineNumbers;
 use tw_code::{Flow, Instr, Procedure};
-use tw_types::{Kind, Param};
-use tw_verify::{Refused, RightType, Typing, VerifyRefusal};
+use tw_verify::{Refused, Typing, VerifyRefusal};
 
 // ---- a register that is asked in vain
 
@@ -41,109 +40,6 @@ fn put_vain(alloc: Global, out: &mut Vec<u8>, number: u8, procedures: &[Procedur
         Some(typing) => put_told(alloc, out, asked_at(number, procedures, procedure, place, instr, typing)),
         None => Ok(()),
     }
-}
-
-// ---- typings that differ
-
-/// Adds the line of the text from which the instruction at a place comes, or the place.
-fn put_place(
-    alloc: Global,
-    out: &mut Vec<u8>,
-    lines: &LineNumbers,
-    procedure: usize,
-    place: usize,
-) -> Result<(), AllocError>
-    ensures { OnOk result (out.new.items ≡ out.old.items ++ place_text (at_place lines.now.procedures procedure place) place) }
-{
-    match lines.at(procedure, place) {
-        Some(line) => put_numbered(alloc, out, "line ", line),
-        None => put_numbered(alloc, out, "place ", place),
-    }
-}
-
-fn put_holding(out: &mut Vec<u8>, right: Option<RightType>) -> Result<(), AllocError>
-    ensures { OnOk result (out.new.items ≡ out.old.items ++ holding_text right) }
-{
-    match right {
-        Some(right) => put_right(out, right),
-        None => put(out, "empty"),
-    }
-}
-
-/// What a way brings.
-fn put_side(
-    alloc: Global,
-    out: &mut Vec<u8>,
-    lines: &LineNumbers,
-    procedure: usize,
-    place: usize,
-    right: Option<RightType>,
-) -> Result<(), AllocError>
-    ensures { OnOk result (out.new.items ≡ out.old.items ++ side_text lines.now.procedures procedure place right) }
-{
-    put_holding(out, right)?;
-    put(out, " behind ")?;
-    put_place(alloc, out, lines, procedure, place)
-}
-
-/// Which register differs where ways meet, and what each way brings.
-fn put_meeting(
-    alloc: Global,
-    out: &mut Vec<u8>,
-    lines: &LineNumbers,
-    procedure: usize,
-    found: &Meeting,
-) -> Result<(), AllocError>
-    ensures { OnOk result (out.new.items ≡ out.old.items ++ meeting_line lines.now.procedures procedure found.now) }
-{
-    put_numbered(alloc, out, "d", found.difference.register as usize)?;
-    put(out, " is ")?;
-    put_side(
-        alloc,
-        out,
-        lines,
-        procedure,
-        found.first,
-        found.difference.first,
-    )?;
-    put(out, ", ")?;
-    put_side(
-        alloc,
-        out,
-        lines,
-        procedure,
-        found.second,
-        found.difference.second,
-    )?;
-    put(out, "\n")
-}
-
-/// Which register a loop changes.
-fn put_changed(
-    alloc: Global,
-    out: &mut Vec<u8>,
-    code: &[Instr],
-    place: usize,
-    typings: &[Typing],
-) -> Result<(), AllocError>
-    ensures { OnOk result ((text : List ℕ) × (out.new.items ≡ out.old.items ++ text)) }
-{
-    let Some(first) = loop_begin(code, place) else {
-        return Ok(());
-    };
-    let Some(begun) = typings.get(first) else {
-        return Ok(());
-    };
-    let Some(here) = typings.get(place) else {
-        return Ok(());
-    };
-    let Some(found) = first_difference(here, begun) else {
-        return Ok(());
-    };
-    put_held(alloc, out, found.register, Held::Right(found.first))?;
-    put(out, ", asked: ")?;
-    put_holding(out, found.second)?;
-    put(out, ", as where the loop begins\n")
 }
 
 // ---- goals, ends and calls
@@ -347,64 +243,5 @@ pub fn put_program_reason(
     match refused.program.procedures().get(refused.procedure) {
         Some(procedure) => put_in(alloc, out, lines, refused, procedure),
         None => Ok(()),
-    }
-}
-
-// ---- main
-
-fn unwanted_text(is_val: bool) -> &'static str
-    ensures { result.now ≡ unwanted_text is_val }
-{
-    if is_val {
-        ", asked: no value\n"
-    } else {
-        ", asked: a scalar or a container of scalars\n"
-    }
-}
-
-fn put_param_line(
-    alloc: Global,
-    out: &mut Vec<u8>,
-    number: usize,
-    param: &Param,
-) -> Result<(), AllocError>
-    ensures { OnOk result (out.new.items ≡ out.old.items ++ param_line number param.now) }
-{
-    put_numbered(alloc, out, "parameter ", number)?;
-    put(out, " is ")?;
-    put_param(out, *param)?;
-    put(out, unwanted_text(param.mode.is_val()))
-}
-
-/// Tells the first parameter from one on that main may not have.
-fn put_params_line(
-    alloc: Global,
-    out: &mut Vec<u8>,
-    number: u8,
-    params: &[Param],
-) -> Result<(), AllocError>
-    requires { number + length params.now < 100 }
-    ensures { OnOk result (out.new.items ≡ out.old.items ++ params_line number params.now) }
-{
-    match params {
-        [] => Ok(()),
-        [param, others @ ..] => {
-            if !param.mode.is_val() && param.ty.is_flat() {
-                put_params_line(alloc, out, number + 1, others)
-            } else {
-                put_param_line(alloc, out, number as usize, param)
-            }
-        }
-    }
-}
-
-/// Adds what is wrong with the shape of main.
-pub fn put_main_reason(alloc: Global, out: &mut Vec<u8>, main: &Procedure) -> Result<(), AllocError>
-    requires { length main.now.params < 99 }
-    ensures { OnOk result (out.new.items ≡ out.old.items ++ shape_line main.now.kind main.now.params) }
-{
-    match main.kind {
-        Kind::Leaf => put(out, "main is a leaf, asked: control\n"),
-        Kind::Control => put_params_line(alloc, out, 1, main.params.as_slice()),
     }
 }

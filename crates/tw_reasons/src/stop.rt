@@ -1,9 +1,14 @@
 //! Where a line stops being a statement.
 
-ghost use Rattle.std.specs.Prelude.{◌≡◌, ◌+◌, ◌≤◌, ℕ, List, IfOk, IfSome, IsUtf8, length};
-ghost use Rattle.tw_words.specs.Words.{AreFirstWords, IsFirstWord, Word as AWord};
+ghost use Rattle.std.specs.Prelude.{◌≡◌, ◌+◌, ◌≤◌, ℕ, List, IfOk, IfSome, IsUtf8, MatchOption, length};
+ghost use Rattle.tw_words.specs.Words.{AreFirstWords, Bare, IsFirstWord, Word as AWord};
+ghost use Rattle.tw_asm.specs.Fault.{HasWords};
+ghost use Rattle.tw_asm.specs.Statement.{IsExpected};
+ghost use Rattle.tw_asm.specs.declared.statement.First.{First};
+ghost use Rattle.tw_code.specs.declared.version.Version.{Version as AVersion};
+ghost use Rattle.tw_words.specs.Seen.{seen};
 ghost use Rattle.tw_words.specs.reading.Next.{IsAfterGap};
-ghost use Rattle.tw_reasons.specs.Stops.{IsFound, IsStop, begins_character, column_behind};
+ghost use Rattle.tw_reasons.specs.Stops.{Begin, Ends, IsFirstStop, IsFound, IsStop, begins_character, column_behind};
 
 use crate::breaks::{Break, break_of};
 use crate::due::Due;
@@ -67,6 +72,9 @@ fn stop_with<'a>(
     ensures word { result.word ≡ before + 1 }
     ensures stands { (words : List AWord) (after : List ℕ) → AreFirstWords words line.entry.now after → IsAfterGap after here.entry.now
         → before ≡ length words → IsFound found.entry here.entry.now → IsStop line.entry.now result }
+    ensures first { (version : AVersion) (words : List AWord) (after : List ℕ) → AreFirstWords words line.entry.now after → IsAfterGap after here.entry.now
+        → before ≡ length words → IsFound found.entry here.entry.now → Begin version words → Ends version words here.entry.now found.entry
+        → IsFirstStop version line.entry.now result }
 {
     let front = &line[..line.len().saturating_sub(here.len())];
     Stop {
@@ -90,12 +98,14 @@ fn stop_behind<'a>(
     ask: Ask,
     version: Version,
     line: &'a [u8],
-    first: &[u8],
+    first: &'a [u8],
     after: &'a [u8],
 ) -> Result<Option<Stop<'a>>, AllocError>
     requires utf8 { IsUtf8 after.now }
-    requires first { (word : AWord) × IsFirstWord word line.now after.now }
-    ensures { IfOk result (λ stop. IfSome stop (IsStop line.entry.now)) }
+    requires first { IsFirstWord (Bare first.now) line.now after.now }
+    ensures stands { IfOk result (λ stop. IfSome stop (IsStop line.entry.now)) }
+    ensures first { ask ≡ Ask.Form → (expected : First) → IsExpected version expected first.entry.now
+        → IfOk result (λ stop. MatchOption stop (HasWords version line.entry.now) (IsFirstStop version line.entry.now)) }
 {
     let mut ahead = Ahead::behind_first(first);
     let mut rest = after;
@@ -160,6 +170,27 @@ pub(crate) fn first_stop<'a>(alloc: Global, line: &'a str) -> Result<Stop<'a>, A
     first_word(alloc, line.as_bytes())
 }
 
+/// Where a line stops behind this first word, if it does.
+fn word_stop<'a>(
+    alloc: Global,
+    ask: Ask,
+    version: Version,
+    line: &'a [u8],
+    word: &Word<'a>,
+    after: &'a [u8],
+) -> Result<Option<Stop<'a>>, AllocError>
+    requires utf8 { IsUtf8 after.now }
+    requires first { IsFirstWord (seen word.now) line.now after.now }
+    ensures stands { IfOk result (λ stop. IfSome stop (IsStop line.entry.now)) }
+    ensures first { ask ≡ Ask.Form → (expected : First) (word rest : List ℕ) → IsFirstWord (Bare word) line.entry.now rest → IsExpected version expected word
+        → IfOk result (λ stop. MatchOption stop (HasWords version line.entry.now) (IsFirstStop version line.entry.now)) }
+{
+    match word {
+        Word::Bare(first) => stop_behind(alloc, ask, version, line, first, after),
+        Word::Quoted(_) => Ok(None),
+    }
+}
+
 /// Where the bytes of a line that begins as a statement stop being one, if they do.
 fn bytes_stop<'a>(
     alloc: Global,
@@ -168,13 +199,12 @@ fn bytes_stop<'a>(
     line: &'a [u8],
 ) -> Result<Option<Stop<'a>>, AllocError>
     requires { IsUtf8 line.now }
-    ensures { IfOk result (λ stop. IfSome stop (IsStop line.entry.now)) }
+    ensures stands { IfOk result (λ stop. IfSome stop (IsStop line.entry.now)) }
+    ensures first { ask ≡ Ask.Form → (expected : First) (word rest : List ℕ) → IsFirstWord (Bare word) line.entry.now rest → IsExpected version expected word
+        → IfOk result (λ stop. MatchOption stop (HasWords version line.entry.now) (IsFirstStop version line.entry.now)) }
 {
     match next_word(alloc, line)? {
-        Next::Found(word, after) => match &word {
-            Word::Bare(first) => stop_behind(alloc, ask, version, line, first, after),
-            Word::Quoted(_) => Ok(None),
-        },
+        Next::Found(word, after) => word_stop(alloc, ask, version, line, &word, after),
         Next::End => Ok(None),
         Next::Broken => Ok(None),
     }
@@ -187,7 +217,9 @@ pub(crate) fn line_stop<'a>(
     version: Version,
     line: &'a str,
 ) -> Result<Option<Stop<'a>>, AllocError>
-    ensures { IfOk result (λ stop. IfSome stop (IsStop line.entry.now)) }
+    ensures stands { IfOk result (λ stop. IfSome stop (IsStop line.entry.now)) }
+    ensures first { ask ≡ Ask.Form → (expected : First) (word rest : List ℕ) → IsFirstWord (Bare word) line.entry.now rest → IsExpected version expected word
+        → IfOk result (λ stop. MatchOption stop (HasWords version line.entry.now) (IsFirstStop version line.entry.now)) }
 {
     bytes_stop(alloc, ask, version, line.as_bytes())
 }

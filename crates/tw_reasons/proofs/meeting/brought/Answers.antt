@@ -1,4 +1,4 @@
-use Rattle.std.proofs.Common.{◌≡◌, sym, subst}
+use Rattle.std.proofs.Common.{sym, subst}
 use Rattle.tw_code.specs.accepting.WellTyped.{Brings}
 use Rattle.tw_code.specs.machine.Rights.{Typing}
 use Rattle.tw_reasons.specs.Meetings.{IsDifference}

@@ -1,5 +1,4 @@
-use Rattle.std.proofs.Common.{◌≡◌, ap, sym, ◌∙◌, not}
-use Rattle.std.specs.Bool.{IsTrue}
+use Rattle.std.proofs.Common.{sym, ◌∙◌}
 use Rattle.tw_reasons.proofs.Differing.{other_slot, same_slot, so, so_not}
 use Rattle.tw_reasons.proofs.meeting.differ.Goals as goal
 

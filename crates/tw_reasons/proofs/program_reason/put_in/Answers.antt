@@ -1,4 +1,4 @@
-use Rattle.std.proofs.Common.{◌≡◌, List, subst, sym}
+use Rattle.std.proofs.Common.{List, subst, sym}
 use Rattle.tw_code.specs.machine.Rights.{Typing}
 use Rattle.tw_verify.specs.Known.{AreFound}
 use Rattle.tw_verify.specs.Refusal.{verify_refusal_number}

@@ -1,6 +1,18 @@
 use Rattle.tw_words.specs.Seen.{seen}
+use Rattle.tw_words.specs.Words.{Bare, IsBlank, IsBroken}
+use Rattle.tw_words.proofs.Once.{blank_no_word}
 use Rattle.tw_words.proofs.Texts.{rest_utf8}
 use Rattle.tw_reasons.proofs.stop.bytes_stop.Goals as goal
 
-pub stop_behind-requires-clause-utf8 : goal.stop_behind-requires-clause-utf8
-stop_behind-requires-clause-utf8 c = rest_utf8 (seen c.in-Found.word) c.args.line.now c.in-Found.after.now (rw c.in-Found.is at c.in_ok-word.ensures) c.requires
+pub word_stop-requires-clause-utf8 : goal.word_stop-requires-clause-utf8
+word_stop-requires-clause-utf8 c = rest_utf8 (seen c.in-Found.word) c.args.line.now c.in-Found.after.now (rw c.in-Found.is at c.in_ok-word.ensures) c.requires
+
+pub returns-in-End-clause-first : goal.returns-in-End-clause-first
+returns-in-End-clause-first c = λ form expected word rest is ex.
+    let blank : IsBlank c.args.line.now = rw c.in-End.is at c.in_ok-word.ensures in
+    absurd (blank_no_word (Bare word) c.args.line.now rest blank is)
+
+pub returns-in-Broken-clause-first : goal.returns-in-Broken-clause-first
+returns-in-Broken-clause-first c = λ form expected word rest is ex.
+    let broken : IsBroken c.args.line.now = rw c.in-Broken.is at c.in_ok-word.ensures in
+    absurd (broken.1 (Bare word) rest is)

@@ -1,4 +1,3 @@
-use Rattle.std.proofs.Common.{◌≡◌, ◌+◌, ◌≤◌, List, length, refl, []}
 use Rattle.tw_words.specs.declared.word.Next.TheVariants as next
 use Rattle.tw_words.specs.Seen.{seen}
 use Rattle.tw_words.specs.Words.{IsFirstWord}

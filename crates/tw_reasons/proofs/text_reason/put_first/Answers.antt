@@ -1,5 +1,5 @@
 use Rattle.std.proofs.Common.{None, refl}
-use Rattle.tw_reasons.specs.declared.text_reason.Said.TheVariants.{Expected}
+use Rattle.tw_reasons.specs.declared.told.Said.TheVariants.{Expected}
 use Rattle.tw_reasons.proofs.Reasoning.{on_ok}
 use Rattle.tw_reasons.proofs.Whys.{first_why}
 use Rattle.tw_reasons.proofs.text_reason.put_first.Goals as goal

@@ -1,5 +1,3 @@
-use Rattle.std.proofs.Common.{Option, subst, sym}
-use Rattle.std.specs.Prelude.{IfSome}
 use Rattle.tw_reasons.proofs.Fewness.{operand_place}
 use Rattle.tw_reasons.proofs.step.Ahead.behind.Goals as goal
 

@@ -1,0 +1,115 @@
+//! What is told where ways meet whose typings differ.
+
+ghost use Rattle.std.specs.Prelude.{◌≡◌, ◌++◌, ℕ, List, OnOk};
+ghost use Rattle.tw_asm.specs.Origins.{at_place};
+ghost use Rattle.tw_reasons.specs.Reasons.{holding_text, meeting_line, place_text, side_text};
+
+use crate::asked::{Held, put_held};
+use crate::meeting::{Meeting, first_difference, loop_begin};
+use crate::put::{put, put_numbered};
+use crate::rights::put_right;
+use std::alloc::{AllocError, Global};
+use tw_asm::LineNumbers;
+use tw_code::Instr;
+use tw_verify::{RightType, Typing};
+
+/// Adds the line of the text from which the instruction at a place comes, or the place.
+fn put_place(
+    alloc: Global,
+    out: &mut Vec<u8>,
+    lines: &LineNumbers,
+    procedure: usize,
+    place: usize,
+) -> Result<(), AllocError>
+    ensures { OnOk result (out.new.items ≡ out.old.items ++ place_text (at_place lines.now.procedures procedure place) place) }
+{
+    match lines.at(procedure, place) {
+        Some(line) => put_numbered(alloc, out, "line ", line),
+        None => put_numbered(alloc, out, "place ", place),
+    }
+}
+
+fn put_holding(out: &mut Vec<u8>, right: Option<RightType>) -> Result<(), AllocError>
+    ensures { OnOk result (out.new.items ≡ out.old.items ++ holding_text right) }
+{
+    match right {
+        Some(right) => put_right(out, right),
+        None => put(out, "empty"),
+    }
+}
+
+/// What a way brings.
+fn put_side(
+    alloc: Global,
+    out: &mut Vec<u8>,
+    lines: &LineNumbers,
+    procedure: usize,
+    place: usize,
+    right: Option<RightType>,
+) -> Result<(), AllocError>
+    ensures { OnOk result (out.new.items ≡ out.old.items ++ side_text lines.now.procedures procedure place right) }
+{
+    put_holding(out, right)?;
+    put(out, " behind ")?;
+    put_place(alloc, out, lines, procedure, place)
+}
+
+/// Which register differs where ways meet, and what each way brings.
+pub(crate) fn put_meeting(
+    alloc: Global,
+    out: &mut Vec<u8>,
+    lines: &LineNumbers,
+    procedure: usize,
+    found: &Meeting,
+) -> Result<(), AllocError>
+    ensures { OnOk result (out.new.items ≡ out.old.items ++ meeting_line lines.now.procedures procedure found.now) }
+{
+    put_numbered(alloc, out, "d", found.difference.register as usize)?;
+    put(out, " is ")?;
+    put_side(
+        alloc,
+        out,
+        lines,
+        procedure,
+        found.first,
+        found.difference.first,
+    )?;
+    put(out, ", ")?;
+    put_side(
+        alloc,
+        out,
+        lines,
+        procedure,
+        found.second,
+        found.difference.second,
+    )?;
+    put(out, "\n")
+}
+
+/// Which register a loop changes.
+pub(crate) fn put_changed(
+    alloc: Global,
+    out: &mut Vec<u8>,
+    code: &[Instr],
+    place: usize,
+    typings: &[Typing],
+) -> Result<(), AllocError>
+    ensures { OnOk result ((text : List ℕ) × (out.new.items ≡ out.old.items ++ text)) }
+{
+    let Some(first) = loop_begin(code, place) else {
+        return Ok(());
+    };
+    let Some(begun) = typings.get(first) else {
+        return Ok(());
+    };
+    let Some(here) = typings.get(place) else {
+        return Ok(());
+    };
+    let Some(found) = first_difference(here, begun) else {
+        return Ok(());
+    };
+    put_held(alloc, out, found.register, Held::Right(found.first))?;
+    put(out, ", asked: ")?;
+    put_holding(out, found.second)?;
+    put(out, ", as where the loop begins\n")
+}
