@@ -1,3 +1,4 @@
+mod Comparing
 mod Lists
 mod Fitting
 pub mod Owning

@@ -1,13 +1,13 @@
 //! The end of a run.
 
-ghost use Rattle.std.specs.Prelude.{◌≡◌, ◌≢◌, ◌↔◌, ◌+◌, ◌<◌, ◌≤◌, [], ℕ, IsTrue, MatchOption, length, map, slice_index_or, sum_by, vec_len, vec_capacity};
+ghost use Rattle.std.specs.Prelude.{◌≡◌, ◌≢◌, ◌↔◌, ◌+◌, ◌<◌, ◌≤◌, [], ℕ, IsTrue, MatchOption, get_or, length, map, slice_get, slice_index_or, sum_by, vec_len, vec_capacity};
 ghost use Rattle.std.specs.List.{All};
 ghost use Rattle.std.specs.List.Sorted.{IsPermutation};
 ghost use Rattle.tw_types.specs.declared.actor.Actor.{Actor as AnActor};
 ghost use Rattle.tw_types.specs.Layout.{IsLayout};
 ghost use Rattle.tw_pool.specs.Actors.{HasPlace, events_of};
 ghost use Rattle.tw_host.specs.Ends.{Closes};
-ghost use Rattle.tw_host.specs.Seats.{NoneOf, Told, actors_of, actor_count, told_by};
+ghost use Rattle.tw_host.specs.Seats.{NoneOf, Told, actor_at, actors_of, actor_count, told_by};
 
 use crate::host::Host;
 use crate::locked::Locked;
@@ -34,27 +34,13 @@ pub enum Closed {
     },
 }
 
-/// Whether a list is an actor's events of the history. Who made none is told nothing, and the history isn't read for it.
-fn is_events_of(told: &Events, history: &History, actor: Actor) -> bool
-    requires { HasPlace actor }
-    ensures { IsTrue result ↔ (told.now.items ≡ events_of actor history.now.events) }
+/// Whether what a list has next is this event of the history.
+fn is_next(told: &Events, next: usize, history: &History, k: usize) -> bool
+    requires within { next ≤ length told.now.items }
+    requires there { k < length history.now.events }
+    ensures { IsTrue result ↔ (slice_get told.now.items next ≡ slice_get history.now.events k) }
 {
-    if history.count(actor) == 0 {
-        return told.len() == 0;
-    }
-    let mut next = 0;
-    for k in 0..history.len() {
-        if history.is_by(k, actor) {
-            if next == told.len() {
-                return false;
-            }
-            if !told.is_at(next, history, k) {
-                return false;
-            }
-            next += 1;
-        }
-    }
-    next == told.len()
+    next < told.len() && told.is_at(next, history, k)
 }
 
 /// Whether a seat is an actor's.
@@ -94,20 +80,64 @@ fn put_in_order<N: Named>(seats: &mut [Seat<N>], layout: Layout) -> Option<Actor
     None
 }
 
-/// The first seat whose list isn't its actor's events.
-fn first_differing<N: Named>(seats: &[Seat<N>], history: &History) -> Option<(usize, Actor)>
-    requires { IsLayout N.run.layout }
-    ensures { let told = map (λ s. told_by s.actor s.told.items) seats.now in MatchOption result
-        (All (λ s. s.events ≡ events_of s.actor history.now.events) told)
-        (λ r. (r.0 < length told) × ((d : Told) → (slice_index_or told r.0 d).actor ≡ r.1) × ((d : Told) → (slice_index_or told r.0 d).events ≢ events_of r.1 history.now.events)) }
+/// The first seat of whose list more or less was found than there is.
+fn first_longer<N: Named>(seats: &[Seat<N>], layout: Layout, found: &[usize; 24]) -> Option<usize>
+    requires { length seats.now ≡ actor_count layout }
+    ensures { let lists = map (λ s. s.told.items) seats.now in MatchOption result
+        ((j : ℕ) → j < actor_count layout → get_or found.now j 0 ≡ length (get_or lists j []))
+        (λ j. (j < actor_count layout) × (get_or found.now j 0 ≢ length (get_or lists j []))) }
 {
-    for k in 0..seats.len() {
-        let seat = &seats[k];
-        if !is_events_of(&seat.told, history, seat.actor) {
-            return Some((k, seat.actor));
+    for j in 0..layout.actor_count() {
+        if found[j] != seats[j].told.len() {
+            return Some(j);
         }
     }
     None
+}
+
+/// A seat whose list isn't its actor's events, of seats in the order of their actors. Each event of the history is looked at
+/// once: it has to be what its actor's list has next.
+fn differing<N: Named>(seats: &[Seat<N>], layout: Layout, history: &History) -> Option<usize>
+    requires { map (λ s. s.actor) seats.now ≡ actors_of layout }
+    ensures { let lists = map (λ s. s.told.items) seats.now in MatchOption result
+        ((j : ℕ) → j < actor_count layout → get_or lists j [] ≡ events_of (actor_at layout j) history.now.events)
+        (λ j. (j < actor_count layout) × (get_or lists j [] ≢ events_of (actor_at layout j) history.now.events)) }
+{
+    let mut found = [0; 24];
+    for k in 0..history.len() {
+        let actor = history.actor(k);
+        if layout.has(actor) {
+            let own = layout.index_of(actor);
+            if !is_next(&seats[own].told, found[own], history, k) {
+                return Some(own);
+            }
+            found[own] += 1;
+        }
+    }
+    first_longer(seats, layout, &found)
+}
+
+/// Puts the seats in the order of their actors, and compares what each was told with its actor's events: an actor that has no
+/// seat, or one whose seat, at this place, was told something else.
+fn first_other<N: Named>(
+    seats: &mut [Seat<N>],
+    layout: Layout,
+    history: &History,
+) -> Option<(Actor, Option<usize>)>
+    requires { length seats.old ≡ actor_count layout }
+    ensures moved { IsPermutation seats.old seats.new }
+    ensures found { let told = map (λ s. told_by s.actor s.told.items) seats.new in MatchOption result
+        ((map (λ s. s.actor) seats.new ≡ actors_of layout) × All (λ s. s.events ≡ events_of s.actor history.now.events) told)
+        (λ r. MatchOption r.1 (NoneOf r.0 (map (λ s. s.actor) seats.new))
+        (λ k. (k < length told) × ((d : Told) → (slice_index_or told k d).actor ≡ r.0) × ((d : Told) → (slice_index_or told k d).events ≢ events_of r.0 history.now.events))) }
+{
+    if let Some(actor) = put_in_order(seats, layout) {
+        return Some((actor, None));
+    }
+    match differing(seats, layout, history) {
+        Some(seat) => Some((layout.actor_at(seat), Some(seat))),
+        None => None,
+    }
 }
 
 /// Takes the lists and the parts of all seats.
@@ -149,30 +179,28 @@ impl<'a, N: Named> Locked<'a, N> {
             mut book,
             mut spare,
         } = self;
-        let absent = put_in_order(seats.as_mut_slice(), pool.layout());
-        let differing = first_differing(seats.as_slice(), pool.history());
+        let other = first_other(seats.as_mut_slice(), pool.layout(), pool.history());
         let nothing = Events::new(*by_seat.allocator());
         let mut by_seat = settle(seats, by_seat, &mut spare);
         book.audit(&mut spare);
         let (outcome, history) = pool.shut();
-        if let Some((seat, actor)) = differing {
-            let told = by_seat.swap_remove(seat);
-            return Closed::Differs {
-                actor,
-                told,
-                history,
-            };
-        }
-        match absent {
+        match other {
             None => Closed::Ended {
                 history,
                 outcome,
                 by_seat,
             },
-            Some(actor) => Closed::Differs {
-                actor,
-                told: nothing,
-                history,
+            Some((actor, seat)) => match seat {
+                None => Closed::Differs {
+                    actor,
+                    told: nothing,
+                    history,
+                },
+                Some(seat) => Closed::Differs {
+                    actor,
+                    told: by_seat.swap_remove(seat),
+                    history,
+                },
             },
         }
     }

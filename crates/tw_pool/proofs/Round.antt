@@ -15,7 +15,7 @@ place_low (Engine k) h = omega arith
 place_low (Server k) h = omega arith
 place_low (Worker k) h = omega arith
 
-actor_back : (a : Actor) → HasPlace a → actor_of_place (place_of a) ≡ a
+pub actor_back : (a : Actor) → HasPlace a → actor_of_place (place_of a) ≡ a
 actor_back (Engine k) h = let t : nat_lt k 4 ≡ true = grind (arith, nat_tests) in rw t refl
 actor_back (Server k) h =
     let t : nat_lt (4 + k) 4 ≡ false = grind (arith, nat_tests) in

@@ -3,10 +3,10 @@
 ghost use Rattle.std.specs.Prelude.{◌≡◌, ◌<◌, ◌++◌, ◌∷◌, ◌+◌, ◌==◌, [], IfOk, Some, length, slice_get};
 ghost use Rattle.std.specs.Option.{option_map};
 ghost use Rattle.tw_code.specs.machine.History.{actor_of};
-ghost use Rattle.tw_pool.specs.Actors.{HasPlace, events_of, same_actor};
+ghost use Rattle.tw_pool.specs.Actors.{HasPlace, events_of};
 ghost use Rattle.tw_pool.specs.Words.{FitsWord, unpack};
 
-use crate::words::{maker, pack, unpack};
+use crate::words::{maker, maker_of, pack, unpack};
 use std::alloc::{AllocError, Global};
 use std::marker::Model;
 use tw_types::{Actor, Event};
@@ -97,13 +97,12 @@ impl History {
         self.words[index]
     }
 
-    /// Whether an actor made the event before which there are so many; the event isn't unpacked.
-    pub fn is_by(&self, index: usize, actor: Actor) -> bool
-        requires place { HasPlace actor }
-        requires there { index < length self.now.events }
-        ensures { option_map (λ event. same_actor (actor_of event) actor) (slice_get self.now.events index) ≡ Some result }
+    /// Who made the event before which there are so many; the event isn't unpacked.
+    pub fn actor(&self, index: usize) -> Actor
+        requires { index < length self.now.events }
+        ensures { option_map actor_of (slice_get self.now.events index) ≡ Some result }
     {
-        maker(self.words[index]) == actor.place()
+        maker_of(self.words[index])
     }
 
     /// Tells one event more.

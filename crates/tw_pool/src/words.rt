@@ -3,7 +3,7 @@
 ghost use Rattle.std.specs.Prelude.{◌≡◌, ◌<◌, ◌+◌, ◌*◌, ◌%◌, ◌/◌, ◌^◌};
 ghost use Rattle.tw_code.specs.machine.History.{actor_of};
 ghost use Rattle.tw_pool.specs.Actors.{HasPlace, actor_of_place, place_of};
-ghost use Rattle.tw_pool.specs.Words.{FitsWord, unpack, word_of};
+ghost use Rattle.tw_pool.specs.Words.{FitsWord, IsPlaced, unpack, word_of};
 
 use tw_types::{Actor, DatumId, Event, RuleNo};
 
@@ -26,6 +26,14 @@ pub(crate) fn maker(word: u64) -> usize
     ensures { result ≡ word / 8 % 32 }
 {
     (word / 8 % 32) as usize
+}
+
+/// Who made the event of a word.
+pub(crate) fn maker_of(word: u64) -> Actor
+    requires { IsPlaced word }
+    ensures { result ≡ actor_of (unpack word) }
+{
+    actor_of_place(word / 8 % 32)
 }
 
 /// A word with this kind, for an actor.

@@ -1,4 +1,4 @@
-use Rattle.std.proofs.Common.{[], ◌∷◌, ◌++◌, Option, ap, sym, subst, ◌∙◌, arith, length, length-append}
+use Rattle.std.proofs.Common.{[], ◌∷◌, ◌++◌, Option, ap, sym, subst, ◌∙◌, arith, length-append}
 use Rattle.tw_types.specs.Actor.{is_in}
 use Rattle.tw_frame.specs.Jobs.{DoneView}
 use Rattle.tw_verify.specs.Typed.{TypedProgram}

@@ -1,10 +1,11 @@
-use Rattle.std.proofs.Common.{◌<◌, sym, ap, ◌∙◌, arith, subst, inl, inr, length, map}
+use Rattle.std.proofs.Common.{◌<◌, refl, sym, ap, ◌∙◌, arith, subst, inl, inr, length, map}
 use Rattle.std.proofs.lemmas.List.{length-map}
 use Rattle.std.proofs.lemmas.List.Sorted.{length_permutation}
 use Rattle.tw_no_trap.specs.EndsWell.{EndsWell}
 use Rattle.tw_host.specs.Run.{Run}
 use Rattle.tw_host.specs.Seats.{actors_of, told_by}
 use Rattle.tw_pool.specs.Actors.{events_of}
+use Rattle.tw_host.proofs.Comparing.{match_none, match_some}
 use Rattle.tw_host.proofs.Lists.{at_same}
 use Rattle.tw_host.proofs.Ordering.{all_at, by_seat, held, lacking, lent_back, list_at, moved_from, one_each, sums}
 use Rattle.tw_host.proofs.locked.Locked.close.Goals as goal
@@ -14,18 +15,17 @@ returns-in-None g c =
     let run = g.N.Named.run in
     let shut = c.shut-outcome.ensures.left in
     let inv = c.self.invariant in
-    let p = c.self.inside.pool in
     let items = c.args.seats.items in
-    let seats = c.put_in_order-absent.new.seats in
-    let moved = moved_from c.as_mut_slice.result.now items seats c.as_mut_slice.ensures.value c.put_in_order-absent.ensures.moved in
+    let seats = c.first_other-other.new.seats in
+    let moved = moved_from c.as_mut_slice.result.now items seats c.as_mut_slice.ensures.value c.first_other-other.ensures.moved in
     let back = lent_back c.args.seats.len seats items c.args.seats.ok.0 (length_permutation items seats moved) in
     let history = c.shut-outcome.result.1.events in
-    let all = all_at (λ s. told_by s.actor s.told.items) c.as_slice.result.now seats c.history.result.now.events history (c.as_slice.ensures.value ∙ back) (c.history.ensures.events ∙ sym shut.events) c.in_default.ensures in
-    let placed = c.in-None.ensures.placed ∙ ap actors_of (c.layout.ensures ∙ ap (λ r. r.layout) inv.of_run) in
+    let all = all_at (λ s. told_by s.actor s.told.items) seats seats c.history.result.now.events history refl (c.history.ensures.events ∙ sym shut.events) c.in-None.ensures.found.1 in
+    let placed = c.in-None.ensures.found.0 ∙ ap actors_of (c.layout.ensures ∙ ap (λ r. r.layout) inv.of_run) in
     let whole = c.audit.ensures.whole (omega (arith, c.settle-by_seat.ensures.parts, inv.no_part, c.requires.all, inv.seats)) in
     let same_sum = sums (λ s. told_by s.actor s.told.items) items seats moved _ back in
     record {
-      pool = p;
+      pool = c.self.inside.pool;
       of_run = inv.of_run;
       within = inv.within;
       shut = shut;
@@ -35,50 +35,53 @@ returns-in-None g c =
       together = omega (arith, c.settle-by_seat.ensures.amount, whole, inv.counted, inv.no_amount, ap length shut.events, same_sum);
     }
 
+pub returns-in-None-seat : goal.returns-in-None-seat
+returns-in-None-seat g c =
+    let shut = c.shut-outcome.ensures.left in
+    let inv = c.self.invariant in
+    let items = c.args.seats.items in
+    let seats = c.first_other-other.new.seats in
+    let moved = moved_from c.as_mut_slice.result.now items seats c.as_mut_slice.ensures.value c.first_other-other.ensures.moved in
+    let back = lent_back c.args.seats.len seats items c.args.seats.ok.0 (length_permutation items seats moved) in
+    let whole = c.audit.ensures.whole (omega (arith, c.settle-by_seat.ensures.parts, inv.no_part, c.requires.all, inv.seats)) in
+    let same_sum = sums (λ s. told_by s.actor s.told.items) items seats moved _ back in
+    let none = match_none _ _ c.in-Some.seat c.in-None-seat.is c.in-Some.ensures.found in
+    record {
+      other = inr (lacking (λ s. s.actor) (λ s. s.told.items) items seats moved c.in-Some.actor none, c.new-nothing.ensures);
+      together = omega (arith, c.settle-by_seat.ensures.amount, whole, inv.counted, inv.no_amount, ap length shut.events, same_sum);
+    }
+
+pub swap_remove-requires : goal.swap_remove-requires
+swap_remove-requires g c =
+    let items = c.args.seats.items in
+    let seats = c.first_other-other.new.seats in
+    let moved = moved_from c.as_mut_slice.result.now items seats c.as_mut_slice.ensures.value c.first_other-other.ensures.moved in
+    let back = lent_back c.args.seats.len seats items c.args.seats.ok.0 (length_permutation items seats moved) in
+    let low = (match_some _ _ c.in-Some.seat c.in-Some-seat.seat c.in-Some-seat.is c.in-Some.ensures.found).0 in
+    let as_long = ap length (c.settle-by_seat.ensures.lists ∙ ap (map (λ s. s.told.items)) back) in
+    omega (arith, low, as_long, c.settle-by_seat.result.ok.0, length-map c.settle-by_seat.result.items (λ v. v.items), length-map seats (λ s. s.told.items), length-map seats (λ s. told_by s.actor s.told.items))
+
 pub returns : goal.returns
 returns g c =
     let shut = c.shut-outcome.ensures.left in
     let inv = c.self.invariant in
     let items = c.args.seats.items in
-    let seats = c.put_in_order-absent.new.seats in
-    let moved = moved_from c.as_mut_slice.result.now items seats c.as_mut_slice.ensures.value c.put_in_order-absent.ensures.moved in
+    let seats = c.first_other-other.new.seats in
+    let moved = moved_from c.as_mut_slice.result.now items seats c.as_mut_slice.ensures.value c.first_other-other.ensures.moved in
     let back = lent_back c.args.seats.len seats items c.args.seats.ok.0 (length_permutation items seats moved) in
     let whole = c.audit.ensures.whole (omega (arith, c.settle-by_seat.ensures.parts, inv.no_part, c.requires.all, inv.seats)) in
     let same_sum = sums (λ s. told_by s.actor s.told.items) items seats moved _ back in
-    record {
-      other = inr (lacking (λ s. s.actor) (λ s. s.told.items) items seats moved c.in-Some-absent.actor c.in-Some-absent.ensures.placed, c.new-nothing.ensures);
-      together = omega (arith, c.settle-by_seat.ensures.amount, whole, inv.counted, inv.no_amount, ap length shut.events, same_sum);
-    }
-
-pub swap_remove-told-requires : goal.swap_remove-told-requires
-swap_remove-told-requires g c =
-    let now = c.as_slice.result.now in
-    let low = c.in-Some.ensures.0 in
-    let as_long = ap length (c.settle-by_seat.ensures.lists ∙ ap (map (λ s. s.told.items)) (sym c.as_slice.ensures.value)) in
-    omega (arith, low, as_long, c.settle-by_seat.result.ok.0, length-map c.settle-by_seat.result.items (λ v. v.items), length-map now (λ s. s.told.items), length-map now (λ s. told_by s.actor s.told.items))
-
-pub returns-in-Some : goal.returns-in-Some
-returns-in-Some g c =
-    let shut = c.shut-outcome.ensures.left in
-    let inv = c.self.invariant in
-    let items = c.args.seats.items in
-    let seats = c.put_in_order-absent.new.seats in
-    let moved = moved_from c.as_mut_slice.result.now items seats c.as_mut_slice.ensures.value c.put_in_order-absent.ensures.moved in
-    let back = lent_back c.args.seats.len seats items c.args.seats.ok.0 (length_permutation items seats moved) in
-    let whole = c.audit.ensures.whole (omega (arith, c.settle-by_seat.ensures.parts, inv.no_part, c.requires.all, inv.seats)) in
-    let same_sum = sums (λ s. told_by s.actor s.told.items) items seats moved _ back in
-    let now = c.as_slice.result.now in
-    let k = c.in-Some.seat in
-    let low = c.in-Some.ensures.0 in
-    let told = c.swap_remove-told.result.items in
-    let lists = c.settle-by_seat.ensures.lists ∙ ap (map (λ s. s.told.items)) (sym c.as_slice.ensures.value) in
-    let under : k < length (map (λ s. s.told.items) now) = omega (arith, low, length-map now (λ s. s.told.items), length-map now (λ s. told_by s.actor s.told.items)) in
-    let is = at_same c.settle-by_seat.result.items (map (λ s. s.told.items) now) k c.swap_remove-told.result under lists c.swap_remove-told.ensures.value in
-    let at = list_at (λ s. s.actor) (λ s. s.told.items) items seats moved now (c.as_slice.ensures.value ∙ back) k c.in-Some.actor told low is in
+    let k = c.in-Some-seat.seat in
+    let found = match_some _ _ c.in-Some.seat k c.in-Some-seat.is c.in-Some.ensures.found in
+    let told = c.swap_remove.result.items in
+    let lists = c.settle-by_seat.ensures.lists ∙ ap (map (λ s. s.told.items)) back in
+    let under : k < length (map (λ s. s.told.items) seats) = omega (arith, found.0, length-map seats (λ s. s.told.items), length-map seats (λ s. told_by s.actor s.told.items)) in
+    let is = at_same c.settle-by_seat.result.items (map (λ s. s.told.items) seats) k c.swap_remove.result under lists c.swap_remove.ensures.value in
+    let at = list_at (λ s. s.actor) (λ s. s.told.items) items seats moved seats refl k c.in-Some.actor told found.0 is in
     record {
       other = inl (
-        held (λ s. s.actor) (λ s. s.told.items) items seats moved now (c.as_slice.ensures.value ∙ back) k c.in-Some.actor told low is c.in-Some.ensures.1,
-        (λ e. c.in-Some.ensures.2 (told_by c.in-Some.actor told) (at (told_by c.in-Some.actor told) ∙ (e ∙ ap (events_of c.in-Some.actor) (shut.events ∙ sym c.history.ensures.events)))),
+        held (λ s. s.actor) (λ s. s.told.items) items seats moved seats refl k c.in-Some.actor told found.0 is found.1,
+        (λ e. found.2 (told_by c.in-Some.actor told) (at (told_by c.in-Some.actor told) ∙ (e ∙ ap (events_of c.in-Some.actor) (shut.events ∙ sym c.history.ensures.events)))),
       );
       together = omega (arith, c.settle-by_seat.ensures.amount, whole, inv.counted, inv.no_amount, ap length shut.events, same_sum);
     }

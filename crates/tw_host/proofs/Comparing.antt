@@ -1,0 +1,206 @@
+-- The seats of a layout beside a history of which each event is looked at once.
+use Rattle.std.proofs.Common.{◌≡◌, ◌≢◌, ◌==◌, ◌≤◌, ◌<◌, ◌+◌, ◌-◌, ℕ, Bool, true, false, Option, Some, None, ◌⊎◌, inl, inr, drop, set, option_map, List, [], ◌∷◌, length, map, nat_lt, refl, sym, ap, subst, ◌∙◌, arith, get_or}
+use Rattle.std.specs.Prelude.{◌↔◌, MatchOption, slice_get}
+use Rattle.std.specs.List.{All, range_with_len}
+use Rattle.std.proofs.lemmas.Bool.{eqb-true, eqb-false, ltb-true}
+use Rattle.std.proofs.lemmas.Bool.Decides.{nat_tests}
+use Rattle.std.proofs.lemmas.List.{drop_all, length-drop, length-map, get_or-map, get_or-set_same, get_or-set_other}
+use Rattle.std.proofs.lemmas.List.FromFn.{get_or-range_with_len, length-range_with_len}
+use Rattle.std.proofs.lemmas.Option.{same_Some, slice_get_cases}
+use Rattle.tw_types.specs.declared.actor.Actor.{Actor}
+use Rattle.tw_types.specs.declared.actor.Actor.TheVariants.{Engine, Server, Worker}
+use Rattle.tw_types.specs.declared.event.Event.{Event}
+use Rattle.tw_types.specs.Actor.{index_of, is_in}
+use Rattle.tw_types.specs.Layout.{ActorCounts}
+use Rattle.tw_code.specs.machine.History.{actor_of}
+use Rattle.tw_pool.specs.Actors.{events_of, same_actor}
+use Rattle.tw_pool.proofs.Counting.{itself, the_same}
+use Rattle.tw_host.specs.Seats.{Told, actor_at, actor_count, actors_of, told_by}
+use Rattle.tw_host.proofs.Lists.{both_less, first_of_rest, map_map, other_next, own_next, rest_more, same_both}
+use Rattle.tw_host.proofs.Ordering.{apart}
+
+-- ---- an actor of the layout stands at its index
+
+pub index_low : (layout : ActorCounts) (a : Actor) → is_in layout a ≡ true → index_of layout a < actor_count layout
+index_low layout (Engine n) is = let low = ltb-true n layout.engines is in omega (arith, low)
+index_low layout (Server n) is = let low = ltb-true n layout.servers is in omega (arith, low)
+index_low layout (Worker n) is = let low = ltb-true n layout.workers is in omega (arith, low)
+
+pub index_back : (layout : ActorCounts) (a : Actor) → is_in layout a ≡ true → actor_at layout (index_of layout a) ≡ a
+index_back layout (Engine n) is = rw is refl
+index_back layout (Server n) is =
+    let low = ltb-true n layout.servers is in
+    let e = layout.engines in
+    let behind : nat_lt (e + n) e ≡ false = grind (arith, nat_tests) in
+    let within : nat_lt (e + n) (e + layout.servers) ≡ true = grind (arith, nat_tests, low) in
+    let back : (e + n) - e ≡ n = omega arith in
+    rw (behind, within) (ap Server back)
+index_back layout (Worker n) is =
+    let e = layout.engines in
+    let s = layout.servers in
+    let first : nat_lt (e + s + n) e ≡ false = grind (arith, nat_tests) in
+    let second : nat_lt (e + s + n) (e + s) ≡ false = grind (arith, nat_tests) in
+    let back : (e + s + n) - (e + s) ≡ n = omega arith in
+    rw (first, second) (ap Worker back)
+
+-- one that stands there is of the layout
+pub there : (layout : ActorCounts) (j : ℕ) → j < actor_count layout → is_in layout (actor_at layout j) ≡ true
+there layout j low = by (nat_lt j layout.engines) (nat_lt j (layout.engines + layout.servers)) refl refl
+  where
+    by : (a b : Bool) → nat_lt j layout.engines ≡ a → nat_lt j (layout.engines + layout.servers) ≡ b → is_in layout (actor_at layout j) ≡ true
+    by true b is other = rw (is, is) refl
+    by false true is other = let t : nat_lt (j - layout.engines) layout.servers ≡ true = grind (arith, nat_tests, is, other) in rw (is, other) t
+    by false false is other = let t : nat_lt (j - (layout.engines + layout.servers)) layout.workers ≡ true = grind (arith, nat_tests, is, other, low) in rw (is, other) t
+
+pub others_apart : (layout : ActorCounts) (i j : ℕ) → i ≢ j → actor_at layout i ≢ actor_at layout j
+others_apart layout i j other = by (nat_lt i j) refl
+  where
+    by : (b : Bool) → nat_lt i j ≡ b → actor_at layout i ≢ actor_at layout j
+    by true is = apart layout i j (ltb-true i j is)
+    by false is = λ e. let above : j < i = grind (arith, nat_tests, is, other) in apart layout j i above (sym e)
+
+not_same : (a b : Actor) → a ≢ b → same_actor a b ≡ false
+not_same a b other = by (same_actor a b) refl
+  where
+    by : (t : Bool) → same_actor a b ≡ t → same_actor a b ≡ false
+    by true is = absurd (other (the_same a b is))
+    by false is = is
+
+-- ---- of each seat's list so many events were found in the first k of the history
+
+pub made_by : (history : List Event) (k : ℕ) (a : Actor) → option_map actor_of (slice_get history k) ≡ Some a → (e : Event) × (slice_get history k ≡ Some e) × (actor_of e ≡ a) × (k < length history)
+made_by history k a is = by (slice_get_cases history k).1
+  where
+    by : ((e : Event) × (k < length history) × (slice_get history k ≡ Some e) × (get_or history k e ≡ e)) ⊎ ((length history ≤ k) × (slice_get history k ≡ None))
+        → (e : Event) × (slice_get history k ≡ Some e) × (actor_of e ≡ a) × (k < length history)
+    by (inl c) = (c.0, c.2, same_Some (actor_of c.0) a (ap (option_map actor_of) (sym c.2) ∙ is), c.1)
+    by (inr c) = let none : None ≡ Some a = ap (option_map actor_of) (sym c.1) ∙ is in cc
+
+pub as_many_seats : {X : Type 0} (f : X → Actor) (seats : List X) (layout : ActorCounts) → map f seats ≡ actors_of layout → length seats ≡ actor_count layout
+as_many_seats f seats layout is = sym (length-map seats f) ∙ (ap length is ∙ (length-map (range_with_len 0 (actor_count layout)) (actor_at layout) ∙ length-range_with_len 0 (actor_count layout)))
+
+pub match_by : {A B : Type 0} {P Q : ℕ → Type 0} (o : Option ℕ) → (A → B) → ((j : ℕ) → P j → Q j) → MatchOption o A P → MatchOption o B Q
+match_by None f g is = f is
+match_by (Some j) f g is = g j is
+
+pub match_none : {Y : Type 0} (A : Type 0) (P : Y → Type 0) (o : Option Y) → o ≡ None → MatchOption o A P → A
+match_none A P o is m = subst (λ x. MatchOption x A P) is m
+
+pub match_some : {Y : Type 0} (A : Type 0) (P : Y → Type 0) (o : Option Y) (y : Y) → o ≡ Some y → MatchOption o A P → P y
+match_some A P o y is m = subst (λ x. MatchOption x A P) is m
+
+module _ (layout : ActorCounts) (history : List Event) (lists : List (List Event)) where
+  abbrev Of : ℕ → ℕ → ℕ → Type 0
+  Of k n j = (n ≤ k) × (n ≤ length (get_or lists j [])) × ((drop n (get_or lists j []) ≡ events_of (actor_at layout j) (drop k history)) ↔ (get_or lists j [] ≡ events_of (actor_at layout j) history))
+
+  abbrev pub Found : List ℕ → ℕ → Type 0
+  Found found k = (j : ℕ) → j < actor_count layout → Of k (get_or found j 0) j
+
+  pub none_found : (found : List ℕ) → ((j : ℕ) → get_or found j 0 ≡ 0) → Found found 0
+  none_found found none j low = subst (λ n. Of 0 n j) (sym (none j)) (omega arith, omega arith, ((λ e. e), (λ e. e)))
+
+  module _ (found : List ℕ) (k : ℕ) (event : Event) (before : Found found k) (low : k < length history) (at : slice_get history k ≡ Some event) where
+    of_others : (j : ℕ) → j < actor_count layout → actor_at layout j ≢ actor_of event → Of (k + 1) (get_or found j 0) j
+    of_others j there_ other =
+        let told = get_or lists j [] in
+        let rest = drop (get_or found j 0) told in
+        let a = actor_at layout j in
+        let stays = other_next a history k event low at (not_same (actor_of event) a (λ e. other (sym e))) in
+        let was = before j there_ in
+        (omega (arith, was.0), was.1, same_both told (events_of a history) rest rest (events_of a (drop k history)) (events_of a (drop (k + 1) history)) refl stays was.2)
+
+    -- an actor without a seat
+    pub passed : is_in layout (actor_of event) ≡ false → Found found (k + 1)
+    passed out j there_ = of_others j there_ (λ e. let in_ : true ≡ false = sym (there layout j there_) ∙ (ap (is_in layout) e ∙ out) in cc)
+
+    module _ (own : ℕ) (in_ : is_in layout (actor_of event) ≡ true) (is : own ≡ index_of layout (actor_of event)) where
+      whose : actor_at layout own ≡ actor_of event
+      whose = ap (actor_at layout) is ∙ index_back layout (actor_of event) in_
+
+      pub own_low : own < actor_count layout
+      own_low = subst (λ n. n < actor_count layout) (sym is) (index_low layout (actor_of event) in_)
+
+      first : events_of (actor_at layout own) (drop k history) ≡ event ∷ events_of (actor_at layout own) (drop (k + 1) history)
+      first = own_next (actor_at layout own) history k event low at (ap (same_actor (actor_of event)) whose ∙ itself (actor_of event))
+
+      -- its list has another one next, or none
+      pub missed : slice_get (get_or lists own []) (get_or found own 0) ≢ Some event → get_or lists own [] ≢ events_of (actor_at layout own) history
+      missed other = λ e. other (first_of_rest (get_or lists own []) (get_or found own 0) event (events_of (actor_at layout own) (drop (k + 1) history)) ((before own own_low).2.1 e ∙ first))
+
+      pub found_more : own < length found → slice_get (get_or lists own []) (get_or found own 0) ≡ Some event → Found (set found own (get_or found own 0 + 1)) (k + 1)
+      found_more room next j there_ = by (j == own) refl
+        where
+          told : List Event
+          told = get_or lists own []
+
+          n : ℕ
+          n = get_or found own 0
+
+          more : n < length told
+          more = at_most (slice_get_cases told n).1
+            where
+              at_most : ((x : Event) × (n < length told) × (slice_get told n ≡ Some x) × (get_or told n x ≡ x)) ⊎ ((length told ≤ n) × (slice_get told n ≡ None)) → n < length told
+              at_most (inl c) = c.1
+              at_most (inr c) = let none : None ≡ Some event = sym c.1 ∙ next in cc
+
+          here : (m : ℕ) → m ≡ n + 1 → Of (k + 1) m own
+          here m same =
+              let was = before own own_low in (
+                omega (arith, was.0, same),
+                omega (arith, more, same),
+                both_less told (events_of (actor_at layout own) history) event (drop n told) (drop m told) (events_of (actor_at layout own) (drop k history)) (events_of (actor_at layout own) (drop (k + 1) history))
+                    (rest_more told n event more next ∙ ap (λ i. event ∷ drop i told) (sym same)) first was.2,
+              )
+
+          by : (b : Bool) → (j == own) ≡ b → Of (k + 1) (get_or (set found own (n + 1)) j 0) j
+          by true e =
+              let same : j ≡ own = eqb-true j own e in
+              subst (λ i. Of (k + 1) (get_or (set found own (n + 1)) i 0) i) (sym same) (here (get_or (set found own (n + 1)) own 0) (get_or-set_same found own (n + 1) 0 room))
+          by false e =
+              let other : j ≢ own = eqb-false j own e in
+              subst (λ m. Of (k + 1) m j) (sym (get_or-set_other found own j (n + 1) 0 other)) (of_others j there_ (λ is_event. others_apart layout j own other (is_event ∙ sym whose)))
+
+  module _ (found : List ℕ) (k : ℕ) (all : Found found k) (over : length history ≤ k) (j : ℕ) (low : j < actor_count layout) where
+    none : events_of (actor_at layout j) (drop k history) ≡ []
+    none = ap (events_of (actor_at layout j)) (drop_all k history over)
+
+    pub whole : get_or found j 0 ≡ length (get_or lists j []) → get_or lists j [] ≡ events_of (actor_at layout j) history
+    whole is = (all j low).2.0 (drop_all (get_or found j 0) (get_or lists j []) (omega (arith, is)) ∙ sym none)
+
+    pub longer : get_or found j 0 ≢ length (get_or lists j []) → get_or lists j [] ≢ events_of (actor_at layout j) history
+    longer other = λ e.
+        let nothing = sym (length-drop (get_or found j 0) (get_or lists j [])) ∙ ap length ((all j low).2.1 e ∙ none) in
+        other (omega (arith, nothing, (all j low).1))
+
+-- ---- seats in the order of their actors
+
+module _ {X : Type 0} (actor : X → Actor) (list : X → List Event) (seats : List X) (layout : ActorCounts) (placed : map actor seats ≡ actors_of layout) where
+  abbrev view : X → Told
+  view s = told_by (actor s) (list s)
+
+  long : length (map view seats) ≡ actor_count layout
+  long = length-map seats view ∙ as_many_seats actor seats layout placed
+
+  pub whose_there : (k : ℕ) (d : Told) → k < actor_count layout → (get_or (map view seats) k d).actor ≡ actor_at layout k
+  whose_there k d low =
+      sym (get_or-map (λ (t : Told). t.actor) (map view seats) k d d.actor (omega (arith, low, long)))
+      ∙ (ap (λ (ws : List Actor). get_or ws k d.actor) (map_map view (λ (t : Told). t.actor) seats ∙ placed)
+      ∙ (get_or-map (actor_at layout) (range_with_len 0 (actor_count layout)) k 0 d.actor (omega (arith, low, length-range_with_len 0 (actor_count layout)))
+      ∙ ap (actor_at layout) (get_or-range_with_len 0 (actor_count layout) k 0 low ∙ from_zero)))
+    where
+      from_zero : 0 + k ≡ k
+      from_zero = omega arith
+
+  pub list_there : (k : ℕ) (d : Told) → k < actor_count layout → (get_or (map view seats) k d).events ≡ get_or (map list seats) k []
+  list_there k d low =
+      sym (get_or-map (λ (t : Told). t.events) (map view seats) k d [] (omega (arith, low, long)))
+      ∙ ap (λ (es : List (List Event)). get_or es k []) (map_map view (λ (t : Told). t.events) seats)
+
+  pub all_own : (h : List Event) → ((j : ℕ) → j < actor_count layout → get_or (map list seats) j [] ≡ events_of (actor_at layout j) h) → All (λ (t : Told). t.events ≡ events_of t.actor h) (map view seats)
+  all_own h each k d low =
+      let under : k < actor_count layout = omega (arith, low, long) in
+      list_there k d under ∙ (each k under ∙ ap (λ a. events_of a h) (sym (whose_there k d under)))
+
+  pub other_there : (h : List Event) (k : ℕ) → k < actor_count layout → get_or (map list seats) k [] ≢ events_of (actor_at layout k) h
+      → (k < length (map view seats)) × ((d : Told) → (get_or (map view seats) k d).actor ≡ actor_at layout k) × ((d : Told) → (get_or (map view seats) k d).events ≢ events_of (actor_at layout k) h)
+  other_there h k low other = (omega (arith, low, long), (λ d. whose_there k d low), (λ d e. other (sym (list_there k d low) ∙ e)))

@@ -1,0 +1,7 @@
+use Rattle.std.proofs.Common.{◌∙◌, ap}
+use Rattle.tw_pool.specs.Actors.{actor_of_place}
+use Rattle.tw_pool.proofs.Round.{actor_back}
+use Rattle.tw_pool.proofs.words.maker_of.Goals as goal
+
+pub returns : goal.returns
+returns c = c.actor_of_place.ensures ∙ ap actor_of_place c.requires.1 ∙ actor_back _ c.requires.0
