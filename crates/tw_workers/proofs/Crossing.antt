@@ -9,7 +9,6 @@ use denote.Struct.Field.{shr_ref_field, mut_ref_field}
 use denote.Struct.Tuple.{TupleAt}
 use mathlib.Core.List.{[], ◌∷◌}
 use Rattle.std.specs.contracts.alloc.Global
-use Rattle.std.specs.contracts.sync.atomic.AtomicBool
 use Rattle.tw_host.specs.contracts.seat.Seat
 use Rattle.tw_host.proofs.seat.Seat.TheSendSync as OfSeat
 use base.Fml.{Lft}
@@ -59,23 +58,17 @@ module _ (κ : NamedLft) (N : RattleType) (named : Named.Ghosts N.Denot) (ledger
   host : IsSync (Host.the_row κ N named ledger)
   host = search (locked, OfNews.the_sync, OfVerified.the_sync, OfEvent.the_sync, Crossing.crosses, sendable) depth 60 fits 20000
 
-  flag : IsSync AtomicBool.the_row
-  flag = search (sendable, Crossing.crosses) depth 60 fits 20000
-
   seat : IsSend N → IsSend (Seat.the_row N named ledger)
   seat s = search (OfSeat.the_send, sendable, Crossing.crosses) depth 60 fits 20000
 
   -- what a seat's thread takes along
-  module _ (name : Sym) (a b c d e : NamedLft) (G R : RattleType) (seat_crosses : IsSend N) (gate : IsSync G) (runtime : IsSync R) where
+  module _ (name : Sym) (a b c d : NamedLft) (G R : RattleType) (seat_crosses : IsSend N) (gate : IsSync (param 1 G)) (runtime : IsSync (param 2 R)) where
     shown : IsSend (shr_ref_field b (Host.the_row κ N named ledger) tt).row
     shown = search (host, sendable)
 
     lent : IsSend (mut_ref_field c (Seat.the_row N named ledger) tt).row
     lent = search (seat, sendable)
 
-    said : IsSend (shr_ref_field e AtomicBool.the_row tt).row
-    said = search (flag, sendable)
-
     pub work : IsSend (TupleAt name ((shr_ref_field a (param 2 R) tt).row ∷ Global.the_row ∷ (shr_ref_field b (Host.the_row κ N named ledger) tt).row ∷ (mut_ref_field c (Seat.the_row N named ledger) tt).row
-        ∷ (shr_ref_field d (param 1 G) tt).row ∷ (shr_ref_field e AtomicBool.the_row tt).row ∷ []))
-    work = search (Crossing.send, shown, lent, said, sendable) depth 60 fits 20000
+        ∷ (shr_ref_field d (param 1 G) tt).row ∷ []))
+    work = search (Crossing.send, shown, lent, sendable) depth 60 fits 20000

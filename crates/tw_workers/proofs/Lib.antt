@@ -1,3 +1,4 @@
 mod Crossing
 mod Lists
 pub mod Driving
+mod Threading

@@ -1,55 +1,113 @@
 //! Runs in threads.
 
-ghost use Rattle.std.specs.Prelude.{◌≡◌, List, IfErr, IfOk, length, vec_len};
+ghost use Rattle.std.specs.Prelude.{◌≡◌, List, [], IfErr, IfOk, length, map, vec_len};
 ghost use Rattle.tw_pool.specs.Openings.{IsRefusal, MayOpen};
 ghost use Rattle.tw_host.specs.Ends.{Closes};
-ghost use Rattle.tw_host.specs.Seats.{Told, actor_count};
+ghost use Rattle.tw_host.specs.Seats.{Told, actor_count, actors_of, told_by};
+ghost use Rattle.tw_workers.specs.Threads.{AllDrove, Drove};
 
 use crate::driver::drive_lent;
 use crate::gate::Gate;
 use std::alloc::Global;
-use std::marker::Brand;
+use std::marker::{Brand, PhantomData};
+use std::snapshot::Snapshot;
 use std::sync::Wait;
-use std::sync::atomic::{AtomicBool, Ordering};
 use std::sync::ledger::Blank;
 use std::thread;
-use std::thread::{SpawnError, Threads};
+use std::thread::{Promise, PromisedHandle, Scope, SpawnError, Threads};
 use std::time::Clock;
 use tw_host::{Closed, Host, Named, Seat};
 use tw_pool::OpenRefusal;
 use tw_types::{Input, Layout};
 use tw_verify::Verified;
 
-/// Drives each seat in a thread of its own, and joins the threads. True where memory ran out.
+/// What the driver of a seat promises: that it drove the seat from there, and says whether memory ran out.
+#[derive(Drop)]
+struct Begun<N: Named, G: Gate> {
+    seat: Snapshot<Seat<N>>,
+    gate: PhantomData<G>,
+}
+
+impl<N: Named, G: Gate> Promise<bool> for Begun<N, G> {
+    ghost kept_by = { λ b memory. Drove N.run G.unwatched (told_by b.seat.value.actor b.seat.value.told.items) memory };
+}
+
+/// Begins to drive a seat in a thread of its own. Where there is none the run is stopped, and the seat is driven here.
+fn begin<'s, 'e, 'a, N: Named + Send + Sync, G: Gate + Sync, R: Threads + Wait + Clock + Sync>(
+    rt: &'e R,
+    alloc: Global,
+    scope: &Scope<'s, &'e ()>,
+    host: &'e Host<'a, N>,
+    seat: &'e mut Seat<N>,
+    gate: &'e G,
+) -> Result<PromisedHandle<bool, Begun<N, G>>, bool>
+    ensures there { IfOk result (λ driver. driver.promise.seat.value ≡ seat.old) }
+    ensures here { IfErr result (λ memory. Drove N.run G.unwatched (told_by seat.old.actor seat.old.told.items) memory) }
+{
+    let begun = Begun::<N, G> {
+        seat: Snapshot::of(seat),
+        gate: PhantomData,
+    };
+    let work = move || -> bool
+        ensures { Drove N.run G.unwatched (told_by seat.entry.now.actor seat.entry.now.told.items) result }
+    { drive_lent(rt, alloc, host, seat, gate) };
+    match scope.spawn_with(begun, work) {
+        Ok(driver) => Ok(driver),
+        Err(back) => {
+            host.stop(rt);
+            let SpawnError { value: mut work } = back;
+            Err(work())
+        }
+    }
+}
+
+/// Drives each of these seats in a thread of its own, and joins the threads. True where memory ran out, or a seat had no thread.
+fn drive_each<'s, 'e, 'a, N: Named + Send + Sync, G: Gate + Sync, R: Threads + Wait + Clock + Sync>(
+    rt: &'e R,
+    alloc: Global,
+    scope: &Scope<'s, &'e ()>,
+    host: &'e Host<'a, N>,
+    seats: &'e mut [Seat<N>],
+    gate: &'e G,
+) -> bool
+    ensures { AllDrove N.run G.unwatched (map (λ s. told_by s.actor s.told.items) seats.old) result }
+{
+    let Some((seat, others)) = seats.split_first_mut() else {
+        return false;
+    };
+    match begin(rt, alloc, scope, host, seat, gate) {
+        Ok(driver) => {
+            let memory = drive_each(rt, alloc, scope, host, others, gate);
+            driver.join(rt) || memory
+        }
+        Err(_) => {
+            drive_each(rt, alloc, scope, host, others, gate);
+            true
+        }
+    }
+}
+
+/// Drives each seat in a thread of its own. True where memory ran out.
 fn drive_all<'a, N: Named + Send + Sync, G: Gate + Sync, R: Threads + Wait + Clock + Sync>(
     rt: &R,
     alloc: Global,
     host: &Host<'a, N>,
     seats: &mut [Seat<N>],
     gate: &G,
-) -> bool {
-    let memory = AtomicBool::new(false);
-    let refused = &memory;
-    thread::scope(thread::scope_env(), rt, |scope| {
-        for seat in seats {
-            let work = move || {
-                if drive_lent(rt, alloc, host, seat, gate) {
-                    refused.store(true, Ordering::SeqCst);
-                }
-            };
-            if let Err(back) = scope.spawn(work) {
-                refused.store(true, Ordering::SeqCst);
-                host.stop(rt);
-                let SpawnError { value: mut work } = back;
-                work();
-            }
-        }
-    });
-    memory.load(Ordering::SeqCst)
+) -> bool
+    ensures { AllDrove N.run G.unwatched (map (λ s. told_by s.actor s.told.items) seats.old) result }
+{
+    thread::scope(
+        thread::scope_env(),
+        rt,
+        |scope| -> bool
+            ensures { AllDrove N.run G.unwatched (map (λ s. told_by s.actor s.told.items) seats.entry.now) result }
+        { drive_each(rt, alloc, scope, host, seats, gate) },
+    )
 }
 
 /// Drives all seats in threads of their own until the run is over, and closes the host. The second answer is true where memory
-/// ran out.
+/// ran out, or a thread was refused.
 pub fn run_all<'a, N: Named + Send + Sync, G: Gate + Sync, R: Threads + Wait + Clock + Sync>(
     rt: &R,
     alloc: Global,
@@ -58,7 +116,8 @@ pub fn run_all<'a, N: Named + Send + Sync, G: Gate + Sync, R: Threads + Wait + C
     gate: &G,
 ) -> (Closed, bool)
     requires all { vec_len seats ≡ actor_count N.run.layout }
-    ensures { (seats : List Told) × (length seats ≡ actor_count N.run.layout) × Closes N.run seats result.0 }
+    ensures closes { (seats : List Told) × (length seats ≡ actor_count N.run.layout) × Closes N.run seats result.0 }
+    ensures memory { AllDrove N.run G.unwatched (map (λ s. told_by s.actor s.told.items) seats.items) result.1 }
 {
     let memory = drive_all(rt, alloc, &host, seats.as_mut_slice(), gate);
     (host.close(seats), memory)
@@ -79,13 +138,14 @@ fn run_named<N: Named + Send + Sync, G: Gate + Sync, R: Threads + Wait + Clock +
     requires run { N.run ≡ record { program = verified.now; inputs = inputs.now; layout = layout; limit = limit } }
     ensures allowed { IfOk result (λ _. MayOpen verified.now.program inputs.now layout limit) }
     ensures closes { IfOk result (λ r. (seats : List Told) × (length seats ≡ actor_count layout) × Closes N.run seats r.0) }
+    ensures memory { IfOk result (λ r. AllDrove N.run G.unwatched (map (λ a. told_by a []) (actors_of layout)) r.1) }
     ensures refused { IfErr result (IsRefusal verified.now.program inputs.now layout limit) }
 {
     let (host, seats) = Host::<N>::open(alloc, blank, verified, inputs, layout, limit)?;
     Ok(run_all(rt, alloc, host, seats, gate))
 }
 
-/// One run, in as many threads as there are actors. The second answer is true where memory ran out.
+/// One run, in as many threads as there are actors. The second answer is true where memory ran out, or a thread was refused.
 pub fn run<G: Gate + Sync, R: Threads + Wait + Clock + Sync>(
     rt: &R,
     alloc: Global,
@@ -97,6 +157,7 @@ pub fn run<G: Gate + Sync, R: Threads + Wait + Clock + Sync>(
 ) -> Result<(Closed, bool), OpenRefusal>
     ensures allowed { IfOk result (λ _. MayOpen verified.now.program inputs.now layout limit) }
     ensures closes { IfOk result (λ r. (seats : List Told) × (length seats ≡ actor_count layout) × Closes (record { program = verified.now; inputs = inputs.now; layout = layout; limit = limit }) seats r.0) }
+    ensures memory { IfOk result (λ r. AllDrove (record { program = verified.now; inputs = inputs.now; layout = layout; limit = limit }) G.unwatched (map (λ a. told_by a []) (actors_of layout)) r.1) }
     ensures refused { IfErr result (IsRefusal verified.now.program inputs.now layout limit) }
 {
     let blank = Blank::new(layout.actor_count() as u64);
