@@ -1,0 +1,27 @@
+-- What is left of a pool that has come to its end.
+use Rattle.std.proofs.Common.{◌≡◌, false, ap, subst, sym, ◌∙◌}
+use Rattle.tw_code.specs.machine.State.{State}
+use Rattle.tw_no_trap.specs.EndsWell.{EndsWell}
+use Rattle.tw_pool.specs.Ends.{FinalView, IsShut}
+use Rattle.tw_pool.specs.History.{HistoryView}
+use Rattle.tw_pool.specs.PoolView.{HasState, PoolView}
+use Rattle.tw_in_turn.specs.InTurn.{ComesTo, HasEnded, IsLeftIn, IsOver}
+use Rattle.tw_in_turn.specs.Rounds.{IsGrown}
+use Rattle.tw_in_turn.proofs.Moving.{ends_over}
+
+module _ (pool first p : PoolView) (final : FinalView) (history : HistoryView) (is : pool ≡ first) where
+  pub left_in : IsGrown pool p → IsShut p final history → ((s : State) → HasState p s → EndsWell p.program.program s) → IsLeftIn first p final history
+  left_in grown shut ends =
+      let same : p ≡ record first { history = p.history } = grown.same ∙ ap (λ (q : PoolView). record q { history = p.history }) is in
+      record {
+        of_first = same;
+        within = (subst (λ (q : PoolView). IsGrown q p) is grown).within;
+        shut = shut;
+        ends_well = subst (λ (q : PoolView). EndsWell q.program.program shut.state) same (ends shut.state shut.has_state);
+      }
+
+  pub left_over : first.stopped ≡ false → ComesTo pool IsOver p → IsGrown pool p → IsShut p final history → ((s : State) → HasState p s → EndsWell p.program.program s)
+      → (x : PoolView) × ComesTo first IsOver x × IsLeftIn first x final history × HasEnded final.closing
+  left_over on comes grown shut ends =
+      let over = subst (λ (q : PoolView). ComesTo q IsOver p) is comes in
+      (p, over, left_in grown shut ends, subst HasEnded (sym shut.closing) (ends_over first p on over shut.state shut.has_state))

@@ -1,0 +1,6 @@
+mod Frames
+mod Leaving
+mod Moving
+mod Opening
+mod Rounding
+mod Same

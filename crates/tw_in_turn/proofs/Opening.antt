@@ -1,0 +1,29 @@
+-- Before the first event no actor has anything to hand in.
+use Rattle.std.proofs.Common.{◌≡◌, List, [], Option, None, refl, sym, ap, subst, ◌∙◌}
+use Rattle.std.specs.FinMap.{get, get-empty}
+use Rattle.tw_types.specs.declared.actor.Actor.{Actor}
+use Rattle.tw_types.specs.declared.event.Event.{Event}
+use Rattle.tw_types.specs.declared.input.Input.{Input}
+use Rattle.tw_types.specs.Actor.{actor_cmp}
+use Rattle.tw_types.specs.Layout.{ActorCounts}
+use Rattle.tw_types.specs.Outcome.{Went}
+use Rattle.tw_types.proofs.Outcomes.{same_went}
+use Rattle.tw_code.specs.declared.procedure.Procedure.{Procedure}
+use Rattle.tw_code.specs.machine.Machine.{run}
+use Rattle.tw_code.specs.machine.Opening.{opening, reached}
+use Rattle.tw_code.specs.machine.State.{State}
+use Rattle.tw_frame.specs.Jobs.{JobView}
+use Rattle.tw_pool.specs.PoolView.{PoolView}
+use Rattle.tw_in_turn.specs.InTurn.{HasDone}
+use Rattle.tw_in_turn.specs.Rounds.{Keeps}
+use Rattle.tw_in_turn.proofs.Moving.{lent_none}
+
+nobody : (program : List Procedure) (inputs : List Input) (layout : ActorCounts) (s : State) (actor : Actor) → reached program inputs layout [] ≡ Went s → get s.frames actor ≡ None
+unfolding run opening
+nobody program inputs layout s actor e = ap (λ (t : State). get t.frames actor) (sym (same_went (opening program inputs) s e)) ∙ get-empty actor_cmp actor
+
+pub keeps_nothing : (p : PoolView) → p.history ≡ [] → (actor : Actor) → Keeps p actor None
+keeps_nothing p first actor = record {
+  has = λ s at. subst (λ (o : Option JobView). HasDone o None) (sym (lent_none p s actor (nobody p.program.program p.inputs p.layout s actor (subst (λ (es : List Event). reached p.program.program p.inputs p.layout es ≡ Went s) first at)))) refl;
+  program = tt;
+}

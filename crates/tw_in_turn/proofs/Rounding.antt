@@ -1,0 +1,199 @@
+-- Rounds: each actor has its turn by its index, and something is due as long as the run isn't over.
+use Rattle.std.proofs.Common.{◌≡◌, ◌≢◌, ◌<◌, ◌≤◌, ◌+◌, ◌-◌, ◌*◌, ◌⊎◌, ◌==◌, ℕ, suc, Bool, true, false, nat_lt, if◌then◌else◌, List, length, Option, Some, None, refl, sym, ap, subst, ◌∙◌, add-one, arith, get_or, set, inl, inr}
+use Rattle.std.proofs.lemmas.Bool.{cases_eq, ltb-true, ltb-false}
+use Rattle.std.proofs.lemmas.Bool.Decides.{nat_tests}
+use Rattle.std.proofs.lemmas.List.{get_or-set_same, get_or-set_other, length-set}
+use Rattle.std.proofs.lemmas.Nat.{mod-mul-add}
+use Rattle.std.proofs.Math.Nat.{suc-mul}
+use Rattle.std.specs.FinMap.{get}
+use Rattle.std.specs.Option.{option_map, option_or}
+use Rattle.tw_types.specs.declared.actor.Actor.{Actor}
+use Rattle.tw_types.specs.declared.actor.Actor.TheVariants.{Engine, Server, Worker}
+use Rattle.tw_types.specs.declared.ending.Ending.{Ending}
+use Rattle.tw_types.specs.Actor.{actor_at, actor_count, index_of, is_in}
+use Rattle.tw_types.specs.Layout.{ActorCounts, IsLayout}
+use Rattle.tw_types.proofs.Outcomes.{same_went}
+use Rattle.tw_code.specs.accepting.Needs.{HasTargets}
+use Rattle.tw_code.specs.machine.Due.{IsDueFor, IsDueFree}
+use Rattle.tw_code.specs.machine.Ending.{ending, is_quiet}
+use Rattle.tw_code.specs.machine.State.{Frame, State}
+use Rattle.tw_code.proofs.Next.{SomeDue, some_due}
+use Rattle.tw_frame.specs.Jobs.{DoneView}
+use Rattle.tw_pool.specs.declared.answer.Closing.TheVariants.{Limit, Stopped}
+use Rattle.tw_pool.specs.declared.answer.Turn.{Turn}
+use Rattle.tw_pool.specs.PoolView.{PoolView}
+use Rattle.tw_pool.specs.Turns.{closing_of}
+use Rattle.tw_in_turn.specs.InTurn.{ComesTo, GoesOn, IsAfter, IsMove, actor_after}
+use Rattle.tw_in_turn.specs.Rounds.{AreKept, IsGrown, IsIdle, Keeps, MayTurn}
+
+-- ---- actors by their index
+
+abbrev at_by : ℕ → ℕ → Bool → Bool → ℕ → Actor
+at_by e s in_e in_s n = if in_e then Engine n else (if in_s then Server (n - e) else Worker (n - (e + s)))
+
+index_by : (layout : ActorCounts) (n : ℕ) (a b : Bool) → nat_lt n layout.engines ≡ a → nat_lt n (layout.engines + layout.servers) ≡ b → index_of layout (at_by layout.engines layout.servers a b n) ≡ n
+index_by layout n true b is_a is_b = refl
+index_by layout n false true is_a is_b = let low = ltb-false n layout.engines is_a in omega (arith, low)
+index_by layout n false false is_a is_b = let low = ltb-false n (layout.engines + layout.servers) is_b in omega (arith, low)
+
+-- the index of the actor at an index
+pub index_at : (layout : ActorCounts) (n : ℕ) → index_of layout (actor_at layout n) ≡ n
+index_at layout n = index_by layout n (nat_lt n layout.engines) (nat_lt n (layout.engines + layout.servers)) refl refl
+
+pub at_apart : (layout : ActorCounts) (m n : ℕ) → m ≢ n → actor_at layout m ≢ actor_at layout n
+at_apart layout m n apart same = apart (sym (index_at layout m) ∙ (ap (index_of layout) same ∙ index_at layout n))
+
+-- an actor of the layout is at its index
+pub at_index : (layout : ActorCounts) (actor : Actor) → is_in layout actor ≡ true → (index_of layout actor < actor_count layout) × (actor_at layout (index_of layout actor) ≡ actor)
+at_index layout (Engine n) there = let low = ltb-true n layout.engines there in (omega (arith, low), rw there refl)
+at_index layout (Server n) there =
+    let low = ltb-true n layout.servers there in
+    let not_first : nat_lt (layout.engines + n) layout.engines ≡ false = grind (arith, nat_tests) in
+    let second : nat_lt (layout.engines + n) (layout.engines + layout.servers) ≡ true = grind (arith, nat_tests, low) in
+    let back : layout.engines + n - layout.engines ≡ n = omega arith in
+    (omega (arith, low), rw (not_first, second) (ap Server back))
+at_index layout (Worker n) there =
+    let low = ltb-true n layout.workers there in
+    let not_first : nat_lt (layout.engines + layout.servers + n) layout.engines ≡ false = grind (arith, nat_tests) in
+    let not_second : nat_lt (layout.engines + layout.servers + n) (layout.engines + layout.servers) ≡ false = grind (arith, nat_tests) in
+    let back : layout.engines + layout.servers + n - (layout.engines + layout.servers) ≡ n = omega arith in
+    (omega (arith, low), rw (not_first, not_second) (ap Worker back))
+
+-- ---- what each actor keeps
+
+-- an actor's turn changes what it keeps, and no other's
+pub kept_again : (old new : PoolView) (kept : List (Option DoneView)) (index : ℕ) (mine : Option DoneView) → new.layout ≡ old.layout → index < actor_count old.layout → AreKept old kept
+    → Keeps new (actor_at old.layout index) mine → ((other : Actor) (its : Option DoneView) → other ≢ actor_at old.layout index → Keeps old other its → Keeps new other its) → AreKept new (set kept index mine)
+kept_again old new kept index mine same low are own others = record {
+  each = λ k d inside. subst (λ (l : ActorCounts). Keeps new (actor_at l k) (get_or (set kept index mine) k d)) (sym same) (by k d (subst (λ (l : ActorCounts). k < actor_count l) same inside));
+  long = length-set kept index mine ∙ (are.long ∙ ap actor_count (sym same));
+}
+  where
+    here : index < length kept
+    here = subst (λ n. index < n) (sym are.long) low
+
+    by : (k : ℕ) (d : Option DoneView) → k < actor_count old.layout → Keeps new (actor_at old.layout k) (get_or (set kept index mine) k d)
+    by k d inside = elim (cases_eq k index) as (λ _. Keeps new (actor_at old.layout k) (get_or (set kept index mine) k d)) [
+      | inl same_index ↦ subst (λ n. Keeps new (actor_at old.layout n) (get_or (set kept index mine) n d)) (sym same_index)
+          (subst (λ o. Keeps new (actor_at old.layout index) o) (sym (get_or-set_same kept index mine d here)) own)
+      | inr apart ↦ subst (λ o. Keeps new (actor_at old.layout k) o) (sym (get_or-set_other kept index k mine d apart))
+          (others (actor_at old.layout k) (get_or kept k d) (at_apart old.layout k index apart) (are.each k d inside))
+    ]
+
+-- ---- what grows
+
+pub still_may : (old new : PoolView) → MayTurn old → IsGrown old new → MayTurn new
+still_may old new may grown = record {
+  counts = subst (λ (p : PoolView). IsLayout p.layout) (sym grown.same) may.counts;
+  targets = subst (λ (p : PoolView). HasTargets p.program.program p.layout) (sym grown.same) may.targets;
+  stopped = ap (λ (p : PoolView). p.stopped) grown.same ∙ may.stopped;
+  within = let limit = ap (λ (p : PoolView). p.limit) grown.same in omega (arith, limit, grown.within);
+}
+
+pub grown_twice : (first between last : PoolView) → IsGrown first between → IsGrown between last → IsGrown first last
+grown_twice first between last a b = record {
+  same = b.same ∙ ap (λ (p : PoolView). record p { history = last.history }) a.same;
+  within = let limit = ap (λ (p : PoolView). p.limit) a.same in omega (arith, limit, b.within);
+}
+
+pub not_grown : (p : PoolView) → MayTurn p → IsGrown p p
+not_grown p may = record { same = refl; within = may.within }
+
+pub layout_same : (old new : PoolView) → IsGrown old new → new.layout ≡ old.layout
+layout_same old new grown = ap (λ (p : PoolView). p.layout) grown.same
+
+-- ---- turns behind turns
+
+whose : (first : PoolView) (layout : ActorCounts) (rounds index : ℕ) → first.layout ≡ layout → index < actor_count layout → actor_after first.layout (rounds * actor_count layout + index) ≡ actor_at layout index
+whose first layout rounds index is low = ap (λ (l : ActorCounts). actor_after l (rounds * actor_count layout + index)) is ∙ ap (actor_at layout) (mod-mul-add rounds (actor_count layout) index low)
+
+-- one turn more in a round
+pub one_more : (first now new : PoolView) (layout : ActorCounts) (rounds index : ℕ) (answer : Turn) → first.layout ≡ layout → index < actor_count layout
+    → IsAfter first (rounds * actor_count layout + index) now → IsMove now (actor_at layout index) answer new → GoesOn answer → IsAfter first (rounds * actor_count layout + (index + 1)) new
+one_more first now new layout rounds index answer is low after move on = subst (λ n. IsAfter first n new) next done
+  where
+    done : IsAfter first (suc (rounds * actor_count layout + index)) new
+    done = (now, answer, after, subst (λ (a : Actor). IsMove now a answer new) (sym (whose first layout rounds index is low)) move, on)
+
+    next : suc (rounds * actor_count layout + index) ≡ rounds * actor_count layout + (index + 1)
+    next = sum (rounds * actor_count layout)
+      where
+        sum : (k : ℕ) → suc (k + index) ≡ k + (index + 1)
+        sum k = omega arith
+
+-- the last one
+pub the_last : (first now new : PoolView) (layout : ActorCounts) (rounds index : ℕ) (answer : Turn) (Answers : Turn → Type 0) → first.layout ≡ layout → index < actor_count layout
+    → IsAfter first (rounds * actor_count layout + index) now → IsMove now (actor_at layout index) answer new → Answers answer → ComesTo first Answers new
+the_last first now new layout rounds index answer Answers is low after move ends = record {
+  turns = rounds * actor_count layout + index;
+  before = now;
+  after = after;
+  answer = answer;
+  last = subst (λ (a : Actor). IsMove now a answer new) (sym (whose first layout rounds index is low)) move;
+  is = ends;
+}
+
+-- all of a round
+pub whole_round : (first new : PoolView) (rounds count index : ℕ) → index ≡ count → IsAfter first (rounds * count + index) new → IsAfter first ((rounds + 1) * count) new
+whole_round first new rounds count index is after = subst (λ n. IsAfter first n new) (ap (λ k. rounds * count + k) is ∙ sym (ap (λ k. k * count) (add-one rounds) ∙ suc-mul rounds count)) after
+
+-- ---- an event in each round
+
+-- in a round there is an event more, or these actors were idle
+abbrev pub MoreOrIdle : PoolView → PoolView → ℕ → Type 0
+MoreOrIdle first now index = (length first.history < length now.history) ⊎ ((now ≡ first) × ((k : ℕ) → k < index → IsIdle now (actor_at now.layout k)))
+
+-- a turn made an event, or its actor was idle
+abbrev pub OneMore : PoolView → PoolView → Actor → Type 0
+OneMore now new actor = (length now.history + 1 ≤ length new.history) ⊎ ((new ≡ now) × IsIdle now actor)
+
+pub more_again : (first now new : PoolView) (index : ℕ) → MoreOrIdle first now index → OneMore now new (actor_at now.layout index) → MoreOrIdle first new (index + 1)
+more_again first now new index (inl more) (inl one) = inl (omega (arith, more, one))
+more_again first now new index (inl more) (inr still) = let long = ap (λ (p : PoolView). length p.history) still.0 in inl (omega (arith, more, long))
+more_again first now new index (inr same) (inl one) = let long = ap (λ (p : PoolView). length p.history) same.0 in inl (omega (arith, one, long))
+more_again first now new index (inr same) (inr still) = inr (still.0 ∙ same.0, all)
+  where
+    by : (k : ℕ) → k < index + 1 → IsIdle now (actor_at now.layout k)
+    by k low = elim (cases_eq k index) as (λ _. IsIdle now (actor_at now.layout k)) [
+      | inl is ↦ subst (λ n. IsIdle now (actor_at now.layout n)) (sym is) still.1
+      | inr apart ↦ same.1 k (omega (arith, low, apart))
+    ]
+
+    all : (k : ℕ) → k < index + 1 → IsIdle new (actor_at new.layout k)
+    all k low = subst (λ (p : PoolView). IsIdle p (actor_at p.layout k)) (sym still.0) (by k low)
+
+-- ---- as long as the run isn't over, not every actor is idle
+
+open_means : (e : Option Ending) (stopped full : Bool) → option_or (option_map closing_of e) (if stopped then Some Stopped else if full then Some Limit else None) ≡ None → e ≡ None
+open_means None stopped full is = refl
+open_means (Some e) stopped full is = cc
+
+busy_if : (quiet : Bool) (n : ℕ) (e : Ending) → (if quiet then Some e else None) ≡ None → quiet ≡ false
+busy_if true n e is = cc
+busy_if false n e is = refl
+
+pub some_turn : (p : PoolView) → MayTurn p → ((index : ℕ) → index < actor_count p.layout → IsIdle p (actor_at p.layout index)) → ⊥
+some_turn p may idle = by_frame (get first.state.frames due.actor) refl due.due
+  where
+    first : IsIdle p (actor_at p.layout 0)
+    first = let some = may.counts.some_engine in idle 0 (omega (arith, some))
+
+    busy : is_quiet first.state ≡ false
+    busy = let none = open_means (ending first.state) p.stopped (length p.history == p.limit) first.runs_on in busy_if (is_quiet first.state) 0 _ none
+
+    due : SomeDue p.program.program p.layout first.state
+    due = some_due p.program.program p.inputs p.layout p.history may.targets first.state first.has_state may.counts busy
+
+    its : IsIdle p due.actor
+    its = let at = at_index p.layout due.actor due.there in subst (IsIdle p) at.1 (idle (index_of p.layout due.actor) at.0)
+
+    same : its.state ≡ first.state
+    same = same_went its.state first.state (sym its.has_state ∙ first.has_state)
+
+    by_frame : (o : Option Frame) → get first.state.frames due.actor ≡ o → IsDueFor p.program.program p.layout due.actor first.state o due.event → ⊥
+    by_frame (Some f) is d = let no_one : Some f ≡ None = sym is ∙ (ap (λ (s : State). get s.frames due.actor) (sym same) ∙ its.free) in cc
+    by_frame None is d = its.none_due due.event (subst (λ (s : State). IsDueFree p.layout due.actor s due.event) (sym same) d)
+
+pub round_grows : (first now : PoolView) (index : ℕ) → MayTurn now → index ≡ actor_count now.layout → MoreOrIdle first now index → length first.history < length now.history
+round_grows first now index may is (inl more) = more
+round_grows first now index may is (inr idle) = absurd (some_turn now may (λ k low. idle.1 k (omega (arith, is, low))))

@@ -1,0 +1,384 @@
+-- Two runs in turn of one opening are the same, but for which of its notices a server delivers.
+use Rattle.std.proofs.Common.{◌≡◌, ◌≢◌, ◌⊎◌, ℕ, zero, suc, Bool, true, false, List, [], ◌∷◌, ◌++◌, append_assoc, Option, Some, None, refl, sym, ap, subst, ◌∙◌, inl, inr}
+use Rattle.std.proofs.lemmas.Bool.{cases_eq}
+use Rattle.std.proofs.lemmas.Option.{same_Some}
+use Rattle.tw_types.specs.declared.actor.Actor.{Actor}
+use Rattle.tw_types.specs.declared.actor.Actor.TheVariants.{Engine, Server, Worker}
+use Rattle.tw_types.specs.declared.event.Event.{Event}
+use Rattle.tw_types.specs.declared.event.Event.TheVariants.{Take, Local, Call, End, Ask, Deliver, Release}
+use Rattle.tw_types.specs.declared.notice.Notice.{Notice}
+use Rattle.tw_types.specs.Outcome.{NotEnabled, Went as Gone}
+use Rattle.tw_types.proofs.Outcomes.{same_went, went_first}
+use Rattle.tw_code.specs.declared.instr.Instr.{Instr}
+use Rattle.tw_code.specs.declared.procedure.Procedure.{Procedure}
+use Rattle.tw_code.specs.machine.Due.{IsDueFree, event_of}
+use Rattle.tw_code.specs.machine.Machine.{local_step, local_steps}
+use Rattle.tw_code.specs.machine.Position.{Position}
+use Rattle.tw_code.specs.machine.State.{State}
+use Rattle.tw_frame.specs.Jobs.{DoneView, JobView}
+use Rattle.tw_frame.specs.Ready.{IsStop}
+use Rattle.tw_pool.specs.declared.answer.Closing.{Closing}
+use Rattle.tw_pool.specs.declared.answer.Turn.{Turn}
+use Rattle.tw_pool.specs.declared.answer.Turn.TheVariants.{Over, Foreign, Owed, NoMemory, Run, Ended, Went, Idle}
+use Rattle.tw_pool.specs.PoolView.{PoolView, with_events}
+use Rattle.tw_pool.specs.Turns.{GoesFree, Lends, Makes, TakesBack, Turns, TurnsUnless, closing_at, instr_behind, is_last, lent_to, steps_of}
+use Rattle.tw_in_turn.specs.InTurn.{ComesTo, GoesOn, HasDone, IsAfter, IsMove, IsOver, IsWorkOf, actor_after}
+use Rattle.tw_in_turn.specs.Same.{AreSame, PartAtNotice, delivery}
+
+-- ---- what was done of a job
+
+no_step : (code : List Instr) (n : ℕ) (at b : Position) → IsStop code at.place → local_steps (suc n) code at ≡ Gone b → ⊥
+no_step code n at b stop went =
+    let none : local_steps (suc n) code at ≡ NotEnabled = rw (stop.is, stop.other) refl in
+    let no_way : NotEnabled ≡ Gone b = sym none ∙ went in cc
+
+one_stop : (code : List Instr) (m n : ℕ) (at a b : Position) → local_steps m code at ≡ Gone a → IsStop code a.place → local_steps n code at ≡ Gone b → IsStop code b.place → (m ≡ n) × (a ≡ b)
+one_stop code zero zero at a b e stop f halt = (refl, sym (same_went at a e) ∙ same_went at b f)
+one_stop code zero (suc n) at a b e stop f halt = absurd (no_step code n at b (subst (λ (p : Position). IsStop code p.place) (sym (same_went at a e)) stop) f)
+one_stop code (suc m) zero at a b e stop f halt = absurd (no_step code m at a (subst (λ (p : Position). IsStop code p.place) (sym (same_went at b f)) halt) e)
+one_stop code (suc m) (suc n) at a b e stop f halt =
+    let one = went_first (local_step code at) (local_steps m code) a e in
+    let two = went_first (local_step code at) (local_steps n code) b f in
+    let next : two.0 ≡ one.0 = same_went two.0 one.0 (sym two.1 ∙ one.1) in
+    let rest = one_stop code m n one.0 a b one.2 stop (subst (λ (p : Position). local_steps n code p ≡ Gone b) next two.2) halt in
+    (ap suc rest.0, rest.1)
+
+done_same : (job : JobView) (d e : DoneView) → IsWorkOf job false d → IsWorkOf job false e → d ≡ e
+done_same job d e k l =
+    let p = k.is_done in
+    let q = l.is_done in
+    let one : q.p ≡ p.p = same_Some q.p p.p (sym q.here ∙ p.here) in
+    let same = one_stop p.p.code d.steps e.steps job.position d.after e.after p.reached.went p.stops
+    (subst (λ (r : Procedure). local_steps e.steps r.code job.position ≡ Gone e.after) one q.reached.went) (subst (λ (r : Procedure). IsStop r.code e.after.place) one q.stops) in
+    λ i. record { before = (k.own ∙ sym l.own) i; after = same.1 i; steps = same.0 i; short = (k.short_is ∙ sym l.short_is) i }
+
+given_same : (job : Option JobView) (a b : Option DoneView) → HasDone job a → HasDone job b → a ≡ b
+given_same None a b h k = h ∙ sym k
+given_same (Some job) None b h k = absurd h
+given_same (Some job) (Some d) None h k = absurd k
+given_same (Some job) (Some d) (Some e) h k = ap Some (done_same job d e h k)
+
+-- ---- two answers to one turn
+
+-- answers but want of memory
+abbrev Stands : Turn → Type 0
+Stands (Over closing) = Unit {0}
+Stands (Foreign done) = Unit {0}
+Stands Owed = Unit {0}
+Stands (NoMemory given) = ⊥
+Stands (Run job) = Unit {0}
+Stands Ended = Unit {0}
+Stands Went = Unit {0}
+Stands Idle = Unit {0}
+
+goes_stands : (answer : Turn) → GoesOn answer → Stands answer
+goes_stands (Over closing) on = tt
+goes_stands (Foreign done) on = tt
+goes_stands Owed on = tt
+goes_stands (NoMemory given) on = on
+goes_stands (Run job) on = tt
+goes_stands Ended on = tt
+goes_stands Went on = tt
+goes_stands Idle on = tt
+
+-- one answer and the same events
+abbrev BothSame : Turn → Turn → List Event → List Event → Type 0
+BothSame a b xs ys = (a ≡ b) × (xs ≡ ys)
+
+-- two notices of one server
+record TwoNotices (a b : Turn) (xs ys : List Event) : Type 0 where
+  server : ℕ
+  one : Notice
+  other : Notice
+  apart : one ≢ other
+  a_is : a ≡ Went
+  b_is : b ≡ Went
+  xs_is : xs ≡ delivery server one ∷ []
+  ys_is : ys ≡ delivery server other ∷ []
+
+abbrev Either : Turn → Turn → List Event → List Event → Type 0
+Either a b xs ys = BothSame a b xs ys ⊎ TwoNotices a b xs ys
+
+refused_not : (a : Turn) (given : Option DoneView) → Stands a → a ≡ NoMemory given → ⊥
+refused_not a given stands is = subst Stands is stands
+
+module _ (p : PoolView) (a b : Turn) (xs ys : List Event) (sa : Stands a) (sb : Stands b) where
+  lends_same : (actor : Actor) (es : List Event) → Lends p actor es a xs → Lends p actor es b ys → BothSame a b xs ys
+  lends_same actor es l m =
+      let state : m.0 ≡ l.0 = same_went m.0 l.0 (sym m.1 ∙ l.1) in
+      let job : l.2 ≡ m.2 = same_Some l.2 m.2 (sym l.3 ∙ (ap (λ (s : State). lent_to (with_events p es) s actor) (sym state) ∙ m.3)) in
+      (l.4.0 ∙ (ap Run job ∙ sym m.4.0), l.4.1 ∙ sym m.4.1)
+
+  makes_same : (actor : Actor) (given : Option DoneView) (es : List Event) (e : Event) → Makes p actor given es e a xs → Makes p actor given es e b ys → BothSame a b xs ys
+  makes_same actor given es (Take x) (inl l) (inl m) = lends_same actor (es ++ Take x ∷ []) l m
+  makes_same actor given es (Take x) (inl l) (inr m) = absurd (refused_not b given sb m.1.0)
+  makes_same actor given es (Take x) (inr l) m = absurd (refused_not a given sa l.1.0)
+  makes_same actor given es (Local x n) l m = elim l [ ]
+  makes_same actor given es (Call x) (inl l) (inl m) = lends_same actor (es ++ Call x ∷ []) l m
+  makes_same actor given es (Call x) (inl l) (inr m) = absurd (refused_not b given sb m.1.0)
+  makes_same actor given es (Call x) (inr l) m = absurd (refused_not a given sa l.1.0)
+  makes_same actor given es (End x) l m = (l.0 ∙ sym m.0, l.1 ∙ sym m.1)
+  makes_same actor given es (Ask engine rule parameter) (inl l) (inl m) = (l.0 ∙ sym m.0, l.1 ∙ sym m.1)
+  makes_same actor given es (Ask engine rule parameter) (inl l) (inr m) = absurd (refused_not b given sb m.1.0)
+  makes_same actor given es (Ask engine rule parameter) (inr l) m = absurd (refused_not a given sa l.1.0)
+  makes_same actor given es (Deliver server datum rule parameter) l m = (l.0 ∙ sym m.0, l.1 ∙ sym m.1)
+  makes_same actor given es (Release engine rule) (inl l) (inl m) = (l.0 ∙ sym m.0, l.1 ∙ sym m.1)
+  makes_same actor given es (Release engine rule) (inl l) (inr m) = absurd (refused_not b given sb m.1.0)
+  makes_same actor given es (Release engine rule) (inr l) m = absurd (refused_not a given sa l.1.0)
+
+  -- ---- what is due
+
+  same_notice : (n m : Notice) → (n ≡ m) ⊎ (n ≢ m)
+  same_notice n m = elim (cases_eq n.datum m.datum) as (λ _. (n ≡ m) ⊎ (n ≢ m)) [
+    | inr apart ↦ inr (λ e. apart (ap (λ (x : Notice). x.datum) e))
+    | inl datum ↦ elim (cases_eq n.rule m.rule) as (λ _. (n ≡ m) ⊎ (n ≢ m)) [
+      | inr apart ↦ inr (λ e. apart (ap (λ (x : Notice). x.rule) e))
+      | inl rule ↦ elim (cases_eq n.parameter m.parameter) as (λ _. (n ≡ m) ⊎ (n ≢ m)) [
+        | inr apart ↦ inr (λ e. apart (ap (λ (x : Notice). x.parameter) e))
+        | inl parameter ↦ inl (λ i. record { datum = datum i; rule = rule i; parameter = parameter i })
+      ]
+    ]
+  ]
+
+  deliveries : (server : ℕ) (n m : Notice) → Makes p (Server server) None [] (delivery server n) a xs → Makes p (Server server) None [] (delivery server m) b ys → Either a b xs ys
+  deliveries server n m l k = elim (same_notice n m) as (λ _. Either a b xs ys) [
+    | inl is ↦ inl (l.0 ∙ sym k.0, l.1 ∙ (ap (λ x. delivery server x ∷ []) is ∙ sym k.1))
+    | inr apart ↦ inr (record { server = server; one = n; other = m; apart = apart; a_is = l.0; b_is = k.0; xs_is = l.1; ys_is = k.1 })
+  ]
+
+  due_same : (s : State) (actor : Actor) (e f : Event) → IsDueFree p.layout actor s e → IsDueFree p.layout actor s f → Makes p actor None [] e a xs → Makes p actor None [] f b ys → Either a b xs ys
+  due_same s (Engine n) e f de df l m = inl (makes_same (Engine n) None [] e l (subst (λ x. Makes p (Engine n) None [] x b ys) (same_Some f e (sym df ∙ de)) m))
+  due_same s (Worker n) e f de df l m = inl (makes_same (Worker n) None [] e l (subst (λ x. Makes p (Worker n) None [] x b ys) (same_Some f e (sym df ∙ de)) m))
+  due_same s (Server n) e f de df l m =
+      deliveries n de.notice df.notice (subst (λ x. Makes p (Server n) None [] x a xs) de.is l) (subst (λ x. Makes p (Server n) None [] x b ys) df.is m)
+
+  free_same : (s : State) (actor : Actor) → GoesFree p s actor a xs → GoesFree p s actor b ys → Either a b xs ys
+  free_same s actor (inl l) (inl m) = due_same s actor l.0 m.0 l.1 m.1 l.2 m.2
+  free_same s actor (inl l) (inr m) = absurd (m.0 l.0 l.1)
+  free_same s actor (inr l) (inl m) = absurd (l.0 m.0 m.1)
+  free_same s actor (inr l) (inr m) = inl (l.1.0 ∙ sym m.1.0, l.1.1 ∙ sym m.1.1)
+
+  -- ---- all lines
+
+  back_same : (actor : Actor) (short last : Bool) (done : DoneView) → TakesBack short last p actor done a xs → TakesBack short last p actor done b ys → BothSame a b xs ys
+  back_same actor true last done l m = lends_same actor (steps_of actor done) l m
+  back_same actor false true done l m = (l.0 ∙ sym m.0, l.1 ∙ sym m.1)
+  back_same actor false false done l m = makes_same actor (Some done) (steps_of actor done) (event_of actor (instr_behind p.program.program done)) l m
+
+  turns_same : (s : State) (actor : Actor) (job : Option JobView) (given : Option DoneView) → Turns p s actor job given a xs → Turns p s actor job given b ys → Either a b xs ys
+  turns_same s actor None None l m = free_same s actor l m
+  turns_same s actor None (Some done) l m = inl (l.0 ∙ sym m.0, l.1 ∙ sym m.1)
+  turns_same s actor (Some job) None l m = inl (l.0 ∙ sym m.0, l.1 ∙ sym m.1)
+  turns_same s actor (Some job) (Some done) (inl l) (inl m) = inl (back_same actor done.short (is_last p done) done l.1 m.1)
+  turns_same s actor (Some job) (Some done) (inl l) (inr m) = absurd (m.0 l.0)
+  turns_same s actor (Some job) (Some done) (inr l) (inl m) = absurd (l.0 m.0)
+  turns_same s actor (Some job) (Some done) (inr l) (inr m) = inl (l.1.0 ∙ sym m.1.0, l.1.1 ∙ sym m.1.1)
+
+  unless_same : (s : State) (actor : Actor) (closing : Option Closing) (given : Option DoneView) → TurnsUnless closing p s actor given a xs → TurnsUnless closing p s actor given b ys → Either a b xs ys
+  unless_same s actor (Some closing) given l m = inl (l.0 ∙ sym m.0, l.1 ∙ sym m.1)
+  unless_same s actor None given l m = turns_same s actor (lent_to p s actor) given l m
+
+-- ---- two moves from one pool
+
+-- the events that a move appends
+pub record Grows (old new : PoolView) (es : List Event) : Type 0 where
+  pub is : new ≡ with_events old es
+
+move_same : (old new other : PoolView) (actor : Actor) (a b : Turn) (m : IsMove old actor a new) (n : IsMove old actor b other) → Stands a → Stands b → Either a b m.turn.events n.turn.events
+move_same old new other actor a b m n sa sb =
+    let s = m.turn.state in
+    let state : n.turn.state ≡ s = same_went n.turn.state s (sym n.turn.has_state ∙ m.turn.has_state) in
+    let given : n.given ≡ m.given = given_same (lent_to old s actor) n.given m.given (n.has s m.turn.has_state) (m.has s m.turn.has_state) in
+    let line = subst (λ (t : State). TurnsUnless (closing_at old t) old t actor n.given b n.turn.events) state n.turn.is in
+    let same = subst (λ (o : Option DoneView). TurnsUnless (closing_at old s) old s actor o b n.turn.events) given line in
+    unless_same old a b m.turn.events n.turn.events sa sb s actor (closing_at old s) m.given m.turn.is same
+
+-- ---- histories
+
+parts_on : (h k xs ys : List Event) → PartAtNotice h k → PartAtNotice (h ++ xs) (k ++ ys)
+parts_on h k xs ys d = record {
+  before = d.before;
+  server = d.server;
+  notice = d.notice;
+  instead = d.instead;
+  apart = d.apart;
+  behind = d.behind ++ xs;
+  behind_other = d.behind_other ++ ys;
+  is = ap (λ es. es ++ xs) d.is ∙ append_assoc d.before (delivery d.server d.notice ∷ d.behind) xs;
+  is_other = ap (λ es. es ++ ys) d.is_other ∙ append_assoc d.before (delivery d.server d.instead ∷ d.behind_other) ys;
+}
+
+history_of : (old new : PoolView) (actor : Actor) (a : Turn) (m : IsMove old actor a new) → new.history ≡ old.history ++ m.turn.events
+history_of old new actor a m = ap (λ (p : PoolView). p.history) m.turn.appended
+
+-- two moves from one pool leave the same pool, or part there
+abbrev LeadsSame : Turn → Turn → PoolView → PoolView → Type 0
+LeadsSame a b p q = ((a ≡ b) × (p ≡ q)) ⊎ ((a ≡ Went) × (b ≡ Went) × PartAtNotice p.history q.history)
+
+leads_same : (old new other : PoolView) (actor : Actor) (a b : Turn) → IsMove old actor a new → IsMove old actor b other → Stands a → Stands b → LeadsSame a b new other
+leads_same old new other actor a b m n sa sb = by (move_same old new other actor a b m n sa sb)
+  where
+    by : Either a b m.turn.events n.turn.events → LeadsSame a b new other
+    by (inl same) = inl (same.0, m.turn.appended ∙ (ap (with_events old) same.1 ∙ sym n.turn.appended))
+    by (inr two) = inr (
+      two.a_is,
+      two.b_is,
+      record {
+        before = old.history;
+        server = two.server;
+        notice = two.one;
+        instead = two.other;
+        apart = two.apart;
+        behind = [];
+        behind_other = [];
+        is = history_of old new actor a m ∙ ap (λ es. old.history ++ es) two.xs_is;
+        is_other = history_of old other actor b n ∙ ap (λ es. old.history ++ es) two.ys_is;
+      },
+    )
+
+-- two pools behind as many turns
+abbrev PoolsSame : PoolView → PoolView → Type 0
+PoolsSame p q = (p ≡ q) ⊎ PartAtNotice p.history q.history
+
+after_same : (first : PoolView) (turns : ℕ) (p q : PoolView) → IsAfter first turns p → IsAfter first turns q → PoolsSame p q
+after_same first zero p q h k = inl (h ∙ sym k)
+after_same first (suc turns) p q (x, a, h, m, on) (y, b, k, n, goes) = by (after_same first turns x y h k)
+  where
+    actor : Actor
+    actor = actor_after first.layout turns
+
+    by : PoolsSame x y → PoolsSame p q
+    by (inl same) = next (leads_same x p q actor a b m (subst (λ (o : PoolView). IsMove o actor b q) (sym same) n) (goes_stands a on) (goes_stands b goes))
+      where
+        next : LeadsSame a b p q → PoolsSame p q
+        next (inl l) = inl l.1
+        next (inr l) = inr l.2
+    by (inr part) = inr (subst (λ (h : List Event). PartAtNotice h q.history) (sym (history_of x p actor a m)) (subst (λ (k : List Event). PartAtNotice (x.history ++ m.turn.events) k) (sym (history_of y q actor b n)) (parts_on x.history y.history m.turn.events n.turn.events part)))
+
+-- a later pool goes by an earlier one, from which the next turn goes on
+record GoesBy (first : PoolView) (turns : ℕ) (q : PoolView) : Type 0 where
+  before : PoolView
+  next : PoolView
+  answer : Turn
+  after : IsAfter first turns before
+  move : IsMove before (actor_after first.layout turns) answer next
+  on : GoesOn answer
+  more : List Event
+  grown : q.history ≡ next.history ++ more
+
+no_more : (es : List Event) → es ++ [] ≡ es
+no_more [] = refl
+no_more (e ∷ es) = ap (λ xs. e ∷ xs) (no_more es)
+
+-- so many turns later
+abbrev later_on : ℕ → ℕ → ℕ
+later_on zero turns = turns
+later_on (suc later) turns = suc (later_on later turns)
+
+goes_by : (first : PoolView) (turns later : ℕ) (q : PoolView) → IsAfter first (suc (later_on later turns)) q → GoesBy first turns q
+goes_by first turns zero q (x, a, h, m, on) = record { before = x; next = q; answer = a; after = h; move = m; on = on; more = []; grown = sym (no_more q.history) }
+goes_by first turns (suc later) q (x, a, h, m, on) =
+    let g = goes_by first turns later x h in
+    record {
+      before = g.before;
+      next = g.next;
+      answer = g.answer;
+      after = g.after;
+      move = g.move;
+      on = g.on;
+      more = g.more ++ m.turn.events;
+      grown = history_of x q (actor_after first.layout (suc (later_on later turns))) a m ∙ (ap (λ es. es ++ m.turn.events) g.grown ∙ append_assoc g.next.history g.more m.turn.events);
+    }
+
+over_stands : (a : Turn) → IsOver a → Stands a
+over_stands a over = subst Stands (sym over.1) tt
+
+flipped : (h k : List Event) → AreSame h k → AreSame k h
+flipped h k (inl is) = inl (sym is)
+flipped h k (inr d) = inr (record {
+  before = d.before;
+  server = d.server;
+  notice = d.instead;
+  instead = d.notice;
+  apart = λ e. d.apart (sym e);
+  behind = d.behind_other;
+  behind_other = d.behind;
+  is = d.is_other;
+  is_other = d.is;
+})
+
+module _ (first p q : PoolView) (c : ComesTo first IsOver p) (d : ComesTo first IsOver q) where
+  -- as many turns
+  as_many : c.turns ≡ d.turns → AreSame p.history q.history
+  as_many is = by (after_same first d.turns c.before d.before (subst (λ n. IsAfter first n c.before) is c.after) d.after)
+    where
+      actor : Actor
+      actor = actor_after first.layout d.turns
+
+      mine : IsMove c.before actor c.answer p
+      mine = subst (λ n. IsMove c.before (actor_after first.layout n) c.answer p) is c.last
+
+      by : PoolsSame c.before d.before → AreSame p.history q.history
+      by (inl same) = next (leads_same c.before p q actor c.answer d.answer mine (subst (λ (o : PoolView). IsMove o actor d.answer q) (sym same) d.last) (over_stands c.answer c.is) (over_stands d.answer d.is))
+        where
+          next : LeadsSame c.answer d.answer p q → AreSame p.history q.history
+          next (inl l) = inl (ap (λ (o : PoolView). o.history) l.1)
+          next (inr l) = inr l.2
+      by (inr part) = inr (subst (λ (h : List Event). PartAtNotice h q.history) (sym (history_of c.before p actor c.answer mine))
+          (subst (λ (k : List Event). PartAtNotice (c.before.history ++ mine.turn.events) k) (sym (history_of d.before q actor d.answer d.last)) (parts_on c.before.history d.before.history mine.turn.events d.last.turn.events part)))
+
+  -- fewer turns
+  fewer : (later : ℕ) → d.turns ≡ suc (later_on later c.turns) → AreSame p.history q.history
+  fewer later is = by (after_same first c.turns c.before g.before c.after g.after)
+    where
+      g : GoesBy first c.turns d.before
+      g = goes_by first c.turns later d.before (subst (λ n. IsAfter first n d.before) is d.after)
+
+      actor : Actor
+      actor = actor_after first.layout c.turns
+
+      end : q.history ≡ g.next.history ++ (g.more ++ d.last.turn.events)
+      end = history_of d.before q (actor_after first.layout d.turns) d.answer d.last ∙ (ap (λ es. es ++ d.last.turn.events) g.grown ∙ append_assoc g.next.history g.more d.last.turn.events)
+
+      end_before : q.history ≡ g.before.history ++ (g.move.turn.events ++ (g.more ++ d.last.turn.events))
+      end_before = end ∙ (ap (λ es. es ++ (g.more ++ d.last.turn.events)) (history_of g.before g.next actor g.answer g.move) ∙ append_assoc g.before.history g.move.turn.events (g.more ++ d.last.turn.events))
+
+      by : PoolsSame c.before g.before → AreSame p.history q.history
+      by (inl same) = absurd (next (leads_same c.before p g.next actor c.answer g.answer c.last (subst (λ (o : PoolView). IsMove o actor g.answer g.next) (sym same) g.move) (over_stands c.answer c.is) (goes_stands g.answer g.on)))
+        where
+          next : LeadsSame c.answer g.answer p g.next → ⊥
+          next (inl l) = subst GoesOn (sym l.0 ∙ c.is.1) g.on
+          next (inr l) = let no_way : Over c.is.0 ≡ Went = sym c.is.1 ∙ l.0 in cc
+      by (inr part) = inr (subst (λ (h : List Event). PartAtNotice h q.history) (sym (history_of c.before p actor c.answer c.last))
+          (subst (λ (k : List Event). PartAtNotice (c.before.history ++ c.last.turn.events) k) (sym end_before)
+          (parts_on c.before.history g.before.history c.last.turn.events (g.move.turn.events ++ (g.more ++ d.last.turn.events)) part)))
+
+abbrev Order : ℕ → ℕ → Type 0
+Order m n = (m ≡ n) ⊎ (((k : ℕ) × (n ≡ suc (later_on k m))) ⊎ ((k : ℕ) × (m ≡ suc (later_on k n))))
+
+later_zero : (k : ℕ) → k ≡ later_on k zero
+later_zero zero = refl
+later_zero (suc k) = ap suc (later_zero k)
+
+later_suc : (k n : ℕ) → suc (later_on k n) ≡ later_on k (suc n)
+later_suc zero n = refl
+later_suc (suc k) n = ap suc (later_suc k n)
+
+order_on : (m n : ℕ) → Order m n → Order (suc m) (suc n)
+order_on m n (inl is) = inl (ap suc is)
+order_on m n (inr (inl l)) = inr (inl (l.0, ap suc (l.1 ∙ later_suc l.0 m)))
+order_on m n (inr (inr l)) = inr (inr (l.0, ap suc (l.1 ∙ later_suc l.0 n)))
+
+order : (m n : ℕ) → Order m n
+order zero zero = inl refl
+order zero (suc n) = inr (inl (n, ap suc (later_zero n)))
+order (suc m) zero = inr (inr (m, ap suc (later_zero m)))
+order (suc m) (suc n) = order_on m n (order m n)
+
+pub one_run : (first p q : PoolView) → ComesTo first IsOver p → ComesTo first IsOver q → AreSame p.history q.history
+one_run first p q c d = by (order c.turns d.turns)
+  where
+    by : Order c.turns d.turns → AreSame p.history q.history
+    by (inl is) = as_many first p q c d is
+    by (inr (inl less)) = fewer first p q c d less.0 less.1
+    by (inr (inr more)) = flipped q.history p.history (fewer first q p d c more.0 more.1)

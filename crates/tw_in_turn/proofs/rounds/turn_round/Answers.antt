@@ -1,0 +1,80 @@
+use Rattle.std.proofs.Common.{◌≡◌, ◌≢◌, ◌<◌, ◌∙◌, Option, ap, arith, get_or, subst, sym}
+use Rattle.tw_types.specs.declared.actor.Actor.{Actor}
+use Rattle.tw_types.specs.Actor.{actor_at, actor_count}
+use Rattle.tw_types.specs.Layout.{ActorCounts}
+use Rattle.tw_frame.specs.Jobs.{DoneView}
+use Rattle.tw_in_turn.specs.InTurn.{IsMove}
+use Rattle.tw_in_turn.specs.Rounds.{Ends, IsTurned, Keeps}
+use Rattle.tw_in_turn.specs.declared.rounds.End.{End}
+use Rattle.tw_in_turn.proofs.Rounding as rounding
+use Rattle.tw_in_turn.proofs.rounds.turn_round.Goals as goal
+
+pub turn_one-requires-clause-keeps : goal.turn_one-requires-clause-keeps
+turn_one-requires-clause-keeps c =
+    let first = c.args.pool.now in
+    let now = c.loop-index.pool in
+    let index = c.loop-index.index in
+    let inv = c.loop-index.invariant in
+    let count : c.actor_count-index-end.result ≡ actor_count first.layout = c.actor_count-index-end.ensures.is ∙ ap actor_count c.layout-layout.ensures in
+    let same : now.layout ≡ first.layout = rounding.layout_same first now inv.grown in
+    let low : index < actor_count first.layout = omega (arith, c.loop-index-test.true, count) in
+    let low_now : index < actor_count now.layout = subst (λ (l : ActorCounts). index < actor_count l) (sym same) low in
+    let actor_is : c.actor_at-actor.result ≡ actor_at first.layout index = c.actor_at-actor.ensures.is ∙ ap (λ (l : ActorCounts). actor_at l index) c.layout-layout.ensures in
+    let actor_now : c.actor_at-actor.result ≡ actor_at now.layout index = actor_is ∙ ap (λ (l : ActorCounts). actor_at l index) (sym same) in
+    let default = c.index-kept-index.result in
+    subst (λ (a : Actor). Keeps now a (get_or c.loop-index.kept index default)) (sym actor_now) (inv.kept_is.each index default low_now)
+
+pub returns-in-Some-clause-round : goal.returns-in-Some-clause-round
+returns-in-Some-clause-round c = λ start rounds is after.
+    let first = c.args.pool.now in
+    let now = c.loop-index.pool in
+    let index = c.loop-index.index in
+    let inv = c.loop-index.invariant in
+    let count : c.actor_count-index-end.result ≡ actor_count first.layout = c.actor_count-index-end.ensures.is ∙ ap actor_count c.layout-layout.ensures in
+    let same : now.layout ≡ first.layout = rounding.layout_same first now inv.grown in
+    let low : index < actor_count first.layout = omega (arith, c.loop-index-test.true, count) in
+    let low_now : index < actor_count now.layout = subst (λ (l : ActorCounts). index < actor_count l) (sym same) low in
+    let actor_is : c.actor_at-actor.result ≡ actor_at first.layout index = c.actor_at-actor.ensures.is ∙ ap (λ (l : ActorCounts). actor_at l index) c.layout-layout.ensures in
+    let actor_now : c.actor_at-actor.result ≡ actor_at now.layout index = actor_is ∙ ap (λ (l : ActorCounts). actor_at l index) (sym same) in
+    let t = c.in-Some.ensures in
+    rounding.the_last start now c.turn_one.new.pool first.layout rounds index t.answer (Ends c.in-Some.end) is low (inv.after start rounds is after) (subst (λ (a : Actor). IsMove now a t.answer c.turn_one.new.pool) actor_is t.move) t.comes
+
+pub loop-index-preserved : goal.loop-index-preserved
+loop-index-preserved c =
+    let first = c.args.pool.now in
+    let now = c.loop-index.pool in
+    let index = c.loop-index.index in
+    let inv = c.loop-index.invariant in
+    let count : c.actor_count-index-end.result ≡ actor_count first.layout = c.actor_count-index-end.ensures.is ∙ ap actor_count c.layout-layout.ensures in
+    let same : now.layout ≡ first.layout = rounding.layout_same first now inv.grown in
+    let low : index < actor_count first.layout = omega (arith, c.loop-index-test.true, count) in
+    let low_now : index < actor_count now.layout = subst (λ (l : ActorCounts). index < actor_count l) (sym same) low in
+    let actor_is : c.actor_at-actor.result ≡ actor_at first.layout index = c.actor_at-actor.ensures.is ∙ ap (λ (l : ActorCounts). actor_at l index) c.layout-layout.ensures in
+    let actor_now : c.actor_at-actor.result ≡ actor_at now.layout index = actor_is ∙ ap (λ (l : ActorCounts). actor_at l index) (sym same) in
+    let new = c.turn_one.new.pool in
+    let t = subst (λ (o : Option End). IsTurned now c.actor_at-actor.result new c.turn_one.new.kept o) c.in_default.is c.turn_one.ensures in
+    let on = t.comes.0 in
+    let more = t.more on in
+    record {
+      grown = rounding.grown_twice first now new inv.grown t.grown;
+      kept_is = rounding.kept_again now new c.loop-index.kept index c.turn_one.new.kept (rounding.layout_same now new t.grown) low_now inv.kept_is (subst (λ (a : Actor). Keeps new a c.turn_one.new.kept) actor_now t.comes.1)
+          (subst (λ (a : Actor). (other : Actor) (its : Option DoneView) → other ≢ a → Keeps now other its → Keeps new other its) actor_now t.others);
+      after = λ start rounds is after. rounding.one_more start now new first.layout rounds index t.answer is low (inv.after start rounds is after) (subst (λ (a : Actor). IsMove now a t.answer new) actor_is t.move) on;
+      more = rounding.more_again first now new index inv.more (subst (λ (a : Actor). rounding.OneMore now new a) actor_now more);
+    }
+
+pub returns-clause-round : goal.returns-clause-round
+returns-clause-round c =
+    let first = c.args.pool.now in
+    let now = c.loop-index.pool in
+    let index = c.loop-index.index in
+    let inv = c.loop-index.invariant in
+    let count : c.actor_count-index-end.result ≡ actor_count first.layout = c.actor_count-index-end.ensures.is ∙ ap actor_count c.layout-layout.ensures in
+    let same : now.layout ≡ first.layout = rounding.layout_same first now inv.grown in
+    let end : index ≡ actor_count first.layout = omega (arith, c.loop-index-test.false, c.loop-index.auto.index-end, count) in
+    let may = rounding.still_may first now c.requires.may inv.grown in
+    record {
+      more = rounding.round_grows first now index may (end ∙ ap actor_count (sym same)) inv.more;
+      kept_is = inv.kept_is;
+      after = λ start rounds is after. rounding.whole_round start now rounds (actor_count first.layout) index end (inv.after start rounds is after);
+    }

@@ -1,0 +1,15 @@
+use Rattle.std.proofs.Common.{◌≡◌, ◌+◌, ◌*◌, ℕ}
+use Rattle.tw_types.specs.Actor.{actor_count}
+use Rattle.tw_pool.specs.PoolView.{PoolView}
+use Rattle.tw_in_turn.specs.InTurn.{IsAfter}
+use Rattle.tw_in_turn.specs.Rounds.{AreKept, IsGrown}
+use Rattle.tw_in_turn.proofs.Rounding.{MoreOrIdle}
+use Rattle.tw_in_turn.proofs.rounds.turn_round.Given as goal
+
+abbrev pub invariant-loop-index : goal.invariant-loop-index
+invariant-loop-index l = record {
+  grown : IsGrown l.fn.pool l.pool;
+  kept_is : AreKept l.pool l.kept;
+  after : (first : PoolView) (rounds : ℕ) → first.layout ≡ l.fn.pool.layout → IsAfter first (rounds * actor_count l.fn.pool.layout) l.fn.pool → IsAfter first (rounds * actor_count l.fn.pool.layout + l.index) l.pool;
+  more : MoreOrIdle l.fn.pool l.pool l.index;
+}

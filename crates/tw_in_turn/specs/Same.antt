@@ -1,0 +1,23 @@
+-- In what two histories of one run in turn may differ: which of its notices a server delivers.
+use Rattle.std.specs.Prelude.{◌≡◌, ◌≢◌, ◌⊎◌, ◌++◌, ◌∷◌, ℕ, List}
+use Rattle.tw_types.specs.declared.event.Event.{Event}
+use Rattle.tw_types.specs.declared.event.Event.TheVariants.{Deliver}
+use Rattle.tw_types.specs.declared.notice.Notice.{Notice}
+
+abbrev pub delivery : ℕ → Notice → Event
+delivery server notice = Deliver server notice.datum notice.rule notice.parameter
+
+-- up to some event they are one, and there the same server delivers two notices
+pub record PartAtNotice (one other : List Event) : Type 0 where
+  pub before : List Event
+  pub server : ℕ
+  pub notice : Notice
+  pub instead : Notice
+  pub apart : notice ≢ instead
+  pub behind : List Event
+  pub behind_other : List Event
+  pub is : one ≡ before ++ delivery server notice ∷ behind
+  pub is_other : other ≡ before ++ delivery server instead ∷ behind_other
+
+abbrev pub AreSame : List Event → List Event → Type 0
+AreSame one other = (one ≡ other) ⊎ PartAtNotice one other

@@ -1,0 +1,9 @@
+//! Runs in one thread: the actors of a pool have their turns one after the other.
+#![tactic(auto)]
+
+mod laws;
+mod rounds;
+mod run;
+
+pub use laws::one_run;
+pub use run::{Left, run_in_turn};

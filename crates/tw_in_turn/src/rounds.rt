@@ -1,0 +1,82 @@
+//! Turns, round by round.
+
+ghost use Rattle.std.specs.Prelude.{◌≡◌, ◌≤◌, true};
+ghost use Rattle.tw_types.specs.Actor.{is_in};
+ghost use Rattle.tw_in_turn.specs.InTurn.{ComesTo};
+ghost use Rattle.tw_in_turn.specs.Rounds.{AreKept, ComesAround, Ends, IsGrown, IsTurned, Keeps, MayTurn};
+
+use std::alloc::Global;
+use tw_frame::Done;
+use tw_pool::{History, Pool, Turn};
+use tw_types::Actor;
+
+/// Why no turn comes behind one.
+#[derive(Clone, Copy)]
+pub(crate) enum End {
+    /// The run is over.
+    Over,
+    /// Memory was refused.
+    NoMemory,
+}
+
+/// One turn of an actor, with what it has for it. A job that it is lent is done at once, and kept for its next turn.
+fn turn_one<'a>(
+    alloc: Global,
+    pool: &mut Pool<'a>,
+    actor: Actor,
+    kept: &mut Option<Done<'a>>,
+) -> Option<End>
+    requires actor { is_in pool.old.layout actor ≡ true }
+    requires may { MayTurn pool.old }
+    requires keeps { Keeps pool.old actor kept.old }
+    ensures { IsTurned pool.old actor pool.new kept.new result }
+{
+    match pool.turn(alloc, actor, kept.take()) {
+        Turn::Run(job) => {
+            let done = job.run(alloc);
+            let _steps = done.steps();
+            if done.short() {
+                return Some(End::NoMemory);
+            }
+            *kept = Some(done);
+            None
+        }
+        Turn::Ended | Turn::Went | Turn::Idle => None,
+        Turn::Over(_) => Some(End::Over),
+        Turn::NoMemory(_) => Some(End::NoMemory),
+        Turn::Foreign(_) | Turn::Owed => unreachable!(),
+    }
+}
+
+/// One turn for each actor, in their order.
+fn turn_round<'a>(alloc: Global, pool: &mut Pool<'a>, kept: &mut [Option<Done<'a>>]) -> Option<End>
+    requires may { MayTurn pool.old }
+    requires kept { AreKept pool.old kept.old }
+    ensures round { ComesAround pool.old pool.new kept.new result }
+    ensures grown { IsGrown pool.old pool.new }
+{
+    let layout = pool.layout();
+    for index in 0..layout.actor_count() {
+        let actor = layout.actor_at(index);
+        if let Some(end) = turn_one(alloc, pool, actor, &mut kept[index]) {
+            return Some(end);
+        }
+    }
+    None
+}
+
+/// Rounds, until the run is over or memory is refused. Each round that goes on makes an event.
+pub(crate) fn turn_all<'a>(alloc: Global, pool: &mut Pool<'a>, kept: &mut [Option<Done<'a>>]) -> End
+    requires may { MayTurn pool.old }
+    requires few { pool.old.limit ≤ 1000000 }
+    requires kept { AreKept pool.old kept.old }
+    ensures ends { ComesTo pool.old (Ends result) pool.new }
+    ensures grown { IsGrown pool.old pool.new }
+{
+    for _round in 0..History::MOST_EVENTS + 1 {
+        if let Some(end) = turn_round(alloc, pool, kept) {
+            return end;
+        }
+    }
+    unreachable!()
+}
