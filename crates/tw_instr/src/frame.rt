@@ -112,7 +112,7 @@ impl Frame {
     }
 
     /// The id in a right register, if it has one.
-    pub(crate) fn right(&self, register: u8) -> Option<DatumId>
+    pub fn right(&self, register: u8) -> Option<DatumId>
         ensures { result ≡ right_at self.now.rights register }
     {
         self.rights.get(usize::from(register)).copied().flatten()

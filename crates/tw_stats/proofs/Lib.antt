@@ -1,0 +1,6 @@
+pub mod Numbers
+pub mod Longest
+pub mod Nexts
+pub mod Histories
+pub mod Texts
+pub mod Openings

@@ -1,0 +1,5 @@
+use Rattle.std.proofs.Common.{◌≡◌, ℕ, length, slice_index}
+use Rattle.tw_stats.proofs.table.reach.Given as goal
+
+abbrev pub invariant-loop : goal.invariant-loop
+invariant-loop l = (length l.items.items ≡ l.counter) × ((k : ℕ) → slice_index l.items.items k ≡ slice_index l.initial.items.items k)

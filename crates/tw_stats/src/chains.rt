@@ -1,0 +1,49 @@
+//! The longest chain of events that wait for one another.
+
+ghost use Rattle.std.specs.Prelude.{◌≡◌, ◌∷◌, ◌++◌, [], List, OnOk};
+ghost use Rattle.tw_code.specs.declared.procedure.Procedure.{Procedure};
+ghost use Rattle.tw_picture.specs.History.{Moment};
+ghost use Rattle.tw_stats.specs.Kept.{AreChains, IsLater, IsSmall, things_in};
+ghost use Rattle.tw_stats.specs.Waits.{brings, needs};
+
+use crate::counts::size_of;
+use crate::depths::Depths;
+use crate::things::Things;
+use std::alloc::{AllocError, Global};
+use tw_types::Event;
+
+/// The steps of chains, so far.
+#[derive(Drop)]
+pub struct Chains {
+    /// Of the longest one.
+    pub longest: u64,
+    /// Of those that bring a thing.
+    pub depths: Depths,
+}
+
+impl Chains {
+    pub fn new(alloc: Global) -> Chains
+        ensures { (program : List Procedure) → AreChains program [] result }
+    {
+        Chains {
+            longest: 0,
+            depths: Depths::new(alloc),
+        }
+    }
+
+    /// Adds an event that needs these things and brings those.
+    pub fn add(
+        &mut self,
+        event: &Event,
+        needed: &Things,
+        brought: &Things,
+    ) -> Result<(), AllocError>
+        ensures { OnOk result ((program : List Procedure) (moments : List Moment) (m : Moment) → m.event ≡ event.now → needs m ≡ things_in needed.now → brings program m ≡ things_in brought.now
+            → IsLater moments m → IsSmall (moments ++ m ∷ []) → AreChains program moments self.old → AreChains program (moments ++ m ∷ []) self.new) }
+    {
+        let before = self.depths.deepest(needed);
+        let depth = before.saturating_add(size_of(event));
+        self.longest = self.longest.max(depth);
+        self.depths.deepen(brought, depth)
+    }
+}

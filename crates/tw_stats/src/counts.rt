@@ -1,0 +1,83 @@
+//! How many events there are, by their kinds and by their actors.
+
+ghost use Rattle.std.specs.Prelude.{◌≡◌, ◌∷◌, ◌++◌, [], List, OnOk};
+ghost use Rattle.tw_code.specs.machine.Bounds.{size_of};
+ghost use Rattle.tw_code.specs.machine.History.{actor_of};
+ghost use Rattle.tw_picture.specs.History.{Moment};
+ghost use Rattle.tw_stats.specs.Kept.{AreCounts, IsSmall};
+ghost use Rattle.tw_stats.specs.Numbers.{kind_of};
+
+use crate::actors::Actors;
+use crate::table::Table;
+use std::alloc::{AllocError, Global};
+use tw_types::{Actor, Event};
+
+/// Numbers of all events of a history.
+#[derive(Drop)]
+pub struct Counts {
+    pub events: u64,
+    /// As many as local instructions, and one for each other event.
+    pub steps: u64,
+    pub kinds: Table,
+    pub actors: Actors,
+}
+
+fn kind_of(event: &Event) -> u64
+    ensures { result ≡ kind_of event.now }
+{
+    match *event {
+        Event::Take(_) => 0,
+        Event::Local(_, _) => 1,
+        Event::Call(_) => 2,
+        Event::End(_) => 3,
+        Event::Ask(_, _, _) => 4,
+        Event::Deliver(_, _, _, _) => 5,
+        Event::Release(_, _) => 6,
+    }
+}
+
+/// How many steps an event is.
+pub fn size_of(event: &Event) -> u64
+    ensures { result ≡ size_of event.now }
+{
+    match *event {
+        Event::Local(_, steps) => steps,
+        Event::Take(_) | Event::Call(_) | Event::End(_) => 1,
+        Event::Ask(_, _, _) | Event::Deliver(_, _, _, _) | Event::Release(_, _) => 1,
+    }
+}
+
+/// Who makes an event.
+fn actor_of(event: &Event) -> Actor
+    ensures { result ≡ actor_of event.now }
+{
+    match *event {
+        Event::Take(actor) | Event::Local(actor, _) | Event::Call(actor) | Event::End(actor) =>
+            actor,
+        Event::Ask(engine, _, _) | Event::Release(engine, _) => Actor::Engine(engine),
+        Event::Deliver(server, _, _, _) => Actor::Server(server),
+    }
+}
+
+impl Counts {
+    pub fn new(alloc: Global) -> Counts
+        ensures { AreCounts [] result }
+    {
+        Counts {
+            events: 0,
+            steps: 0,
+            kinds: Table::new(alloc),
+            actors: Actors::new(alloc),
+        }
+    }
+
+    /// Counts an event.
+    pub fn add(&mut self, event: &Event) -> Result<(), AllocError>
+        ensures { OnOk result ((moments : List Moment) (m : Moment) → m.event ≡ event.now → IsSmall (moments ++ m ∷ []) → AreCounts moments self.old → AreCounts (moments ++ m ∷ []) self.new) }
+    {
+        self.events = self.events.saturating_add(1);
+        self.steps = self.steps.saturating_add(size_of(event));
+        self.kinds.add(kind_of(event), 1)?;
+        self.actors.add(actor_of(event))
+    }
+}

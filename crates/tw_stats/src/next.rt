@@ -1,0 +1,47 @@
+//! The numbers that tasks and rules get.
+
+ghost use Rattle.std.specs.Prelude.{◌≡◌};
+ghost use Rattle.tw_stats.specs.Kept.{AreBehind, IsFirst, IsNext};
+ghost use Rattle.tw_code.specs.machine.State.{State};
+
+use crate::thing::Thing;
+use tw_types::{RuleNo, TaskNo};
+
+/// The numbers of the next task and of the next rule.
+#[derive(Clone, Copy)]
+pub struct Next {
+    task: u64,
+    rule: u64,
+}
+
+impl Next {
+    /// Where main is put, and no rule is made.
+    pub fn first() -> Next
+        ensures { (s : State) → IsFirst s → IsNext s result }
+    {
+        Next { task: 2, rule: 1 }
+    }
+
+    pub fn task(self) -> TaskNo
+        ensures { result ≡ self.task }
+    {
+        TaskNo::new(self.task)
+    }
+
+    pub fn rule(self) -> RuleNo
+        ensures { result ≡ self.rule }
+    {
+        RuleNo::new(self.rule)
+    }
+
+    /// Goes behind an event that makes this.
+    pub fn go_behind(&mut self, made: &Option<Thing>)
+        ensures { AreBehind self.old made.now self.new }
+    {
+        match made {
+            Some(Thing::Task(_)) => self.task = self.task.saturating_add(1),
+            Some(Thing::Rule(_)) => self.rule = self.rule.saturating_add(1),
+            Some(Thing::Answer(_) | Thing::Datum(_)) | None => {}
+        }
+    }
+}

@@ -1,0 +1,77 @@
+//! How many tasks and instructions there are of each procedure.
+
+ghost use Rattle.std.specs.Prelude.{◌≡◌, ◌<◌, ◌^◌, ◌∷◌, ◌++◌, [], List, OnOk};
+ghost use Rattle.tw_picture.specs.History.{Moment};
+ghost use Rattle.tw_stats.specs.Kept.{AreOfProcedures, HasSpentFew, IsSmall};
+ghost use Rattle.tw_stats.specs.Numbers.{instructions_by, tasks_by};
+ghost use Rattle.tw_stats.specs.Waits.{done_by};
+
+use crate::doer::Doer;
+use crate::table::Table;
+use std::alloc::{AllocError, Global};
+use tw_types::Event;
+
+/// Numbers of each procedure, by its number.
+#[derive(Drop)]
+pub struct Procedures {
+    pub tasks: Table,
+    pub instructions: Table,
+    /// The most instructions that one task does.
+    pub most: Table,
+}
+
+/// How many tasks an event takes.
+fn tasks_by(event: &Event) -> u64
+    ensures { result ≡ tasks_by event.now }
+{
+    match *event {
+        Event::Take(_) => 1,
+        Event::Local(_, _) | Event::Call(_) | Event::End(_) => 0,
+        Event::Ask(_, _, _) | Event::Deliver(_, _, _, _) | Event::Release(_, _) => 0,
+    }
+}
+
+/// How many instructions it does.
+fn instructions_by(event: &Event) -> u64
+    ensures { result ≡ instructions_by event.now }
+{
+    match *event {
+        Event::Local(_, steps) => steps,
+        Event::Call(_) | Event::End(_) => 1,
+        Event::Take(_) => 0,
+        Event::Ask(_, _, _) | Event::Deliver(_, _, _, _) | Event::Release(_, _) => 0,
+    }
+}
+
+impl Procedures {
+    pub fn new(alloc: Global) -> Procedures
+        ensures { AreOfProcedures [] result }
+    {
+        Procedures {
+            tasks: Table::new(alloc),
+            instructions: Table::new(alloc),
+            most: Table::new(alloc),
+        }
+    }
+
+    fn add_of(&mut self, event: &Event, doer: &Doer) -> Result<(), AllocError>
+        ensures { OnOk result ((moments : List Moment) (m : Moment) → m.event ≡ event.now → done_by m ≡ Some doer.now → IsSmall (moments ++ m ∷ []) → doer.now.spent < 2 ^ 63 → AreOfProcedures moments self.old → AreOfProcedures (moments ++ m ∷ []) self.new) }
+    {
+        let procedure = u64::from(doer.procedure);
+        let instructions = instructions_by(event);
+        self.tasks.add(procedure, tasks_by(event))?;
+        self.instructions.add(procedure, instructions)?;
+        let done = doer.spent.saturating_add(instructions);
+        self.most.raise(procedure, done)
+    }
+
+    /// Counts an event, which this task does if any.
+    pub fn add(&mut self, event: &Event, doer: &Option<Doer>) -> Result<(), AllocError>
+        ensures { OnOk result ((moments : List Moment) (m : Moment) → m.event ≡ event.now → done_by m ≡ doer.now → IsSmall (moments ++ m ∷ []) → HasSpentFew doer.now → AreOfProcedures moments self.old → AreOfProcedures (moments ++ m ∷ []) self.new) }
+    {
+        match doer {
+            Some(doer) => self.add_of(event, doer),
+            None => Ok(()),
+        }
+    }
+}

@@ -1,0 +1,64 @@
+//! Tables of numbers.
+
+ghost use Rattle.std.specs.Prelude.{◌≡◌, ◌+◌, ◌≤◌, ℕ, OnOk, length, slice_index};
+ghost use Rattle.tw_stats.specs.Kept.{IsAdded, IsBlank, IsRaised, IsSet, number_at};
+
+use std::alloc::{AllocError, Global};
+
+/// A number for each number, 0 where none was set.
+#[derive(Drop)]
+pub struct Table {
+    items: Vec<u64>,
+}
+
+/// Adds zeros, so that there is an item at the index.
+fn reach(items: &mut Vec<u64>, index: usize) -> Result<(), AllocError>
+    ensures there { OnOk result (index + 1 ≤ length items.new.items) }
+    ensures same { OnOk result ((k : ℕ) → slice_index items.new.items k ≡ slice_index items.old.items k) }
+{
+    for _ in items.len()..=index {
+        items.push(0)?;
+    }
+    Ok(())
+}
+
+impl Table {
+    pub fn new(alloc: Global) -> Table
+        ensures { IsBlank result }
+    {
+        Table {
+            items: Vec::new(alloc),
+        }
+    }
+
+    pub fn at(&self, key: u64) -> u64
+        ensures { result ≡ number_at self.now key }
+    {
+        self.items.get(key as usize).copied().unwrap_or(0)
+    }
+
+    fn set(&mut self, key: u64, number: u64) -> Result<(), AllocError>
+        ensures { OnOk result (IsSet self.old key number self.new) }
+    {
+        let index = key as usize;
+        reach(&mut self.items, index)?;
+        self.items[index] = number;
+        Ok(())
+    }
+
+    /// Makes a number more by so many.
+    pub fn add(&mut self, key: u64, amount: u64) -> Result<(), AllocError>
+        ensures { OnOk result (IsAdded self.old key amount self.new) }
+    {
+        let number = self.at(key).saturating_add(amount);
+        self.set(key, number)
+    }
+
+    /// Makes a number this one at least.
+    pub fn raise(&mut self, key: u64, number: u64) -> Result<(), AllocError>
+        ensures { OnOk result (IsRaised self.old key number self.new) }
+    {
+        let number = self.at(key).max(number);
+        self.set(key, number)
+    }
+}
