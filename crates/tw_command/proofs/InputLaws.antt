@@ -175,8 +175,8 @@ pub never_refused : (asked : Asked) (order : Order) (number : ℕ) → IsAsked a
 never_refused Assembles order number is_asked h = h
 never_refused (Disassembles source listed) order number is_asked h = h
 never_refused (Checks source listed) order number is_asked h = h
-never_refused (Runs source layout most traced (Some words)) order number (run, is, layout_is, limit_is, trace_is, spelled) h = none_refused words run.inputs number spelled h
-never_refused (Runs source layout most traced None) order number is_asked h = h
+never_refused (Runs source answer layout most traced turns (Some words)) order number (run, is, answer_is, layout_is, limit_is, trace_is, turns_is, spelled) h = none_refused words run.inputs number spelled h
+never_refused (Runs source answer layout most traced turns None) order number is_asked h = h
 never_refused (Replays source answer layout (Some words)) order number (replay, is, answer_is, layout_is, spelled) h = none_refused words replay.inputs number spelled h
 never_refused (Replays source answer layout None) order number is_asked h = h
 never_refused (Explains explained) order number is_asked h = h
@@ -185,8 +185,8 @@ pub one_number : (asked : Asked) (number other : ℕ) → IsRefusedInput asked n
 one_number Assembles number other h k = absurd h
 one_number (Disassembles source listed) number other h k = absurd h
 one_number (Checks source listed) number other h k = absurd h
-one_number (Runs source layout most traced (Some words)) number other h k = one_refused_word words number other h k
-one_number (Runs source layout most traced None) number other h k = absurd h
+one_number (Runs source answer layout most traced turns (Some words)) number other h k = one_refused_word words number other h k
+one_number (Runs source answer layout most traced turns None) number other h k = absurd h
 one_number (Replays source answer layout (Some words)) number other h k = one_refused_word words number other h k
 one_number (Replays source answer layout None) number other h k = absurd h
 one_number (Explains explained) number other h k = absurd h

@@ -4,3 +4,4 @@ pub mod InputLaws
 pub mod Numbers
 pub mod Options
 pub mod Words
+pub mod Turned

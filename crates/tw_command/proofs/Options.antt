@@ -22,12 +22,14 @@ use Rattle.clap.proofs.WalkLemmas.{both, first_value-rows}
 use Rattle.tw_words.specs.Number.{IsRead, SpellsDigits}
 use Rattle.tw_words.specs.declared.numbers.Flaw.{Flaw}
 use Rattle.tw_words.specs.declared.numbers.Flaw.TheVariants.{Form, Limit}
-use Rattle.tw_command.specs.Options.{NumberOption, actor_options, actors_told, engines, inputs, is_given, limit, number_in, number_of, number_options, option_faults, servers, source_told, told, trace, workers}
+use Rattle.tw_types.specs.Layout.{ActorCounts}
+use Rattle.tw_command.specs.Options.{HasActors, NumberOption, actor_options, actors_told, engines, in_turn, inputs, is_given, limit, number_in, number_of, number_options, option_faults, picture, servers, source_told, stats, told, trace, workers}
 use Rattle.tw_command.specs.Order.{HasReason, IsInputReason, IsRequest}
-use Rattle.tw_command.specs.CommandLine.{Asked, IsRefusedInput, Replays, Runs, given_words, input_faults, replay_asked, replay_faults, run_asked, run_faults, words_told}
+use Rattle.tw_command.specs.CommandLine.{Asked, IsRefusedInput, Replays, Runs, answer_told, given_words, input_faults, picture_faults, replay_asked, replay_faults, run_answer_told, run_asked, run_faults, words_told}
 use Rattle.tw_command.specs.InputWords.{IsRefusedWord}
 use Rattle.tw_command.specs.reading.Inputs.{HasInputs}
 use Rattle.tw_command.specs.declared.command.Answer.{Answer}
+use Rattle.tw_command.specs.declared.command.Answer.TheVariants.{Picture}
 use Rattle.tw_command.specs.declared.command.NoOrder.{NoOrder}
 use Rattle.tw_command.specs.declared.command.NoOrder.TheVariants.{Explanation, Help, InputWord, NoMemory, Refused}
 
@@ -116,12 +118,35 @@ has_fault kinds asked e = has_kind ValueValidation kinds asked other e
     other (inl e) = cc
     other (inr e) = cc
 
-has_conflict : (kinds : Kinds) (asked : Asked) → kinds ≡ ArgumentConflict ∷ [] → HasReason kinds asked Refused
+pub has_conflict : (kinds : Kinds) (asked : Asked) → kinds ≡ ArgumentConflict ∷ [] → HasReason kinds asked Refused
 has_conflict kinds asked e = has_kind ArgumentConflict kinds asked other e
   where
     other : IsRequest ArgumentConflict → ⊥
     other (inl e) = cc
     other (inr e) = cc
+
+-- ---- a picture
+
+-- where it isn't asked for
+pub not_drawn : (rows : List Row) → is_given picture rows ≡ false → (picture_faults rows ≡ []) × (answer_told rows ≡ run_answer_told rows)
+not_drawn rows other = (rw other refl, rw other refl)
+
+-- where the history is too, or the numbers are
+pub drawn_traced : (rows : List Row) → is_given picture rows ≡ true → is_given trace rows ≡ true → picture_faults rows ≡ ArgumentConflict ∷ []
+drawn_traced rows drawn traced = rw (drawn, traced) refl
+
+pub drawn_counted : (rows : List Row) → is_given picture rows ≡ true → is_given trace rows ≡ false → is_given stats rows ≡ true → picture_faults rows ≡ ArgumentConflict ∷ []
+drawn_counted rows drawn untraced counted = rw (drawn, untraced, counted) refl
+
+pub drawn_alone : (rows : List Row) → is_given picture rows ≡ true → is_given trace rows ≡ false → is_given stats rows ≡ false → (picture_faults rows ≡ []) × (Picture ≡ run_answer_told rows)
+drawn_alone rows drawn untraced uncounted = (rw (drawn, untraced, uncounted) refl, rw drawn refl)
+
+-- what is wrong with it is wrong with `run`, where the options are right
+pub picture_refused : (rows : List Row) (layout : ActorCounts) (most : ℕ) → HasActors rows layout → Some most ≡ number_of limit rows → picture_faults rows ≡ ArgumentConflict ∷ [] → run_faults rows ≡ ArgumentConflict ∷ []
+picture_refused rows layout most actors is refused =
+    let fit : option_faults number_options rows ≡ [] = rw (actors.0, actors.1, actors.2, sym is) refl in
+    ap (λ (k : Kinds). or_else k (or_else (picture_faults rows) (input_faults rows))) fit
+    ∙ ap (λ (k : Kinds). or_else k (input_faults rows)) refused
 
 -- ---- the inputs
 
@@ -151,7 +176,7 @@ words_refused kinds asked words (Explanation text) none so h = absurd h
 pub run_words : (rows : List Row) (reason : NoOrder) → is_given inputs rows ≡ false → IsInputReason (given_words rows) reason → HasReason (input_faults rows) (run_asked rows) reason
 run_words rows reason other h =
     words_refused (input_faults rows) (run_asked rows) (given_words rows) reason (no_conflict rows other)
-    (λ number r. subst (λ (words : Option (List Text)). IsRefusedInput (Runs (source_told rows) (actors_told rows) (told limit rows) (is_given trace rows) words) number) (sym (words_are rows other)) r) h
+    (λ number r. subst (λ (words : Option (List Text)). IsRefusedInput (Runs (source_told rows) (run_answer_told rows) (actors_told rows) (told limit rows) (is_given trace rows) (is_given in_turn rows) words) number) (sym (words_are rows other)) r) h
 
 pub replay_words : (rows : List Row) (answer : Answer) (reason : NoOrder) → is_given inputs rows ≡ false → IsInputReason (given_words rows) reason → HasReason (input_faults rows) (replay_asked answer rows) reason
 replay_words rows answer reason other h =
@@ -160,16 +185,10 @@ replay_words rows answer reason other h =
 
 -- what is wrong with an option is wrong with the command, and else what is wrong with the inputs
 pub run_refused : (rows : List Row) → option_faults number_options rows ≡ ValueValidation ∷ [] → run_faults rows ≡ ValueValidation ∷ []
-run_refused rows e = ap (λ (k : Kinds). or_else k (input_faults rows)) e
+run_refused rows e = ap (λ (k : Kinds). or_else k (or_else (picture_faults rows) (input_faults rows))) e
 
 pub replay_refused : (rows : List Row) → option_faults actor_options rows ≡ ValueValidation ∷ [] → replay_faults rows ≡ ValueValidation ∷ []
 replay_refused rows e = ap (λ (k : Kinds). or_else k (input_faults rows)) e
-
-pub run_behind : (rows : List Row) → option_faults number_options rows ≡ [] → run_faults rows ≡ input_faults rows
-run_behind rows e = ap (λ (k : Kinds). or_else k (input_faults rows)) e
-
-pub replay_behind : (rows : List Row) → option_faults actor_options rows ≡ [] → replay_faults rows ≡ input_faults rows
-replay_behind rows e = ap (λ (k : Kinds). or_else k (input_faults rows)) e
 
 -- ---- a flag
 

@@ -1,5 +1,5 @@
 -- The command line: what clap is told of it, and what the words then ask for.
-use Rattle.std.specs.Prelude.{◌≡◌, ◌++◌, ◌&&◌, ℕ, Bool, true, not, List, [], ◌∷◌, Option, Some, None, codes, bytes_eq, fold, if◌then◌else◌, map, unwrap_or}
+use Rattle.std.specs.Prelude.{◌≡◌, ◌||◌, ◌++◌, ◌&&◌, ℕ, Bool, true, not, List, [], ◌∷◌, Option, Some, None, codes, bytes_eq, fold, if◌then◌else◌, map, unwrap_or}
 use Rattle.clap.specs.Kinds.{or_else}
 use Rattle.clap.specs.Lexer.{usize_max}
 use Rattle.clap.specs.Walk.{is_empty}
@@ -8,10 +8,10 @@ use Rattle.clap.specs.declared.error.ErrorKind.TheVariants.{ArgumentConflict}
 use Rattle.tw_types.specs.declared.input.Input.{Input}
 use Rattle.tw_types.specs.Layout.{ActorCounts}
 use Rattle.tw_command.specs.InputWords.{AreSpelled, IsRefusedWord}
-use Rattle.tw_command.specs.Options.{NumberOption, actor_options, actors_told, flag_rule, inputs, is_given, limit, number_options, option_faults, option_rule, places, places_told, source_told, text, told, trace}
+use Rattle.tw_command.specs.Options.{NumberOption, actor_options, actors_told, flag_rule, in_turn, inputs, is_given, limit, number_options, option_faults, option_rule, picture, places, places_told, source_told, stats, text, told, trace}
 use Rattle.tw_command.specs.Explanations.{IsExplanation, number_faults, number_rule, number_word}
 use Rattle.tw_command.specs.declared.command.Answer.{Answer}
-use Rattle.tw_command.specs.declared.command.Answer.TheVariants.{Report, Picture}
+use Rattle.tw_command.specs.declared.command.Answer.TheVariants.{Numbers, Picture, Report}
 use Rattle.tw_command.specs.declared.command.Order.{Order}
 use Rattle.tw_command.specs.declared.command.InputsOrder.TheVariants.{ToReplay, ToRun}
 use Rattle.tw_command.specs.declared.command.Order.TheVariants.{Assemble, Inputs, Program, Replay}
@@ -47,11 +47,14 @@ options_line name options flags =
     with_rule (fold with_rule (new_app name) (map (λ o. option_rule o.name) options ++ map flag_rule flags)) input_rule
 
 abbrev pub run_line : App
-run_line = options_line (codes "run") number_options (trace ∷ text ∷ inputs ∷ [])
+run_line = options_line (codes "run") number_options (trace ∷ in_turn ∷ stats ∷ picture ∷ text ∷ inputs ∷ [])
 
--- a command that is given a history
-abbrev pub replay_line : Text → App
-replay_line name = options_line name actor_options (text ∷ inputs ∷ [])
+-- the commands that are given a history
+abbrev pub replay_line : App
+replay_line = options_line (codes "replay") actor_options (stats ∷ text ∷ inputs ∷ [])
+
+abbrev pub picture_line : App
+picture_line = options_line (codes "picture") actor_options (text ∷ inputs ∷ [])
 
 -- the words come without the program's own name, and a command must be among them, or what asks for help or the version
 abbrev pub bare_line : App
@@ -67,7 +70,7 @@ bare_line = record (new_app (codes "tw")) {
 unfoldable pub command_line : App
 command_line = fold (λ line command. with_subcommand line command.top) bare_line
     (plain_line (codes "asm") ∷ program_line (codes "disasm") ∷ program_line (codes "check") ∷ run_line
-    ∷ replay_line (codes "replay") ∷ replay_line (codes "picture") ∷ explain_line ∷ [])
+    ∷ replay_line ∷ picture_line ∷ explain_line ∷ [])
 
 -- ---- what the words ask for
 
@@ -80,19 +83,27 @@ abbrev pub words_told : List Row → Option (List Text)
 words_told rows = if is_given inputs rows then None else Some (given_words rows)
 
 -- the command that was named, and how the program is written that it reads; `disasm` and `check` with whether places are
--- listed; `run` with its actors, the most events of the run, whether its history is written, and the input words, if they
--- don't stand in what is read; `replay` or `picture`, by what is written, with its actors and the same; `explain` with its number
+-- listed; `run`, by what is written, with its actors, the most events of the run, whether its history is written, whether it is in turn,
+-- and the input words, if they don't stand in what is read; `replay` or `picture`, by what is written, with its actors and these; `explain` with its number
 pub data Asked : Type 0 where
   Assembles : Asked
   Disassembles : Source → Places → Asked
   Checks : Source → Places → Asked
-  Runs : Source → ActorCounts → ℕ → Bool → Option (List Text) → Asked
+  Runs : Source → Answer → ActorCounts → ℕ → Bool → Bool → Option (List Text) → Asked
   Replays : Source → Answer → ActorCounts → Option (List Text) → Asked
   Explains : Text → Asked
 
+-- what `replay` writes, and what `run` does
+abbrev pub answer_told : List Row → Answer
+answer_told rows = if is_given stats rows then Numbers else Report
+
+abbrev pub run_answer_told : List Row → Answer
+run_answer_told rows = if is_given picture rows then Picture else answer_told rows
+
 -- `run`, by what clap found behind it
 abbrev pub run_asked : List Row → Asked
-run_asked rows = Runs (source_told rows) (actors_told rows) (told limit rows) (is_given trace rows) (words_told rows)
+run_asked rows =
+    Runs (source_told rows) (run_answer_told rows) (actors_told rows) (told limit rows) (is_given trace rows) (is_given in_turn rows) (words_told rows)
 
 -- `replay` or `picture`, by what clap found behind it
 abbrev pub replay_asked : Answer → List Row → Asked
@@ -102,7 +113,7 @@ abbrev pub asked_of : Option (Text × List Row) → Asked
 asked_of None = Checks Hex Hidden
 asked_of (Some named) =
     if bytes_eq named.0 (codes "run") then run_asked named.1 else
-    if bytes_eq named.0 (codes "replay") then replay_asked Report named.1 else
+    if bytes_eq named.0 (codes "replay") then replay_asked (answer_told named.1) named.1 else
     if bytes_eq named.0 (codes "picture") then replay_asked Picture named.1 else
     if bytes_eq named.0 (codes "asm") then Assembles else
     if bytes_eq named.0 (codes "disasm") then Disassembles (source_told named.1) (places_told named.1) else
@@ -115,7 +126,7 @@ asked_by_words words = asked_of (subcommand_of command_line words)
 
 -- how a program is run, or a history replayed, with these inputs
 abbrev pub run_with : RunOptions → List Input → RunOrder
-run_with options given = record { layout = options.layout; limit = options.limit; trace = options.trace; inputs = given }
+run_with options given = record { answer = options.answer; layout = options.layout; limit = options.limit; trace = options.trace; in_turn = options.in_turn; inputs = given }
 
 abbrev pub replay_with : ReplayOptions → List Input → ReplayOrder
 replay_with options given = record { answer = options.answer; layout = options.layout; inputs = given }
@@ -125,11 +136,11 @@ abbrev pub IsAsked : Asked → Order → Type 0
 IsAsked Assembles order = order ≡ Assemble
 IsAsked (Disassembles source listed) order = order ≡ Program source (Disassemble listed)
 IsAsked (Checks source listed) order = order ≡ Program source (Verified (Check listed))
-IsAsked (Runs source layout most traced (Some words)) order =
+IsAsked (Runs source answer layout most traced turns (Some words)) order =
     (run : RunOrder) × (order ≡ Program source (Verified (Run run)))
-    × (run.layout ≡ layout) × (run.limit ≡ most) × (run.trace ≡ traced) × AreSpelled run.inputs words
-IsAsked (Runs source layout most traced None) order =
-    (run : RunOptions) × (order ≡ Inputs source (ToRun run)) × (run.layout ≡ layout) × (run.limit ≡ most) × (run.trace ≡ traced)
+    × (run.answer ≡ answer) × (run.layout ≡ layout) × (run.limit ≡ most) × (run.trace ≡ traced) × (run.in_turn ≡ turns) × AreSpelled run.inputs words
+IsAsked (Runs source answer layout most traced turns None) order =
+    (run : RunOptions) × (order ≡ Inputs source (ToRun run)) × (run.answer ≡ answer) × (run.layout ≡ layout) × (run.limit ≡ most) × (run.trace ≡ traced) × (run.in_turn ≡ turns)
 IsAsked (Replays source answer layout (Some words)) order =
     (replay : ReplayOrder) × (order ≡ Replay source replay) × (replay.answer ≡ answer) × (replay.layout ≡ layout) × AreSpelled replay.inputs words
 IsAsked (Replays source answer layout None) order =
@@ -141,8 +152,8 @@ abbrev pub IsRefusedInput : Asked → ℕ → Type 0
 IsRefusedInput Assembles number = ⊥
 IsRefusedInput (Disassembles source listed) number = ⊥
 IsRefusedInput (Checks source listed) number = ⊥
-IsRefusedInput (Runs source layout most traced (Some words)) number = IsRefusedWord words number
-IsRefusedInput (Runs source layout most traced None) number = ⊥
+IsRefusedInput (Runs source answer layout most traced turns (Some words)) number = IsRefusedWord words number
+IsRefusedInput (Runs source answer layout most traced turns None) number = ⊥
 IsRefusedInput (Replays source answer layout (Some words)) number = IsRefusedWord words number
 IsRefusedInput (Replays source answer layout None) number = ⊥
 IsRefusedInput (Explains other) number = ⊥
@@ -152,7 +163,7 @@ abbrev pub IsExplained : Asked → List ℕ → Type 0
 IsExplained Assembles explanation = ⊥
 IsExplained (Disassembles source listed) explanation = ⊥
 IsExplained (Checks source listed) explanation = ⊥
-IsExplained (Runs source layout most traced words) explanation = ⊥
+IsExplained (Runs source answer layout most traced turns words) explanation = ⊥
 IsExplained (Replays source answer layout words) explanation = ⊥
 IsExplained (Explains number) explanation = IsExplanation number explanation
 
@@ -162,9 +173,13 @@ IsExplained (Explains number) explanation = IsExplanation number explanation
 abbrev pub input_faults : List Row → Kinds
 input_faults rows = if is_given inputs rows && not (is_empty (given_words rows)) then ArgumentConflict ∷ [] else []
 
+-- a picture is written alone: no history before it, and no numbers behind it
+abbrev pub picture_faults : List Row → Kinds
+picture_faults rows = if is_given picture rows && (is_given trace rows || is_given stats rows) then ArgumentConflict ∷ [] else []
+
 -- of `run`, and of `replay` and `picture`
 abbrev pub run_faults : List Row → Kinds
-run_faults rows = or_else (option_faults number_options rows) (input_faults rows)
+run_faults rows = or_else (option_faults number_options rows) (or_else (picture_faults rows) (input_faults rows))
 
 abbrev pub replay_faults : List Row → Kinds
 replay_faults rows = or_else (option_faults actor_options rows) (input_faults rows)

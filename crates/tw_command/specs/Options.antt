@@ -44,6 +44,18 @@ number_options = engines ∷ servers ∷ workers ∷ limit ∷ []
 abbrev pub trace : Text
 trace = codes "trace"
 
+-- the flag of `run`: the actors have their turns in one thread
+abbrev pub in_turn : Text
+in_turn = codes "in-turn"
+
+-- the flag of `run` and `replay`: the numbers of the events are written behind the report
+abbrev pub stats : Text
+stats = codes "stats"
+
+-- the flag of `run`: the picture of the events is written in place of the report
+abbrev pub picture : Text
+picture = codes "picture"
+
 -- the flag of each command that reads a program: it is read as assembly text, and else as hex text
 abbrev pub text : Text
 text = codes "text"

@@ -4,9 +4,9 @@ ghost use Rattle.std.specs.Prelude.{◌≡◌, false, not, [], ◌∷◌, map, I
 ghost use Rattle.clap.specs.Walk.{is_empty};
 ghost use Rattle.clap.specs.Words.{app_of, found_of, kind_of, rows_of, rule_of, subcommand_rows_of};
 ghost use Rattle.clap.specs.declared.Command.TheViews.{out-Command};
-ghost use Rattle.clap.specs.declared.error.ErrorKind.TheVariants.{ValueValidation};
-ghost use Rattle.tw_command.specs.CommandLine.{Explains, IsAsked, asked_by_words, asked_of, faults_behind, given_words, input_faults, replay_faults, run_faults, words_told};
-ghost use Rattle.tw_command.specs.CommandLine.{bare_line, command_line, explain_line, input_rule, plain_line, program_line, replay_asked, replay_line, replay_with, run_asked, run_line, run_with, word_faults};
+ghost use Rattle.clap.specs.declared.error.ErrorKind.TheVariants.{ArgumentConflict, ValueValidation};
+ghost use Rattle.tw_command.specs.CommandLine.{Explains, IsAsked, answer_told, asked_by_words, asked_of, faults_behind, given_words, input_faults, picture_faults, replay_faults, run_answer_told, run_faults, words_told};
+ghost use Rattle.tw_command.specs.CommandLine.{bare_line, command_line, explain_line, input_rule, plain_line, program_line, picture_line, replay_asked, replay_line, replay_with, run_asked, run_line, run_with, word_faults};
 ghost use Rattle.tw_command.specs.declared.command.Answer.{Answer as Answers};
 ghost use Rattle.tw_command.specs.declared.command.Order.TheVariants.{Program};
 ghost use Rattle.tw_command.specs.declared.command.ProgramOrder.TheVariants.{Verified};
@@ -20,9 +20,9 @@ ghost use Rattle.tw_command.specs.declared.command.NoOrder.TheVariants.{NoMemory
 
 use crate::explanations::explained;
 use crate::help::{
-    ABOUT, ASM, CHECK, CommandHelp, DISASM, ENGINES_HELP, EXPLAIN, INPUT_HELP, INPUTS_HELP,
-    LIMIT_HELP, NUMBER_HELP, PICTURE, PLACES_HELP, REPLAY, RUN, SERVERS_HELP, TEXT_HELP,
-    TRACE_HELP, VERSION, WORKERS_HELP,
+    ABOUT, ASM, CHECK, CommandHelp, DISASM, ENGINES_HELP, EXPLAIN, IN_TURN_HELP, INPUT_HELP,
+    INPUTS_HELP, LIMIT_HELP, NUMBER_HELP, PICTURE, PICTURE_HELP, PLACES_HELP, REPLAY, RUN,
+    SERVERS_HELP, STATS_HELP, TEXT_HELP, TRACE_HELP, VERSION, WORKERS_HELP,
 };
 use crate::input_words::input_of;
 use crate::limit::EventLimit;
@@ -35,12 +35,16 @@ use tw_words::digits;
 /// How a program is run.
 #[derive(Drop)]
 pub struct RunOrder {
+    /// What is written of the run.
+    pub answer: Answer,
     /// The actors.
     pub layout: Layout,
     /// How many events may be made.
     pub limit: EventLimit,
     /// Whether the history is written before the report.
     pub trace: bool,
+    /// Whether the actors have their turns in one thread.
+    pub in_turn: bool,
     /// Main's inputs, one for each input word, in their order.
     pub inputs: Items<Input>,
 }
@@ -79,11 +83,13 @@ pub enum ProgramOrder {
     Verified(VerifiedOrder),
 }
 
-/// What is written of a history whose events all go.
+/// What is written of a run, or of a history whose events all go.
 #[derive(Clone, Copy, PartialEq, Eq)]
 pub enum Answer {
     /// The report of the state that they leave.
     Report,
+    /// The report, and behind it the numbers of the events.
+    Numbers,
     /// Their picture.
     Picture,
 }
@@ -102,12 +108,16 @@ pub struct ReplayOrder {
 /// How a program is run whose inputs are to be read.
 #[derive(Clone, Copy)]
 pub struct RunOptions {
+    /// What is written of the run.
+    pub answer: Answer,
     /// The actors.
     pub layout: Layout,
     /// How many events may be made.
     pub limit: EventLimit,
     /// Whether the history is written before the report.
     pub trace: bool,
+    /// Whether the actors have their turns in one thread.
+    pub in_turn: bool,
 }
 
 /// How a history is replayed whose program's inputs are to be read.
@@ -124,9 +134,11 @@ impl RunOptions {
         ensures { result ≡ run_with self inputs }
     {
         RunOrder {
+            answer: self.answer,
             layout: self.layout,
             limit: self.limit,
             trace: self.trace,
+            in_turn: self.in_turn,
             inputs,
         }
     }
@@ -293,22 +305,35 @@ fn run_command<'a>(alloc: Global) -> Result<Command<'a>, AllocError>
     let workers = servers.arg(option_arg(alloc, "workers", WORKERS_HELP))?;
     let limit = workers.arg(option_arg(alloc, "limit", LIMIT_HELP))?;
     let trace = limit.arg(flag_arg(alloc, "trace", TRACE_HELP))?;
-    let text = trace.arg(text_arg(alloc))?;
+    let in_turn = trace.arg(flag_arg(alloc, "in-turn", IN_TURN_HELP))?;
+    let stats = in_turn.arg(flag_arg(alloc, "stats", STATS_HELP))?;
+    let picture = stats.arg(flag_arg(alloc, "picture", PICTURE_HELP))?;
+    let text = picture.arg(text_arg(alloc))?;
     let inputs = text.arg(inputs_arg(alloc))?;
     let whole = inputs.arg(input_arg(alloc))?;
     Ok(whole)
 }
 
-/// A command that is given a history.
-fn replay_command<'a>(
-    alloc: Global,
-    name: &'a str,
-    help: &CommandHelp<'a>,
-) -> Result<Command<'a>, AllocError>
-    ensures app { IfOk result (λ c. app_of c ≡ replay_line name.entry.now) }
+fn replay_command<'a>(alloc: Global) -> Result<Command<'a>, AllocError>
+    ensures app { IfOk result (λ c. app_of c ≡ replay_line) }
     ensures local { IfOk result (λ c. (out-Command c).has_globals ≡ false) }
 {
-    let bare = plain_command(alloc, name, help);
+    let bare = plain_command(alloc, "replay", &REPLAY);
+    let engines = bare.arg(option_arg(alloc, "engines", ENGINES_HELP))?;
+    let servers = engines.arg(option_arg(alloc, "servers", SERVERS_HELP))?;
+    let workers = servers.arg(option_arg(alloc, "workers", WORKERS_HELP))?;
+    let stats = workers.arg(flag_arg(alloc, "stats", STATS_HELP))?;
+    let text = stats.arg(text_arg(alloc))?;
+    let inputs = text.arg(inputs_arg(alloc))?;
+    let whole = inputs.arg(input_arg(alloc))?;
+    Ok(whole)
+}
+
+fn picture_command<'a>(alloc: Global) -> Result<Command<'a>, AllocError>
+    ensures app { IfOk result (λ c. app_of c ≡ picture_line) }
+    ensures local { IfOk result (λ c. (out-Command c).has_globals ≡ false) }
+{
+    let bare = plain_command(alloc, "picture", &PICTURE);
     let engines = bare.arg(option_arg(alloc, "engines", ENGINES_HELP))?;
     let servers = engines.arg(option_arg(alloc, "servers", SERVERS_HELP))?;
     let workers = servers.arg(option_arg(alloc, "workers", WORKERS_HELP))?;
@@ -331,7 +356,7 @@ fn bare_command<'a>(alloc: Global) -> Result<Command<'a>, AllocError>
     Ok(named)
 }
 
-fn command<'a>(alloc: Global) -> Result<Command<'a>, AllocError>
+pub(crate) fn command<'a>(alloc: Global) -> Result<Command<'a>, AllocError>
     ensures { IfOk result (λ c. app_of c ≡ command_line) }
 {
     let bare = bare_command(alloc)?;
@@ -342,16 +367,16 @@ fn command<'a>(alloc: Global) -> Result<Command<'a>, AllocError>
     let three = both.subcommand(checking)?;
     let running = run_command(alloc)?;
     let four = three.subcommand(running)?;
-    let replaying = replay_command(alloc, "replay", &REPLAY)?;
+    let replaying = replay_command(alloc)?;
     let five = four.subcommand(replaying)?;
-    let drawing = replay_command(alloc, "picture", &PICTURE)?;
+    let drawing = picture_command(alloc)?;
     let six = five.subcommand(drawing)?;
     let explaining = explain_command(alloc)?;
     let whole = six.subcommand(explaining)?;
     Ok(whole)
 }
 
-fn reason_of(alloc: Global, error: &Error) -> NoOrder
+pub(crate) fn reason_of(alloc: Global, error: &Error) -> NoOrder
     ensures { IsReason (kind_of error.now) result }
 {
     match error.kind() {
@@ -365,7 +390,12 @@ fn reason_of(alloc: Global, error: &Error) -> NoOrder
 }
 
 /// The number from 1 to `most` that an option has, or `default` where it isn't given.
-fn number_given(matches: &ArgMatches<'_>, name: &str, most: u64, default: u64) -> Option<u64>
+pub(crate) fn number_given(
+    matches: &ArgMatches<'_>,
+    name: &str,
+    most: u64,
+    default: u64,
+) -> Option<u64>
     requires { IsInRange 1 most default }
     ensures number { result
         ≡ number_of (record { name = name.now; most = most; default = default }) (rows_of (found_of matches.now)) }
@@ -398,7 +428,7 @@ fn limit_given(matches: &ArgMatches<'_>) -> Option<EventLimit>
 }
 
 /// Whether a flag is given. `get_flag` promises nothing where the text found is neither `true` nor `false`.
-fn flag_given(matches: &ArgMatches<'_>, name: &str) -> bool
+pub(crate) fn flag_given(matches: &ArgMatches<'_>, name: &str) -> bool
     ensures { result ≡ is_given name.now (rows_of (found_of matches.now)) }
 {
     matches.get_one(name).unwrap_or(false)
@@ -424,6 +454,33 @@ fn places_given(matches: &ArgMatches<'_>) -> Places
     } else {
         Places::Hidden
     }
+}
+
+/// What `replay` writes.
+fn answer_given(matches: &ArgMatches<'_>) -> Answer
+    ensures { result ≡ answer_told (rows_of (found_of matches.now)) }
+{
+    if flag_given(matches, "stats") {
+        Answer::Numbers
+    } else {
+        Answer::Report
+    }
+}
+
+/// What `run` writes; none where a picture isn't written alone.
+pub(crate) fn run_answer_given(matches: &ArgMatches<'_>) -> Option<Answer>
+    ensures { MatchOption result
+        (picture_faults (rows_of (found_of matches.now)) ≡ ArgumentConflict ∷ [])
+        (λ answer. (picture_faults (rows_of (found_of matches.now)) ≡ [])
+        × (answer ≡ run_answer_told (rows_of (found_of matches.now)))) }
+{
+    if !flag_given(matches, "picture") {
+        return Some(answer_given(matches));
+    }
+    if flag_given(matches, "trace") || flag_given(matches, "stats") {
+        return None;
+    }
+    Some(Answer::Picture)
 }
 
 /// The inputs that words spell, one each; or `NoOrder::InputWord`, or want of memory.
@@ -492,10 +549,15 @@ fn run_order(alloc: Global, matches: &ArgMatches<'_>) -> Result<Order, NoOrder>
     let Some(limit) = limit_given(matches) else {
         return Err(NoOrder::Refused);
     };
+    let Some(answer) = run_answer_given(matches) else {
+        return Err(NoOrder::Refused);
+    };
     let options = RunOptions {
+        answer,
         layout,
         limit,
         trace: flag_given(matches, "trace"),
+        in_turn: flag_given(matches, "in-turn"),
     };
     match inputs_given(alloc, matches)? {
         Some(inputs) => Ok(Order::Program(
@@ -559,7 +621,7 @@ fn verified_order(source: Source, order: VerifiedOrder) -> Order
     Order::Program(source, ProgramOrder::Verified(order))
 }
 
-fn order_of(alloc: Global, matches: &ArgMatches<'_>) -> Result<Order, NoOrder>
+pub(crate) fn order_of(alloc: Global, matches: &ArgMatches<'_>) -> Result<Order, NoOrder>
     ensures taken { IfOk result (λ order. (faults_behind (subcommand_rows_of matches.now) ≡ [])
         × IsAsked (asked_of (subcommand_rows_of matches.now)) order) }
     ensures refused { IfErr result
@@ -567,7 +629,7 @@ fn order_of(alloc: Global, matches: &ArgMatches<'_>) -> Result<Order, NoOrder>
 {
     match matches.subcommand() {
         Some(("run", given)) => run_order(alloc, given),
-        Some(("replay", given)) => replay_order(alloc, Answer::Report, given),
+        Some(("replay", given)) => replay_order(alloc, answer_given(given), given),
         Some(("picture", given)) => replay_order(alloc, Answer::Picture, given),
         Some(("asm", _)) => Ok(Order::Assemble),
         Some(("disasm", given)) => Ok(Order::Program(

@@ -38,8 +38,9 @@ refused, as `at line 17: STORE d0 v0`, and why: the word, what was expected and 
 holds and what was asked.
 Where it is accepted, a line for each procedure tells how many instructions a task of it does at most, and a last
 line how many engines and workers its targets need.
-With --places the program is listed before these lines as `tw disasm --places` lists it, and behind each instruction
-stands what the right registers hold there, as `d0 write int`; before a refusal, up to the refused place.
+With --places the program is listed before these lines as `tw disasm --places` lists it, or where it is read as text by the
+text's own lines, and behind each instruction stands what the right registers hold there, as `d0 write int`; before a refusal, up
+to the refused place.
 Exit status: 0 accepted, 1 refused, 2 command line refused, 5 memory ran out, 7 a read or write failed.",
 };
 
@@ -48,19 +49,24 @@ pub(crate) const RUN: CommandHelp<'static> = CommandHelp {
     whole: "The program is read from standard input as hex text: two digits a byte; spaces, tabs and line ends are skipped.
 With --text it is read as assembly text, as `tw asm` reads it; behind a refusal then stand the line of the text that is
 refused, as `at line 17: STORE d0 v0`, and why: the word, what was expected and what stood there, or the register, what it
-holds and what was asked.
+holds and what was asked; or how many inputs are asked, or which one isn't what its parameter asks. Behind a circle of rules
+that wait for one another stand the lines that made them.
 Its inputs are the words behind the command, one word each, in the order of main's parameters. Examples: int:-7,
 text:abc, ints:1=7,5=-3, texts:1=\"abc\",2=\"\", tints:\"a\"=1 and ttexts:\"a\"=\"b\"; the subscripts of a container rise, and it
 may have no member.
 Between quotes \\\", \\\\, \\n and \\x with two hex digits are read.
 With --inputs they stand in what is read: behind the program a line `inputs`, then the same words, one a line, up to a
 line `end` or the end. A word is all of its line; empty lines are skipped. No input is a word behind the command then.
-Options stand before, behind or between the inputs. --trace, --text and --inputs take no value; the others take a number in
-decimal digits.
+Options stand before, behind or between the inputs. --trace, --in-turn, --stats, --picture, --text and --inputs take no
+value; the others take a number in decimal digits.
 The report has a line for each output, with a line for each member behind a container's, and then how the run ended.
 With --trace the history stands before the report: a line `events`, a line for each event, in their order, and a line
 `end`. The program isn't written: its hex text, a line end and then all of this can be piped into `tw replay`, which is
 given the same inputs and as many engines, servers and workers.
+Each engine, server and worker is a thread. With --in-turn there is one thread, in which they have their turns one after the
+other, in this order, again and again: the same command makes the same history each time.
+With --stats the numbers of the events stand behind the report, as `tw replay --stats` writes them. With --picture their SVG
+picture, as `tw picture` draws it, stands in place of the report; neither --trace nor --stats is taken then.
 Exit status: 0 quiet, 1 refused, 2 command line or input word refused, 3 stuck, 4 event limit, 5 memory ran out,
 7 a read or write failed.",
 };
@@ -74,6 +80,10 @@ looked at. A history is what `tw run --trace` writes, or any other: take w0, loc
 The program isn't verified first. Its inputs are words behind the command, as those of `tw run`, or with --inputs lines
 behind the program, as there, that stand before the line `events`.
 The report ends with a line that tells how the run ended, or with `running`.
+With --stats the numbers of the events stand behind it: a line `numbers`, and then how many events there are, and how many of
+each kind; of each procedure its tasks, their instructions, the most of one task, and its budget where the program is one
+that is accepted; of each actor its events; and how many steps there are, and how many in the longest chain of events that
+wait for one another.
 Exit status: 0 quiet or still running, 1 refused or an event that isn't enabled, 2 command line or input word refused,
 3 stuck, 5 memory ran out, 6 trap, 7 a read or write failed.",
 };
@@ -108,11 +118,19 @@ pub(crate) const LIMIT_HELP: &str = "The most events: 1 to 1000000 (default: 100
 pub(crate) const TRACE_HELP: &str =
     "Write the history before the report: a line `events`, a line for each event, a line `end`";
 
+pub(crate) const IN_TURN_HELP: &str =
+    "Run in one thread, the actors in turn: the same history each time";
+
 pub(crate) const INPUT_HELP: &str =
     "An input: int:, text:, ints:, texts:, tints: or ttexts:, and its value";
 
 pub(crate) const INPUTS_HELP: &str =
     "Read the inputs: they stand behind the program and a line `inputs`, one a line";
+
+pub(crate) const STATS_HELP: &str =
+    "Write the numbers of the events behind the report: by kind, procedure and actor, and the longest chain";
+
+pub(crate) const PICTURE_HELP: &str = "Write the SVG picture of the events in place of the report";
 
 pub(crate) const TEXT_HELP: &str = "Read the program as assembly text, and not as hex text";
 

@@ -4,7 +4,7 @@ ghost use Rattle.std.specs.Prelude.{◌≡◌, ℕ, true, false, List, [], ◌�
 ghost use Rattle.clap.specs.declared.error.ErrorKind.TheVariants.{ArgumentConflict, DisplayHelp, DisplayVersion, InvalidSubcommand};
 ghost use Rattle.clap.specs.declared.error.ErrorKind.TheVariants.{InvalidValue, MissingRequiredArgument, TooManyValues, UnknownArgument, ValueValidation};
 ghost use Rattle.tw_command.specs.CommandLine.{Assembles, Checks, Disassembles, Explains, Replays, Runs, asked_by_words, word_faults};
-ghost use Rattle.tw_command.specs.declared.command.Answer.TheVariants.{Picture, Report};
+ghost use Rattle.tw_command.specs.declared.command.Answer.TheVariants.{Numbers, Picture, Report};
 ghost use Rattle.tw_command.specs.declared.command.Places.TheVariants.{Hidden, Shown};
 ghost use Rattle.tw_command.specs.declared.command.Source.TheVariants.{Assembly, Hex};
 ghost use Rattle.tw_command.specs.Options.{actors};
@@ -16,28 +16,35 @@ pub fn commands_are_taken()
     ensures disasm { (word_faults (codes "disasm" ∷ []) ≡ []) × (asked_by_words (codes "disasm" ∷ []) ≡ Disassembles Hex Hidden) }
     ensures check { (word_faults (codes "check" ∷ []) ≡ []) × (asked_by_words (codes "check" ∷ []) ≡ Checks Hex Hidden) }
     ensures run { (word_faults (codes "run" ∷ []) ≡ [])
-        × (asked_by_words (codes "run" ∷ []) ≡ Runs Hex (actors 1 1 1) 10000 false (Some [])) }
+        × (asked_by_words (codes "run" ∷ []) ≡ Runs Hex Report (actors 1 1 1) 10000 false false (Some [])) }
     ensures inputs { (word_faults (codes "run" ∷ codes "int:7" ∷ codes "text:a" ∷ []) ≡ [])
         × (asked_by_words (codes "run" ∷ codes "int:7" ∷ codes "text:a" ∷ [])
-        ≡ Runs Hex (actors 1 1 1) 10000 false (Some (codes "int:7" ∷ codes "text:a" ∷ []))) }
+        ≡ Runs Hex Report (actors 1 1 1) 10000 false false (Some (codes "int:7" ∷ codes "text:a" ∷ []))) }
     ensures first { (rest : List ℕ) → (word_faults (codes "run" ∷ (105 ∷ rest) ∷ []) ≡ [])
-        × (asked_by_words (codes "run" ∷ (105 ∷ rest) ∷ []) ≡ Runs Hex (actors 1 1 1) 10000 false (Some ((105 ∷ rest) ∷ []))) }
+        × (asked_by_words (codes "run" ∷ (105 ∷ rest) ∷ []) ≡ Runs Hex Report (actors 1 1 1) 10000 false false (Some ((105 ∷ rest) ∷ []))) }
     ensures before { (word_faults (codes "run" ∷ codes "--workers" ∷ codes "16" ∷ codes "int:7" ∷ []) ≡ [])
         × (asked_by_words (codes "run" ∷ codes "--workers" ∷ codes "16" ∷ codes "int:7" ∷ [])
-        ≡ Runs Hex (actors 1 1 16) 10000 false (Some (codes "int:7" ∷ []))) }
+        ≡ Runs Hex Report (actors 1 1 16) 10000 false false (Some (codes "int:7" ∷ []))) }
     ensures between { (word_faults (codes "run" ∷ codes "int:7" ∷ codes "--servers=3" ∷ codes "int:8" ∷ []) ≡ [])
         × (asked_by_words (codes "run" ∷ codes "int:7" ∷ codes "--servers=3" ∷ codes "int:8" ∷ [])
-        ≡ Runs Hex (actors 1 3 1) 10000 false (Some (codes "int:7" ∷ codes "int:8" ∷ []))) }
+        ≡ Runs Hex Report (actors 1 3 1) 10000 false false (Some (codes "int:7" ∷ codes "int:8" ∷ []))) }
     ensures behind { (word_faults (codes "run" ∷ codes "int:7" ∷ codes "--limit" ∷ codes "9" ∷ codes "--engines=2" ∷ [])
         ≡ [])
         × (asked_by_words (codes "run" ∷ codes "int:7" ∷ codes "--limit" ∷ codes "9" ∷ codes "--engines=2" ∷ [])
-        ≡ Runs Hex (actors 2 1 1) 9 false (Some (codes "int:7" ∷ []))) }
+        ≡ Runs Hex Report (actors 2 1 1) 9 false false (Some (codes "int:7" ∷ []))) }
     ensures trace { (word_faults (codes "run" ∷ codes "--trace" ∷ codes "int:7" ∷ []) ≡ [])
         × (asked_by_words (codes "run" ∷ codes "--trace" ∷ codes "int:7" ∷ [])
-        ≡ Runs Hex (actors 1 1 1) 10000 true (Some (codes "int:7" ∷ []))) }
+        ≡ Runs Hex Report (actors 1 1 1) 10000 true false (Some (codes "int:7" ∷ []))) }
+    ensures in_turn { (word_faults (codes "run" ∷ codes "--in-turn" ∷ codes "int:7" ∷ []) ≡ [])
+        × (asked_by_words (codes "run" ∷ codes "--in-turn" ∷ codes "int:7" ∷ [])
+        ≡ Runs Hex Report (actors 1 1 1) 10000 false true (Some (codes "int:7" ∷ []))) }
+    ensures run_stats { (word_faults (codes "run" ∷ codes "--stats" ∷ codes "--trace" ∷ []) ≡ [])
+        × (asked_by_words (codes "run" ∷ codes "--stats" ∷ codes "--trace" ∷ []) ≡ Runs Hex Numbers (actors 1 1 1) 10000 true false (Some [])) }
+    ensures run_picture { (word_faults (codes "run" ∷ codes "--picture" ∷ codes "--in-turn" ∷ []) ≡ [])
+        × (asked_by_words (codes "run" ∷ codes "--picture" ∷ codes "--in-turn" ∷ []) ≡ Runs Hex Picture (actors 1 1 1) 10000 false true (Some [])) }
     ensures last { (word_faults (codes "run" ∷ codes "int:7" ∷ codes "--limit" ∷ codes "100" ∷ codes "--trace" ∷ []) ≡ [])
         × (asked_by_words (codes "run" ∷ codes "int:7" ∷ codes "--limit" ∷ codes "100" ∷ codes "--trace" ∷ [])
-        ≡ Runs Hex (actors 1 1 1) 100 true (Some (codes "int:7" ∷ []))) }
+        ≡ Runs Hex Report (actors 1 1 1) 100 true false (Some (codes "int:7" ∷ []))) }
     ensures replay { (word_faults (codes "replay" ∷ codes "--workers" ∷ codes "2" ∷ codes "int:7" ∷ []) ≡ [])
         × (asked_by_words (codes "replay" ∷ codes "--workers" ∷ codes "2" ∷ codes "int:7" ∷ [])
         ≡ Replays Hex Report (actors 1 1 2) (Some (codes "int:7" ∷ []))) }
@@ -52,11 +59,13 @@ pub fn commands_are_taken()
         × (asked_by_words (codes "disasm" ∷ codes "--places" ∷ []) ≡ Disassembles Hex Shown) }
     ensures run_text { (word_faults (codes "run" ∷ codes "int:7" ∷ codes "--text" ∷ []) ≡ [])
         × (asked_by_words (codes "run" ∷ codes "int:7" ∷ codes "--text" ∷ [])
-        ≡ Runs Assembly (actors 1 1 1) 10000 false (Some (codes "int:7" ∷ []))) }
+        ≡ Runs Assembly Report (actors 1 1 1) 10000 false false (Some (codes "int:7" ∷ []))) }
     ensures replay_text { (word_faults (codes "replay" ∷ codes "--text" ∷ []) ≡ [])
         × (asked_by_words (codes "replay" ∷ codes "--text" ∷ []) ≡ Replays Assembly Report (actors 1 1 1) (Some [])) }
     ensures run_inputs { (word_faults (codes "run" ∷ codes "--inputs" ∷ codes "--text" ∷ []) ≡ [])
-        × (asked_by_words (codes "run" ∷ codes "--inputs" ∷ codes "--text" ∷ []) ≡ Runs Assembly (actors 1 1 1) 10000 false None) }
+        × (asked_by_words (codes "run" ∷ codes "--inputs" ∷ codes "--text" ∷ []) ≡ Runs Assembly Report (actors 1 1 1) 10000 false false None) }
+    ensures replay_stats { (word_faults (codes "replay" ∷ codes "--stats" ∷ []) ≡ [])
+        × (asked_by_words (codes "replay" ∷ codes "--stats" ∷ []) ≡ Replays Hex Numbers (actors 1 1 1) (Some [])) }
     ensures replay_inputs { (word_faults (codes "replay" ∷ codes "--inputs" ∷ []) ≡ [])
         × (asked_by_words (codes "replay" ∷ codes "--inputs" ∷ []) ≡ Replays Hex Report (actors 1 1 1) None) }
     ensures explain { (word_faults (codes "explain" ∷ codes "V04" ∷ []) ≡ [])
@@ -80,6 +89,9 @@ pub fn strangers_are_refused()
     ensures past { word_faults (codes "run" ∷ codes "--workers" ∷ codes "17" ∷ codes "7" ∷ []) ≡ ValueValidation ∷ [] }
     ensures limit { word_faults (codes "replay" ∷ codes "--limit" ∷ codes "9" ∷ []) ≡ UnknownArgument ∷ [] }
     ensures trace { word_faults (codes "replay" ∷ codes "--trace" ∷ []) ≡ UnknownArgument ∷ [] }
+    ensures picture_stats { word_faults (codes "picture" ∷ codes "--stats" ∷ []) ≡ UnknownArgument ∷ [] }
+    ensures traced_picture { word_faults (codes "run" ∷ codes "--picture" ∷ codes "--trace" ∷ []) ≡ ArgumentConflict ∷ [] }
+    ensures counted_picture { word_faults (codes "run" ∷ codes "--stats" ∷ codes "--picture" ∷ []) ≡ ArgumentConflict ∷ [] }
     ensures places { word_faults (codes "run" ∷ codes "--places" ∷ []) ≡ UnknownArgument ∷ [] }
     ensures traces { word_faults (codes "run" ∷ codes "--trace" ∷ codes "--trace" ∷ []) ≡ ArgumentConflict ∷ [] }
     ensures value { word_faults (codes "run" ∷ codes "--trace=true" ∷ []) ≡ TooManyValues ∷ [] }

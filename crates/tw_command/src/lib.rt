@@ -6,10 +6,12 @@
 mod command;
 mod explanations;
 mod help;
+mod in_turn;
 mod input_words;
 mod laws;
 mod limit;
 mod lists;
+mod wrong_words;
 
 pub use command::{
     Answer, InputsOrder, NoOrder, Order, Places, ProgramOrder, ReplayOptions, ReplayOrder,
@@ -18,3 +20,4 @@ pub use command::{
 pub use input_words::input_of;
 pub use laws::{commands_are_taken, strangers_are_refused, words_spell_one_input};
 pub use limit::EventLimit;
+pub use wrong_words::complaint;

@@ -72,7 +72,7 @@ not_refused : (asked : Asked) (text : List ℕ) (number : ℕ) → IsExplained a
 not_refused Assembles text number e r = e
 not_refused (Disassembles source listed) text number e r = e
 not_refused (Checks source listed) text number e r = e
-not_refused (Runs source layout most traced words) text number e r = e
+not_refused (Runs source answer layout most traced turns words) text number e r = e
 not_refused (Replays source answer layout words) text number e r = e
 not_refused (Explains explained) text number e r = r
 

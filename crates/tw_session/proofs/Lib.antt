@@ -1,3 +1,4 @@
+pub mod Leading
 pub mod Answering
 pub mod InputLines
 pub mod Ran
@@ -9,3 +10,9 @@ pub mod Checks
 pub mod Listings
 pub mod Replies
 pub mod Playing
+pub mod Counting
+pub mod RunEvents
+pub mod Making
+pub mod Behinds
+pub mod Unfits
+pub mod LineListings

@@ -1,5 +1,5 @@
 -- What closes a run is what the definition of its end says.
-use Rattle.std.proofs.Common.{◌≡◌, ◌≢◌, ◌≤◌, ◌++◌, ◌==◌, ◌∙◌, Bool, true, false, ℕ, refl, sym, ap, subst, inl, List, length, Option, Some, None}
+use Rattle.std.proofs.Common.{◌≡◌, ◌≢◌, ◌≤◌, ◌==◌, ◌∙◌, Bool, true, false, refl, sym, ap, subst, List, length, Option, Some, None}
 use Rattle.std.proofs.lemmas.Bool.{eqb-true}
 use Rattle.std.specs.Prelude.{if◌then◌else◌}
 use Rattle.std.specs.Option.{option_map, option_or}
@@ -13,17 +13,18 @@ use Rattle.tw_code.specs.machine.State.{State}
 use Rattle.tw_verify.specs.Typed.{TypedProgram}
 use Rattle.tw_pool.specs.declared.answer.Closing.{Closing}
 use Rattle.tw_pool.specs.declared.answer.Closing.TheVariants.{Stopped, Limit}
-use Rattle.tw_pool.specs.Ends.{FinalView}
+use Rattle.tw_code.specs.declared.procedure.Procedure.{Procedure}
+use Rattle.tw_pool.specs.Ends.{FinalView, IsShut}
 use Rattle.tw_pool.specs.History.{HistoryView}
 use Rattle.tw_pool.specs.Turns.{closing_of}
-use Rattle.tw_host.specs.Ends.{IsEnded}
-use Rattle.tw_host.specs.Run.{Run}
-use Rattle.tw_host.specs.Seats.{Told}
+use Rattle.tw_pool.specs.Openings.{opened}
+use Rattle.tw_pool.specs.PoolView.{PoolView}
+use Rattle.tw_host.specs.Run.{Run, run_of}
+use Rattle.tw_in_turn.specs.InTurn.{ComesTo, IsOver}
 use Rattle.tw_command.specs.declared.command.RunOrder.{RunOrder}
-use Rattle.tw_report.specs.Ends.{IsEndReport}
 use Rattle.tw_report.specs.Report.{end_report}
-use Rattle.tw_session.specs.Reply.{reply}
-use Rattle.tw_session.specs.Run.{EndsSo, RepliesByRun, close_of, limit_told, run_as, trace_text}
+use Rattle.tw_session.specs.Counted.{IsRunOver}
+use Rattle.tw_session.specs.Run.{EndsSo, IsOrdered, run_as}
 
 -- by how the run has ended by itself, whether it was stopped, and whether there is room for no event
 abbrev closing_by : Option Ending → (stopped full : Bool) → Option Closing
@@ -43,28 +44,31 @@ ends_so order history s None false false closing is at told other = absurd (none
     none : None ≡ Some closing → ⊥
     none e = cc
 
--- of a run whose seats were all given back, and which wasn't stopped
-pub ran : (source : Option (List ℕ)) (verified : TypedProgram) (order : RunOrder) (seats : List Told) (by_seat : List (List Event)) (final : FinalView) (history : HistoryView) (closing : Closing) (text : List ℕ)
-    → IsEnded (run_as verified order) seats by_seat final history → final.closing ≡ Some closing → closing ≢ Stopped → IsEndReport final text
-    → RepliesByRun source verified.program order (reply (trace_text order.trace history.events ++ (text ++ limit_told source order closing)) (close_of closing))
-ran source verified order seats by_seat final history closing text e over other is_report =
-    let p = e.pool in
-    let shut = e.shut in
+-- of a run that wasn't stopped
+pub over : (verified : TypedProgram) (order : RunOrder) (p : PoolView) (final : FinalView) (history : HistoryView) (closing : Closing)
+    → run_of p ≡ run_as verified order → length p.history ≤ order.limit → IsShut p final history → IsOrdered order.in_turn verified.program order p.history → final.closing ≡ Some closing → closing ≢ Stopped
+    → IsRunOver verified.program order final history.events closing
+over verified order p final history closing of_run few shut turns ended other =
     let s = shut.state in
     let here : EndsSo order history.events s closing =
-    ends_so order history.events s (ending s) p.stopped (length p.history == p.limit) closing refl (λ full. ap (λ (es : List Event). length es) shut.events ∙ (eqb-true (length p.history) p.limit full ∙ ap (λ (r : Run). r.limit) e.of_run)) (sym shut.closing ∙ over) other in
-    let told_so : text ≡ end_report verified.program s (Some closing) =
-    is_report p history shut ∙ ap (λ (r : Run). end_report r.program.program s final.closing) e.of_run ∙ ap (λ (o : Option Closing). end_report verified.program s o) over in
+    ends_so order history.events s (ending s) p.stopped (length p.history == p.limit) closing refl (λ full. ap (λ (es : List Event). length es) shut.events ∙ (eqb-true (length p.history) p.limit full ∙ ap (λ (r : Run). r.limit) of_run)) (sym shut.closing ∙ ended) other in
     let leads : reached verified.program order.inputs order.layout p.history ≡ Went s =
-    subst (λ (r : Run). reached r.program.program r.inputs r.layout p.history ≡ Went s) e.of_run shut.has_state in
-    inl (
-      history.events,
-      s,
-      closing,
-      record {
-        few = subst (λ (es : List Event). length es ≤ order.limit) (sym shut.events) e.within;
+    subst (λ (r : Run). reached r.program.program r.inputs r.layout p.history ≡ Went s) of_run shut.has_state in
+    record {
+      state = s;
+      is = record {
+        few = subst (λ (es : List Event). length es ≤ order.limit) (sym shut.events) few;
         reaches = subst (λ (es : List Event). reached verified.program order.inputs order.layout es ≡ Went s) (sym shut.events) leads;
         ends = here;
-      },
-      ap (λ (t : List ℕ). reply (trace_text order.trace history.events ++ (t ++ limit_told source order closing)) (close_of closing)) told_so,
-    )
+        turns = subst (λ (es : List Event). IsOrdered order.in_turn verified.program order es) (sym shut.events) turns;
+      };
+      reports = λ told is_report. is_report p history shut ∙ ap (λ (r : Run). end_report r.program.program s final.closing) of_run ∙ ap (λ (o : Option Closing). end_report verified.program s o) ended;
+    }
+
+-- in threads nobody says more
+pub in_threads : (program : List Procedure) (order : RunOrder) (history : List Event) → order.in_turn ≡ false → IsOrdered order.in_turn program order history
+in_threads program order history threads = subst (λ b. IsOrdered b program order history) (sym threads) tt
+
+-- in turn, the history is what the actors make
+pub in_turn : (verified : TypedProgram) (order : RunOrder) (p : PoolView) → order.in_turn ≡ true → ComesTo (opened verified order.inputs order.layout order.limit) IsOver p → IsOrdered order.in_turn verified.program order p.history
+in_turn verified order p turns comes = subst (λ b. IsOrdered b verified.program order p.history) (sym turns) (record { verified = verified; is = refl; last = p; comes = comes; made = refl })

@@ -1,13 +1,16 @@
 //! What `run` answers.
 
-ghost use Rattle.std.specs.Prelude.{◌≡◌, ◌≢◌, ◌++◌, IfOk, IfSome, List, OnOk, Some, codes, decimal};
+ghost use Rattle.std.specs.Prelude.{◌≡◌, ◌≢◌, ◌++◌, ℕ, IfOk, IfSome, List, None, OnOk, Some, codes, decimal, false};
 ghost use Rattle.tw_host.specs.Ends.{Closes};
 ghost use Rattle.tw_host.specs.Seats.{Told};
+ghost use Rattle.tw_in_turn.specs.InTurn.{HasEnded};
+ghost use Rattle.tw_code.specs.machine.Inputs.{AreInputsOf};
 ghost use Rattle.tw_session.specs.Reply.{reply};
 ghost use Rattle.tw_session.specs.Run.{RepliesByOpening, RepliesByRun, close_of, limit_told, run_as, threads_refused, trace_text};
-ghost use Rattle.tw_session.specs.Source.{text_of};
+ghost use Rattle.tw_session.specs.Source.{MayBeSource, text_of};
 
-use crate::reply::{Reply, fixed_reply, opening_reply};
+use crate::ended::ended_reply;
+use crate::reply::{Reply, fixed_reply, inputs_refused_reply};
 use crate::source::SourceText;
 use crate::status::Close;
 use std::alloc::{AllocError, Global};
@@ -17,11 +20,12 @@ use std::time::Clock;
 use tw_command::RunOrder;
 use tw_host::Closed;
 use tw_pool::{Closing, Final, History, OpenRefusal};
-use tw_report::{put, put_event_line, put_numbered, report};
+use tw_report::{put, put_event_line, put_numbered};
 use tw_verify::Verified;
 use tw_workers::{NoGate, run};
 
-fn close_of(closing: Closing) -> Close
+/// How a session ends whose run has ended so.
+pub fn close_of(closing: Closing) -> Close
     ensures { result ≡ close_of closing }
 {
     match closing {
@@ -33,9 +37,10 @@ fn close_of(closing: Closing) -> Close
 }
 
 /// Why a run is over that wasn't stopped.
-fn end_of(closing: Option<Closing>) -> Option<Closing>
+pub fn end_of(closing: Option<Closing>) -> Option<Closing>
     ensures same { IfSome result (λ c. closing ≡ Some c) }
     ensures unstopped { IfSome result (λ c. c ≢ Closing.Stopped) }
+    ensures none { result ≡ None → HasEnded closing → ⊥ }
 {
     match closing {
         Some(Closing::Quiet) => Some(Closing::Quiet),
@@ -46,7 +51,7 @@ fn end_of(closing: Option<Closing>) -> Option<Closing>
 }
 
 /// Adds the lines of the events, where they are asked for.
-fn put_trace(
+pub fn put_trace(
     alloc: Global,
     out: &mut Vec<u8>,
     asked: bool,
@@ -72,7 +77,7 @@ fn put_limit_line(alloc: Global, out: &mut Vec<u8>, events: usize) -> Result<(),
 }
 
 /// Adds what stands behind `limit`, where the program was read from a text.
-fn put_limit(
+pub fn put_limit(
     alloc: Global,
     out: &mut Vec<u8>,
     source: &Option<SourceText<'_>>,
@@ -102,11 +107,14 @@ fn closed_reply(
     alloc: Global,
     source: &Option<SourceText<'_>>,
     order: &RunOrder,
-    verified: &Verified,
+    verified: Verified,
     closed: Closed,
 ) -> Result<Reply, AllocError>
-    requires { (seats : List Told) × Closes (run_as verified.now order.now) seats closed }
-    ensures { IfOk result (λ r. RepliesByRun (text_of source.now) verified.now.program order.now (reply r.text.items r.close)) }
+    requires closed { (seats : List Told) × Closes (run_as verified order.now) seats closed }
+    requires threads { order.now.in_turn ≡ false }
+    requires inputs { AreInputsOf verified.program order.now.inputs }
+    requires source { MayBeSource source.now verified.program }
+    ensures { IfOk result (λ r. RepliesByRun (text_of source.now) verified.program order.now (reply r.text.items r.close)) }
 {
     match closed {
         Closed::Ended {
@@ -116,15 +124,7 @@ fn closed_reply(
         } => match end_of(outcome.closing()) {
             None => threads_reply(alloc),
             Some(closing) => {
-                let mut text = Vec::new(alloc);
-                put_trace(alloc, &mut text, order.trace, &history)?;
-                let told = report(alloc, &outcome)?;
-                text.extend_from_slice(&told)?;
-                put_limit(alloc, &mut text, source, order, closing)?;
-                Ok(Reply {
-                    text,
-                    close: close_of(closing),
-                })
+                ended_reply(alloc, source, order, verified, &outcome, &history, closing)
             }
         },
         Closed::Differs { .. } => threads_reply(alloc),
@@ -137,15 +137,17 @@ pub fn run_of<H: Threads + Wait + Clock + Sync>(
     alloc: Global,
     source: &Option<SourceText<'_>>,
     order: &RunOrder,
-    verified: &Verified,
+    verified: Verified,
 ) -> Result<Reply, AllocError>
-    ensures { IfOk result (λ r. RepliesByOpening (text_of source.now) verified.now.program order.now (reply r.text.items r.close)) }
+    requires turns { order.now.in_turn ≡ false }
+    requires source { MayBeSource source.now verified.program }
+    ensures { IfOk result (λ r. RepliesByOpening (text_of source.now) verified.program order.now (reply r.text.items r.close)) }
 {
     let inputs = order.inputs.as_slice();
     match run(
         rt,
         alloc,
-        verified,
+        &verified,
         inputs,
         order.layout,
         order.limit.events(),
@@ -158,6 +160,12 @@ pub fn run_of<H: Threads + Wait + Clock + Sync>(
             closed_reply(alloc, source, order, verified, closed)
         }
         Err(OpenRefusal::NoMemory) => Err(AllocError),
-        Err(why) => opening_reply(alloc, why.number()),
+        Err(why) => inputs_refused_reply(
+            alloc,
+            source,
+            why.number(),
+            verified.program().procedures(),
+            inputs,
+        ),
     }
 }

@@ -1,7 +1,7 @@
 use Rattle.std.proofs.Common.{◌≡◌, ◌∙◌, ap, ap₂}
 use Rattle.std.specs.Prelude.{codes}
 use Rattle.clap.specs.Words.{App, app_of, with_subcommand}
-use Rattle.tw_command.specs.CommandLine.{bare_line, command_line, explain_line, plain_line, program_line, replay_line, run_line}
+use Rattle.tw_command.specs.CommandLine.{bare_line, command_line, explain_line, picture_line, plain_line, program_line, replay_line, run_line}
 use Rattle.tw_command.proofs.command.command.Goals as goal
 
 abbrev with_asm : App
@@ -15,8 +15,8 @@ returns c =
     let disasm : app_of c.in_ok-disassembling.disassembling ≡ program_line (codes "disasm") = c.in_ok-disassembling.ensures.app in
     let check : app_of c.in_ok-checking.checking ≡ program_line (codes "check") = c.in_ok-checking.ensures.app in
     let run : app_of c.in_ok-running.running ≡ run_line = c.in_ok-running.ensures.app in
-    let replay : app_of c.in_ok-replaying.replaying ≡ replay_line (codes "replay") = c.in_ok-replaying.ensures.app in
-    let picture : app_of c.in_ok-drawing.drawing ≡ replay_line (codes "picture") = c.in_ok-drawing.ensures.app in
+    let replay : app_of c.in_ok-replaying.replaying ≡ replay_line = c.in_ok-replaying.ensures.app in
+    let picture : app_of c.in_ok-drawing.drawing ≡ picture_line = c.in_ok-drawing.ensures.app in
     let explain : app_of c.in_ok-explaining.explaining ≡ explain_line = c.in_ok-explaining.ensures.app in
     let assembling : app_of c.in_ok-assembling.assembling ≡ with_asm = c.in_ok-assembling.ensures.shape c.plain_command.ensures.local ∙ ap₂ with_subcommand bare (ap (λ (a : App). a.top) asm) in
     let both = c.in_ok-both.ensures.shape c.in_ok-disassembling.ensures.local ∙ ap₂ with_subcommand assembling (ap (λ (a : App). a.top) disasm) in

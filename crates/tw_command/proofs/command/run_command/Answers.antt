@@ -12,6 +12,9 @@ returns-clause-app c =
     let workers = c.in_ok-workers.ensures.shape c.option_arg-3.ensures.local ∙ ap₂ with_rule servers c.option_arg-3.ensures.rule in
     let limit = c.in_ok-limit.ensures.shape c.option_arg-4.ensures.local ∙ ap₂ with_rule workers c.option_arg-4.ensures.rule in
     let trace = c.in_ok-trace.ensures.shape c.flag_arg.ensures.local ∙ ap₂ with_rule limit c.flag_arg.ensures.rule in
-    let text = c.in_ok-text.ensures.shape c.text_arg.ensures.local ∙ ap₂ with_rule trace c.text_arg.ensures.rule in
+    let in_turn = c.in_ok-in_turn.ensures.shape c.flag_arg-2.ensures.local ∙ ap₂ with_rule trace c.flag_arg-2.ensures.rule in
+    let stats = c.in_ok-stats.ensures.shape c.flag_arg-3.ensures.local ∙ ap₂ with_rule in_turn c.flag_arg-3.ensures.rule in
+    let picture = c.in_ok-picture.ensures.shape c.flag_arg-4.ensures.local ∙ ap₂ with_rule stats c.flag_arg-4.ensures.rule in
+    let text = c.in_ok-text.ensures.shape c.text_arg.ensures.local ∙ ap₂ with_rule picture c.text_arg.ensures.rule in
     let inputs = c.in_ok-inputs.ensures.shape c.inputs_arg.ensures.local ∙ ap₂ with_rule text c.inputs_arg.ensures.rule in
     c.in_ok-whole.ensures.shape c.input_arg.ensures.local ∙ ap₂ with_rule inputs c.input_arg.ensures.rule

@@ -4,7 +4,7 @@ use Rattle.std.specs.Str.Lines.{lines}
 use Rattle.tw_command.specs.CommandLine.{replay_with}
 use Rattle.tw_report.specs.History.{lines_in}
 use Rattle.tw_session.specs.Inputs.{RepliesByWords, before_inputs, behind_inputs, words_in}
-use Rattle.tw_session.specs.Program.{RepliesBySource}
+use Rattle.tw_session.specs.Program.{RepliesBySource, text_told}
 use Rattle.tw_session.specs.Replay.{RepliesByLines}
 use Rattle.tw_session.specs.Reply.{reply}
 use Rattle.tw_session.specs.declared.reply.Reply.{Reply}
@@ -18,7 +18,7 @@ returns-in-Ok c =
     (λ (r : Reply) h. inl (
       text.1,
       subst (λ (t : List ℕ). RepliesByWords (words_in (behind_inputs (lines t)))
-          (λ given. RepliesBySource source (before_inputs (lines t)) (RepliesByLines (replay_with c.args.options given) (lines_in c.args.history.now))) (reply r.text.items r.close)) text.0 h,
+          (λ given. RepliesBySource source (before_inputs (lines t)) (RepliesByLines (text_told source (before_inputs (lines t))) (replay_with c.args.options given) (lines_in c.args.history.now))) (reply r.text.items r.close)) text.0 h,
     )) c.inputs_reply.ensures
 
 pub returns-in-Err : goal.returns-in-Err

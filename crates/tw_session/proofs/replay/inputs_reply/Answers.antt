@@ -8,7 +8,7 @@ use Rattle.tw_command.specs.Order.{IsInputReason}
 use Rattle.tw_command.specs.declared.command.ReplayOrder.{ReplayOrder}
 use Rattle.tw_report.specs.History.{lines_in}
 use Rattle.tw_session.specs.Inputs.{before_inputs, behind_inputs, words_in}
-use Rattle.tw_session.specs.Program.{RepliesBySource}
+use Rattle.tw_session.specs.Program.{RepliesBySource, text_told}
 use Rattle.tw_session.specs.Replay.{RepliesByLines}
 use Rattle.tw_session.specs.Reply.{reply}
 use Rattle.tw_session.specs.declared.reply.Reply.{Reply}
@@ -24,8 +24,8 @@ returns-in-Ok c =
     let spelled = subst (λ (ws : List Text). AreSpelled c.in-Ok.inputs ws) words c.in-Ok.ensures.spelled in
     IfOk-weaker _ _ _
     (λ (r : Reply) h.
-    let ordered = subst (λ (order : ReplayOrder). RepliesBySource source c.deref-in-Ok.result.now (RepliesByLines order told) (reply r.text.items r.close)) c.with_inputs-order.ensures h in
-    let whole = subst (λ (p : List ℕ). RepliesBySource source p (RepliesByLines (replay_with c.args.options c.in-Ok.inputs) told) (reply r.text.items r.close)) program ordered in
+    let ordered = subst (λ (order : ReplayOrder). RepliesBySource source c.deref-in-Ok.result.now (RepliesByLines (text_told source c.deref-in-Ok.result.now) order told) (reply r.text.items r.close)) c.with_inputs-order.ensures h in
+    let whole = subst (λ (p : List ℕ). RepliesBySource source p (RepliesByLines (text_told source p) (replay_with c.args.options c.in-Ok.inputs) told) (reply r.text.items r.close)) program ordered in
     inl (c.in-Ok.inputs, spelled, whole)) c.source_reply.ensures
 
 pub returns : goal.returns

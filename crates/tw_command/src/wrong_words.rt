@@ -1,0 +1,79 @@
+//! What is wrong with a command line, in words for whoever wrote it.
+
+ghost use Rattle.std.specs.Prelude.{IfOk, map, string_bytes};
+ghost use Rattle.clap.specs.Words.{Kinds};
+ghost use Rattle.tw_command.specs.CommandLine.{Asked, word_faults};
+ghost use Rattle.tw_command.specs.Complaint.{HasComplaint};
+ghost use Rattle.tw_command.specs.Order.{HasReason};
+
+use crate::command::{
+    NoOrder, command, flag_given, number_given, order_of, reason_of, run_answer_given,
+};
+use clap::ArgMatches;
+use std::alloc::{AllocError, Global};
+
+/// Which option has no number in its range, if one hasn't.
+fn range_line(given: &ArgMatches<'_>) -> Option<&'static str> {
+    if number_given(given, "engines", 4, 1).is_none() {
+        Some("error: --engines takes a number from 1 to 4\n")
+    } else if number_given(given, "servers", 4, 1).is_none() {
+        Some("error: --servers takes a number from 1 to 4\n")
+    } else if number_given(given, "workers", 16, 1).is_none() {
+        Some("error: --workers takes a number from 1 to 16\n")
+    } else if number_given(given, "limit", 1_000_000, 10_000).is_none() {
+        Some("error: --limit takes a number from 1 to 1000000\n")
+    } else {
+        None
+    }
+}
+
+/// What is wrong besides behind a command that clap takes.
+fn other_line(given: &ArgMatches<'_>) -> &'static str {
+    if run_answer_given(given).is_none() {
+        "error: --picture stands without --trace and --stats\n"
+    } else if flag_given(given, "inputs") {
+        "error: with --inputs all inputs stand in what is read, and none is a word\n"
+    } else {
+        "error: there is no such number; it is one as A02, V04 or C5\n"
+    }
+}
+
+fn own_line(matches: &ArgMatches<'_>) -> &'static str {
+    match matches.subcommand() {
+        Some((_, given)) => range_line(given).unwrap_or(other_line(given)),
+        None => "error: there is no command\n",
+    }
+}
+
+/// The line, where the words give no order since they are refused.
+fn told_of(alloc: Global, no_order: NoOrder, line: &str) -> Result<Option<String>, AllocError>
+    ensures { (kinds : Kinds) (asked : Asked) → HasReason kinds asked no_order → IfOk result (HasComplaint kinds) }
+{
+    match no_order {
+        NoOrder::Refused => {
+            let text = format!(in alloc; "{line}")?;
+            Ok(Some(text))
+        }
+        NoOrder::NoMemory => Err(AllocError),
+        _ => Ok(None),
+    }
+}
+
+/// What is wrong with the program's words, without its own name, where they are refused: clap's own words, or which option has no
+/// number in its range, or what can't stand together. What they say, no clause tells.
+pub fn complaint(alloc: Global, words: &[String]) -> Result<Option<String>, AllocError>
+    ensures { IfOk result (HasComplaint (word_faults (map string_bytes words.now))) }
+{
+    match command(alloc)?.try_get_matches_from(words) {
+        Ok(matches) => match order_of(alloc, &matches) {
+            Ok(_order) => Ok(None),
+            Err(no_order) => told_of(alloc, no_order, own_line(&matches)),
+        },
+        Err(error) => {
+            let Ok(line) = error.to_string(alloc) else {
+                return Err(AllocError);
+            };
+            told_of(alloc, reason_of(alloc, &error), &line)
+        }
+    }
+}

@@ -1,0 +1,30 @@
+use Rattle.std.proofs.Common.{inl, map, string_bytes, subst, sym}
+use Rattle.clap.specs.Words.{Kinds}
+use Rattle.tw_command.specs.declared.command.Order.{Order}
+use Rattle.tw_session.specs.Reply.{reply}
+use Rattle.tw_session.specs.Session.{AnswersWords, MayReply}
+use Rattle.tw_session.specs.declared.reply.Reply.{Reply as MadeReply}
+use Rattle.std.proofs.lemmas.Result.{IfOk-weaker}
+use Rattle.tw_command.specs.CommandLine.{asked_by_words, word_faults}
+use Rattle.tw_command.proofs.Turned.{asked_in_turn, is_in_turn, reason_in_turn}
+use Rattle.tw_command.specs.InTurn.{IsInTurn, order_in_turn, turned}
+use Rattle.tw_session.proofs.in_turn.answer_in_turn.Goals as goal
+
+pub reply_in_turn-requires : goal.reply_in_turn-requires
+reply_in_turn-requires c = subst IsInTurn (sym c.in_turn.ensures) (is_in_turn c.in-Ok.order)
+
+pub returns-in-Ok : goal.returns-in-Ok
+returns-in-Ok c =
+    let words = map string_bytes c.args.words.now in
+    let asked = asked_by_words words in
+    let input = c.args.input.items in
+    IfOk-weaker _ _ _
+    (λ (r : MadeReply) h.
+    let answered = inl (order_in_turn c.in-Ok.order, asked_in_turn asked c.in-Ok.order c.in-Ok.ensures.taken.1, subst (λ (o : Order). MayReply o input (reply r.text.items r.close)) c.in_turn.ensures h) in
+    subst (λ (kinds : Kinds). AnswersWords kinds (turned asked) input (reply r.text.items r.close)) (sym c.in-Ok.ensures.taken.0) answered) c.reply_in_turn.ensures
+
+pub returns-in-Err : goal.returns-in-Err
+returns-in-Err c =
+    let words = map string_bytes c.args.words.now in
+    let asked = asked_by_words words in
+    c.unordered_reply.ensures (word_faults words) (turned asked) c.args.input.items (reason_in_turn (word_faults words) asked c.in-Err.no_order c.in-Err.ensures.refused)

@@ -1,0 +1,26 @@
+use Rattle.std.proofs.Common.{◌≡◌, ◌∙◌, ap, subst, sym}
+use Rattle.tw_host.specs.Run.{run_of}
+use Rattle.tw_in_turn.specs.InTurn.{HasEnded, IsLeft}
+use Rattle.tw_in_turn.specs.declared.run.Left.{Left}
+use Rattle.tw_pool.specs.Openings.{opened}
+use Rattle.tw_session.proofs.Ran.{in_turn, over}
+use Rattle.tw_session.proofs.in_turn.left_reply.Goals as goal
+
+pub ended_reply-requires : goal.ended_reply-requires
+ended_reply-requires c =
+    let verified = c.args.verified in
+    let order = c.args.order.now in
+    let is_over = subst (λ (x : Left). IsLeft (opened verified order.inputs order.layout order.limit) x) c.in-Over.is c.requires.left in
+    let p = is_over.0 in
+    let left = is_over.2 in
+    record {
+      inputs = c.requires.inputs;
+      source = c.requires.source;
+      over = over verified order p c.in-Over.outcome c.in-Over.history c.in-Some.closing (ap run_of left.of_first) left.within left.shut (in_turn verified order p c.requires.turns is_over.1) (sym c.closing.ensures ∙ c.in-Some.ensures.same) c.in-Some.ensures.unstopped;
+    }
+
+pub unreachable-requires : goal.unreachable-requires
+unreachable-requires c =
+    let order = c.args.order.now in
+    let over = subst (λ (x : Left). IsLeft (opened c.args.verified order.inputs order.layout order.limit) x) c.in-Over.is c.requires.left in
+    c.end_of.ensures.none c.in-None.is (subst HasEnded (sym c.closing.ensures) over.3)

@@ -1,0 +1,21 @@
+use Rattle.std.proofs.Common.{List, ℕ, subst}
+use Rattle.std.proofs.lemmas.Result.{IfOk-weaker}
+use Rattle.tw_command.specs.InTurn.{IsInTurn}
+use Rattle.tw_session.specs.Answered.{Comes}
+use Rattle.tw_session.specs.Program.{RepliesBySource, text_told}
+use Rattle.tw_session.specs.Reply.{reply}
+use Rattle.tw_session.specs.Session.{MayReply, RepliesByProgram}
+use Rattle.tw_session.specs.declared.order.Step.{Step}
+use Rattle.tw_session.specs.declared.reply.Reply.{Reply}
+use Rattle.tw_session.proofs.order.reply_in_turn.Goals as goal
+
+pub source_in_turn-requires : goal.source_in_turn-requires
+source_in_turn-requires c = let asks = subst (λ (s : Step). Comes (IsInTurn c.args.order) (MayReply c.args.order c.args.input.items) s) c.in-Asks.is c.in_ok-reply.ensures in asks.0 c.requires
+
+pub returns-in-Asks : goal.returns-in-Asks
+returns-in-Asks c =
+    let a = c.in-Asks.asking in
+    let asks = subst (λ (s : Step). Comes (IsInTurn c.args.order) (MayReply c.args.order c.args.input.items) s) c.in-Asks.is c.in_ok-reply.ensures in
+    IfOk-weaker _ _ _
+    (λ (r : Reply) h. asks.1 (reply r.text.items r.close)
+    (subst (λ (bytes : List ℕ). RepliesBySource a.source bytes (RepliesByProgram (text_told a.source bytes) a.order) (reply r.text.items r.close)) c.deref.ensures.value h)) c.source_in_turn.ensures

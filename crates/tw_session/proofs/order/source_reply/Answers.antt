@@ -1,0 +1,39 @@
+use Rattle.std.proofs.Common.{◌≡◌, List, ℕ, Option, inl, rules, subst}
+use Rattle.std.proofs.lemmas.Result.{IfOk-weaker}
+use Rattle.tw_command.specs.declared.command.ProgramOrder.TheVariants.{Verified}
+use Rattle.tw_command.specs.declared.command.RunOrder.{RunOrder}
+use Rattle.tw_command.specs.declared.command.VerifiedOrder.TheVariants.{Run}
+use Rattle.tw_session.specs.Answered.{Leads}
+use Rattle.tw_session.specs.Program.{RepliesBySource, text_told}
+use Rattle.tw_session.specs.Reply.{reply}
+use Rattle.tw_session.specs.Session.{RepliesByProgram}
+use Rattle.tw_session.specs.Source.{text_of}
+use Rattle.tw_session.specs.declared.reply.Answered.{Answered}
+use Rattle.tw_session.specs.declared.reply.Reply.{Reply}
+use Rattle.tw_session.proofs.Nones.{Tells, none_told}
+use Rattle.tw_session.proofs.order.source_reply.Goals as goal
+
+pub program_reply-requires : goal.program_reply-requires
+program_reply-requires g c = c.in-Ok.ensures.source
+
+pub run_as_ordered-requires : goal.run_as_ordered-requires
+run_as_ordered-requires g c = let run = subst (λ (a : Answered). Leads (λ (run : RunOrder). c.args.order ≡ Verified (Run run)) c.in-Ok.read.source (RepliesByProgram (text_of c.in-Ok.read.source) c.args.order c.in-Ok.read.program) a) c.in-Run.is c.in_ok-reply-in-Ok.ensures in (search rules, run.1)
+
+pub returns-in-Told : goal.returns-in-Told
+returns-in-Told g c =
+    let r = c.in-Told.reply in
+    let told = subst (λ (a : Answered). Leads (λ (run : RunOrder). c.args.order ≡ Verified (Run run)) c.in-Ok.read.source (RepliesByProgram (text_of c.in-Ok.read.source) c.args.order c.in-Ok.read.program) a) c.in-Told.is c.in_ok-reply-in-Ok.ensures in
+    inl (c.in-Ok.read.program, c.in-Ok.ensures.spells, subst (λ (t : Option (List ℕ)). RepliesByProgram t c.args.order c.in-Ok.read.program (reply r.text.items r.close)) c.in-Ok.ensures.text told)
+
+pub returns-in-Ok : goal.returns-in-Ok
+returns-in-Ok g c =
+    let run = subst (λ (a : Answered). Leads (λ (run : RunOrder). c.args.order ≡ Verified (Run run)) c.in-Ok.read.source (RepliesByProgram (text_of c.in-Ok.read.source) c.args.order c.in-Ok.read.program) a) c.in-Run.is c.in_ok-reply-in-Ok.ensures in
+    IfOk-weaker _ _ _
+    (λ (r : Reply) h. inl (c.in-Ok.read.program, c.in-Ok.ensures.spells, subst (λ (t : Option (List ℕ)). RepliesByProgram t c.args.order c.in-Ok.read.program (reply r.text.items r.close)) c.in-Ok.ensures.text (run.2 (reply r.text.items r.close) h))) c.run_as_ordered.ensures
+
+pub returns : goal.returns
+returns g c =
+    let input = c.args.input.now in
+    IfOk-weaker c.reasoned_reply.result (λ (r : Reply). Tells input c.in-Err.why (reply r.text.items r.close))
+    (λ (r : Reply). RepliesBySource c.args.source input (RepliesByProgram (text_told c.args.source input) c.args.order) (reply r.text.items r.close))
+    (λ (r : Reply) h. none_told c.args.source input c.in-Err.why (RepliesByProgram (text_told c.args.source input) c.args.order) (reply r.text.items r.close) c.in-Err.ensures.none h) c.reasoned_reply.ensures

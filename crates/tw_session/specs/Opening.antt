@@ -1,0 +1,68 @@
+-- What stands behind the refusal of an opening, where the program was read from a text: how many inputs are asked, or which one
+-- isn't what its parameter asks.
+use Rattle.std.specs.Prelude.{◌≡◌, ℕ, ◌+◌, true, false, MatchBool, if◌then◌else◌, List, [], ◌++◌, codes, decimal, length, nat_lt, Option, Some, None, slice_get, take}
+use Rattle.tw_types.specs.DataType.{container_of, same_type, scalar_type}
+use Rattle.tw_types.specs.Given.{Given, Single, Container, given_by}
+use Rattle.tw_types.specs.Nesting.{NestedScalar}
+use Rattle.tw_types.specs.Value.{scalar_of}
+use Rattle.tw_types.specs.ValueOrder.{Subscript}
+use Rattle.tw_types.specs.declared.input.Input.{Input}
+use Rattle.tw_types.specs.declared.param.Param.{Param}
+use Rattle.tw_types.specs.declared.value.Value.{Value}
+use Rattle.tw_code.specs.declared.procedure.Procedure.{Procedure}
+use Rattle.tw_code.specs.machine.Inputs.{has_fitting_inputs, has_input_count, input_params, is_input_of, rises}
+use Rattle.tw_code.specs.machine.Opening.{main_params}
+use Rattle.tw_reasons.specs.Words.{type_text}
+
+-- ---- how many
+
+abbrev pub count_line : List Procedure → List Input → List ℕ
+count_line program inputs = codes "inputs given: " ++ (decimal (length inputs) ++ (codes ", asked: " ++ (decimal (length (input_params (main_params program))) ++ codes "\n")))
+
+-- ---- which one
+
+abbrev pub type_given : Given → NestedScalar
+type_given (Single x) = scalar_type (scalar_of x)
+type_given (Container by scalar es) = container_of by (scalar_type scalar)
+
+-- the limit past which members are
+abbrev pub members_text : List (Subscript × Value) → List ℕ
+members_text es =
+    if nat_lt 1000 (length es) then codes " has more than 1000 members\n" else
+    if rises es then codes " has a text of more than 4096 bytes\n" else
+    codes " has subscripts that don't rise\n"
+
+-- the same of what has its parameter's type
+abbrev pub excess_text : Given → List ℕ
+excess_text (Single x) = codes " is a text of more than 4096 bytes\n"
+excess_text (Container by scalar es) = members_text es
+
+-- it is of another type than this, or past a limit
+abbrev pub unfit_text : NestedScalar → Given → List ℕ
+unfit_text ty g = if same_type ty (type_given g) then excess_text g else codes " is " ++ (type_text (type_given g) ++ (codes ", asked: " ++ (type_text ty ++ codes "\n")))
+
+-- the input behind so many is one that its parameter can't be given, and those before it can be given to theirs
+pub record IsFirstUnfit (program : List Procedure) (inputs : List Input) (index : ℕ) (param : Param) (input : Input) : Type 0 where
+  pub fit : has_fitting_inputs program (take index inputs) ≡ true
+  pub param_is : slice_get (input_params (main_params program)) index ≡ Some param
+  pub input_is : slice_get inputs index ≡ Some input
+  pub unfit : is_input_of param.ty input ≡ false
+
+abbrev pub TellsUnfit : List Procedure → List Input → List ℕ → Type 0
+TellsUnfit program inputs text =
+    (index : ℕ) × (param : Param) × (input : Input) × IsFirstUnfit program inputs index param input
+    × (text ≡ codes "input " ++ (decimal (index + 1) ++ unfit_text param.ty (given_by input)))
+
+-- ---- behind the refusal
+
+-- nothing where the inputs are those that main takes
+abbrev pub TellsInputs : List Procedure → List Input → List ℕ → Type 0
+TellsInputs program inputs text =
+    MatchBool (has_input_count program inputs)
+    (MatchBool (has_fitting_inputs program inputs) (text ≡ []) (TellsUnfit program inputs text))
+    (text ≡ count_line program inputs)
+
+-- where the program was read from a text
+abbrev pub IsOpeningBehind : Option (List ℕ) → List Procedure → List Input → List ℕ → Type 0
+IsOpeningBehind None program inputs more = more ≡ []
+IsOpeningBehind (Some text) program inputs more = TellsInputs program inputs more

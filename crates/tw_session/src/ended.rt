@@ -1,0 +1,171 @@
+//! What is written of a run that is over.
+
+ghost use Rattle.std.specs.Prelude.{◌≡◌, ◌++◌, ℕ, List, None, IfOk, OnOk};
+ghost use Rattle.tw_types.specs.Outcome.{Went};
+ghost use Rattle.tw_code.specs.machine.Bounds.{AreBelow, opening_bound};
+ghost use Rattle.tw_code.specs.machine.Inputs.{AreInputsOf};
+ghost use Rattle.tw_code.specs.machine.Opening.{reached};
+ghost use Rattle.tw_code.specs.machine.State.{State as MachineState};
+ghost use Rattle.tw_machine.specs.Opening.{refusal_of};
+ghost use Rattle.tw_report.specs.Ends.{IsEndReport};
+ghost use Rattle.tw_session.specs.Counted.{Goes, IsRunOver};
+ghost use Rattle.tw_session.specs.Reply.{reply};
+ghost use Rattle.tw_session.specs.Run.{AreRunNumbers, IsRunPicture, IsRunText, RepliesByRun, begins, limit_told};
+ghost use Rattle.tw_session.specs.Source.{MayBeSource, text_of};
+
+use crate::drawn::draw;
+use crate::numbers::{Counting, budgets_of, count, put_bytes};
+use crate::reply::Reply;
+use crate::run::{close_of, put_limit, put_trace};
+use crate::run_behind::put_run_behind;
+use crate::source::SourceText;
+use std::alloc::{AllocError, Global};
+use tw_code::Program;
+use tw_command::{Answer, RunOrder};
+use tw_machine::Plain;
+use tw_pool::{Closing, Final, History};
+use tw_report::report;
+use tw_types::Event;
+use tw_verify::Verified;
+
+/// The events of a history, in their order.
+pub fn events_of(alloc: Global, history: &History) -> Result<Vec<Event>, AllocError>
+    ensures { IfOk result (λ events. events.items ≡ history.now.events) }
+{
+    let mut events = Vec::new(alloc);
+    for index in 0..history.len() {
+        events.push(history.event(index))?;
+    }
+    Ok(events)
+}
+
+/// The reference machine where a run begins.
+fn first_machine(alloc: Global, order: &RunOrder, program: Program) -> Result<Plain, AllocError>
+    requires { refusal_of program.procedures order.now.inputs ≡ None }
+    ensures first { IfOk result (λ plain. plain ≡ begins program.version program.procedures order.now) }
+    ensures below { IfOk result (λ plain. AreBelow opening_bound plain.state) }
+{
+    match Plain::open(alloc, program, order.inputs.as_slice(), order.layout) {
+        Ok(plain) => Ok(plain),
+        Err(_) => Err(AllocError),
+    }
+}
+
+/// Adds the numbers of the events.
+fn put_run_numbers(
+    alloc: Global,
+    out: &mut Vec<u8>,
+    order: &RunOrder,
+    verified: Verified,
+    history: &History,
+) -> Result<(), AllocError>
+    requires inputs { AreInputsOf verified.program order.now.inputs }
+    requires goes { Goes verified.program order.now history.now.events }
+    ensures { OnOk result ((numbers : List ℕ) × AreRunNumbers verified.program order.now history.now.events numbers × (out.new.items ≡ out.old.items ++ numbers)) }
+{
+    let _procedures = verified.program().procedures();
+    let _most = order.limit.events();
+    let budgets = budgets_of(alloc, &verified)?;
+    let events = events_of(alloc, history)?;
+    let first = first_machine(alloc, order, verified.into_program())?;
+    match count(alloc, first, &events)? {
+        Counting::Made(counted) => {
+            let numbers = counted.tally.text(alloc, &counted.plain, &budgets)?;
+            put_bytes(out, &numbers)
+        }
+        Counting::Stopped(_) => unreachable!(),
+    }
+}
+
+/// Adds the picture of the events.
+fn put_run_picture(
+    alloc: Global,
+    out: &mut Vec<u8>,
+    order: &RunOrder,
+    verified: Verified,
+    history: &History,
+) -> Result<(), AllocError>
+    requires inputs { AreInputsOf verified.program order.now.inputs }
+    requires goes { Goes verified.program order.now history.now.events }
+    ensures { OnOk result ((s : MachineState) → reached verified.program order.now.inputs order.now.layout history.now.events ≡ Went s
+        → (picture : List ℕ) × IsRunPicture verified.program order.now history.now.events s picture × (out.new.items ≡ out.old.items ++ picture)) }
+{
+    let _procedures = verified.program().procedures();
+    let _most = order.limit.events();
+    let events = events_of(alloc, history)?;
+    let first = first_machine(alloc, order, verified.into_program())?;
+    let drawn = draw(alloc, first, &events)?;
+    put_bytes(out, &drawn.text)
+}
+
+/// Adds the report.
+fn put_run_report(
+    alloc: Global,
+    out: &mut Vec<u8>,
+    source: &Option<SourceText<'_>>,
+    order: &RunOrder,
+    outcome: &Final,
+    closing: Closing,
+) -> Result<(), AllocError>
+    ensures { OnOk result ((told : List ℕ) × IsEndReport outcome.now told
+        × (out.new.items ≡ out.old.items ++ (told ++ limit_told (text_of source.now) order.now closing))) }
+{
+    let told = report(alloc, outcome)?;
+    put_bytes(out, &told)?;
+    put_limit(alloc, out, source, order, closing)
+}
+
+/// Adds what is asked for.
+fn put_told(
+    alloc: Global,
+    out: &mut Vec<u8>,
+    source: &Option<SourceText<'_>>,
+    order: &RunOrder,
+    verified: Verified,
+    outcome: &Final,
+    history: &History,
+    closing: Closing,
+) -> Result<(), AllocError>
+    requires inputs { AreInputsOf verified.program order.now.inputs }
+    requires over { IsRunOver verified.program order.now outcome.now history.now.events closing }
+    ensures { OnOk result ((over : IsRunOver verified.program order.now outcome.now history.now.events closing)
+        → (told : List ℕ) × IsRunText order.now.answer (text_of source.now) verified.program order.now history.now.events over.state closing told × (out.new.items ≡ out.old.items ++ told)) }
+{
+    match order.answer {
+        Answer::Report => put_run_report(alloc, out, source, order, outcome, closing),
+        Answer::Numbers => {
+            put_run_report(alloc, out, source, order, outcome, closing)?;
+            put_run_numbers(alloc, out, order, verified, history)
+        }
+        Answer::Picture => put_run_picture(alloc, out, order, verified, history),
+    }
+}
+
+/// The reply where a run is over.
+pub fn ended_reply(
+    alloc: Global,
+    source: &Option<SourceText<'_>>,
+    order: &RunOrder,
+    verified: Verified,
+    outcome: &Final,
+    history: &History,
+    closing: Closing,
+) -> Result<Reply, AllocError>
+    requires inputs { AreInputsOf verified.program order.now.inputs }
+    requires over { IsRunOver verified.program order.now outcome.now history.now.events closing }
+    requires source { MayBeSource source.now verified.program }
+    ensures { IfOk result (λ r. RepliesByRun (text_of source.now) verified.program order.now (reply r.text.items r.close)) }
+{
+    let _procedures = verified.program().procedures();
+    let _most = order.limit.events();
+    let mut text = Vec::new(alloc);
+    put_trace(alloc, &mut text, order.trace, history)?;
+    put_told(
+        alloc, &mut text, source, order, verified, outcome, history, closing,
+    )?;
+    put_run_behind(alloc, &mut text, source, order, history, closing)?;
+    Ok(Reply {
+        text,
+        close: close_of(closing),
+    })
+}

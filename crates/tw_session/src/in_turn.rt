@@ -1,0 +1,85 @@
+//! What `run` answers where the actors are in turn.
+
+ghost use Rattle.std.specs.Prelude.{◌≡◌, IfOk, map, string_bytes, true};
+ghost use Rattle.tw_command.specs.CommandLine.{asked_by_words, word_faults};
+ghost use Rattle.tw_command.specs.InTurn.{turned};
+ghost use Rattle.tw_code.specs.machine.Inputs.{AreInputsOf};
+ghost use Rattle.tw_in_turn.specs.InTurn.{IsLeft};
+ghost use Rattle.tw_pool.specs.Openings.{opened};
+ghost use Rattle.tw_session.specs.Reply.{reply};
+ghost use Rattle.tw_session.specs.Run.{RepliesByOpening, RepliesByRun};
+ghost use Rattle.tw_session.specs.Session.{AnswersWords};
+ghost use Rattle.tw_session.specs.Source.{MayBeSource, text_of};
+
+use crate::ended::ended_reply;
+use crate::order::reply_in_turn;
+use crate::reply::{Reply, inputs_refused_reply};
+use crate::run::end_of;
+use crate::shell::unordered_reply;
+use crate::source::SourceText;
+use std::alloc::{AllocError, Global};
+use tw_command::{RunOrder, read_order};
+use tw_in_turn::{Left, run_in_turn};
+use tw_pool::OpenRefusal;
+use tw_verify::Verified;
+
+/// The reply to what is left of a run.
+fn left_reply(
+    alloc: Global,
+    source: &Option<SourceText<'_>>,
+    order: &RunOrder,
+    verified: Verified,
+    left: Left,
+) -> Result<Reply, AllocError>
+    requires left { IsLeft (opened verified order.now.inputs order.now.layout order.now.limit) left }
+    requires turns { order.now.in_turn ≡ true }
+    requires inputs { AreInputsOf verified.program order.now.inputs }
+    requires source { MayBeSource source.now verified.program }
+    ensures { IfOk result (λ r. RepliesByRun (text_of source.now) verified.program order.now (reply r.text.items r.close)) }
+{
+    match left {
+        Left::Over { outcome, history } => match end_of(outcome.closing()) {
+            Some(closing) => {
+                ended_reply(alloc, source, order, verified, &outcome, &history, closing)
+            }
+            None => unreachable!(),
+        },
+        Left::NoMemory { .. } => Err(AllocError),
+    }
+}
+
+/// Opens and runs an accepted program in this thread.
+pub fn turned_reply(
+    alloc: Global,
+    source: &Option<SourceText<'_>>,
+    order: &RunOrder,
+    verified: Verified,
+) -> Result<Reply, AllocError>
+    requires turns { order.now.in_turn ≡ true }
+    requires source { MayBeSource source.now verified.program }
+    ensures { IfOk result (λ r. RepliesByOpening (text_of source.now) verified.program order.now (reply r.text.items r.close)) }
+{
+    let inputs = order.inputs.as_slice();
+    match run_in_turn(alloc, &verified, inputs, order.layout, order.limit.events()) {
+        Ok(left) => left_reply(alloc, source, order, verified, left),
+        Err(OpenRefusal::NoMemory) => Err(AllocError),
+        Err(why) => inputs_refused_reply(
+            alloc,
+            source,
+            why.number(),
+            verified.program().procedures(),
+            inputs,
+        ),
+    }
+}
+
+/// What is answered to words and to the bytes that come with them, where a run is in turn: no thread is started, and nothing waits.
+pub fn answer_in_turn(alloc: Global, words: &[String], input: Vec<u8>) -> Result<Reply, AllocError>
+    ensures { IfOk result (λ r. AnswersWords (word_faults (map string_bytes words.now)) (turned (asked_by_words (map string_bytes words.now)))
+        input.items (reply r.text.items r.close)) }
+{
+    match read_order(alloc, words) {
+        Ok(order) => reply_in_turn(alloc, order.in_turn(), input),
+        Err(no_order) => unordered_reply(alloc, no_order),
+    }
+}

@@ -1,0 +1,259 @@
+//! What a session answers to an order and the bytes that it reads.
+
+ghost use Rattle.std.specs.Prelude.{◌≡◌, IfOk, true};
+ghost use Rattle.std.specs.Str.Lines.{lines};
+ghost use Rattle.tw_command.specs.CommandLine.{run_with};
+ghost use Rattle.tw_command.specs.InTurn.{IsInTurn, IsProgramInTurn};
+ghost use Rattle.tw_command.specs.declared.command.InputsOrder.TheVariants.{ToRun};
+ghost use Rattle.tw_command.specs.declared.command.ProgramOrder.TheVariants as ordered;
+ghost use Rattle.tw_command.specs.declared.command.VerifiedOrder.TheVariants.{Run};
+ghost use Rattle.tw_session.specs.Answered.{Comes};
+ghost use Rattle.tw_session.specs.Inputs.{RepliesByWords, before_inputs, behind_inputs, words_in};
+ghost use Rattle.tw_session.specs.Program.{RepliesBySource, RepliesByText, text_told};
+ghost use Rattle.tw_session.specs.Reply.{reply};
+ghost use Rattle.tw_session.specs.Run.{RepliesByOpening};
+ghost use Rattle.tw_session.specs.Source.{MayBeSource, text_of};
+ghost use Rattle.tw_session.specs.Session.{IsWritten, MayReply, RepliesByProgram, RepliesWithInputs};
+
+use crate::in_turn::turned_reply;
+use crate::input::MOST_BYTES;
+use crate::inputs::{input_parts, refused_words_reply};
+use crate::program::{ReadProgram, no_program_reply, read_program, reasoned_reply};
+use crate::replay::{replay_inputs_reply, replay_reply};
+use crate::reply::{Answered, Ordered, Reply, fixed_reply, not_utf8_reply, program_reply};
+use crate::run::run_of;
+use crate::source::SourceText;
+use crate::status::Close;
+use std::alloc::{AllocError, Global};
+use std::sync::Wait;
+use std::thread::Threads;
+use std::time::Clock;
+use tw_code::{Program, encode};
+use tw_command::{InputsOrder, Order, ProgramOrder, RunOptions, Source, VerifiedOrder, inputs_of};
+use tw_report::put;
+
+/// A program that is to be read, and what is asked for of it.
+#[derive(Drop)]
+pub struct Asking {
+    pub source: Source,
+    pub order: ProgramOrder,
+    pub program: Vec<u8>,
+}
+
+/// What an order comes to: a reply, or a program that is to be read.
+#[derive(Drop)]
+pub enum Step {
+    Told(Reply),
+    Asks(Asking),
+}
+
+/// A program as hex digits, in one line.
+fn hex_reply(alloc: Global, program: &Program) -> Result<Reply, AllocError>
+    ensures { IfOk result (λ r. IsWritten program.now (reply r.text.items r.close)) }
+{
+    let Ok(bytes) = encode(alloc, program) else {
+        return Err(AllocError);
+    };
+    let mut text = hex::encode(alloc, bytes)?.into_bytes();
+    put(&mut text, "\n")?;
+    Ok(Reply {
+        text,
+        close: Close::Success,
+    })
+}
+
+/// The program of an assembly text as hex digits, or the text's first fault.
+fn assembled_reply(alloc: Global, input: &[u8]) -> Result<Reply, AllocError>
+    ensures { IfOk result (λ r. RepliesByText input.now IsWritten (reply r.text.items r.close)) }
+{
+    match read_program(alloc, Source::Assembly, input) {
+        Ok(read) => hex_reply(alloc, &read.program),
+        Err(why) => no_program_reply(alloc, why),
+    }
+}
+
+/// A program that is to be run with the inputs that stand behind it.
+fn inputs_step(
+    alloc: Global,
+    source: Source,
+    options: RunOptions,
+    text: &str,
+) -> Result<Step, AllocError>
+    ensures { IfOk result (Comes (options.in_turn ≡ true) (RepliesByWords (words_in (behind_inputs (lines text.now)))
+        (λ given. RepliesBySource source (before_inputs (lines text.now))
+        (RepliesByProgram (text_told source (before_inputs (lines text.now))) (ordered.Verified (Run (run_with options given))))))) }
+{
+    let parts = input_parts(alloc, text)?;
+    match inputs_of(alloc, &parts.words) {
+        Ok(inputs) => Ok(Step::Asks(Asking {
+            source,
+            order: ProgramOrder::Verified(VerifiedOrder::Run(options.with_inputs(inputs))),
+            program: parts.program,
+        })),
+        Err(why) => {
+            let reply = refused_words_reply(alloc, why)?;
+            Ok(Step::Told(reply))
+        }
+    }
+}
+
+/// The same of what is to be text.
+fn run_inputs_step(
+    alloc: Global,
+    source: Source,
+    options: RunOptions,
+    input: &[u8],
+) -> Result<Step, AllocError>
+    ensures { IfOk result (Comes (options.in_turn ≡ true) (RepliesWithInputs source (ToRun options) input.now)) }
+{
+    match str::from_utf8(input) {
+        Ok(text) => inputs_step(alloc, source, options, text),
+        Err(_) => {
+            let reply = not_utf8_reply(alloc)?;
+            Ok(Step::Told(reply))
+        }
+    }
+}
+
+/// What an order and the bytes that were read come to; refused where memory is.
+fn step_of(alloc: Global, order: Order, input: Vec<u8>) -> Result<Step, AllocError>
+    ensures { IfOk result (Comes (IsInTurn order) (MayReply order input.items)) }
+{
+    if input.len() > MOST_BYTES {
+        let reply = fixed_reply(alloc, "refused H02\n", Close::Refused)?;
+        return Ok(Step::Told(reply));
+    }
+    match order {
+        Order::Assemble => {
+            let reply = assembled_reply(alloc, &input)?;
+            Ok(Step::Told(reply))
+        }
+        Order::Program(source, order) => Ok(Step::Asks(Asking {
+            source,
+            order,
+            program: input,
+        })),
+        Order::Replay(source, order) => {
+            let reply = replay_reply(alloc, source, &order, &input)?;
+            Ok(Step::Told(reply))
+        }
+        Order::Inputs(source, InputsOrder::ToRun(options)) => {
+            run_inputs_step(alloc, source, options, &input)
+        }
+        Order::Inputs(source, InputsOrder::ToReplay(options)) => {
+            let reply = replay_inputs_reply(alloc, source, options, &input)?;
+            Ok(Step::Told(reply))
+        }
+    }
+}
+
+/// Runs an accepted program in threads, or in turn if that is ordered.
+fn run_as_ordered<H: Threads + Wait + Clock + Sync>(
+    rt: &H,
+    alloc: Global,
+    source: &Option<SourceText<'_>>,
+    ordered: Ordered,
+) -> Result<Reply, AllocError>
+    requires { MayBeSource source.now ordered.verified.program }
+    ensures { IfOk result (λ r. RepliesByOpening (text_of source.now) ordered.verified.program ordered.order (reply r.text.items r.close)) }
+{
+    let Ordered { order, verified } = ordered;
+    if order.in_turn {
+        turned_reply(alloc, source, &order, verified)
+    } else {
+        run_of(rt, alloc, source, &order, verified)
+    }
+}
+
+/// The reply to a program in hex text or in assembly text.
+fn source_reply<H: Threads + Wait + Clock + Sync>(
+    rt: &H,
+    alloc: Global,
+    source: Source,
+    order: ProgramOrder,
+    input: &[u8],
+) -> Result<Reply, AllocError>
+    ensures { IfOk result (λ r. RepliesBySource source input.now (RepliesByProgram (text_told source input.now) order) (reply r.text.items r.close)) }
+{
+    match read_program(alloc, source, input) {
+        Ok(read) => {
+            let ReadProgram {
+                program,
+                source: text,
+            } = read;
+            match program_reply(alloc, &text, order, program)? {
+                Answered::Told(reply) => Ok(reply),
+                Answered::Run(ordered) => run_as_ordered(rt, alloc, &text, ordered),
+            }
+        }
+        Err(why) => reasoned_reply(alloc, input, why),
+    }
+}
+
+/// The same, where a run that is ordered is in turn.
+fn source_in_turn(
+    alloc: Global,
+    source: Source,
+    order: ProgramOrder,
+    input: &[u8],
+) -> Result<Reply, AllocError>
+    requires { IsProgramInTurn order }
+    ensures { IfOk result (λ r. RepliesBySource source input.now (RepliesByProgram (text_told source input.now) order) (reply r.text.items r.close)) }
+{
+    match read_program(alloc, source, input) {
+        Ok(read) => {
+            let ReadProgram {
+                program,
+                source: text,
+            } = read;
+            match program_reply(alloc, &text, order, program)? {
+                Answered::Told(reply) => Ok(reply),
+                Answered::Run(ordered) => {
+                    let Ordered { order, verified } = ordered;
+                    turned_reply(alloc, &text, &order, verified)
+                }
+            }
+        }
+        Err(why) => reasoned_reply(alloc, input, why),
+    }
+}
+
+/// The whole reply to an order and the bytes that were read; refused where memory is.
+pub fn reply_to<H: Threads + Wait + Clock + Sync>(
+    rt: &H,
+    alloc: Global,
+    order: Order,
+    input: Vec<u8>,
+) -> Result<Reply, AllocError>
+    ensures { IfOk result (λ r. MayReply order input.items (reply r.text.items r.close)) }
+{
+    match step_of(alloc, order, input)? {
+        Step::Told(reply) => Ok(reply),
+        Step::Asks(asking) => {
+            let Asking {
+                source,
+                order,
+                program,
+            } = asking;
+            source_reply(rt, alloc, source, order, &program)
+        }
+    }
+}
+
+/// The same, where a run that is ordered is in turn: no thread is started, and nothing waits.
+pub fn reply_in_turn(alloc: Global, order: Order, input: Vec<u8>) -> Result<Reply, AllocError>
+    requires { IsInTurn order }
+    ensures { IfOk result (λ r. MayReply order input.items (reply r.text.items r.close)) }
+{
+    match step_of(alloc, order, input)? {
+        Step::Told(reply) => Ok(reply),
+        Step::Asks(asking) => {
+            let Asking {
+                source,
+                order,
+                program,
+            } = asking;
+            source_in_turn(alloc, source, order, &program)
+        }
+    }
+}
