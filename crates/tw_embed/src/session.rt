@@ -1,0 +1,83 @@
+//! Sessions.
+
+ghost use Rattle.std.specs.Prelude.{◌≡◌, IfOk, length, map, string_bytes};
+ghost use Rattle.std.specs.Str.Lines.{lines};
+ghost use Rattle.tw_command.specs.CommandLine.{asked_by_words, word_faults};
+ghost use Rattle.tw_command.specs.InTurn.{turned};
+ghost use Rattle.tw_session.specs.Reply.{reply};
+ghost use Rattle.tw_session.specs.Session.{AnswersWords};
+ghost use Rattle.tw_session.specs.Status.{code_of};
+ghost use Rattle.tw_embed.specs.Told.{IsTold, filled};
+
+use std::alloc::{AllocError, Global};
+use tw_session::{Close, Reply, Status, answer_in_turn};
+
+/// The words that stand in lines.
+fn words_in(alloc: Global, text: &str) -> Result<Vec<String>, AllocError>
+    ensures { IfOk result (λ words. map string_bytes words.items ≡ lines text.now) }
+{
+    let mut words = Vec::new(alloc);
+    for line in text.lines() {
+        words.push(line.to_string(alloc)?)?;
+    }
+    Ok(words)
+}
+
+/// What is answered to words in lines and to the bytes that `tw` would read; refused where memory is.
+fn answer(alloc: Global, words: &str, input: &[u8]) -> Result<Reply, AllocError>
+    ensures { IfOk result (λ r. AnswersWords (word_faults (lines words.now)) (turned (asked_by_words (lines words.now))) input.now (reply r.text.items r.close)) }
+{
+    let words = words_in(alloc, words)?;
+    let input = input.to_vec(alloc)?;
+    answer_in_turn(alloc, words.as_slice(), input)
+}
+
+/// Puts a text to the start of the room, if it fits. Returns its length.
+fn put(room: &mut [u8], text: &[u8]) -> usize
+    ensures count { result ≡ length text.now }
+    ensures room { room.new ≡ filled text.now room.old }
+{
+    let length = text.len();
+    if length <= room.len() {
+        room[..length].copy_from_slice(text);
+    }
+    length
+}
+
+/// Puts a text and its status's number.
+fn tell(room: &mut [u8], status: &mut u8, ended: Status, text: &[u8]) -> usize
+    ensures code { status.new ≡ code_of ended }
+    ensures count { result ≡ length text.now }
+    ensures room { room.new ≡ filled text.now room.old }
+{
+    *status = ended.code();
+    put(room, text)
+}
+
+/// `words` are the words of the command `tw`, each in a line, and `input` is what `tw` would read. What it would write stands at
+/// the start of `room`, if it fits, and its exit status in `status`. Returns how many bytes that are; where they don't fit, call
+/// again with as many. A program is run in turn, so the second call answers the same.
+#[unsafe(no_mangle)]
+pub extern "C" fn yuglemit_session(
+    alloc: Global,
+    words: &[u8],
+    input: &[u8],
+    room: &mut [u8],
+    status: &mut u8,
+) -> usize
+    ensures { IsTold words.now input.now room.old room.new status.new result }
+{
+    let Ok(words) = str::from_utf8(words) else {
+        let ended = Status::Ended(Close::CommandLine);
+        return tell(room, status, ended, "command line refused\n".as_bytes());
+    };
+    match answer(alloc, words, input) {
+        Ok(reply) => tell(
+            room,
+            status,
+            Status::Ended(reply.close),
+            reply.text.as_slice(),
+        ),
+        Err(_) => tell(room, status, Status::NoMemory, "memory\n".as_bytes()),
+    }
+}

@@ -1,0 +1,63 @@
+// Runs a program, checks it, and verifies bytes, in C++17: session and verify give values, and throw where memory runs out.
+#include "../yuglemit.h"
+#include <cstdio>
+#include <iostream>
+#include <iterator>
+#include <new>
+#include <string>
+#include <string_view>
+#include <vector>
+
+namespace yuglemit {
+
+struct Reply {
+    int status;
+    std::string text;
+};
+
+inline const std::uint8_t *bytes_of(std::string_view text) {
+    return reinterpret_cast<const std::uint8_t *>(text.empty() ? "" : text.data());
+}
+
+// What the command tw writes with these words, where it reads this input.
+inline Reply session(const std::vector<std::string> &words, std::string_view input) {
+    std::string lines;
+    for (const auto &word : words) lines += word + '\n';
+    std::string room(4096, '\0');
+    for (std::uint8_t status;;) {
+        const auto length = yuglemit_session(bytes_of(lines), lines.size(), bytes_of(input), input.size(),
+                                             reinterpret_cast<std::uint8_t *>(room.data()), room.size(), &status);
+        const bool fits = length <= room.size();
+        room.resize(length);
+        if (!fits) continue;
+        if (status == 5) throw std::bad_alloc();
+        return {status, room};
+    }
+}
+
+// What the verifier says of a program's bytes.
+inline yuglemit_verdict verify(std::string_view bytes) {
+    yuglemit_verdict verdict;
+    yuglemit_verify(bytes_of(bytes), bytes.size(), &verdict);
+    if (verdict.letter == 'M') throw std::bad_alloc();
+    return verdict;
+}
+
+}  // namespace yuglemit
+
+// With words: as the command tw. Without: what the calls give.
+int main(int count, char **word) {
+    if (count > 1) {
+        const std::string input(std::istreambuf_iterator<char>(std::cin), {});
+        const auto reply = yuglemit::session({word + 1, word + count}, input);
+        std::cout << reply.text;
+        return reply.status;
+    }
+    const std::string seven = "proc control write int\nregs int\nINT v0 7\nSTORE d0 v0\nRET\n";
+    const auto run = yuglemit::session({"run", "--text", "--trace"}, seven);
+    std::cout << run.text << "status " << run.status << "\n";
+    const auto check = yuglemit::session({"check", "--text"}, seven);
+    std::cout << check.text << "status " << check.status << "\n";
+    const auto verdict = yuglemit::verify("TWB");
+    std::cout << verdict.letter << int(verdict.number) << " at byte " << verdict.place << "\n";
+}
