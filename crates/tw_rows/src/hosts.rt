@@ -218,8 +218,42 @@ fn is_same(
     )
 }
 
-/// A pool and a host that are turned alike: what the pool said and left, where the host said and left the same, and the reference
-/// machine makes all its events.
+/// A pool and a host of one program that are turned alike: what the pool said and left, and what the host said, and how it closed.
+fn ran_both<R: Wait>(
+    rt: &R,
+    alloc: Global,
+    verified: &Verified,
+    given: &Given,
+    course: Course<'_>,
+) -> Result<(Ran, Talk, Closed), Complaint> {
+    let pool = run_pool::<Brand, R>(rt, alloc, verified, given, course)?;
+    let blank = Blank::new(given.layout.actor_count() as u64);
+    let second = Blank::new(given.layout.actor_count() as u64);
+    let (talk, closed) = run_host::<Brand, Brand, R>(
+        rt, alloc, blank, second, verified, given, course,
+    )?;
+    Ok((pool, talk, closed))
+}
+
+/// The events of a pool, where the host said and left the same, and the reference machine makes them all.
+fn events_of_both(
+    alloc: Global,
+    bytes: &[u8],
+    given: &Given,
+    pool: &Ran,
+    talk: &Talk,
+    closed: &Closed,
+) -> Result<Vec<Event>, Complaint> {
+    if !is_same(alloc, pool, talk, closed, given.layout)? {
+        return Err(Complaint::HostDiffers);
+    }
+    let events = events_of(alloc, &pool.history, None)?;
+    steps_all(alloc, bytes, given, events.as_slice())?;
+    Ok(events)
+}
+
+/// What a pool said and left, and its events, where a host that is turned alike said and left the same, and the reference machine makes
+/// all its events.
 fn run_both<R: Wait>(
     rt: &R,
     alloc: Global,
@@ -228,17 +262,8 @@ fn run_both<R: Wait>(
     course: Course<'_>,
 ) -> Result<(Ran, Vec<Event>), Complaint> {
     let verified = read_verified(alloc, bytes)?;
-    let pool = run_pool::<Brand, R>(rt, alloc, &verified, given, course)?;
-    let blank = Blank::new(given.layout.actor_count() as u64);
-    let second = Blank::new(given.layout.actor_count() as u64);
-    let (talk, closed) = run_host::<Brand, Brand, R>(
-        rt, alloc, blank, second, &verified, given, course,
-    )?;
-    if !is_same(alloc, &pool, &talk, &closed, given.layout)? {
-        return Err(Complaint::HostDiffers);
-    }
-    let events = events_of(alloc, &pool.history, None)?;
-    steps_all(alloc, bytes, given, events.as_slice())?;
+    let (pool, talk, closed) = ran_both(rt, alloc, &verified, given, course)?;
+    let events = events_of_both(alloc, bytes, given, &pool, &talk, &closed)?;
     Ok((pool, events))
 }
 

@@ -2,7 +2,7 @@
 
 use crate::book::Book;
 use crate::complaint::Complaint;
-use crate::given::{read_given, read_verified};
+use crate::given::{Given, read_given, read_verified};
 use crate::hoard::Hoard;
 use crate::hosts::events_of;
 use crate::machine::steps_all;
@@ -15,6 +15,7 @@ use std::sync::Wait;
 use std::thread::Threads;
 use std::time::Clock;
 use tw_host::Closed;
+use tw_verify::Verified;
 use tw_workers::{NoGate, run};
 
 /// A session, which writes into a room that takes no memory.
@@ -26,6 +27,22 @@ fn written<H: AllocGlobal + Threads + Wait + Clock + Sync>(
     let mut room = Room::new();
     let code = code_of(rt, words, &mut input, &mut room);
     (code, room)
+}
+
+/// How much further down the stack a session may go where memory is refused than where it is there.
+const DEEPER: usize = 65_536;
+
+/// The same from a place further down the stack. While all addresses are held the stack can't grow, so it grows here before.
+fn written_below<H: AllocGlobal + Threads + Wait + Clock + Sync>(
+    rt: &H,
+    words: &[String],
+    input: &[u8],
+) -> (u8, Room) {
+    let mut above = [0_u8; DEEPER];
+    above[words.len() % DEEPER] = 1;
+    let (code, room) = written(rt, words, input);
+    let untouched = above[words.len().wrapping_add(1) % DEEPER];
+    (code.wrapping_add(untouched), room)
 }
 
 /// With how few bytes a session says that memory ran out, in steps of 64, before it comes to this text with this status. Nothing where
@@ -65,7 +82,7 @@ pub fn scarce_text<H: AllocGlobal + Threads + Wait + Clock + Sync>(
     let alloc = rt.alloc();
     let words = read_words(alloc, words)?;
     let input = read_input(alloc, book, input)?;
-    let (code, room) = written(rt, words.as_slice(), input.as_slice());
+    let (code, room) = written_below(rt, words.as_slice(), input.as_slice());
     let mut hoard = Hoard::new(alloc)?;
     let whole = (code, room.written());
     let refused = refused_before(rt, &mut hoard, words.as_slice(), input.as_slice(), whole);
@@ -80,6 +97,38 @@ pub fn scarce_text<H: AllocGlobal + Threads + Wait + Clock + Sync>(
     text.into_line()
 }
 
+/// A run in threads, while no piece is left that a stack fits in. The second answer is true where memory ran out.
+fn run_without_stacks<H: AllocGlobal + Threads + Wait + Clock + Sync>(
+    rt: &H,
+    verified: &Verified,
+    given: &Given,
+) -> Result<(Closed, bool), Complaint> {
+    let alloc = rt.alloc();
+    let mut hoard = Hoard::new(alloc)?;
+    hoard.take(alloc, 1 << 40, 1 << 22);
+    let (inputs, limit) = (given.inputs.as_slice(), given.limit);
+    let came = run(rt, alloc, verified, inputs, given.layout, limit, &NoGate);
+    drop(hoard);
+    match came {
+        Ok(ended) => Ok(ended),
+        Err(_) => Err(Complaint::NotOpened),
+    }
+}
+
+/// Makes the events of a host that is closed on the reference machine.
+fn steps_ended(
+    alloc: Global,
+    bytes: &[u8],
+    given: &Given,
+    closed: &Closed,
+) -> Result<(), Complaint> {
+    let Closed::Ended { history, .. } = closed else {
+        return Err(Complaint::NotRefused);
+    };
+    let events = events_of(alloc, history, None)?;
+    steps_all(alloc, bytes, given, events.as_slice())
+}
+
 /// Whether a run in threads is refused one, says so, and has events that the reference machine makes.
 pub fn unthreaded_text<H: AllocGlobal + Threads + Wait + Clock + Sync>(
     rt: &H,
@@ -89,27 +138,10 @@ pub fn unthreaded_text<H: AllocGlobal + Threads + Wait + Clock + Sync>(
     let alloc = rt.alloc();
     let given = read_given(alloc, words)?;
     let verified = read_verified(alloc, bytes)?;
-    let mut hoard = Hoard::new(alloc)?;
-    hoard.take(alloc, 1 << 40, 1 << 22);
-    let (inputs, limit) = (given.inputs.as_slice(), given.limit);
-    let came = run(rt, alloc, &verified, inputs, given.layout, limit, &NoGate);
-    drop(hoard);
-    match came {
-        Ok(
-            (
-                Closed::Ended {
-                    history,
-                    outcome: _,
-                    by_seat: _,
-                },
-                true,
-            ),
-        ) => {
-            let events = events_of(alloc, &history, None)?;
-            steps_all(alloc, bytes, &given, events.as_slice())?;
-            Ok("memory, and the reference machine makes the events".to_string(alloc)?)
-        }
-        Ok(_) => Err(Complaint::NotRefused),
-        Err(_) => Err(Complaint::NotOpened),
+    let (closed, is_refused) = run_without_stacks(rt, &verified, &given)?;
+    if !is_refused {
+        return Err(Complaint::NotRefused);
     }
+    steps_ended(alloc, bytes, &given, &closed)?;
+    Ok("memory, and the reference machine makes the events".to_string(alloc)?)
 }

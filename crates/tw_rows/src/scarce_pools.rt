@@ -173,6 +173,26 @@ fn agree<R: Wait>(
     Ok(false)
 }
 
+/// The report of a run in rounds to which hardly any memory is refused.
+fn whole_of<R: Wait>(
+    rt: &R,
+    alloc: Global,
+    hoard: &mut Hoard,
+    verified: &Verified,
+    given: &Given,
+) -> Result<Text, Complaint> {
+    let actors = actors_of(alloc, given.layout)?;
+    let mut lack = Lack {
+        hoard,
+        at_refusal: AtRefusal::Again,
+        is_met: false,
+    };
+    match run_with::<Brand, R>(rt, alloc, verified, given, &actors, &mut lack, 1 << 24)? {
+        Some((Came::Over, whole)) => Ok(whole),
+        _ => Err(Complaint::NotOver),
+    }
+}
+
 /// The report of a run in rounds; and whether runs with each few bytes more come to it, where a refused turn is made again, and where the
 /// run is shut there can be read.
 pub fn scarce_pool_text<R: Wait>(
@@ -184,20 +204,28 @@ pub fn scarce_pool_text<R: Wait>(
     let given = read_given(alloc, words)?;
     let verified = read_verified(alloc, bytes)?;
     let mut hoard = Hoard::new(alloc)?;
-    let actors = actors_of(alloc, given.layout)?;
-    let mut lack = Lack {
-        hoard: &mut hoard,
-        at_refusal: AtRefusal::Again,
-        is_met: false,
-    };
-    let ran = run_with::<Brand, R>(rt, alloc, &verified, &given, &actors, &mut lack, 1 << 24)?;
-    let Some((Came::Over, mut whole)) = ran else {
-        return Err(Complaint::NotOver);
-    };
-    for at_refusal in [AtRefusal::Again, AtRefusal::Shut] {
-        if !agree(rt, alloc, &mut hoard, &verified, &given, at_refusal, &whole)? {
-            return Err(Complaint::RefusalDiffers);
-        }
+    let mut whole = whole_of(rt, alloc, &mut hoard, &verified, &given)?;
+    let goes = agree(
+        rt,
+        alloc,
+        &mut hoard,
+        &verified,
+        &given,
+        AtRefusal::Again,
+        &whole,
+    )?;
+    if !goes
+        || !agree(
+            rt,
+            alloc,
+            &mut hoard,
+            &verified,
+            &given,
+            AtRefusal::Shut,
+            &whole,
+        )?
+    {
+        return Err(Complaint::RefusalDiffers);
     }
     whole.put("made again, and shut");
     whole.into_line()
