@@ -2,7 +2,7 @@
 # Runs each command `$ ./tw ..` that README.md, docs/ and examples/sessions.txt show, and those of tools/scripted.txt, which only the script
 # can play, and compares what it writes to standard
 # output with what stands below it; of a refusal, also that standard error names its explanation; and that `./tw --help` lists
-# the commands that the program lists. Tells of each that differs, and fails where one does.
+# the commands that the program lists, and that the files for editors and shells are up to date. Tells of each that differs, and fails where one does.
 #
 #   tools/shown.sh           by the proved program, which is built where it isn't there
 #   tools/shown.sh --trial   by trial builds
@@ -95,6 +95,7 @@ if [ "$1" != --trial ]; then
     "$root/crates/tw_main/out/tw_main" --help | commands | grep -v '^help ' >wanted
     ./tw --help | commands | grep -v '^build \|^test ' >printed
     diff wanted printed || differ=$((differ + 1))
+    "$root/tools/editor.sh" --check || differ=$((differ + 1))
 fi
 echo "$shown shown, $differ differ"
 [ "$differ" = 0 ]

@@ -1,0 +1,23 @@
+# What bash completes behind tw and ./tw. tools/editor.sh writes this file.
+_tw() {
+    local word=${COMP_WORDS[COMP_CWORD]} command=${COMP_WORDS[1]}
+    COMPREPLY=()
+    if [ "$COMP_CWORD" = 1 ]; then
+        COMPREPLY=($(compgen -W "asm disasm check run replay picture explain build test help --help --version" -- "$word"))
+        return
+    fi
+    case $command:$word in
+        help:*) COMPREPLY=($(compgen -W "asm disasm check run replay picture explain build test" -- "$word")) ;;
+        asm:-*) COMPREPLY=($(compgen -W "--help" -- "$word")) ;;
+        disasm:-*) COMPREPLY=($(compgen -W "--text --places --help" -- "$word")) ;;
+        check:-*) COMPREPLY=($(compgen -W "--text --places --help" -- "$word")) ;;
+        run:-*) COMPREPLY=($(compgen -W "--engines --servers --workers --limit --trace --in-turn --stats --picture --text --inputs --help" -- "$word")) ;;
+        replay:-*) COMPREPLY=($(compgen -W "--engines --servers --workers --stats --text --inputs --help" -- "$word")) ;;
+        picture:-*) COMPREPLY=($(compgen -W "--engines --servers --workers --text --inputs --help" -- "$word")) ;;
+        explain:-*) COMPREPLY=($(compgen -W "--help" -- "$word")) ;;
+        run:* | replay:* | picture:*) COMPREPLY=($(compgen -W "int: ints: text: texts: tints: ttexts:" -- "$word") $(compgen -f -- "$word")) ;;
+        asm:* | check:* | disasm:*) COMPREPLY=($(compgen -f -- "$word")) ;;
+    esac
+    case ${COMPREPLY[0]} in *:) compopt -o nospace ;; esac
+}
+complete -o filenames -o bashdefault -F _tw tw
