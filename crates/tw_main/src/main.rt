@@ -3,16 +3,30 @@
 
 use std::rt::Env;
 use std::{env, io};
-use tw_session::{Status, session, without_words};
+use tw_session::{Close, Status, complaint, session, without_words};
 
 fn own_words(rt: &(impl Env + AllocGlobal)) -> io::Result<Vec<String>> {
     Ok(env::args(rt)?.skip(1).collect(rt.alloc())?)
 }
 
+/// Tells on standard error why a command line was refused. Where that can't be told the status stays as it is.
+fn complain(rt: &(impl Eprint + AllocGlobal), status: Status, words: &[String]) {
+    if status != Status::Ended(Close::CommandLine) {
+        return;
+    }
+    if let Ok(Some(line)) = complaint(rt.alloc(), words) {
+        let _told = eprint!(rt; "{line}");
+    }
+}
+
 fn main(rt: HostRuntime) -> Status {
     let mut writer = rt.stdout();
     match own_words(&rt) {
-        Ok(words) => session(&rt, words.as_slice(), &mut rt.stdin(), &mut writer),
+        Ok(words) => {
+            let status = session(&rt, words.as_slice(), &mut rt.stdin(), &mut writer);
+            complain(&rt, status, words.as_slice());
+            status
+        }
         Err(error) => without_words(error.kind(), &mut writer),
     }
 }
