@@ -13,7 +13,7 @@ use crate::procedure::Procedure;
 use tw_types::{AsValue, DataType, Input, Param, Scalar, Text, ValueRef};
 
 /// The greatest number of members that an input may have.
-const MAX_MEMBERS: usize = 1000;
+pub const MAX_MEMBERS: usize = 1000;
 
 /// Whether there are as many inputs as main takes.
 pub fn has_input_count(program: &[Procedure], inputs: &[Input]) -> bool
@@ -30,7 +30,7 @@ pub fn has_fitting_inputs(program: &[Procedure], inputs: &[Input]) -> bool
 }
 
 /// How many parameters an input stands for.
-fn input_count(params: &[Param]) -> usize
+pub fn input_count(params: &[Param]) -> usize
     ensures { result ≡ length (input_params params.now) }
 {
     params.iter().filter(|param| !param.mode.is_write()).count()
@@ -98,7 +98,7 @@ fn are_members<K: AsValue, V: AsValue>(members: &[(K, V)]) -> bool
 }
 
 /// Whether each subscript is greater than the one before.
-fn rises<K: AsValue, V: AsValue>(members: &[(K, V)]) -> bool
+pub fn rises<K: AsValue, V: AsValue>(members: &[(K, V)]) -> bool
     ensures { result ≡ rises (members_by K.value V.value members.now) }
 {
     match members.split_first() {

@@ -1,0 +1,12 @@
+pub mod Breaks
+pub mod Bytes
+pub mod FirstFault
+pub mod Formats
+pub mod Instructions
+pub mod Joined
+pub mod Loop
+pub mod Numbers
+pub mod Programs
+pub mod TextFormat
+pub mod Types
+pub mod VersionOne

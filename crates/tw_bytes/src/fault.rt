@@ -1,0 +1,104 @@
+//! Why bytes are no program.
+
+ghost use Rattle.std.specs.Prelude.{◌≡◌, length};
+ghost use Rattle.tw_bytes.specs.Fault.{fault_number};
+ghost use Rattle.tw_bytes.specs.declared.fault.FaultNo.TheVariants.{Missing};
+ghost use Rattle.tw_bytes.specs.declared.fault.Stop.TheVariants.{At};
+ghost use Rattle.tw_bytes.specs.declared.fault.Stop.TheVariants as stop;
+
+use std::alloc::{AllocError, AllocFailed};
+use thiserror::Error;
+
+/// What is wrong, F01 to F09 in this order.
+#[derive(Clone, Copy, Debug)]
+pub enum FaultNo {
+    /// A magic byte differs.
+    Magic,
+    /// There is no such version.
+    Version,
+    /// The input ends too early.
+    Missing,
+    /// A count, a register, a target, a number of turns or a text's length is out of its limits.
+    Limit,
+    /// A kind, mode, type or opcode isn't known in the version, or the type can't stand there.
+    Unknown,
+    /// A container in three containers.
+    Nesting,
+    /// A text isn't UTF-8.
+    Utf8,
+    /// Bytes stand after the end of the program.
+    Trailing,
+    /// Memory ran out, so nothing is known of the bytes.
+    NoMemory,
+}
+
+impl FaultNo {
+    /// The number behind the letter F, from 1.
+    pub fn number(self) -> u8
+        ensures { result ≡ fault_number self }
+    {
+        self as u8 + 1
+    }
+}
+
+/// The first fault from the left, and where its item begins.
+///
+/// Where bytes are missing the offset is the input's length, and where memory ran out it is 0.
+#[derive(Clone, Copy, Debug, Error)]
+#[error("F{:02} at byte {offset}", .no.number())]
+pub struct Fault {
+    pub no: FaultNo,
+    pub offset: usize,
+}
+
+/// A fault, by how many bytes of the input are left where its item begins.
+#[derive(Clone, Copy)]
+pub struct Broken {
+    pub no: FaultNo,
+    pub left: usize,
+}
+
+/// Why reading stopped.
+#[derive(Drop)]
+pub enum Stop {
+    NoMemory,
+    At(Broken),
+}
+
+impl Stop {
+    /// The input ends before the item is whole.
+    pub fn missing() -> Stop
+        ensures { result ≡ At (record { no = Missing; left = 0 }) }
+    {
+        Stop::At(Broken {
+            no: FaultNo::Missing,
+            left: 0,
+        })
+    }
+
+    /// The item at the front of these bytes is wrong.
+    pub fn wrong(no: FaultNo, bytes: &[u8]) -> Stop
+        ensures { result ≡ At (record { no = no; left = length bytes.now }) }
+    {
+        Stop::At(Broken {
+            no,
+            left: bytes.len(),
+        })
+    }
+}
+
+impl From<AllocError> for Stop {
+    ghost from_gives = { λ _ e. e ≡ stop.NoMemory };
+
+    fn from(_e: AllocError) -> Stop {
+        Stop::NoMemory
+    }
+}
+
+impl<T: Drop> From<AllocFailed<T>> for Stop {
+    ghost from_gives = { λ _ e. e ≡ stop.NoMemory };
+
+    fn from(_e: AllocFailed<T>) -> Stop {
+        Stop::NoMemory
+    }
+}
