@@ -5,7 +5,6 @@ pub mod Written
 pub mod Histories
 pub mod HistoryReading
 pub mod Reports
-pub mod Finals
 pub mod Walks
 pub mod Writers
 pub mod PendingRules

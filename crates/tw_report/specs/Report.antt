@@ -1,5 +1,5 @@
 -- The report of a state: a line for each output, with lines for the members of a container behind it, and a line that says
--- how the run ended, or why it was over.
+-- how the run ended.
 use Rattle.std.specs.Prelude.{ℕ, suc, Bool, true, false, if◌then◌else◌, List, [], ◌∷◌, ◌++◌, codes, decimal, Option, Some, None, option_map, slice_get}
 use Rattle.std.specs.FinMap as fin
 use Rattle.std.specs.Fmt.{signed_decimal}
@@ -20,8 +20,6 @@ use Rattle.tw_code.specs.declared.procedure.Procedure.{Procedure}
 use Rattle.tw_code.specs.machine.Ending.{ending}
 use Rattle.tw_code.specs.machine.Pending.{circle}
 use Rattle.tw_code.specs.machine.State.{State}
-use Rattle.tw_pool.specs.declared.answer.Closing.{Closing}
-use Rattle.tw_pool.specs.declared.answer.Closing.TheVariants as closing
 use Rattle.tw_report.specs.Lines.{value_text}
 
 abbrev pub scalar_text : Scalar → List ℕ
@@ -113,14 +111,3 @@ ending_lines None found = codes "running\n"
 
 abbrev pub state_report : List Procedure → State → List ℕ
 state_report program s = report s.store.live s.outputs (ending_lines (ending s) (circle program s))
-
--- why a run on the pool was over, or that it wasn't: it ended by itself, or was stopped, or there was room for no event more
-abbrev pub closing_lines : Option Closing → Option (List Link) → List ℕ
-closing_lines (Some closing.Quiet) found = ending_lines (Some Quiet) found
-closing_lines (Some (closing.Stuck rules)) found = ending_lines (Some (Stuck rules)) found
-closing_lines (Some closing.Stopped) found = codes "stopped\n"
-closing_lines (Some closing.Limit) found = codes "limit\n"
-closing_lines None found = ending_lines None found
-
-abbrev pub end_report : List Procedure → State → Option Closing → List ℕ
-end_report program s over = report s.store.live s.outputs (closing_lines over (circle program s))

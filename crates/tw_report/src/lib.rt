@@ -2,8 +2,7 @@
 #![tactic(auto)]
 
 mod argument;
-mod end_report;
-mod ending_text;
+mod endings;
 mod event_line;
 mod history;
 mod laws;
@@ -16,7 +15,7 @@ mod told;
 mod walk;
 mod words;
 
-pub use end_report::{circle, report};
+pub use endings::{ending_text, text_of};
 pub use event_line::put_event_line;
 pub use history::{HistoryFault, cut_history, read_history};
 pub use laws::{events_are_read_back, one_event, one_history};
@@ -28,3 +27,4 @@ pub use outputs::put_report;
 pub use read_event::event_of;
 pub use state_report::{circle_state, ending_line, report_state};
 pub use told::Told;
+pub use walk::circle_of;

@@ -5,7 +5,7 @@ ghost use Rattle.tw_code.specs.machine.Ending.{ending};
 ghost use Rattle.tw_code.specs.machine.Pending.{circle};
 ghost use Rattle.tw_report.specs.Report.{ending_lines, state_report};
 
-use crate::ending_text::ending_text;
+use crate::endings::ending_text;
 use crate::outputs::put_report;
 use crate::pending::pending_rules;
 use crate::walk::circle_of;

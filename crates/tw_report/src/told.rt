@@ -5,12 +5,10 @@ ghost use Rattle.std.specs.FinMap.{get};
 ghost use Rattle.std.specs.Option.{option_copied};
 ghost use Rattle.tw_types.specs.Store.{Data};
 ghost use Rattle.tw_datum.specs.Kept.{KeptDatum};
-ghost use Rattle.tw_store.specs.Served.{KnowsPlaces};
 ghost use Rattle.tw_report.specs.Report.{member_told};
 
 use tw_datum::{Datum, Member};
 use tw_machine::State;
-use tw_pool::Final;
 use tw_types::{DatumId, Value};
 
 /// What has outputs, and the live data that stand in them.
@@ -69,36 +67,6 @@ impl Told for State {
     ) -> Option<(&'a Value, Option<&'a Datum<DatumId>>)> {
         match container.entry(index) {
             Some((subscript, id)) => Some((subscript, self.datum(id))),
-            None => None,
-        }
-    }
-}
-
-/// The end of a run on the pool, which looks a member up at its place.
-impl Told for Final {
-    type Kept = tw_store::Member;
-
-    ghost live = { λ f. f.store.store.live };
-
-    ghost ids = { λ f. f.outputs };
-
-    ghost IsShown = { λ f d. KnowsPlaces f.store d };
-
-    fn outputs(&self) -> &[DatumId] {
-        self.outputs()
-    }
-
-    fn datum(&self, id: DatumId) -> Option<&Datum<tw_store::Member>> {
-        self.view(id)
-    }
-
-    fn member<'a>(
-        &'a self,
-        container: &'a Datum<tw_store::Member>,
-        index: usize,
-    ) -> Option<(&'a Value, Option<&'a Datum<tw_store::Member>>)> {
-        match self.member(container, index) {
-            Some(member) => Some((member.subscript, member.datum)),
             None => None,
         }
     }

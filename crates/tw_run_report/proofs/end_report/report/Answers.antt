@@ -3,8 +3,9 @@ use Rattle.tw_types.specs.declared.pending.Link.{Link}
 use Rattle.tw_code.specs.machine.Pending.{circle}
 use Rattle.tw_types.specs.Store.{Store}
 use Rattle.tw_pool.specs.declared.answer.Closing.{Closing}
-use Rattle.tw_report.specs.Report.{closing_lines, report}
-use Rattle.tw_report.proofs.end_report.report.Goals as goal
+use Rattle.tw_report.specs.Report.{report}
+use Rattle.tw_run_report.specs.Ends.{closing_lines}
+use Rattle.tw_run_report.proofs.end_report.report.Goals as goal
 
 pub returns : goal.returns
 returns c p history shut =

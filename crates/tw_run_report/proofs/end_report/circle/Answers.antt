@@ -2,9 +2,9 @@ use Rattle.std.proofs.Common.{◌≡◌, ◌∙◌, true, List, Option, Vec, Glo
 use Rattle.std.proofs.lemmas.Result.{IfOk-weaker}
 use Rattle.tw_types.specs.Circle.{circle_of}
 use Rattle.tw_types.specs.declared.pending.Link.{Link}
-use Rattle.tw_report.specs.Ends.{IsEndCircle, has_ended}
-use Rattle.tw_report.proofs.Finals.{circle_ended}
-use Rattle.tw_report.proofs.end_report.circle.Goals as goal
+use Rattle.tw_run_report.specs.Ends.{IsEndCircle, has_ended}
+use Rattle.tw_run_report.proofs.Finals.{circle_ended}
+use Rattle.tw_run_report.proofs.end_report.circle.Goals as goal
 
 pub returns : goal.returns
 returns c =

@@ -1,15 +1,27 @@
--- What is said of the end of a run on the pool: of each run that may have left it, in the state to which its history leads.
-use Rattle.std.specs.Prelude.{◌≡◌, ℕ, Bool, true, false, List, Option, Some, None}
+-- The report of the end of a run on the pool: of each run that may have left it, in the state to which its history leads.
+use Rattle.std.specs.Prelude.{◌≡◌, ℕ, Bool, true, false, List, codes, Option, Some, None}
 use Rattle.tw_types.specs.declared.pending.Link.{Link}
 use Rattle.tw_code.specs.declared.procedure.Procedure.{Procedure}
 use Rattle.tw_code.specs.machine.Pending.{circle}
 use Rattle.tw_code.specs.machine.State.{State}
 use Rattle.tw_pool.specs.declared.answer.Closing.{Closing}
 use Rattle.tw_pool.specs.declared.answer.Closing.TheVariants.{Quiet, Stuck, Stopped, Limit}
+use Rattle.tw_types.specs.declared.ending.Ending.TheVariants as ending
 use Rattle.tw_pool.specs.Ends.{FinalView, IsShut}
 use Rattle.tw_pool.specs.History.{HistoryView}
 use Rattle.tw_pool.specs.PoolView.{PoolView}
-use Rattle.tw_report.specs.Report.{end_report}
+use Rattle.tw_report.specs.Report.{ending_lines, report}
+
+-- why a run on the pool was over, or that it wasn't: it ended by itself, or was stopped, or there was room for no event more
+abbrev pub closing_lines : Option Closing → Option (List Link) → List ℕ
+closing_lines (Some Quiet) found = ending_lines (Some ending.Quiet) found
+closing_lines (Some (Stuck rules)) found = ending_lines (Some (ending.Stuck rules)) found
+closing_lines (Some Stopped) found = codes "stopped\n"
+closing_lines (Some Limit) found = codes "limit\n"
+closing_lines None found = ending_lines None found
+
+abbrev pub end_report : List Procedure → State → Option Closing → List ℕ
+end_report program s over = report s.store.live s.outputs (closing_lines over (circle program s))
 
 abbrev pub InEachState : FinalView → (List Procedure → State → Type 0) → Type 0
 InEachState final Holds = (p : PoolView) (history : HistoryView) (shut : IsShut p final history) → Holds p.program.program shut.state

@@ -11,7 +11,7 @@ use Rattle.tw_code.specs.machine.State.{State}
 use Rattle.tw_pool.specs.declared.answer.Closing.TheVariants as closing
 use Rattle.tw_pool.specs.PoolView.{PoolView}
 use Rattle.tw_pool.specs.Turns.{closing_at, closing_of}
-use Rattle.tw_report.specs.Ends.{has_ended}
+use Rattle.tw_run_report.specs.Ends.{has_ended}
 
 quiet_is : (q none : Bool) (n : ℕ) (stopped full : Bool) → has_ended (option_or (option_map closing_of (cond q (Some (cond none ending.Quiet (ending.Stuck n))) None)) (cond stopped (Some closing.Stopped) (cond full (Some closing.Limit) None))) ≡ q
 quiet_is true true n stopped full = refl

@@ -1,11 +1,10 @@
 //! The text that closes a report.
 
 ghost use Rattle.std.specs.Prelude.{◌≡◌, ◌++◌, IfOk, OnOk, option_map};
-ghost use Rattle.tw_report.specs.Report.{closing_lines, ending_lines, link_line, link_lines, stuck_lines};
+ghost use Rattle.tw_report.specs.Report.{ending_lines, link_line, link_lines, stuck_lines};
 
 use crate::lines::{put, put_numbered};
 use std::alloc::{AllocError, Global};
-use tw_pool::Closing;
 use tw_types::{Ending, Link};
 
 fn put_link_line(alloc: Global, out: &mut Vec<u8>, link: &Link) -> Result<(), AllocError>
@@ -40,7 +39,8 @@ fn stuck_text(alloc: Global, rules: u64, found: Option<Vec<Link>>) -> Result<Vec
     Ok(text)
 }
 
-fn text_of(alloc: Global, words: &str) -> Result<Vec<u8>, AllocError>
+/// These words, as a text of their own.
+pub fn text_of(alloc: Global, words: &str) -> Result<Vec<u8>, AllocError>
     ensures { IfOk result (λ text. text.items ≡ words.now) }
 {
     let mut text = Vec::new(alloc);
@@ -60,22 +60,5 @@ pub fn ending_text(
         Some(Ending::Quiet) => text_of(alloc, "quiet\n"),
         Some(Ending::Stuck(rules)) => stuck_text(alloc, rules, found),
         None => text_of(alloc, "running\n"),
-    }
-}
-
-/// Why a run on the pool was over, with the circle that was found, or that it wasn't.
-pub fn closing_text(
-    alloc: Global,
-    closing: Option<Closing>,
-    found: Option<Vec<Link>>,
-) -> Result<Vec<u8>, AllocError>
-    ensures { IfOk result (λ text. text.items ≡ closing_lines closing (option_map (λ v. v.items) found)) }
-{
-    match closing {
-        Some(Closing::Quiet) => ending_text(alloc, Some(Ending::Quiet), found),
-        Some(Closing::Stuck(rules)) => ending_text(alloc, Some(Ending::Stuck(rules)), found),
-        Some(Closing::Stopped) => text_of(alloc, "stopped\n"),
-        Some(Closing::Limit) => text_of(alloc, "limit\n"),
-        None => ending_text(alloc, None, found),
     }
 }

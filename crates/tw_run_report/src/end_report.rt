@@ -1,13 +1,13 @@
 //! The report of the end of a run on the pool, and the circle where it is stuck.
 
 ghost use Rattle.std.specs.Prelude.{◌≡◌, IfOk, option_map};
-ghost use Rattle.tw_report.specs.Ends.{IsEndCircle, IsEndReport, has_ended};
+ghost use Rattle.tw_run_report.specs.Ends.{IsEndCircle, IsEndReport, has_ended};
 
-use crate::ending_text::closing_text;
-use crate::outputs::put_report;
-use crate::walk::circle_of;
+use crate::closing_text::closing_text;
+use crate::left::Left;
 use std::alloc::{AllocError, Global};
 use tw_pool::{Closing, Final};
+use tw_report::{circle_of, put_report};
 use tw_types::Link;
 
 fn has_ended(closing: Option<Closing>) -> bool
@@ -36,6 +36,6 @@ pub fn report(alloc: Global, left: &Final) -> Result<Vec<u8>, AllocError>
 {
     let mut text = Vec::new(alloc);
     let closing = closing_text(alloc, left.closing(), circle(alloc, left)?)?;
-    put_report(alloc, &mut text, left, &closing)?;
+    put_report(alloc, &mut text, &Left { of: left }, &closing)?;
     Ok(text)
 }

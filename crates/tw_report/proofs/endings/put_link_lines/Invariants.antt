@@ -1,6 +1,6 @@
 use Rattle.std.proofs.Common.{◌≡◌, ◌++◌, take}
 use Rattle.tw_report.specs.Report.{link_lines}
-use Rattle.tw_report.proofs.ending_text.put_link_lines.Given as goal
+use Rattle.tw_report.proofs.endings.put_link_lines.Given as goal
 
 abbrev pub invariant-loop-link : goal.invariant-loop-link
 invariant-loop-link l = l.out.items ≡ l.fn.out.items ++ link_lines (take l.link-index l.links)
