@@ -47,14 +47,6 @@ by_int e = of_subscript e.0
     of_subscript (value.Int n) = Some (n, e.1)
     of_subscript (value.Text _) = None
 
--- the same, if it is a text
-abbrev pub by_text : Subscript × ℕ → Option (List ℕ × ℕ)
-by_text e = of_subscript e.0
-  where
-    of_subscript : Subscript → Option (List ℕ × ℕ)
-    of_subscript (value.Int _) = None
-    of_subscript (value.Text text) = Some (text, e.1)
-
 -- with no members
 abbrev pub new_kept : {M : Type 0} → NestedScalar → KeptDatum M
 new_kept ty = record { datum = new_datum ty; members = map.empty }

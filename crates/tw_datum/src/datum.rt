@@ -10,7 +10,7 @@ ghost use Rattle.tw_types.specs.StoreChecks.{is_unset};
 ghost use Rattle.tw_types.specs.TypedStore.{AreSubscriptsFor};
 ghost use Rattle.tw_types.specs.Value.{scalar_of};
 ghost use Rattle.tw_types.specs.ValueOrder.{named};
-ghost use Rattle.tw_datum.specs.Kept.{AreMembers, FitsType, bare, by_int, by_text, closed_datum, content_of, ids_if, lent, members_kept, new_kept, with_kept_member};
+ghost use Rattle.tw_datum.specs.Kept.{AreMembers, FitsType, bare, by_int, closed_datum, content_of, ids_if, lent, members_kept, new_kept, with_kept_member};
 
 use crate::member::Member;
 use crate::ranked_map::RankedMap;
@@ -163,16 +163,6 @@ impl<M: Member> Datum<M> {
         match self.entry(index) {
             Some((Value::Int(subscript), id)) => Some((*subscript, id)),
             Some((Value::Text(_), _)) | None => None,
-        }
-    }
-
-    /// The same of a container by texts.
-    pub fn text_member(&self, index: usize) -> Option<(&str, DatumId)>
-        ensures { option_map lent result ≡ option_and_then by_text (slice_get (map.entries (members_in self.now.datum.content)) index) }
-    {
-        match self.entry(index) {
-            Some((Value::Text(subscript), id)) => Some((subscript.as_str(), id)),
-            Some((Value::Int(_), _)) | None => None,
         }
     }
 

@@ -3,14 +3,13 @@ use Rattle.std.proofs.Common.{◌≡◌, ℕ, ◌+◌, ◌==◌, Bool, true, fal
 use Rattle.std.specs.FinMap.{get, remove}
 use Rattle.std.specs.List.{list_all}
 use Rattle.tw_types.specs.declared.actor.Actor.{Actor}
-use Rattle.tw_types.specs.declared.cause.Cause.{Cause}
 use Rattle.tw_types.specs.declared.cause.Cause.TheVariants.{RightLeft}
 use Rattle.tw_types.specs.declared.event.Event.{Event}
 use Rattle.tw_types.specs.declared.event.Event.TheVariants.{Take, Local, Call, End, Ask, Deliver, Release}
 use Rattle.tw_types.specs.Actor.{actor_cmp}
 use Rattle.tw_types.proofs.ActorOrder.{actor_cmp_total, actor_cmp-IsAntisymmetric}
 use Rattle.tw_types.specs.Layout.{ActorCounts}
-use Rattle.tw_types.specs.Outcome.{Outcome, Went, NotEnabled, Trap, ◌>>◌, only_if, outcome_of}
+use Rattle.tw_types.specs.Outcome.{Outcome, Went, NotEnabled, ◌>>◌, only_if, outcome_of}
 use Rattle.tw_types.specs.Result.{must}
 use Rattle.tw_types.specs.Store.{Store}
 use Rattle.tw_code.specs.declared.instr.Instr.{Instr}
@@ -26,7 +25,7 @@ use Rattle.tw_no_trap.proofs.Framed.{types_framed, budgets_framed}
 use Rattle.tw_types.proofs.Freeing.{balanced_same}
 use Rattle.tw_types.proofs.Parts.{before_removal}
 use Rattle.tw_no_trap.proofs.RuleEvents.{ask_keeps, deliver_keeps, release_keeps}
-use Rattle.tw_no_trap.proofs.Steps.{Keeps, keeps_more, keeps_no_trap, waits_keeps}
+use Rattle.tw_no_trap.proofs.Steps.{Keeps, keeps_more, waits_keeps}
 use Rattle.tw_no_trap.proofs.TaskEvents.{Starts, take_keeps}
 use Rattle.tw_no_trap.proofs.Whole.{Turn, call_keeps}
 use Rattle.tw_no_trap.proofs.Sums.{sum_apart, sum_replaced}
@@ -149,6 +148,3 @@ module _ (program : List Procedure) (typings : Typings) where
     unfolding run
     run_keeps [] s held = held
     run_keeps (event ∷ events) s held = keeps_more (step program layout event s) (run program layout events) (IsHeld program typings) (IsHeld program typings) (step_keeps event s held) (λ next kept. run_keeps events next kept)
-
-    pub no_trap : (event : Event) (s : State) (cause : Cause) → IsHeld program typings s → step program layout event s ≡ Trap cause → ⊥
-    no_trap event s cause held e = keeps_no_trap (step program layout event s) (IsHeld program typings) cause (step_keeps event s held) e

@@ -1,24 +1,21 @@
 -- What a turn needs: an instruction of a task that runs goes, a task begins, and what an engine asks for is a read.
-use Rattle.std.proofs.Common.{[], ◌≡◌, ℕ, ◌+◌, ◌<◌, List, slice_get, Some, refl, sym, ap, ◌∙◌, arith}
+use Rattle.std.proofs.Common.{◌≡◌, ℕ, ◌+◌, ◌<◌, List, slice_get, Some, sym, ap, ◌∙◌, arith}
 use Rattle.std.specs.Prelude.{Ok}
 use Rattle.std.proofs.lemmas.Option.{same_Some}
 use Rattle.std.specs.FinMap.{get}
 use Rattle.tw_types.specs.declared.actor.Actor.{Actor}
 use Rattle.tw_types.specs.Outcome.{Went}
-use Rattle.tw_types.specs.Task.{Task}
 use Rattle.tw_code.specs.declared.instr.DataInstr.{DataInstr}
 use Rattle.tw_code.specs.declared.instr.Instr.TheVariants as instr
 use Rattle.tw_code.specs.declared.procedure.Procedure.{Procedure}
 use Rattle.tw_code.specs.accepting.Flow.{flows}
 use Rattle.tw_code.specs.accepting.Walk.{greatest_budget}
-use Rattle.tw_code.specs.accepting.Typing.{value_types}
 use Rattle.tw_code.specs.format.Program.{IsProgram}
 use Rattle.tw_code.specs.machine.Data.{Context, data_instr}
 use Rattle.tw_code.specs.machine.Holders.{Typings}
 use Rattle.tw_code.specs.machine.Machine.{local_steps}
 use Rattle.tw_code.specs.machine.Position.{Position}
-use Rattle.tw_code.specs.machine.Rights.{first_rights}
-use Rattle.tw_code.specs.machine.State.{Frame, State, context_of, frame_of, ids_in, values_in}
+use Rattle.tw_code.specs.machine.State.{Frame, State, context_of}
 use Rattle.tw_budget.proofs.FrameLaws.{below_budget}
 use Rattle.tw_no_trap.specs.Invariant.{IsHeld}
 use Rattle.tw_no_trap.specs.NoTrap.{AreRight}
@@ -26,18 +23,8 @@ use Rattle.tw_no_trap.proofs.Accepted as acceptance
 use Rattle.tw_no_trap.proofs.Conditions.{goes_ok}
 use Rattle.tw_no_trap.proofs.Running.{steps_stand}
 use Rattle.tw_no_trap.proofs.Safe.{accepts}
-use Rattle.tw_no_trap.proofs.Taking.{args_values, filled_fits}
 
 module _ (program : List Procedure) (typings : Typings) (is : IsProgram program) (are : AreRight program typings) (s : State) (held : IsHeld program typings s) where
-  -- a task that waits can begin
-  pub begins : (number : ℕ) (task : Task) → get s.tasks number ≡ Some task → (frame : Frame) × (frame_of program number task ≡ Ok frame)
-  begins number task waits =
-      let here = held.types.procedures.tasks number task waits in
-      let p = here.0 in
-      let first = (acceptance.accepted program typings (accepts program typings is are)).starts task.procedure p here.1 in
-      let all = filled_fits (value_types p.params) p.registers (values_in task.args) (args_values s.store p.params task.args (held.types.args number task p waits here.1)) first.few first.fit in
-      (record { task = number; procedure = task.procedure; position = record { place = 0; values = all.0; loops = [] }; rights = first_rights (ids_in task.args); spent = 0 }, rw (here.1, all.1) refl)
-
   module _ (a : Actor) (f : Frame) (runs : get s.frames a ≡ Some f) (p : Procedure) (here : slice_get program f.procedure ≡ Some p) where
     -- its instruction on data goes
     pub data_goes : (d : DataInstr) → slice_get p.code f.position.place ≡ Some (instr.Data d) → (k : Context) × (data_instr d (context_of s f) ≡ Ok k)

@@ -1,5 +1,6 @@
 -- A line is gone along just where some statement goes on so.
 use Rattle.std.proofs.Common.{◌≡◌, ◌+◌, ◌&&◌, ◌||◌, ◌==◌, ℕ, zero, suc, Bool, true, false, not, cond, List, [], ◌∷◌, codes, drop, length, Option, None, Some, Ok, Err, refl, sym, ap, ◌∙◌, add-one}
+use Rattle.std.specs.Cmp.{second_so}
 use Rattle.std.specs.Prelude.{nat_lt, slice_get}
 use Rattle.std.specs.Borrow.{Bor}
 use Rattle.std.specs.Str.{bytes_eq}
@@ -120,13 +121,9 @@ drop_more (g ∷ fs) zero f gs e = tail_of g f fs gs e
     tail_of x y xs ys h = cc
 drop_more (g ∷ fs) (suc k) f gs e = drop_more fs k f gs e
 
-and_second : (a b : Bool) → (a && b) ≡ true → b ≡ true
-and_second true b e = e
-and_second false b e = absurd (untrue e)
-
 tail_lasts : (f : OperandForm) (fs : List OperandForm) → lasts (f ∷ fs) ≡ true → lasts fs ≡ true
 tail_lasts f [] l = refl
-tail_lasts f (g ∷ fs) l = and_second (not (stands_last f)) (lasts (g ∷ fs)) l
+tail_lasts f (g ∷ fs) l = second_so (not (stands_last f)) (lasts (g ∷ fs)) l
 
 type_on : (s c : Bool) (a b : Read) (g : Read → Bool) → go_on (cond s (Some a) (only_if c b)) g ≡ cond s (g a) (c && g b)
 type_on true c a b g = refl

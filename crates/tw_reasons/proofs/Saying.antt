@@ -18,7 +18,7 @@ use Rattle.tw_asm.specs.Statement.{AnyShortName, Code, Head, Label, OfVersion, R
 use Rattle.tw_asm.specs.Fault.{LineSays, LinesSay, Situation, after_line, at_start, situation, situation_from}
 use Rattle.tw_asm.specs.reading.Lines.{before_colon, opcode_in}
 use Rattle.tw_asm.proofs.Answered.{first_is, none_some, proc_is_none, regs_is_none, version_is_none}
-use Rattle.tw_asm.proofs.Sayings.{code_first, no_label, nonempty}
+use Rattle.tw_asm.proofs.Sayings.{code_first, no_label}
 use Rattle.tw_asm.proofs.Spelled.{bare_is}
 use Rattle.tw_asm.proofs.Table.{found_back, no_colon}
 use Rattle.tw_reasons.specs.Says.{behind, says_of, situation_of}
@@ -52,25 +52,8 @@ first_said version (Code i) w ws say =
     let k = code_first version AnyShortName i word ws (subst (λ (v : Word). Spells version AnyShortName (Code i) (v ∷ ws)) h.0 say.0) in
     (word, k.0, h.0, k.1)
 
-pub none_said : (version : Version) (statement : Statement) → Say version statement [] → ⊥
-none_said version (OfVersion number) say = nonempty AnyShortName (codes "version") (Natural number ∷ []) say.0.parts
-none_said version (Head kind params) say = nonempty AnyShortName (codes "proc") (Name (kind_word kind) ∷ flat_map param_parts params) say.0.parts
-none_said version (Registers registers) say = nonempty AnyShortName (codes "regs") (map register_part registers) say.0.parts
-none_said version (Label name) say = nonempty AnyShortName (name ++ codes ":") [] say.0.parts
-none_said version (Code i) say = nonempty AnyShortName (word_of (row i).0) (flat_map operand_parts (row i).1) say.0.parts
-
 pub quoted_apart : (text word : List ℕ) → Quoted text ≡ Bare word → ⊥
 quoted_apart text word e = cc
-
-pub quoted_said : (version : Version) (statement : Statement) (text : List ℕ) (ws : List Word) → Say version statement (Quoted text ∷ ws) → ⊥
-quoted_said version statement text ws say = by statement (first_said version statement (Quoted text) ws say)
-  where
-    by : (s : Statement) → IsFirst version s (Quoted text) ws → ⊥
-    by (OfVersion number) f = quoted_apart text (codes "version") f.0
-    by (Head kind params) f = quoted_apart text (codes "proc") f
-    by (Registers registers) f = quoted_apart text (codes "regs") f
-    by (Label name) f = quoted_apart text (name ++ codes ":") f
-    by (Code i) f = quoted_apart text f.0 f.2
 
 -- ---- what a first word says
 
@@ -200,10 +183,6 @@ split_last number s (l ∷ ls) line (x ∷ said) h =
 -- the situation behind these lines, whatever they say that can follow
 abbrev pub Stands : List (List ℕ) → declared.Situation → Type 0
 Stands ls now = (said : List (Option Statement)) → LinesSay 1 at_start ls said → now ≡ situation_of (situation said)
-
-pub stands_first : (now : declared.Situation) → now ≡ situation_of at_start → Stands [] now
-stands_first now e [] h = e
-stands_first now e (x ∷ said) h = absurd h
 
 pub stands_on : (ls : List (List ℕ)) (line : List ℕ) (now next : declared.Situation) (told : Says) → Stands ls now → ((s : Situation) (said : Option Statement) → LineSays s line said → told ≡ says_of said) → next ≡ behind now told
     → Stands (ls ++ (line ∷ [])) next

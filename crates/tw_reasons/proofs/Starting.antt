@@ -1,5 +1,6 @@
 -- Behind its first word a line is gone along just where some statement goes on so; and from wherever it stands some words end it.
 use Rattle.std.proofs.Common.{◌≡◌, ◌&&◌, ℕ, zero, suc, Bool, true, false, not, cond, List, [], ◌∷◌, codes, drop, Option, None, Some, Result, refl, sym, ap, ◌∙◌, inl, inr}
+use Rattle.std.specs.Cmp.{second_so}
 use Rattle.std.specs.Prelude.{slice_get}
 use Rattle.std.specs.Borrow.{Bor}
 use Rattle.std.specs.List.{AllByRecursion}
@@ -147,13 +148,9 @@ version_fits = refl
 both_fit : {A B : Type 0} (a : Result A Flaw) (b : Result B Flaw) → has_form a ≡ true → has_form b ≡ true → has_form (both a b) ≡ true
 both_fit a b e f = form_both a b ∙ ap (λ (x : Bool). x && has_form b) e ∙ f
 
-second : (a b : Bool) → (a && b) ≡ true → b ≡ true
-second true b e = e
-second false b e = absurd (untrue e)
-
 behind_first : (f : OperandForm) (fs : List OperandForm) → lasts (f ∷ fs) ≡ true → lasts fs ≡ true
 behind_first f [] l = refl
-behind_first f (g ∷ fs) l = second (not (stands_last f)) (lasts (g ∷ fs)) l
+behind_first f (g ∷ fs) l = second_so (not (stands_last f)) (lasts (g ∷ fs)) l
 
 line_ends : (version : Version) (fs : List OperandForm) → lasts fs ≡ true → Ends version fs
 line_ends version [] l = ([], refl, tt)

@@ -1,5 +1,5 @@
 -- Where a line stops, its words so far begin a statement, and with what stands there they begin none.
-use Rattle.std.proofs.Common.{◌≡◌, ◌+◌, ℕ, true, false, List, [], ◌∷◌, ◌++◌, length, Option, None, Some, option_map, refl, sym, ap, subst, ◌∙◌, append_assoc}
+use Rattle.std.proofs.Common.{◌≡◌, ◌+◌, ℕ, true, false, List, [], ◌∷◌, ◌++◌, length, Option, None, Some, refl, sym, ap, subst, ◌∙◌, append_assoc}
 use Rattle.std.specs.Borrow.{Bor}
 use Rattle.std.specs.List.{AllByRecursion}
 use Rattle.std.proofs.lemmas.List.{append-nil, length-append}
@@ -13,7 +13,6 @@ use Rattle.tw_asm.specs.reading.Lines.{statement_in}
 use Rattle.tw_asm.proofs.OperandWords.{IsFine}
 use Rattle.tw_reasons.specs.Going.{after, first_read, go_on, goes, has_form, may_end}
 use Rattle.tw_reasons.specs.Stops.{Begin, Ends, IsFound, IsText}
-use Rattle.tw_reasons.specs.declared.step.Ahead.{Ahead}
 use Rattle.tw_reasons.specs.declared.step.Read.{Read}
 use Rattle.tw_reasons.specs.declared.stop.Found.{Found}
 use Rattle.tw_reasons.specs.declared.stop.Found.TheVariants as found
@@ -92,10 +91,3 @@ module _ (version : Version) (expected : First) (first line rest : List ℕ) (co
     (rest, f.are, blank),
     subst (λ (ws : List Word). HaveForm version (Bare f.word.now ∷ ws)) (append-nil f.others) (formed version f.word.now (f.others ++ []) (fine_both f.others [] f.fine tt) (form_is [] ∙ e)),
   )
-
--- what has been read, by the code's own step
-pub read_with : (version : Version) (now : Read) (w : Word) (r : Option Ahead) (next : Ahead) → option_map (λ (a : Ahead). a.read) r ≡ after version now w → r ≡ Some next → after version now w ≡ Some next.read
-read_with version now w r next e is = sym e ∙ ap (option_map (λ (a : Ahead). a.read)) is
-
-pub read_none : (version : Version) (now : Read) (w : Word) (r : Option Ahead) → option_map (λ (a : Ahead). a.read) r ≡ after version now w → r ≡ None → after version now w ≡ None
-read_none version now w r e is = sym e ∙ ap (option_map (λ (a : Ahead). a.read)) is

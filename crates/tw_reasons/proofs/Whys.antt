@@ -16,10 +16,6 @@ use Rattle.tw_reasons.specs.Told.{AddsLineReason, AddsWhy, IsBefore, IsLineReaso
 use Rattle.tw_reasons.specs.declared.stop.Stop.{Stop}
 use Rattle.tw_reasons.specs.declared.told.Said.{Said}
 
--- a stop that is told
-pub stopped : (line old new : List ℕ) (stop : Stop) (say : Said) → IsStop line stop → new ≡ old ++ stop_line stop (said_text say stop.found) → AddsLineReason line old new
-stopped line old new stop say is e = (stop_line stop (said_text say stop.found), inr (inl (stop, say, is, refl)), e)
-
 in_situation : (s : Situation) (which : FaultNo) (line reason : List ℕ) → (which ≡ fault.Word → ⊥) → (which ≡ fault.Operand → ⊥) → IsLineReason line reason → IsReasonIn s which line reason
 in_situation s fault.Word line reason other another h = absurd (other refl)
 in_situation s fault.Operand line reason other another h = absurd (another refl)

@@ -1,5 +1,6 @@
 -- Chains of a history with one event more.
 use Rattle.std.proofs.Common.{arith, ◌≡◌, ◌+◌, ◌<◌, ◌≤◌, ◌⊎◌, inl, inr, ℕ, zero, suc, Bool, true, false, List, [], ◌∷◌, ◌++◌, ◌||◌, ◌-◌, ◌^◌, min, length, get_or, refl, sym, ap, subst, ◌∙◌}
+use Rattle.std.proofs.lemmas.Bool.{or_left, or_right}
 use Rattle.std.specs.Prelude.{max, if◌then◌else◌}
 use Rattle.std.proofs.Math.Nat.{le-max_left, le-max_right, max-eq_left, max-eq_right, max-le}
 use Rattle.std.proofs.lemmas.Bool.{cases_lt}
@@ -29,14 +30,6 @@ last_or moments x m h = elim (Contains-append_cases moments (x ∷ []) m h) [ in
 
 there : (moments : List Moment) (x : Moment) → Contains (moments ++ x ∷ []) x
 there moments x = Contains-append_right moments (x ∷ []) x (0, omega arith, refl)
-
-either_left : (a b : Bool) → a ≡ true → (a || b) ≡ true
-either_left true b h = refl
-either_left false b h = cc
-
-either_right : (a b : Bool) → b ≡ true → (a || b) ≡ true
-either_right true b h = refl
-either_right false b h = h
 
 either : (a b : Bool) → (a || b) ≡ true → (a ≡ true) ⊎ (b ≡ true)
 either true b h = inl refl
@@ -93,11 +86,11 @@ module _ (program : List Procedure) (moments : List Moment) where
 
     brings_first : (y : Thing) (things : List Thing) (chain : List Moment) → BringsLast program y chain → BringsSome (y ∷ things) chain
     brings_first y things [] h = tt
-    brings_first y things (last ∷ chain) h = either_left (has_thing (brings program last) y) (list_any (has_thing (brings program last)) things) h
+    brings_first y things (last ∷ chain) h = or_left (has_thing (brings program last) y) (list_any (has_thing (brings program last)) things) h
 
     brings_other : (y : Thing) (things : List Thing) (chain : List Moment) → BringsSome things chain → BringsSome (y ∷ things) chain
     brings_other y things [] h = tt
-    brings_other y things (last ∷ chain) h = either_right (has_thing (brings program last) y) (list_any (has_thing (brings program last)) things) h
+    brings_other y things (last ∷ chain) h = or_right (has_thing (brings program last) y) (list_any (has_thing (brings program last)) things) h
 
     found : (things : List Thing) → Found things
     found [] = record { chain = []; is = tt; brings = tt; has = refl }

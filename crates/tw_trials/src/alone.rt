@@ -4,7 +4,7 @@ use crate::jobs::stretch_of;
 use std::alloc::{AllocError, Global};
 use std::rt::Env;
 use std::{env, io};
-use tw_code::decode;
+use tw_bytes::decode;
 use tw_verify::{Verified, verify};
 
 /// The bytes that the word behind `steps` spells in hex digits, and the number that the word behind that one spells: 1 where there is none.

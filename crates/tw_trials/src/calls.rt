@@ -357,7 +357,7 @@ fn look_text(store: &mut Store, right: &ReadRight, subscript: &str) -> Answer
     if !may_look(store, right.id(), ValueRef::Text(subscript)) {
         return Answer::Barred;
     }
-    id_of(store.look_text(right, subscript))
+    id_of(store.look_under(right, ValueRef::Text(subscript)))
 }
 
 fn size(store: &Store, right: &ReadRight) -> Answer
@@ -380,17 +380,15 @@ fn subscript_at(store: &Store, right: &ReadRight, index: i64) -> Answer
         .map_or(Answer::Nothing, Answer::Number)
 }
 
-fn text_at(store: &Store, alloc: Global, right: &ReadRight, index: i64) -> Answer
+fn text_at(store: &Store, right: &ReadRight, index: i64) -> Answer
     requires { IsHere store.now right.now }
 {
     if !may_read_by(Scalar::Text, store.view(right.id())) {
         return Answer::Barred;
     }
-    match store.text_at(alloc, right, index) {
-        Ok(Some(text)) => answer_of_text(&text),
-        Ok(None) => Answer::Nothing,
-        Err(_) => Answer::Refused,
-    }
+    store
+        .nth_subscript(right, index)
+        .map_or(Answer::Nothing, answer_of)
 }
 
 fn copy_read(store: &mut Store, right: &ReadRight) -> Answer
@@ -470,7 +468,10 @@ fn insert_text(
     requires proper { IsText subscript.now }
 {
     match member_given(store, right, Scalar::Text, member) {
-        Some(given) => insertion(member, store.insert_text(alloc, right, subscript, given)),
+        Some(given) => insertion(
+            member,
+            store.insert_under(alloc, right, ValueRef::Text(subscript), given),
+        ),
         None => Answer::Barred,
     }
 }
@@ -557,7 +558,7 @@ fn by_read(store: &mut Store, alloc: Global, id: u64, call: Call) -> Answer {
         Call::LookText(_, word) => look_text(store, &right, word.as_str()),
         Call::Size(_) => size(store, &right),
         Call::SubscriptAt(_, index) => subscript_at(store, &right, index),
-        Call::TextAt(_, index) => text_at(store, alloc, &right, index),
+        Call::TextAt(_, index) => text_at(store, &right, index),
         Call::CopyRead(_) => copy_read(store, &right),
         Call::Ask(_, rule, parameter) => ask(store, &right, rule, parameter),
         Call::DropRead(_) => return drop_read(store, right),

@@ -6,7 +6,8 @@ ghost use Rattle.tw_code.specs.machine.Bounds.{AreBelow, opening_bound, size_of}
 use std::alloc::{AllocError, Global};
 use tw_machine::Plain;
 use tw_pool::{Closing, Final};
-use tw_report::{put_report, report, report_state};
+use tw_report::{put_report, report_state};
+use tw_run_report::report;
 use tw_types::Event;
 
 /// Whether an event does at most a thousand million instructions.

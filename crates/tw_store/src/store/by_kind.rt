@@ -1,22 +1,21 @@
-//! Members by integers, and by texts.
+//! Members by integers.
 
-ghost use Rattle.std.specs.Prelude.{◌≡◌, IfOk, option_map};
+ghost use Rattle.std.specs.Prelude.{◌≡◌, option_map};
 ghost use Rattle.std.specs.FinMap as map;
 ghost use Rattle.std.specs.FinMap.{get};
 ghost use Rattle.std.specs.declared.result.Result.TheVariants.{Ok};
 ghost use Rattle.tw_types.specs.declared.data_type.Scalar.TheVariants as scalar;
-ghost use Rattle.tw_types.specs.declared.value.Value.TheVariants.{Int as INT, Text as TEXT};
+ghost use Rattle.tw_types.specs.declared.value.Value.TheVariants.{Int as INT};
 ghost use Rattle.tw_types.specs.StoreCalls.{members_at, subscript_after};
 ghost use Rattle.tw_types.specs.StoreChecks.{may_insert, may_look, may_read_members_by};
-ghost use Rattle.tw_types.specs.Text.{IsText};
 ghost use Rattle.tw_store.specs.Served.{IsHere};
 ghost use Rattle.tw_store.specs.Calls.{IsInsertion, IsLook, HasMemberRoom};
 
 use crate::calls::Inserted;
 use crate::store::Store;
-use std::alloc::{AllocError, Global};
+use std::alloc::Global;
 use tw_rights::{ReadRight, WriteRight};
-use tw_types::{Text, Value, ValueRef};
+use tw_types::{Value, ValueRef};
 
 impl Store {
     /// `insert_under` an integer.
@@ -35,23 +34,6 @@ impl Store {
         self.insert_under(alloc, right, ValueRef::Int(subscript), member)
     }
 
-    /// `insert_under` a text.
-    pub fn insert_text(
-        &mut self,
-        alloc: Global,
-        right: &WriteRight,
-        subscript: &str,
-        member: ReadRight,
-    ) -> Result<Inserted, ReadRight>
-        requires here { IsHere self.old right.now }
-        requires member_here { IsHere self.old member }
-        requires proper { IsText subscript.now }
-        requires allowed { may_insert scalar.Text (get self.old.store.live right.now.id) (get self.old.store.live member.id) ≡ Ok tt }
-        ensures { IsInsertion self.old right.now.id (TEXT subscript.now) member result self.new }
-    {
-        self.insert_under(alloc, right, ValueRef::Text(subscript), member)
-    }
-
     /// `look_under` an integer.
     pub fn look(&mut self, right: &ReadRight, subscript: i64) -> Option<ReadRight>
         requires here { IsHere self.old right.now }
@@ -60,16 +42,6 @@ impl Store {
         ensures { IsLook self.old right.now.id (INT subscript) result self.new }
     {
         self.look_under(right, ValueRef::Int(subscript))
-    }
-
-    /// `look_under` a text.
-    pub fn look_text(&mut self, right: &ReadRight, subscript: &str) -> Option<ReadRight>
-        requires here { IsHere self.old right.now }
-        requires allowed { may_look self.old.store right.now.id (TEXT subscript.now) ≡ Ok tt }
-        requires room { HasMemberRoom self.old.store right.now.id (TEXT subscript.now) }
-        ensures { IsLook self.old right.now.id (TEXT subscript.now) result self.new }
-    {
-        self.look_under(right, ValueRef::Text(subscript))
     }
 
     /// The `nth_subscript` of a container by integers.
@@ -82,24 +54,6 @@ impl Store {
             Some(Value::Int(subscript)) => Some(*subscript),
             Some(Value::Text(_)) => unreachable!(),
             None => None,
-        }
-    }
-
-    /// A copy of the `nth_subscript` of a container by texts.
-    pub fn text_at(
-        &self,
-        alloc: Global,
-        right: &ReadRight,
-        index: i64,
-    ) -> Result<Option<Text>, AllocError>
-        requires here { IsHere self.now right.now }
-        requires allowed { may_read_members_by scalar.Text (get self.now.store.live right.now.id) ≡ Ok tt }
-        ensures { IfOk result (λ subscript. option_map TEXT subscript ≡ subscript_after index (map.keys (members_at self.now.store right.now.id))) }
-    {
-        match self.nth_subscript(right, index) {
-            Some(Value::Text(subscript)) => Ok(Some(subscript.try_clone(alloc)?)),
-            Some(Value::Int(_)) => unreachable!(),
-            None => Ok(None),
         }
     }
 }
