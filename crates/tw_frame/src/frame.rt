@@ -1,10 +1,8 @@
 //! Frames: where a task stands, as the pool keeps it.
 
-ghost use Rattle.std.specs.Prelude.{◌≡◌, ◌<◌, ◌≤◌, ◌+◌, ◌^◌, ℕ, ℤ, List, IsTrue, ◌↔◌, IfErr, IfOk, IsSome, OnErr, OnOk, Some, None, Ok, true, false, [], length, slice_get, slice_set, slice_index_or};
-ghost use Rattle.std.specs.Option.{option_map};
+ghost use Rattle.std.specs.Prelude.{◌≡◌, ◌<◌, ◌≤◌, ◌+◌, ◌^◌, IsTrue, ◌↔◌, IfErr, IfOk, IsSome, OnErr, OnOk, Some, None, Ok, true, false, [], length, slice_get, slice_set, slice_index_or};
 ghost use Rattle.tw_types.specs.Value.{IsProper};
 ghost use Rattle.tw_types.specs.ValueOrder.{named};
-ghost use Rattle.tw_types.specs.declared.value.Value.TheVariants as value;
 ghost use Rattle.tw_code.specs.machine.Position.{at_goal, at_next_place, with_value};
 ghost use Rattle.tw_rights.specs.Bundled.{bundled};
 ghost use Rattle.tw_rights.specs.Filed.{filed, rights_in};
@@ -21,7 +19,7 @@ use crate::job::{Done, Job, Lent};
 use crate::loops::Loops;
 use crate::rooms::{Ahead, EmptyFile, Rooms};
 use crate::start::Start;
-use std::alloc::{AllocError, Global};
+use std::alloc::Global;
 use std::marker::Model;
 use tw_rights::{Arg, Bundle, Held, ReadRight, RightFile, Task, WriteRight};
 use tw_types::{Actor, Param, TaskNo, Value, ValueRef};
@@ -219,34 +217,6 @@ impl<'a> Frame<'a> {
         }
     }
 
-    /// The program that it belongs to.
-    pub fn program(&self) -> &'a Verified
-        ensures { result.now ≡ self.now.program }
-    {
-        self.verified
-    }
-
-    /// The task's number.
-    pub fn task(&self) -> TaskNo
-        ensures { result ≡ self.now.task }
-    {
-        self.task
-    }
-
-    /// The task's procedure.
-    pub fn procedure(&self) -> u8
-        ensures { result ≡ self.now.procedure }
-    {
-        self.procedure
-    }
-
-    /// The place at which it stands.
-    pub fn place(&self) -> usize
-        ensures { result ≡ self.now.position.place }
-    {
-        self.own.place
-    }
-
     /// The value of a register, which stays there.
     pub fn look(&self, register: u8) -> ValueRef<'_>
         requires { register < length self.now.position.values }
@@ -255,24 +225,6 @@ impl<'a> Frame<'a> {
     {
         let _count = self.own.registers.count();
         self.own.registers.at(register)
-    }
-
-    /// A copy of the value of a register. Only a text takes memory.
-    pub fn value(&self, alloc: Global, register: u8) -> Result<Value, AllocError>
-        requires { register < length self.now.position.values }
-        ensures copy { IfOk result (λ value. slice_get self.now.position.values register ≡ Some value) }
-        ensures text { OnErr result ((bytes : List ℕ) × (slice_get self.now.position.values register ≡ Some (value.Text bytes))) }
-    {
-        let _count = self.own.registers.count();
-        self.own.registers.copy_of(alloc, register)
-    }
-
-    /// The number in a register that has one.
-    pub fn int(&self, register: u8) -> i64
-        requires { (n : ℤ) × (slice_get self.now.position.values register ≡ Some (value.Int n)) }
-        ensures { slice_get self.now.position.values register ≡ Some (value.Int result) }
-    {
-        self.own.registers.number(register)
     }
 
     /// Gives a register a value of its type.

@@ -112,16 +112,6 @@ impl<'a> Lent<'a> {
         self.at.registers.at(register)
     }
 
-    /// A copy of the value of a register, from which it goes on.
-    pub fn value(&self, alloc: Global, register: u8) -> Result<Value, AllocError>
-        requires { register < length self.now.position.values }
-        ensures copy { IfOk result (λ value. slice_get self.now.position.values register ≡ Some value) }
-        ensures text { OnErr result ((bytes : List ℕ) × (slice_get self.now.position.values register ≡ Some (value.Text bytes))) }
-    {
-        let _count = self.at.registers.count();
-        self.at.registers.copy_of(alloc, register)
-    }
-
     /// The actor to which it was lent.
     pub fn actor(&self) -> Actor
         ensures { result ≡ self.now.actor }

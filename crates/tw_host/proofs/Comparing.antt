@@ -14,7 +14,7 @@ use Rattle.tw_types.specs.Actor.{index_of, is_in}
 use Rattle.tw_types.specs.Layout.{ActorCounts}
 use Rattle.tw_code.specs.machine.History.{actor_of}
 use Rattle.tw_pool.specs.Actors.{events_of, same_actor}
-use Rattle.tw_pool.proofs.Counting.{itself, the_same}
+use Rattle.tw_pool.proofs.Counting.{itself, not_same}
 use Rattle.tw_host.specs.Seats.{Told, actor_at, actor_count, actors_of, told_by}
 use Rattle.tw_host.proofs.Lists.{both_less, first_of_rest, map_map, other_next, own_next, rest_more, same_both}
 use Rattle.tw_host.proofs.Ordering.{apart}
@@ -59,13 +59,6 @@ others_apart layout i j other = by (nat_lt i j) refl
     by true is = apart layout i j (ltb-true i j is)
     by false is = λ e. let above : j < i = grind (arith, nat_tests, is, other) in apart layout j i above (sym e)
 
-not_same : (a b : Actor) → a ≢ b → same_actor a b ≡ false
-not_same a b other = by (same_actor a b) refl
-  where
-    by : (t : Bool) → same_actor a b ≡ t → same_actor a b ≡ false
-    by true is = absurd (other (the_same a b is))
-    by false is = is
-
 -- ---- of each seat's list so many events were found in the first k of the history
 
 pub made_by : (history : List Event) (k : ℕ) (a : Actor) → option_map actor_of (slice_get history k) ≡ Some a → (e : Event) × (slice_get history k ≡ Some e) × (actor_of e ≡ a) × (k < length history)
@@ -95,9 +88,6 @@ module _ (layout : ActorCounts) (history : List Event) (lists : List (List Event
 
   abbrev pub Found : List ℕ → ℕ → Type 0
   Found found k = (j : ℕ) → j < actor_count layout → Of k (get_or found j 0) j
-
-  pub none_found : (found : List ℕ) → ((j : ℕ) → get_or found j 0 ≡ 0) → Found found 0
-  none_found found none j low = subst (λ n. Of 0 n j) (sym (none j)) (omega arith, omega arith, ((λ e. e), (λ e. e)))
 
   module _ (found : List ℕ) (k : ℕ) (event : Event) (before : Found found k) (low : k < length history) (at : slice_get history k ≡ Some event) where
     of_others : (j : ℕ) → j < actor_count layout → actor_at layout j ≢ actor_of event → Of (k + 1) (get_or found j 0) j

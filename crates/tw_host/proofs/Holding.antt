@@ -1,5 +1,5 @@
 -- What turns under one hold of the lock say to a seat.
-use Rattle.std.proofs.Common.{◌≡◌, ◌+◌, ◌*◌, ◌<◌, ◌≤◌, ℕ, zero, suc, Bool, true, false, not, refl, sym, ap, subst, ◌∙◌, arith, List, [], ◌∷◌, ◌++◌, append_assoc, length, length-append, slice_get, Option, Some, None, drop, inl}
+use Rattle.std.proofs.Common.{◌≡◌, ◌+◌, ◌*◌, ◌<◌, ◌≤◌, ℕ, zero, suc, Bool, true, false, not, refl, sym, ap, subst, ◌∙◌, arith, List, [], ◌∷◌, ◌++◌, append_assoc, length, length-append, slice_get, Option, Some, None, Result, Ok, Err, drop, ◌⊎◌, inl, inr}
 use Rattle.std.specs.Prelude.{is_some}
 use Rattle.std.proofs.lemmas.List.Elements.{filter-append}
 use Rattle.std.proofs.lemmas.Option.{same_Some}
@@ -19,9 +19,10 @@ use Rattle.tw_pool.specs.declared.answer.Turn.TheVariants as turn
 use Rattle.tw_pool.specs.Actors.{events_of, same_actor}
 use Rattle.tw_pool.specs.PoolView.{PoolView, with_events}
 use Rattle.tw_pool.specs.Turns.{IsTurn}
-use Rattle.tw_host.specs.Holds.{AreTold, AreTurns, HandsOn, Waits}
+use Rattle.tw_host.specs.Holds.{AreTold, AreTurns, HandsOn, SomeTurns, TellsUpTo, Waits}
 use Rattle.tw_host.specs.Run.{Run, run_of}
-use Rattle.tw_host.specs.Tells.{IsAnswerOf, IsDoneOf}
+use Rattle.tw_host.specs.Tells.{IsAnswerOf, IsDoneOf, SomeTurn, Tells, TurnsOrNot}
+use Rattle.tw_host.specs.declared.locked.Strange.{Strange}
 use Rattle.tw_host.proofs.Turning as turning
 
 -- ---- a job whose next instruction isn't local
@@ -112,9 +113,9 @@ module _ (old new : PoolView) (actor : Actor) (answer : Turn) (count : ℕ) (a :
   pub same_run : run_of new ≡ run_of old
   same_run = ap run_of a.appended
 
-  pub told : (run : Run) (given : Option DoneView) (turns : List Turn) (before after : List Event) → AreTurns old actor given turns answer new → length turns < 16 → length a.es ≤ 32 → run_of old ≡ run → length old.history ≤ run.limit
-      → length (events_of actor old.history) ≡ length before → after ≡ before ++ drop (length old.history) new.history → AreTold run actor before after given answer
-  told run given turns before after are few short is low same after_is = record {
+  pub told : (most : ℕ) (run : Run) (given : Option DoneView) (turns : List Turn) (before after : List Event) → AreTurns old actor given turns answer new → length turns < most → length a.es ≤ 2 * most → run_of old ≡ run → length old.history ≤ run.limit
+      → length (events_of actor old.history) ≡ length before → after ≡ before ++ drop (length old.history) new.history → AreTold most run actor before after given answer
+  told most run given turns before after are few short is low same after_is = record {
     es = a.es;
     told = after_is ∙ ap (λ es. before ++ es) news_are;
     few = short;
@@ -133,5 +134,28 @@ module _ (old : PoolView) (actor : Actor) (given : Option DoneView) (now : PoolV
       subst (λ (turns : List Turn). AreTurns old actor given turns answer new) (sym (append_assoc past (first ∷ []) rest)) (so_far (first ∷ rest) answer new (next, between, t, goes, more))
 
   -- the last turn
-  pub last : (answer : Turn) (new : PoolView) → IsTurn now actor owed answer new → length past < 16 → (before : List Turn) × (length before < 16) × AreTurns old actor given before answer new
-  last answer new t few = (past ++ [], omega (arith, few, length-append past []), so_far [] answer new t)
+  pub last : (most : ℕ) (answer : Turn) (new : PoolView) → IsTurn now actor owed answer new → length past < most → (before : List Turn) × (length before < most) × AreTurns old actor given before answer new
+  last most answer new t few = (past ++ [], omega (arith, few, length-append past []), so_far [] answer new t)
+
+-- ---- one turn under a hold
+
+only : (before : List Turn) (old new : PoolView) (actor : Actor) (given : Option DoneView) (answer : Turn) → length before < 1 → AreTurns old actor given before answer new → IsTurn old actor given answer new
+only [] old new actor given answer few are = are
+only (first ∷ rest) old new actor given answer few are = absurd (omega (arith, few))
+
+some_turn : (run : Run) (actor : Actor) (count : ℕ) (given : Option DoneView) (answer : Turn) (es : List Event) → SomeTurns 1 run actor count given answer es → SomeTurn run actor count given answer es
+some_turn run actor count given answer es s = record {
+  pool = s.pool;
+  of_run = s.of_run;
+  within = s.within;
+  same_count = s.same_count;
+  turns = only s.before s.pool (with_events s.pool es) actor given answer s.few s.turns;
+}
+
+turned : (run : Run) (actor : Actor) (count : ℕ) (given : Option DoneView) (answer : Turn) (es : List Event) → SomeTurns 1 run actor count given answer es ⊎ ((answer ≡ turn.NoMemory given) × (es ≡ [])) → TurnsOrNot run actor count given answer es
+turned run actor count given answer es (inl s) = inl (some_turn run actor count given answer es s)
+turned run actor count given answer es (inr none) = inr none
+
+pub once : (run : Run) (actor : Actor) (old new : List Event) (given : Option DoneView) (answer : Result Turn Strange) → TellsUpTo 1 run actor old new given answer → Tells run actor old new given answer
+once run actor old new given (Ok answer) t = record { es = t.es; told = t.told; own = record { few = t.few; own = t.own }; turns = turned run actor (length old) given answer t.es t.turns }
+once run actor old new given (Err strange) t = t

@@ -1,13 +1,11 @@
 -- Lists of lists, lists by seats, and what is left of a list.
-use Rattle.std.proofs.Common.{◌≡◌, ◌==◌, ◌≤◌, ◌<◌, ◌+◌, ◌++◌, ◌⊎◌, inl, inr, ℕ, Bool, true, false, Option, Some, None, option_map, option_to_list, drop, List, [], ◌∷◌, map, length, length-append, append_assoc, refl, sym, ap, ◌∙◌, arith, get_or}
+use Rattle.std.proofs.Common.{◌≡◌, ◌≤◌, ◌<◌, ◌+◌, ◌++◌, ◌⊎◌, inl, inr, ℕ, true, false, Option, Some, None, option_to_list, drop, List, [], ◌∷◌, map, length, length-append, append_assoc, refl, sym, ap, ◌∙◌, arith, get_or}
 use Rattle.std.specs.Prelude.{◌↔◌, slice_get, slice_index_or}
 use Rattle.std.specs.List.{range_with_len}
-use Rattle.std.proofs.lemmas.Bool.{eqb-true}
-use Rattle.std.proofs.lemmas.Bool.Decides.{nat_tests}
-use Rattle.std.proofs.lemmas.List.{drop_all, length-drop, length-map, map-append, get_or-map}
+use Rattle.std.proofs.lemmas.List.{drop_all, length-map, map-append, get_or-map}
 use Rattle.std.proofs.lemmas.List.FromFn.{map-range_with_len_more}
 use Rattle.std.proofs.lemmas.List.{drop_more}
-use Rattle.std.proofs.lemmas.Option.{get_or_from_slice_get, same_Some, slice_get_cases}
+use Rattle.std.proofs.lemmas.Option.{get_or_from_slice_get, slice_get_cases}
 use Rattle.tw_types.specs.declared.actor.Actor.{Actor}
 use Rattle.tw_types.specs.declared.event.Event.{Event}
 use Rattle.tw_pool.specs.Actors.{events_of, same_actor}
@@ -45,21 +43,6 @@ module _ (actor : Actor) (history : List Event) (k : ℕ) (event : Event) (low :
   pub other_next : same_actor (actor_of event) actor ≡ false → events_of actor (drop k history) ≡ events_of actor (drop (k + 1) history)
   other_next is = rw (rest_more history k event low at, is) refl
 
--- the event there, where it is known whether it is the actor's
-module _ (actor : Actor) (history : List Event) (k : ℕ) (low : k < length history) where
-  abbrev is_own : Event → Bool
-  is_own event = same_actor (actor_of event) actor
-
-  pub own_there : (event : Event) → slice_get history k ≡ Some event → option_map is_own (slice_get history k) ≡ Some true → events_of actor (drop k history) ≡ event ∷ events_of actor (drop (k + 1) history)
-  own_there event at own = own_next actor history k event low at (same_Some (is_own event) true (ap (option_map is_own) (sym at) ∙ own))
-
-  pub other_there : option_map is_own (slice_get history k) ≡ Some false → events_of actor (drop k history) ≡ events_of actor (drop (k + 1) history)
-  other_there other = by (slice_get history k) refl other
-    where
-      by : (o : Option Event) → slice_get history k ≡ o → option_map is_own o ≡ Some false → events_of actor (drop k history) ≡ events_of actor (drop (k + 1) history)
-      by None at e = cc
-      by (Some event) at e = other_next actor history k event low at (same_Some (is_own event) false e)
-
 -- what is there is told behind a list
 pub moved_there : {X : Type 0} (told xs : List X) (k : ℕ) → k < length xs → (told ++ option_to_list (slice_get xs k)) ++ drop (k + 1) xs ≡ told ++ drop k xs
 moved_there {X} told xs k low = by (slice_get_cases xs k).1
@@ -76,16 +59,6 @@ told_there {X} told xs k low = by (slice_get_cases xs k).1
     by (inl c) = ap (λ (o : Option X). length (told ++ option_to_list o)) c.2 ∙ length-append told (c.0 ∷ [])
     by (inr c) = absurd (omega (arith, low, c.0))
 
--- of an actor's events from a place on the first is there, where it is the actor's
-pub own_some : (actor : Actor) (history : List Event) (k : ℕ) → k < length history → option_map (λ (e : Event). same_actor (actor_of e) actor) (slice_get history k) ≡ Some true
-    → (e : Event) × (slice_get history k ≡ Some e) × (events_of actor (drop k history) ≡ e ∷ events_of actor (drop (k + 1) history))
-own_some actor history k low own = by (slice_get_cases history k).1
-  where
-    by : ((e : Event) × (k < length history) × (slice_get history k ≡ Some e) × (get_or history k e ≡ e)) ⊎ ((length history ≤ k) × (slice_get history k ≡ None))
-        → (e : Event) × (slice_get history k ≡ Some e) × (events_of actor (drop k history) ≡ e ∷ events_of actor (drop (k + 1) history))
-    by (inl c) = (c.0, c.2, own_there actor history k low c.0 c.2 own)
-    by (inr c) = absurd (omega (arith, low, c.0))
-
 -- where a list begins from a place on
 pub first_of_rest : (xs : List Event) (k : ℕ) (e : Event) (rest : List Event) → drop k xs ≡ e ∷ rest → slice_get xs k ≡ Some e
 first_of_rest xs k e rest is = by (slice_get_cases xs k).1
@@ -93,13 +66,6 @@ first_of_rest xs k e rest is = by (slice_get_cases xs k).1
     by : ((x : Event) × (k < length xs) × (slice_get xs k ≡ Some x) × (get_or xs k x ≡ x)) ⊎ ((length xs ≤ k) × (slice_get xs k ≡ None)) → slice_get xs k ≡ Some e
     by (inl c) = c.2 ∙ ap (λ (ys : List Event). Some (get_or ys 0 e)) (sym (rest_more xs k c.0 c.1 c.2) ∙ is)
     by (inr c) = let none = ap length (sym (drop_all k xs c.0) ∙ is) in absurd (omega (arith, none))
-
--- all is told where nothing of either list is left
-pub all_told : (told all : List Event) (next count : ℕ) → count ≡ length told → next ≤ length told → (drop next told ≡ []) ↔ (told ≡ all) → ((next == count) ≡ true) ↔ (told ≡ all)
-all_told told all next count is within iff = (
-  (λ e. let same : next ≡ count = eqb-true next count e in iff.0 (drop_all next told (omega (arith, same, is)))),
-  (λ same. let none = sym (length-drop next told) ∙ ap length (iff.1 same) in let end : next ≡ count = omega (arith, none, within, is) in grind (arith, end, nat_tests)),
-)
 
 -- a list is the rest just where another is all, with one item off both or with none
 pub both_less : (told all : List Event) (e : Event) (xs rest ys next : List Event) → xs ≡ e ∷ rest → ys ≡ e ∷ next → (xs ≡ ys) ↔ (told ≡ all) → (rest ≡ next) ↔ (told ≡ all)

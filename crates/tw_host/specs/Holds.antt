@@ -40,24 +40,27 @@ AreTurns old actor given [] answer new = IsTurn old actor given answer new
 AreTurns old actor given (first ∷ rest) answer new =
     (next : Option DoneView) × (between : PoolView) × IsTurn old actor given first between × HandsOn first next × AreTurns between actor next rest answer new
 
--- some pool of the run, within its limit, in which the actor has so many events, makes such turns, and they append just these
-pub record SomeTurns (run : Run) (actor : Actor) (count : ℕ) (given : Option DoneView) (answer : Turn) (es : List Event) : Type 0 where
+-- some pool of the run, within its limit, in which the actor has so many events, makes such turns, so many at most, and they append just these
+pub record SomeTurns (most : ℕ) (run : Run) (actor : Actor) (count : ℕ) (given : Option DoneView) (answer : Turn) (es : List Event) : Type 0 where
   pub pool : PoolView
   pub of_run : run_of pool ≡ run
   pub within : length pool.history ≤ run.limit
   pub same_count : length (events_of actor pool.history) ≡ count
   pub before : List Turn
-  pub few : length before < most_turns
+  pub few : length before < most
   pub turns : AreTurns pool actor given before answer (with_events pool es)
 
 -- the seat of an actor had been told the old events, and is told these; or memory for them was refused, and no pool has turned
-pub record AreTold (run : Run) (actor : Actor) (old new : List Event) (given : Option DoneView) (answer : Turn) : Type 0 where
+pub record AreTold (most : ℕ) (run : Run) (actor : Actor) (old new : List Event) (given : Option DoneView) (answer : Turn) : Type 0 where
   pub es : List Event
   pub told : new ≡ old ++ es
-  pub few : length es ≤ 2 * most_turns
+  pub few : length es ≤ 2 * most
   pub own : events_of actor es ≡ es
-  pub turns : SomeTurns run actor (length old) given answer es ⊎ ((answer ≡ turn.NoMemory given) × (es ≡ []))
+  pub turns : SomeTurns most run actor (length old) given answer es ⊎ ((answer ≡ turn.NoMemory given) × (es ≡ []))
+
+abbrev pub TellsUpTo : ℕ → Run → Actor → List Event → List Event → Option DoneView → Result Turn Strange → Type 0
+TellsUpTo most run actor old new given (Ok answer) = AreTold most run actor old new given answer
+TellsUpTo most run actor old new given (Err strange) = Tells run actor old new given (Err strange)
 
 abbrev pub TellsAll : Run → Actor → List Event → List Event → Option DoneView → Result Turn Strange → Type 0
-TellsAll run actor old new given (Ok answer) = AreTold run actor old new given answer
-TellsAll run actor old new given (Err strange) = Tells run actor old new given (Err strange)
+TellsAll = TellsUpTo most_turns

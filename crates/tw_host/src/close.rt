@@ -4,8 +4,7 @@ ghost use Rattle.std.specs.Prelude.{◌≡◌, ◌≢◌, ◌↔◌, ◌+◌, �
 ghost use Rattle.std.specs.List.{All};
 ghost use Rattle.std.specs.List.Sorted.{IsPermutation};
 ghost use Rattle.tw_types.specs.declared.actor.Actor.{Actor as AnActor};
-ghost use Rattle.tw_types.specs.Layout.{IsLayout};
-ghost use Rattle.tw_pool.specs.Actors.{HasPlace, events_of};
+ghost use Rattle.tw_pool.specs.Actors.{events_of};
 ghost use Rattle.tw_host.specs.Ends.{Closes};
 ghost use Rattle.tw_host.specs.Seats.{NoneOf, Told, actor_at, actors_of, actor_count, told_by};
 

@@ -67,19 +67,21 @@ fn handed_on<'a>(alloc: Global, answer: Turn<'a>) -> Result<Option<Done<'a>>, Tu
     }
 }
 
-/// Turns of an actor, one behind another, as long as nothing is to be done outside of the lock between two of them.
+/// Turns of an actor, one behind another, so many at most, as long as nothing is to be done outside of the lock between two of them.
 pub(crate) fn turns<'a>(
     pool: &mut Pool<'a>,
     alloc: Global,
     actor: Actor,
     given: Option<Done<'a>>,
+    most: usize,
 ) -> Turn<'a>
+    requires some { 0 < most }
     requires actor { is_in pool.old.layout actor ≡ true }
     requires program { IsDoneOf pool.old.program given }
-    ensures { (before : List ATurn) × (length before < 16) × AreTurns pool.old actor given.entry before result pool.new }
+    ensures { (before : List ATurn) × (length before < most) × AreTurns pool.old actor given.entry before result pool.new }
 {
     let mut given = given;
-    for _made in 1..MOST_TURNS {
+    for _made in 1..most {
         let answer = pool.turn(alloc, actor, given.take());
         match handed_on(alloc, answer) {
             Ok(next) => given = next,

@@ -1,9 +1,9 @@
 //! The host.
 
-ghost use Rattle.std.specs.Prelude.{◌≡◌, ◌≤◌, IfErr, IfOk, [], map, vec_len, vec_capacity};
+ghost use Rattle.std.specs.Prelude.{◌≡◌, ◌<◌, ◌≤◌, IfErr, IfOk, [], map, vec_len, vec_capacity};
 ghost use Rattle.tw_pool.specs.Openings.{IsRefusal, MayOpen};
 ghost use Rattle.tw_host.specs.Seats.{actors_of, actor_count};
-ghost use Rattle.tw_host.specs.Holds.{TellsAll};
+ghost use Rattle.tw_host.specs.Holds.{TellsAll, TellsUpTo};
 ghost use Rattle.tw_host.specs.Tells.{IsAnswerOf, IsDoneOf, Tells};
 
 use crate::hold::MOST_TURNS;
@@ -89,6 +89,33 @@ impl<'a, N: Named> Host<'a, N> {
         self.verified
     }
 
+    /// So many turns of the seat's actor at most, one behind another, under one hold of the lock.
+    #[inline(always)]
+    fn hold(
+        &self,
+        rt: &impl Wait,
+        alloc: Global,
+        seat: &mut Seat<N>,
+        done: Option<Done<'a>>,
+        most: usize,
+    ) -> Result<Turn<'a>, Strange<'a>>
+        requires some { 0 < most }
+        requires few { most ≤ 16 }
+        requires program { IsDoneOf N.run.program done }
+        ensures actor { seat.new.actor ≡ seat.old.actor }
+        ensures told { TellsUpTo most N.run seat.old.actor seat.old.told.items seat.new.told.items done.entry result }
+        ensures program { IfOk result (IsAnswerOf N.run.program) }
+    {
+        if seat.told.reserve(2 * most).is_err() {
+            return Ok(Turn::NoMemory(done));
+        }
+        let told = seat.told.len();
+        let mut locked = locked_soon(&self.locked, rt);
+        let answer = locked.turns(alloc, seat, done, most);
+        self.news.tell(seat.actor, seat.told.len() - told, &answer);
+        answer
+    }
+
     /// One turn of the seat's actor, under the lock; the seat is told the events that it appends. Where memory for these is
     /// refused the pool isn't touched. Where the seat's list isn't the pool's nothing is changed either.
     #[inline(always)]
@@ -104,10 +131,7 @@ impl<'a, N: Named> Host<'a, N> {
         ensures told { Tells N.run seat.old.actor seat.old.told.items seat.new.told.items done.entry result }
         ensures program { IfOk result (IsAnswerOf N.run.program) }
     {
-        if seat.told.reserve(2).is_err() {
-            return Ok(Turn::NoMemory(done));
-        }
-        locked_soon(&self.locked, rt).turn(alloc, seat, done)
+        self.hold(rt, alloc, seat, done, 1)
     }
 
     /// Turns of the seat's actor, one behind another, under one hold of the lock: as long as a turn answers Went or Ended, or lends a
@@ -126,14 +150,7 @@ impl<'a, N: Named> Host<'a, N> {
         ensures told { TellsAll N.run seat.old.actor seat.old.told.items seat.new.told.items done.entry result }
         ensures program { IfOk result (IsAnswerOf N.run.program) }
     {
-        if seat.told.reserve(2 * MOST_TURNS).is_err() {
-            return Ok(Turn::NoMemory(done));
-        }
-        let told = seat.told.len();
-        let mut locked = locked_soon(&self.locked, rt);
-        let answer = locked.turns(alloc, seat, done);
-        self.news.tell(seat.actor, seat.told.len() - told, &answer);
-        answer
+        self.hold(rt, alloc, seat, done, MOST_TURNS)
     }
 
     /// A number that has changed since it was last looked at where something came that an idle actor of this kind may do, or the run

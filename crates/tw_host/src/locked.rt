@@ -1,8 +1,8 @@
 //! What lies under the lock.
 
-ghost use Rattle.std.specs.Prelude.{◌≡◌, ◌+◌, ◌≤◌, length, true, IfOk};
-ghost use Rattle.tw_host.specs.Holds.{TellsAll};
-ghost use Rattle.tw_host.specs.Tells.{IsAnswerOf, IsDoneOf, Tells};
+ghost use Rattle.std.specs.Prelude.{◌≡◌, ◌<◌, ◌≤◌, ◌+◌, ◌*◌, length, true, IfOk};
+ghost use Rattle.tw_host.specs.Holds.{TellsUpTo};
+ghost use Rattle.tw_host.specs.Tells.{IsAnswerOf, IsDoneOf};
 
 use crate::hold::turns;
 use crate::named::Named;
@@ -46,40 +46,19 @@ impl<'a, N: Named> Locked<'a, N> {
         self.pool.stop();
     }
 
-    /// One turn of the seat's actor. The seat is told the events that it appends.
-    pub(crate) fn turn(
-        &mut self,
-        alloc: Global,
-        seat: &mut Seat<N>,
-        done: Option<Done<'a>>,
-    ) -> Result<Turn<'a>, Strange<'a>>
-        requires room { length seat.old.told.items + 2 ≤ seat.old.told.capacity }
-        requires program { IsDoneOf N.run.program done }
-        ensures actor { seat.new.actor ≡ seat.old.actor }
-        ensures told { Tells N.run seat.old.actor seat.old.told.items seat.new.told.items done.entry result }
-        ensures program { IfOk result (IsAnswerOf N.run.program) }
-    {
-        let count = self.pool.count(seat.actor);
-        if count != seat.told.len() as u64 {
-            return Err(Strange { count, done });
-        }
-        let before = self.pool.history().len();
-        let answer = self.pool.turn(alloc, seat.actor, done);
-        tell(self.pool.history(), before, &mut self.book, seat);
-        Ok(answer)
-    }
-
-    /// Turns of the seat's actor, one behind another. The seat is told the events that they append.
+    /// Turns of the seat's actor, one behind another, so many at most. The seat is told the events that they append.
     pub(crate) fn turns(
         &mut self,
         alloc: Global,
         seat: &mut Seat<N>,
         done: Option<Done<'a>>,
+        most: usize,
     ) -> Result<Turn<'a>, Strange<'a>>
-        requires room { length seat.old.told.items + 32 ≤ seat.old.told.capacity }
+        requires some { 0 < most }
+        requires room { length seat.old.told.items + 2 * most ≤ seat.old.told.capacity }
         requires program { IsDoneOf N.run.program done }
         ensures actor { seat.new.actor ≡ seat.old.actor }
-        ensures told { TellsAll N.run seat.old.actor seat.old.told.items seat.new.told.items done.entry result }
+        ensures told { TellsUpTo most N.run seat.old.actor seat.old.told.items seat.new.told.items done.entry result }
         ensures program { IfOk result (IsAnswerOf N.run.program) }
     {
         let told = seat.told.len() as u64;
@@ -88,7 +67,7 @@ impl<'a, N: Named> Locked<'a, N> {
             return Err(Strange { count, done });
         }
         let before = self.pool.history().len();
-        let answer = turns(&mut self.pool, alloc, seat.actor, done);
+        let answer = turns(&mut self.pool, alloc, seat.actor, done, most);
         tell(self.pool.history(), before, &mut self.book, seat);
         Ok(answer)
     }

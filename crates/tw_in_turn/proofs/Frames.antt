@@ -1,13 +1,13 @@
 -- What events leave of the tasks that run: those of other actors are as they were.
 use Rattle.std.proofs.Common.{◌≡◌, ◌≢◌, ℕ, Bool, true, false, cond, List, [], ◌∷◌, ◌++◌, length, length-append, Some, None, refl, sym, ap, subst, ◌∙◌, arith}
+use Rattle.tw_types.proofs.Orders.{other_key}
 use Rattle.std.proofs.lemmas.List.Elements.{filter-append}
-use Rattle.std.specs.Cmp.{Equal-is, tied_itself}
+use Rattle.std.specs.Cmp.{tied_itself}
 use Rattle.std.specs.FinMap.{get, get-insert, get-remove, insert, remove}
-use Rattle.std.specs.Ordering.{eq_by_cmp, is_eq}
+use Rattle.std.specs.Ordering.{is_eq}
 use Rattle.tw_types.specs.declared.actor.Actor.{Actor}
 use Rattle.tw_types.specs.declared.event.Event.{Event}
 use Rattle.tw_types.specs.declared.event.Event.TheVariants.{Take, Local, Call, End, Ask, Deliver, Release}
-use Rattle.tw_types.specs.Actor.{actor_cmp}
 use Rattle.tw_types.specs.Layout.{ActorCounts}
 use Rattle.tw_types.specs.Outcome.{Went}
 use Rattle.tw_types.proofs.ActorOrder.{actor_cmp_total, actor_cmp-IsAntisymmetric}
@@ -22,18 +22,11 @@ use Rattle.tw_pool.proofs.Counting.{few, the_same}
 
 -- ---- maps by actors
 
-other_key : (a b : Actor) → a ≢ b → eq_by_cmp actor_cmp a b ≡ false
-other_key a b h = by (eq_by_cmp actor_cmp a b) refl
-  where
-    by : (t : Bool) → eq_by_cmp actor_cmp a b ≡ t → t ≡ false
-    by true e = absurd (h (actor_cmp-IsAntisymmetric a b ((Equal-is (actor_cmp a b)).0 e)))
-    by false e = refl
-
 put_other : (m : Frames) (a q : Actor) (f : Frame) → q ≢ a → get (insert m a f) q ≡ get m q
-put_other m a q f apart = get-insert actor_cmp_total m a f q ∙ ap (λ t. cond t (Some f) (get m q)) (other_key q a apart)
+put_other m a q f apart = get-insert actor_cmp_total m a f q ∙ ap (λ t. cond t (Some f) (get m q)) (other_key actor_cmp-IsAntisymmetric q a apart)
 
 left_other : (m : Frames) (a q : Actor) → q ≢ a → get (remove m a) q ≡ get m q
-left_other m a q apart = get-remove actor_cmp_total m a q ∙ ap (λ t. cond t None (get m q)) (other_key q a apart)
+left_other m a q apart = get-remove actor_cmp_total m a q ∙ ap (λ t. cond t None (get m q)) (other_key actor_cmp-IsAntisymmetric q a apart)
 
 left_own : (m : Frames) (a : Actor) → get (remove m a) a ≡ None
 left_own m a = get-remove actor_cmp_total m a a ∙ ap (λ t. cond t None (get m a)) (ap is_eq (tied_itself actor_cmp_total a))

@@ -180,10 +180,6 @@ module _ (p : PoolView) (a b : Turn) (xs ys : List Event) (sa : Stands a) (sb : 
 
 -- ---- two moves from one pool
 
--- the events that a move appends
-pub record Grows (old new : PoolView) (es : List Event) : Type 0 where
-  pub is : new ≡ with_events old es
-
 move_same : (old new other : PoolView) (actor : Actor) (a b : Turn) (m : IsMove old actor a new) (n : IsMove old actor b other) → Stands a → Stands b → Either a b m.turn.events n.turn.events
 move_same old new other actor a b m n sa sb =
     let s = m.turn.state in

@@ -1,5 +1,6 @@
 -- DUPR and DUPW: what is asked is met, and that it is done.
 use Rattle.tw_types.specs.Room.{HasReadRoom, HasWriteRoom}
+use Rattle.tw_no_trap.proofs.DataLeft.{read_no_write}
 use Rattle.tw_types.specs.StoreCalls.{read_copied, write_copied}
 use Rattle.tw_types.specs.StoreChecks.{may_be_read, may_copy_write}
 use Rattle.tw_rights.specs.declared.held.Held.TheVariants as held
@@ -10,7 +11,7 @@ use Rattle.tw_no_trap.proofs.Conditions.{copy_read_asks, copy_write_asks}
 use Rattle.tw_parts.specs.Data.{HasRoom}
 use Rattle.tw_parts.proofs.DataNames.{◌≡◌, ◌∙◌, ◌+◌, ◌<◌, ◌^◌, ℕ, Bool, true, false, [], None, Some, Option, Ok, refl, sym, ap, inl, arith, slice_index_or, slice_set, option_map, map-set, get, is_none, EmptyRegister, Notices, with_notices, Datum, ok_after, there_then, bare_file, kind_at, Right, Served, IsHere, IsNow, Context, data_instr, at_next_place, passes, passed, right_at, RightType, Typing, FrameView, IsDone, MayDo, sees, kinds_in, typed_writes}
 use Rattle.tw_parts.proofs.Left.{filled_done, now_stays, same_ok}
-use Rattle.tw_parts.proofs.Registers.{empty_at, its_id, kind_passed, placed_at, read_reads}
+use Rattle.tw_parts.proofs.Registers.{empty_at, its_id, kind_passed, placed_at}
 
 -- ---- room for one count more
 
@@ -36,7 +37,7 @@ copied_kind typing from kind test is_so e = let right = passed test (right_at ty
 
 module _ (to from : ℕ) (s : Served) (f : FrameView) (m : MayDo (on_data.CopyRead to from) s f) where
   pub copy_read_right : kind_at f.held from ≡ Some false
-  copy_read_right = kind_passed f.held m.typed.typing m.typed.kinds from false reads (λ t e. read_reads t.mode e) m.typed.asked.1.0
+  copy_read_right = kind_passed f.held m.typed.typing m.typed.kinds from false reads (λ t e. read_no_write t.mode e) m.typed.asked.1.0
 
   pub copy_read_empty : slice_index_or f.held to None ≡ None
   copy_read_empty = empty_at f.held to (copy_read_asks (sees s m.ns f) m.left to from m.goes).1
@@ -63,7 +64,7 @@ module _ (to from : ℕ) (s : Served) (f : FrameView) (m : MayDo (on_data.CopyRe
       pub read_copied_done : (g : FrameView) → g ≡ record f { position = at_next_place f.position; held = slice_set f.held to (Some (held.Read copy)); spent = f.spent + 1 } → IsDone (on_data.CopyRead to from) s new f g
       read_copied_done = filled_done (on_data.CopyRead to from) s new f [] (inl (refl, now.queues)) (now_stays s new now.places) to (held.Read copy)
           (ap (λ ps. get ps copy.id) now.places ∙ ap (λ (r : Right). get s.places r.id) same ∙ copy_read_here ∙ ap (λ (r : Right). Some r.place) (sym same)) copy_read_goes refl
-          (λ registers typing kinds asked. map-set (option_map typed_writes) typing to (right_at typing from) ∙ ap (λ (o : Option Bool). slice_set (kinds_in typing) to o) (copied_kind typing from false reads (λ t e. read_reads t.mode e) asked.1.0))
+          (λ registers typing kinds asked. map-set (option_map typed_writes) typing to (right_at typing from) ∙ ap (λ (o : Option Bool). slice_set (kinds_in typing) to o) (copied_kind typing from false reads (λ t e. read_no_write t.mode e) asked.1.0))
 
 -- ---- a write right
 

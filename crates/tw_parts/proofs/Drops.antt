@@ -1,5 +1,6 @@
 -- DROPW and DROPR: what is asked is met, and that it is done.
 use Rattle.tw_types.specs.StoreCalls.{notices_after, notices_of_write_dropped, one_write_less, read_dropped, write_dropped}
+use Rattle.tw_no_trap.proofs.DataLeft.{read_no_write}
 use Rattle.tw_types.specs.StoreChecks.{may_drop_read, may_drop_write}
 use Rattle.tw_rights.specs.declared.held.Held.TheVariants as held
 use Rattle.tw_store.specs.Served.{KeepsPlaces}
@@ -8,7 +9,7 @@ use Rattle.tw_code.specs.accepting.Typing.{reads, writes as writes_one}
 use Rattle.tw_no_trap.proofs.Conditions.{drop_read_asks, drop_write_asks}
 use Rattle.tw_parts.proofs.DataNames.{◌≡◌, ◌∙◌, ◌+◌, ℕ, true, false, [], None, Some, Ok, refl, sym, ap, inl, slice_index_or, slice_set, get, EmptyRegister, FreedDatum, Notices, with_notices, Datum, ok_after, there_then, bare_file, kind_at, Right, Served, IsHere, IsLeft, Context, data_instr, at_next_place, right_at, FrameView, IsDone, MayDo, sees}
 use Rattle.tw_parts.proofs.Left.{emptied_done, left_stays, left_told, same_ok}
-use Rattle.tw_parts.proofs.Registers.{its_id, kind_passed, placed_at, read_reads}
+use Rattle.tw_parts.proofs.Registers.{its_id, kind_passed, placed_at}
 
 -- ---- a write right
 
@@ -51,7 +52,7 @@ module _ (datum : ℕ) (s : Served) (f : FrameView) (m : MayDo (on_data.DropWrit
 
 module _ (datum : ℕ) (s : Served) (f : FrameView) (m : MayDo (on_data.DropRead datum) s f) where
   pub drop_read_right : kind_at f.held datum ≡ Some false
-  drop_read_right = kind_passed f.held m.typed.typing m.typed.kinds datum false reads (λ t e. read_reads t.mode e) m.typed.asked.0
+  drop_read_right = kind_passed f.held m.typed.typing m.typed.kinds datum false reads (λ t e. read_no_write t.mode e) m.typed.asked.0
 
   drop_read_is : (id : ℕ) × (right_at (bare_file f.held) datum ≡ Some id) × (may_drop_read (get s.store.live id) ≡ Ok tt)
   drop_read_is = drop_read_asks (sees s m.ns f) m.left datum m.goes

@@ -1,5 +1,6 @@
 -- GET: what is asked is met, and that it is done.
 use Rattle.std.specs.Option.{option_and_then}
+use Rattle.std.specs.Cmp.{first_so}
 use Rattle.tw_types.specs.StoreCalls.{value_at}
 use Rattle.tw_types.specs.StoreChecks.{may_retrieve}
 use Rattle.tw_rights.specs.declared.held.Held.TheVariants as held
@@ -9,12 +10,12 @@ use Rattle.tw_no_trap.proofs.Conditions.{get_asks}
 use Rattle.tw_frame.specs.Drafts.{MaySet}
 use Rattle.tw_parts.proofs.DataNames.{◌≡◌, ◌∙◌, ◌+◌, ℕ, false, [], None, Some, Ok, refl, sym, ap, inl, slice_get, slice_index_or, same_Some, get, EmptyRegister, WrongRegister, UnsetDatum, Value, is_closed_mode, is_scalar, Notices, with_notices, must_then, ok_after, there_then, bare_file, kind_at, Right, Served, IsHere, Completed, Context, data_instr, datum_at, suits, at_next_place, with_value, right_at, FrameView, IsDone, MayDo, sees}
 use Rattle.tw_parts.proofs.Left.{moved_done, now_stays, same_ok}
-use Rattle.tw_parts.proofs.Registers.{and_first, closed_reads, its_id, kind_passed, placed_at}
+use Rattle.tw_parts.proofs.Registers.{closed_reads, its_id, kind_passed, placed_at}
 use Rattle.tw_parts.proofs.ValueRegisters.{value_fits}
 
 module _ (to datum : ℕ) (s : Served) (f : FrameView) (m : MayDo (on_data.Get to datum) s f) where
   pub get_right : kind_at f.held datum ≡ Some false
-  get_right = kind_passed f.held m.typed.typing m.typed.kinds datum false reads_closed_scalar (λ t e. closed_reads t.mode (and_first (is_closed_mode t.mode) (is_scalar t.ty) e)) m.typed.asked.0
+  get_right = kind_passed f.held m.typed.typing m.typed.kinds datum false reads_closed_scalar (λ t e. closed_reads t.mode (first_so (is_closed_mode t.mode) (is_scalar t.ty) e)) m.typed.asked.0
 
   asks : (id : ℕ) × (right_at (bare_file f.held) datum ≡ Some id) × (may_retrieve (get s.store.live id) ≡ Ok tt)
   asks = get_asks (sees s m.ns f) m.left to datum m.goes

@@ -25,10 +25,6 @@ use Rattle.tw_rights.specs.Bare.{bare_arg, bare_file}
 use Rattle.tw_rights.specs.Kinds.{writes}
 use Rattle.tw_parts.proofs.Copied.{AreVals, ValOr}
 
--- what a register holds
-at : List (Option Held) → ℕ → Option Held
-at held register = slice_index_or held register None
-
 seen_at : (held : List (Option Held)) (register : ℕ) → option_flatten (slice_get (bare_file held) register) ≡ option_map id_of (slice_index_or held register None)
 seen_at [] register = refl
 seen_at (x ∷ held) zero = refl

@@ -1,5 +1,7 @@
 -- INS: what is asked is met, and that it is done.
 use Rattle.tw_types.specs.StoreCalls.{inserted, member_at}
+use Rattle.tw_no_trap.proofs.DataLeft.{read_no_write}
+use Rattle.std.specs.Cmp.{first_so}
 use Rattle.tw_types.specs.StoreChecks.{may_insert}
 use Rattle.tw_types.specs.DataType.{is_container_by}
 use Rattle.tw_types.specs.Value.{scalar_of}
@@ -14,7 +16,7 @@ use Rattle.tw_parts.proofs.DataNames.{◌≡◌, ◌<◌, ◌∙◌, ◌+◌, �
 use Rattle.tw_frame.specs.Jobs.{bare_frame}
 use Rattle.tw_parts.specs.Memory.{IsAbsent}
 use Rattle.tw_parts.proofs.Left.{emptied_done, moved_done, now_stays, same_ok}
-use Rattle.tw_parts.proofs.Registers.{and_first, id_at, its_id, kind_passed, placed_at, read_reads}
+use Rattle.tw_parts.proofs.Registers.{id_at, its_id, kind_passed, placed_at}
 use Rattle.tw_parts.proofs.ValueRegisters.{of_type_inside, of_type_kind, of_type_same}
 
 -- ---- a write isn't where a read is
@@ -42,13 +44,13 @@ module _ (by : Scalar) (container subscript member skip : ℕ) (s : Served) (f :
   pub insert_read : kind_at f.held member ≡ Some false
   insert_read =
       let box = passed (λ (right : RightType). passes (reads_member_of right) (right_at m.typed.typing member)) (right_at m.typed.typing container) m.typed.asked.1.0 in
-      kind_passed f.held m.typed.typing m.typed.kinds member false (reads_member_of box.0) (λ t e. read_reads t.mode (and_first (is_read t.mode) (is_element_of t.ty box.0.ty) e)) box.2
+      kind_passed f.held m.typed.typing m.typed.kinds member false (reads_member_of box.0) (λ t e. read_no_write t.mode (first_so (is_read t.mode) (is_element_of t.ty box.0.ty) e)) box.2
 
   -- the write right is there too when the member's is taken
   pub insert_write : (taken : FrameView) → taken.held ≡ slice_set f.held member None → kind_at taken.held container ≡ Some true
   insert_write taken take =
       ap (λ (file : List (Option Held)). kind_at file container) take
-      ∙ still_writes f.held member container insert_read (kind_passed f.held m.typed.typing m.typed.kinds container true (writes_container_by by) (λ t e. and_first (is_write t.mode) (is_container_by by t.ty) e) m.typed.asked.0)
+      ∙ still_writes f.held member container insert_read (kind_passed f.held m.typed.typing m.typed.kinds container true (writes_container_by by) (λ t e. first_so (is_write t.mode) (is_container_by by t.ty) e) m.typed.asked.0)
 
   asks : (at : Subscript) × (id inner : ℕ) × (of_type_at f.position subscript by ≡ Ok at) × (right_at (bare_file f.held) container ≡ Some id) × (right_at (bare_file f.held) member ≡ Some inner)
       × (may_insert by (get s.store.live id) (get s.store.live inner) ≡ Ok tt)

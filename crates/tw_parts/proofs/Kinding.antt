@@ -1,5 +1,6 @@
 -- RULE and PUT: the kinds of the rights that leave the registers, and of those that are left.
 use Rattle.std.proofs.Common.{◌≡◌, ℕ, zero, suc, Bool, true, false, if◌then◌else◌, List, [], ◌∷◌, ◌++◌, Option, Some, None, refl, sym, ap, ◌∙◌, slice_set, slice_index_or, option_map, set}
+use Rattle.std.specs.Cmp.{first_so}
 use Rattle.std.proofs.lemmas.List.{map-set}
 use Rattle.std.proofs.lemmas.Option.{same_Some}
 use Rattle.tw_types.specs.declared.data_type.Scalar.{Scalar}
@@ -15,7 +16,6 @@ use Rattle.tw_code.specs.accepting.Typing.{asks_args, asks_value, may_stand_for,
 use Rattle.tw_code.specs.machine.Rights.{RightType, Typing, right_at}
 use Rattle.tw_no_trap.proofs.Values.{AllYes, passed, yes_behind}
 use Rattle.tw_parts.specs.Fits.{kinds_in}
-use Rattle.tw_parts.proofs.Registers.{and_first}
 use Rattle.tw_parts.proofs.Handing.{AreSuited, Suits, SuitsOr, without_held}
 
 kind_there : (held : List (Option Held)) (typing : Typing) (k : ℕ) → kinds_of held ≡ kinds_in typing → option_map writes (slice_index_or held k None) ≡ option_map (λ (t : RightType). is_write t.mode) (right_at typing k)
@@ -65,7 +65,7 @@ module _ (waits : Bool) (declared : List Scalar) where
   suits_at p (Some h) t e met =
       let right = passed (may_stand_for waits p) t met in
       let kind : writes h ≡ is_write right.0.mode = same_Some _ _ (e ∙ ap (option_map (λ (t : RightType). is_write t.mode)) right.1) in
-      kind ∙ same_kind waits p.mode right.0 (and_first (suits_mode waits p.mode right.0) (same_type right.0.ty p.ty) right.2)
+      kind ∙ same_kind waits p.mode right.0 (first_so (suits_mode waits p.mode right.0) (same_type right.0.ty p.ty) right.2)
 
   pub suited : (params : List Param) (registers : List ℕ) (held : List (Option Held)) (typing : Typing) → kinds_of held ≡ kinds_in typing → AllYes (asks_args waits declared params registers typing) → AreSuited held params registers
   suited [] registers held typing e met = tt

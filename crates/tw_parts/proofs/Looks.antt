@@ -1,5 +1,6 @@
 -- LOOK: what is asked is met, and that it is done.
 use Rattle.tw_types.specs.StoreCalls.{member_at}
+use Rattle.std.specs.Cmp.{first_so, second_so}
 use Rattle.tw_types.specs.StoreChecks.{may_look}
 use Rattle.tw_rights.specs.declared.held.Held.TheVariants as held
 use Rattle.tw_types.specs.DataType.{is_container_by}
@@ -14,7 +15,7 @@ use Rattle.tw_no_trap.proofs.Conditions.{look_asks}
 use Rattle.tw_parts.proofs.Copies.{read_room}
 use Rattle.tw_parts.proofs.DataNames.{◌≡◌, ◌<◌, ◌∙◌, ◌+◌, ℕ, Scalar, Bool, true, false, List, [], ◌∷◌, length, None, Some, Option, Ok, refl, sym, ap, inl, slice_get, slice_index_or, slice_set, option_map, map-set, get, is_none, EmptyRegister, NestedScalar, element_of, is_closed_mode, Notices, ok_after, ok_first, there_then, bare_file, kind_at, Right, Served, IsHere, Skipped, Context, data_instr, at_goal, at_next_place, passes, passed, right_at, RightType, FrameView, IsDone, MayDo, sees, kinds_in, typed_writes}
 use Rattle.tw_parts.proofs.Left.{filled_done, moved_done, now_stays, same_ok}
-use Rattle.tw_parts.proofs.Registers.{and_first, and_second, closed_reads, empty_at, its_id, kind_passed, placed_at}
+use Rattle.tw_parts.proofs.Registers.{closed_reads, empty_at, its_id, kind_passed, placed_at}
 use Rattle.tw_parts.proofs.ValueRegisters.{of_type_inside, of_type_same}
 
 -- a container has elements
@@ -28,12 +29,12 @@ element_some by ty e = within ty.containers e
 reads_member : (by : Scalar) (o : Option RightType) → passes (reads_closed_container_by by) o ≡ true → option_map typed_writes (a_member_read o) ≡ Some false
 reads_member by o e =
     let right = passed (reads_closed_container_by by) o e in
-    let element = element_some by right.0.ty (and_second (is_closed_mode right.0.mode) (is_container_by by right.0.ty) right.2) in
+    let element = element_some by right.0.ty (second_so (is_closed_mode right.0.mode) (is_container_by by right.0.ty) right.2) in
     rw (right.1, element.1) refl
 
 module _ (by : Scalar) (member container subscript skip : ℕ) (s : Served) (f : FrameView) (m : MayDo (on_data.Look by member container subscript skip) s f) where
   pub look_right : kind_at f.held container ≡ Some false
-  look_right = kind_passed f.held m.typed.typing m.typed.kinds container false (reads_closed_container_by by) (λ t e. closed_reads t.mode (and_first (is_closed_mode t.mode) (is_container_by by t.ty) e)) m.typed.asked.1.0
+  look_right = kind_passed f.held m.typed.typing m.typed.kinds container false (reads_closed_container_by by) (λ t e. closed_reads t.mode (first_so (is_closed_mode t.mode) (is_container_by by t.ty) e)) m.typed.asked.1.0
 
   asks : (at : Subscript) × (id : ℕ) × (of_type_at f.position subscript by ≡ Ok at) × (is_none (right_at (bare_file f.held) member) ≡ true) × (right_at (bare_file f.held) container ≡ Some id) × (may_look s.store id at ≡ Ok tt)
   asks = look_asks (sees s m.ns f) m.left by member container subscript skip m.goes

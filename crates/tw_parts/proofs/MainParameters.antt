@@ -1,5 +1,5 @@
 -- Main's parameters get their data one after the other: on the parts.
-use Rattle.std.proofs.Common.{map as each, ◌≡◌, ◌<◌, ◌≤◌, ◌+◌, ℕ, zero, suc, Bool, true, false, not, ◌&&◌, List, [], ◌∷◌, ◌++◌, Some, None, refl, sym, ap, subst, ◌∙◌, arith, cond, length, length-append, slice_get, drop, append_assoc}
+use Rattle.std.proofs.Common.{map as each, ◌≡◌, ◌<◌, ◌≤◌, ◌+◌, ℕ, zero, suc, true, false, List, [], ◌∷◌, ◌++◌, Some, None, refl, sym, ap, subst, ◌∙◌, arith, cond, length, length-append, slice_get, drop, append_assoc}
 use Rattle.std.proofs.lemmas.List.{map-append}
 use Rattle.std.proofs.lemmas.Bool.{and_parts}
 use Rattle.std.proofs.lemmas.Bool.Decides.{nat_tests}
@@ -13,7 +13,6 @@ use Rattle.tw_types.specs.declared.input.Input.{Input}
 use Rattle.tw_types.specs.declared.param.Mode.{Mode}
 use Rattle.tw_types.specs.declared.param.Mode.TheVariants as mode
 use Rattle.tw_types.specs.declared.param.Param.{Param}
-use Rattle.tw_types.specs.DataType.{is_flat}
 use Rattle.tw_types.specs.Given.{given_by}
 use Rattle.tw_types.specs.Mode.{is_val, is_write}
 use Rattle.tw_types.specs.Store.{Store, added, empty_store}
@@ -205,10 +204,6 @@ begun_first first params inputs h = record {
   is_made = λ servers m. m;
 }
 
-no_value : (a b : Bool) → (not a && b) ≡ true → a ≡ false
-no_value true b e = cc
-no_value false b e = refl
-
 module _ (first : OpenedParts) (params : List Param) (inputs : List Input) (index : ℕ) (o : OpenedParts) (rest : List Input) (p : Param)
     (here : drop index params ≡ p ∷ drop (index + 1) params) (begun : IsBegun first params inputs index o rest) where
   abbrev others : List Param
@@ -219,9 +214,6 @@ module _ (first : OpenedParts) (params : List Param) (inputs : List Input) (inde
 
   shapes : (is_main_param p ≡ true) × (list_all is_main_param others ≡ true)
   shapes = and_parts (is_main_param p) (list_all is_main_param others) left_here.shape
-
-  pub right_due : is_val p.mode ≡ false
-  right_due = no_value (is_val p.mode) (is_flat p.ty) shapes.0
 
   opened_here : opened nothing_opened params inputs ≡ opened begun.made (p ∷ others) rest
   opened_here = begun.opened ∙ ap (λ ps. opened begun.made ps rest) here
@@ -260,9 +252,6 @@ module _ (first : OpenedParts) (params : List Param) (inputs : List Input) (inde
 
       both : (is_input_of p.ty i ≡ true) × (are_inputs_of (input_params others) after ≡ true)
       both = and_parts (is_input_of p.ty i) (are_inputs_of (input_params others) after) fit_here
-
-      pub fits : is_input_of p.ty i ≡ true
-      fits = both.0
 
       pub given_begun : (new : OpenedParts) → Adds p (λ m. with_given m (Some i)) o new → IsBegun first params inputs (index + 1) new after
       given_begun new adds = record {

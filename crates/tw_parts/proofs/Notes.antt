@@ -11,9 +11,6 @@ use Rattle.tw_types.specs.Store.{server_of}
 use Rattle.tw_types.proofs.NoticeOrder.{notice_cmp_total, notice_cmp-IsAntisymmetric}
 use Rattle.tw_parts.specs.Notes.{is_among, AreApart, queue_at, is_queued, AreQueued}
 
-pub same : Notice → Notice → Bool
-same m n = eq_by_cmp notice_cmp m n
-
 pub same_is : (m n : Notice) → eq_by_cmp notice_cmp m n ≡ true → m ≡ n
 same_is m n e = notice_cmp-IsAntisymmetric m n ((Equal-is (notice_cmp m n)).0 e)
 

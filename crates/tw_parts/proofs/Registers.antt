@@ -2,7 +2,7 @@
 use Rattle.tw_types.specs.declared.param.Mode.TheVariants as mode
 use Rattle.tw_rights.specs.declared.held.Held.TheVariants as held
 use Rattle.tw_store.specs.Slots.{Places}
-use Rattle.tw_parts.proofs.DataNames.{◌≡◌, ◌⊎◌, ◌∙◌, ◌<◌, ◌≤◌, arith, ℕ, zero, suc, Bool, true, false, ◌&&◌, List, [], ◌∷◌, Option, Some, None, refl, sym, ap, subst, slice_index_or, slice_set, option_map, inl, inr, is_none, same_Some, Mode, is_closed_mode, is_read, is_write, Held, bare_file, id_of, kind_at, kinds_of, passes, RightType, Typing, right_at, passed, FrameView, ArePlaced, IsAt, kinds_in, right_in, typed_writes}
+use Rattle.tw_parts.proofs.DataNames.{◌≡◌, ◌⊎◌, ◌∙◌, ◌<◌, ◌≤◌, arith, ℕ, zero, suc, Bool, true, false, List, [], ◌∷◌, Option, Some, None, refl, sym, ap, subst, slice_index_or, slice_set, option_map, inl, inr, is_none, same_Some, Mode, is_closed_mode, is_write, Held, bare_file, id_of, kind_at, kinds_of, passes, RightType, Typing, right_at, passed, FrameView, ArePlaced, IsAt, kinds_in, right_in, typed_writes}
 
 -- ---- by the typing
 
@@ -27,25 +27,11 @@ kind_passed file typing kinds k kind test is_so e =
     let right = passed test (right_at typing k) e in
     kind_typed file typing k kinds ∙ ap (option_map typed_writes) right.1 ∙ ap Some (is_so right.0 right.2)
 
-pub and_first : (a b : Bool) → (a && b) ≡ true → a ≡ true
-and_first true b e = refl
-and_first false b e = cc
-
-pub and_second : (a b : Bool) → (a && b) ≡ true → b ≡ true
-and_second true b e = e
-and_second false b e = cc
-
 pub closed_reads : (m : Mode) → is_closed_mode m ≡ true → is_write m ≡ false
 closed_reads mode.Val e = cc
 closed_reads mode.Closed e = refl
 closed_reads mode.Ref e = cc
 closed_reads mode.Write e = cc
-
-pub read_reads : (m : Mode) → is_read m ≡ true → is_write m ≡ false
-read_reads mode.Val e = refl
-read_reads mode.Closed e = refl
-read_reads mode.Ref e = refl
-read_reads mode.Write e = cc
 
 -- ---- the right that is there
 

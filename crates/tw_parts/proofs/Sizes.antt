@@ -1,5 +1,6 @@
 -- SIZE and SUBAT: what is asked is met, and that it is done.
 use Rattle.std.specs.FinMap as map
+use Rattle.std.specs.Cmp.{first_so}
 use Rattle.tw_types.specs.declared.data_type.Scalar.TheVariants as scalar
 use Rattle.tw_types.specs.declared.value.Value.TheVariants as value
 use Rattle.tw_types.specs.declared.cause.Cause.TheVariants.{WrongType}
@@ -22,12 +23,12 @@ use Rattle.tw_frame.specs.Jobs.{bare_frame}
 use Rattle.tw_parts.specs.Memory.{HasThatMany}
 use Rattle.tw_parts.proofs.DataNames.{◌≡◌, ◌∙◌, ◌+◌, ◌<◌, ◌^◌, ℕ, ℤ, pos, true, false, not, [], None, Some, Option, Ok, refl, sym, ap, inl, slice_get, slice_index_or, get, Scalar, Datum, must_then, EmptyRegister, FreedDatum, is_closed_mode, is_scalar, Notices, with_notices, ok_after, ok_first, there_then, bare_file, kind_at, Right, Served, IsHere, Completed, Skipped, Context, data_instr, at_goal, at_next_place, int_at, Position, with_value, RightType, right_at, FrameView, IsDone, MayDo, sees, typed_writes}
 use Rattle.tw_parts.proofs.Left.{moved_done, now_stays, same_ok}
-use Rattle.tw_parts.proofs.Registers.{and_first, closed_reads, id_at, its_id, kind_passed, placed_at}
+use Rattle.tw_parts.proofs.Registers.{closed_reads, id_at, its_id, kind_passed, placed_at}
 use Rattle.tw_parts.proofs.ValueRegisters.{int_is, int_same, may_set_kind}
 
 -- a right on a closed container is one to read
 closed_container_reads : (t : RightType) → reads_closed_container t ≡ true → typed_writes t ≡ false
-closed_container_reads t e = closed_reads t.mode (and_first (is_closed_mode t.mode) (not (is_scalar t.ty)) e)
+closed_container_reads t e = closed_reads t.mode (first_so (is_closed_mode t.mode) (not (is_scalar t.ty)) e)
 
 -- who may read the members by their type may read them
 any_reads : (by : Scalar) (o : Option Datum) → may_read_members_by by o ≡ Ok tt → may_read_members o ≡ Ok tt
@@ -83,7 +84,7 @@ members_there s id x is = rw is refl
 
 module _ (by : Scalar) (to container index skip : ℕ) (s : Served) (f : FrameView) (m : MayDo (on_data.SubscriptAt by to container index skip) s f) where
   pub subscript_right : kind_at f.held container ≡ Some false
-  subscript_right = kind_passed f.held m.typed.typing m.typed.kinds container false (reads_closed_container_by by) (λ t e. closed_reads t.mode (and_first (is_closed_mode t.mode) (is_container_by by t.ty) e)) m.typed.asked.0
+  subscript_right = kind_passed f.held m.typed.typing m.typed.kinds container false (reads_closed_container_by by) (λ t e. closed_reads t.mode (first_so (is_closed_mode t.mode) (is_container_by by t.ty) e)) m.typed.asked.0
 
   subscript_is : (count : ℤ) × (id : ℕ) × (int_at f.position index ≡ Ok count) × (right_at (bare_file f.held) container ≡ Some id) × (may_read_members_by by (get s.store.live id) ≡ Ok tt)
   subscript_is = subscript_asks (sees s m.ns f) m.left by to container index skip m.goes

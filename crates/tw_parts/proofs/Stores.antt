@@ -1,5 +1,6 @@
 -- STORE: what is asked is met, and that it is done.
 use Rattle.tw_types.specs.StoreCalls.{notices_after, notices_of_stored, set_to, stored}
+use Rattle.std.specs.Cmp.{first_so}
 use Rattle.tw_types.specs.StoreChecks.{may_store}
 use Rattle.tw_rights.specs.declared.held.Held.TheVariants as held
 use Rattle.tw_code.specs.declared.instr.DataInstr.TheVariants as on_data
@@ -7,11 +8,11 @@ use Rattle.tw_code.specs.accepting.Typing.{writes_scalar}
 use Rattle.tw_no_trap.proofs.Conditions.{store_asks}
 use Rattle.tw_parts.proofs.DataNames.{◌≡◌, ◌∙◌, ◌<◌, ◌+◌, ℕ, true, None, Some, Ok, refl, sym, ap, slice_get, slice_index_or, slice_set, length, same_Some, slice_get_within, get, EmptyRegister, WrongRegister, FreedDatum, Value, is_scalar, is_write, Notices, with_notices, Datum, must_then, ok_after, there_then, bare_file, kind_at, Right, Served, IsHere, IsLeft, Context, data_instr, datum_at, suits, at_next_place, right_at, FrameView, IsDone, MayDo, sees}
 use Rattle.tw_parts.proofs.Left.{emptied_done, left_stays, left_told, same_ok}
-use Rattle.tw_parts.proofs.Registers.{and_first, its_id, kind_passed, placed_at}
+use Rattle.tw_parts.proofs.Registers.{its_id, kind_passed, placed_at}
 
 module _ (datum from : ℕ) (s : Served) (f : FrameView) (m : MayDo (on_data.Store datum from) s f) where
   pub store_right : kind_at f.held datum ≡ Some true
-  store_right = kind_passed f.held m.typed.typing m.typed.kinds datum true writes_scalar (λ t e. and_first (is_write t.mode) (is_scalar t.ty) e) m.typed.asked.0
+  store_right = kind_passed f.held m.typed.typing m.typed.kinds datum true writes_scalar (λ t e. first_so (is_write t.mode) (is_scalar t.ty) e) m.typed.asked.0
 
   asks : (x : Value) × (id : ℕ) × (slice_get f.position.values from ≡ Some x) × (right_at (bare_file f.held) datum ≡ Some id) × (may_store x (get s.store.live id) ≡ Ok tt)
   asks = store_asks (sees s m.ns f) m.left datum from m.goes

@@ -1,5 +1,6 @@
 -- One value register: the number that is in it, and the values that it may be given.
 use Rattle.std.specs.Option.{option_and_then}
+use Rattle.std.specs.Cmp.{second_so}
 use Rattle.tw_types.specs.declared.data_type.Scalar.TheVariants as scalar
 use Rattle.tw_types.specs.declared.value.Value.TheVariants as value
 use Rattle.tw_types.specs.DataType.{same_scalar}
@@ -12,7 +13,6 @@ use Rattle.tw_code.specs.machine.Position.{int_in, must_have_type, of_type_at}
 use Rattle.tw_frame.specs.Drafts.{MaySet}
 use Rattle.tw_types.proofs.SameTypes.{same_scalars}
 use Rattle.tw_parts.specs.Memory.{IsTextAt}
-use Rattle.tw_parts.proofs.Registers.{and_second}
 use Rattle.tw_parts.proofs.DataNames.{◌≡◌, ◌<◌, ◌∙◌, ℕ, ℤ, length, slice_get_within, Scalar, Bool, true, false, not, ◌||◌, List, Option, Some, None, Result, Ok, refl, sym, ap, option_map, slice_get, same_Some, get, Cause, FreedDatum, WrongRegister, Value, is_scalar, NestedScalar, Datum, Data, must_ok, must_then, there_then, suits, Position, int_at}
 
 -- ---- numbers
@@ -88,7 +88,7 @@ module _ (s : Data) (typed : IsTypedStore s) (id : ℕ) (new : Value) (allowed :
       let is_value : value_in x.content ≡ Some new = ap (option_and_then (λ (y : Datum). value_in y.content)) (sym live.1) ∙ has in
       let fits = content_of_type x.ty x.content new (typed.contents id x live.1) is_value in
       let of : is_of old x.ty ≡ true = not_scalar (is_scalar x.ty) (is_of old x.ty) scalar.0 (ap (suits old) (sym live.1) ∙ suit) in
-      let same = same_scalars (scalar_of old) x.ty.scalar (and_second (is_scalar x.ty) (same_scalar (scalar_of old) x.ty.scalar) of) in
+      let same = same_scalars (scalar_of old) x.ty.scalar (second_so (is_scalar x.ty) (same_scalar (scalar_of old) x.ty.scalar) of) in
       ap (option_map scalar_of) there ∙ ap Some (same ∙ sym fits)
 
 -- a register that may be given a text has one

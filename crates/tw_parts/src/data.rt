@@ -1,6 +1,6 @@
 //! Instructions on data.
 
-ghost use Rattle.std.specs.Prelude.{◌≡◌, ◌<◌, IfErr, IfOk, OnErr, OnOk, None, Some, length, slice_index_or, slice_set};
+ghost use Rattle.std.specs.Prelude.{◌≡◌, ◌<◌, IfErr, IfOk, OnErr, OnOk};
 ghost use Rattle.tw_types.specs.declared.event.Event.TheVariants as event;
 ghost use Rattle.tw_code.specs.declared.instr.Instr.TheVariants as instr_is;
 ghost use Rattle.tw_frame.specs.Jobs.{FrameView, draft_of, job_of};
@@ -17,7 +17,6 @@ mod scalars;
 use crate::data::containers::{insert_member, look_up, size, subscript_at};
 use crate::data::rights::{copy_read, copy_write, drop_read, drop_write, new_datum};
 use crate::data::scalars::{get_value, store_value};
-use crate::in_seat::come;
 use crate::parts::Parts;
 use std::alloc::Global;
 use tw_code::DataInstr;
@@ -95,31 +94,10 @@ pub(crate) fn run_data<'a>(
         ),
         DataInstr::DropWrite { right } => drop_write(store, frame, done, *right),
         other => {
-            let mut draft = come(frame, done);
+            let mut draft = frame.take_back(done);
             run_at_once(store, frame, &mut draft, other);
             Ok(draft)
         }
-    }
-}
-
-/// The task in a seat does so.
-pub(crate) fn data_in<'a>(
-    seats: &mut Vec<Option<Frame<'a>>>,
-    seat: usize,
-    store: &mut Store,
-    alloc: Global,
-    done: Done<'a>,
-    instr: &DataInstr,
-) -> Result<Draft<'a>, Done<'a>>
-    requires inside { seat < length seats.old.items }
-    requires sits { (f : FrameView) × (slice_index_or seats.old.items seat None ≡ Some f) × (done.before ≡ job_of f) × MayDo instr.now store.old (come f done) }
-    ensures { (f : FrameView) → slice_index_or seats.old.items seat None ≡ Some f → (g : FrameView) × (seats.new.items ≡ slice_set seats.old.items seat (Some g))
-        × IsAnswer instr.now store.old store.new f g done.entry result }
-{
-    let place = &mut seats[seat];
-    match place {
-        Some(frame) => run_data(store, frame, alloc, done, instr),
-        None => unreachable!(),
     }
 }
 

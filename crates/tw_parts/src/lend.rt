@@ -1,7 +1,6 @@
 //! A task's job is lent.
 
 ghost use Rattle.std.specs.Prelude.{◌≡◌};
-ghost use Rattle.std.specs.FinMap.{get};
 ghost use Rattle.tw_types.specs.Layout.{ActorCounts};
 ghost use Rattle.tw_types.specs.Notices.{Notices};
 ghost use Rattle.tw_verify.specs.Typed.{TypedProgram};

@@ -9,7 +9,6 @@ mod data;
 mod deliver;
 mod end;
 mod givens;
-mod in_seat;
 mod lend;
 mod open;
 mod outputs;
@@ -20,6 +19,7 @@ mod release;
 mod rule;
 mod seats;
 mod shut;
+mod sitters;
 mod take;
 
 pub use outputs::Outputs;

@@ -11,13 +11,12 @@ ghost use Rattle.tw_types.specs.Task.{TaskOf, best};
 ghost use Rattle.tw_rights.specs.declared.arg.Arg.{Arg};
 ghost use Rattle.tw_frame.specs.Drafts.{MayStart};
 ghost use Rattle.tw_frame.specs.Jobs.{FrameView, draft_of, job_of};
-ghost use Rattle.tw_parts.specs.Seats.{HasSeat, seat_of};
+ghost use Rattle.tw_parts.specs.Seats.{HasSeat};
 ghost use Rattle.tw_parts.specs.Coming.{IsBegun, MayLend, come, gone_on};
 ghost use Rattle.tw_parts.specs.Data.{IsAnswer, MayDo};
 ghost use Rattle.tw_parts.specs.Memory.{TakesTexts};
 
-use crate::data::data_in;
-use crate::in_seat::{advance_in, hand_over_in, lend_in};
+use crate::sitters::Sitters;
 use std::alloc::{AllocError, Global};
 use std::marker::Model;
 use tw_code::DataInstr;
@@ -30,7 +29,7 @@ use tw_verify::Verified;
 
 /// A seat for each actor of the greatest layout: engines, servers, workers.
 pub struct Seats<'a> {
-    seats: Vec<Option<Frame<'a>>>,
+    sitters: Sitters<'a>,
     /// Room for a task, for each empty seat.
     rooms: Vec<Option<Rooms<'a>>>,
     taken: usize,
@@ -49,40 +48,9 @@ impl<'a> Model for Seats<'a> {
 
     ghost use Rattle.tw_parts.specs.Seats.{seated, AreKept, AreSeats};
 
-    ghost view = { λ s. seated s.seats.items };
+    ghost view = { λ s. seated s.sitters.frames.items };
 
-    ghost invariant = { λ s. AreSeats s.seats.items s.taken × AreKept s.seats.items s.rooms.items };
-}
-
-/// Who sits there.
-fn sitting<'s, 'a>(seats: &'s [Option<Frame<'a>>], seat: usize) -> Option<&'s Frame<'a>>
-    requires { seat < length seats.now }
-    ensures { option_copied result ≡ slice_index_or seats.now seat None }
-{
-    seats[seat].as_ref()
-}
-
-/// Takes who sits there.
-fn unseat<'a>(seats: &mut Vec<Option<Frame<'a>>>, seat: usize) -> Option<Frame<'a>>
-    requires { seat < length seats.old.items }
-    ensures taken { result ≡ slice_index_or seats.old.items seat None }
-    ensures rest { seats.new.items ≡ slice_set seats.old.items seat None }
-{
-    let place = &mut seats[seat];
-    place.take()
-}
-
-/// Puts a task into an empty seat.
-fn seat<'a>(seats: &mut Vec<Option<Frame<'a>>>, seat: usize, frame: Frame<'a>)
-    requires inside { seat < length seats.old.items }
-    requires empty { slice_index_or seats.old.items seat None ≡ None }
-    ensures { seats.new.items ≡ slice_set seats.old.items seat (Some frame.entry) }
-{
-    let place = &mut seats[seat];
-    match std::mem::replace(place, Some(frame)) {
-        None => {}
-        Some(_frame) => unreachable!(),
-    }
+    ghost invariant = { λ s. AreSeats s.sitters.frames.items s.taken × AreKept s.sitters.frames.items s.rooms.items };
 }
 
 /// Takes the room that is there.
@@ -114,8 +82,8 @@ fn lay<'a>(rooms: &mut Vec<Option<Rooms<'a>>>, seat: usize, room: Rooms<'a>)
 fn rooms_for_all<'a>(alloc: Global) -> Result<Vec<Option<Rooms<'a>>>, AllocError>
     ensures { IfOk result (λ rooms. rooms.items ≡ replicate 24 (Some tt)) }
 {
-    let mut rooms = Vec::with_capacity(alloc, Seats::COUNT)?;
-    for _index in 0..Seats::COUNT {
+    let mut rooms = Vec::with_capacity(alloc, Sitters::COUNT)?;
+    for _index in 0..Sitters::COUNT {
         let Ok(room) = Rooms::new(alloc) else {
             shut_rooms(rooms);
             return Err(AllocError);
@@ -135,34 +103,18 @@ fn shut_rooms<'a>(mut rooms: Vec<Option<Rooms<'a>>>) {
     rooms.destroy_empty();
 }
 
-/// Spends every right of those who sit there.
-fn shut_all<'a>(mut seats: Vec<Option<Frame<'a>>>) {
-    while let Some(seat) = seats.pop() {
-        if let Some(frame) = seat {
-            frame.shut();
-        }
-    }
-    seats.destroy_empty();
-}
-
 impl<'a> Seats<'a> {
-    /// How many seats there are.
-    pub const COUNT: usize = 24;
-
     /// Empty seats, with room for a task in each.
     pub fn new(alloc: Global) -> Result<Seats<'a>, AllocError>
         ensures { IfOk result (λ seats. seats ≡ map.empty) }
     {
         let rooms = rooms_for_all(alloc)?;
-        let Ok(mut seats) = Vec::with_capacity(alloc, Seats::COUNT) else {
+        let Ok(sitters) = Sitters::none(alloc) else {
             shut_rooms(rooms);
             return Err(AllocError);
         };
-        for _index in 0..Seats::COUNT {
-            seats.push_reserved(None);
-        }
         Ok(Seats {
-            seats,
+            sitters,
             rooms,
             taken: 0,
         })
@@ -171,11 +123,11 @@ impl<'a> Seats<'a> {
     /// Spends every right of every task.
     pub fn shut(self) {
         let Seats {
-            seats,
+            sitters,
             rooms,
             taken: _,
         } = self;
-        shut_all(seats);
+        sitters.shut();
         shut_rooms(rooms);
     }
 
@@ -191,7 +143,7 @@ impl<'a> Seats<'a> {
         requires { HasSeat actor }
         ensures { option_copied result ≡ get self.now actor }
     {
-        sitting(&self.seats, actor.place())
+        self.sitters.sitting(actor.place())
     }
 
     /// The best task of an actor without one begins, if there is one; a draft for its first job.
@@ -223,7 +175,7 @@ impl<'a> Seats<'a> {
             unreachable!();
         };
         let (frame, draft) = Frame::start(task, actor, verified, start);
-        seat(&mut self.seats, number, frame);
+        self.sitters.seat(number, frame);
         self.taken += 1;
         Ok(Some(draft))
     }
@@ -235,7 +187,7 @@ impl<'a> Seats<'a> {
         ensures { self.new ≡ remove self.old actor }
     {
         let number = actor.place();
-        let Some(frame) = unseat(&mut self.seats, number) else {
+        let Some(frame) = self.sitters.unseat(number) else {
             unreachable!();
         };
         self.taken -= 1;
@@ -248,7 +200,7 @@ impl<'a> Seats<'a> {
         requires sits { (f : FrameView) × (get self.old actor ≡ Some f) × (done.before ≡ job_of f) × (f.spent < 2 ^ 63) }
         ensures { (f : FrameView) → get self.old actor ≡ Some f → (self.new ≡ insert self.old actor (come f done.entry)) × (result ≡ draft_of (come f done.entry)) }
     {
-        advance_in(&mut self.seats, actor.place(), done)
+        self.sitters.advance(actor.place(), done)
     }
 
     /// Then hands over arguments, and goes on to the next place.
@@ -271,15 +223,8 @@ impl<'a> Seats<'a> {
             × (bundled f.held params.now args.now vals.items ≡ Some (record { args = result.0; file = file }))
             × (self.new ≡ insert self.old actor (gone_on (come f done.entry) file)) × (result.1 ≡ draft_of (come f done.entry)) }
     {
-        hand_over_in(
-            &mut self.seats,
-            actor.place(),
-            done,
-            params,
-            args,
-            vals,
-            room,
-        )
+        self.sitters
+            .hand_over(actor.place(), done, params, args, vals, room)
     }
 
     /// Lends the actor's task by the number of its events. The draft has the task's values.
@@ -289,7 +234,7 @@ impl<'a> Seats<'a> {
         ensures { (f : FrameView) → get self.old actor ≡ Some f
             → (result ≡ job_of (record f { event_no = event_no })) × (self.new ≡ insert self.old actor (record f { event_no = event_no })) }
     {
-        lend_in(&mut self.seats, actor.place(), event_no, draft)
+        self.sitters.lend(actor.place(), event_no, draft)
     }
 
     /// The actor's task does an instruction on data behind the Done; a draft of its values, or the Done again.
@@ -306,6 +251,6 @@ impl<'a> Seats<'a> {
         ensures { (f : FrameView) → get self.old actor ≡ Some f → (g : FrameView) × (self.new ≡ insert self.old actor g)
             × IsAnswer instr.now store.old store.new f g done.entry result }
     {
-        data_in(&mut self.seats, actor.place(), store, alloc, done, instr)
+        self.sitters.data(actor.place(), store, alloc, done, instr)
     }
 }

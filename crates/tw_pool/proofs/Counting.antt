@@ -44,6 +44,13 @@ the_same (Worker a) (Engine b) e = cc
 the_same (Worker a) (Server b) e = cc
 the_same (Worker a) (Worker b) e = ap Worker (eqb-true a b e)
 
+pub not_same : (a b : Actor) → a ≢ b → same_actor a b ≡ false
+not_same a b other = by (same_actor a b) refl
+  where
+    by : (t : Bool) → same_actor a b ≡ t → t ≡ false
+    by true e = absurd (other (the_same a b e))
+    by false e = refl
+
 one_place : (a b : Actor) → HasPlace a → HasPlace b → place_of a ≡ place_of b → same_actor a b ≡ true
 one_place (Engine a) (Engine b) f g e = eq-eqb a b e
 one_place (Engine a) (Server b) f g e = absurd (omega (arith, f, g, e))

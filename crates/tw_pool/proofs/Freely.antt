@@ -143,9 +143,6 @@ module _ (verified : TypedProgram) (inputs : List Input) (layout : ActorCounts) 
         none_there n has at = let no : false ≡ true = sym (ap (λ q. is_among n q) (ap (queue_at old.store.queues) at ∙ empty)) ∙ has in cc
 
     module _ (n : Notice) (new : Parts) (makes : Makes verified layout (Deliver server n.datum n.rule n.parameter) old new) where
-      event : Event
-      event = Deliver server n.datum n.rule n.parameter
-
       goes : Goes verified layout (Deliver server n.datum n.rule n.parameter) old h.notices new
       goes = makes h.notices h.parts
 

@@ -1,5 +1,6 @@
 -- What comes of a Done: the lines of the table, from the events of the parts.
 use Rattle.std.proofs.Common.{◌≡◌, ◌≢◌, ◌<◌, ◌≤◌, ◌+◌, ◌*◌, ◌^◌, ◌==◌, not, ◌&&◌, ℕ, Bool, true, false, cond, List, [], ◌∷◌, ◌++◌, length, length-append, Option, Some, None, refl, sym, ap, subst, ◌∙◌, arith, inl, option_map, slice_get}
+use Rattle.tw_types.proofs.Orders.{other_key, own_key}
 use Rattle.std.specs.Prelude.{IfSome, MatchOption, option_to_list}
 use Rattle.std.proofs.lemmas.Bool.{and_parts, eqb-true}
 use Rattle.std.proofs.lemmas.Bool.Decides.{nat_tests}
@@ -7,8 +8,6 @@ use Rattle.std.proofs.lemmas.List.Elements.{filter-append}
 use Rattle.std.proofs.lemmas.Option.{same_Some}
 use Rattle.std.specs.FinMap.{get, get-insert, get-remove, insert}
 use Rattle.std.specs.Option.{option_and_then}
-use Rattle.std.specs.Ordering.{eq_by_cmp, is_eq}
-use Rattle.std.specs.Cmp.{Equal-is, tied_itself}
 use Rattle.tw_types.specs.declared.actor.Actor.{Actor}
 use Rattle.tw_types.specs.declared.event.Event.{Event}
 use Rattle.tw_types.specs.declared.event.Event.TheVariants.{Call, End, Local}
@@ -50,7 +49,7 @@ use Rattle.tw_pool.specs.Kept.{AreLent, IsKept, IsOwedBy}
 use Rattle.tw_pool.specs.PoolView.{HasState, PoolView, with_events}
 use Rattle.tw_pool.specs.Turns.{IsTurnBy, Lends, Line, OrNoMemory, TakesMemory, is_last, instr_behind, lent_to, steps_of}
 use Rattle.tw_pool.specs.Words.{FitsWord}
-use Rattle.tw_pool.proofs.Counting.{has_place, itself, the_same}
+use Rattle.tw_pool.proofs.Counting.{has_place, itself, not_same, the_same}
 use Rattle.tw_pool.proofs.Freely.{has_state, lends, line_told, room_here, state, viewed}
 use Rattle.tw_pool.proofs.Keeping.{no_task}
 
@@ -60,17 +59,10 @@ abbrev pub AreBy : Actor → List Event → Type 0
 AreBy actor [] = Unit {0}
 AreBy actor (e ∷ es) = (actor_of e ≡ actor) × AreBy actor es
 
-apart : (a b : Actor) → a ≢ b → same_actor a b ≡ false
-apart a b h = by (same_actor a b) refl
-  where
-    by : (t : Bool) → same_actor a b ≡ t → t ≡ false
-    by true e = absurd (h (the_same a b e))
-    by false e = refl
-
 none_of : (a actor : Actor) → a ≢ actor → (es : List Event) → AreBy actor es → events_of a es ≡ []
 none_of a actor h [] by = refl
 none_of a actor h (e ∷ es) by =
-    let other : same_actor (actor_of e) a ≡ false = apart (actor_of e) a (λ is. h (sym is ∙ by.0)) in
+    let other : same_actor (actor_of e) a ≡ false = not_same (actor_of e) a (λ is. h (sym is ∙ by.0)) in
     rw other (none_of a actor h es by.1)
 
 others_same : (a actor : Actor) → a ≢ actor → (history es : List Event) → AreBy actor es → length (events_of a (history ++ es)) ≡ length (events_of a history)
@@ -100,21 +92,11 @@ no_more (e ∷ es) = ap (λ xs. e ∷ xs) (no_more es)
 
 -- ---- seats
 
-other_key : (a b : Actor) → a ≢ b → eq_by_cmp actor_cmp a b ≡ false
-other_key a b h = by (eq_by_cmp actor_cmp a b) refl
-  where
-    by : (t : Bool) → eq_by_cmp actor_cmp a b ≡ t → t ≡ false
-    by true e = absurd (h (actor_cmp-IsAntisymmetric a b ((Equal-is (actor_cmp a b)).0 e)))
-    by false e = refl
-
-own_key : (a : Actor) → eq_by_cmp actor_cmp a a ≡ true
-own_key a = ap is_eq (tied_itself actor_cmp_total a)
-
 get_other : {X : Type 0} (f : X) (m : _) (a q : Actor) → q ≢ a → get (insert {R = actor_cmp} m a f) q ≡ get m q
-get_other f m a q h = get-insert actor_cmp_total m a f q ∙ ap (λ t. cond t (Some f) (get m q)) (other_key q a h)
+get_other f m a q h = get-insert actor_cmp_total m a f q ∙ ap (λ t. cond t (Some f) (get m q)) (other_key actor_cmp-IsAntisymmetric q a h)
 
 get_own : {X : Type 0} (f : X) (m : _) (a : Actor) → get (insert {R = actor_cmp} m a f) a ≡ Some f
-get_own f m a = get-insert actor_cmp_total m a f a ∙ ap (λ t. cond t (Some f) (get m a)) (own_key a)
+get_own f m a = get-insert actor_cmp_total m a f a ∙ ap (λ t. cond t (Some f) (get m a)) (own_key actor_cmp_total a)
 
 -- ---- parts to which events lead
 
@@ -134,7 +116,7 @@ then_at verified inputs layout history p new at e goes = record {
 end_frames : (program : List Procedure) (layout : ActorCounts) (actor : Actor) (s t : State) → step program layout (End actor) s ≡ Went t → get t.frames actor ≡ None
 unfolding step
 end_frames program layout actor s t e = went_of (end_event program actor s) (λ (u : State). get u.frames actor ≡ None) t
-    (end_leaves program actor s {P = λ (u : State). get u.frames actor ≡ None} (get-remove actor_cmp_total s.frames actor actor ∙ ap (λ b. cond b None (get s.frames actor)) (own_key actor))) e
+    (end_leaves program actor s {P = λ (u : State). get u.frames actor ≡ None} (get-remove actor_cmp_total s.frames actor actor ∙ ap (λ b. cond b None (get s.frames actor)) (own_key actor_cmp_total actor))) e
 
 module _ (verified : TypedProgram) (inputs : List Input) (layout : ActorCounts) (stopped : Bool) (told : HistoryView) (old : Parts) (h : IsKept verified inputs layout told.limit told.events old) (w : PoolView) (seen : viewed verified inputs layout stopped told ≡ w)
     (actor : Actor) (there : is_in w.layout actor ≡ true) (room : length w.history < w.limit) (done : DoneView) (owed : IsOwedBy w actor done) where
@@ -171,9 +153,6 @@ module _ (verified : TypedProgram) (inputs : List Input) (layout : ActorCounts) 
           let number = h.lent room_now actor f e in
           let job_is : job_by (bare_frame f) ≡ job_of f = λ i. record { program = sym fits.program i; task = f.task; procedure = f.procedure; actor = sym fits.own i; event_no = sym number i; position = f.position } in
           (f, record { sits = e; own = sym same ∙ job_is; program = ap (λ (j : JobView). j.program) (sym same) })
-
-  pub task : FrameView
-  task = its.0
 
   pub owed_now : IsOwed old actor its.0 done
   owed_now = record { sits = its.1.sits; own = its.1.own }

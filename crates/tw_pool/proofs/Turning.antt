@@ -28,7 +28,7 @@ use Rattle.tw_pool.specs.declared.answer.Turn.{Turn}
 use Rattle.tw_pool.specs.declared.answer.Turn.TheVariants.{Ended, Foreign, Over, Owed}
 use Rattle.tw_pool.specs.Actors.{events_of}
 use Rattle.tw_pool.specs.History.{HistoryView}
-use Rattle.tw_pool.specs.Kept.{HasTask, IsFree, IsKept, IsOwedBy}
+use Rattle.tw_pool.specs.Kept.{IsFree, IsKept, IsOwedBy}
 use Rattle.tw_pool.specs.PoolView.{PoolView, HasState}
 use Rattle.tw_pool.specs.Turns.{Answers, GoesFree, IsTurn, IsTurnBy, Lends, Line, Makes, OrNoMemory, TakesBack, Turns, TurnsUnless, closing_at, closing_of, instr_behind, is_last, lent_to, steps_of}
 use Rattle.tw_pool.proofs.Freely.{has_state, line_still, state, viewed}
@@ -156,12 +156,6 @@ module _ (verified : TypedProgram) (inputs : List Input) (layout : ActorCounts) 
     pub is_free : get old.seats actor ≡ None → IsFree w actor
     is_free none s at = ap (λ (t : State). get t.frames actor) (only_here s at) ∙ get_mapped bare_frame old.seats actor ∙ ap (option_map bare_frame) none
 
-    pub has_task : (f : FrameView) → get old.seats actor ≡ Some f → HasTask w actor
-    has_task f sits s at = subst (λ o. IsSome o) (sym (ap (λ (t : State). get t.frames actor) (only_here s at) ∙ get_mapped bare_frame old.seats actor ∙ ap (option_map bare_frame) sits)) refl
-
-    pub sits_if : HasTask w actor → get old.seats actor ≡ None → ⊥
-    sits_if has none = let some = subst (λ o. IsSome o) (get_mapped bare_frame old.seats actor ∙ ap (option_map bare_frame) none) (has here at_here) in let no : true ≡ false = sym some in cc
-
     module _ (room : length w.history < w.limit) (f : FrameView) (sits : get old.seats actor ≡ Some f) where
       room_told : length told.events < told.limit
       room_told = subst (λ (x : PoolView). length x.history < x.limit) (sym seen) room
@@ -191,13 +185,6 @@ module _ (verified : TypedProgram) (inputs : List Input) (layout : ActorCounts) 
       pub foreign_line : (done : DoneView) → (done.before ≡ job_of f → ⊥) → IsTurnBy (λ s. Turns w s actor (lent_to w s actor) (Some done)) w (Foreign done) w
       foreign_line done other = unchanged (λ s. Turns w s actor (lent_to w s actor) (Some done)) (Foreign done)
           (subst (λ j. Turns w here actor j (Some done) (Foreign done) []) (sym lent_is) (inr (other, (refl, refl))))
-
-    pub has_if : IsSome (get old.seats actor) → HasTask w actor
-    has_if some = by (get old.seats actor) refl some
-      where
-        by : (o : Option FrameView) → get old.seats actor ≡ o → IsSome o → HasTask w actor
-        by None none is = cc
-        by (Some f) sits is = has_task f sits
 
     pub owed_if : length w.history < w.limit → IsSome (get old.seats actor) → IsTurnBy (λ s. Turns w s actor (lent_to w s actor) None) w Owed w
     owed_if room some = by (get old.seats actor) refl some

@@ -1,5 +1,5 @@
 -- What is true of the parts of every pool, with its history.
-use Rattle.std.specs.Prelude.{◌≡◌, ◌≤◌, ◌<◌, ℕ, List, Some, None, IsSome, length}
+use Rattle.std.specs.Prelude.{◌≡◌, ◌≤◌, ◌<◌, ℕ, List, Some, None, length}
 use Rattle.std.specs.FinMap.{get}
 use Rattle.tw_types.specs.declared.actor.Actor.{Actor}
 use Rattle.tw_types.specs.declared.actor.Actor.TheVariants.{Engine, Server, Worker}
@@ -43,9 +43,6 @@ InState p Holds = (s : State) → HasState p s → Holds s
 
 abbrev pub IsFree : PoolView → Actor → Type 0
 IsFree p actor = InState p (λ s. get s.frames actor ≡ None)
-
-abbrev pub HasTask : PoolView → Actor → Type 0
-HasTask p actor = InState p (λ s. IsSome (get s.frames actor))
 
 abbrev pub AsksNone : PoolView → ℕ → Type 0
 AsksNone p engine = InState p (λ s. next_ask engine s.rules ≡ None)

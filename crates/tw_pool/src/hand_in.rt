@@ -12,7 +12,7 @@ ghost use Rattle.tw_parts.specs.Events.{IsDrafted, IsOwed, MakesBehind, StandsAt
 ghost use Rattle.tw_parts.specs.Memory.{InstrTakes};
 ghost use Rattle.tw_pool.specs.declared.answer.Closing.TheVariants.{Limit};
 ghost use Rattle.tw_pool.specs.declared.answer.Turn.TheVariants as answer;
-ghost use Rattle.tw_pool.specs.Kept.{IsOwedBy, HasTask};
+ghost use Rattle.tw_pool.specs.Kept.{IsOwedBy};
 ghost use Rattle.tw_pool.specs.Turns.{Answers, IsTurnBy, Lends, OrNoMemory, instr_behind, is_last, steps_of, Makes, TakesBack, Turns, lent_to};
 ghost use Rattle.tw_pool.specs.Words.{FitsWord};
 ghost use Rattle.std.specs.Option.{option_and_then};
@@ -202,16 +202,15 @@ impl<'a> Pool<'a> {
         self.go_past(alloc, actor, done)
     }
 
-    /// What comes of a Done where the actor has a task.
+    /// What comes of a Done. It is handed back where no job is lent to the actor, or another one.
     pub(crate) fn hand_in(&mut self, alloc: Global, actor: Actor, done: Done<'a>) -> Turn<'a>
         requires actor { is_in self.old.layout actor ≡ true }
         requires room { length self.old.history < self.old.limit }
-        requires runs { HasTask self.old actor }
         requires program { done.before.program ≡ self.old.program }
         ensures { IsTurnBy (λ s. Turns self.old s actor (lent_to self.old s actor) (Some done.entry)) self.old result self.new }
     {
         let Some(frame) = self.parts.seats.get(actor) else {
-            unreachable!();
+            return Turn::Foreign(done);
         };
         if !frame.has_lent(done.before()) {
             return Turn::Foreign(done);

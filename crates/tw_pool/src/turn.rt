@@ -72,20 +72,13 @@ impl<'a> Pool<'a> {
         if let Some(closing) = self.closing() {
             return Turn::Over(closing);
         }
-        let runs = has_task(&self.parts, actor);
         match given {
+            Some(done) => self.hand_in(alloc, actor, done),
             None => {
-                if runs {
+                if has_task(&self.parts, actor) {
                     Turn::Owed
                 } else {
                     self.go_free(alloc, actor)
-                }
-            }
-            Some(done) => {
-                if runs {
-                    self.hand_in(alloc, actor, done)
-                } else {
-                    Turn::Foreign(done)
                 }
             }
         }

@@ -5,6 +5,7 @@ use Rattle.tw_frame.specs.Jobs.{DoneView, JobView}
 use Rattle.tw_pool.specs.declared.answer.Turn.{Turn}
 use Rattle.tw_pool.specs.declared.answer.Turn.TheVariants as turn
 use Rattle.tw_host.specs.declared.locked.Strange.{Strange}
+use Rattle.tw_workers.specs.declared.driver.End.{End}
 
 abbrev pub Answer : Type 0
 Answer = Result Turn Strange
@@ -61,9 +62,9 @@ Ends (Ok turn.Idle) steps memory = ⊥
 Ends (Err strange) steps memory = (steps ≡ Stopped ∷ []) × (memory ≡ false)
 
 -- it goes on, with a Done or none to hand in; or it ends, and memory ran out or not
-abbrev pub Follows : Answer → List Step → Result (Option DoneView) Bool → Type 0
+abbrev pub Follows : Answer → List Step → Result (Option DoneView) End → Type 0
 Follows answer steps (Ok next) = GoesOn answer steps next
-Follows answer steps (Err memory) = Ends answer steps memory
+Follows answer steps (Err end) = Ends answer steps end.memory
 
 -- ---- from a turn to the end
 

@@ -24,6 +24,12 @@ pub struct Driven<N: Named> {
     pub memory: bool,
 }
 
+/// A driver ends, and whether memory ran out.
+#[derive(Drop)]
+struct End {
+    memory: bool,
+}
+
 /// Runs a job between the two calls of the gate.
 fn run_job<'a, D: Desk<'a>, R: Wait>(
     rt: &R,
@@ -69,7 +75,7 @@ fn work<'a, D: Desk<'a>, R: Wait>(
     desk: &D,
     seat: &mut D::Seat,
     job: Job<'a>,
-) -> Result<Option<Done<'a>>, bool>
+) -> Result<Option<Done<'a>>, End>
     requires { job.program ≡ D.program }
     ensures program { IfOk result (IsDoneOf D.program) }
     ensures steps { (steps : List Step) × FoldsTo D.does seat.old steps seat.new × Follows (Ok (turn.Run job.entry)) steps result }
@@ -77,12 +83,12 @@ fn work<'a, D: Desk<'a>, R: Wait>(
     let done = run_job(rt, alloc, desk, seat, job);
     if done.short() {
         give_up(rt, alloc, desk, seat, Some(done));
-        return Err(true);
+        return Err(End { memory: true });
     }
     Ok(Some(done))
 }
 
-/// What is behind a turn: the Done for the next one; or, where the driver ends, whether memory ran out.
+/// What is behind a turn: the Done for the next one, or the end of the driver.
 fn go_on<'a, D: Desk<'a>, R: Wait + Clock>(
     rt: &R,
     alloc: Global,
@@ -90,13 +96,13 @@ fn go_on<'a, D: Desk<'a>, R: Wait + Clock>(
     seat: &mut D::Seat,
     rest: &mut Rest,
     answer: Result<Turn<'a>, Strange<'a>>,
-) -> Result<Option<Done<'a>>, bool>
+) -> Result<Option<Done<'a>>, End>
     requires { IfOk answer (IsAnswerOf D.program) }
     ensures program { IfOk result (IsDoneOf D.program) }
     ensures steps { (steps : List Step) × FoldsTo D.does seat.old steps seat.new × Follows answer.entry steps result }
 {
     match answer {
-        Ok(Turn::Over(_)) => Err(false),
+        Ok(Turn::Over(_)) => Err(End { memory: false }),
         Ok(Turn::Run(job)) => {
             rest.reset();
             work(rt, alloc, desk, seat, job)
@@ -111,11 +117,11 @@ fn go_on<'a, D: Desk<'a>, R: Wait + Clock>(
         }
         Ok(Turn::NoMemory(done)) => {
             give_up(rt, alloc, desk, seat, done);
-            Err(true)
+            Err(End { memory: true })
         }
         Ok(Turn::Foreign(_)) | Ok(Turn::Owed) | Err(_) => {
             desk.stop(rt, seat);
-            Err(false)
+            Err(End { memory: false })
         }
     }
 }
@@ -137,7 +143,7 @@ pub fn drive_at<'a, D: Desk<'a>, R: Wait + Clock>(
         let answer = desk.turns(rt, alloc, seat, done.take());
         match go_on(rt, alloc, desk, seat, &mut rest, answer) {
             Ok(next) => done = next,
-            Err(memory) => return memory,
+            Err(End { memory }) => return memory,
         }
     }
     unreachable!()

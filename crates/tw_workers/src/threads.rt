@@ -32,6 +32,12 @@ impl<N: Named, G: Gate> Promise<bool> for Begun<N, G> {
     ghost kept_by = { λ b memory. Drove N.run G.unwatched (told_by b.seat.value.actor b.seat.value.told.items) memory };
 }
 
+/// A seat had no thread and was driven here, and whether memory ran out.
+#[derive(Drop)]
+struct Unthreaded {
+    memory: bool,
+}
+
 /// Begins to drive a seat in a thread of its own. Where there is none the run is stopped, and the seat is driven here.
 fn begin<'s, 'e, 'a, N: Named + Send + Sync, G: Gate + Sync, R: Threads + Wait + Clock + Sync>(
     rt: &'e R,
@@ -40,9 +46,9 @@ fn begin<'s, 'e, 'a, N: Named + Send + Sync, G: Gate + Sync, R: Threads + Wait +
     host: &'e Host<'a, N>,
     seat: &'e mut Seat<N>,
     gate: &'e G,
-) -> Result<PromisedHandle<bool, Begun<N, G>>, bool>
+) -> Result<PromisedHandle<bool, Begun<N, G>>, Unthreaded>
     ensures there { IfOk result (λ driver. driver.promise.seat.value ≡ seat.old) }
-    ensures here { IfErr result (λ memory. Drove N.run G.unwatched (told_by seat.old.actor seat.old.told.items) memory) }
+    ensures here { IfErr result (λ here. Drove N.run G.unwatched (told_by seat.old.actor seat.old.told.items) here.memory) }
 {
     let begun = Begun::<N, G> {
         seat: Snapshot::of(seat),
@@ -56,7 +62,7 @@ fn begin<'s, 'e, 'a, N: Named + Send + Sync, G: Gate + Sync, R: Threads + Wait +
         Err(back) => {
             host.stop(rt);
             let SpawnError { value: mut work } = back;
-            Err(work())
+            Err(Unthreaded { memory: work() })
         }
     }
 }

@@ -7,7 +7,6 @@ ghost use Rattle.tw_parts.specs.Coming.{come};
 ghost use Rattle.tw_parts.specs.Data.{IsAnswer, IsDone, MayDo};
 
 use crate::data::give::{copied_twice, give, number_at};
-use crate::in_seat::come;
 use std::alloc::Global;
 use tw_frame::{Done, Draft, Frame};
 use tw_rights::Held;
@@ -34,13 +33,13 @@ pub(crate) fn insert_member<'a>(
     let at = done.look(subscript);
     match store.insert_under(alloc, frame.peek_write(container), at, right) {
         Ok(Inserted::Done) => {
-            let draft = come(frame, done);
+            let draft = frame.take_back(done);
             frame.go_on();
             Ok(draft)
         }
         Ok(Inserted::Present(back)) => {
             frame.fill(member, Held::Read(back));
-            let draft = come(frame, done);
+            let draft = frame.take_back(done);
             frame.skip(skip);
             Ok(draft)
         }
@@ -115,12 +114,12 @@ pub(crate) fn subscript_at<'a>(
                 return Err(done);
             };
             let (value, copy) = copies;
-            let mut draft = come(frame, done);
+            let mut draft = frame.take_back(done);
             give(frame, &mut draft, to, value, copy);
             Ok(draft)
         }
         None => {
-            let draft = come(frame, done);
+            let draft = frame.take_back(done);
             frame.skip(skip);
             Ok(draft)
         }

@@ -6,7 +6,6 @@ ghost use Rattle.tw_frame.specs.Jobs.{job_of};
 ghost use Rattle.tw_parts.specs.Coming.{come};
 ghost use Rattle.tw_parts.specs.Data.{IsAnswer, IsDone, MayDo};
 
-use crate::in_seat::come;
 use std::alloc::Global;
 use tw_frame::{Done, Draft, Frame};
 use tw_rights::Held;
@@ -31,7 +30,7 @@ pub(crate) fn new_datum<'a>(
         return Err(done);
     };
     let (writes, reads) = rights;
-    let draft = come(frame, done);
+    let draft = frame.take_back(done);
     frame.fill(write, Held::Write(writes));
     frame.fill(read, Held::Read(reads));
     frame.go_on();
@@ -85,7 +84,7 @@ pub(crate) fn drop_write<'a>(
     let right = frame.take_write(datum);
     match store.drop_write(right) {
         Ok(()) => {
-            let draft = come(frame, done);
+            let draft = frame.take_back(done);
             frame.go_on();
             Ok(draft)
         }

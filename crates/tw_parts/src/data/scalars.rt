@@ -12,7 +12,6 @@ ghost use Rattle.tw_parts.specs.Coming.{come};
 ghost use Rattle.tw_parts.specs.Data.{IsAnswer, MayDo};
 
 use crate::data::give::give;
-use crate::in_seat::come;
 use std::alloc::{AllocError, Global};
 use tw_frame::{Done, Draft, Frame};
 use tw_rights::{Held, ReadRight};
@@ -38,7 +37,7 @@ pub(crate) fn store_value<'a>(
     let right = frame.take_write(datum);
     match store.store(right, value) {
         Ok(()) => {
-            let draft = come(frame, done);
+            let draft = frame.take_back(done);
             frame.go_on();
             Ok(draft)
         }
@@ -88,7 +87,7 @@ pub(crate) fn get_value<'a>(
         return Err(done);
     };
     let (value, copy) = copies;
-    let mut draft = come(frame, done);
+    let mut draft = frame.take_back(done);
     give(frame, &mut draft, to, value, copy);
     Ok(draft)
 }

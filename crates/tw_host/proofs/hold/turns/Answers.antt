@@ -38,9 +38,9 @@ returns-in-Err c =
     let given = c.loop-made.given in
     let t = subst (λ (o : Option DoneView). IsTurn p actor o c.turn-answer.result q) c.take.ensures.value c.turn-answer.ensures in
     let back = subst (λ (answer : Turn). IsTurn p actor given answer q) (sym c.in-Err.ensures.back) t in
-    holding.last c.args.pool.now actor c.args.given p given inv.so_far.0 inv.so_far.2 c.in-Err.answer q back (omega (arith, inv.so_far.1, c.loop-made-test.true))
+    holding.last c.args.pool.now actor c.args.given p given inv.so_far.0 inv.so_far.2 c.args.most c.in-Err.answer q back (omega (arith, inv.so_far.1, c.loop-made-test.true))
 
 pub returns : goal.returns
 returns c =
     let inv = c.loop-made.invariant in
-    holding.last c.args.pool.now c.args.actor c.args.given c.loop-made.pool c.loop-made.given inv.so_far.0 inv.so_far.2 c.turn.result c.turn.new.self c.turn.ensures (omega (arith, inv.so_far.1, c.loop-made-test.false))
+    holding.last c.args.pool.now c.args.actor c.args.given c.loop-made.pool c.loop-made.given inv.so_far.0 inv.so_far.2 c.args.most c.turn.result c.turn.new.self c.turn.ensures (omega (arith, inv.so_far.1, c.loop-made-test.false, c.requires.some))

@@ -1,10 +1,5 @@
-use Rattle.std.proofs.Common.{[], refl, sym, ◌∙◌, inr, arith, append-nil}
+use Rattle.tw_host.proofs.Holding.{once}
 use Rattle.tw_host.proofs.host.Host.turn.Goals as goal
 
-pub returns-then-is_err-clause-told : goal.returns-then-is_err-clause-told
-returns-then-is_err-clause-told g c = record {
-  es = [];
-  told = c.reserve.ensures.items ∙ sym (append-nil c.args.seat.now.told.items);
-  own = record { few = omega arith; own = refl };
-  turns = inr (refl, refl);
-}
+pub returns-clause-told : goal.returns-clause-told
+returns-clause-told g c = once _ _ _ _ _ _ c.hold.ensures.told

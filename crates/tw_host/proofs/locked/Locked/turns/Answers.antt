@@ -1,4 +1,4 @@
-use Rattle.std.proofs.Common.{◌≡◌, ◌++◌, ◌≤◌, sym, ap, subst, ◌∙◌, arith, length, drop}
+use Rattle.std.proofs.Common.{◌≡◌, ◌++◌, ◌≤◌, ◌*◌, sym, ap, subst, ◌∙◌, arith, length, drop}
 use Rattle.tw_pool.specs.Actors.{events_of}
 use Rattle.tw_host.specs.Tells.{IsAnswerOf, IsDoneOf}
 use Rattle.tw_host.proofs.Holding as holding
@@ -54,8 +54,8 @@ returns-clause-told g c =
     let before = c.len-before.ensures ∙ ap length c.history.ensures.events in
     let is = c.tell.ensures.told ∙ ap (λ n. seat.told.items ++ drop n c.history-2.result.now.events) before ∙ ap (λ es. seat.told.items ++ drop (length old.history) es) c.history-2.ensures.events in
     let same : length (events_of seat.actor old.history) ≡ length seat.told.items = omega (arith, c.if-count-told.false, c.count-count.ensures, c.len-told.ensures) in
-    let short : length a.es ≤ 32 = omega (arith, a.few, t.1) in
-    holding.told old new seat.actor c.turns-answer.result _ a g.N.Named.run c.args.done t.0 seat.told.items c.tell.new.seat.told.items t.2 t.1 short c.self.invariant.of_run c.self.invariant.within same is
+    let short : length a.es ≤ 2 * c.args.most = omega (arith, a.few, t.1) in
+    holding.told old new seat.actor c.turns-answer.result _ a c.args.most g.N.Named.run c.args.done t.0 seat.told.items c.tell.new.seat.told.items t.2 t.1 short c.self.invariant.of_run c.self.invariant.within same is
 
 pub returns-clause-program : goal.returns-clause-program
 returns-clause-program g c =

@@ -3,18 +3,18 @@ use Rattle.tw_parts.proofs.Rooming.{still_kept}
 use Rattle.tw_parts.proofs.Seating.{changed, sits_there, still_seats}
 use Rattle.tw_parts.proofs.seats.Seats.advance.Goals as goal
 
-pub advance_in-requires-clause-sits : goal.advance_in-requires-clause-sits
-advance_in-requires-clause-sits c = let m = c.requires.sits in (m.0, sits_there c.self.inside.seats.items c.self.inside.taken c.self.invariant.0 c.args.self.now c.self.view_is c.args.actor c.requires.seat c.place.result c.place.ensures.is m.0 m.1, m.2, m.3)
+pub advance-requires-clause-sits : goal.advance-requires-clause-sits
+advance-requires-clause-sits c = let m = c.requires.sits in (m.0, sits_there c.self.inside.sitters.frames.items c.self.inside.taken c.self.invariant.0 c.args.self.now c.self.view_is c.args.actor c.requires.seat c.place.result c.place.ensures.is m.0 m.1, m.2, m.3)
 
 pub invariant_of-self : goal.invariant_of-self
 invariant_of-self c =
     let m = c.requires.sits in
-    let seated = (c.advance_in.ensures m.0 (sits_there c.self.inside.seats.items c.self.inside.taken c.self.invariant.0 c.args.self.now c.self.view_is c.args.actor c.requires.seat c.place.result c.place.ensures.is m.0 m.1)).0 in (
-      still_seats c.self.inside.seats.items c.self.inside.taken c.self.invariant.0 c.args.self.now c.self.view_is c.args.actor c.requires.seat c.place.result c.place.ensures.is m.0 (come m.0 c.args.done) m.1 c.advance_in.new.seats.items seated,
-      still_kept c.self.inside.seats.items c.self.inside.rooms.items c.self.invariant.1 c.place.result (come m.0 c.args.done) c.advance_in.new.seats.items seated,
+    let seated = (c.advance.ensures m.0 (sits_there c.self.inside.sitters.frames.items c.self.inside.taken c.self.invariant.0 c.args.self.now c.self.view_is c.args.actor c.requires.seat c.place.result c.place.ensures.is m.0 m.1)).0 in (
+      still_seats c.self.inside.sitters.frames.items c.self.inside.taken c.self.invariant.0 c.args.self.now c.self.view_is c.args.actor c.requires.seat c.place.result c.place.ensures.is m.0 (come m.0 c.args.done) m.1 c.advance.new.self.frames.items seated,
+      still_kept c.self.inside.sitters.frames.items c.self.inside.rooms.items c.self.invariant.1 c.place.result (come m.0 c.args.done) c.advance.new.self.frames.items seated,
     )
 
 pub returns : goal.returns
 returns c = λ f at.
-    let came = c.advance_in.ensures f (sits_there c.self.inside.seats.items c.self.inside.taken c.self.invariant.0 c.args.self.now c.self.view_is c.args.actor c.requires.seat c.place.result c.place.ensures.is f at) in
-    (changed c.self.inside.seats.items c.self.inside.taken c.self.invariant.0 c.args.self.now c.self.view_is c.args.actor c.requires.seat c.place.result c.place.ensures.is (come f c.args.done) c.advance_in.new.seats.items came.0, came.1)
+    let came = c.advance.ensures f (sits_there c.self.inside.sitters.frames.items c.self.inside.taken c.self.invariant.0 c.args.self.now c.self.view_is c.args.actor c.requires.seat c.place.result c.place.ensures.is f at) in
+    (changed c.self.inside.sitters.frames.items c.self.inside.taken c.self.invariant.0 c.args.self.now c.self.view_is c.args.actor c.requires.seat c.place.result c.place.ensures.is (come f c.args.done) c.advance.new.self.frames.items came.0, came.1)

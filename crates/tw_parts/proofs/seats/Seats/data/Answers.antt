@@ -2,19 +2,19 @@ use Rattle.tw_parts.proofs.Rooming.{still_kept}
 use Rattle.tw_parts.proofs.Seating.{changed, sits_there, still_seats}
 use Rattle.tw_parts.proofs.seats.Seats.data.Goals as goal
 
-pub data_in-requires-clause-sits : goal.data_in-requires-clause-sits
-data_in-requires-clause-sits c = let m = c.requires.sits in (m.0, sits_there c.self.inside.seats.items c.self.inside.taken c.self.invariant.0 c.args.self.now c.self.view_is c.args.actor c.requires.seat c.place.result c.place.ensures.is m.0 m.1, m.2, m.3)
+pub data-requires-clause-sits : goal.data-requires-clause-sits
+data-requires-clause-sits c = let m = c.requires.sits in (m.0, sits_there c.self.inside.sitters.frames.items c.self.inside.taken c.self.invariant.0 c.args.self.now c.self.view_is c.args.actor c.requires.seat c.place.result c.place.ensures.is m.0 m.1, m.2, m.3)
 
 pub invariant_of-self : goal.invariant_of-self
 invariant_of-self c =
     let m = c.requires.sits in
-    let over = c.data_in.ensures m.0 (sits_there c.self.inside.seats.items c.self.inside.taken c.self.invariant.0 c.args.self.now c.self.view_is c.args.actor c.requires.seat c.place.result c.place.ensures.is m.0 m.1) in
+    let over = c.data.ensures m.0 (sits_there c.self.inside.sitters.frames.items c.self.inside.taken c.self.invariant.0 c.args.self.now c.self.view_is c.args.actor c.requires.seat c.place.result c.place.ensures.is m.0 m.1) in
     let seated = over.1 in (
-      still_seats c.self.inside.seats.items c.self.inside.taken c.self.invariant.0 c.args.self.now c.self.view_is c.args.actor c.requires.seat c.place.result c.place.ensures.is m.0 over.0 m.1 c.data_in.new.seats.items seated,
-      still_kept c.self.inside.seats.items c.self.inside.rooms.items c.self.invariant.1 c.place.result over.0 c.data_in.new.seats.items seated,
+      still_seats c.self.inside.sitters.frames.items c.self.inside.taken c.self.invariant.0 c.args.self.now c.self.view_is c.args.actor c.requires.seat c.place.result c.place.ensures.is m.0 over.0 m.1 c.data.new.self.frames.items seated,
+      still_kept c.self.inside.sitters.frames.items c.self.inside.rooms.items c.self.invariant.1 c.place.result over.0 c.data.new.self.frames.items seated,
     )
 
 pub returns : goal.returns
 returns c = λ f at.
-    let over = c.data_in.ensures f (sits_there c.self.inside.seats.items c.self.inside.taken c.self.invariant.0 c.args.self.now c.self.view_is c.args.actor c.requires.seat c.place.result c.place.ensures.is f at) in
-    (over.0, changed c.self.inside.seats.items c.self.inside.taken c.self.invariant.0 c.args.self.now c.self.view_is c.args.actor c.requires.seat c.place.result c.place.ensures.is over.0 c.data_in.new.seats.items over.1, over.2)
+    let over = c.data.ensures f (sits_there c.self.inside.sitters.frames.items c.self.inside.taken c.self.invariant.0 c.args.self.now c.self.view_is c.args.actor c.requires.seat c.place.result c.place.ensures.is f at) in
+    (over.0, changed c.self.inside.sitters.frames.items c.self.inside.taken c.self.invariant.0 c.args.self.now c.self.view_is c.args.actor c.requires.seat c.place.result c.place.ensures.is over.0 c.data.new.self.frames.items over.1, over.2)

@@ -9,25 +9,25 @@ use Rattle.tw_parts.proofs.seats.Seats.end.Goals as goal
 
 pub unreachable-requires : goal.unreachable-requires
 unreachable-requires c =
-    let none = sym (ap (λ k. get_or c.self.inside.seats.items k None) c.place-number.ensures.is ∙ sym (get_seated c.self.inside.seats.items c.args.actor c.requires.seat) ∙ ap (λ m. get m c.args.actor) c.self.view_is) ∙ sym c.unseat.ensures.taken ∙ c.in_default.is in
+    let none = sym (ap (λ k. get_or c.self.inside.sitters.frames.items k None) c.place-number.ensures.is ∙ sym (get_seated c.self.inside.sitters.frames.items c.args.actor c.requires.seat) ∙ ap (λ m. get m c.args.actor) c.self.view_is) ∙ sym c.unseat.ensures.taken ∙ c.in_default.is in
     let t : false ≡ true = ap is_some (sym none) ∙ c.requires.sits in cc
 
 pub lay-requires : goal.lay-requires
-lay-requires c = omega (arith, c.place-number.ensures.is, low_seat c.args.actor c.requires.seat, c.self.invariant.0.many, as_many c.self.inside.seats.items c.self.inside.rooms.items c.self.invariant.1)
+lay-requires c = omega (arith, c.place-number.ensures.is, low_seat c.args.actor c.requires.seat, c.self.invariant.0.many, as_many c.self.inside.sitters.frames.items c.self.inside.rooms.items c.self.invariant.1)
 
 pub invariant_of-self : goal.invariant_of-self
 invariant_of-self c =
-    let inside : c.place-number.result < length c.self.inside.seats.items = omega (arith, c.place-number.ensures.is, low_seat c.args.actor c.requires.seat, c.self.invariant.0.many) in
-    let one : ◌≡◌ {A = ℕ} (cond (is_some (get_or c.self.inside.seats.items c.place-number.result None)) 1 0) 1 = ap (λ t. cond t 1 0) (ap is_some (ap (λ k. get_or c.self.inside.seats.items k None) c.place-number.ensures.is ∙ sym (get_seated c.self.inside.seats.items c.args.actor c.requires.seat) ∙ ap (λ m. get m c.args.actor) c.self.view_is) ∙ c.requires.sits) in (
+    let inside : c.place-number.result < length c.self.inside.sitters.frames.items = omega (arith, c.place-number.ensures.is, low_seat c.args.actor c.requires.seat, c.self.invariant.0.many) in
+    let one : ◌≡◌ {A = ℕ} (cond (is_some (get_or c.self.inside.sitters.frames.items c.place-number.result None)) 1 0) 1 = ap (λ t. cond t 1 0) (ap is_some (ap (λ k. get_or c.self.inside.sitters.frames.items k None) c.place-number.ensures.is ∙ sym (get_seated c.self.inside.sitters.frames.items c.args.actor c.requires.seat) ∙ ap (λ m. get m c.args.actor) c.self.view_is) ∙ c.requires.sits) in (
       record {
-        many = ap length c.unseat.ensures.rest ∙ length-set c.self.inside.seats.items c.place-number.result None ∙ c.self.invariant.0.many;
-        counted = let e = count_set c.self.inside.seats.items c.place-number.result None inside in omega (arith, e, one, c.self.invariant.0.counted, ap (count_by is_some) c.unseat.ensures.rest);
+        many = ap length c.unseat.ensures.rest ∙ length-set c.self.inside.sitters.frames.items c.place-number.result None ∙ c.self.invariant.0.many;
+        counted = let e = count_set c.self.inside.sitters.frames.items c.place-number.result None inside in omega (arith, e, one, c.self.invariant.0.counted, ap (count_by is_some) c.unseat.ensures.rest);
       },
       subst (λ (seats : List (Option FrameView)). AreKept seats c.lay.new.rooms.items) (sym c.unseat.ensures.rest)
-          (subst (λ (rooms : List (Option (Unit {0}))). AreKept (set c.self.inside.seats.items c.place-number.result None) rooms) (sym c.lay.ensures) (kept_ended c.self.inside.seats.items c.self.inside.rooms.items c.self.invariant.1 c.place-number.result)),
+          (subst (λ (rooms : List (Option (Unit {0}))). AreKept (set c.self.inside.sitters.frames.items c.place-number.result None) rooms) (sym c.lay.ensures) (kept_ended c.self.inside.sitters.frames.items c.self.inside.rooms.items c.self.invariant.1 c.place-number.result)),
     )
 
 pub returns : goal.returns
 returns c =
-    let inside : seat_of c.args.actor < length c.self.inside.seats.items = omega (arith, low_seat c.args.actor c.requires.seat, c.self.invariant.0.many) in
-    ap seated (c.unseat.ensures.rest ∙ ap (λ k. set c.self.inside.seats.items k None) c.place-number.ensures.is) ∙ seated_without c.self.inside.seats.items c.args.actor c.requires.seat inside ∙ ap (λ m. remove m c.args.actor) c.self.view_is
+    let inside : seat_of c.args.actor < length c.self.inside.sitters.frames.items = omega (arith, low_seat c.args.actor c.requires.seat, c.self.invariant.0.many) in
+    ap seated (c.unseat.ensures.rest ∙ ap (λ k. set c.self.inside.sitters.frames.items k None) c.place-number.ensures.is) ∙ seated_without c.self.inside.sitters.frames.items c.args.actor c.requires.seat inside ∙ ap (λ m. remove m c.args.actor) c.self.view_is

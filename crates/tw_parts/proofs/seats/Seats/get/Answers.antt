@@ -7,4 +7,4 @@ pub sitting-requires : goal.sitting-requires
 sitting-requires c = omega (arith, c.place.ensures.is, low_seat c.args.actor c.requires, c.self.invariant.0.many)
 
 pub returns : goal.returns
-returns c = c.sitting.ensures ∙ ap (λ xs. get_or xs c.place.result None) c.deref.ensures.value ∙ ap (λ k. get_or c.self.inside.seats.items k None) c.place.ensures.is ∙ sym (get_seated c.self.inside.seats.items c.args.actor c.requires) ∙ ap (λ m. get m c.args.actor) c.self.view_is
+returns c = c.sitting.ensures ∙ ap (λ k. get_or c.self.inside.sitters.frames.items k None) c.place.ensures.is ∙ sym (get_seated c.self.inside.sitters.frames.items c.args.actor c.requires) ∙ ap (λ m. get m c.args.actor) c.self.view_is

@@ -33,41 +33,41 @@ starts_so : (program : List Procedure) (e : ℕ × TaskOf Arg) (x : Task) (own :
 starts_so program e x own same h = subst (λ (t : Task). (p : Procedure) → slice_get program t.procedure ≡ Some p → started t.args p.registers ≡ Ok own) (sym same) h
 
 pub lift-requires-clause-inside : goal.lift-requires-clause-inside
-lift-requires-clause-inside c = omega (arith, c.place-number.ensures.is, low_seat c.args.actor c.requires.seat, c.self.invariant.0.many, as_many c.self.inside.seats.items c.self.inside.rooms.items c.self.invariant.1)
+lift-requires-clause-inside c = omega (arith, c.place-number.ensures.is, low_seat c.args.actor c.requires.seat, c.self.invariant.0.many, as_many c.self.inside.sitters.frames.items c.self.inside.rooms.items c.self.invariant.1)
 
 pub lift-requires-clause-there : goal.lift-requires-clause-there
 lift-requires-clause-there c =
-    let inside : c.place-number.result < length c.self.inside.seats.items = omega (arith, c.place-number.ensures.is, low_seat c.args.actor c.requires.seat, c.self.invariant.0.many) in
-    room_there c.self.inside.seats.items c.self.inside.rooms.items c.self.invariant.1 c.place-number.result inside (ap (λ k. get_or c.self.inside.seats.items k None) c.place-number.ensures.is ∙ sym (get_seated c.self.inside.seats.items c.args.actor c.requires.seat) ∙ ap (λ m. get m c.args.actor) c.self.view_is ∙ c.requires.empty)
+    let inside : c.place-number.result < length c.self.inside.sitters.frames.items = omega (arith, c.place-number.ensures.is, low_seat c.args.actor c.requires.seat, c.self.invariant.0.many) in
+    room_there c.self.inside.sitters.frames.items c.self.inside.rooms.items c.self.invariant.1 c.place-number.result inside (ap (λ k. get_or c.self.inside.sitters.frames.items k None) c.place-number.ensures.is ∙ sym (get_seated c.self.inside.sitters.frames.items c.args.actor c.requires.seat) ∙ ap (λ m. get m c.args.actor) c.self.view_is ∙ c.requires.empty)
 
 pub lay-requires : goal.lay-requires
-lay-requires c = omega (arith, c.place-number.ensures.is, low_seat c.args.actor c.requires.seat, c.self.invariant.0.many, as_many c.self.inside.seats.items c.self.inside.rooms.items c.self.invariant.1, ap length c.lift.ensures, length-set c.self.inside.rooms.items c.place-number.result None)
+lay-requires c = omega (arith, c.place-number.ensures.is, low_seat c.args.actor c.requires.seat, c.self.invariant.0.many, as_many c.self.inside.sitters.frames.items c.self.inside.rooms.items c.self.invariant.1, ap length c.lift.ensures, length-set c.self.inside.rooms.items c.place-number.result None)
 
 pub invariant_of-self : goal.invariant_of-self
 invariant_of-self c = (
   c.self.invariant.0,
-  subst (λ (rooms : List (Option (Unit {0}))). AreKept c.self.inside.seats.items rooms) (sym (c.lay.ensures ∙ ap (λ (rooms : List (Option (Unit {0}))). set rooms c.place-number.result (Some tt)) c.lift.ensures)) (kept_laid c.self.inside.seats.items c.self.inside.rooms.items c.self.invariant.1 c.place-number.result),
+  subst (λ (rooms : List (Option (Unit {0}))). AreKept c.self.inside.sitters.frames.items rooms) (sym (c.lay.ensures ∙ ap (λ (rooms : List (Option (Unit {0}))). set rooms c.place-number.result (Some tt)) c.lift.ensures)) (kept_laid c.self.inside.sitters.frames.items c.self.inside.rooms.items c.self.invariant.1 c.place-number.result),
 )
 
 pub seat-requires-clause-empty : goal.seat-requires-clause-empty
-seat-requires-clause-empty c = ap (λ k. get_or c.self.inside.seats.items k None) c.place-number.ensures.is ∙ sym (get_seated c.self.inside.seats.items c.args.actor c.requires.seat) ∙ ap (λ m. get m c.args.actor) c.self.view_is ∙ c.requires.empty
+seat-requires-clause-empty c = ap (λ k. get_or c.self.inside.sitters.frames.items k None) c.place-number.ensures.is ∙ sym (get_seated c.self.inside.sitters.frames.items c.args.actor c.requires.seat) ∙ ap (λ m. get m c.args.actor) c.self.view_is ∙ c.requires.empty
 
 pub invariant_of-self-2 : goal.invariant_of-self-2
 invariant_of-self-2 c =
-    let inside : c.place-number.result < length c.self.inside.seats.items = omega (arith, c.place-number.ensures.is, low_seat c.args.actor c.requires.seat, c.self.invariant.0.many) in
-    let empty : get_or c.self.inside.seats.items c.place-number.result None ≡ None = ap (λ k. get_or c.self.inside.seats.items k None) c.place-number.ensures.is ∙ sym (get_seated c.self.inside.seats.items c.args.actor c.requires.seat) ∙ ap (λ m. get m c.args.actor) c.self.view_is ∙ c.requires.empty in
-    let none : ◌≡◌ {A = ℕ} (cond (is_some (get_or c.self.inside.seats.items c.place-number.result None)) 1 0) 0 = ap (λ o. cond (is_some o) 1 0) empty in (
+    let inside : c.place-number.result < length c.self.inside.sitters.frames.items = omega (arith, c.place-number.ensures.is, low_seat c.args.actor c.requires.seat, c.self.invariant.0.many) in
+    let empty : get_or c.self.inside.sitters.frames.items c.place-number.result None ≡ None = ap (λ k. get_or c.self.inside.sitters.frames.items k None) c.place-number.ensures.is ∙ sym (get_seated c.self.inside.sitters.frames.items c.args.actor c.requires.seat) ∙ ap (λ m. get m c.args.actor) c.self.view_is ∙ c.requires.empty in
+    let none : ◌≡◌ {A = ℕ} (cond (is_some (get_or c.self.inside.sitters.frames.items c.place-number.result None)) 1 0) 0 = ap (λ o. cond (is_some o) 1 0) empty in (
       record {
-        many = ap length c.seat.ensures ∙ length-set c.self.inside.seats.items c.place-number.result (Some c.start-frame.result.0) ∙ c.self.invariant.0.many;
-        counted = let e = count_set c.self.inside.seats.items c.place-number.result (Some c.start-frame.result.0) inside in omega (arith, e, none, c.self.invariant.0.counted, ap (count_by is_some) c.seat.ensures);
+        many = ap length c.seat.ensures ∙ length-set c.self.inside.sitters.frames.items c.place-number.result (Some c.start-frame.result.0) ∙ c.self.invariant.0.many;
+        counted = let e = count_set c.self.inside.sitters.frames.items c.place-number.result (Some c.start-frame.result.0) inside in omega (arith, e, none, c.self.invariant.0.counted, ap (count_by is_some) c.seat.ensures);
       },
       subst (λ (seats : List (Option FrameView)). AreKept seats c.lift.new.rooms.items) (sym c.seat.ensures)
-          (subst (λ (rooms : List (Option (Unit {0}))). AreKept (set c.self.inside.seats.items c.place-number.result (Some c.start-frame.result.0)) rooms) (sym c.lift.ensures) (kept_begun c.self.inside.seats.items c.self.inside.rooms.items c.self.invariant.1 c.place-number.result c.start-frame.result.0)),
+          (subst (λ (rooms : List (Option (Unit {0}))). AreKept (set c.self.inside.sitters.frames.items c.place-number.result (Some c.start-frame.result.0)) rooms) (sym c.lift.ensures) (kept_begun c.self.inside.sitters.frames.items c.self.inside.rooms.items c.self.invariant.1 c.place-number.result c.start-frame.result.0)),
     )
 
 pub returns-clause-begun : goal.returns-clause-begun
 returns-clause-begun c =
-    let inside : seat_of c.args.actor < length c.self.inside.seats.items = omega (arith, low_seat c.args.actor c.requires.seat, c.self.invariant.0.many) in
+    let inside : seat_of c.args.actor < length c.self.inside.sitters.frames.items = omega (arith, low_seat c.args.actor c.requires.seat, c.self.invariant.0.many) in
     let e = handed _ c.in-Some.best.now c.in-Some.ensures in
     let same : handed_out e.0 ≡ c.in-Some-take.task = same_Some (handed_out e.0) c.in-Some-take.task (sym (ap (option_map handed_out) e.1) ∙ sym c.take.ensures.taken ∙ c.in-Some-take.is) in
     let own = c.in-Ok.start.values in
@@ -78,7 +78,7 @@ returns-clause-begun c =
       starts = starts_so c.args.verified.now.program e.0 c.in-Some.best.now own e.2 c.in-Ok.ensures.started;
       machine = subst (λ (t : Task). StartsAsMachine c.args.verified.now.program t.no t.procedure t.args own (bare_frame (begun_so c.args.verified.now t c.args.actor own))) (sym same)
           (subst (λ (f : FrameView). StartsAsMachine c.args.verified.now.program c.in-Some-take.task.no c.in-Some-take.task.procedure c.in-Some-take.task.args own (bare_frame f)) c.start-frame.ensures.is c.start-frame.ensures.machine);
-      sits = ap seated (c.seat.ensures ∙ ap (λ k. set c.self.inside.seats.items k (Some c.start-frame.result.0)) c.place-number.ensures.is) ∙ seated_put c.self.inside.seats.items c.args.actor c.start-frame.result.0 c.requires.seat inside ∙ ap (λ m. insert m c.args.actor c.start-frame.result.0) c.self.view_is
+      sits = ap seated (c.seat.ensures ∙ ap (λ k. set c.self.inside.sitters.frames.items k (Some c.start-frame.result.0)) c.place-number.ensures.is) ∙ seated_put c.self.inside.sitters.frames.items c.args.actor c.start-frame.result.0 c.requires.seat inside ∙ ap (λ m. insert m c.args.actor c.start-frame.result.0) c.self.view_is
           ∙ ap (insert c.args.self.now c.args.actor) (c.start-frame.ensures.is ∙ ap (λ (t : Task). begun_so c.args.verified.now t c.args.actor own) (sym same));
       rest = c.take.ensures.rest ∙ ap (λ o. without o c.args.tasks.now.tasks) e.1;
       drafted = c.start-frame.ensures.draft ∙ (λ i. record { program = c.in-Ok.ensures.program i; procedure = (c.in-Ok.ensures.procedure ∙ sym (ap (λ (t : Task). t.procedure) e.2)) i; values = own });

@@ -2,8 +2,10 @@ use Rattle.std.proofs.Common.{◌≡◌, ◌∙◌, sym, ap, refl, true, false}
 use Rattle.tw_pool.proofs.Turning as turning
 use Rattle.tw_pool.proofs.pool.Pool.hand_in.Goals as goal
 
-pub unreachable-requires : goal.unreachable-requires
-unreachable-requires c = turning.sits_if _ _ _ c.self.inside.stopped c.self.inside.history c.self.inside.parts c.self.invariant c.args.self.now c.self.view_is c.args.actor c.requires.runs (sym c.in_default.ensures)
+pub returns-in_default : goal.returns-in_default
+returns-in_default c =
+    turning.stray_line _ _ _ c.self.inside.stopped c.self.inside.history c.self.inside.parts c.self.invariant c.args.self.now c.self.view_is c.args.actor c.args.done
+    (turning.is_free _ _ _ c.self.inside.stopped c.self.inside.history c.self.inside.parts c.self.invariant c.args.self.now c.self.view_is c.args.actor (sym c.in_default.ensures))
 
 pub has_lent-requires : goal.has_lent-requires
 has_lent-requires c = ap (λ j. j.program) c.before-2.ensures ∙ c.requires.program ∙ turning.program_is _ _ _ c.self.inside.stopped c.self.inside.history c.self.inside.parts c.self.invariant c.args.self.now c.self.view_is c.args.actor c.requires.room c.in-Some.frame.now (sym c.in-Some.ensures)

@@ -1,9 +1,9 @@
 use Rattle.std.proofs.Common.{◌≡◌, ◌≤◌, replicate, None}
 use Rattle.std.specs.Prelude.{vec_capacity}
-use Rattle.tw_parts.proofs.seats.Seats.new.Given as goal
+use Rattle.tw_parts.proofs.sitters.Sitters.none.Given as goal
 
 abbrev pub invariant-loop-index : goal.invariant-loop-index
 invariant-loop-index l = record {
-  room : 24 ≤ vec_capacity l.seats;
-  empty : l.seats.items ≡ replicate l._index None;
+  room : 24 ≤ vec_capacity l.frames;
+  empty : l.frames.items ≡ replicate l._index None;
 }

@@ -1,0 +1,160 @@
+//! Who sits where.
+
+ghost use Rattle.std.specs.Prelude.{◌≡◌, ◌<◌, ◌≤◌, ◌+◌, ◌^◌, IfOk, List, Option, IsSome, None, Some, length, replicate, slice_index_or, slice_set};
+ghost use Rattle.std.specs.Option.{option_copied};
+ghost use Rattle.tw_rights.specs.declared.held.Held.{Held};
+ghost use Rattle.tw_rights.specs.Bundled.{bundled};
+ghost use Rattle.tw_rights.specs.Roomy.{IsRoom};
+ghost use Rattle.tw_frame.specs.Jobs.{FrameView, draft_of, job_of};
+ghost use Rattle.tw_parts.specs.Coming.{MayLend, come, gone_on};
+ghost use Rattle.tw_parts.specs.Data.{IsAnswer, MayDo};
+
+use crate::data::run_data;
+use std::alloc::{AllocError, Global};
+use tw_code::DataInstr;
+use tw_frame::{Done, Draft, Frame, Job};
+use tw_rights::{Arg, Bundle};
+use tw_store::Store;
+use tw_types::{Param, Value};
+
+/// Who sits in each seat, a task or nobody.
+pub(crate) struct Sitters<'a> {
+    pub(crate) frames: Vec<Option<Frame<'a>>>,
+}
+
+impl<'a> Sitters<'a> {
+    /// How many seats there are.
+    pub(crate) const COUNT: usize = 24;
+
+    /// Nobody.
+    pub(crate) fn none(alloc: Global) -> Result<Sitters<'a>, AllocError>
+        ensures { IfOk result (λ sitters. sitters.frames.items ≡ replicate 24 None) }
+    {
+        let mut frames = Vec::with_capacity(alloc, Sitters::COUNT)?;
+        for _index in 0..Sitters::COUNT {
+            frames.push_reserved(None);
+        }
+        Ok(Sitters { frames })
+    }
+
+    /// Who sits there.
+    pub(crate) fn sitting(&self, seat: usize) -> Option<&Frame<'a>>
+        requires { seat < length self.now.frames.items }
+        ensures { option_copied result ≡ slice_index_or self.now.frames.items seat None }
+    {
+        self.frames[seat].as_ref()
+    }
+
+    /// Takes who sits there.
+    pub(crate) fn unseat(&mut self, seat: usize) -> Option<Frame<'a>>
+        requires { seat < length self.old.frames.items }
+        ensures taken { result ≡ slice_index_or self.old.frames.items seat None }
+        ensures rest { self.new.frames.items ≡ slice_set self.old.frames.items seat None }
+    {
+        let place = &mut self.frames[seat];
+        place.take()
+    }
+
+    /// Puts a task into an empty seat.
+    pub(crate) fn seat(&mut self, seat: usize, frame: Frame<'a>)
+        requires inside { seat < length self.old.frames.items }
+        requires empty { slice_index_or self.old.frames.items seat None ≡ None }
+        ensures { self.new.frames.items ≡ slice_set self.old.frames.items seat (Some frame.entry) }
+    {
+        let place = &mut self.frames[seat];
+        match std::mem::replace(place, Some(frame)) {
+            None => {}
+            Some(_frame) => unreachable!(),
+        }
+    }
+
+    /// The task there comes as far as the Done says, which is of the job that was lent last; a draft of its values.
+    pub(crate) fn advance(&mut self, seat: usize, done: Done<'a>) -> Draft<'a>
+        requires inside { seat < length self.old.frames.items }
+        requires sits { (f : FrameView) × (slice_index_or self.old.frames.items seat None ≡ Some f) × (done.before ≡ job_of f) × (f.spent < 2 ^ 63) }
+        ensures { (f : FrameView) → slice_index_or self.old.frames.items seat None ≡ Some f
+            → (self.new.frames.items ≡ slice_set self.old.frames.items seat (Some (come f done.entry))) × (result ≡ draft_of (come f done.entry)) }
+    {
+        let place = &mut self.frames[seat];
+        match place {
+            Some(frame) => frame.take_back(done),
+            None => unreachable!(),
+        }
+    }
+
+    /// Then it hands over arguments, and goes on to the next place.
+    #[inline(always)]
+    pub(crate) fn hand_over(
+        &mut self,
+        seat: usize,
+        done: Done<'a>,
+        params: &[Param],
+        args: &[u8],
+        vals: Vec<Value>,
+        room: Vec<Arg>,
+    ) -> (Bundle, Draft<'a>)
+        requires inside { seat < length self.old.frames.items }
+        requires few { length params.now ≤ 8 }
+        requires room { IsRoom (length params.now) room }
+        requires sits { (f : FrameView) × (slice_index_or self.old.frames.items seat None ≡ Some f) × (done.before ≡ job_of f) × (f.spent + done.steps < 2 ^ 63)
+            × (done.after.place < 2 ^ 63) × IsSome (bundled f.held params.now args.now vals.items) }
+        ensures { (f : FrameView) → slice_index_or self.old.frames.items seat None ≡ Some f → (file : List (Option Held))
+            × (bundled f.held params.now args.now vals.items ≡ Some (record { args = result.0; file = file }))
+            × (self.new.frames.items ≡ slice_set self.old.frames.items seat (Some (gone_on (come f done.entry) file))) × (result.1 ≡ draft_of (come f done.entry)) }
+    {
+        let place = &mut self.frames[seat];
+        match place {
+            Some(frame) => {
+                let draft = frame.take_back(done);
+                (frame.hand_over(params, args, vals, room), draft)
+            }
+            None => unreachable!(),
+        }
+    }
+
+    /// Lends the task there.
+    pub(crate) fn lend(&mut self, seat: usize, event_no: u64, draft: Draft<'a>) -> Job<'a>
+        requires inside { seat < length self.old.frames.items }
+        requires sits { (f : FrameView) × (slice_index_or self.old.frames.items seat None ≡ Some f) × MayLend f draft }
+        ensures { (f : FrameView) → slice_index_or self.old.frames.items seat None ≡ Some f
+            → (result ≡ job_of (record f { event_no = event_no })) × (self.new.frames.items ≡ slice_set self.old.frames.items seat (Some (record f { event_no = event_no }))) }
+    {
+        let place = &mut self.frames[seat];
+        match place {
+            Some(frame) => frame.lend(event_no, draft),
+            None => unreachable!(),
+        }
+    }
+
+    /// The task there does an instruction on data behind the Done; a draft of its values, or the Done again.
+    pub(crate) fn data(
+        &mut self,
+        seat: usize,
+        store: &mut Store,
+        alloc: Global,
+        done: Done<'a>,
+        instr: &DataInstr,
+    ) -> Result<Draft<'a>, Done<'a>>
+        requires inside { seat < length self.old.frames.items }
+        requires sits { (f : FrameView) × (slice_index_or self.old.frames.items seat None ≡ Some f) × (done.before ≡ job_of f) × MayDo instr.now store.old (come f done) }
+        ensures { (f : FrameView) → slice_index_or self.old.frames.items seat None ≡ Some f → (g : FrameView) × (self.new.frames.items ≡ slice_set self.old.frames.items seat (Some g))
+            × IsAnswer instr.now store.old store.new f g done.entry result }
+    {
+        let place = &mut self.frames[seat];
+        match place {
+            Some(frame) => run_data(store, frame, alloc, done, instr),
+            None => unreachable!(),
+        }
+    }
+
+    /// Spends every right of those who sit there.
+    pub(crate) fn shut(self) {
+        let Sitters { mut frames } = self;
+        while let Some(seat) = frames.pop() {
+            if let Some(frame) = seat {
+                frame.shut();
+            }
+        }
+        frames.destroy_empty();
+    }
+}
