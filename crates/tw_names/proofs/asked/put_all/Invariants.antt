@@ -1,0 +1,7 @@
+use Rattle.std.proofs.Common.{◌≡◌, drop}
+use Rattle.tw_names.specs.Saying.{behind}
+use Rattle.tw_names.specs.Seen.{texts}
+use Rattle.tw_names.proofs.asked.put_all.Given as goal
+
+abbrev pub invariant-loop-word : goal.invariant-loop-word
+invariant-loop-word l = behind l.out.items (texts (drop l.word-index l.words)) ≡ behind l.fn.out.items (texts l.words)

@@ -1,0 +1,22 @@
+use Rattle.std.proofs.Common.{◌≡◌, ◌<◌, ◌++◌, ◌∷◌, [], List, ℕ, length, IsUtf8, refl, ap, sym, subst, ◌∙◌}
+use Rattle.std.proofs.lemmas.List.{map-append}
+use Rattle.tw_words.specs.Words.{IsBroken}
+use Rattle.tw_names.specs.Lines.{StandFirst, StandsFirst}
+use Rattle.tw_names.specs.Seen.{now, texts}
+use Rattle.tw_names.proofs.Taking.{broken_line, first_more}
+use Rattle.tw_names.proofs.line.take_line.Goals as goal
+
+pub returns-in-Broken : goal.returns-in-Broken
+returns-in-Broken c =
+    let broken : IsBroken c.loop-words.rest.now = rw c.in-Broken.is at c.in_ok-first_text.ensures in
+    (refl, broken_line (texts c.loop-words.words.items) c.args.line.now c.loop-words.rest.now c.loop-words.invariant.first broken)
+
+pub loop-words-preserved : goal.loop-words-preserved
+loop-words-preserved c =
+    let step : StandsFirst c.in-Text.word.now c.loop-words.rest.now c.in-Text.after.now × IsUtf8 c.in-Text.after.now × (length c.in-Text.after.now < length c.loop-words.rest.now) = rw c.in-Text.is at c.in_ok-first_text.ensures in
+    let grown : texts c.push.new.self.items ≡ texts c.loop-words.words.items ++ (c.in-Text.word.now ∷ []) = ap texts c.in_ok-push-in-Text.ensures.items ∙ map-append now c.loop-words.words.items (c.in-Text.word ∷ []) in
+    record {
+      first = subst (λ (words : List (List ℕ)). StandFirst words c.args.line.now c.in-Text.after.now) (sym grown)
+          (first_more (texts c.loop-words.words.items) c.in-Text.word.now c.args.line.now c.loop-words.rest.now c.in-Text.after.now c.loop-words.invariant.first step.0);
+      utf8 = step.1;
+    }

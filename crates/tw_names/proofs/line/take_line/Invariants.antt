@@ -1,0 +1,13 @@
+use Rattle.std.proofs.Common.{length, IsUtf8}
+use Rattle.tw_names.specs.Lines.{StandFirst}
+use Rattle.tw_names.specs.Seen.{texts}
+use Rattle.tw_names.proofs.line.take_line.Given as goal
+
+abbrev pub invariant-loop-words : goal.invariant-loop-words
+invariant-loop-words l = record {
+  first : StandFirst (texts l.words.items) l.line l.rest;
+  utf8 : IsUtf8 l.rest;
+}
+
+abbrev pub decreases-loop-words : goal.decreases-loop-words
+decreases-loop-words l = length l.rest

@@ -1,0 +1,12 @@
+use Rattle.std.proofs.Common.{◌≡◌, ◌++◌, List, ℕ, length, ap, sym, ◌∙◌, arith}
+use Rattle.tw_names.specs.Answers.{pieces_left}
+use Rattle.tw_names.specs.Seen.{texts}
+use Rattle.tw_names.proofs.Cutting.{left_last}
+use Rattle.tw_names.proofs.pieces.push_pieces.Goals as goal
+
+pub returns : goal.returns
+returns c =
+    let end : length c.args.word.now ≡ c.loop-index.index = omega arith in
+    c.in_ok-push_some.ensures
+    ∙ ap (λ (x : List (List ℕ)). texts c.loop-index.out.items ++ x) (sym (left_last c.args.word.now c.loop-index.start) ∙ ap (pieces_left c.args.word.now c.loop-index.start) end)
+    ∙ c.loop-index.invariant.so_far

@@ -1,0 +1,11 @@
+use Rattle.std.proofs.Common.{◌≡◌, ◌≤◌, ◌++◌}
+use Rattle.tw_names.specs.Answers.{pieces_left}
+use Rattle.tw_names.specs.Lines.{pieces}
+use Rattle.tw_names.specs.Seen.{texts}
+use Rattle.tw_names.proofs.pieces.push_pieces.Given as goal
+
+abbrev pub invariant-loop-index : goal.invariant-loop-index
+invariant-loop-index l = record {
+  low : l.start ≤ l.index;
+  so_far : texts l.out.items ++ pieces_left l.word l.start l.index ≡ texts l.fn.out.items ++ pieces l.word;
+}

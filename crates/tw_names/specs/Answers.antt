@@ -1,0 +1,95 @@
+-- What the calls answer.
+use Rattle.std.specs.Prelude.{◌≡◌, ◌⊎◌, ◌<◌, ℕ, Bool, true, false, List, [], ◌∷◌, ◌++◌, decimal, Option, Some, None, Result, Ok, Err, ◌-◌, length, take, drop, IsUtf8}
+use Rattle.std.specs.Fmt.{signed_decimal}
+use Rattle.tw_names.specs.Meanings.{Flaw}
+use Rattle.std.specs.Str.Lines.{lines}
+use Rattle.tw_words.specs.Words.{IsBlank, IsBroken}
+use Rattle.tw_names.specs.Lines.{Broken, IsTaken, Line, StandsFirst, Worded, pieces_behind}
+use Rattle.tw_names.specs.Saying.{Said, is_names_line}
+use Rattle.tw_names.specs.Seen.{seen_names}
+use Rattle.tw_names.specs.Standing.{HasNames, Refusal as Told}
+use Rattle.tw_names.specs.declared.asked.Standing as standings
+use Rattle.tw_names.specs.declared.asked.Standing.TheVariants as standing
+use Rattle.tw_names.specs.declared.line.First as firsts
+use Rattle.tw_names.specs.declared.line.First.TheVariants as first
+use Rattle.tw_names.specs.declared.names.Names as names
+use Rattle.tw_names.specs.declared.refusal.NameNo.{NameNo}
+use Rattle.tw_names.specs.declared.refusal.NameNo.TheVariants as no
+use Rattle.tw_names.specs.declared.refusal.NameRefusal.{NameRefusal}
+use Rattle.tw_names.specs.declared.refusal.Refusal.{Refusal}
+use Rattle.tw_names.specs.declared.refusal.Refusal.TheVariants as refusal
+
+-- N01 to N07
+abbrev pub name_number : NameNo → ℕ
+name_number no.Form = 1
+name_number no.NoName = 2
+name_number no.Twice = 3
+name_number no.Unknown = 4
+name_number no.Kind = 5
+name_number no.Limit = 6
+name_number no.NoMemory = 7
+
+abbrev pub standing_text : standings.Standing → List ℕ
+standing_text (standing.Numbered front number) = front.now ++ decimal number
+standing_text (standing.Number number) = signed_decimal number
+
+-- the pieces of a word from an index on, where the piece round it begins at a place
+unfoldable pub pieces_left : List ℕ → ℕ → ℕ → List (List ℕ)
+pieces_left word start index = pieces_behind (take (index - start) (drop start word)) (drop index word)
+
+-- ---- parts of a line
+
+-- it is refused as the function did
+abbrev pub Fails : {Y : Type 0} → Refusal → Result Y Flaw → Type 0
+Fails refusal.NoMemory says = Unit {0}
+Fails (refusal.Flawed which word) says = says ≡ Err (record { no = which; word = word.now })
+
+-- What a function returned, seen by view, is what is said, unless memory ran out.
+abbrev pub Gives : {X Y : Type 0} → (X → Y) → Result X Refusal → Result Y Flaw → Type 0
+Gives view (Ok x) says = says ≡ Ok (view x)
+Gives view (Err e) says = Fails e says
+
+-- the names, and the text in what is written now
+abbrev pub SaysBehind : Result names.Names Refusal → List ℕ → Said → Type 0
+SaysBehind result text says = Gives (λ n. (seen_names n, text)) result says
+
+-- ---- a whole text
+
+abbrev pub IsMemory : NameRefusal → Type 0
+IsMemory f = (f.no ≡ no.NoMemory) × (f.line ≡ 0)
+
+abbrev pub told : NameRefusal → Told
+told f = record { line = f.line; no = f.no; word = f.word.now }
+
+-- what is refused, with the number of its line
+abbrev pub IsAtLine : ℕ → Refusal → NameRefusal → Type 0
+IsAtLine number refusal.NoMemory f = IsMemory f
+IsAtLine number (refusal.Flawed which word) f = told f ≡ record { line = number; no = which; word = word.now }
+
+-- the names and the text of a line of this number, or its refusal, or want of memory
+abbrev pub SaidAt : ℕ → Result names.Names NameRefusal → List ℕ → Said → Type 0
+SaidAt number (Ok n) text says = says ≡ Ok (seen_names n, text)
+SaidAt number (Err f) text says = IsMemory f ⊎ ((f.line ≡ number) × (says ≡ Err (record { no = f.no; word = f.word.now })))
+
+-- whether a line that has a word has just `names`
+abbrev pub named_by : Line → Option Bool
+named_by (Worded [] rest) = None
+named_by (Worded (first ∷ words) rest) = Some (is_names_line first words)
+named_by (Broken line) = Some false
+
+-- the same of the first line that has a word, where this one is read behind others
+abbrev pub IsNamedAfter : Option Bool → List ℕ → Option Bool → Type 0
+IsNamedAfter (Some named) line after = after ≡ Some named
+IsNamedAfter None line after = (taken : Line) × IsTaken taken line × (after ≡ named_by taken)
+
+abbrev pub IsNamed : Bool → List ℕ → Type 0
+IsNamed true text = HasNames (lines text)
+IsNamed false text = HasNames (lines text) → ⊥
+
+-- ---- a line
+
+-- what stands first; what follows a word in UTF-8 is shorter, and in UTF-8
+abbrev pub IsFirst : firsts.First → List ℕ → Type 0
+IsFirst first.End bytes = IsBlank bytes
+IsFirst first.Broken bytes = IsBroken bytes
+IsFirst (first.Text word rest) bytes = StandsFirst word.now bytes rest.now × IsUtf8 rest.now × (length rest.now < length bytes)

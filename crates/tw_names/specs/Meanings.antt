@@ -1,0 +1,100 @@
+-- What names mean.
+use Rattle.std.specs.Prelude.{◌==◌, ◌+◌, ◌||◌, ℕ, Bool, false, not, List, [], ◌∷◌, ◌++◌, length, codes, Option, Some, None, Result, Ok, Err, is_some, nat_lt, if◌then◌else◌}
+use Rattle.std.specs.Map.{lookup}
+use Rattle.std.specs.Str.{bytes_eq}
+use Rattle.tw_asm.specs.reading.Operands as words
+use Rattle.tw_names.specs.declared.meaning.Bank.{Bank}
+use Rattle.tw_names.specs.declared.meaning.Bank.TheVariants as bank
+use Rattle.tw_names.specs.declared.meaning.Thing.{Thing}
+use Rattle.tw_names.specs.declared.meaning.Thing.TheVariants as thing
+use Rattle.tw_names.specs.declared.refusal.NameNo.{NameNo}
+use Rattle.tw_names.specs.declared.refusal.NameNo.TheVariants as no
+
+-- ---- which words are names
+
+-- `v` or `d`, and digits
+abbrev pub is_register_word : List ℕ → Bool
+is_register_word [] = false
+is_register_word (b ∷ rest) = if (b == 118) || (b == 100) then words.are_digits rest else false
+
+-- a name as a label's, at most 64 bytes, and no word that means itself
+abbrev pub is_name : List ℕ → Bool
+is_name word =
+    if words.is_name word then (if nat_lt 64 (length word) then false else if is_register_word word then false else not (bytes_eq word (codes "any"))) else false
+
+-- ---- what is known at a line
+
+-- names, and what they mean
+abbrev pub Table : Type 0
+Table = List (List ℕ × Thing)
+
+abbrev pub meaning : List ℕ → Table → Option Thing
+meaning name table = lookup (λ other. bytes_eq name other) table
+
+-- a procedure: the banks of its parameters, and its line
+pub record Head : Type 0 where
+  pub banks : List Bank
+  pub line : ℕ
+
+-- the procedures of the text, and what their names mean
+pub record Procedures : Type 0 where
+  pub table : Table
+  pub heads : List Head
+
+pub record Names : Type 0 where
+  -- the constants so far, and the registers of the procedure so far
+  pub constants : Table
+  pub registers : Table
+  -- the types that its line `regs` leaves out
+  pub types : List (List ℕ)
+  -- one more than the highest right register that has a name
+  pub rights : ℕ
+
+abbrev pub no_names : Names
+no_names = record { constants = []; registers = []; types = []; rights = 0 }
+
+abbrev pub or_else : Option Thing → Option Thing → Option Thing
+or_else None other = other
+or_else (Some x) other = Some x
+
+-- what a name means at a line
+abbrev pub known : Procedures → Names → List ℕ → Option Thing
+known procedures names name = or_else (meaning name names.registers) (or_else (meaning name names.constants) (meaning name procedures.table))
+
+-- ---- refusals
+
+-- a number and a word
+pub record Flaw : Type 0 where
+  pub no : NameNo
+  pub word : List ℕ
+
+abbrev pub refused : {A : Type 0} → NameNo → List ℕ → Result A Flaw
+refused which word = Err (record { no = which; word = word })
+
+-- and then; what is refused first goes through
+abbrev pub and_then : {A B : Type 0} → Result A Flaw → (A → Result B Flaw) → Result B Flaw
+and_then (Ok a) next = next a
+and_then (Err flaw) next = Err flaw
+
+-- ---- a name more
+
+-- it is a name, and means nothing yet
+abbrev pub may_name : Procedures → Names → List ℕ → Result (Unit {0}) Flaw
+may_name procedures names name =
+    if is_name name then (if is_some (known procedures names name) then refused no.Twice name else Ok tt) else refused no.NoName name
+
+abbrev pub with_constant : Procedures → Names → List ℕ → Thing → Result Names Flaw
+with_constant procedures names name x = and_then (may_name procedures names name) (λ _. Ok (record names { constants = names.constants ++ (name, x) ∷ [] }))
+
+-- one more than the higher of a register's number and those before
+abbrev pub above : Bank → ℕ → ℕ → ℕ
+above bank.Value number rights = rights
+above bank.Right number rights = if nat_lt number rights then rights else number + 1
+
+abbrev pub name_register : Names → List ℕ → Bank → ℕ → Names
+name_register names name in_bank number =
+    record names { registers = names.registers ++ (name, thing.Register in_bank number) ∷ []; rights = above in_bank number names.rights }
+
+abbrev pub with_register : Procedures → Names → List ℕ → Bank → ℕ → Result Names Flaw
+with_register procedures names name in_bank number =
+    and_then (may_name procedures names name) (λ _. if nat_lt number 16 then Ok (name_register names name in_bank number) else refused no.Limit name)

@@ -1,0 +1,210 @@
+//! What is asked in the place of a word, and what stands there.
+
+ghost use Rattle.std.specs.Prelude.{◌≡◌, ◌++◌, OnOk, decimal, drop, slice_get, take, unwrap_or};
+ghost use Rattle.tw_names.specs.declared.meaning.Asked.TheVariants.{Nothing};
+ghost use Rattle.std.specs.Fmt.{signed_decimal};
+ghost use Rattle.std.specs.Option.{option_map};
+ghost use Rattle.tw_names.specs.Answers.{Gives, standing_text};
+ghost use Rattle.tw_names.specs.Saying.{behind, named, stands, with_word, word_says, words_say};
+ghost use Rattle.tw_names.specs.Standing.{ended};
+ghost use Rattle.tw_names.specs.Seen.{seen_names, seen_procedures, texts};
+
+use crate::meaning::{Asked, Bank, Thing};
+use crate::names::{Names, is_name, known};
+use crate::procedures::Procedures;
+use crate::refusal::{NameNo, Refusal};
+use std::alloc::{AllocError, Global};
+use tw_words::put;
+
+/// What stands in the place of a name.
+#[derive(Clone, Copy)]
+pub enum Standing {
+    /// A register or a procedure, behind its letter.
+    Numbered(&'static str, usize),
+    /// A constant.
+    Number(i64),
+}
+
+/// What stands in the place of a name that means this, if it is what is asked.
+fn standing_of(asked: Asked, thing: Thing) -> Option<Standing>
+    ensures { option_map standing_text result ≡ stands asked thing }
+{
+    match asked {
+        Asked::Value => match thing {
+            Thing::Register(Bank::Value, number) => Some(Standing::Numbered("v", number)),
+            _ => None,
+        },
+        Asked::Right => match thing {
+            Thing::Register(Bank::Right, number) => Some(Standing::Numbered("d", number)),
+            _ => None,
+        },
+        Asked::ValueArgument => match thing {
+            Thing::Register(Bank::Value, number) => Some(Standing::Numbered("", number)),
+            _ => None,
+        },
+        Asked::RightArgument => match thing {
+            Thing::Register(Bank::Right, number) => Some(Standing::Numbered("", number)),
+            _ => None,
+        },
+        Asked::Number => match thing {
+            Thing::Constant(number) => Some(Standing::Number(number)),
+            _ => None,
+        },
+        Asked::Procedure => match thing {
+            Thing::Procedure(number) => Some(Standing::Numbered("", number)),
+            _ => None,
+        },
+        Asked::Nothing => None,
+    }
+}
+
+fn put_both(out: &mut Vec<u8>, front: &str, back: &str) -> Result<(), AllocError>
+    ensures { OnOk result (out.new.items ≡ out.old.items ++ (front.now ++ back.now)) }
+{
+    put(out, front)?;
+    put(out, back)
+}
+
+fn put_numbered(
+    alloc: Global,
+    out: &mut Vec<u8>,
+    front: &str,
+    number: usize,
+) -> Result<(), AllocError>
+    ensures { OnOk result (out.new.items ≡ out.old.items ++ (front.now ++ decimal number)) }
+{
+    let digits = format!(in alloc; "{number}")?;
+    put_both(out, front, &digits)
+}
+
+fn put_number(alloc: Global, out: &mut Vec<u8>, number: i64) -> Result<(), AllocError>
+    ensures { OnOk result (out.new.items ≡ out.old.items ++ signed_decimal number) }
+{
+    let digits = format!(in alloc; "{number}")?;
+    put(out, &digits)
+}
+
+fn put_standing(alloc: Global, out: &mut Vec<u8>, standing: Standing) -> Result<(), AllocError>
+    ensures { OnOk result (out.new.items ≡ out.old.items ++ standing_text standing) }
+{
+    match standing {
+        Standing::Numbered(front, number) => put_numbered(alloc, out, front, number),
+        Standing::Number(number) => put_number(alloc, out, number),
+    }
+}
+
+/// Adds a space, and a word as it stands.
+pub fn put_plain(out: &mut Vec<u8>, word: &[u8]) -> Result<(), AllocError>
+    ensures { OnOk result (out.new.items ≡ with_word out.old.items word.now) }
+{
+    out.extend_from_slice(b" ")?;
+    out.extend_from_slice(word)
+}
+
+/// The first so many words, or all.
+#[tactic(auto, using(crate::proofs::Cutting::first_taken, crate::proofs::Cutting::all_taken))]
+pub fn first_words<'b, 'a>(words: &'b [&'a [u8]], count: usize) -> &'b [&'a [u8]]
+    ensures { texts result.now ≡ take count (texts words.now) }
+{
+    if count < words.len() {
+        &words[..count]
+    } else {
+        words
+    }
+}
+
+/// Adds a line's end, and a line feed.
+pub fn put_ended(out: &mut Vec<u8>, line: &[u8]) -> Result<(), AllocError>
+    ensures { OnOk result (out.new.items ≡ out.old.items ++ ended line.now) }
+{
+    out.extend_from_slice(line)?;
+    out.extend_from_slice(b"\n")
+}
+
+/// Adds words as they stand.
+pub fn put_all(out: &mut Vec<u8>, words: &[&[u8]]) -> Result<(), AllocError>
+    ensures { OnOk result (out.new.items ≡ behind out.old.items (texts words.now)) }
+{
+    for word in words {
+        put_plain(out, word)?;
+    }
+    Ok(())
+}
+
+/// Adds a space, and what stands in the place of a name.
+fn put_named<'a>(
+    alloc: Global,
+    out: &mut Vec<u8>,
+    asked: Asked,
+    word: &'a [u8],
+    thing: Option<Thing>,
+) -> Result<(), Refusal<'a>>
+    ensures { Gives (λ _. out.new.items) result (named out.old.items word.now thing asked) }
+{
+    let Some(thing) = thing else {
+        return Err(Refusal::Flawed(NameNo::Unknown, word));
+    };
+    let Some(standing) = standing_of(asked, thing) else {
+        return Err(Refusal::Flawed(NameNo::Kind, word));
+    };
+    out.extend_from_slice(b" ")?;
+    put_standing(alloc, out, standing)?;
+    Ok(())
+}
+
+/// Adds a space, and what a word stands for.
+fn put_word<'a>(
+    alloc: Global,
+    procedures: &Procedures<'_>,
+    names: &Names<'_>,
+    out: &mut Vec<u8>,
+    asked: Asked,
+    word: &'a [u8],
+) -> Result<(), Refusal<'a>>
+    ensures { Gives (λ _. out.new.items) result (word_says (seen_procedures procedures.now) (seen_names names.now) asked out.old.items word.now) }
+{
+    if matches!(asked, Asked::Nothing) || !is_name(word) {
+        put_plain(out, word)?;
+        return Ok(());
+    }
+    put_named(alloc, out, asked, word, known(procedures, names, word))
+}
+
+/// What is asked in the first place.
+fn first_asked(asked: &[Asked]) -> Asked
+    ensures { result ≡ unwrap_or (slice_get asked.now 0) Nothing }
+{
+    match asked {
+        [first, ..] => *first,
+        [] => Asked::Nothing,
+    }
+}
+
+/// What is asked in the places behind it.
+fn behind_first(asked: &[Asked]) -> &[Asked]
+    ensures { result.now ≡ drop 1 asked.now }
+{
+    match asked {
+        [_, others @ ..] => others,
+        [] => asked,
+    }
+}
+
+/// Adds what words stand for; behind what is asked each stands for itself.
+pub fn put_words<'a>(
+    alloc: Global,
+    procedures: &Procedures<'_>,
+    names: &Names<'_>,
+    out: &mut Vec<u8>,
+    asked: &[Asked],
+    words: &[&'a [u8]],
+) -> Result<(), Refusal<'a>>
+    ensures { Gives (λ _. out.new.items) result (words_say (seen_procedures procedures.now) (seen_names names.now) asked.now out.old.items (texts words.now)) }
+{
+    let mut left = asked;
+    for word in words {
+        put_word(alloc, procedures, names, out, first_asked(left), word)?;
+        left = behind_first(left);
+    }
+    Ok(())
+}

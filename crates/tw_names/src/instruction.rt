@@ -1,0 +1,153 @@
+//! Lines of instructions.
+
+ghost use Rattle.std.specs.Prelude.{◌≡◌, ◌++◌, IfOk, OnOk};
+ghost use Rattle.std.specs.List.{flat_map};
+ghost use Rattle.std.specs.Result.{result_ok};
+ghost use Rattle.tw_asm.specs.reading.Operands.{digits_in};
+ghost use Rattle.tw_names.specs.Meanings.{known};
+ghost use Rattle.tw_names.specs.Answers.{Gives, SaysBehind};
+ghost use Rattle.tw_names.specs.Saying.{argument_of, asked_by, banks_at, banks_of, callee, instruction_says, made, made_one, makes};
+ghost use Rattle.tw_names.specs.Seen.{seen_names, seen_procedures, texts};
+
+use crate::asked::{first_words, put_words};
+use crate::meaning::{Asked, Bank, Thing};
+use crate::names::{Names, is_name, known, with_register};
+use crate::numbers::natural;
+use crate::procedures::Procedures;
+use crate::refusal::Refusal;
+use std::alloc::{AllocError, Global};
+use tw_code::{Form, Opcode};
+
+/// The greatest number of a procedure in a line.
+const LAST_PROCEDURE: u64 = 255;
+
+/// What an argument asks.
+fn argument_of(bank: Bank) -> Asked
+    ensures { result ≡ argument_of bank }
+{
+    match bank {
+        Bank::Value => Asked::ValueArgument,
+        Bank::Right => Asked::RightArgument,
+    }
+}
+
+/// Adds what an operand of a form asks, where the procedure's parameters are of these banks.
+fn push_asked(asked: &mut Vec<Asked>, banks: &[Bank], form: Form) -> Result<(), AllocError>
+    ensures { OnOk result (asked.new.items ≡ asked.old.items ++ asked_by banks.now form) }
+{
+    match form {
+        Form::Value => asked.push(Asked::Value)?,
+        Form::Right => asked.push(Asked::Right)?,
+        Form::Number | Form::Turns | Form::Target => asked.push(Asked::Number)?,
+        Form::Callee => asked.push(Asked::Procedure)?,
+        Form::Literal | Form::TypeOf | Form::Skip => asked.push(Asked::Nothing)?,
+        Form::Args => {
+            for bank in banks {
+                asked.push(argument_of(*bank))?;
+            }
+        }
+    }
+    Ok(())
+}
+
+/// What the operands of forms ask.
+fn asked_in(alloc: Global, banks: &[Bank], forms: &[Form]) -> Result<Vec<Asked>, AllocError>
+    ensures { IfOk result (λ asked. asked.items ≡ flat_map (asked_by banks.now) forms.now) }
+{
+    let mut asked = Vec::new(alloc);
+    for form in forms {
+        push_asked(&mut asked, banks, *form)?;
+    }
+    Ok(asked)
+}
+
+/// A procedure, by its name or else by its number.
+fn callee(procedures: &Procedures<'_>, names: &Names<'_>, word: &[u8]) -> Option<usize>
+    ensures { result ≡ callee (known (seen_procedures procedures.now) (seen_names names.now) word.now) (result_ok (digits_in 0 255 word.now)) }
+{
+    match known(procedures, names, word) {
+        Some(Thing::Procedure(number)) => Some(number),
+        _ => natural(word, LAST_PROCEDURE),
+    }
+}
+
+/// The banks of the parameters of a procedure.
+fn banks_at<'p>(procedures: &'p Procedures<'_>, number: Option<usize>) -> &'p [Bank]
+    ensures { result.now ≡ banks_at (seen_procedures procedures.entry.now) number }
+{
+    let Some(number) = number else {
+        return &[];
+    };
+    match procedures.heads.get(number) {
+        Some(head) => head.banks.as_slice(),
+        None => &[],
+    }
+}
+
+/// Those of the procedure that the first word tells.
+fn banks_of<'p>(procedures: &'p Procedures<'_>, names: &Names<'_>, words: &[&[u8]]) -> &'p [Bank]
+    ensures { result.now ≡ banks_of (seen_procedures procedures.entry.now) (seen_names names.now) (texts words.now) }
+{
+    match words {
+        [word, ..] => banks_at(procedures, callee(procedures, names, word)),
+        [] => &[],
+    }
+}
+
+/// How many of its first operands are right registers that it fills.
+fn makes(opcode: Opcode) -> usize
+    ensures { result ≡ makes opcode }
+{
+    match opcode {
+        Opcode::New => 2,
+        Opcode::Look | Opcode::LookByText | Opcode::CopyRead | Opcode::CopyWrite => 1,
+        _ => 0,
+    }
+}
+
+/// A name that means nothing yet is the next right register.
+fn made_one<'a>(
+    procedures: &Procedures<'_>,
+    names: Names<'a>,
+    word: &'a [u8],
+) -> Result<Names<'a>, Refusal<'a>>
+    ensures { Gives seen_names result (made_one (seen_procedures procedures.now) (seen_names names.entry) word.now) }
+{
+    if is_name(word) && known(procedures, &names, word).is_none() {
+        let number = names.rights;
+        with_register(procedures, names, word, Bank::Right, number)
+    } else {
+        Ok(names)
+    }
+}
+
+/// The names with those of right registers that these words fill.
+fn made<'a>(
+    procedures: &Procedures<'_>,
+    mut names: Names<'a>,
+    words: &[&'a [u8]],
+) -> Result<Names<'a>, Refusal<'a>>
+    ensures { Gives seen_names result (made (seen_procedures procedures.now) (seen_names names.entry) (texts words.now)) }
+{
+    for word in words {
+        names = made_one(procedures, names, word)?;
+    }
+    Ok(names)
+}
+
+/// Adds what the operands of an instruction stand for.
+pub fn put_instruction<'a>(
+    alloc: Global,
+    procedures: &Procedures<'_>,
+    names: Names<'a>,
+    out: &mut Vec<u8>,
+    opcode: Opcode,
+    words: &[&'a [u8]],
+) -> Result<Names<'a>, Refusal<'a>>
+    ensures { SaysBehind result out.new.items (instruction_says (seen_procedures procedures.now) (seen_names names.entry) opcode out.old.items (texts words.now)) }
+{
+    let names = made(procedures, names, first_words(words, makes(opcode)))?;
+    let asked = asked_in(alloc, banks_of(procedures, &names, words), opcode.forms())?;
+    put_words(alloc, procedures, &names, out, &asked, words)?;
+    Ok(names)
+}

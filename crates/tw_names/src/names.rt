@@ -1,0 +1,203 @@
+//! The names that are known at a line.
+
+ghost use Rattle.std.specs.Prelude.{◌≡◌, ◌==◌, ◌||◌, ◌∷◌, [], ◌++◌, ◌<◌, None, OnOk, nat_lt};
+ghost use Rattle.tw_asm.specs.reading.Operands.{all_digits, are_digits};
+ghost use Rattle.std.specs.Char.{digit_value};
+ghost use Rattle.tw_names.specs.Answers.{Gives};
+ghost use Rattle.tw_names.specs.Meanings.{above, is_name, is_register_word, known, may_name, meaning, no_names, with_constant, with_register};
+ghost use Rattle.tw_names.specs.declared.meaning.Thing.TheVariants.{Constant};
+ghost use Rattle.tw_names.specs.Seen.{seen_names, seen_procedures, seen_table};
+
+use crate::meaning::{Bank, Thing};
+use crate::procedures::Procedures;
+use crate::refusal::{NameNo, Refusal};
+use indexmap::IndexMap;
+use std::alloc::{AllocError, Global};
+
+/// Names, and what they mean.
+pub type Table<'a> = IndexMap<&'a [u8], Thing>;
+
+/// The most bytes of a name.
+const MAX_NAME: usize = 64;
+
+/// How many registers a bank has.
+const REGISTERS: usize = 16;
+
+/// The names that the lines so far have given.
+#[derive(Drop)]
+pub struct Names<'a> {
+    pub constants: Table<'a>,
+    /// Those of the procedure so far.
+    pub registers: Table<'a>,
+    /// The types that its line `regs` leaves out.
+    pub types: Vec<&'a [u8]>,
+    /// One more than the highest right register that has a name.
+    pub rights: usize,
+}
+
+impl<'a> Names<'a> {
+    /// None.
+    pub fn new(alloc: Global) -> Names<'a>
+        ensures { seen_names result ≡ no_names }
+    {
+        Names {
+            constants: IndexMap::new(alloc),
+            registers: IndexMap::new(alloc),
+            types: Vec::new(alloc),
+            rights: 0,
+        }
+    }
+}
+
+fn is_digit(byte: u8) -> bool
+    ensures { result ≡ nat_lt (digit_value byte) 10 }
+{
+    match byte {
+        b'0'..=b'9' => true,
+        _ => false,
+    }
+}
+
+fn all_digits(text: &[u8]) -> bool
+    ensures { result ≡ all_digits text.now }
+{
+    for byte in text {
+        if !is_digit(*byte) {
+            return false;
+        }
+    }
+    true
+}
+
+fn are_digits(text: &[u8]) -> bool
+    ensures { result ≡ are_digits text.now }
+{
+    match text {
+        [] => false,
+        [_, ..] => all_digits(text),
+    }
+}
+
+fn is_bank_letter(byte: u8) -> bool
+    ensures { result ≡ (byte == 118) || (byte == 100) }
+{
+    byte == b'v' || byte == b'd'
+}
+
+/// `v` or `d`, and digits.
+fn is_register_word(word: &[u8]) -> bool
+    ensures { result ≡ is_register_word word.now }
+{
+    match word {
+        [first, rest @ ..] if is_bank_letter(*first) => are_digits(rest),
+        _ => false,
+    }
+}
+
+/// Whether a word may be a name: as a label's, and no word that means itself.
+pub fn is_name(word: &[u8]) -> bool
+    ensures { result ≡ is_name word.now }
+{
+    if !tw_asm::is_name(word) {
+        false
+    } else if word.len() > MAX_NAME {
+        false
+    } else if is_register_word(word) {
+        false
+    } else {
+        word != b"any".as_slice()
+    }
+}
+
+/// What a name means in a table.
+pub fn meaning(table: &Table<'_>, name: &[u8]) -> Option<Thing>
+    ensures { result ≡ meaning name.now (seen_table table.now.entries) }
+{
+    match table.get(name) {
+        Some(thing) => Some(*thing),
+        None => None,
+    }
+}
+
+/// What a name means at a line.
+pub fn known(procedures: &Procedures<'_>, names: &Names<'_>, name: &[u8]) -> Option<Thing>
+    ensures { result ≡ known (seen_procedures procedures.now) (seen_names names.now) name.now }
+{
+    match meaning(&names.registers, name) {
+        Some(thing) => Some(thing),
+        None => match meaning(&names.constants, name) {
+            Some(thing) => Some(thing),
+            None => meaning(&procedures.table, name),
+        },
+    }
+}
+
+/// Whether a word may be given a meaning: it is a name, and means nothing yet.
+fn may_name<'a>(
+    procedures: &Procedures<'_>,
+    names: &Names<'_>,
+    name: &'a [u8],
+) -> Result<(), Refusal<'a>>
+    ensures { Gives (λ u. u) result (may_name (seen_procedures procedures.now) (seen_names names.now) name.now) }
+{
+    if !is_name(name) {
+        Err(Refusal::Flawed(NameNo::NoName, name))
+    } else if known(procedures, names, name).is_some() {
+        Err(Refusal::Flawed(NameNo::Twice, name))
+    } else {
+        Ok(())
+    }
+}
+
+/// Adds a name that a table hasn't.
+pub fn put_name<'a>(table: &mut Table<'a>, name: &'a [u8], thing: Thing) -> Result<(), AllocError>
+    requires { meaning name.now (seen_table table.old.entries) ≡ None }
+    ensures { OnOk result (seen_table table.new.entries ≡ seen_table table.old.entries ++ (name.now, thing) ∷ []) }
+{
+    table.insert(name, thing)?;
+    Ok(())
+}
+
+/// The names with a constant more.
+pub fn with_constant<'a>(
+    procedures: &Procedures<'_>,
+    mut names: Names<'a>,
+    name: &'a [u8],
+    number: i64,
+) -> Result<Names<'a>, Refusal<'a>>
+    ensures { Gives seen_names result (with_constant (seen_procedures procedures.now) (seen_names names.entry) name.now (Constant number)) }
+{
+    may_name(procedures, &names, name)?;
+    put_name(&mut names.constants, name, Thing::Constant(number))?;
+    Ok(names)
+}
+
+/// One more than the higher of a register's number and those before.
+fn above(bank: Bank, number: usize, rights: usize) -> usize
+    requires { number < 16 }
+    ensures { result ≡ above bank number rights }
+{
+    match bank {
+        Bank::Value => rights,
+        Bank::Right => { if number < rights { rights } else { number + 1 } }
+    }
+}
+
+/// The names with a register more.
+pub fn with_register<'a>(
+    procedures: &Procedures<'_>,
+    mut names: Names<'a>,
+    name: &'a [u8],
+    bank: Bank,
+    number: usize,
+) -> Result<Names<'a>, Refusal<'a>>
+    ensures { Gives seen_names result (with_register (seen_procedures procedures.now) (seen_names names.entry) name.now bank number) }
+{
+    may_name(procedures, &names, name)?;
+    if number >= REGISTERS {
+        return Err(Refusal::Flawed(NameNo::Limit, name));
+    }
+    put_name(&mut names.registers, name, Thing::Register(bank, number))?;
+    names.rights = above(bank, number, names.rights);
+    Ok(names)
+}

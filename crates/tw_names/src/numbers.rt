@@ -1,0 +1,24 @@
+//! Numbers in words.
+
+ghost use Rattle.std.specs.Prelude.{◌≡◌};
+ghost use Rattle.std.specs.Result.{result_ok};
+ghost use Rattle.tw_asm.specs.reading.Operands.{digits_in, signed_in};
+
+use tw_words::{digits, number};
+
+/// The number that digits spell, up to this one.
+pub fn natural(text: &[u8], most: u64) -> Option<usize>
+    ensures { result ≡ result_ok (digits_in 0 most text.now) }
+{
+    match digits(text, 0, most) {
+        Ok(number) => Some(number as usize),
+        Err(_) => None,
+    }
+}
+
+/// The number of 64 bits that a word spells.
+pub fn signed(text: &[u8]) -> Option<i64>
+    ensures { result ≡ result_ok (signed_in text.now) }
+{
+    number(text).ok()
+}

@@ -1,0 +1,187 @@
+//! The assembly text for which a text with names stands.
+
+ghost use Rattle.std.specs.Prelude.{◌≡◌, ◌⊎◌, ◌++◌, [], List, Ok, Err, IfOk, IsUtf8, MatchOption, MatchResult, string_bytes};
+ghost use Rattle.std.specs.Str.Lines.{lines};
+ghost use Rattle.tw_names.specs.Answers.{IsAtLine, IsMemory, IsNamed, IsNamedAfter, SaidAt, SaysBehind, named_by, told};
+ghost use Rattle.tw_names.specs.Lines.{AreTaken, IsTaken, Line, Worded};
+ghost use Rattle.tw_names.specs.Meanings.{no_names};
+ghost use Rattle.tw_names.specs.Seen.{seen_names, seen_procedures, texts};
+ghost use Rattle.tw_names.specs.Standing.{HasNames, IsFirstRefusal, StandsFor, ended, lines_say, taken_says};
+
+use crate::asked::put_ended;
+use crate::line::{Taken, take_line};
+use crate::names::Names;
+use crate::procedures::{Procedures, procedures_of};
+use crate::refusal::{NameRefusal, Refusal};
+use crate::says::{is_names_line, put_line};
+use std::alloc::{AllocError, Global};
+
+/// Whether a line has just the word `names`; `None` where it has no word.
+fn names_in(alloc: Global, line: &str) -> Result<Option<bool>, AllocError>
+    ensures { IfOk result (λ named. (taken : Line) × IsTaken taken line.now × (named ≡ named_by taken)) }
+{
+    match take_line(alloc, line)? {
+        Taken::Worded(words, _) => match words.as_slice() {
+            [first, others @ ..] => Ok(Some(is_names_line(first, others))),
+            [] => Ok(None),
+        },
+        Taken::Broken => Ok(Some(false)),
+    }
+}
+
+/// The same of the first line that has a word, where one line more is read.
+fn first_named(alloc: Global, named: Option<bool>, line: &str) -> Result<Option<bool>, AllocError>
+    ensures { IfOk result (λ after. IsNamedAfter named line.now after) }
+{
+    match named {
+        Some(known) => Ok(Some(known)),
+        None => names_in(alloc, line),
+    }
+}
+
+/// Whether the first line that has a word has just `names`.
+fn is_named(alloc: Global, text: &str) -> Result<bool, AllocError>
+    ensures { IfOk result (λ named. IsNamed named text.now) }
+{
+    let mut named = None;
+    for line in text.lines() {
+        named = first_named(alloc, named, line)?;
+    }
+    Ok(named.unwrap_or(false))
+}
+
+/// Adds what a line stands for that has these words, with its line feed, and gives the names behind it.
+fn put_worded<'a>(
+    alloc: Global,
+    procedures: &Procedures<'_>,
+    number: usize,
+    names: Names<'a>,
+    out: &mut Vec<u8>,
+    words: &[&'a [u8]],
+    rest: &'a [u8],
+) -> Result<Names<'a>, Refusal<'a>>
+    ensures { SaysBehind result out.new.items (taken_says (seen_procedures procedures.now) number (seen_names names.entry) out.old.items (Worded (texts words.now) rest.now)) }
+{
+    match put_line(alloc, procedures, number, names, out, words) {
+        Ok(names) => {
+            put_ended(out, rest)?;
+            Ok(names)
+        }
+        Err(refusal) => Err(refusal),
+    }
+}
+
+/// Adds a line in which something is no word.
+fn put_broken<'a>(names: Names<'a>, out: &mut Vec<u8>, line: &str) -> Result<Names<'a>, AllocError>
+    ensures { IfOk result (λ after. (seen_names after ≡ seen_names names.entry) × (out.new.items ≡ out.old.items ++ ended line.now)) }
+{
+    put_ended(out, line.as_bytes())?;
+    Ok(names)
+}
+
+/// Adds what a line stands for, with its line feed, and gives the names behind it.
+fn put_taken<'a>(
+    alloc: Global,
+    procedures: &Procedures<'_>,
+    number: usize,
+    names: Names<'a>,
+    out: &mut Vec<u8>,
+    line: &'a str,
+) -> Result<Names<'a>, Refusal<'a>>
+    ensures { (taken : Line) → IsTaken taken line.entry.now → SaysBehind result out.new.items (taken_says (seen_procedures procedures.now) number (seen_names names.entry) out.old.items taken) }
+{
+    match take_line(alloc, line)? {
+        Taken::Worded(words, rest) => put_worded(
+            alloc, procedures, number, names, out, &words, rest,
+        ),
+        Taken::Broken => match put_broken(names, out, line) {
+            Ok(names) => Ok(names),
+            Err(_) => Err(Refusal::NoMemory),
+        },
+    }
+}
+
+fn at_line(number: usize, refusal: Refusal<'_>) -> NameRefusal<'_>
+    ensures { IsAtLine number refusal.entry result }
+{
+    match refusal {
+        Refusal::NoMemory => NameRefusal::memory(),
+        Refusal::Flawed(no, word) => NameRefusal {
+            no,
+            line: number,
+            word,
+        },
+    }
+}
+
+/// Adds what the line of this number stands for.
+pub fn put_numbered_line<'a>(
+    alloc: Global,
+    procedures: &Procedures<'_>,
+    number: usize,
+    names: Names<'a>,
+    out: &mut Vec<u8>,
+    line: &'a str,
+) -> Result<Names<'a>, NameRefusal<'a>>
+    ensures { (taken : Line) → IsTaken taken line.entry.now → SaidAt number result out.new.items (taken_says (seen_procedures procedures.now) number (seen_names names.entry) out.old.items taken) }
+{
+    match put_taken(alloc, procedures, number, names, out, line) {
+        Ok(names) => Ok(names),
+        Err(refusal) => Err(at_line(number, refusal)),
+    }
+}
+
+/// What all lines stand for.
+fn plain_lines<'a>(
+    alloc: Global,
+    procedures: &Procedures<'_>,
+    text: &'a str,
+) -> Result<Vec<u8>, NameRefusal<'a>>
+    ensures { (all : List Line) → AreTaken all (lines text.entry.now) → MatchResult result
+        (λ out. lines_say (seen_procedures procedures.now) 1 no_names [] all ≡ Ok out.items)
+        (λ f. IsMemory f ⊎ (lines_say (seen_procedures procedures.now) 1 no_names [] all ≡ Err (told f))) }
+{
+    let mut out = Vec::new(alloc);
+    let mut names = Names::new(alloc);
+    for (index, line) in text.lines().enumerate() {
+        names = put_numbered_line(alloc, procedures, index + 1, names, &mut out, line)?;
+    }
+    Ok(out)
+}
+
+/// What a text stands for whose first line with a word is `names`.
+fn named_text<'a>(alloc: Global, text: &'a str) -> Result<Vec<u8>, NameRefusal<'a>>
+    requires { HasNames (lines text.now) }
+    ensures { MatchResult result
+        (λ plain. StandsFor text.entry.now plain.items)
+        (λ f. IsMemory f ⊎ IsFirstRefusal text.entry.now (told f)) }
+{
+    let procedures = procedures_of(alloc, text)?;
+    plain_lines(alloc, &procedures, text)
+}
+
+/// Bytes as a text.
+fn as_text(bytes: Vec<u8>) -> String
+    requires { IsUtf8 bytes.items }
+    ensures { string_bytes result ≡ bytes.items }
+{
+    match String::from_utf8(bytes) {
+        Ok(text) => text,
+        Err(_) => unreachable!(),
+    }
+}
+
+/// The assembly text for which a text with names stands, or its first refusal; `None` for a text without names, which stands for
+/// itself.
+pub fn plain_text<'a>(alloc: Global, text: &'a str) -> Result<Option<String>, NameRefusal<'a>>
+    ensures stands { MatchResult result
+        (λ read. MatchOption read (StandsFor text.entry.now text.entry.now) (λ plain. StandsFor text.entry.now (string_bytes plain)))
+        (λ f. IsMemory f ⊎ IsFirstRefusal text.entry.now (told f)) }
+    ensures named { IfOk result (λ read. MatchOption read (HasNames (lines text.entry.now) → ⊥) (λ _. HasNames (lines text.entry.now))) }
+{
+    if !is_named(alloc, text)? {
+        return Ok(None);
+    }
+    let plain = named_text(alloc, text)?;
+    Ok(Some(as_text(plain)))
+}

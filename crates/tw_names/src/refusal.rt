@@ -1,0 +1,91 @@
+//! Refusals of texts with names.
+
+ghost use Rattle.std.specs.Prelude.{◌≡◌};
+ghost use Rattle.tw_names.specs.Answers.{name_number};
+ghost use Rattle.tw_names.specs.declared.refusal.NameNo.TheVariants as no;
+ghost use Rattle.tw_names.specs.declared.refusal.Refusal.TheVariants.{NoMemory};
+
+use std::alloc::{AllocError, AllocFailed};
+
+/// What is wrong with a text with names.
+#[derive(Clone, Copy, Debug, PartialEq, Eq)]
+pub enum NameNo {
+    /// N01: a line that gives names has another form.
+    Form,
+    /// N02: what should be named isn't a name.
+    NoName,
+    /// N03: the name is taken.
+    Twice,
+    /// N04: the name means nothing here.
+    Unknown,
+    /// N05: the name means something else than asked.
+    Kind,
+    /// N06: a register past the last would be named.
+    Limit,
+    /// N07: memory was refused.
+    NoMemory,
+}
+
+impl NameNo {
+    /// The number behind the letter N, from 1.
+    pub fn number(self) -> u8
+        ensures { result ≡ name_number self }
+    {
+        self as u8 + 1
+    }
+}
+
+/// Why a line says nothing.
+#[derive(Clone, Copy, Debug)]
+pub enum Refusal<'a> {
+    NoMemory,
+    /// What is wrong, and with which word.
+    Flawed(NameNo, &'a [u8]),
+}
+
+impl From<AllocError> for Refusal<'_> {
+    ghost from_gives = { λ _ refusal. refusal ≡ NoMemory };
+
+    fn from(_refused: AllocError) -> Self {
+        Refusal::NoMemory
+    }
+}
+
+impl<T: Drop> From<AllocFailed<T>> for Refusal<'_> {
+    ghost from_gives = { λ _ refusal. refusal ≡ NoMemory };
+
+    fn from(_refused: AllocFailed<T>) -> Self {
+        Refusal::NoMemory
+    }
+}
+
+/// The first refusal of a text: what is wrong, in which line, from 1, and with which word.
+///
+/// Where memory was refused the line is 0, and there is no word.
+#[derive(Clone, Copy, Debug)]
+pub struct NameRefusal<'a> {
+    pub no: NameNo,
+    pub line: usize,
+    pub word: &'a [u8],
+}
+
+impl<'a> NameRefusal<'a> {
+    pub(crate) fn memory() -> NameRefusal<'a>
+        ensures no { result.no ≡ no.NoMemory }
+        ensures line { result.line ≡ 0 }
+    {
+        NameRefusal {
+            no: NameNo::NoMemory,
+            line: 0,
+            word: b"",
+        }
+    }
+}
+
+impl From<AllocError> for NameRefusal<'_> {
+    ghost from_gives = { λ _ f. (f.no ≡ no.NoMemory) × (f.line ≡ 0) };
+
+    fn from(_refused: AllocError) -> Self {
+        NameRefusal::memory()
+    }
+}
