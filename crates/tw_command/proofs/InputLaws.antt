@@ -172,7 +172,7 @@ refused_at inputs words i d lt h none =
 
 -- what is asked for is no refused word, and one word alone is refused
 pub never_refused : (asked : Asked) (order : Order) (number : ℕ) → IsAsked asked order → IsRefusedInput asked number → ⊥
-never_refused Assembles order number is_asked h = h
+never_refused (Assembles what) order number is_asked h = h
 never_refused (Disassembles source listed) order number is_asked h = h
 never_refused (Checks source listed) order number is_asked h = h
 never_refused (Runs source answer layout most traced turns (Some words)) order number (run, is, answer_is, layout_is, limit_is, trace_is, turns_is, spelled) h = none_refused words run.inputs number spelled h
@@ -182,7 +182,7 @@ never_refused (Replays source answer layout None) order number is_asked h = h
 never_refused (Explains explained) order number is_asked h = h
 
 pub one_number : (asked : Asked) (number other : ℕ) → IsRefusedInput asked number → IsRefusedInput asked other → number ≡ other
-one_number Assembles number other h k = absurd h
+one_number (Assembles what) number other h k = absurd h
 one_number (Disassembles source listed) number other h k = absurd h
 one_number (Checks source listed) number other h k = absurd h
 one_number (Runs source answer layout most traced turns (Some words)) number other h k = one_refused_word words number other h k

@@ -23,15 +23,16 @@ use Rattle.tw_words.specs.Number.{IsRead, SpellsDigits}
 use Rattle.tw_words.specs.declared.numbers.Flaw.{Flaw}
 use Rattle.tw_words.specs.declared.numbers.Flaw.TheVariants.{Form, Limit}
 use Rattle.tw_types.specs.Layout.{ActorCounts}
-use Rattle.tw_command.specs.Options.{HasActors, NumberOption, actor_options, actors_told, engines, in_turn, inputs, is_given, limit, number_in, number_of, number_options, option_faults, picture, servers, source_told, stats, told, trace, workers}
+use Rattle.tw_command.specs.Options.{HasActors, HasStretch, NumberOption, actor_options, actors_told, engines, first_shown, in_turn, inputs, is_given, last_shown, limit, number_in, number_of, number_options, option_faults, picture, servers, source_told, stats, stretch_options, stretch_told, told, trace, workers}
 use Rattle.tw_command.specs.Order.{HasReason, IsInputReason, IsRequest}
-use Rattle.tw_command.specs.CommandLine.{Asked, IsRefusedInput, Replays, Runs, answer_told, given_words, input_faults, picture_faults, replay_asked, replay_faults, run_answer_told, run_asked, run_faults, words_told}
+use Rattle.tw_command.specs.CommandLine.{Asked, IsRefusedInput, Replays, Runs, answer_told, drawing_faults, given_words, input_faults, is_cut, picture_faults, replay_asked, replay_faults, run_answer_told, run_asked, run_faults, stretch_faults, words_told}
 use Rattle.tw_command.specs.InputWords.{IsRefusedWord}
 use Rattle.tw_command.specs.reading.Inputs.{HasInputs}
 use Rattle.tw_command.specs.declared.command.Answer.{Answer}
 use Rattle.tw_command.specs.declared.command.Answer.TheVariants.{Picture}
 use Rattle.tw_command.specs.declared.command.NoOrder.{NoOrder}
 use Rattle.tw_command.specs.declared.command.NoOrder.TheVariants.{Explanation, Help, InputWord, NoMemory, Refused}
+use Rattle.tw_command.specs.declared.shown.Stretch.{Stretch}
 
 -- ---- the digits
 
@@ -100,13 +101,27 @@ limit_refused rows e = one_refused number_options rows 3 (omega arith) (sym e)
 
 -- what is wrong with an actor's number is wrong with `run` too
 pub actors_refused : (rows : List Row) → option_faults actor_options rows ≡ ValueValidation ∷ [] → option_faults number_options rows ≡ ValueValidation ∷ []
-actors_refused rows e = by (is_some (number_of engines rows)) (is_some (number_of servers rows)) (is_some (number_of workers rows)) (is_some (number_of limit rows)) e
+actors_refused rows e =
+    by (is_some (number_of engines rows)) (is_some (number_of servers rows)) (is_some (number_of workers rows)) (is_some (number_of limit rows) && (is_some (number_of first_shown rows) && (is_some (number_of last_shown rows) && true))) e
   where
-    by : (e s w l : Bool) → cond (e && (s && (w && true))) [] (ValueValidation ∷ []) ≡ ValueValidation ∷ [] → cond (e && (s && (w && (l && true)))) [] (ValueValidation ∷ []) ≡ ValueValidation ∷ []
-    by true true true l e = cc
-    by true true false l e = refl
-    by true false w l e = refl
-    by false s w l e = refl
+    by : (e s w more : Bool) → cond (e && (s && (w && true))) [] (ValueValidation ∷ []) ≡ ValueValidation ∷ [] → cond (e && (s && (w && more))) [] (ValueValidation ∷ []) ≡ ValueValidation ∷ []
+    by true true true more e = cc
+    by true true false more e = refl
+    by true false w more e = refl
+    by false s w more e = refl
+
+-- so is what is wrong with the number of an event that is shown
+pub events_refused : (rows : List Row) → option_faults stretch_options rows ≡ ValueValidation ∷ [] → option_faults number_options rows ≡ ValueValidation ∷ []
+events_refused rows e =
+    by (is_some (number_of engines rows)) (is_some (number_of servers rows)) (is_some (number_of workers rows)) (is_some (number_of limit rows)) (is_some (number_of first_shown rows) && (is_some (number_of last_shown rows) && true)) e
+  where
+    by : (e s w l more : Bool) → cond more [] (ValueValidation ∷ []) ≡ ValueValidation ∷ [] → cond (e && (s && (w && (l && more)))) [] (ValueValidation ∷ []) ≡ ValueValidation ∷ []
+    by e s w l true h = cc
+    by true true true true false h = refl
+    by true true true false false h = refl
+    by true true false l false h = refl
+    by true false w l false h = refl
+    by false s w l false h = refl
 
 has_kind : (kind : ErrorKind) (kinds : Kinds) (asked : Asked) → (IsRequest kind → ⊥) → kinds ≡ kind ∷ [] → HasReason kinds asked Refused
 has_kind kind kinds asked other e = subst (λ (k : Kinds). HasReason k asked Refused) (sym e) (kind, inl refl, other)
@@ -127,26 +142,26 @@ has_conflict kinds asked e = has_kind ArgumentConflict kinds asked other e
 
 -- ---- a picture
 
--- where it isn't asked for
-pub not_drawn : (rows : List Row) → is_given picture rows ≡ false → (picture_faults rows ≡ []) × (answer_told rows ≡ run_answer_told rows)
-not_drawn rows other = (rw other refl, rw other refl)
-
--- where the history is too, or the numbers are
-pub drawn_traced : (rows : List Row) → is_given picture rows ≡ true → is_given trace rows ≡ true → picture_faults rows ≡ ArgumentConflict ∷ []
-drawn_traced rows drawn traced = rw (drawn, traced) refl
-
-pub drawn_counted : (rows : List Row) → is_given picture rows ≡ true → is_given trace rows ≡ false → is_given stats rows ≡ true → picture_faults rows ≡ ArgumentConflict ∷ []
-drawn_counted rows drawn untraced counted = rw (drawn, untraced, counted) refl
-
-pub drawn_alone : (rows : List Row) → is_given picture rows ≡ true → is_given trace rows ≡ false → is_given stats rows ≡ false → (picture_faults rows ≡ []) × (Picture ≡ run_answer_told rows)
-drawn_alone rows drawn untraced uncounted = (rw (drawn, untraced, uncounted) refl, rw drawn refl)
+-- which ends before it begins
+pub events_backward : (rows : List Row) (s : Stretch) → HasStretch rows s → nat_lt s.to s.from ≡ true → stretch_faults rows ≡ ArgumentConflict ∷ []
+events_backward rows s h back = rw (h.0, h.1, back) refl
 
 -- what is wrong with it is wrong with `run`, where the options are right
-pub picture_refused : (rows : List Row) (layout : ActorCounts) (most : ℕ) → HasActors rows layout → Some most ≡ number_of limit rows → picture_faults rows ≡ ArgumentConflict ∷ [] → run_faults rows ≡ ArgumentConflict ∷ []
-picture_refused rows layout most actors is refused =
-    let fit : option_faults number_options rows ≡ [] = rw (actors.0, actors.1, actors.2, sym is) refl in
+pub picture_refused : (rows : List Row) (layout : ActorCounts) (most : ℕ) (s : Stretch) → HasActors rows layout → Some most ≡ number_of limit rows → HasStretch rows s → picture_faults rows ≡ ArgumentConflict ∷ []
+    → run_faults rows ≡ ArgumentConflict ∷ []
+picture_refused rows layout most s actors is shown refused =
+    let fit : option_faults number_options rows ≡ [] = rw (actors.0, actors.1, actors.2, sym is, shown.0, shown.1) refl in
     ap (λ (k : Kinds). or_else k (or_else (picture_faults rows) (input_faults rows))) fit
     ∙ ap (λ (k : Kinds). or_else k (input_faults rows)) refused
+
+-- and with `picture`
+pub unnumbered_refused : (rows : List Row) → option_faults stretch_options rows ≡ ValueValidation ∷ [] → drawing_faults rows ≡ ValueValidation ∷ []
+unnumbered_refused rows e = ap (λ (k : Kinds). or_else k (or_else (stretch_faults rows) (replay_faults rows))) e
+
+pub backward_refused : (rows : List Row) (s : Stretch) → HasStretch rows s → stretch_faults rows ≡ ArgumentConflict ∷ [] → drawing_faults rows ≡ ArgumentConflict ∷ []
+backward_refused rows s shown refused =
+    let fit : option_faults stretch_options rows ≡ [] = rw (shown.0, shown.1) refl in
+    ap (λ (k : Kinds). or_else k (or_else (stretch_faults rows) (replay_faults rows))) fit ∙ ap (λ (k : Kinds). or_else k (replay_faults rows)) refused
 
 -- ---- the inputs
 

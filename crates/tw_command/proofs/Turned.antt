@@ -1,6 +1,6 @@
 -- What words ask for, with its run in turn.
-use Rattle.std.proofs.Common.{◌≡◌, List, Option, Some, None, true, refl, ap}
-use Rattle.clap.specs.Words.{Kinds, Text}
+use Rattle.std.proofs.Common.{Some, None, true, refl, ap}
+use Rattle.clap.specs.Words.{Kinds}
 use Rattle.tw_command.specs.CommandLine.{Asked, Assembles, Disassembles, Checks, Runs, Replays, Explains, IsAsked}
 use Rattle.tw_command.specs.InTurn.{IsInTurn, IsInputsInTurn, IsProgramInTurn, IsVerifiedInTurn, inputs_in_turn, order_in_turn, program_in_turn, turned, verified_in_turn}
 use Rattle.tw_command.specs.Order.{HasReason}
@@ -16,7 +16,7 @@ use Rattle.tw_command.specs.declared.command.VerifiedOrder.{VerifiedOrder}
 use Rattle.tw_command.specs.declared.command.VerifiedOrder.TheVariants.{Check, Run}
 
 pub asked_in_turn : (asked : Asked) (order : Order) → IsAsked asked order → IsAsked (turned asked) (order_in_turn order)
-asked_in_turn Assembles order is = ap order_in_turn is
+asked_in_turn (Assembles what) order is = ap order_in_turn is
 asked_in_turn (Disassembles source listed) order is = ap order_in_turn is
 asked_in_turn (Checks source listed) order is = ap order_in_turn is
 asked_in_turn (Runs source answer layout most traced turns (Some words)) order (run, is, answer_is, layout_is, limit_is, trace_is, turns_is, spelled) =
@@ -32,14 +32,14 @@ pub reason_in_turn : (kinds : Kinds) (asked : Asked) (reason : NoOrder) → HasR
 reason_in_turn kinds asked NoMemory h = h
 reason_in_turn kinds asked (Help text) h = h
 reason_in_turn kinds asked Refused h = h
-reason_in_turn kinds Assembles (InputWord number) h = h
+reason_in_turn kinds (Assembles what) (InputWord number) h = h
 reason_in_turn kinds (Disassembles source listed) (InputWord number) h = h
 reason_in_turn kinds (Checks source listed) (InputWord number) h = h
 reason_in_turn kinds (Runs source answer layout most traced turns (Some words)) (InputWord number) h = h
 reason_in_turn kinds (Runs source answer layout most traced turns None) (InputWord number) h = h
 reason_in_turn kinds (Replays source answer layout words) (InputWord number) h = h
 reason_in_turn kinds (Explains other) (InputWord number) h = h
-reason_in_turn kinds Assembles (Explanation text) h = h
+reason_in_turn kinds (Assembles what) (Explanation text) h = h
 reason_in_turn kinds (Disassembles source listed) (Explanation text) h = h
 reason_in_turn kinds (Checks source listed) (Explanation text) h = h
 reason_in_turn kinds (Runs source answer layout most traced turns words) (Explanation text) h = h
@@ -61,7 +61,7 @@ inputs_is (ToRun options) = refl
 inputs_is (ToReplay options) = tt
 
 pub is_in_turn : (order : Order) → IsInTurn (order_in_turn order)
-is_in_turn Assemble = tt
+is_in_turn (Assemble what) = tt
 is_in_turn (Program source order) = program_is order
 is_in_turn (Replay source order) = tt
 is_in_turn (Inputs source order) = inputs_is order

@@ -1,18 +1,19 @@
 -- The command line: what clap is told of it, and what the words then ask for.
-use Rattle.std.specs.Prelude.{◌≡◌, ◌||◌, ◌++◌, ◌&&◌, ℕ, Bool, true, not, List, [], ◌∷◌, Option, Some, None, codes, bytes_eq, fold, if◌then◌else◌, map, unwrap_or}
+use Rattle.std.specs.Prelude.{◌≡◌, ◌||◌, ◌++◌, ◌&&◌, ℕ, Bool, true, not, List, [], ◌∷◌, Option, Some, None, codes, bytes_eq, fold, if◌then◌else◌, is_some, map, nat_lt, unwrap_or}
 use Rattle.clap.specs.Kinds.{or_else}
 use Rattle.clap.specs.Lexer.{usize_max}
 use Rattle.clap.specs.Walk.{is_empty}
-use Rattle.clap.specs.Words.{App, Kinds, Row, Rule, Text, all_of, fault_of, new_app, new_rule, subcommand_of, with_rule, with_subcommand}
+use Rattle.clap.specs.Words.{App, Kinds, Row, Rule, Text, all_of, fault_of, first_of, new_app, new_rule, subcommand_of, with_rule, with_subcommand}
 use Rattle.clap.specs.declared.error.ErrorKind.TheVariants.{ArgumentConflict}
 use Rattle.tw_types.specs.declared.input.Input.{Input}
 use Rattle.tw_types.specs.Layout.{ActorCounts}
 use Rattle.tw_command.specs.InputWords.{AreSpelled, IsRefusedWord}
-use Rattle.tw_command.specs.Options.{NumberOption, actor_options, actors_told, flag_rule, in_turn, inputs, is_given, limit, number_options, option_faults, option_rule, picture, places, places_told, source_told, stats, text, told, trace}
+use Rattle.tw_command.specs.Options.{NumberOption, actor_options, actors_told, assembling_told, first_shown, flag_rule, in_turn, inputs, is_given, last_shown, limit, names, number_options, option_faults, option_rule, picture, picture_options, places, places_told, plain, source_told, stats, stretch_options, stretch_told, text, told, trace}
 use Rattle.tw_command.specs.Explanations.{IsExplanation, number_faults, number_rule, number_word}
 use Rattle.tw_command.specs.declared.command.Answer.{Answer}
 use Rattle.tw_command.specs.declared.command.Answer.TheVariants.{Numbers, Picture, Report}
 use Rattle.tw_command.specs.declared.command.Order.{Order}
+use Rattle.tw_command.specs.declared.command.Assembling.{Assembling}
 use Rattle.tw_command.specs.declared.command.InputsOrder.TheVariants.{ToReplay, ToRun}
 use Rattle.tw_command.specs.declared.command.Order.TheVariants.{Assemble, Inputs, Program, Replay}
 use Rattle.tw_command.specs.declared.command.Places.{Places}
@@ -29,6 +30,10 @@ use Rattle.tw_command.specs.declared.command.Source.TheVariants.{Hex}
 -- a command without options
 abbrev pub plain_line : Text → App
 plain_line name = new_app name
+
+-- the command that assembles, with whether names are read, and whether assembly text is written
+abbrev pub asm_line : App
+asm_line = with_rule (with_rule (new_app (codes "asm")) (flag_rule names)) (flag_rule plain)
 
 -- a command that reads a program, and has no options but how that is written and whether places are listed
 abbrev pub program_line : Text → App
@@ -54,7 +59,7 @@ abbrev pub replay_line : App
 replay_line = options_line (codes "replay") actor_options (stats ∷ text ∷ inputs ∷ [])
 
 abbrev pub picture_line : App
-picture_line = options_line (codes "picture") actor_options (text ∷ inputs ∷ [])
+picture_line = options_line (codes "picture") picture_options (text ∷ inputs ∷ [])
 
 -- the words come without the program's own name, and a command must be among them, or what asks for help or the version
 abbrev pub bare_line : App
@@ -69,7 +74,7 @@ bare_line = record (new_app (codes "tw")) {
 -- the whole command line
 unfoldable pub command_line : App
 command_line = fold (λ line command. with_subcommand line command.top) bare_line
-    (plain_line (codes "asm") ∷ program_line (codes "disasm") ∷ program_line (codes "check") ∷ run_line
+    (asm_line ∷ program_line (codes "disasm") ∷ program_line (codes "check") ∷ run_line
     ∷ replay_line ∷ picture_line ∷ explain_line ∷ [])
 
 -- ---- what the words ask for
@@ -82,11 +87,11 @@ given_words rows = unwrap_or (all_of (codes "input") rows) []
 abbrev pub words_told : List Row → Option (List Text)
 words_told rows = if is_given inputs rows then None else Some (given_words rows)
 
--- the command that was named, and how the program is written that it reads; `disasm` and `check` with whether places are
--- listed; `run`, by what is written, with its actors, the most events of the run, whether its history is written, whether it is in turn,
+-- the command that was named; `asm` with what it assembles, and the others with how the program is written that they read; `disasm` and `check` with
+-- whether places are listed; `run`, by what is written, with its actors, the most events of the run, whether its history is written, whether it is in turn,
 -- and the input words, if they don't stand in what is read; `replay` or `picture`, by what is written, with its actors and these; `explain` with its number
 pub data Asked : Type 0 where
-  Assembles : Asked
+  Assembles : Assembling → Asked
   Disassembles : Source → Places → Asked
   Checks : Source → Places → Asked
   Runs : Source → Answer → ActorCounts → ℕ → Bool → Bool → Option (List Text) → Asked
@@ -98,7 +103,7 @@ abbrev pub answer_told : List Row → Answer
 answer_told rows = if is_given stats rows then Numbers else Report
 
 abbrev pub run_answer_told : List Row → Answer
-run_answer_told rows = if is_given picture rows then Picture else answer_told rows
+run_answer_told rows = if is_given picture rows then Picture (stretch_told rows) else answer_told rows
 
 -- `run`, by what clap found behind it
 abbrev pub run_asked : List Row → Asked
@@ -114,8 +119,8 @@ asked_of None = Checks Hex Hidden
 asked_of (Some named) =
     if bytes_eq named.0 (codes "run") then run_asked named.1 else
     if bytes_eq named.0 (codes "replay") then replay_asked (answer_told named.1) named.1 else
-    if bytes_eq named.0 (codes "picture") then replay_asked Picture named.1 else
-    if bytes_eq named.0 (codes "asm") then Assembles else
+    if bytes_eq named.0 (codes "picture") then replay_asked (Picture (stretch_told named.1)) named.1 else
+    if bytes_eq named.0 (codes "asm") then Assembles (assembling_told named.1) else
     if bytes_eq named.0 (codes "disasm") then Disassembles (source_told named.1) (places_told named.1) else
     if bytes_eq named.0 (codes "explain") then Explains (number_word named.1) else
     Checks (source_told named.1) (places_told named.1)
@@ -133,7 +138,7 @@ replay_with options given = record { answer = options.answer; layout = options.l
 
 -- the order that is asked for: each input word spells its input, or the inputs are to be read
 abbrev pub IsAsked : Asked → Order → Type 0
-IsAsked Assembles order = order ≡ Assemble
+IsAsked (Assembles what) order = order ≡ Assemble what
 IsAsked (Disassembles source listed) order = order ≡ Program source (Disassemble listed)
 IsAsked (Checks source listed) order = order ≡ Program source (Verified (Check listed))
 IsAsked (Runs source answer layout most traced turns (Some words)) order =
@@ -149,7 +154,7 @@ IsAsked (Explains number) order = ⊥
 
 -- or the word of this number, counted from 1, is the first that spells no input
 abbrev pub IsRefusedInput : Asked → ℕ → Type 0
-IsRefusedInput Assembles number = ⊥
+IsRefusedInput (Assembles what) number = ⊥
 IsRefusedInput (Disassembles source listed) number = ⊥
 IsRefusedInput (Checks source listed) number = ⊥
 IsRefusedInput (Runs source answer layout most traced turns (Some words)) number = IsRefusedWord words number
@@ -160,7 +165,7 @@ IsRefusedInput (Explains other) number = ⊥
 
 -- or a number is to be explained, and this is its explanation
 abbrev pub IsExplained : Asked → List ℕ → Type 0
-IsExplained Assembles explanation = ⊥
+IsExplained (Assembles what) explanation = ⊥
 IsExplained (Disassembles source listed) explanation = ⊥
 IsExplained (Checks source listed) explanation = ⊥
 IsExplained (Runs source answer layout most traced turns words) explanation = ⊥
@@ -173,16 +178,31 @@ IsExplained (Explains number) explanation = IsExplanation number explanation
 abbrev pub input_faults : List Row → Kinds
 input_faults rows = if is_given inputs rows && not (is_empty (given_words rows)) then ArgumentConflict ∷ [] else []
 
--- a picture is written alone: no history before it, and no numbers behind it
-abbrev pub picture_faults : List Row → Kinds
-picture_faults rows = if is_given picture rows && (is_given trace rows || is_given stats rows) then ArgumentConflict ∷ [] else []
+-- the last event that a picture shows is before the first
+abbrev pub stretch_faults : List Row → Kinds
+stretch_faults rows = if nat_lt (told last_shown rows) (told first_shown rows) then ArgumentConflict ∷ [] else []
 
--- of `run`, and of `replay` and `picture`
+-- one of them is named
+abbrev pub is_cut : List Row → Bool
+is_cut rows = is_some (first_of first_shown.name rows) || is_some (first_of last_shown.name rows)
+
+-- a picture is written alone: no history before it, and no numbers behind it
+abbrev pub drawn_faults : List Row → Kinds
+drawn_faults rows = if is_given trace rows || is_given stats rows then ArgumentConflict ∷ [] else stretch_faults rows
+
+-- events are named for a picture alone
+abbrev pub picture_faults : List Row → Kinds
+picture_faults rows = if is_given picture rows then drawn_faults rows else if is_cut rows then ArgumentConflict ∷ [] else []
+
+-- of `run`, of `replay`, and of `picture`
 abbrev pub run_faults : List Row → Kinds
 run_faults rows = or_else (option_faults number_options rows) (or_else (picture_faults rows) (input_faults rows))
 
 abbrev pub replay_faults : List Row → Kinds
 replay_faults rows = or_else (option_faults actor_options rows) (input_faults rows)
+
+abbrev pub drawing_faults : List Row → Kinds
+drawing_faults rows = or_else (option_faults stretch_options rows) (or_else (stretch_faults rows) (replay_faults rows))
 
 -- of the options, or of the number behind `explain`
 abbrev pub faults_behind : Option (Text × List Row) → Kinds
@@ -190,7 +210,7 @@ faults_behind None = []
 faults_behind (Some named) =
     if bytes_eq named.0 (codes "run") then run_faults named.1 else
     if bytes_eq named.0 (codes "replay") then replay_faults named.1 else
-    if bytes_eq named.0 (codes "picture") then replay_faults named.1 else
+    if bytes_eq named.0 (codes "picture") then drawing_faults named.1 else
     if bytes_eq named.0 (codes "explain") then number_faults (number_word named.1) else
     []
 

@@ -18,6 +18,11 @@ abbrev pub assembly_numbers : List Text
 assembly_numbers =
     codes "A01" ∷ codes "A02" ∷ codes "A03" ∷ codes "A04" ∷ codes "A05" ∷ codes "A06" ∷ codes "A07" ∷ []
 
+-- of texts with names
+abbrev pub name_numbers : List Text
+name_numbers =
+    codes "N01" ∷ codes "N02" ∷ codes "N03" ∷ codes "N04" ∷ codes "N05" ∷ codes "N06" ∷ codes "N07" ∷ []
+
 -- of a program's bytes
 abbrev pub byte_numbers : List Text
 byte_numbers =
@@ -41,7 +46,7 @@ abbrev pub is_among : List Text → Text → Bool
 is_among numbers word = list_any (λ number. bytes_eq number word) numbers
 
 abbrev pub is_number : Text → Bool
-is_number word = is_among session_numbers word || (is_among assembly_numbers word || (is_among byte_numbers word || (is_among verifier_numbers word || is_among trap_numbers word)))
+is_number word = is_among session_numbers word || (is_among assembly_numbers word || (is_among name_numbers word || (is_among byte_numbers word || (is_among verifier_numbers word || is_among trap_numbers word))))
 
 -- ---- what is written
 

@@ -12,7 +12,7 @@ use Rattle.tw_command.specs.declared.command.VerifiedOrder.TheVariants.{Check, R
 
 -- the same is asked for, but that a run is in turn
 abbrev pub turned : Asked → Asked
-turned Assembles = Assembles
+turned (Assembles what) = Assembles what
 turned (Disassembles source listed) = Disassembles source listed
 turned (Checks source listed) = Checks source listed
 turned (Runs source answer layout most traced turns words) = Runs source answer layout most traced true words
@@ -33,7 +33,7 @@ IsInputsInTurn (ToRun options) = options.in_turn ≡ true
 IsInputsInTurn (ToReplay options) = Unit {0}
 
 abbrev pub IsInTurn : Order → Type 0
-IsInTurn Assemble = Unit {0}
+IsInTurn (Assemble what) = Unit {0}
 IsInTurn (Program source order) = IsProgramInTurn order
 IsInTurn (Replay source order) = Unit {0}
 IsInTurn (Inputs source order) = IsInputsInTurn order
@@ -52,7 +52,7 @@ inputs_in_turn (ToRun options) = ToRun (record options { in_turn = true })
 inputs_in_turn (ToReplay options) = ToReplay options
 
 abbrev pub order_in_turn : Order → Order
-order_in_turn Assemble = Assemble
+order_in_turn (Assemble what) = Assemble what
 order_in_turn (Program source order) = Program source (program_in_turn order)
 order_in_turn (Replay source order) = Replay source order
 order_in_turn (Inputs source order) = Inputs source (inputs_in_turn order)

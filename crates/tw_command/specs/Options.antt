@@ -5,10 +5,14 @@ use Rattle.std.specs.Option.{option_map_or}
 use Rattle.std.specs.Str.{bytes_eq}
 use Rattle.std.specs.Str.Parse.{digits_value}
 use Rattle.tw_types.specs.Layout.{ActorCounts}
+use Rattle.tw_command.specs.declared.command.Assembling.{Assembling}
+use Rattle.tw_command.specs.declared.command.Assembling.TheVariants.{Names, Plain}
+use Rattle.tw_command.specs.declared.command.Assembling.TheVariants as assembling
 use Rattle.tw_command.specs.declared.command.Places.{Places}
 use Rattle.tw_command.specs.declared.command.Places.TheVariants.{Hidden, Shown}
 use Rattle.tw_command.specs.declared.command.Source.{Source}
 use Rattle.tw_command.specs.declared.command.Source.TheVariants.{Hex, Assembly}
+use Rattle.tw_command.specs.declared.shown.Stretch.{Stretch}
 use Rattle.clap.specs.ValueTests.{is_numeral}
 use Rattle.clap.specs.Words.{Kinds, Row, Rule, Text, first_of, new_rule, one_of}
 use Rattle.clap.specs.declared.builder.action.ArgAction.TheVariants.{SetTrue}
@@ -32,13 +36,28 @@ workers = record { name = codes "workers"; most = 16; default = 1 }
 abbrev pub limit : NumberOption
 limit = record { name = codes "limit"; most = 1000000; default = 10000 }
 
--- those of `replay` and `picture`
+-- the numbers of the first and of the last event that a picture shows
+abbrev pub first_shown : NumberOption
+first_shown = record { name = codes "from"; most = 4294967295; default = 1 }
+
+abbrev pub last_shown : NumberOption
+last_shown = record { name = codes "to"; most = 4294967295; default = 4294967295 }
+
+-- those of `replay`
 abbrev pub actor_options : List NumberOption
 actor_options = engines ∷ servers ∷ workers ∷ []
 
+-- which events a picture shows
+abbrev pub stretch_options : List NumberOption
+stretch_options = first_shown ∷ last_shown ∷ []
+
+-- those of `picture`
+abbrev pub picture_options : List NumberOption
+picture_options = engines ∷ servers ∷ workers ∷ first_shown ∷ last_shown ∷ []
+
 -- those of `run`
 abbrev pub number_options : List NumberOption
-number_options = engines ∷ servers ∷ workers ∷ limit ∷ []
+number_options = engines ∷ servers ∷ workers ∷ limit ∷ first_shown ∷ last_shown ∷ []
 
 -- the flag of `run`: the history is written before the report
 abbrev pub trace : Text
@@ -59,6 +78,13 @@ picture = codes "picture"
 -- the flag of each command that reads a program: it is read as assembly text, and else as hex text
 abbrev pub text : Text
 text = codes "text"
+
+-- the flags of `asm`: a text with names is read, and the assembly text is written for which it stands
+abbrev pub names : Text
+names = codes "names"
+
+abbrev pub plain : Text
+plain = codes "plain"
 
 -- the flag of `disasm` and `check`: each instruction is listed with its place
 abbrev pub places : Text
@@ -94,6 +120,10 @@ is_given name rows = option_map_or (λ text. bytes_eq text (codes "true")) (one_
 abbrev pub source_told : List Row → Source
 source_told rows = if is_given text rows then Assembly else Hex
 
+-- what is assembled, and what is written of it: `--plain` reads names as well
+abbrev pub assembling_told : List Row → Assembling
+assembling_told rows = if is_given plain rows then Plain else if is_given names rows then Names else assembling.Text
+
 -- whether the places of instructions are listed
 abbrev pub places_told : List Row → Places
 places_told rows = if is_given places rows then Shown else Hidden
@@ -116,3 +146,13 @@ actors engines servers workers = record { engines = engines; servers = servers; 
 
 abbrev pub actors_told : List Row → ActorCounts
 actors_told rows = actors (told engines rows) (told servers rows) (told workers rows)
+
+-- the options of a picture's events have numbers, and these are they
+abbrev pub HasStretch : List Row → Stretch → Type 0
+HasStretch rows s = (number_of first_shown rows ≡ Some s.from) × (number_of last_shown rows ≡ Some s.to)
+
+abbrev pub stretch : ℕ → ℕ → Stretch
+stretch from to = record { from = from; to = to }
+
+abbrev pub stretch_told : List Row → Stretch
+stretch_told rows = stretch (told first_shown rows) (told last_shown rows)

@@ -5,27 +5,30 @@ ghost use Rattle.clap.specs.Walk.{is_empty};
 ghost use Rattle.clap.specs.Words.{app_of, found_of, kind_of, rows_of, rule_of, subcommand_rows_of};
 ghost use Rattle.clap.specs.declared.Command.TheViews.{out-Command};
 ghost use Rattle.clap.specs.declared.error.ErrorKind.TheVariants.{ArgumentConflict, ValueValidation};
-ghost use Rattle.tw_command.specs.CommandLine.{Explains, IsAsked, answer_told, asked_by_words, asked_of, faults_behind, given_words, input_faults, picture_faults, replay_faults, run_answer_told, run_faults, words_told};
+ghost use Rattle.tw_command.specs.CommandLine.{Explains, IsAsked, answer_told, asked_by_words, asked_of, asm_line, drawing_faults, faults_behind, given_words, input_faults, picture_faults, replay_faults, run_answer_told, run_faults, words_told};
 ghost use Rattle.tw_command.specs.CommandLine.{bare_line, command_line, explain_line, input_rule, plain_line, program_line, picture_line, replay_asked, replay_line, replay_with, run_asked, run_line, run_with, word_faults};
 ghost use Rattle.tw_command.specs.declared.command.Answer.{Answer as Answers};
 ghost use Rattle.tw_command.specs.declared.command.Order.TheVariants.{Program};
 ghost use Rattle.tw_command.specs.declared.command.ProgramOrder.TheVariants.{Verified};
 ghost use Rattle.tw_command.specs.InputWords.{AreSpelled};
 ghost use Rattle.tw_command.specs.reading.Inputs.{HasInputs};
-ghost use Rattle.tw_command.specs.Options.{HasActors, actor_options, flag_rule, inputs, is_given, limit, number_of, option_faults, option_rule, places, places_told, source_told, text};
+ghost use Rattle.tw_command.specs.reading.Runs.{IsRunBy};
+ghost use Rattle.tw_command.specs.Options.{HasActors, actor_options, assembling_told, flag_rule, inputs, is_given, limit, number_of, option_faults, option_rule, places, places_told, source_told, stretch_told, text};
 ghost use Rattle.tw_command.specs.Explanations.{number_faults, number_rule, number_word};
 ghost use Rattle.std.specs.Int.{IsInRange};
 ghost use Rattle.tw_command.specs.Order.{HasReason, IsInputReason, IsReason};
-ghost use Rattle.tw_command.specs.declared.command.NoOrder.TheVariants.{NoMemory};
+ghost use Rattle.tw_command.specs.declared.command.NoOrder.TheVariants.{NoMemory, Refused};
 
 use crate::explanations::explained;
 use crate::help::{
-    ABOUT, ASM, CHECK, CommandHelp, DISASM, ENGINES_HELP, EXPLAIN, IN_TURN_HELP, INPUT_HELP,
-    INPUTS_HELP, LIMIT_HELP, NUMBER_HELP, PICTURE, PICTURE_HELP, PLACES_HELP, REPLAY, RUN,
-    SERVERS_HELP, STATS_HELP, TEXT_HELP, TRACE_HELP, VERSION, WORKERS_HELP,
+    ABOUT, ASM, CHECK, CommandHelp, DISASM, ENGINES_HELP, EXPLAIN, FROM_HELP, IN_TURN_HELP,
+    INPUT_HELP, INPUTS_HELP, LIMIT_HELP, NAMES_HELP, NUMBER_HELP, PICTURE, PICTURE_HELP,
+    PLACES_HELP, PLAIN_HELP, REPLAY, RUN, SERVERS_HELP, STATS_HELP, TEXT_HELP, TO_HELP, TRACE_HELP,
+    VERSION, WORKERS_HELP,
 };
 use crate::input_words::input_of;
 use crate::limit::EventLimit;
+use crate::shown::{Stretch, run_answer_told, stretch_given};
 use clap::error::ErrorKind;
 use clap::{Arg, ArgAction, ArgMatches, Command, Error};
 use std::alloc::{AllocError, AllocFailed, Global};
@@ -74,6 +77,17 @@ pub enum Source {
     Assembly,
 }
 
+/// What is assembled, and what is written of it.
+#[derive(Clone, Copy, PartialEq, Eq)]
+pub enum Assembling {
+    /// The bytes of an assembly text's program.
+    Text,
+    /// The same of a text that may have names.
+    Names,
+    /// The assembly text for which such a text stands.
+    Plain,
+}
+
 /// What is asked for of a program that is read.
 #[derive(Drop)]
 pub enum ProgramOrder {
@@ -90,8 +104,8 @@ pub enum Answer {
     Report,
     /// The report, and behind it the numbers of the events.
     Numbers,
-    /// Their picture.
-    Picture,
+    /// The picture of these of them.
+    Picture(Stretch),
 }
 
 /// How a history is replayed.
@@ -166,8 +180,8 @@ pub enum InputsOrder {
 /// What the words ask for.
 #[derive(Drop)]
 pub enum Order {
-    /// Write the bytes of the program whose assembly text is read.
-    Assemble,
+    /// Write this of the text that is read.
+    Assemble(Assembling),
     /// Do this with the program that is read, which is written so.
     Program(Source, ProgramOrder),
     /// Replay the history that is read behind a program, which is written so.
@@ -271,6 +285,17 @@ fn program_command<'a>(
     Ok(whole)
 }
 
+/// The command that assembles.
+fn asm_command<'a>(alloc: Global) -> Result<Command<'a>, AllocError>
+    ensures app { IfOk result (λ c. app_of c ≡ asm_line) }
+    ensures local { IfOk result (λ c. (out-Command c).has_globals ≡ false) }
+{
+    let bare = plain_command(alloc, "asm", &ASM);
+    let names = bare.arg(flag_arg(alloc, "names", NAMES_HELP))?;
+    let whole = names.arg(flag_arg(alloc, "plain", PLAIN_HELP))?;
+    Ok(whole)
+}
+
 /// The command that explains a number.
 fn explain_command<'a>(alloc: Global) -> Result<Command<'a>, AllocError>
     ensures app { IfOk result (λ c. app_of c ≡ explain_line) }
@@ -304,7 +329,9 @@ fn run_command<'a>(alloc: Global) -> Result<Command<'a>, AllocError>
     let servers = engines.arg(option_arg(alloc, "servers", SERVERS_HELP))?;
     let workers = servers.arg(option_arg(alloc, "workers", WORKERS_HELP))?;
     let limit = workers.arg(option_arg(alloc, "limit", LIMIT_HELP))?;
-    let trace = limit.arg(flag_arg(alloc, "trace", TRACE_HELP))?;
+    let from = limit.arg(option_arg(alloc, "from", FROM_HELP))?;
+    let to = from.arg(option_arg(alloc, "to", TO_HELP))?;
+    let trace = to.arg(flag_arg(alloc, "trace", TRACE_HELP))?;
     let in_turn = trace.arg(flag_arg(alloc, "in-turn", IN_TURN_HELP))?;
     let stats = in_turn.arg(flag_arg(alloc, "stats", STATS_HELP))?;
     let picture = stats.arg(flag_arg(alloc, "picture", PICTURE_HELP))?;
@@ -337,7 +364,9 @@ fn picture_command<'a>(alloc: Global) -> Result<Command<'a>, AllocError>
     let engines = bare.arg(option_arg(alloc, "engines", ENGINES_HELP))?;
     let servers = engines.arg(option_arg(alloc, "servers", SERVERS_HELP))?;
     let workers = servers.arg(option_arg(alloc, "workers", WORKERS_HELP))?;
-    let text = workers.arg(text_arg(alloc))?;
+    let from = workers.arg(option_arg(alloc, "from", FROM_HELP))?;
+    let to = from.arg(option_arg(alloc, "to", TO_HELP))?;
+    let text = to.arg(text_arg(alloc))?;
     let inputs = text.arg(inputs_arg(alloc))?;
     let whole = inputs.arg(input_arg(alloc))?;
     Ok(whole)
@@ -360,7 +389,8 @@ pub(crate) fn command<'a>(alloc: Global) -> Result<Command<'a>, AllocError>
     ensures { IfOk result (λ c. app_of c ≡ command_line) }
 {
     let bare = bare_command(alloc)?;
-    let assembling = bare.subcommand(plain_command(alloc, "asm", &ASM))?;
+    let assembler = asm_command(alloc)?;
+    let assembling = bare.subcommand(assembler)?;
     let disassembling = program_command(alloc, "disasm", &DISASM)?;
     let both = assembling.subcommand(disassembling)?;
     let checking = program_command(alloc, "check", &CHECK)?;
@@ -456,8 +486,21 @@ fn places_given(matches: &ArgMatches<'_>) -> Places
     }
 }
 
+/// What is assembled, and what is written of it.
+fn assembling_given(matches: &ArgMatches<'_>) -> Assembling
+    ensures { result ≡ assembling_told (rows_of (found_of matches.now)) }
+{
+    if flag_given(matches, "plain") {
+        Assembling::Plain
+    } else if flag_given(matches, "names") {
+        Assembling::Names
+    } else {
+        Assembling::Text
+    }
+}
+
 /// What `replay` writes.
-fn answer_given(matches: &ArgMatches<'_>) -> Answer
+pub(crate) fn answer_given(matches: &ArgMatches<'_>) -> Answer
     ensures { result ≡ answer_told (rows_of (found_of matches.now)) }
 {
     if flag_given(matches, "stats") {
@@ -465,22 +508,6 @@ fn answer_given(matches: &ArgMatches<'_>) -> Answer
     } else {
         Answer::Report
     }
-}
-
-/// What `run` writes; none where a picture isn't written alone.
-pub(crate) fn run_answer_given(matches: &ArgMatches<'_>) -> Option<Answer>
-    ensures { MatchOption result
-        (picture_faults (rows_of (found_of matches.now)) ≡ ArgumentConflict ∷ [])
-        (λ answer. (picture_faults (rows_of (found_of matches.now)) ≡ [])
-        × (answer ≡ run_answer_told (rows_of (found_of matches.now)))) }
-{
-    if !flag_given(matches, "picture") {
-        return Some(answer_given(matches));
-    }
-    if flag_given(matches, "trace") || flag_given(matches, "stats") {
-        return None;
-    }
-    Some(Answer::Picture)
 }
 
 /// The inputs that words spell, one each; or `NoOrder::InputWord`, or want of memory.
@@ -536,6 +563,27 @@ fn inputs_given(alloc: Global, matches: &ArgMatches<'_>) -> Result<Option<Items<
     Ok(None)
 }
 
+/// How a program is run, by what was found behind `run`.
+fn run_options(matches: &ArgMatches<'_>) -> Option<RunOptions>
+    ensures { MatchOption result
+        (HasReason (run_faults (rows_of (found_of matches.now))) (run_asked (rows_of (found_of matches.now))) Refused)
+        (IsRunBy (rows_of (found_of matches.now))) }
+{
+    let layout = layout_given(matches)?;
+    let limit = limit_given(matches)?;
+    let stretch = stretch_given(matches)?;
+    let Ok(answer) = run_answer_told(matches, stretch) else {
+        return None;
+    };
+    Some(RunOptions {
+        answer,
+        layout,
+        limit,
+        trace: flag_given(matches, "trace"),
+        in_turn: flag_given(matches, "in-turn"),
+    })
+}
+
 /// The order to run, by what was found behind `run`.
 fn run_order(alloc: Global, matches: &ArgMatches<'_>) -> Result<Order, NoOrder>
     ensures taken { IfOk result (λ order. (run_faults (rows_of (found_of matches.now)) ≡ [])
@@ -543,21 +591,8 @@ fn run_order(alloc: Global, matches: &ArgMatches<'_>) -> Result<Order, NoOrder>
     ensures refused { IfErr result
         (HasReason (run_faults (rows_of (found_of matches.now))) (run_asked (rows_of (found_of matches.now)))) }
 {
-    let Some(layout) = layout_given(matches) else {
+    let Some(options) = run_options(matches) else {
         return Err(NoOrder::Refused);
-    };
-    let Some(limit) = limit_given(matches) else {
-        return Err(NoOrder::Refused);
-    };
-    let Some(answer) = run_answer_given(matches) else {
-        return Err(NoOrder::Refused);
-    };
-    let options = RunOptions {
-        answer,
-        layout,
-        limit,
-        trace: flag_given(matches, "trace"),
-        in_turn: flag_given(matches, "in-turn"),
     };
     match inputs_given(alloc, matches)? {
         Some(inputs) => Ok(Order::Program(
@@ -583,6 +618,23 @@ fn replay_order(alloc: Global, answer: Answer, matches: &ArgMatches<'_>) -> Resu
         Some(inputs) => Ok(Order::Replay(source_given(matches), options.with_inputs(inputs))),
         None => Ok(Order::Inputs(source_given(matches), InputsOrder::ToReplay(options))),
     }
+}
+
+/// The order to draw a history, by what was found behind `picture`.
+fn picture_order(alloc: Global, matches: &ArgMatches<'_>) -> Result<Order, NoOrder>
+    ensures taken { IfOk result (λ order. (drawing_faults (rows_of (found_of matches.now)) ≡ [])
+        × IsAsked (replay_asked (Answers.Picture (stretch_told (rows_of (found_of matches.now)))) (rows_of (found_of matches.now))) order) }
+    ensures refused { IfErr result
+        (HasReason (drawing_faults (rows_of (found_of matches.now)))
+        (replay_asked (Answers.Picture (stretch_told (rows_of (found_of matches.now)))) (rows_of (found_of matches.now)))) }
+{
+    let Some(stretch) = stretch_given(matches) else {
+        return Err(NoOrder::Refused);
+    };
+    if stretch.is_reversed() {
+        return Err(NoOrder::Refused);
+    }
+    replay_order(alloc, Answer::Picture(stretch), matches)
 }
 
 fn explanation_of(alloc: Global, word: &str) -> NoOrder
@@ -630,8 +682,8 @@ pub(crate) fn order_of(alloc: Global, matches: &ArgMatches<'_>) -> Result<Order,
     match matches.subcommand() {
         Some(("run", given)) => run_order(alloc, given),
         Some(("replay", given)) => replay_order(alloc, answer_given(given), given),
-        Some(("picture", given)) => replay_order(alloc, Answer::Picture, given),
-        Some(("asm", _)) => Ok(Order::Assemble),
+        Some(("picture", given)) => picture_order(alloc, given),
+        Some(("asm", given)) => Ok(Order::Assemble(assembling_given(given))),
         Some(("disasm", given)) => Ok(Order::Program(
             source_given(given),
             ProgramOrder::Disassemble(places_given(given)),

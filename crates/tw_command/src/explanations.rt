@@ -3,23 +3,24 @@
 ghost use Rattle.std.specs.Prelude.{◌≡◌, ◌++◌, codes, is_some, IfOk, IfSome, OnOk};
 ghost use Rattle.std.specs.List.{find, list_any};
 ghost use Rattle.std.specs.Str.{bytes_eq};
-ghost use Rattle.tw_command.specs.Explanations.{IsExplanation, assembly_numbers, byte_numbers, is_among, is_number, session_numbers, trap_numbers, verifier_numbers};
+ghost use Rattle.tw_command.specs.Explanations.{IsExplanation, assembly_numbers, byte_numbers, is_among, is_number, name_numbers, session_numbers, trap_numbers, verifier_numbers};
 
+use crate::explained_names::NAMES;
 use std::alloc::{AllocError, Global};
 use tw_words::put;
 
 /// What is told of a number.
 #[derive(Clone, Copy)]
-struct Explanation {
-    number: &'static str,
+pub(crate) struct Explanation {
+    pub number: &'static str,
     /// What it means.
-    meaning: &'static str,
+    pub meaning: &'static str,
     /// What was asked there.
-    asked: &'static str,
+    pub asked: &'static str,
     /// The usual mistake.
-    mistake: &'static str,
+    pub mistake: &'static str,
     /// How that is mended.
-    mending: &'static str,
+    pub mending: &'static str,
 }
 
 /// Of what is read, of openings, histories and runs.
@@ -93,12 +94,12 @@ const ASSEMBLY: [Explanation; 7] = [
     Explanation { number: "A01",
         meaning: "a line's first word isn't known, or can't stand there",
         asked: "`version 2` or `proc` first, `regs` next behind each `proc`, and then labels, instructions or the next `proc`",
-        mistake: "an instruction in small letters or of version 2 in a text without that line, a comment behind # or //, no `regs` line, or a byte order mark before the first word",
+        mistake: "an instruction in small letters or of version 2 in a text without that line, a comment behind # or //, no `regs` line, `const` or `let` in a text whose first line isn't `names`, `names` where `tw asm` is without --names, or a byte order mark before the first word",
         mending: "write instructions in capitals, `version 2` first, comments behind ; and a `regs` line behind each `proc`; save the file without a byte order mark" },
     Explanation { number: "A02",
         meaning: "an operand has another form than asked, or there are too few or too many",
         asked: "operands of their forms and in their order: v0, d0, a number, a quoted text, a type, a label or +n",
-        mistake: "no skip behind ADD or LOOK, a constant where a register stands, d2 among RULE's arguments in place of 2, no priority, a comma, a register of the other bank, \\t in a text or a quote that isn't closed, an instruction behind its label, a no-break space, or tcont without `version 2`",
+        mistake: "no skip behind ADD or LOOK, a constant where a register stands, d2 among RULE's arguments in place of 2, no priority, a comma, a register of the other bank, \\t in a text or a quote that isn't closed, an instruction behind its label, a no-break space, tcont without `version 2`, or names in a text whose first line isn't `names`",
         mending: "with --text the word is told, and what was expected there; take the operands from the table of instructions: +0 as a skip goes on behind the instruction, INT puts a constant into a register" },
     Explanation { number: "A03",
         meaning: "the procedure has no label of this name",
@@ -383,6 +384,13 @@ fn assembly_row(word: &str) -> Option<Explanation>
     found(&ASSEMBLY, word)
 }
 
+fn name_row(word: &str) -> Option<Explanation>
+    ensures known { is_some result ≡ is_among name_numbers word.now }
+    ensures number { IfSome result (λ row. row.number.now ≡ word.now) }
+{
+    found(&NAMES, word)
+}
+
 fn bytes_row(word: &str) -> Option<Explanation>
     ensures known { is_some result ≡ is_among byte_numbers word.now }
     ensures number { IfSome result (λ row. row.number.now ≡ word.now) }
@@ -411,6 +419,7 @@ fn row_of(word: &str) -> Option<Explanation>
 {
     session_row(word)
         .or(assembly_row(word))
+        .or(name_row(word))
         .or(bytes_row(word))
         .or(verifier_row(word))
         .or(trap_row(word))

@@ -17,13 +17,15 @@ pub(crate) const ASM: CommandHelp<'static> = CommandHelp {
     about: "Turns assembly text into hex text of a program",
     whole: "The text is read from standard input. What is written is the program as hex text, two digits a byte, in one line: what the
 other commands read. A text that spells no program is refused with the number and the line of its first fault.
+With --names the text may have names: its first line with a word is `names` then, and behind a refusal stands why.
+With --plain the assembly text is written for which such a text stands, line by line.
 Exit status: 0 assembled, 1 refused, 2 command line refused, 5 memory ran out, 7 a read or write failed.",
 };
 
 pub(crate) const DISASM: CommandHelp<'static> = CommandHelp {
     about: "Writes a program as assembly text",
     whole: "The program is read from standard input as hex text: two digits a byte; spaces, tabs and line ends are skipped.
-With --text it is read as assembly text, as `tw asm` reads it.
+With --text it is read as assembly text, as `tw asm --names` reads it.
 It need not be one that is accepted. `tw asm` makes the same program of what is written.
 With --places a line `procedure` and its number stands before each procedure, and its place before each instruction;
 `tw asm` doesn't read that.
@@ -33,7 +35,7 @@ Exit status: 0 written, 1 refused, 2 command line refused, 5 memory ran out, 7 a
 pub(crate) const CHECK: CommandHelp<'static> = CommandHelp {
     about: "Verifies a program and tells its budgets",
     whole: "The program is read from standard input as hex text: two digits a byte; spaces, tabs and line ends are skipped.
-With --text it is read as assembly text, as `tw asm` reads it; behind a refusal then stand the line of the text that is
+With --text it is read as assembly text, as `tw asm --names` reads it; behind a refusal then stand the line of the text that is
 refused, as `at line 17: STORE d0 v0`, and why: the word, what was expected and what stood there, or the register, what it
 holds and what was asked.
 Where it is accepted, a line for each procedure tells how many instructions a task of it does at most, and a last
@@ -47,7 +49,7 @@ Exit status: 0 accepted, 1 refused, 2 command line refused, 5 memory ran out, 7 
 pub(crate) const RUN: CommandHelp<'static> = CommandHelp {
     about: "Runs a program and reports its outputs",
     whole: "The program is read from standard input as hex text: two digits a byte; spaces, tabs and line ends are skipped.
-With --text it is read as assembly text, as `tw asm` reads it; behind a refusal then stand the line of the text that is
+With --text it is read as assembly text, as `tw asm --names` reads it; behind a refusal then stand the line of the text that is
 refused, as `at line 17: STORE d0 v0`, and why: the word, what was expected and what stood there, or the register, what it
 holds and what was asked; or how many inputs are asked, or which one isn't what its parameter asks. Behind a circle of rules
 that wait for one another stand the lines that made them.
@@ -66,7 +68,8 @@ given the same inputs and as many engines, servers and workers.
 Each engine, server and worker is a thread. With --in-turn there is one thread, in which they have their turns one after the
 other, in this order, again and again: the same command makes the same history each time.
 With --stats the numbers of the events stand behind the report, as `tw replay --stats` writes them. With --picture their SVG
-picture, as `tw picture` draws it, stands in place of the report; neither --trace nor --stats is taken then.
+picture, as `tw picture` draws it, stands in place of the report; neither --trace nor --stats is taken then. --from and --to
+are taken with --picture alone: the picture shows the events from one number to the other, which count from 1.
 Exit status: 0 quiet, 1 refused, 2 command line or input word refused, 3 stuck, 4 event limit, 5 memory ran out,
 7 a read or write failed.",
 };
@@ -96,14 +99,17 @@ opened in a browser: a lane for each actor, with the events from left to right b
 which shows its line where the pointer rests on it; a bar for each task from its `take` to its `end`; a line from the
 event that made a task to its `take`; and above how the run ended. Where it is stuck in a circle of rules, the circle
 stands below: a box for each rule, and an arrow with the datum that it waits for to the rule that may write it.
+With --from and --to it shows the events from one number to the other, and says above of how many. They count from 1, as those of
+`not enabled at event 3`; past the last event there are none. Bars and lines that begin before them or end behind them stand out
+to the left or to the right.
 Exit status: 0 quiet or still running, 1 refused or an event that isn't enabled, 2 command line or input word refused,
 3 stuck, 5 memory ran out, 6 trap, 7 a read or write failed.",
 };
 
 pub(crate) const EXPLAIN: CommandHelp<'static> = CommandHelp {
     about: "Tells what the number of a refusal or a trap means",
-    whole: "A number is what a line of another command names: H01 to H03, A01 to A07, F01 to F09, V01 to V18, O01 to O06, L01, E01, X01
-or C1 to C15. What is written says what it means, what was asked, the usual mistake and how that is mended.
+    whole: "A number is what a line of another command names: H01 to H03, A01 to A07, N01 to N07, F01 to F09, V01 to V18, O01 to O06, L01,
+E01, X01 or C1 to C15. What is written says what it means, what was asked, the usual mistake and how that is mended.
 Exit status: 0 told, 2 command line refused or no such number, 5 memory ran out, 7 a write failed.",
 };
 
@@ -130,9 +136,22 @@ pub(crate) const INPUTS_HELP: &str =
 pub(crate) const STATS_HELP: &str =
     "Write the numbers of the events behind the report: by kind, procedure and actor, and the longest chain";
 
+pub(crate) const FROM_HELP: &str =
+    "The number of the first event that the picture shows: 1 to 4294967295 (default: 1)";
+
+pub(crate) const TO_HELP: &str =
+    "The number of the last event that the picture shows: 1 to 4294967295 (default: that of the last)";
+
 pub(crate) const PICTURE_HELP: &str = "Write the SVG picture of the events in place of the report";
 
-pub(crate) const TEXT_HELP: &str = "Read the program as assembly text, and not as hex text";
+pub(crate) const TEXT_HELP: &str =
+    "Read the program as assembly text, with names or without, and not as hex text";
+
+pub(crate) const NAMES_HELP: &str =
+    "Read a text with names, whose first line with a word is `names`, or one without";
+
+pub(crate) const PLAIN_HELP: &str =
+    "Write the assembly text for which a text with names stands, and not the bytes";
 
 pub(crate) const PLACES_HELP: &str = "List the instructions, each with its place";
 

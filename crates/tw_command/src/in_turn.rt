@@ -50,7 +50,7 @@ impl Order {
         ensures { result ≡ order_in_turn self }
     {
         match self {
-            Order::Assemble => Order::Assemble,
+            Order::Assemble(what) => Order::Assemble(what),
             Order::Program(source, order) => Order::Program(source, order.in_turn()),
             Order::Replay(source, order) => Order::Replay(source, order),
             Order::Inputs(source, order) => Order::Inputs(source, order.in_turn()),

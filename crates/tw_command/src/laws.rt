@@ -5,14 +5,18 @@ ghost use Rattle.clap.specs.declared.error.ErrorKind.TheVariants.{ArgumentConfli
 ghost use Rattle.clap.specs.declared.error.ErrorKind.TheVariants.{InvalidValue, MissingRequiredArgument, TooManyValues, UnknownArgument, ValueValidation};
 ghost use Rattle.tw_command.specs.CommandLine.{Assembles, Checks, Disassembles, Explains, Replays, Runs, asked_by_words, word_faults};
 ghost use Rattle.tw_command.specs.declared.command.Answer.TheVariants.{Numbers, Picture, Report};
+ghost use Rattle.tw_command.specs.declared.command.Assembling.TheVariants.{Names, Plain, Text};
 ghost use Rattle.tw_command.specs.declared.command.Places.TheVariants.{Hidden, Shown};
 ghost use Rattle.tw_command.specs.declared.command.Source.TheVariants.{Assembly, Hex};
-ghost use Rattle.tw_command.specs.Options.{actors};
+ghost use Rattle.tw_command.specs.Options.{actors, stretch};
 ghost use Rattle.tw_command.specs.InputWords.{OneInput, OneRefusedWord};
 
 /// Each command is taken, and asks for what its name says, with the options and words behind it.
 pub fn commands_are_taken()
-    ensures asm { (word_faults (codes "asm" ∷ []) ≡ []) × (asked_by_words (codes "asm" ∷ []) ≡ Assembles) }
+    ensures asm { (word_faults (codes "asm" ∷ []) ≡ []) × (asked_by_words (codes "asm" ∷ []) ≡ Assembles Text) }
+    ensures names { (word_faults (codes "asm" ∷ codes "--names" ∷ []) ≡ []) × (asked_by_words (codes "asm" ∷ codes "--names" ∷ []) ≡ Assembles Names) }
+    ensures plain { (word_faults (codes "asm" ∷ codes "--names" ∷ codes "--plain" ∷ []) ≡ [])
+        × (asked_by_words (codes "asm" ∷ codes "--names" ∷ codes "--plain" ∷ []) ≡ Assembles Plain) }
     ensures disasm { (word_faults (codes "disasm" ∷ []) ≡ []) × (asked_by_words (codes "disasm" ∷ []) ≡ Disassembles Hex Hidden) }
     ensures check { (word_faults (codes "check" ∷ []) ≡ []) × (asked_by_words (codes "check" ∷ []) ≡ Checks Hex Hidden) }
     ensures run { (word_faults (codes "run" ∷ []) ≡ [])
@@ -41,7 +45,10 @@ pub fn commands_are_taken()
     ensures run_stats { (word_faults (codes "run" ∷ codes "--stats" ∷ codes "--trace" ∷ []) ≡ [])
         × (asked_by_words (codes "run" ∷ codes "--stats" ∷ codes "--trace" ∷ []) ≡ Runs Hex Numbers (actors 1 1 1) 10000 true false (Some [])) }
     ensures run_picture { (word_faults (codes "run" ∷ codes "--picture" ∷ codes "--in-turn" ∷ []) ≡ [])
-        × (asked_by_words (codes "run" ∷ codes "--picture" ∷ codes "--in-turn" ∷ []) ≡ Runs Hex Picture (actors 1 1 1) 10000 false true (Some [])) }
+        × (asked_by_words (codes "run" ∷ codes "--picture" ∷ codes "--in-turn" ∷ []) ≡ Runs Hex (Picture (stretch 1 4294967295)) (actors 1 1 1) 10000 false true (Some [])) }
+    ensures run_stretch { (word_faults (codes "run" ∷ codes "--from=5" ∷ codes "--picture" ∷ codes "--to" ∷ codes "9" ∷ []) ≡ [])
+        × (asked_by_words (codes "run" ∷ codes "--from=5" ∷ codes "--picture" ∷ codes "--to" ∷ codes "9" ∷ [])
+        ≡ Runs Hex (Picture (stretch 5 9)) (actors 1 1 1) 10000 false false (Some [])) }
     ensures last { (word_faults (codes "run" ∷ codes "int:7" ∷ codes "--limit" ∷ codes "100" ∷ codes "--trace" ∷ []) ≡ [])
         × (asked_by_words (codes "run" ∷ codes "int:7" ∷ codes "--limit" ∷ codes "100" ∷ codes "--trace" ∷ [])
         ≡ Runs Hex Report (actors 1 1 1) 100 true false (Some (codes "int:7" ∷ []))) }
@@ -50,7 +57,10 @@ pub fn commands_are_taken()
         ≡ Replays Hex Report (actors 1 1 2) (Some (codes "int:7" ∷ []))) }
     ensures picture { (word_faults (codes "picture" ∷ codes "--workers" ∷ codes "2" ∷ codes "int:7" ∷ []) ≡ [])
         × (asked_by_words (codes "picture" ∷ codes "--workers" ∷ codes "2" ∷ codes "int:7" ∷ [])
-        ≡ Replays Hex Picture (actors 1 1 2) (Some (codes "int:7" ∷ []))) }
+        ≡ Replays Hex (Picture (stretch 1 4294967295)) (actors 1 1 2) (Some (codes "int:7" ∷ []))) }
+    ensures picture_stretch { (word_faults (codes "picture" ∷ codes "--from" ∷ codes "3" ∷ codes "--to=3" ∷ []) ≡ [])
+        × (asked_by_words (codes "picture" ∷ codes "--from" ∷ codes "3" ∷ codes "--to=3" ∷ [])
+        ≡ Replays Hex (Picture (stretch 3 3)) (actors 1 1 1) (Some [])) }
     ensures text { (word_faults (codes "check" ∷ codes "--text" ∷ []) ≡ [])
         × (asked_by_words (codes "check" ∷ codes "--text" ∷ []) ≡ Checks Assembly Hidden) }
     ensures places { (word_faults (codes "check" ∷ codes "--places" ∷ codes "--text" ∷ []) ≡ [])
@@ -92,6 +102,13 @@ pub fn strangers_are_refused()
     ensures picture_stats { word_faults (codes "picture" ∷ codes "--stats" ∷ []) ≡ UnknownArgument ∷ [] }
     ensures traced_picture { word_faults (codes "run" ∷ codes "--picture" ∷ codes "--trace" ∷ []) ≡ ArgumentConflict ∷ [] }
     ensures counted_picture { word_faults (codes "run" ∷ codes "--stats" ∷ codes "--picture" ∷ []) ≡ ArgumentConflict ∷ [] }
+    ensures stretch_alone { word_faults (codes "run" ∷ codes "--from" ∷ codes "1" ∷ []) ≡ ArgumentConflict ∷ [] }
+    ensures end_alone { word_faults (codes "run" ∷ codes "--to" ∷ codes "9" ∷ codes "--stats" ∷ []) ≡ ArgumentConflict ∷ [] }
+    ensures reversed { word_faults (codes "picture" ∷ codes "--from" ∷ codes "5" ∷ codes "--to" ∷ codes "4" ∷ []) ≡ ArgumentConflict ∷ [] }
+    ensures run_reversed { word_faults (codes "run" ∷ codes "--picture" ∷ codes "--to=1" ∷ codes "--from=2" ∷ []) ≡ ArgumentConflict ∷ [] }
+    ensures no_event { word_faults (codes "picture" ∷ codes "--from" ∷ codes "0" ∷ []) ≡ ValueValidation ∷ [] }
+    ensures past_event { word_faults (codes "run" ∷ codes "--picture" ∷ codes "--to" ∷ codes "4294967296" ∷ []) ≡ ValueValidation ∷ [] }
+    ensures replay_stretch { word_faults (codes "replay" ∷ codes "--from" ∷ codes "1" ∷ []) ≡ UnknownArgument ∷ [] }
     ensures places { word_faults (codes "run" ∷ codes "--places" ∷ []) ≡ UnknownArgument ∷ [] }
     ensures traces { word_faults (codes "run" ∷ codes "--trace" ∷ codes "--trace" ∷ []) ≡ ArgumentConflict ∷ [] }
     ensures value { word_faults (codes "run" ∷ codes "--trace=true" ∷ []) ≡ TooManyValues ∷ [] }

@@ -4,6 +4,7 @@
 #![tactic(auto)]
 
 mod command;
+mod explained_names;
 mod explanations;
 mod help;
 mod in_turn;
@@ -11,13 +12,15 @@ mod input_words;
 mod laws;
 mod limit;
 mod lists;
+mod shown;
 mod wrong_words;
 
 pub use command::{
-    Answer, InputsOrder, NoOrder, Order, Places, ProgramOrder, ReplayOptions, ReplayOrder,
-    RunOptions, RunOrder, Source, VerifiedOrder, inputs_of, read_order,
+    Answer, Assembling, InputsOrder, NoOrder, Order, Places, ProgramOrder, ReplayOptions,
+    ReplayOrder, RunOptions, RunOrder, Source, VerifiedOrder, inputs_of, read_order,
 };
 pub use input_words::input_of;
 pub use laws::{commands_are_taken, strangers_are_refused, words_spell_one_input};
 pub use limit::EventLimit;
+pub use shown::Stretch;
 pub use wrong_words::complaint;

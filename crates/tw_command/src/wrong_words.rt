@@ -6,9 +6,8 @@ ghost use Rattle.tw_command.specs.CommandLine.{Asked, word_faults};
 ghost use Rattle.tw_command.specs.Complaint.{HasComplaint};
 ghost use Rattle.tw_command.specs.Order.{HasReason};
 
-use crate::command::{
-    NoOrder, command, flag_given, number_given, order_of, reason_of, run_answer_given,
-};
+use crate::command::{NoOrder, command, flag_given, number_given, order_of, reason_of};
+use crate::shown::{Conflict, run_answer_told, stretch_given};
 use clap::ArgMatches;
 use std::alloc::{AllocError, Global};
 
@@ -22,16 +21,37 @@ fn range_line(given: &ArgMatches<'_>) -> Option<&'static str> {
         Some("error: --workers takes a number from 1 to 16\n")
     } else if number_given(given, "limit", 1_000_000, 10_000).is_none() {
         Some("error: --limit takes a number from 1 to 1000000\n")
+    } else if stretch_given(given).is_none() {
+        Some("error: --from and --to take numbers from 1 to 4294967295\n")
     } else {
         None
     }
 }
 
+fn conflict_line(conflict: Conflict) -> &'static str {
+    match conflict {
+        Conflict::PictureWithMore => "error: --picture stands without --trace and --stats\n",
+        Conflict::StretchAlone => "error: --from and --to stand with --picture\n",
+        Conflict::Reversed => "error: --to takes no number before that of --from\n",
+    }
+}
+
+/// Which options can't stand together behind a command, if any can't.
+fn conflict_of(command: &str, given: &ArgMatches<'_>) -> Option<Conflict> {
+    let stretch = stretch_given(given)?;
+    match command {
+        "picture" if stretch.is_reversed() => Some(Conflict::Reversed),
+        "picture" => None,
+        _ => run_answer_told(given, stretch).err(),
+    }
+}
+
 /// What is wrong besides behind a command that clap takes.
-fn other_line(given: &ArgMatches<'_>) -> &'static str {
-    if run_answer_given(given).is_none() {
-        "error: --picture stands without --trace and --stats\n"
-    } else if flag_given(given, "inputs") {
+fn other_line(command: &str, given: &ArgMatches<'_>) -> &'static str {
+    if let Some(conflict) = conflict_of(command, given) {
+        return conflict_line(conflict);
+    }
+    if flag_given(given, "inputs") {
         "error: with --inputs all inputs stand in what is read, and none is a word\n"
     } else {
         "error: there is no such number; it is one as A02, V04 or C5\n"
@@ -40,7 +60,7 @@ fn other_line(given: &ArgMatches<'_>) -> &'static str {
 
 fn own_line(matches: &ArgMatches<'_>) -> &'static str {
     match matches.subcommand() {
-        Some((_, given)) => range_line(given).unwrap_or(other_line(given)),
+        Some((name, given)) => range_line(given).unwrap_or(other_line(name, given)),
         None => "error: there is no command\n",
     }
 }

@@ -13,7 +13,7 @@ use Rattle.tw_picture.specs.declared.drawing.Drawing.{Drawing}
 use Rattle.tw_picture.specs.declared.drawing.Mark.{Mark}
 use Rattle.tw_picture.specs.declared.places.Settings.{Settings}
 use Rattle.tw_picture.specs.declared.places.View.{View}
-use Rattle.tw_picture.specs.Places.{across, bottom, column_count, is_coarse, lane_count, view_of}
+use Rattle.tw_picture.specs.Places.{across, bottom, column_count, is_coarse, lane_count, shows_none, view_of}
 use Rattle.tw_picture.specs.Shapes.{bar_shape, column, fixed, labelled, lane, mark_shape, number, rectangle, thread_shape, tick_of, wait_shape}
 use Rattle.tw_picture.specs.Xml.{Forest, Nothing, Element, all, below, joined, plain, with_words, word_text}
 
@@ -52,8 +52,14 @@ meaning = with_words name.Text (labelled word.Label 240 22) (codes "how many of 
 abbrev pub key_of : View → Forest
 key_of v = if is_coarse v then meaning else kinds
 
+abbrev pub some_text : View → ℕ → List ℕ
+some_text v events = codes "events " ++ (decimal v.first ++ (codes " to " ++ (decimal v.last ++ (codes " of " ++ decimal events))))
+
+abbrev pub none_text : ℕ → List ℕ
+none_text events = codes "none of " ++ (decimal events ++ codes " events")
+
 abbrev pub shown_text : View → ℕ → List ℕ
-shown_text v events = codes "events " ++ (decimal v.first ++ (codes " to " ++ (decimal v.last ++ (codes " of " ++ decimal events))))
+shown_text v events = if shows_none v then none_text events else some_text v events
 
 abbrev pub shown_line : View → ℕ → Forest
 shown_line v events = with_words name.Text (labelled word.Number 10 42) (shown_text v events)

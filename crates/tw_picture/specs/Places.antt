@@ -1,5 +1,5 @@
 -- What of a history is drawn, and where it stands in the picture, in units from its upper left corner.
-use Rattle.std.specs.Prelude.{◌+◌, ◌-◌, ◌*◌, ◌/◌, ◌&&◌, ℕ, Bool, List, [], ◌∷◌, max, min, nat_le, nat_lt, if◌then◌else◌}
+use Rattle.std.specs.Prelude.{◌+◌, ◌-◌, ◌*◌, ◌/◌, ◌&&◌, ℕ, Bool, List, [], ◌∷◌, Option, Some, None, max, min, nat_le, nat_lt, if◌then◌else◌}
 use Rattle.tw_types.specs.declared.actor.Actor.{Actor}
 use Rattle.tw_types.specs.declared.actor.Actor.TheVariants.{Engine, Server, Worker}
 use Rattle.tw_types.specs.Layout.{ActorCounts}
@@ -8,9 +8,9 @@ use Rattle.tw_picture.specs.declared.places.View.{View}
 
 -- ---- what is shown
 
--- all events, 4,000 units wide at most
-abbrev pub whole : Settings
-whole = record { from = 1; to = 4294967295; width = 4000 }
+-- the events from one number to another, 4,000 units wide at most
+abbrev pub between : ℕ → ℕ → Settings
+between from to = record { from = from; to = to; width = 4000 }
 
 -- of the events those that are asked for, and the units for them between the margins
 abbrev pub view_of : Settings → ℕ → View
@@ -18,6 +18,9 @@ view_of settings events = record { first = max settings.from 1; last = min setti
 
 abbrev pub is_shown : View → ℕ → Bool
 is_shown v number = nat_le v.first number && nat_le number v.last
+
+abbrev pub shows_none : View → Bool
+shows_none v = nat_lt v.last v.first
 
 -- how many
 abbrev pub shown : View → ℕ
@@ -36,6 +39,15 @@ span v = min v.most (max (min (48 * shown v) 1440) (16 * shown v))
 -- where the event of a number begins; what comes before the first begins where that does
 abbrev pub across : View → ℕ → ℕ
 across v number = 90 + (number - v.first) * span v / max (shown v) 1
+
+-- where what began with this event begins: ten units before all events, if that isn't shown
+abbrev pub left_of : View → ℕ → ℕ
+left_of v number = if nat_lt number v.first then 80 else across v number
+
+-- where what ends with this event ends: ten units behind all events, if that isn't shown; at the last of them, if nothing has ended it
+abbrev pub right_of : View → Option ℕ → ℕ
+right_of v None = across v (v.last + 1)
+right_of v (Some number) = if nat_lt v.last number then across v (v.last + 1) + 10 else across v (number + 1)
 
 -- the units for one event
 abbrev pub room : View → ℕ

@@ -1,5 +1,5 @@
 -- What is drawn of an actor, of an event, of a task, of what led to a task, and of a rule that waits.
-use Rattle.std.specs.Prelude.{◌+◌, ◌-◌, ◌*◌, ◌/◌, ◌%◌, ◌==◌, ◌&&◌, ℕ, Bool, List, [], ◌∷◌, ◌++◌, codes, decimal, drop, filter, length, max, min, nat_le, nat_lt, take, Option, Some, None, if◌then◌else◌}
+use Rattle.std.specs.Prelude.{◌+◌, ◌-◌, ◌*◌, ◌/◌, ◌%◌, ◌==◌, ◌&&◌, ◌||◌, ℕ, Bool, List, [], ◌∷◌, ◌++◌, codes, decimal, drop, filter, length, max, min, nat_le, nat_lt, take, Option, Some, None, if◌then◌else◌}
 use Rattle.tw_types.specs.declared.actor.Actor.{Actor}
 use Rattle.tw_types.specs.declared.actor.Actor.TheVariants.{Engine, Server, Worker}
 use Rattle.tw_types.specs.declared.event.Event.{Event}
@@ -21,7 +21,7 @@ use Rattle.tw_picture.specs.declared.drawing.Mark.{Mark}
 use Rattle.tw_picture.specs.declared.drawing.Thread.{Thread}
 use Rattle.tw_picture.specs.declared.drawing.Wait.{Wait}
 use Rattle.tw_picture.specs.declared.places.View.{View}
-use Rattle.tw_picture.specs.Places.{across, bottom, column_start, is_coarse, is_shown, is_wide, lane_of, lane_top, line_step, mark_inset, mark_width, tick_step}
+use Rattle.tw_picture.specs.Places.{across, bottom, column_start, is_coarse, is_shown, is_wide, lane_of, lane_top, left_of, line_step, mark_inset, mark_width, right_of, tick_step}
 use Rattle.tw_picture.specs.Xml.{Forest, Nothing, below, joined, plain, titled, with_words}
 
 -- ---- rows of attributes
@@ -117,9 +117,9 @@ abbrev pub end_in : View → Option ℕ → ℕ
 end_in v None = v.last
 end_in v (Some to) = min to v.last
 
--- from the beginning of its first event to the end of its last, as far as they are shown
+-- from the beginning of its first event to the end of its last, or a little past the events that are shown
 abbrev pub bar_width : View → Bar → ℕ
-bar_width v b = across v (end_in v b.to + 1) - across v b.from
+bar_width v b = right_of v b.to - left_of v b.from
 
 -- some of its events are shown; and where these are too many for a mark each, it is long
 abbrev pub has_bar : View → Bar → Bool
@@ -131,7 +131,7 @@ bar_class (Some to) = word.Bar
 
 -- from its Take to its End
 abbrev pub bar_box : ActorCounts → View → Bar → Forest
-bar_box layout v b = titled name.Rectangle (rectangle (bar_class b.to) (across v b.from) (lane_top layout b.actor + 16) (bar_width v b) 18) (bar_title b)
+bar_box layout v b = titled name.Rectangle (rectangle (bar_class b.to) (left_of v b.from) (lane_top layout b.actor + 16) (bar_width v b) 18) (bar_title b)
 
 -- its task and its procedure, or its procedure, or nothing: seven units for a letter
 abbrev pub label_text : Bar → ℕ → List ℕ
@@ -143,7 +143,7 @@ label_text b width =
 abbrev pub bar_label : ActorCounts → View → Bar → Forest
 bar_label layout v b =
     let text = label_text b (bar_width v b) in
-    if length text == 0 then Nothing else with_words name.Text (labelled word.Label (across v b.from + 1) (lane_top layout b.actor + 12)) text
+    if length text == 0 then Nothing else with_words name.Text (labelled word.Label (left_of v b.from + 1) (lane_top layout b.actor + 12)) text
 
 abbrev pub bar_parts : ActorCounts → View → Bar → Forest
 bar_parts layout v b = joined (bar_box layout v b) (bar_label layout v b)
@@ -156,19 +156,27 @@ bar_shape layout v b = if has_bar v b then bar_parts layout v b else Nothing
 abbrev pub thread_title : Thread → List ℕ
 thread_title t = codes "task " ++ (decimal t.task ++ (codes ", made at event " ++ (decimal t.from.number ++ (codes ", taken at event " ++ decimal t.to.number))))
 
--- from the mark of the event that made the task to just above the beginning of its bar
+-- from the mark of the event that made the task, or from the left of all events
+abbrev pub line_start : View → ℕ → ℕ
+line_start v number = if is_shown v number then across v number + mark_inset v else left_of v number
+
+-- to the beginning of its bar, or to the right of all events
+abbrev pub line_end : View → ℕ → ℕ
+line_end v number = if is_shown v number then across v number else right_of v (Some number)
+
+-- to just above that
 abbrev pub thread_way : ActorCounts → View → Thread → Value
 thread_way layout v t =
-    let from : Point = record { x = across v t.from.number + mark_inset v; y = lane_top layout t.from.actor + 25 } in
-    let to : Point = record { x = across v t.to.number; y = lane_top layout t.to.actor + 15 } in
+    let from : Point = record { x = line_start v t.from.number; y = lane_top layout t.from.actor + 25 } in
+    let to : Point = record { x = line_end v t.to.number; y = lane_top layout t.to.actor + 15 } in
     value.Curve from to
 
 abbrev pub thread_box : ActorCounts → View → Thread → Forest
 thread_box layout v t = titled name.Path (way_row (if is_wide v then word.Thread else word.Thin) (thread_way layout v t)) (thread_title t)
 
--- its Take is shown, and is one of those to which a line is drawn
+-- the event that made the task is shown, or its Take is; and it is one of those to which a line is drawn
 abbrev pub has_line : View → Thread → Bool
-has_line v t = is_shown v t.to.number && (t.task % line_step v == 0)
+has_line v t = (is_shown v t.from.number || is_shown v t.to.number) && (t.task % line_step v == 0)
 
 abbrev pub thread_shape : ActorCounts → View → Thread → Forest
 thread_shape layout v t = if has_line v t then thread_box layout v t else Nothing

@@ -113,13 +113,12 @@ fn end_in(view: View, to: Option<u32>) -> u32
     }
 }
 
-/// From the beginning of a bar's first event to the end of its last, as far as they are shown.
+/// From the beginning of a bar's first event to the end of its last, or a little past the events that are shown.
 fn bar_width(view: View, bar: &Bar) -> usize
     ensures { result ≡ bar_width view bar.now }
 {
     let bar = *bar;
-    let behind = view.across(end_in(view, bar.to) as usize + 1);
-    behind.saturating_sub(view.across(bar.from as usize))
+    view.right_of(bar.to).saturating_sub(view.left_of(bar.from))
 }
 
 /// Whether a bar is drawn: it is shown, and where there are too many events for a mark each, it is long.
@@ -155,7 +154,7 @@ fn put_bar_box(
     let top = lane_top(layout, bar.actor) + 16;
     let row = rectangle(
         bar_class(bar),
-        view.across(bar.from as usize),
+        view.left_of(bar.from),
         top,
         bar_width(view, bar),
         18,
@@ -179,7 +178,7 @@ fn put_bar_label(
     }
     let row = labelled(
         Word::Label,
-        view.across(bar.from as usize) + 1,
+        view.left_of(bar.from) + 1,
         lane_top(layout, bar.actor) + 12,
     );
     put_words(alloc, out, Name::Text, &row, &text)

@@ -1,7 +1,7 @@
 //! What stands above the lanes, and how all looks.
 
 ghost use Rattle.std.specs.Prelude.{◌≡◌, ◌++◌, ◌<◌, IfOk, OnOk};
-ghost use Rattle.tw_picture.specs.Picture.{first_kinds, head_row, heading, key_of, kind, kinds, lines, looks, marker, meaning, shown_line, shown_text, tip, tip_row};
+ghost use Rattle.tw_picture.specs.Picture.{first_kinds, head_row, heading, key_of, kind, kinds, lines, looks, marker, meaning, none_text, shown_line, shown_text, some_text, tip, tip_row};
 ghost use Rattle.tw_picture.specs.Xml.{xml_text};
 
 use crate::attributes::{Attribute, Key, Name, Word, fixed, number};
@@ -11,7 +11,7 @@ use crate::elements::{numbered, put_close, put_open, put_plain, put_words};
 use crate::marks::rectangle;
 use crate::places::View;
 use std::alloc::{AllocError, Global};
-use tw_report::put_numbered;
+use tw_report::{put, put_numbered};
 
 fn looks() -> &'static str
     ensures { result.now ≡ looks }
@@ -117,14 +117,32 @@ fn put_key(alloc: Global, out: &mut Vec<u8>, view: View) -> Result<(), AllocErro
     }
 }
 
-/// The events that are shown, of so many.
-fn shown_text(alloc: Global, view: View, events: u32) -> Result<Vec<u8>, AllocError>
-    ensures { IfOk result (λ text. text.items ≡ shown_text view events) }
+fn some_text(alloc: Global, view: View, events: u32) -> Result<Vec<u8>, AllocError>
+    ensures { IfOk result (λ text. text.items ≡ some_text view events) }
 {
     let mut text = numbered(alloc, "events ", u64::from(view.first()))?;
     put_numbered(alloc, &mut text, " to ", view.last() as usize)?;
     put_numbered(alloc, &mut text, " of ", events as usize)?;
     Ok(text)
+}
+
+fn none_text(alloc: Global, events: u32) -> Result<Vec<u8>, AllocError>
+    ensures { IfOk result (λ text. text.items ≡ none_text events) }
+{
+    let mut text = numbered(alloc, "none of ", u64::from(events))?;
+    put(&mut text, " events")?;
+    Ok(text)
+}
+
+/// The events that are shown, of so many.
+fn shown_text(alloc: Global, view: View, events: u32) -> Result<Vec<u8>, AllocError>
+    ensures { IfOk result (λ text. text.items ≡ shown_text view events) }
+{
+    if view.shows_none() {
+        none_text(alloc, events)
+    } else {
+        some_text(alloc, view, events)
+    }
 }
 
 fn put_shown(alloc: Global, out: &mut Vec<u8>, view: View, events: u32) -> Result<(), AllocError>

@@ -1,7 +1,7 @@
 //! What of a history is drawn, and where it stands in the picture, in units from its upper left corner.
 
 ghost use Rattle.std.specs.Prelude.{◌≡◌, ◌<◌, ◌≤◌, ◌*◌, ◌/◌, ◌^◌};
-ghost use Rattle.tw_picture.specs.Places.{across, bottom, column_count, column_start, is_coarse, is_shown, is_wide, lane_count, lane_of, lane_top, least_step, line_step, mark_inset, mark_width, room, shown, span, tick_step, view_of, whole};
+ghost use Rattle.tw_picture.specs.Places.{across, between, bottom, column_count, column_start, is_coarse, is_shown, is_wide, lane_count, lane_of, lane_top, least_step, left_of, line_step, mark_inset, mark_width, right_of, room, shown, shows_none, span, tick_step, view_of};
 
 use tw_types::{Actor, Layout};
 
@@ -17,13 +17,13 @@ pub struct Settings {
 }
 
 impl Settings {
-    /// All events, 4,000 units wide at most.
-    pub fn whole() -> Settings
-        ensures { result ≡ whole }
+    /// The events from one number to another, 4,000 units wide at most.
+    pub fn between(from: u32, to: u32) -> Settings
+        ensures { result ≡ between from to }
     {
         Settings {
-            from: 1,
-            to: u32::MAX,
+            from,
+            to,
             width: 4000,
         }
     }
@@ -86,6 +86,13 @@ impl View {
         self.first <= number && number <= self.last
     }
 
+    /// Whether no event is shown.
+    pub fn shows_none(self) -> bool
+        ensures { result ≡ shows_none self }
+    {
+        self.last < self.first
+    }
+
     /// Whether there are too many events for a mark each.
     pub fn is_coarse(self) -> bool
         ensures { result ≡ is_coarse self }
@@ -111,6 +118,31 @@ impl View {
     {
         let before = number.saturating_sub(self.first as usize);
         90 + scaled(before, self.span(), self.shown().max(1))
+    }
+
+    /// Where what began with an event begins: ten units before all events, if that isn't shown.
+    pub fn left_of(self, number: u32) -> usize
+        ensures value { result ≡ left_of self number }
+        ensures small { result < 2 ^ 50 }
+    {
+        if number < self.first {
+            80
+        } else {
+            self.across(number as usize)
+        }
+    }
+
+    /// Where what ends with an event ends: ten units behind all events, if that isn't shown; at the last of them, if nothing has ended it.
+    pub fn right_of(self, number: Option<u32>) -> usize
+        ensures value { result ≡ right_of self number }
+        ensures small { result < 2 ^ 51 }
+    {
+        let edge = self.across(self.last as usize + 1);
+        match number {
+            None => edge,
+            Some(number) if self.last < number => edge + 10,
+            Some(number) => self.across(number as usize + 1),
+        }
     }
 
     /// The units for one event.

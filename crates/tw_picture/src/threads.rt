@@ -1,7 +1,7 @@
 //! What led to tasks, as it is drawn.
 
 ghost use Rattle.std.specs.Prelude.{◌≡◌, ◌++◌, IfOk, OnOk};
-ghost use Rattle.tw_picture.specs.Shapes.{has_line, thread_box, thread_shape, thread_title, thread_way};
+ghost use Rattle.tw_picture.specs.Shapes.{has_line, line_end, line_start, thread_box, thread_shape, thread_title, thread_way};
 ghost use Rattle.tw_picture.specs.Xml.{all, xml_text};
 
 use crate::attributes::{Name, Point, Value, Word};
@@ -33,16 +33,38 @@ fn thread_title(alloc: Global, thread: &Thread) -> Result<Vec<u8>, AllocError>
     Ok(title)
 }
 
-/// The curve from a mark to just above the beginning of a bar.
+/// The mark of an event, or the left of all events.
+fn line_start(view: View, number: u32) -> usize
+    ensures { result ≡ line_start view number }
+{
+    if view.is_shown(number) {
+        view.across(number as usize) + view.mark_inset()
+    } else {
+        view.left_of(number)
+    }
+}
+
+/// The beginning of an event, or the right of all events.
+fn line_end(view: View, number: u32) -> usize
+    ensures { result ≡ line_end view number }
+{
+    if view.is_shown(number) {
+        view.across(number as usize)
+    } else {
+        view.right_of(Some(number))
+    }
+}
+
+/// The curve from where a task was made to just above the beginning of its bar.
 fn thread_way(layout: Layout, view: View, thread: &Thread) -> Value
     ensures { result ≡ thread_way layout view thread.now }
 {
     let from = Point {
-        x: view.across(thread.from.number as usize) + view.mark_inset(),
+        x: line_start(view, thread.from.number),
         y: lane_top(layout, thread.from.actor) + 25,
     };
     let to = Point {
-        x: view.across(thread.to.number as usize),
+        x: line_end(view, thread.to.number),
         y: lane_top(layout, thread.to.actor) + 15,
     };
     Value::Curve(from, to)
@@ -67,12 +89,13 @@ fn put_thread(
     put_titled(alloc, out, Name::Path, &row, &title)
 }
 
-/// Whether a line is drawn: its Take is shown, and it is one of those that are drawn.
+/// Whether a line is drawn: the event that made the task is shown, or its Take is; and it is one of those that are drawn.
 fn has_line(view: View, thread: &Thread) -> bool
     ensures { result ≡ has_line view thread.now }
 {
     let thread = *thread;
-    view.is_shown(thread.to.number) && thread.task.number() % view.line_step() == 0
+    let seen = view.is_shown(thread.from.number) || view.is_shown(thread.to.number);
+    seen && thread.task.number() % view.line_step() == 0
 }
 
 /// Adds a line, if it is among those that are drawn.
@@ -92,7 +115,7 @@ fn put_thread_of(
     }
 }
 
-/// Adds a line to each task that is taken among the events that are shown, or to some of these.
+/// Adds a line to each task that is made or taken among the events that are shown, or to some of these.
 pub fn put_threads(
     alloc: Global,
     out: &mut Vec<u8>,
