@@ -3,10 +3,10 @@ use Rattle.std.specs.Prelude.{◌≡◌, ◌⊎◌, ◌++◌, ℕ, List, codes, 
 use Rattle.std.specs.Str.Lines.{lines}
 use Rattle.tw_command.specs.CommandLine.{asked_by_words, word_faults}
 use Rattle.tw_command.specs.InTurn.{turned}
-use Rattle.tw_session.specs.Reply.{reply}
+use Rattle.tw_replies.specs.Reply.{reply}
 use Rattle.tw_session.specs.Session.{AnswersWords}
 use Rattle.tw_session.specs.Status.{code_of}
-use Rattle.tw_session.specs.declared.status.Close.TheVariants.{CommandLine}
+use Rattle.tw_replies.specs.declared.close.Close.TheVariants.{CommandLine}
 use Rattle.tw_session.specs.declared.status.Status.{Status}
 use Rattle.tw_session.specs.declared.status.Status.TheVariants.{Ended, NoMemory, ReadFailed, WriteFailed}
 

@@ -4,7 +4,7 @@ ghost use Rattle.std.specs.Prelude.{◌≡◌, IfOk, length, map, string_bytes};
 ghost use Rattle.std.specs.Str.Lines.{lines};
 ghost use Rattle.tw_command.specs.CommandLine.{asked_by_words, word_faults};
 ghost use Rattle.tw_command.specs.InTurn.{turned};
-ghost use Rattle.tw_session.specs.Reply.{reply};
+ghost use Rattle.tw_replies.specs.Reply.{reply};
 ghost use Rattle.tw_session.specs.Session.{AnswersWords};
 ghost use Rattle.tw_session.specs.Status.{code_of};
 ghost use Rattle.tw_embed.specs.Told.{IsTold, filled};

@@ -6,7 +6,8 @@ ghost use Rattle.tw_verify.specs.Refusal.{verify_refusal_number};
 ghost use Rattle.tw_embed.specs.Verdict.{IsProgramVerdict, IsVerdict, accepted as accepted_is, fault as fault_is, no_memory as no_memory_is, refusal as refusal_is};
 
 use std::alloc::Global;
-use tw_code::{Fault, FaultNo, Program, decode};
+use tw_bytes::{Fault, FaultNo, decode};
+use tw_code::Program;
 use tw_verify::{Refused, Verified, VerifyRefusal, verify};
 
 /// What the verifier says of a program's bytes.

@@ -4,12 +4,12 @@ use Rattle.std.specs.Io.KnownBytes.{Appends}
 use Rattle.clap.specs.Words.{Kinds, Text}
 use Rattle.tw_command.specs.CommandLine.{Asked, Assembles, Checks, Disassembles, Explains, IsExplained, IsRefusedInput, Replays, Runs}
 use Rattle.tw_command.proofs.InputLaws.{never_refused, one_number}
-use Rattle.tw_session.specs.Inputs.{TellsInputWord}
-use Rattle.tw_session.specs.Reply.{Reply, reply}
+use Rattle.tw_replies.specs.Inputs.{TellsInputWord}
+use Rattle.tw_replies.specs.Reply.{Reply, reply}
 use Rattle.tw_session.specs.Session.{AnswersWords, MayAnswer, RefusesWords, TellsMeaning}
 use Rattle.tw_session.specs.Status.{ComesOfReply}
-use Rattle.tw_session.specs.declared.reply.Reply.{Reply as MadeReply}
-use Rattle.tw_session.specs.declared.status.Close.{Close}
+use Rattle.tw_replies.specs.declared.reply.Reply.{Reply as MadeReply}
+use Rattle.tw_replies.specs.declared.close.Close.{Close}
 use Rattle.tw_session.specs.declared.status.Status.{Status}
 use Rattle.tw_session.specs.declared.status.Status.TheVariants.{Ended, NoMemory, ReadFailed, WriteFailed}
 
@@ -69,7 +69,7 @@ not_taken (kind ∷ others) asked input r e h = h
 
 -- where an explanation is asked for, no input word is refused
 not_refused : (asked : Asked) (text : List ℕ) (number : ℕ) → IsExplained asked text → IsRefusedInput asked number → ⊥
-not_refused Assembles text number e r = e
+not_refused (Assembles what) text number e r = e
 not_refused (Disassembles source listed) text number e r = e
 not_refused (Checks source listed) text number e r = e
 not_refused (Runs source answer layout most traced turns words) text number e r = e

@@ -2,12 +2,12 @@
 use Rattle.std.proofs.Common.{Option}
 use Rattle.tw_command.specs.declared.command.RunOrder.{RunOrder}
 use Rattle.tw_session.specs.Answered.{Comes, Leads}
-use Rattle.tw_session.specs.Reply.{Reply, reply}
+use Rattle.tw_replies.specs.Reply.{Reply, reply}
 use Rattle.tw_session.specs.declared.order.Step.{Step}
 use Rattle.tw_session.specs.declared.order.Step.TheVariants as step
-use Rattle.tw_session.specs.declared.source.SourceText.{SourceText}
-use Rattle.tw_session.specs.declared.reply.Answered.{Answered}
-use Rattle.tw_session.specs.declared.reply.Answered.TheVariants as answered
+use Rattle.tw_replies.specs.declared.source.SourceText.{SourceText}
+use Rattle.tw_session.specs.declared.programs.Answered.{Answered}
+use Rattle.tw_session.specs.declared.programs.Answered.TheVariants as answered
 
 pub leads_on : (A B : RunOrder → Type 0) (source : Option SourceText) (P Q : Reply → Type 0) → ((run : RunOrder) → A run → B run) → ((r : Reply) → P r → Q r) → (a : Answered) → Leads A source P a → Leads B source Q a
 leads_on A B source P Q f g (answered.Told r) h = g (reply r.text.items r.close) h

@@ -22,8 +22,8 @@ use Rattle.tw_pool.specs.PoolView.{PoolView}
 use Rattle.tw_host.specs.Run.{Run, run_of}
 use Rattle.tw_in_turn.specs.InTurn.{ComesTo, IsOver}
 use Rattle.tw_command.specs.declared.command.RunOrder.{RunOrder}
-use Rattle.tw_report.specs.Report.{end_report}
-use Rattle.tw_session.specs.Counted.{IsRunOver}
+use Rattle.tw_run_report.specs.Ends.{end_report}
+use Rattle.tw_session.specs.Over.{IsRunOver}
 use Rattle.tw_session.specs.Run.{EndsSo, IsOrdered, run_as}
 
 -- by how the run has ended by itself, whether it was stopped, and whether there is room for no event

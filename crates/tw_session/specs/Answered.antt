@@ -4,14 +4,14 @@ use Rattle.tw_command.specs.InTurn.{IsProgramInTurn}
 use Rattle.tw_command.specs.declared.command.RunOrder.{RunOrder}
 use Rattle.tw_session.specs.declared.order.Step.{Step}
 use Rattle.tw_session.specs.declared.order.Step.TheVariants as step
-use Rattle.tw_session.specs.declared.reply.Answered.{Answered}
-use Rattle.tw_session.specs.declared.reply.Answered.TheVariants as answered
-use Rattle.tw_session.specs.Program.{RepliesBySource, text_told}
-use Rattle.tw_session.specs.Reply.{Reply, reply}
+use Rattle.tw_session.specs.declared.programs.Answered.{Answered}
+use Rattle.tw_session.specs.declared.programs.Answered.TheVariants as answered
+use Rattle.tw_replies.specs.Program.{RepliesBySource, text_told}
+use Rattle.tw_replies.specs.Reply.{Reply, reply}
 use Rattle.tw_session.specs.Run.{RepliesByOpening}
 use Rattle.tw_session.specs.Session.{RepliesByProgram}
-use Rattle.tw_session.specs.Source.{MayBeSource, text_of}
-use Rattle.tw_session.specs.declared.source.SourceText.{SourceText}
+use Rattle.tw_replies.specs.Source.{MayBeSource, text_of}
+use Rattle.tw_replies.specs.declared.source.SourceText.{SourceText}
 
 -- a reply that may be answered so; or the run of such an order, of a program that was read from this text if from one, whose replies may
 abbrev pub Leads : (RunOrder → Type 0) → Option SourceText → (Reply → Type 0) → Answered → Type 0

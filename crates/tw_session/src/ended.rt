@@ -7,24 +7,21 @@ ghost use Rattle.tw_code.specs.machine.Inputs.{AreInputsOf};
 ghost use Rattle.tw_code.specs.machine.Opening.{reached};
 ghost use Rattle.tw_code.specs.machine.State.{State as MachineState};
 ghost use Rattle.tw_machine.specs.Opening.{refusal_of};
-ghost use Rattle.tw_report.specs.Ends.{IsEndReport};
-ghost use Rattle.tw_session.specs.Counted.{Goes, IsRunOver};
-ghost use Rattle.tw_session.specs.Reply.{reply};
+ghost use Rattle.tw_run_report.specs.Ends.{IsEndReport};
+ghost use Rattle.tw_session.specs.Over.{Goes, IsRunOver};
+ghost use Rattle.tw_replies.specs.Reply.{reply};
 ghost use Rattle.tw_session.specs.Run.{AreRunNumbers, IsRunPicture, IsRunText, RepliesByRun, begins, limit_told};
-ghost use Rattle.tw_session.specs.Source.{MayBeSource, text_of};
+ghost use Rattle.tw_replies.specs.Source.{MayBeSource, text_of};
 
-use crate::drawn::draw;
-use crate::numbers::{Counting, budgets_of, count, put_bytes};
-use crate::reply::Reply;
 use crate::run::{close_of, put_limit, put_trace};
 use crate::run_behind::put_run_behind;
-use crate::source::SourceText;
 use std::alloc::{AllocError, Global};
 use tw_code::Program;
-use tw_command::{Answer, RunOrder};
+use tw_command::{Answer, RunOrder, Stretch};
 use tw_machine::Plain;
 use tw_pool::{Closing, Final, History};
-use tw_report::report;
+use tw_replies::{Counting, Reply, SourceText, budgets_of, count, draw, put_bytes};
+use tw_run_report::report;
 use tw_types::Event;
 use tw_verify::Verified;
 
@@ -77,10 +74,11 @@ fn put_run_numbers(
     }
 }
 
-/// Adds the picture of the events.
+/// Adds the picture of these of the events.
 fn put_run_picture(
     alloc: Global,
     out: &mut Vec<u8>,
+    shown: Stretch,
     order: &RunOrder,
     verified: Verified,
     history: &History,
@@ -88,13 +86,13 @@ fn put_run_picture(
     requires inputs { AreInputsOf verified.program order.now.inputs }
     requires goes { Goes verified.program order.now history.now.events }
     ensures { OnOk result ((s : MachineState) → reached verified.program order.now.inputs order.now.layout history.now.events ≡ Went s
-        → (picture : List ℕ) × IsRunPicture verified.program order.now history.now.events s picture × (out.new.items ≡ out.old.items ++ picture)) }
+        → (picture : List ℕ) × IsRunPicture shown verified.program order.now history.now.events s picture × (out.new.items ≡ out.old.items ++ picture)) }
 {
     let _procedures = verified.program().procedures();
     let _most = order.limit.events();
     let events = events_of(alloc, history)?;
     let first = first_machine(alloc, order, verified.into_program())?;
-    let drawn = draw(alloc, first, &events)?;
+    let drawn = draw(alloc, shown, first, &events)?;
     put_bytes(out, &drawn.text)
 }
 
@@ -137,7 +135,7 @@ fn put_told(
             put_run_report(alloc, out, source, order, outcome, closing)?;
             put_run_numbers(alloc, out, order, verified, history)
         }
-        Answer::Picture => put_run_picture(alloc, out, order, verified, history),
+        Answer::Picture(shown) => put_run_picture(alloc, out, shown, order, verified, history),
     }
 }
 

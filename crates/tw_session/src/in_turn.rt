@@ -6,21 +6,20 @@ ghost use Rattle.tw_command.specs.InTurn.{turned};
 ghost use Rattle.tw_code.specs.machine.Inputs.{AreInputsOf};
 ghost use Rattle.tw_in_turn.specs.InTurn.{IsLeft};
 ghost use Rattle.tw_pool.specs.Openings.{opened};
-ghost use Rattle.tw_session.specs.Reply.{reply};
+ghost use Rattle.tw_replies.specs.Reply.{reply};
 ghost use Rattle.tw_session.specs.Run.{RepliesByOpening, RepliesByRun};
 ghost use Rattle.tw_session.specs.Session.{AnswersWords};
-ghost use Rattle.tw_session.specs.Source.{MayBeSource, text_of};
+ghost use Rattle.tw_replies.specs.Source.{MayBeSource, text_of};
 
 use crate::ended::ended_reply;
 use crate::order::reply_in_turn;
-use crate::reply::{Reply, inputs_refused_reply};
 use crate::run::end_of;
 use crate::shell::unordered_reply;
-use crate::source::SourceText;
 use std::alloc::{AllocError, Global};
 use tw_command::{RunOrder, read_order};
 use tw_in_turn::{Left, run_in_turn};
 use tw_pool::OpenRefusal;
+use tw_replies::{Reply, SourceText, inputs_refused_reply};
 use tw_verify::Verified;
 
 /// The reply to what is left of a run.

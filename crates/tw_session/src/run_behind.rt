@@ -5,17 +5,16 @@ ghost use Rattle.tw_types.specs.Outcome.{Went};
 ghost use Rattle.tw_code.specs.declared.procedure.Procedure.{Procedure as Section};
 ghost use Rattle.tw_code.specs.machine.Pending.{circle};
 ghost use Rattle.tw_code.specs.machine.State.{State};
-ghost use Rattle.tw_session.specs.Circle.{TellsCircle, reached_from};
+ghost use Rattle.tw_replies.specs.Circle.{TellsCircle, reached_from};
 ghost use Rattle.tw_session.specs.Run.{IsClosingBehind, IsRunBehind, start_of};
-ghost use Rattle.tw_session.specs.Source.{text_of};
-ghost use Rattle.tw_session.specs.Stuck.{CanTell, MayTell};
+ghost use Rattle.tw_replies.specs.Source.{text_of};
+ghost use Rattle.tw_replies.specs.Stuck.{CanTell, MayTell};
 
 use crate::ended::events_of;
-use crate::source::SourceText;
-use crate::stuck::put_stuck;
 use std::alloc::{AllocError, Global};
 use tw_command::{Answer, RunOrder};
 use tw_pool::{Closing, History};
+use tw_replies::{SourceText, put_stuck};
 
 /// Adds the lines of the circle of rules in which a run is stuck.
 fn put_circle_behind(
@@ -76,7 +75,7 @@ pub fn put_run_behind(
         return Ok(());
     };
     match order.answer {
-        Answer::Picture => Ok(()),
+        Answer::Picture(_) => Ok(()),
         _ => put_closing_behind(alloc, out, source, order, history, closing),
     }
 }

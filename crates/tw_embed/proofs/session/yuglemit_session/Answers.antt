@@ -2,9 +2,9 @@ use Rattle.std.proofs.Common.{List, ℕ, inl, inr, refl, subst, sym}
 use Rattle.std.specs.Str.Lines.{lines}
 use Rattle.tw_command.specs.CommandLine.{asked_by_words, word_faults}
 use Rattle.tw_command.specs.InTurn.{turned}
-use Rattle.tw_session.specs.Reply.{reply}
+use Rattle.tw_replies.specs.Reply.{reply}
 use Rattle.tw_session.specs.Session.{AnswersWords}
-use Rattle.tw_session.specs.declared.status.Close.TheVariants.{CommandLine}
+use Rattle.tw_replies.specs.declared.close.Close.TheVariants.{CommandLine}
 use Rattle.tw_session.specs.declared.status.Status.TheVariants.{Ended}
 use Rattle.tw_embed.specs.Told.{Answers}
 use Rattle.tw_embed.proofs.session.yuglemit_session.Goals as goal

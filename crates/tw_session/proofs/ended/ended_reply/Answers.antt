@@ -1,10 +1,10 @@
 use Rattle.std.proofs.Common.{◌≡◌, ◌≤◌, ◌++◌, ◌∙◌, ℕ, List, ap, append_assoc, arith, inl, length, subst}
 use Rattle.tw_code.specs.format.Program.{IsProgram}
-use Rattle.tw_session.specs.Reply.{reply}
+use Rattle.tw_replies.specs.Reply.{reply}
 use Rattle.tw_session.specs.Run.{start_of, trace_text}
-use Rattle.tw_session.specs.declared.status.Close.{Close}
+use Rattle.tw_replies.specs.declared.close.Close.{Close}
 use Rattle.tw_verify.specs.Typed.{typings_of}
-use Rattle.tw_session.proofs.Behinds.{may_tell}
+use Rattle.tw_replies.proofs.Behinds.{may_tell}
 use Rattle.tw_session.proofs.RunEvents.{opens, run_short}
 use Rattle.tw_session.proofs.ended.ended_reply.Goals as goal
 

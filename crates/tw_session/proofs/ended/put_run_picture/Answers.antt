@@ -12,9 +12,9 @@ use Rattle.tw_picture.specs.History.{IsDrawing, IsOpening}
 use Rattle.tw_picture.specs.declared.drawing.Drawing.{Drawing}
 use Rattle.tw_picture.proofs.History.{opening_is}
 use Rattle.tw_verify.specs.Typed.{typings_of}
-use Rattle.tw_session.specs.Counted.{AreShort}
-use Rattle.tw_session.specs.Replay.{IsPicture, played_from}
-use Rattle.tw_session.specs.Reply.{Reply, reply}
+use Rattle.tw_replies.specs.Counted.{AreShort}
+use Rattle.tw_replies.specs.Replay.{IsPicture, played_from}
+use Rattle.tw_replies.specs.Reply.{Reply, reply}
 use Rattle.tw_session.specs.Run.{begins}
 use Rattle.tw_session.proofs.RunEvents.{begun, goes_by, opens, run_short}
 use Rattle.tw_session.proofs.ended.put_run_picture.Goals as goal
@@ -52,7 +52,7 @@ returns c =
     (λ added s goes.
     let here : run first.program first.layout read first.state ≡ Went s =
     ap (λ (v : PlainView). run v.program v.layout read v.state) same ∙ ap (λ (es : List Event). reached program order.inputs order.layout es) all ∙ goes in
-    let drawn : IsPicture first read s r = goes_by (run first.program first.layout read first.state) s (λ t. IsPicture first read t r) (r ≡ played_from first read) here c.in_ok-drawn.ensures in
+    let drawn : IsPicture c.args.shown first read s r = goes_by (run first.program first.layout read first.state) s (λ t. IsPicture c.args.shown first read t r) (r ≡ played_from first read) here c.in_ok-drawn.ensures in
     let d : Drawing = drawn.0 in
     let there = subst (λ (v : PlainView). IsDrawing v events s d) same (subst (λ (es : List Event). IsDrawing first es s d) all drawn.1) in
     (r.text, (version, d, there, ap (λ (x : Reply). x.text) drawn.2), added ∙ ap (λ (t : List ℕ). c.args.out.now.items ++ t) c.deref-2.ensures.value)) c.put_bytes.ensures

@@ -1,7 +1,7 @@
 use Rattle.std.proofs.Common.{◌++◌, ◌∙◌, ℕ, List, ap, append_assoc}
 use Rattle.std.proofs.lemmas.Result.{on_ok_weaker}
 use Rattle.tw_session.specs.Run.{limit_told}
-use Rattle.tw_session.specs.Source.{text_of}
+use Rattle.tw_replies.specs.Source.{text_of}
 use Rattle.tw_session.proofs.ended.put_run_report.Goals as goal
 
 pub returns : goal.returns

@@ -2,7 +2,7 @@ use Rattle.std.proofs.Common.{◌++◌, ◌∙◌, ℕ, List, ap, append_assoc, 
 use Rattle.std.proofs.lemmas.Result.{on_ok_weaker}
 use Rattle.tw_command.specs.declared.command.Answer.{Answer}
 use Rattle.tw_session.specs.Run.{IsRunText, limit_told}
-use Rattle.tw_session.specs.Source.{text_of}
+use Rattle.tw_replies.specs.Source.{text_of}
 use Rattle.tw_session.proofs.ended.put_told.Goals as goal
 
 pub put_run_numbers-requires : goal.put_run_numbers-requires

@@ -1,9 +1,9 @@
 use Rattle.std.proofs.Common.{inl, map, string_bytes, subst, sym}
 use Rattle.clap.specs.Words.{Kinds}
 use Rattle.tw_command.specs.declared.command.Order.{Order}
-use Rattle.tw_session.specs.Reply.{reply}
+use Rattle.tw_replies.specs.Reply.{reply}
 use Rattle.tw_session.specs.Session.{AnswersWords, MayReply}
-use Rattle.tw_session.specs.declared.reply.Reply.{Reply as MadeReply}
+use Rattle.tw_replies.specs.declared.reply.Reply.{Reply as MadeReply}
 use Rattle.std.proofs.lemmas.Result.{IfOk-weaker}
 use Rattle.tw_command.specs.CommandLine.{asked_by_words, word_faults}
 use Rattle.tw_command.proofs.Turned.{asked_in_turn, is_in_turn, reason_in_turn}

@@ -7,8 +7,8 @@ use Rattle.tw_command.specs.Order.{IsInputReason}
 use Rattle.tw_command.specs.declared.command.ProgramOrder.TheVariants.{Verified}
 use Rattle.tw_command.specs.declared.command.RunOrder.{RunOrder}
 use Rattle.tw_command.specs.declared.command.VerifiedOrder.TheVariants.{Run}
-use Rattle.tw_session.specs.Inputs.{before_inputs, behind_inputs, words_in}
-use Rattle.tw_session.specs.Program.{RepliesBySource, text_told}
+use Rattle.tw_replies.specs.Inputs.{before_inputs, behind_inputs, words_in}
+use Rattle.tw_replies.specs.Program.{RepliesBySource, text_told}
 use Rattle.tw_session.specs.Session.{RepliesByProgram}
 use Rattle.tw_session.proofs.order.inputs_step.Goals as goal
 

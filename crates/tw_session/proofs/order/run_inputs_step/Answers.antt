@@ -1,13 +1,13 @@
-use Rattle.std.proofs.Common.{◌≡◌, List, ℕ, inl, inr, subst, true}
+use Rattle.std.proofs.Common.{◌≡◌, List, ℕ, inl, subst, true}
 use Rattle.std.proofs.lemmas.Result.{IfOk-weaker}
 use Rattle.std.specs.Str.Lines.{lines}
 use Rattle.tw_command.specs.CommandLine.{run_with}
 use Rattle.tw_command.specs.declared.command.InputsOrder.TheVariants.{ToRun}
 use Rattle.tw_command.specs.declared.command.ProgramOrder.TheVariants.{Verified}
 use Rattle.tw_command.specs.declared.command.VerifiedOrder.TheVariants.{Run}
-use Rattle.tw_session.specs.Inputs.{RepliesByWords, before_inputs, behind_inputs, words_in}
-use Rattle.tw_session.specs.Program.{RepliesBySource, text_told}
-use Rattle.tw_session.specs.Reply.{Reply}
+use Rattle.tw_replies.specs.Inputs.{RepliesByWords, before_inputs, behind_inputs, words_in}
+use Rattle.tw_replies.specs.Program.{RepliesBySource, text_told}
+use Rattle.tw_replies.specs.Reply.{Reply}
 use Rattle.tw_session.specs.Session.{RepliesByProgram, RepliesWithInputs}
 use Rattle.tw_session.proofs.Leading.{comes_on}
 use Rattle.tw_session.proofs.order.run_inputs_step.Goals as goal

@@ -1,13 +1,13 @@
 use Rattle.std.proofs.Common.{◌≡◌, ◌≤◌, ◌∙◌, ap, length, refl, rules, subst, sym, true}
 use Rattle.std.proofs.lemmas.Result.{IfOk-weaker}
-use Rattle.tw_command.specs.InTurn.{IsInTurn, IsProgramInTurn}
+use Rattle.tw_command.specs.InTurn.{IsInTurn}
 use Rattle.tw_command.specs.declared.command.InputsOrder.{InputsOrder}
 use Rattle.tw_command.specs.declared.command.InputsOrder.TheVariants.{ToReplay, ToRun}
 use Rattle.tw_command.specs.declared.command.Order.{Order}
 use Rattle.tw_command.specs.declared.command.Order.TheVariants.{Inputs, Program, Replay}
-use Rattle.tw_session.specs.Input.{most_bytes}
-use Rattle.tw_session.specs.Reply.{Reply, reply}
-use Rattle.tw_session.specs.Session.{MayReply, RepliesByInput, RepliesWithInputs}
+use Rattle.tw_replies.specs.Input.{most_bytes}
+use Rattle.tw_replies.specs.Reply.{reply}
+use Rattle.tw_session.specs.Session.{MayReply, RepliesWithInputs}
 use Rattle.tw_session.proofs.Leading.{comes_on}
 use Rattle.tw_session.proofs.Replies.{within}
 use Rattle.tw_session.proofs.order.step_of.Goals as goal

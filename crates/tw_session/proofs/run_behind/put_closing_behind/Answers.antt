@@ -1,5 +1,5 @@
 use Rattle.std.proofs.lemmas.Result.{on_ok_weaker}
-use Rattle.tw_session.proofs.Behinds.{closing_else, closing_stuck}
+use Rattle.tw_session.proofs.Closings.{closing_else, closing_stuck}
 use Rattle.tw_session.proofs.run_behind.put_closing_behind.Goals as goal
 
 pub returns-in-Stuck : goal.returns-in-Stuck

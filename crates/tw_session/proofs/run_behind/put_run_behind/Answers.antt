@@ -1,10 +1,11 @@
 use Rattle.std.proofs.Common.{Option, subst, sym}
 use Rattle.std.proofs.lemmas.Result.{on_ok_weaker}
 use Rattle.tw_session.specs.Run.{IsRunBehind, start_of}
-use Rattle.tw_session.specs.Source.{text_of}
-use Rattle.tw_session.specs.Stuck.{MayTell}
-use Rattle.tw_session.specs.declared.source.SourceText.{SourceText}
-use Rattle.tw_session.proofs.Behinds.{Adds, run_drawn, run_told}
+use Rattle.tw_replies.specs.Source.{text_of}
+use Rattle.tw_replies.specs.Stuck.{MayTell}
+use Rattle.tw_replies.specs.declared.source.SourceText.{SourceText}
+use Rattle.tw_replies.proofs.Behinds.{Adds, undrawn}
+use Rattle.tw_session.proofs.Closings.{run_drawn, run_told}
 use Rattle.tw_session.proofs.run_behind.put_run_behind.Goals as goal
 
 pub returns-in-Picture : goal.returns-in-Picture
@@ -12,7 +13,7 @@ returns-in-Picture c = λ program s may goes.
     let order = c.args.order.now in
     let events = c.args.history.now.events in
     let old = c.args.out.now.items in
-    subst (λ (o : Option SourceText). Adds (IsRunBehind order.answer (text_of o) program order events s c.args.closing) old old) (sym c.in-Some.is) (run_drawn order.answer c.in-Some.source.text.now program order events s c.args.closing old c.in-Picture.is)
+    subst (λ (o : Option SourceText). Adds (IsRunBehind order.answer (text_of o) program order events s c.args.closing) old old) (sym c.in-Some.is) (run_drawn order.answer c.in-Picture.field-0 c.in-Some.source.text.now program order events s c.args.closing old c.in-Picture.is)
 
 pub returns-in_default-answer : goal.returns-in_default-answer
 returns-in_default-answer c =
@@ -24,4 +25,4 @@ returns-in_default-answer c =
     (λ told program s may goes.
     let can = subst (λ (o : Option SourceText). MayTell o (start_of program order) events) c.in-Some.is may in
     subst (λ (o : Option SourceText). Adds (IsRunBehind order.answer (text_of o) program order events s c.args.closing) old new) (sym c.in-Some.is)
-    (run_told order.answer c.in-Some.source.text.now program order events s c.args.closing old new c.in_default-answer.not-Picture (told program s can goes))) c.put_closing_behind.ensures
+    (run_told order.answer c.in-Some.source.text.now program order events s c.args.closing old new (undrawn order.answer c.in_default-answer.not-Picture) (told program s can goes))) c.put_closing_behind.ensures

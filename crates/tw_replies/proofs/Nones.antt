@@ -1,0 +1,42 @@
+-- What stands behind the line that tells why there is no program.
+use Rattle.std.proofs.Common.{◌≡◌, ◌≢◌, ◌++◌, ℕ, List, [], IsUtf8, inr, refl, sym}
+use Rattle.std.proofs.lemmas.List.{append-nil}
+use Rattle.tw_asm.specs.declared.fault.AsmFault.{AsmFault}
+use Rattle.tw_command.specs.declared.command.Source.{Source}
+use Rattle.tw_command.specs.declared.command.Source.TheVariants.{Hex, Assembly}
+use Rattle.tw_names.specs.Standing.{StandsFor}
+use Rattle.tw_names.specs.declared.refusal.NameRefusal.{NameRefusal}
+use Rattle.tw_replies.specs.Names.{IsFaultBehind, name_behind}
+use Rattle.tw_code.specs.format.Program.{Versioned}
+use Rattle.tw_replies.specs.Program.{IsNoneBehind, RepliesBySource, SpellsNone, no_program_line}
+use Rattle.tw_replies.specs.Reply.{Reply, reply}
+use Rattle.tw_replies.specs.declared.close.Close.TheVariants.{Refused}
+use Rattle.tw_replies.specs.declared.program.NoProgram.{NoProgram}
+use Rattle.tw_replies.specs.declared.program.NoProgram.TheVariants.{NotHex, NotUtf8, Bytes, Text, Named, NoMemory}
+
+abbrev pub Adds : List ℕ → NoProgram → List ℕ → List ℕ → Type 0
+Adds input why old new = (source : Source) → SpellsNone source input why → (more : List ℕ) × IsNoneBehind input why more × (new ≡ old ++ more)
+
+pub reason_added : (input old new : List ℕ) (f : AsmFault)
+    → (IsUtf8 input → (plain : List ℕ) → StandsFor input plain → (more : List ℕ) × IsFaultBehind input f.no f.line more × (new ≡ old ++ more)) → Adds input (Text f) old new
+reason_added input old new f told Hex none = absurd none
+reason_added input old new f told Assembly none = told none.0 none.1.0 none.1.1
+
+pub refusal_added : (input old new : List ℕ) (f : NameRefusal) → (IsUtf8 input → new ≡ old ++ name_behind input f.no f.line f.word.now) → Adds input (Named f) old new
+refusal_added input old new f told Hex none = absurd none
+refusal_added input old new f told Assembly none = (name_behind input f.no f.line f.word.now, refl, told none.0)
+
+pub nothing_added : (input old : List ℕ) (why : NoProgram) → ((f : AsmFault) → why ≡ Text f → ⊥) → ((f : NameRefusal) → why ≡ Named f → ⊥) → Adds input why old old
+nothing_added input old NotHex other unnamed source none = ([], refl, sym (append-nil old))
+nothing_added input old NotUtf8 other unnamed source none = ([], refl, sym (append-nil old))
+nothing_added input old (Bytes f) other unnamed source none = ([], refl, sym (append-nil old))
+nothing_added input old (Text f) other unnamed source none = absurd (other f refl)
+nothing_added input old (Named f) other unnamed source none = absurd (unnamed f refl)
+nothing_added input old NoMemory other unnamed source none = ([], refl, sym (append-nil old))
+
+-- what a reply tells that there is none
+abbrev pub Tells : List ℕ → NoProgram → Reply → Type 0
+Tells input why r = (why ≢ NoMemory) × ((source : Source) → SpellsNone source input why → (more : List ℕ) × IsNoneBehind input why more × (r ≡ reply (no_program_line why ++ more) Refused))
+
+pub none_told : (source : Source) (input : List ℕ) (why : NoProgram) (Answers : Versioned → Reply → Type 0) (r : Reply) → (why ≢ NoMemory → SpellsNone source input why) → Tells input why r → RepliesBySource source input Answers r
+none_told source input why Answers r none (other, told) = let n = none other in let t = told source n in inr (why, t.0, n, t.1, t.2)

@@ -1,0 +1,79 @@
+-- Which line of a text is told.
+use Rattle.std.proofs.Common.{◌≡◌, ℕ, zero, suc, ◌+◌, ◌-◌, ◌<◌, List, [], ◌∷◌, length, Option, Some, None, MatchOption, refl, subst, ap, ◌∙◌, arith}
+use Rattle.std.proofs.lemmas.List.{length-append}
+use Rattle.std.specs.List.{slice_get}
+use Rattle.std.specs.Str.Lines.{lines}
+use Rattle.tw_code.specs.declared.procedure.Procedure.{Procedure}
+use Rattle.tw_asm.specs.Statement.{Statement, Code, Head}
+use Rattle.tw_asm.specs.Fault.{LinesSay, Situation, after_line, at_start}
+use Rattle.tw_asm.specs.Origins.{AreOrigins, ComesFrom, at_place, instr_at}
+use Rattle.tw_reasons.proofs.Heads.{front_no_procedure}
+use Rattle.tw_reasons.specs.Says.{HasNoHead, IsFirstHead}
+use Rattle.tw_names.specs.Standing.{StandsFor}
+use Rattle.tw_names.proofs.LineByLine.{as_many}
+use Rattle.tw_replies.specs.Text.{IsPlaceBehind, IsTextBehind}
+use Rattle.tw_verify.specs.declared.refusal.VerifyRefusal.{VerifyRefusal}
+use Rattle.tw_verify.specs.declared.refusal.VerifyRefusal.TheVariants as refusal
+
+-- lines that say so many things are so many
+pub said_length : (number : ℕ) (s : Situation) (ls : List (List ℕ)) (said : List (Option Statement)) → LinesSay number s ls said → length said ≡ length ls
+said_length number s [] [] h = refl
+said_length number s [] (x ∷ said) h = absurd h
+said_length number s (line ∷ ls) [] h = absurd h
+said_length number s (line ∷ ls) (x ∷ said) h = ap suc (said_length (number + 1) (after_line number x s) ls said h.1)
+
+none_past : {X : Type 0} (xs : List X) (k : ℕ) → slice_get xs k ≡ None → length xs < k + 1
+none_past [] k e = omega arith
+none_past (x ∷ xs) zero e = absurd cc
+none_past (x ∷ xs) (suc k) e = let h = none_past xs k e in omega (arith, h)
+
+pub counts : (text : List ℕ) (procedure place number : ℕ) → ComesFrom text procedure place number → 0 < number
+counts text procedure place number c = omega (arith, c.number_is)
+
+-- the line is there
+pub line_there : (text plain : List ℕ) (procedure place number : ℕ) → StandsFor text plain → ComesFrom plain procedure place number → slice_get (lines text) (number - 1) ≡ None → ⊥
+line_there text plain procedure place number stands c none =
+    let past = none_past (lines text) (number - 1) none in
+    let all = said_length 1 at_start (lines plain) c.said c.say ∙ as_many text plain stands in
+    let long = ap length c.parts ∙ length-append c.before (Some (Code c.i) ∷ c.after) in
+    absurd (omega (arith, past, all, long, c.number_is))
+
+-- what stands at a place
+pub comes_from : (text : List ℕ) (program : List Procedure) (numbers : List (List ℕ)) (procedure place number : ℕ) → AreOrigins text program numbers → at_place numbers procedure place ≡ Some number
+    → ComesFrom text procedure place number
+comes_from text program numbers procedure place number o e =
+    subst (λ (x : Option ℕ). MatchOption x (instr_at program procedure place ≡ None) (ComesFrom text procedure place)) e (o procedure place)
+
+-- an instruction that is there comes from a line
+pub some_origin : (text : List ℕ) (program : List Procedure) (numbers : List (List ℕ)) (procedure place : ℕ) → AreOrigins text program numbers → (instr_at program procedure place ≡ None → ⊥)
+    → (number : ℕ) × ComesFrom text procedure place number
+some_origin text program numbers procedure place o there = by (at_place numbers procedure place) (o procedure place)
+  where
+    by : (x : Option ℕ) → MatchOption x (instr_at program procedure place ≡ None) (ComesFrom text procedure place) → (number : ℕ) × ComesFrom text procedure place number
+    by None h = absurd (there h)
+    by (Some number) h = (number, h)
+
+pub none_there : (program : List Procedure) (procedure place : ℕ) → program ≡ [] → (instr_at program procedure place ≡ None → ⊥) → ⊥
+none_there program procedure place none there = there (ap (λ (ps : List Procedure). instr_at ps procedure place) none)
+
+pub head_counts : (text : List ℕ) (number : ℕ) → IsFirstHead text number → 0 < number
+head_counts text number h = omega (arith, h.number_is)
+
+-- the line of the first head is there
+pub head_there : (text plain : List ℕ) (number : ℕ) → StandsFor text plain → IsFirstHead plain number → slice_get (lines text) (number - 1) ≡ None → ⊥
+head_there text plain number stands h none =
+    let past = none_past (lines text) (number - 1) none in
+    let all = said_length 1 at_start (lines plain) h.said h.say ∙ as_many text plain stands in
+    let long = ap length h.parts ∙ length-append h.before (Some (Head h.kind h.params) ∷ h.after) in
+    absurd (omega (arith, past, all, long, h.number_is))
+
+-- a line before an instruction begins a procedure
+pub some_head : (text : List ℕ) (procedure place number : ℕ) (c : ComesFrom text procedure place number) → HasNoHead c.said → ⊥
+some_head text procedure place number c none =
+    let zero' = front_no_procedure c.before (Some (Code c.i) ∷ c.after) (subst HasNoHead c.parts none) in
+    absurd (omega (arith, zero', c.procedure_is))
+
+pub other_behind : (text : List ℕ) (which : VerifyRefusal) (program : List Procedure) (procedure place : ℕ) (more : List ℕ) → (which ≡ refusal.MainShape → ⊥) → IsPlaceBehind text which program procedure place more
+    → IsTextBehind text which program procedure place more
+other_behind text refusal.MainShape program procedure place more other h = absurd (other refl)
+other_behind text which program procedure place more other h = h

@@ -1,0 +1,15 @@
+use Rattle.std.proofs.Common.{◌≡◌, ◌++◌, ◌∙◌, List, ℕ, ap, inl, inr}
+use Rattle.tw_names.specs.Answers.{told}
+use Rattle.tw_replies.specs.Names.{name_behind, name_line}
+use Rattle.tw_replies.specs.Reply.{reply}
+use Rattle.tw_replies.specs.declared.close.Close.TheVariants.{Refused}
+use Rattle.tw_replies.proofs.names.named_reply.Goals as goal
+
+pub returns : goal.returns
+returns c = λ first.
+    let refusal = c.args.refusal in
+    let line = name_line refusal.no refusal.line in
+    let behind = name_behind c.args.text.now refusal.no refusal.line refusal.word.now in
+    let one : c.put_name_line.new.out.items ≡ line = c.in_ok-put_name_line.ensures ∙ ap (λ (t : List ℕ). t ++ line) c.new-out.ensures.items in
+    let all : c.put_name_behind.new.out.items ≡ line ++ behind = c.in_ok-put_name_behind.ensures ∙ ap (λ (t : List ℕ). t ++ behind) one in
+    inl (c.utf8.text, inr (told refusal, first, c.refused_by.ensures ∙ ap (λ (t : List ℕ). reply t Refused) all))

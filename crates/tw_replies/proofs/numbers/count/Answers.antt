@@ -1,0 +1,78 @@
+use Rattle.std.proofs.Common.{◌≡◌, ◌+◌, ◌*◌, ◌≤◌, ◌^◌, arith, ◌∙◌, refl, take}
+use Rattle.tw_types.specs.Outcome.{Went, NotEnabled, Trap}
+use Rattle.tw_types.specs.Cause.{cause_number}
+use Rattle.tw_code.specs.machine.Bounds.{AreBelow, opening_bound, size_of}
+use Rattle.tw_code.specs.machine.Machine.{run, step}
+use Rattle.tw_code.proofs.Growth.{below_more}
+use Rattle.tw_report.specs.Lines.{trap_line}
+use Rattle.tw_replies.specs.Replay.{played_from}
+use Rattle.tw_replies.specs.Reply.{reply}
+use Rattle.tw_replies.specs.declared.close.Close.TheVariants.{Trapped}
+use Rattle.tw_replies.proofs.Playing.{by_not_enabled, by_trap, event_small, not_enabled, run_not_enabled, run_on, run_trapped, stays_so, stepped, trapped, went_on}
+use Rattle.tw_replies.proofs.CountedEvents.{came, small_on, tally_of_all, tally_on}
+use Rattle.tw_replies.proofs.numbers.count.Goals as goal
+
+pub step-requires-clause-small : goal.step-requires-clause-small
+step-requires-clause-small c = below_more (opening_bound + 1000000000 * c.loop-index.index) _ _ (omega (arith, c.requires.few, c.loop-index-test.true)) c.loop-index.invariant.below
+
+pub returns-in-Err-NotEnabled : goal.returns-in-Err-NotEnabled
+returns-in-Err-NotEnabled c =
+    let first = c.args.first in
+    let at = c.loop-index.plain in
+    let kept = c.loop-index.invariant in
+    let events = c.args.events.now in
+    let event = c.index-events-index.result in
+    let told = c.in_ok-reply-in-Err-NotEnabled.reply in
+    let whole = run first.program first.layout events first.state in
+    let stopped : step first.program first.layout event at.state ≡ NotEnabled = stepped first at event NotEnabled kept.stays (rw c.in-Err-NotEnabled.field-0-is at c.in-Err-NotEnabled.ensures.steps.0) in
+    let comes : whole ≡ NotEnabled = run_not_enabled first.program first.layout events c.loop-index.index event at.state whole c.loop-index-test.true c.index-events-index.is stopped kept.runs in
+    by_not_enabled whole (λ s. ⊥) (reply told.text.items told.close ≡ played_from first events) comes
+    (c.in_ok-reply-in-Err-NotEnabled.ensures ∙ not_enabled first.program first.layout events c.loop-index.index event at.state (played_from first events) c.loop-index-test.true c.index-events-index.is stopped kept.same)
+
+pub returns-in-Err-Trap : goal.returns-in-Err-Trap
+returns-in-Err-Trap c =
+    let first = c.args.first in
+    let at = c.loop-index.plain in
+    let kept = c.loop-index.invariant in
+    let events = c.args.events.now in
+    let event = c.index-events-index.result in
+    let cause = c.in-Err-Trap.cause in
+    let told = c.in_ok-reply-in-Err-Trap.reply in
+    let whole = run first.program first.layout events first.state in
+    let stopped : step first.program first.layout event at.state ≡ Trap cause = stepped first at event (Trap cause) kept.stays (rw c.in-Err-Trap.field-0-is at c.in-Err-Trap.ensures.steps.0) in
+    let comes : whole ≡ Trap cause = run_trapped first.program first.layout events c.loop-index.index event at.state cause whole c.loop-index-test.true c.index-events-index.is stopped kept.runs in
+    let here : reply told.text.items told.close ≡ reply (trap_line (cause_number cause) (c.loop-index.index + 1)) Trapped = rw c.in-Err-Trap.field-0-is at c.in_ok-reply-in-Err-Trap.ensures in
+    by_trap whole cause (λ s. ⊥) (reply told.text.items told.close ≡ played_from first events) comes
+    (here ∙ trapped first.program first.layout events c.loop-index.index event at.state cause (played_from first events) c.loop-index-test.true c.index-events-index.is stopped kept.same)
+
+pub loop-index-init : goal.loop-index-init
+loop-index-init c = record { stays = refl; same = refl; runs = refl; below = c.requires.below; tally = c.new-tally.ensures c.args.first c.requires.opening }
+
+pub loop-index-preserved : goal.loop-index-preserved
+loop-index-preserved c =
+    let first = c.args.first in
+    let at = c.loop-index.plain in
+    let next = c.step.new.self in
+    let kept = c.loop-index.invariant in
+    let events = c.args.events.now in
+    let i = c.loop-index.index in
+    let event = c.index-events-index.result in
+    let inside = c.loop-index-test.true in
+    let is = c.index-events-index.is in
+    let went : step first.program first.layout event at.state ≡ Went next.state = stepped first at event (Went next.state) kept.stays c.in-Ok.ensures.steps in
+    let short : size_of event ≤ 1000000000 = event_small events i event c.requires.sizes inside is in
+    let before : AreBelow (2 ^ 63) at.state = below_more (opening_bound + 1000000000 * i) _ _ (omega (arith, c.requires.few, inside)) kept.below in
+    let behind : AreBelow (2 ^ 63) next.state = below_more (opening_bound + 1000000000 * i + size_of event) _ _ (omega (arith, c.requires.few, inside)) (c.step.ensures.below (opening_bound + 1000000000 * i) kept.below) in
+    record {
+      stays = stays_so first at next kept.stays c.step.ensures.version c.step.ensures.program c.step.ensures.layout;
+      same = went_on first.program first.program first.layout first.layout events i event at.state next.state (played_from first events) refl refl inside is went kept.same;
+      runs = run_on first.program first.layout events i event at.state next.state (run first.program first.layout events first.state) inside is went kept.runs;
+      below = below_more _ _ _ (omega arith) (c.step.ensures.below (opening_bound + 1000000000 * i) kept.below);
+      tally =
+          tally_on first events i event next.state c.keep.new.self inside is
+          (c.in_ok-keep-in-Ok.ensures first (take i events) at.state kept.tally (came first at event c.coming-coming.result kept.stays (c.coming-coming.ensures kept.tally.next)) went before behind (small_on first events i event inside is c.requires.sizes c.requires.few));
+    }
+
+pub returns : goal.returns
+returns c =
+    (c.loop-index.invariant.stays, tally_of_all c.args.first c.args.events.now c.loop-index.index c.loop-index.plain.state c.loop-index.tally c.loop-index-test.false c.loop-index.invariant.tally)

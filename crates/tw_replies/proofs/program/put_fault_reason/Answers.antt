@@ -1,0 +1,16 @@
+use Rattle.std.proofs.Common.{List, ℕ, subst, sym}
+use Rattle.std.proofs.lemmas.Result.{on_ok_weaker}
+use Rattle.tw_names.specs.Standing.{StandsFor}
+use Rattle.tw_replies.specs.Names.{IsFaultBehind}
+use Rattle.tw_replies.proofs.program.put_fault_reason.Goals as goal
+
+pub returns-in-Ok : goal.returns-in-Ok
+returns-in-Ok c =
+    let fault = c.args.fault in
+    on_ok_weaker c.put_fault_behind.result
+    (λ told utf8 plain stands.
+    let t = told plain (subst (λ (x : List ℕ). StandsFor x plain) (sym c.in-Ok.ensures.cases.0) stands) in
+    (t.0, subst (λ (x : List ℕ). IsFaultBehind x fault.no fault.line t.0) c.in-Ok.ensures.cases.0 t.1, t.2)) c.put_fault_behind.ensures
+
+pub returns-in-Err : goal.returns-in-Err
+returns-in-Err c = λ utf8 plain stands. absurd (c.in-Err.ensures.cases.0 utf8)

@@ -1,0 +1,13 @@
+use Rattle.std.proofs.Common.{◌++◌, ◌∙◌, List, ℕ, ap}
+use Rattle.std.proofs.lemmas.Result.{on_ok_weaker}
+use Rattle.tw_replies.specs.Names.{name_behind}
+use Rattle.tw_replies.proofs.program.put_refusal_reason.Goals as goal
+
+pub returns-in-Ok : goal.returns-in-Ok
+returns-in-Ok c =
+    let refusal = c.args.refusal in
+    on_ok_weaker c.put_name_behind.result
+    (λ told utf8. told ∙ ap (λ (x : List ℕ). c.args.out.now.items ++ name_behind x refusal.no refusal.line refusal.word.now) c.in-Ok.ensures.cases.0) c.put_name_behind.ensures
+
+pub returns-in-Err : goal.returns-in-Err
+returns-in-Err c = λ utf8. absurd (c.in-Err.ensures.cases.0 utf8)

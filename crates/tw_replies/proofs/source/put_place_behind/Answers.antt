@@ -1,0 +1,21 @@
+use Rattle.std.proofs.Common.{◌++◌, ◌∙◌, ℕ, List, ap, append_assoc, refl}
+use Rattle.std.proofs.lemmas.Result.{on_ok_weaker}
+use Rattle.tw_replies.specs.Source.{plain_of}
+use Rattle.tw_replies.specs.Text.{text_line}
+use Rattle.tw_replies.proofs.source.put_place_behind.Goals as goal
+
+pub returns-in_default : goal.returns-in_default
+returns-in_default c = λ is. absurd (is.1 (c.in_default.ensures c.args.refused.now.program.procedures is.0 is.2))
+
+pub returns : goal.returns
+returns c =
+    on_ok_weaker c.put_reason.result
+    (λ named is.
+    let source = c.args.source.now in
+    let number = c.in-Some.number in
+    let line = text_line number c.in-Some.line.now in
+    let found = c.in-Some.ensures c.args.refused.now.program.procedures is.0 is.2 in (
+      line ++ named.1,
+      (plain_of source, number, c.in-Some.line.now, source.lines.procedures, named.0, named.1, is.2, found.0, found.1, is.0, named.2, named.3, refl),
+      named.4 ∙ ap (λ (t : List ℕ). t ++ named.1) c.in_ok-put_text_line.ensures ∙ append_assoc c.args.out.now.items line named.1,
+    )) c.put_reason.ensures

@@ -1,0 +1,90 @@
+-- What stands behind the report of a run that is stuck in a circle of rules, where its program was read from a text: of each rule of
+-- the circle which procedure it runs, and the line of the RULE that made it, as it is written.
+use Rattle.std.specs.Prelude.{◌≡◌, ◌⊎◌, ◌++◌, ℕ, List, [], ◌∷◌, codes, decimal, Option, Some, None}
+use Rattle.std.specs.FinMap.{get}
+use Rattle.tw_types.specs.declared.actor.Actor.{Actor}
+use Rattle.tw_types.specs.declared.ending.Ending.{Ending}
+use Rattle.tw_types.specs.declared.ending.Ending.TheVariants.{Quiet, Stuck}
+use Rattle.tw_types.specs.declared.event.Event.{Event}
+use Rattle.tw_types.specs.declared.event.Event.TheVariants.{Call}
+use Rattle.tw_types.specs.declared.input.Input.{Input}
+use Rattle.tw_types.specs.declared.pending.Link.{Link}
+use Rattle.tw_types.specs.Layout.{ActorCounts}
+use Rattle.tw_types.specs.Outcome.{Outcome, Went}
+use Rattle.tw_asm.specs.Origins.{ComesFrom}
+use Rattle.tw_code.specs.declared.instr.Action.{Action}
+use Rattle.tw_code.specs.declared.instr.Instr.TheVariants.{Rule}
+use Rattle.tw_code.specs.declared.procedure.Procedure.{Procedure}
+use Rattle.tw_code.specs.machine.Due.{instr_here}
+use Rattle.tw_code.specs.machine.Opening.{reached}
+use Rattle.tw_code.specs.machine.Pending.{circle}
+use Rattle.tw_code.specs.machine.State.{Frame, State}
+use Rattle.tw_names.specs.Standing.{StandsFor}
+use Rattle.tw_replies.specs.Text.{IsLineOf, text_line}
+
+-- ---- who made a rule
+
+-- what a run is opened with
+pub record Start : Type 0 where
+  pub program : List Procedure
+  pub inputs : List Input
+  pub layout : ActorCounts
+
+-- what events come to from there
+abbrev pub reached_from : Start → List Event → Outcome State
+reached_from start events = reached start.program start.inputs start.layout events
+
+-- in this state the event does the RULE at this place of this procedure
+pub record DoesRule (program : List Procedure) (s : State) (event : Event) (procedure place : ℕ) (action : Action) : Type 0 where
+  pub actor : Actor
+  pub is : event ≡ Call actor
+  pub frame : Frame
+  pub runs : get s.frames actor ≡ Some frame
+  pub procedure_is : frame.procedure ≡ procedure
+  pub place_is : frame.position.place ≡ place
+  pub does : instr_here program frame ≡ Some (Rule action)
+
+-- one of the events made the rule of this number so
+pub record IsMade (start : Start) (events : List Event) (rule procedure place : ℕ) (action : Action) : Type 0 where
+  pub before : List Event
+  pub event : Event
+  pub after : List Event
+  pub parts : events ≡ before ++ (event ∷ after)
+  pub at : State
+  pub leads : reached_from start before ≡ Went at
+  pub number : at.next_rule ≡ rule
+  pub does : DoesRule start.program at event procedure place action
+
+-- ---- lines
+
+abbrev pub rule_text : ℕ → ℕ → List ℕ
+rule_text rule procedure = codes "rule " ++ (decimal rule ++ (codes " runs procedure " ++ (decimal procedure ++ codes ", made ")))
+
+abbrev pub rule_line : ℕ → ℕ → ℕ → List ℕ → List ℕ
+rule_line rule procedure number line = rule_text rule procedure ++ text_line number line
+
+-- the line of a rule that was made by the events; of another one nothing
+abbrev pub TellsRule : List ℕ → Start → List Event → ℕ → List ℕ → Type 0
+TellsRule text start events rule more =
+    ((plain : List ℕ) × (procedure place number : ℕ) × (action : Action) × (line : List ℕ) × IsMade start events rule procedure place action
+    × StandsFor text plain × ComesFrom plain procedure place number × IsLineOf text number line × (more ≡ rule_line rule action.procedure number line))
+    ⊎ (((procedure place : ℕ) (action : Action) → IsMade start events rule procedure place action → ⊥) × (more ≡ []))
+
+-- of each rule of a circle
+abbrev pub TellRules : List ℕ → Start → List Event → List Link → List ℕ → Type 0
+TellRules text start events [] more = more ≡ []
+TellRules text start events (l ∷ links) more =
+    (line : List ℕ) × (others : List ℕ) × TellsRule text start events l.rule line × TellRules text start events links others × (more ≡ line ++ others)
+
+-- of the circle, if there is one
+abbrev pub TellsCircle : List ℕ → Start → List Event → Option (List Link) → List ℕ → Type 0
+TellsCircle text start events None more = more ≡ []
+TellsCircle text start events (Some links) more = TellRules text start events links more
+
+-- ---- behind a report
+
+-- in the state to which the events lead, by how the run has ended there
+abbrev pub IsEndingBehind : List ℕ → Start → List Event → State → Option Ending → List ℕ → Type 0
+IsEndingBehind text start events s None more = more ≡ []
+IsEndingBehind text start events s (Some Quiet) more = more ≡ []
+IsEndingBehind text start events s (Some (Stuck rules)) more = TellsCircle text start events (circle start.program s) more

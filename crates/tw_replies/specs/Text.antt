@@ -1,0 +1,55 @@
+-- What a session answers to text, and the line of a text that a refusal of its program tells.
+use Rattle.std.specs.Prelude.{◌≡◌, ◌⊎◌, ◌++◌, ◌-◌, ℕ, List, [], codes, decimal, slice_get, IsUtf8, Option, Some, None}
+use Rattle.std.specs.Str.{IsTrimAscii}
+use Rattle.std.specs.Str.Lines.{lines}
+use Rattle.tw_asm.specs.Origins.{AreOrigins, ComesFrom}
+use Rattle.tw_code.specs.declared.procedure.Procedure.{Procedure}
+use Rattle.tw_names.specs.Registers.{IsWithName}
+use Rattle.tw_names.specs.Standing.{StandsFor}
+use Rattle.tw_reasons.specs.Reasons.{TellsReason, shape_line}
+use Rattle.tw_reasons.specs.Says.{IsFirstHead}
+use Rattle.tw_verify.specs.declared.refusal.VerifyRefusal.{VerifyRefusal}
+use Rattle.tw_verify.specs.declared.refusal.VerifyRefusal.TheVariants as refusal
+use Rattle.tw_replies.specs.Reply.{Reply, reply}
+use Rattle.tw_replies.specs.declared.close.Close.TheVariants.{Refused}
+
+-- ---- a text
+
+-- what is to be text is UTF-8, and is answered so, or it isn't
+abbrev pub RepliesByUtf8 : List ℕ → Type 0 → Reply → Type 0
+RepliesByUtf8 bytes Answers r = (IsUtf8 bytes × Answers) ⊎ ((IsUtf8 bytes → ⊥) × (r ≡ reply (codes "refused H03\n") Refused))
+
+-- ---- where a refused place stands in it
+
+-- the number of a line of the text, and the line
+abbrev pub text_line : ℕ → List ℕ → List ℕ
+text_line number line = codes "at line " ++ (decimal number ++ (codes ": " ++ (line ++ codes "\n")))
+
+-- the line of this number, counted from 1, without white space around it
+abbrev pub IsLineOf : List ℕ → ℕ → List ℕ → Type 0
+IsLineOf text number trimmed = (line : List ℕ) × (slice_get (lines text) (number - 1) ≡ Some line) × IsTrimAscii line trimmed
+
+-- ---- what stands behind the line of a refusal
+
+-- The line from which the instruction at the refused place comes, as it is written; and why it is refused, where the register that is told has its
+-- name beside it.
+abbrev pub IsPlaceBehind : List ℕ → VerifyRefusal → List Procedure → ℕ → ℕ → List ℕ → Type 0
+IsPlaceBehind text which program procedure place more =
+    (plain : List ℕ) × (number : ℕ) × (line : List ℕ) × (numbers : List (List ℕ)) × (reason : List ℕ) × (told : List ℕ)
+    × StandsFor text plain × ComesFrom plain procedure place number × IsLineOf text number line
+    × AreOrigins plain program numbers × TellsReason which numbers program procedure place reason × IsWithName text number reason told × (more ≡ text_line number line ++ told)
+
+-- the line that begins main, and what is wrong with its shape
+abbrev pub IsMainBehind : List ℕ → List Procedure → List ℕ → Type 0
+IsMainBehind text program more =
+    (plain : List ℕ) × (number : ℕ) × (line : List ℕ) × (main : Procedure) × StandsFor text plain × IsFirstHead plain number × IsLineOf text number line
+    × (slice_get program 0 ≡ Some main) × (more ≡ text_line number line ++ shape_line main.kind main.params)
+
+abbrev pub IsTextBehind : List ℕ → VerifyRefusal → List Procedure → ℕ → ℕ → List ℕ → Type 0
+IsTextBehind text refusal.MainShape program procedure place more = IsMainBehind text program more
+IsTextBehind text which program procedure place more = IsPlaceBehind text which program procedure place more
+
+-- where the program was read from a text
+abbrev pub IsBehind : Option (List ℕ) → VerifyRefusal → List Procedure → ℕ → ℕ → List ℕ → Type 0
+IsBehind None which program procedure place more = more ≡ []
+IsBehind (Some text) which program procedure place more = IsTextBehind text which program procedure place more

@@ -1,0 +1,18 @@
+use Rattle.std.proofs.Common.{inl}
+use Rattle.std.proofs.lemmas.Result.{IfOk-weaker}
+use Rattle.tw_command.specs.declared.command.Source.TheVariants.{Assembly}
+use Rattle.tw_replies.specs.Program.{RepliesBySource}
+use Rattle.tw_replies.specs.Reply.{reply}
+use Rattle.tw_session.specs.Session.{IsWritten}
+use Rattle.tw_replies.specs.declared.reply.Reply.{Reply}
+use Rattle.tw_replies.proofs.Nones.{Tells, none_told}
+use Rattle.tw_session.proofs.order.named_reply.Goals as goal
+
+pub returns-in-Ok : goal.returns-in-Ok
+returns-in-Ok c = IfOk-weaker _ _ _ (λ (r : Reply) h. inl (c.in-Ok.read.program, c.in-Ok.ensures.spells, h)) c.hex_reply.ensures
+
+pub returns-in-Err : goal.returns-in-Err
+returns-in-Err c =
+    let input = c.args.input.now in
+    IfOk-weaker c.reasoned_reply.result (λ (r : Reply). Tells input c.in-Err.why (reply r.text.items r.close)) (λ (r : Reply). RepliesBySource Assembly input IsWritten (reply r.text.items r.close))
+    (λ (r : Reply) h. none_told Assembly input c.in-Err.why IsWritten (reply r.text.items r.close) c.in-Err.ensures.none h) c.reasoned_reply.ensures

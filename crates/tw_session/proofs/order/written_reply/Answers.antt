@@ -1,0 +1,14 @@
+use Rattle.std.proofs.Common.{List, ℕ, inr, subst}
+use Rattle.std.proofs.lemmas.Result.{IfOk-weaker}
+use Rattle.tw_replies.specs.Program.{RepliesByText}
+use Rattle.tw_replies.specs.Reply.{reply}
+use Rattle.tw_session.specs.Session.{IsWritten}
+use Rattle.tw_replies.specs.declared.reply.Reply.{Reply}
+use Rattle.tw_session.proofs.order.written_reply.Goals as goal
+
+pub returns-in-Ok : goal.returns-in-Ok
+returns-in-Ok c =
+    IfOk-weaker _ _ _ (λ (r : Reply) h. subst (λ (t : List ℕ). RepliesByText t IsWritten (reply r.text.items r.close)) c.in-Ok.ensures.cases.0 h) c.text_reply.ensures
+
+pub returns-in-Err : goal.returns-in-Err
+returns-in-Err c = IfOk-weaker _ _ _ (λ (r : Reply) h. inr (c.in-Err.ensures.cases.0, h)) c.not_utf8_reply.ensures

@@ -1,0 +1,20 @@
+use Rattle.std.proofs.Common.{◌≡◌, ◌∙◌, ap, subst, sym}
+use Rattle.std.proofs.lemmas.Result.{IfOk-weaker}
+use Rattle.tw_command.specs.declared.command.ProgramOrder.{ProgramOrder}
+use Rattle.tw_command.specs.declared.command.ProgramOrder.TheVariants.{Verified}
+use Rattle.tw_command.specs.declared.command.RunOrder.{RunOrder}
+use Rattle.tw_command.specs.declared.command.VerifiedOrder.TheVariants.{Run}
+use Rattle.tw_session.specs.Session.{RepliesByProgram, RepliesByVerified}
+use Rattle.tw_replies.specs.Source.{text_of}
+use Rattle.tw_session.proofs.Leading.{leads_on}
+use Rattle.tw_session.proofs.programs.program_reply.Goals as goal
+
+pub returns-in-Verified : goal.returns-in-Verified
+returns-in-Verified c =
+    let text = text_of c.args.source.now in
+    let order = c.in-Verified.order in
+    let inside : RunOrder → Type 0 = λ run. order ≡ Run run in
+    let outside : RunOrder → Type 0 = λ run. c.args.order ≡ Verified (Run run) in
+    IfOk-weaker _ _ _
+    (λ a h. leads_on inside outside c.args.source.now (RepliesByVerified text order c.args.program.procedures) (RepliesByProgram text c.args.order c.args.program) (λ run e. c.in-Verified.is ∙ ap Verified e)
+    (λ r told. subst (λ (o : ProgramOrder). RepliesByProgram text o c.args.program r) (sym c.in-Verified.is) told) a h) c.verified_reply.ensures

@@ -1,0 +1,20 @@
+use Rattle.std.proofs.Common.{◌∙◌, ◌++◌, ℕ, List, ap, append_assoc}
+use Rattle.tw_report.specs.Lines.{verify_line}
+use Rattle.tw_verify.specs.Refusal.{verify_refusal_number}
+use Rattle.tw_replies.specs.Reply.{reply}
+use Rattle.tw_replies.specs.declared.close.Close.TheVariants.{Refused}
+use Rattle.tw_replies.proofs.Places.{placed}
+use Rattle.tw_session.proofs.programs.refusal_reply.Goals as goal
+
+pub returns : goal.returns
+returns c =
+    let refused = c.args.refused.now in
+    let number = verify_refusal_number refused.no in
+    let before = c.in_ok-text.text.items in
+    let line = verify_line number refused.procedure refused.place in
+    let told = c.in_ok-put_behind.ensures (placed c.args.source.now refused.program.procedures number refused.procedure refused.place c.requires.source c.requires.first) in
+    let text =
+    told.2
+    ∙ ap (λ (t : List ℕ). t ++ told.0) (c.in_ok-put_verify_line.ensures ∙ ap (λ (n : ℕ). before ++ verify_line n refused.procedure refused.place) c.number.ensures)
+    ∙ append_assoc before line told.0 in
+    (refused.no, refused.procedure, refused.place, before, told.0, c.requires.first, c.in_ok-text.ensures, told.1, c.refused_by.ensures ∙ ap (λ (t : List ℕ). reply t Refused) text)
