@@ -7,8 +7,9 @@ data=crates/tw_rows/data
 # A file's name behind a command as what the script `tw` makes of it.
 as_input() {
     sed -E '/^\$ /{
-        s#^\$ \./tw asm ([^ :<]+\.tw)#$ ./tw asm < \1#
-        s#^\$ \./tw ([a-z]+) ([^ :<]+\.tw)([^|]*[^| ])?( \| .*)?$#$ ./tw \1 --text\3 < \2\4#
+        s#^\$ \./tw asm ([^ :<]+\.tw)( |$)#$ ./tw asm < \1\2#
+        s#^\$ \./tw asm ([^ :<]+\.twn)([^|]*[^| ])?#$ ./tw asm --names\2 < \1#
+        s#^\$ \./tw ([a-z]+) ([^ :<]+\.twn?)([^|]*[^| ])?( \| .*)?$#$ ./tw \1 --text\3 < \2\4#
         s#^\$ \./tw ([a-z]+) ([^ :<]+\.(hex|history))([^|]*[^| ])?( \| .*)?$#$ ./tw \1\4 < \2\5#
     }' "$1" >"$data/as_input" && mv "$data/as_input" "$1"
 }

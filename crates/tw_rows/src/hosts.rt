@@ -15,7 +15,7 @@ use std::sync::Wait;
 use std::sync::ledger::Blank;
 use tw_host::{Closed, Host, Named};
 use tw_pool::{Events, Final, History, Pool};
-use tw_report::report;
+use tw_run_report::report;
 use tw_types::{Actor, Event, Input, Layout};
 use tw_verify::Verified;
 

@@ -8,6 +8,7 @@ use crate::drives::drives_text;
 use crate::hosts::{rounds_text, stops_text, turns_text};
 use crate::layouts::layout_text;
 use crate::machine::{machine_text, open_text, state_text, steps_text};
+use crate::named::{alike_text, names_text};
 use crate::parts::part_text;
 use crate::programs::{decode_text, fronts_text, verify_text};
 use crate::scarce::{scarce_text, unthreaded_text};
@@ -38,6 +39,8 @@ pub fn outcome<H: AllocGlobal + Files + Threads + Wait + Clock + Sync>(
         "phrases" => phrases_text(rt, words, given),
         "shown" => shown_text(rt, given),
         "layout" => layout_text(rt.alloc(), given),
+        "names" => names_text(rt.alloc(), given),
+        "alike" => alike_text(rt, given),
         _ => {
             let (bytes, rest) = first_field(given);
             let bytes = read_bytes(rt.alloc(), book, bytes)?;

@@ -16,6 +16,7 @@ mod hosts;
 mod kinds;
 mod layouts;
 mod machine;
+mod named;
 mod parts;
 mod play;
 mod programs;

@@ -3,7 +3,8 @@
 use crate::complaint::Complaint;
 use crate::text::Text;
 use std::alloc::Global;
-use tw_code::{Program, decode, encode};
+use tw_bytes::{decode, encode};
+use tw_code::Program;
 use tw_types::{DataType, Scalar};
 use tw_verify::verify;
 

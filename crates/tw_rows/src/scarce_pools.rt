@@ -13,7 +13,7 @@ use std::marker::Brand;
 use std::sync::Wait;
 use tw_host::Named;
 use tw_pool::{OpenRefusal, Pool};
-use tw_report::report;
+use tw_run_report::report;
 use tw_types::Actor;
 use tw_verify::Verified;
 

@@ -10,7 +10,7 @@ use std::thread;
 use std::thread::Threads;
 use std::time::Clock;
 use tw_host::Closed;
-use tw_report::report;
+use tw_run_report::report;
 use tw_types::Actor;
 use tw_workers::{Gate, run};
 

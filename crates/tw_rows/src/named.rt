@@ -1,0 +1,64 @@
+//! Cases of texts with names.
+
+use crate::complaint::Complaint;
+use crate::words::unescaped;
+use std::alloc::Global;
+use std::fs;
+use std::rt::Files;
+use tw_asm::assemble;
+use tw_bytes::encode;
+use tw_names::plain_text;
+
+/// The assembly text for which a text stands, with a slash for each line end; or its first refusal, or that it stands for itself.
+pub fn names_text(alloc: Global, text: &str) -> Result<String, Complaint> {
+    let bytes = unescaped(alloc, text)?;
+    let Ok(text) = String::from_utf8(bytes) else {
+        return Err(Complaint::WordBytes);
+    };
+    match plain_text(alloc, text.as_str()) {
+        Ok(None) => Ok("itself".to_string(alloc)?),
+        Ok(Some(plain)) => one_line(alloc, plain.as_str()),
+        Err(refusal) => {
+            let word = str::from_utf8(refusal.word).map_err(|_| Complaint::WrittenBytes)?;
+            Ok(format!(in alloc;
+                "N{:02} at line {}: {word}",
+                refusal.no.number(),
+                refusal.line
+            )?)
+        }
+    }
+}
+
+fn one_line(alloc: Global, plain: &str) -> Result<String, Complaint> {
+    let line = plain
+        .trim_matches('\n')
+        .replace(alloc, "\n", " / ")?;
+    Ok(line.as_str().trim().to_string(alloc)?)
+}
+
+/// Whether the programs of a file with names and of one without are the same bytes.
+pub fn alike_text<R: AllocGlobal + Files>(rt: &R, files: &str) -> Result<String, Complaint> {
+    let Some((named, plain)) = files.split_once(' ') else {
+        return Err(Complaint::Names);
+    };
+    let named = fs::read_to_string(rt, named)?;
+    let plain = fs::read_to_string(rt, plain)?;
+    let Ok(Some(text)) = plain_text(rt.alloc(), named.as_str()) else {
+        return Err(Complaint::Names);
+    };
+    let bytes = bytes_of(rt.alloc(), text.as_str())?;
+    let wanted = bytes_of(rt.alloc(), plain.as_str())?;
+    let told = if bytes.as_slice() == wanted.as_slice() {
+        "alike"
+    } else {
+        "other bytes"
+    };
+    Ok(told.to_string(rt.alloc())?)
+}
+
+fn bytes_of(alloc: Global, text: &str) -> Result<Vec<u8>, Complaint> {
+    match assemble(alloc, text) {
+        Ok(program) => Ok(encode(alloc, &program)?),
+        Err(_) => Err(Complaint::Assembly),
+    }
+}
