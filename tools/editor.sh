@@ -1,14 +1,15 @@
 #!/bin/sh
-# Writes tools/tw.vim, by which vim shows assembly text, and tools/tw.bash, by which bash completes the words of ./tw. The first is made of
-# the names of instructions and the words that the assembler reads, the second of the program's help texts and that of ./tw.
+# Writes tools/tw.vim, by which vim shows assembly text and texts with names, and tools/tw.bash, by which bash completes the words of ./tw. The first is made of
+# the names of instructions and the words that are read in lines, the second of the program's help texts and that of ./tw.
 #
 #   tools/editor.sh            writes both; the proved program is built where it isn't there
 #   tools/editor.sh --check    compares them with those that are there, and fails where one is stale
 #
-# For vim:   mkdir -p ~/.vim/syntax ~/.vim/ftdetect; cp tools/tw.vim ~/.vim/syntax/; echo 'au BufNewFile,BufRead *.tw setf tw' >~/.vim/ftdetect/tw.vim
+# For vim:   mkdir -p ~/.vim/syntax ~/.vim/ftdetect; cp tools/tw.vim ~/.vim/syntax/; echo 'au BufNewFile,BufRead *.tw,*.twn setf tw' >~/.vim/ftdetect/tw.vim
 # For bash:  . tools/tw.bash
 root=$(dirname "$(dirname "$(readlink -f "$0")")")
 assembler=$root/crates/tw_asm/src
+names=$root/crates/tw_names/src
 room=$(mktemp -d)
 trap 'rm -rf "$room"' EXIT
 
@@ -24,7 +25,7 @@ instructions() {
 
 # The words with which other lines begin, and the others that the assembler reads.
 first_words() {
-    grep -oh 'b"[a-z]*"' "$assembler/first.rt" | sed 's/^b"\(.*\)"$/\1/' | in_line
+    grep -oh 'b"[a-z]*"' "$assembler/first.rt" "$names/says.rt" | sed 's/^b"\(.*\)"$/\1/' | in_line
 }
 
 other_words() {

@@ -1,10 +1,10 @@
 # Writes what documents show to a folder: awk -f tools/shown.awk -v folder=DIR README.md docs/*.md. There shown.txt has each
 # command `$ ./tw ..` that stands in a block of code, with what stands below it, but for the script's own `build` and `test`. A
-# block behind the words "into `sum.tw`" is the file sum.tw; a command `$ sed -i .. sum.tw` in a block makes sum_2.tw of it, and
+# block behind the words "into `sum.twn`" is the file sum.twn; a command `$ sed -i .. sum.twn` in a block makes sum_2.twn of it, and
 # so on, and a command takes the last.
 
 function current(name) {
-    return version[name] == 1 ? name : substr(name, 1, length(name) - 3) "_" version[name] ".tw"
+    return version[name] == 1 ? name : substr(name, 1, index(name, ".") - 1) "_" version[name] substr(name, index(name, "."))
 }
 
 /^```/ {
@@ -15,7 +15,7 @@ function current(name) {
     next
 }
 
-!block && match($0, /into `[a-z_]+\.tw`/) {
+!block && match($0, /into `[a-z_]+\.twn?`/) {
     named = substr($0, RSTART + 6, RLENGTH - 7)
     version[named]++
 }

@@ -8,7 +8,7 @@ _tw() {
     fi
     case $command:$word in
         help:*) COMPREPLY=($(compgen -W "asm disasm check run replay picture explain build test" -- "$word")) ;;
-        asm:-*) COMPREPLY=($(compgen -W "--help" -- "$word")) ;;
+        asm:-*) COMPREPLY=($(compgen -W "--names --plain --help" -- "$word")) ;;
         disasm:-*) COMPREPLY=($(compgen -W "--text --places --help" -- "$word")) ;;
         check:-*) COMPREPLY=($(compgen -W "--text --places --help" -- "$word")) ;;
         run:-*) COMPREPLY=($(compgen -W "--engines --servers --workers --limit --trace --in-turn --stats --picture --text --inputs --help" -- "$word")) ;;

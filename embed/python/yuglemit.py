@@ -138,6 +138,7 @@ def replay(program, history, *inputs, engines=1, servers=1, workers=1):
     """Makes the events of a history on the reference machine: the Report of the state to which they lead."""
     return _report(_ask("replay", _options(inputs, engines, servers, workers), program, "\n" + history), history)
 
-def picture(program, history, *inputs, engines=1, servers=1, workers=1):
-    """The events of a history as an SVG picture."""
-    return _ask("picture", _options(inputs, engines, servers, workers), program, "\n" + history)
+def picture(program, history, *inputs, engines=1, servers=1, workers=1, first=1, last=4294967295):
+    """The events of a history from one number to another as an SVG picture."""
+    options = [*_options(inputs, engines, servers, workers), "--from", str(first), "--to", str(last)]
+    return _ask("picture", options, program, "\n" + history)
