@@ -30,9 +30,7 @@ pub fn names_text(alloc: Global, text: &str) -> Result<String, Complaint> {
 }
 
 fn one_line(alloc: Global, plain: &str) -> Result<String, Complaint> {
-    let line = plain
-        .trim_matches('\n')
-        .replace(alloc, "\n", " / ")?;
+    let line = plain.trim_matches('\n').replace(alloc, "\n", " / ")?;
     Ok(line.as_str().trim().to_string(alloc)?)
 }
 
