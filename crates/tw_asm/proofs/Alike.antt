@@ -1,15 +1,9 @@
 -- Statements of the same words differ in skips alone.
 use Rattle.std.proofs.Common.{◌≡◌, ℕ, List, [], ◌∷◌, ◌++◌, codes, refl, sym, ap, subst, ◌∙◌}
-use Rattle.std.proofs.lemmas.List.{append_cancel_right}
-use Rattle.tw_code.specs.declared.version.Version.{Version}
-use Rattle.tw_words.specs.Number.{SpellsDigits}
-use Rattle.tw_words.specs.Words.{Bare, Word}
+use Rattle.tw_asm.proofs.AsmNames.{Bare, Code, Goals, Head, Label, OfVersion, Registers, Situation, SpellParts, Spells, SpellsDigits, Statement, Version, Word, after, append_cancel_right, statement_parts, version_parts}
 use Rattle.tw_words.proofs.Numerals.{one_size}
-use Rattle.tw_asm.specs.Parts.{version_parts}
-use Rattle.tw_asm.specs.Statement.{Statement, OfVersion, Head, Registers, Label, Code, Goals, SpellParts, Spells, statement_parts}
 use Rattle.tw_asm.proofs.Once.{begins, class_of, same_class, same_word}
 use Rattle.tw_asm.proofs.Rows.{different}
-use Rattle.tw_asm.specs.Fault.{Situation, after}
 
 abbrev pub AreAlike : Statement → Statement → Type 0
 AreAlike (OfVersion n) (OfVersion m) = n ≡ m

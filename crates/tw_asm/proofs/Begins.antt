@@ -1,11 +1,7 @@
 -- What the first word of a line lets expect.
 use Rattle.std.proofs.Common.{◌≡◌, ℕ, List, ◌∷◌, refl, subst}
-use Rattle.tw_code.specs.declared.version.Version.{Version}
-use Rattle.tw_words.specs.Words.{Bare, IsFirstWord, IsLine, Word}
-use Rattle.tw_asm.specs.declared.statement.First.{First}
-use Rattle.tw_asm.specs.Statement.{Statement, OfVersion, Head, Registers, Label, Code, Goals, IsExpected, Spells}
+use Rattle.tw_asm.proofs.AsmNames.{Bare, Begins, Code, First, Goals, Head, IsExpected, IsFirstWord, IsLine, Label, MayBegin, OfVersion, Registers, Situation, Spells, Statement, Version, Word}
 use Rattle.tw_asm.proofs.Once.{begins, first_word, expected_of, expected}
-use Rattle.tw_asm.specs.Fault.{Begins, MayBegin, Situation}
 use Rattle.tw_asm.specs.reading.Expected.{expectation}
 
 -- what the first word of a statement lets expect

@@ -1,10 +1,7 @@
 -- What stands before a `:`.
 use Rattle.std.proofs.Common.{◌≡◌, ◌≢◌, ◌==◌, ℕ, Bool, true, false, cond, List, [], ◌∷◌, ◌++◌, Option, Some, None, refl, sym, ap, ◌∙◌}
 use Rattle.std.specs.Borrow.{Bor}
-use Rattle.std.specs.Option.{option_map}
-use Rattle.std.specs.Prelude.{MatchOption}
-use Rattle.std.proofs.lemmas.Bool.{eqb-true}
-use Rattle.tw_asm.specs.reading.Lines.{before_colon}
+use Rattle.tw_asm.proofs.AsmNames.{MatchOption, before_colon, eqb-true, option_map}
 
 pub before : (name : List ℕ) → before_colon (name ++ 58 ∷ []) ≡ Some name
 before [] = refl

@@ -1,30 +1,15 @@
 -- The text of a program spells it.
 use Rattle.std.proofs.Common.{◌≡◌, ◌≢◌, ◌==◌, ◌≤◌, ◌<◌, ℕ, zero, suc, ◌+◌, Bool, true, false, List, [], ◌∷◌, ◌++◌, length, get_or, map, codes, Option, Some, None, refl, sym, ap, subst, ◌∙◌, append_assoc, append-nil, arith}
 use Rattle.std.specs.Prelude.{IsUtf8, decimal, slice_index_or}
-use Rattle.std.specs.List.{AllByRecursion, AllPairs, Contains, concat, flat_map, join_with_byte}
-use Rattle.std.specs.Option.{option_and_then}
-use Rattle.std.specs.Str.Lines.{lines}
-use Rattle.std.proofs.lemmas.Bool.{eqb-true}
-use Rattle.std.proofs.lemmas.Bool.Decides.{nat_tests}
+use Rattle.tw_asm.proofs.AsmNames.{AllByRecursion, AllPairs, AreCode, Bare, Code, Contains, Goals, GoesTo, HaveWords, Head, Instr, IsInstrOf, IsLine, IsProcedure, IsProcedureOf, IsVersioned, Label, OfVersion, One, Placed, Procedure, Registers, SpellProcedures, SpellsProcedure, SpellsProgram, SpellsVersion, Statement, Two, Version, Versioned, Word, code_lines, concat, disassembly, eqb-true, flat_map, goal_word, join_with_byte, label_at, label_line, label_places, line_of, lines, nat_tests, option_and_then, procedure_lines, skip_of, version_line}
 use Rattle.std.proofs.lemmas.List.Elements.{Contains-append_left, Contains-append_right}
 use Rattle.std.proofs.lemmas.Str.{IsUtf8-append, IsUtf8-nil}
-use Rattle.tw_code.specs.declared.instr.Instr.{Instr}
-use Rattle.tw_code.specs.declared.procedure.Procedure.{Procedure}
-use Rattle.tw_code.specs.declared.version.Version.{Version}
-use Rattle.tw_code.specs.declared.version.Version.TheVariants.{One, Two}
-use Rattle.tw_code.specs.format.Program.{IsInstrOf, IsProcedure, IsProcedureOf, IsVersioned, Versioned}
 use Rattle.tw_code.proofs.Widening.{instr_widened, widened}
-use Rattle.tw_words.specs.Words.{Bare, IsLine, Word}
 use Rattle.tw_words.proofs.Breaks.{IsOneLine, one_lines_back, with_line_feed}
-use Rattle.tw_asm.specs.Parts.{skip_of}
-use Rattle.tw_asm.specs.Statement.{Code, Goals, Head, Label, OfVersion, Registers, Statement}
-use Rattle.tw_asm.specs.Written.{goal_word, line_of}
 use Rattle.tw_asm.proofs.Labels.{numbered_name, one_numbered}
 use Rattle.tw_asm.proofs.Once.{begins, first_word}
 use Rattle.tw_asm.proofs.Quotes.{after_ascii}
 use Rattle.tw_asm.proofs.Written.{IsGoal, IsLineOf, all_append, bare_line, head_written, instr_written, label_written, registers_written, version_written}
-use Rattle.tw_asm.specs.Disassembly.{code_lines, disassembly, label_at, label_line, label_places, procedure_lines, version_line}
-use Rattle.tw_asm.specs.Spelling.{AreCode, GoesTo, HaveWords, Placed, SpellProcedures, SpellsProcedure, SpellsProgram, SpellsVersion}
 use Rattle.tw_asm.proofs.OwnLines.{words_of_goal}
 use Rattle.tw_asm.proofs.Places.{AreNumbered, label_is, label_within, numbered}
 use Rattle.tw_asm.proofs.Versions.{had, had_params, number_within}

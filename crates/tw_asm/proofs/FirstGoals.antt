@@ -1,22 +1,9 @@
 -- The first goal that isn't found is the first fault of its text.
 use Rattle.std.proofs.Common.{◌≡◌, ℕ, zero, suc, ◌+◌, ◌<◌, ◌≤◌, List, [], ◌∷◌, ◌++◌, length, map, take, drop, Option, Some, None, inl, inr, refl, sym, subst, ap, ◌∙◌, arith}
-use Rattle.std.proofs.lemmas.List.{map-append}
+use Rattle.tw_asm.proofs.AsmNames.{AllByRecursion, AnyShortName, AsmFault, Code, Contains, FaultNo, GoalFault, HasSections, Head, Instr, IsFirstGoalFault, IsLine, IsRead, IsWhole, Label, LineRead, LineSays, LinesRead, LinesSay, MayStand, NamesLabel, OfVersion, Placed, Progress, Read, Registers, Section, Situation, Statement, Version, Word, after, after_line, at_start, flat_map, labels_ahead, line_once, line_step, lines, map-append, not_forward, outset, situation_from, situation_of, slice_get, slice_index_or, unknown}
 use Rattle.std.proofs.lemmas.List.Elements.{Contains-append_cases, Contains-append_left, Contains-append_right}
-use Rattle.std.specs.List.{AllByRecursion, Contains, flat_map, slice_get, slice_index_or}
-use Rattle.std.specs.Str.Lines.{lines}
-use Rattle.tw_code.specs.declared.instr.Instr.{Instr}
-use Rattle.tw_code.specs.declared.version.Version.{Version}
-use Rattle.tw_words.specs.Words.{IsLine, Word}
-use Rattle.tw_asm.specs.Seen.{IsRead, Read}
-use Rattle.tw_asm.specs.Statement.{Statement, OfVersion, Head, Registers, Label, Code, AnyShortName, NamesLabel}
-use Rattle.tw_asm.specs.declared.fault.AsmFault.{AsmFault}
-use Rattle.tw_asm.specs.declared.fault.FaultNo.{FaultNo}
-use Rattle.tw_asm.specs.Fault.{GoalFault, IsFirstGoalFault, IsWhole, LineSays, LinesSay, MayStand, Situation, after, after_line, at_start, labels_ahead, not_forward, situation_from, unknown}
-use Rattle.tw_asm.specs.Spelling.{Placed}
 use Rattle.tw_asm.specs.reading.Goals.{FirstUnlinked, Goal, IsNoGoal, StandsAt, section_goals}
-use Rattle.tw_asm.specs.reading.Progress.{HasSections, LineRead, LinesRead, Progress, Section, line_step, outset, situation_of}
 use Rattle.tw_asm.proofs.Alike.{AreAlike, alike}
-use Rattle.tw_words.proofs.Once.{line_once}
 use Rattle.tw_asm.proofs.NamedLabels.{named_once}
 use Rattle.tw_asm.proofs.Found.{ahead, ahead_by, all_goals, goals_are, goals_from, labels_after, place_after}
 use Rattle.tw_asm.proofs.Steps.{line_after, line_says, lines_say, read_says, said_by, situation_is, statement_of}

@@ -1,22 +1,10 @@
 -- What a first word lets expect.
 use Rattle.std.proofs.Common.{◌≡◌, ◌≢◌, ℕ, pos, Bool, true, false, List, [], ◌∷◌, ◌++◌, codes, Option, Some, None, sym, ap, subst, ◌∙◌, refl}
-use Rattle.std.specs.Prelude.{◌↔◌, IsTrue}
-use Rattle.std.specs.List.{flat_map}
-use Rattle.std.specs.Option.{is_some}
-use Rattle.std.proofs.lemmas.List.{append_cancel_right}
+use Rattle.tw_asm.proofs.AsmNames.{◌↔◌, Int, IsInstrWord, IsLabelWord, IsName, IsTrue, Name, Opcode, Part, Version, append_cancel_right, flat_map, further, is_name, is_some, operand_parts, row, scalar_type, word_of}
 use Rattle.tw_asm.proofs.Lined.{Had, parts_of}
 use Rattle.tw_asm.proofs.Names.{name_decide}
 use Rattle.tw_asm.proofs.Table.{found_back, instr_of, is_sayable, line_of, made_had, named_in, parts_are, sayable, unsayable}
-use Rattle.tw_asm.specs.Parts.{Part, Name, operand_parts}
-use Rattle.tw_asm.specs.Statement.{IsInstrWord, IsLabelWord, IsName}
-use Rattle.tw_code.specs.declared.opcode.Opcode.{Opcode}
-use Rattle.tw_code.specs.declared.version.Version.{Version}
-use Rattle.tw_code.specs.format.Table.{row}
-use Rattle.tw_asm.specs.Names.{word_of}
 use Rattle.tw_asm.specs.reading.Lines.{Content, Line, LineContent, Operand, args, goal, literal, more, natural, never, nothing, number, opcode_in, right, target, type, value}
-use Rattle.tw_asm.specs.reading.Operands.{further, is_name}
-use Rattle.tw_types.specs.DataType.{scalar_type}
-use Rattle.tw_types.specs.declared.data_type.Scalar.TheVariants.{Int}
 
 pub label_by : (word name : List ℕ) (r : Bool) → word ≡ name ++ codes ":" → r ≡ is_name name → IsTrue r ↔ IsLabelWord word
 label_by word name r is test = (

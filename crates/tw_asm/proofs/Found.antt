@@ -1,16 +1,8 @@
 -- All goals of a text, in the order of its lines.
 use Rattle.std.proofs.Common.{◌≡◌, ℕ, suc, ◌+◌, List, [], ◌∷◌, ◌++◌, length, Option, Some, None, refl, sym, ap, ◌∙◌, append_assoc, arith}
 use Rattle.std.proofs.lemmas.Grind.{flat_map-append}
-use Rattle.std.proofs.lemmas.List.{append-nil, length-append}
-use Rattle.std.specs.List.{flat_map}
-use Rattle.tw_code.specs.declared.instr.Instr.{Instr}
-use Rattle.tw_code.specs.declared.version.Version.{Version}
-use Rattle.tw_asm.specs.Seen.{Read}
-use Rattle.tw_asm.specs.Statement.{Statement, OfVersion, Head, Registers, Label, Code}
-use Rattle.tw_asm.specs.Fault.{MayStand}
-use Rattle.tw_asm.specs.Spelling.{Placed}
+use Rattle.tw_asm.proofs.AsmNames.{AtStart, BehindHead, BehindVersion, Code, Drafted, Head, Instr, Label, LinesRead, MayStand, OfVersion, Place, Placed, Progress, Read, Registers, Section, Statement, Version, Within, append-nil, drafts_at, ended, flat_map, labels_at, length-append, line_step, progress_from, situation_of, step}
 use Rattle.tw_asm.specs.reading.Goals.{Goal, goals_in, section_goals}
-use Rattle.tw_asm.specs.reading.Progress.{AtStart, BehindHead, BehindVersion, Within, Drafted, LinesRead, Place, Progress, Section, drafts_at, ended, labels_at, line_step, progress_from, situation_of, step}
 use Rattle.tw_asm.proofs.Stages.{body_head, body_start, head_body, head_start, progress, start_body, start_head, version_body, version_head, version_start}
 
 -- ---- labels and goals line by line

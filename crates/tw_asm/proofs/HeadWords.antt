@@ -1,10 +1,6 @@
 -- Procedures' heads: what is read answers which words spell which statements.
 use Rattle.std.proofs.Common.{◌≡◌, ℕ, List, [], ◌∷◌, ◌++◌, length, map, codes, None, Result, Ok, Err, refl, sym, ap, subst, ◌∙◌}
-use Rattle.std.specs.List.{AllByRecursion, flat_map}
-use Rattle.tw_code.specs.declared.version.Version.{Version}
-use Rattle.tw_code.specs.declared.version.Version.TheVariants.{Two}
-use Rattle.tw_code.specs.format.Program.{IsList, IsParam, IsTypeUnderOf}
-use Rattle.tw_words.specs.Words.{Word, Bare}
+use Rattle.tw_asm.proofs.AsmNames.{AllByRecursion, AnyName, AnyShortName, Bare, Closed, Code, Flaw, Form, Goals, HasParam, Head, IsInLimits, IsList, IsParam, IsTypeOfMode, IsTypeUnderOf, Kind, Label, Limit, Mode, Name, Natural, NestedScalar, NoName, OfVersion, Param, Ref, Registers, SpellParts, Spells, Statement, Two, Val, Version, Word, Write, as_is, both, flat_map, is_scalar, kind_word, mode_word, param_parts, register_part}
 use Rattle.tw_asm.proofs.Answered.{Judged, first_is, none_some, proc_is_none}
 use Rattle.tw_asm.proofs.OperandWords.{Free, kind_read}
 use Rattle.tw_asm.proofs.ParamWords.{AreParams, IsShallowParam, one_params, param_words, params_read}
@@ -14,19 +10,7 @@ use Rattle.tw_asm.proofs.Sequences.{IsShallow, few_read}
 use Rattle.tw_asm.proofs.Spelled.{bare_is}
 use Rattle.tw_asm.proofs.TypeWords.{other_bytes, words_of}
 use Rattle.tw_asm.proofs.Versions.{any_type, under_shallow}
-use Rattle.tw_asm.specs.Parts.{Name, Natural, kind_word, mode_word, param_parts, register_part}
-use Rattle.tw_asm.specs.Seen.{NoName}
-use Rattle.tw_asm.specs.Statement.{AnyName, AnyShortName, Code, Goals, HasParam, Head, IsInLimits, IsTypeOfMode, Label, OfVersion, Registers, SpellParts, Spells, Statement}
-use Rattle.tw_asm.specs.declared.refusal.Flaw.{Flaw}
-use Rattle.tw_asm.specs.declared.refusal.Flaw.TheVariants.{Form, Limit}
 use Rattle.tw_asm.specs.reading.Lines.{before_colon, ended, few, head_in, head_read, kind_in, params_from}
-use Rattle.tw_asm.specs.reading.Operands.{as_is, both}
-use Rattle.tw_types.specs.DataType.{is_scalar}
-use Rattle.tw_types.specs.Nesting.{NestedScalar}
-use Rattle.tw_types.specs.declared.actor.Kind.{Kind}
-use Rattle.tw_types.specs.declared.param.Mode.{Mode}
-use Rattle.tw_types.specs.declared.param.Mode.TheVariants.{Val, Closed, Ref, Write}
-use Rattle.tw_types.specs.declared.param.Param.{Param}
 
 -- ---- the words of parameters
 

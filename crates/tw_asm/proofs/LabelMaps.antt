@@ -1,14 +1,8 @@
 -- A map of labels is a list of labels.
 use Rattle.std.proofs.Common.{◌≡◌, ℕ, zero, suc, ◌<◌, Bool, true, false, cond, List, [], ◌∷◌, ◌++◌, length, map, Option, Some, None, refl, sym, ap, ◌∙◌, arith}
 use denote.Ref.{Bor}
-use Rattle.std.specs.List.{Contains, slice_index_or}
+use Rattle.tw_asm.proofs.AsmNames.{Contains, Placed, bytes_eq, bytes_eq-Decides, is_some, map-append, seen_label, slice_index_or}
 use Rattle.std.specs.Map.{lookup}
-use Rattle.std.specs.Option.{is_some}
-use Rattle.std.specs.Str.{bytes_eq}
-use Rattle.std.proofs.lemmas.List.{map-append}
-use Rattle.std.proofs.lemmas.Slice.Eq.{bytes_eq-Decides}
-use Rattle.tw_asm.specs.Spelling.{Placed}
-use Rattle.tw_asm.specs.reading.Progress.{seen_label}
 
 abbrev pub found_in : List ℕ → List (Bor (List ℕ) × ℕ) → Option ℕ
 found_in name es = lookup (λ (k : Bor (List ℕ)). bytes_eq name k.now) es

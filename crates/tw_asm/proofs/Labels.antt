@@ -1,12 +1,9 @@
 -- The names of labels that are written: `L` and a number.
 use Rattle.std.proofs.Common.{◌≡◌, ◌≤◌, ◌<◌, ◌^◌, inl, inr, ℕ, List, [], ◌∷◌, ◌++◌, length, codes, arith}
-use Rattle.std.specs.Prelude.{decimal}
-use Rattle.std.specs.List.{AllByRecursion}
+use Rattle.tw_asm.proofs.AsmNames.{AllByRecursion, IsInName, IsShortName, append_cancel_left, decimal}
 use Rattle.std.specs.Str.Parse.{AllDigits}
 use Rattle.std.proofs.lemmas.Fmt.{decimal_injective, decimal_is_IsNumeral, length-decimal-le}
-use Rattle.std.proofs.lemmas.List.{append_cancel_left}
 use Rattle.std.proofs.lemmas.Str.Parse.{digit_from_value}
-use Rattle.tw_asm.specs.Statement.{IsInName, IsShortName}
 
 digits_in_name : (digits : List ℕ) → AllDigits 10 digits → AllByRecursion IsInName digits
 digits_in_name [] h = tt

@@ -24,7 +24,6 @@ pub mod Walk
 pub mod Labels
 pub mod Lines
 pub mod Once
-pub mod OwnSkip
 pub mod Quotes
 pub mod Rows
 pub mod Skips
@@ -46,3 +45,4 @@ pub mod Table
 pub mod TypeWords
 pub mod Versions
 pub mod Whole
+mod AsmNames

@@ -1,19 +1,12 @@
 -- The readings of lines, whatever the instruction.
 use Rattle.std.proofs.Common.{◌≡◌, ℕ, ◌≤◌, List, [], ◌∷◌, ◌++◌, length, map, codes, Option, Some, None, inl, inr, refl, sym, ap, subst, ◌∙◌, arith}
-use Rattle.std.specs.List.{AllByRecursion}
-use Rattle.tw_code.specs.declared.version.Version.TheVariants.{Two}
-use Rattle.tw_code.specs.format.Program.{IsList, IsRegister, IsSkip, IsTypeOf}
-use Rattle.tw_words.specs.Words.{Word, Bare}
+use Rattle.tw_asm.proofs.AsmNames.{AllByRecursion, Bare, Goals, HasType, IsList, IsName, IsRegister, IsSkip, IsTypeOf, Natural, NoName, OnlyName, Part, Skip, SpellParts, SpellsPart, SpellsWith, Two, TypeOf, Word, at_label, further, natural_in}
 use Rattle.tw_asm.proofs.Names.{HasGoal, MayGoal, goal_read, no_letter}
 use Rattle.tw_asm.proofs.OperandWords.{Has, IsFine, May, natural_read, operand_read, part_of}
 use Rattle.tw_asm.proofs.Readings.{Reads, both_read}
 use Rattle.tw_asm.proofs.Sequences.{HaveEach, IsShallow, IsTypeIn, each_long, each_read, few_read, type_read}
 use Rattle.tw_asm.proofs.Versions.{any_type}
-use Rattle.tw_asm.specs.Parts.{Part, Natural, TypeOf, Skip}
-use Rattle.tw_asm.specs.Seen.{NoName, OnlyName}
-use Rattle.tw_asm.specs.Statement.{Goals, HasType, IsName, SpellParts, SpellsPart, SpellsWith}
 use Rattle.tw_asm.specs.reading.Lines.{Content, Line, LineContent, Operand, args, each, goal, label_in, line_in, literal, more, natural, never, nothing, number, right, target, type, value}
-use Rattle.tw_asm.specs.reading.Operands.{at_label, further, natural_in}
 
 abbrev pub IsArg : Word → ℕ → Type 0
 IsArg w n = SpellsWith [] n (w ∷ [])

@@ -1,15 +1,10 @@
 -- Lines as they are written from left to right.
 use Rattle.std.proofs.Common.{arith, ◌≡◌, ℕ, ◌+◌, ◌<◌, ◌≤◌, suc, List, [], ◌∷◌, ◌++◌, length, map, take, get_or, codes, refl, sym, ap, ◌∙◌, append_assoc, append-nil}
-use Rattle.std.specs.Prelude.{OnOk, decimal, Result, Ok, Err}
-use Rattle.std.specs.List.{flat_map, join_with_byte}
+use Rattle.tw_asm.proofs.AsmNames.{Err, Natural, Ok, OnOk, Part, Result, behind, decimal, flat_map, join_with_byte, operand_parts, operand_words, part_words, spaced, take_all}
 use Rattle.std.proofs.Math.Seq.{take-suc}
-use Rattle.std.proofs.lemmas.List.{take_all}
 use Rattle.std.proofs.lemmas.Grind.{flat_map-append}
 use Rattle.tw_code.specs.declared.sink.Operand as operands
 use Rattle.tw_code.specs.format.Sink.{seen}
-use Rattle.tw_asm.specs.Parts.{Part, Natural, operand_parts}
-use Rattle.tw_asm.specs.words.Lines.{behind, operand_words, spaced}
-use Rattle.tw_asm.specs.Written.{part_words}
 
 pub line_is : (word : List ℕ) (words : List (List ℕ)) → join_with_byte 32 (word ∷ words) ≡ word ++ behind words
 line_is word [] = sym (append-nil word)

@@ -1,14 +1,8 @@
 -- Goals that are looked for one by one.
 use Rattle.std.proofs.Common.{◌≡◌, ℕ, suc, ◌+◌, ◌<◌, List, [], ◌∷◌, ◌++◌, length, map, get_or, take, drop, inl, inr, refl, sym, subst, ap, ◌∙◌, arith}
 use Rattle.std.proofs.Math.Seq.{split_at}
-use Rattle.std.proofs.lemmas.List.{map-append, map-id}
-use Rattle.std.specs.List.{AllByRecursion, flat_map}
-use Rattle.tw_code.specs.declared.instr.Instr.{Instr}
-use Rattle.tw_code.specs.declared.procedure.Procedure.{Procedure}
-use Rattle.tw_asm.specs.declared.fault.AsmFault.{AsmFault}
-use Rattle.tw_asm.specs.Spelling.{Placed}
+use Rattle.tw_asm.proofs.AsmNames.{AllByRecursion, AsmFault, Drafted, Instr, Placed, Procedure, Section, flat_map, map-append, map-id}
 use Rattle.tw_asm.specs.reading.Goals.{AreLinkedCode, AreLinkedProcedures, FirstUnlinked, Goal, HasLabelsWithin, IsLinked, IsLinkedProcedure, IsUnlinked, goals_in, section_goals}
-use Rattle.tw_asm.specs.reading.Progress.{Drafted, Section}
 
 abbrev goal_at : List Placed → ℕ → Drafted → Goal
 goal_at labels place draft = record { labels = labels; place = place; draft = draft }

@@ -1,10 +1,6 @@
 -- The label that an instruction's words name.
 use Rattle.std.proofs.Common.{◌≡◌, ℕ, Bool, true, false, List, [], ◌∷◌, ◌++◌, Some, None, inl, inr, refl, sym, subst, ap, ◌∙◌, append_assoc}
-use Rattle.tw_code.specs.declared.instr.Instr.{Instr}
-use Rattle.tw_code.specs.declared.version.Version.{Version}
-use Rattle.tw_words.specs.Words.{Bare, Word}
-use Rattle.tw_asm.specs.Parts.{Part, Skip, Target, instr_parts}
-use Rattle.tw_asm.specs.Statement.{Code, Goals, NamesLabel, SpellParts, SpellsPart, Spells}
+use Rattle.tw_asm.proofs.AsmNames.{Bare, Code, Goals, Instr, NamesLabel, Part, Skip, SpellParts, Spells, SpellsPart, Target, Version, Word, instr_parts}
 use Rattle.tw_asm.proofs.Rows.{row, skips_last}
 use Rattle.tw_asm.proofs.Spelled.{bare_is}
 

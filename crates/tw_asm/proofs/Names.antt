@@ -1,19 +1,12 @@
 -- The readings of names, and of goals.
 use Rattle.std.proofs.Common.{◌≡◌, ◌==◌, ℕ, ◌≤◌, Bool, true, false, cond, List, [], ◌∷◌, length, codes, Option, Some, None, inl, inr, Ok, Err, Decides, refl, sym, ap, subst, ◌∙◌, arith}
-use Rattle.std.specs.Prelude.{nat_lt, ◌||◌}
-use Rattle.std.specs.Int.{IsInRange}
-use Rattle.std.specs.List.{AllByRecursion}
-use Rattle.std.proofs.lemmas.Bool.{eqb-true, ltb-true}
-use Rattle.std.proofs.lemmas.Bool.Decides.{Decides-and, Decides-or, Decides-eqb, nat_tests}
-use Rattle.tw_code.specs.format.Program.{IsSkip}
-use Rattle.tw_words.specs.Words.{Word, Bare, Quoted}
-use Rattle.tw_asm.proofs.Numbers.{digits_read, within_decide}
+use Rattle.tw_asm.proofs.AsmNames.{◌||◌, AllByRecursion, Bare, Decides-and, Decides-eqb, Decides-or, Form, IsInName, IsInRange, IsLetter, IsName, IsSkip, Limit, Quoted, SpellsDigits, SpellsWith, Word, eqb-true, ltb-true, nat_lt, nat_tests}
+use Rattle.tw_words.proofs.Decided.{within_decide}
+use Rattle.tw_words.specs.reading.Digits.{is_within}
+use Rattle.tw_asm.proofs.Numbers.{digits_read}
 use Rattle.tw_asm.proofs.OperandWords.{apart}
 use Rattle.tw_asm.proofs.Readings.{Reads, carried}
-use Rattle.tw_asm.specs.Statement.{IsInName, IsLetter, IsName, SpellsWith}
-use Rattle.tw_asm.specs.declared.refusal.Flaw.TheVariants.{Form, Limit}
-use Rattle.tw_asm.specs.reading.Operands.{all_in_name, as_is, at_label, digits_in, further, goal_in, is_in_name, is_letter, is_name, is_within, name_in}
-use Rattle.tw_words.specs.Number.{SpellsDigits}
+use Rattle.tw_asm.specs.reading.Operands.{all_in_name, as_is, at_label, digits_in, further, goal_in, is_in_name, is_letter, is_name, name_in}
 
 no : false ≡ true → ⊥
 no e = cc

@@ -1,34 +1,15 @@
 -- The readings of numbers.
-use Rattle.std.proofs.Common.{◌≡◌, ◌==◌, ℕ, zero, suc, ◌≤◌, ◌^◌, ℤ, pos, neg_ℤ, Bool, true, false, cond, List, [], ◌∷◌, Result, Ok, Err, Decides, inl, inr, refl, sym, ap, subst, ◌∙◌, arith}
-use Rattle.std.specs.Prelude.{nat_lt}
-use Rattle.std.specs.Char.{digit_value}
-use Rattle.std.specs.Int.{IsInRange}
-use Rattle.std.specs.Str.Parse.{AllDigits, IsNumeral, digits_value}
-use Rattle.std.proofs.lemmas.Bool.{eqb-true}
-use Rattle.std.proofs.lemmas.Bool.Decides.{Decides-and, Decides-ltb, nat_tests}
+use Rattle.std.proofs.Common.{◌≡◌, ◌==◌, ℕ, zero, suc, ◌≤◌, ◌^◌, ℤ, pos, neg_ℤ, Bool, true, false, cond, List, [], ◌∷◌, Result, Ok, Err, inl, inr, refl, sym, ap, subst, ◌∙◌, arith}
+use Rattle.tw_asm.proofs.AsmNames.{Form, IsInRange, Limit, eqb-true, nat_tests}
+use Rattle.std.specs.Str.Parse.{digits_value}
 use Rattle.tw_asm.proofs.Readings.{Reads, carried, same}
-use Rattle.tw_asm.specs.declared.refusal.Flaw.TheVariants.{Form, Limit}
-use Rattle.tw_asm.specs.reading.Operands.{all_digits, are_digits, as_is, digits_in, is_within, negative, own, signed_in}
+use Rattle.tw_asm.specs.reading.Operands.{as_is, digits_in, negative, own, signed_in}
 use Rattle.tw_words.specs.Number.{IsIn64, IsRead, SpellsDigits, SpellsNumber}
 use Rattle.tw_words.specs.declared.numbers.Flaw as words
-use Rattle.tw_words.proofs.Numerals.{no_sign, one_number, one_size}
-
-all_decide : (text : List ℕ) → Decides (all_digits text) (AllDigits 10 text)
-all_decide [] = (λ _. tt, λ _. refl)
-all_decide (c ∷ cs) = Decides-and (nat_lt (digit_value c) 10) (all_digits cs) (Decides-ltb (digit_value c) 10) (all_decide cs)
-
-digits_decide : (text : List ℕ) → Decides (are_digits text) (IsNumeral 10 text)
-digits_decide [] = (λ e. absurd (no e), λ h. absurd (omega (arith, h.0)))
-  where
-    no : false ≡ true → ⊥
-    no e = cc
-digits_decide (c ∷ cs) = (λ e. (omega arith, (all_decide (c ∷ cs)).0 e), λ h. (all_decide (c ∷ cs)).1 h.1)
-
-pub within_decide : (low high n : ℕ) → Decides (is_within low high n) (IsInRange low high n)
-within_decide low high n = (λ e. (grind (arith, nat_tests), grind (arith, nat_tests)), λ h. inside h.0 h.1)
-  where
-    inside : low ≤ n → n ≤ high → is_within low high n ≡ true
-    inside h k = grind (arith, nat_tests)
+use Rattle.tw_words.specs.reading.Digits.{are_digits, is_within}
+use Rattle.tw_words.proofs.Decided.{digits_decide, within_decide}
+use Rattle.tw_words.proofs.Insides.{head_is, tail_is}
+use Rattle.tw_words.proofs.Numerals.{no_sign, one_number, one_size, size_fits}
 
 pub digits_read : (low high : ℕ) (text : List ℕ) → Reads (λ n. SpellsDigits n text) (IsInRange low high) (digits_in low high text)
 unfolding digits_in
@@ -54,16 +35,6 @@ digits_same low high text r h = same (λ n. SpellsDigits n text) (IsInRange low 
 negative_fits : (size : ℕ) → size ≤ 2 ^ 63 → IsIn64 (neg_ℤ (pos size))
 negative_fits zero h = record { sfits = omega arith }
 negative_fits (suc n) h = record { sfits = omega (arith, h) }
-
-size_fits : (size : ℕ) → IsIn64 (neg_ℤ (pos size)) → IsInRange 0 (2 ^ 63) size
-size_fits zero h = (omega arith, omega arith)
-size_fits (suc n) h = (omega arith, omega (arith, h.sfits))
-
-tail_is : (b c : ℕ) (xs ys : List ℕ) → b ∷ xs ≡ c ∷ ys → xs ≡ ys
-tail_is b c xs ys e = cc
-
-head_is : (b c : ℕ) (xs ys : List ℕ) → b ∷ xs ≡ c ∷ ys → b ≡ c
-head_is b c xs ys e = cc
 
 pub signed_read : (text : List ℕ) → Reads (λ n. SpellsNumber n text) IsIn64 (signed_in text)
 unfolding signed_in

@@ -1,30 +1,12 @@
 -- Words spell one statement alone, and its first word says which sort of statement it is.
-use Rattle.std.proofs.Common.{◌≡◌, inl, inr, ℕ, Bool, true, List, [], ◌∷◌, ◌++◌, map, codes, Some, None, refl, sym, ap, subst, ◌∙◌}
-use Rattle.std.specs.Prelude.{if◌then◌else◌, ◌==◌}
-use Rattle.std.specs.List.{AllByRecursion, flat_map}
-use Rattle.std.proofs.lemmas.List.{append_cancel_right}
-use Rattle.tw_code.specs.declared.form.Form.{Form}
+use Rattle.std.proofs.Common.{◌≡◌, inl, inr, ℕ, Bool, true, List, [], ◌∷◌, ◌++◌, map, codes, Some, refl, sym, ap, subst, ◌∙◌}
+use Rattle.tw_asm.proofs.AsmNames.{◌==◌, AllByRecursion, Bare, Closed, Code, First, Goals, HasForm, HasInstr, HasOperand, Head, Instr, Int, IsExpected, IsRead, Kind, Label, Mode, Name, Natural, OfVersion, Opcode, Operand, Param, Part, Ref, Registers, Scalar, SpellParts, Spells, Statement, Text, TypeOf, Val, Version, Word, Write, append_cancel_right, flat_map, has_opcode, head_parts, holds, if◌then◌else◌, instr_parts, kind_word, mode_word, param_parts, register_part, registers_parts, scalar_word, statement_parts, version_parts, with_skip}
 use Rattle.tw_code.specs.declared.form.Form.TheVariants as form
-use Rattle.tw_code.specs.declared.instr.Instr.{Instr}
-use Rattle.tw_code.specs.declared.opcode.Opcode.{Opcode}
-use Rattle.tw_code.specs.declared.version.Version.{Version}
-use Rattle.tw_code.specs.format.Table.{Operand, has_opcode, holds}
 use Rattle.tw_code.specs.format.Table as table
-use Rattle.tw_words.specs.Words.{Word, Bare}
-use Rattle.tw_types.specs.declared.actor.Kind.{Kind}
 use Rattle.tw_types.specs.declared.actor.Kind.TheVariants.{Control, Leaf}
-use Rattle.tw_types.specs.declared.data_type.Scalar.{Scalar}
-use Rattle.tw_types.specs.declared.data_type.Scalar.TheVariants.{Int, Text}
-use Rattle.tw_types.specs.declared.param.Mode.{Mode}
-use Rattle.tw_types.specs.declared.param.Mode.TheVariants.{Val, Closed, Ref, Write}
-use Rattle.tw_types.specs.declared.param.Param.{Param}
-use Rattle.tw_asm.specs.Parts.{Part, Name, Natural, TypeOf, head_parts, instr_parts, kind_word, mode_word, param_parts, register_part, registers_parts, scalar_word, version_parts}
-use Rattle.tw_asm.specs.Seen.{IsRead, NoName, OnlyName, with_skip}
-use Rattle.tw_asm.specs.Statement.{Code, Goals, HasForm, HasInstr, HasOperand, Head, IsExpected, Label, OfVersion, Registers, SpellParts, Spells, Statement, statement_parts}
-use Rattle.tw_asm.specs.declared.statement.First.{First}
 use Rattle.tw_asm.specs.declared.statement.First.TheVariants as first
 use Rattle.tw_asm.proofs.Rows.{AreAlike, alike_by_sorts, behind_first, class_of_word, different, ends_in_colon, first_name, have_sorts, name_of, operands_of, others, reskip_operand, row, row_among, rows, same}
-use Rattle.tw_asm.proofs.Spelled.{AreNames, ByName, Resolved, all_tied, as_is, bare_is, by_name, cons_is, named, parts_more, resolved, tied_are, unnamed, with_goal}
+use Rattle.tw_asm.proofs.Spelled.{AreNames, Resolved, all_tied, as_is, bare_is, cons_is, parts_more, resolved, tied_are, with_goal}
 
 -- ---- what a statement's parts are of
 
@@ -209,9 +191,6 @@ module _ (a b : Goals) (names : AreNames a) (others : AreNames b) (alone : (n m 
 
 -- ---- what is read, where goals are known
 
-no_names : AreNames NoName
-no_names skip name h = absurd h
-
 -- what spells a statement spells it under more goals
 pub spells_more : {version : Version} (a b : Goals) → ((skip : ℕ) (name : List ℕ) → a skip name → b skip name) → (s : Statement) (words : List Word) → Spells version a s words → Spells version b s words
 spells_more a b more s words h = record { form = h.form; parts = parts_more a b more (statement_parts s) words h.parts }
@@ -233,23 +212,3 @@ resolved_spells version goals name skip i words read goal = record { form = had_
     by : Resolved goals skip (instr_parts i) words → SpellParts goals (instr_parts (with_skip skip i)) words
     by (as_is h) = absurd (read.1.2.names i (record { form = read.1.1.form; parts = h }))
     by (with_goal h) = subst (λ (ps : List Part). SpellParts goals ps words) (sym ((row i).reskipped skip)) h
-
--- one that names none
-pub read_spells : (version : Version) (goals : Goals) (s : Statement) (words : List Word) → IsRead version (record { statement = s; goal = None }) words → Spells version goals s words
-read_spells version goals s words read = spells_more NoName goals (λ skip name h. absurd h) s words read.1
-
--- and no other is spelled
-pub read_once : (version : Version) (goals : Goals) → AreNames goals → (s t : Statement) (words : List Word) → IsRead version (record { statement = s; goal = None }) words → Spells version goals t words → t ≡ s
-read_once version goals names s t words read h = sym (spelled_once NoName goals no_names names (λ n m name none other. absurd none) s t words read.1 h)
-
-pub resolved_once : (version : Version) (goals : Goals) → AreNames goals → (name : List ℕ) (i j : Instr) (words : List Word) → IsRead version (record { statement = Code i; goal = Some name }) words → Spells version goals (Code j) words
-    → (skip : ℕ) × goals skip name × (j ≡ with_skip skip i)
-resolved_once version goals names name i j words read h =
-    by (by_name goals name names read.1.0.0 (instr_parts i) (instr_parts j) words words (row i).last alike refl read.1.1.parts h.parts)
-  where
-    alike : AreAlike (instr_parts i) (instr_parts j)
-    alike = instrs_alike i j (same_word (OnlyName name) goals (Code i) (Code j) words read.1.1 h)
-
-    by : ByName goals name (instr_parts i) (instr_parts j) words → (skip : ℕ) × goals skip name × (j ≡ with_skip skip i)
-    by (unnamed none) = absurd (read.1.2.names i (record { form = read.1.1.form; parts = none }))
-    by (named skip goal is) = (skip, goal, one_instr j (with_skip skip i) (is ∙ sym ((row i).reskipped skip)))

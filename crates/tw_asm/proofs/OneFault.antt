@@ -1,22 +1,12 @@
 -- A text has one first fault.
 use Rattle.std.proofs.Common.{◌≡◌, ℕ, zero, suc, ◌+◌, ◌<◌, ◌≤◌, ◌⊎◌, List, [], ◌∷◌, ◌++◌, length, take, drop, Option, inl, inr, refl, sym, subst, ap, ◌∙◌, arith}
-use Rattle.std.proofs.lemmas.Bool.{cases_lt}
-use Rattle.std.specs.List.{Contains, slice_get}
-use Rattle.std.specs.Str.Lines.{lines}
-use Rattle.tw_code.specs.declared.instr.Instr.{Instr}
-use Rattle.tw_code.specs.declared.version.Version.{Version}
-use Rattle.tw_words.specs.Words.{Bare, IsLine, Word}
-use Rattle.tw_asm.specs.Statement.{Statement, Label, Code, AnyShortName, IsExpected, NamesLabel, Say}
-use Rattle.tw_asm.specs.declared.statement.First.{First}
+use Rattle.tw_asm.proofs.AsmNames.{AnyShortName, Bare, Begins, Code, Contains, FaultNo, First, GoalFault, HasWords, InBody, Instr, IsEmpty, IsEndFault, IsExpected, IsFirstFault, IsFirstGoalFault, IsLine, IsLineFault, IsUnfinished, Label, LineFault, LineSays, LinesSay, MayBegin, NamesLabel, Say, Situation, Stage, Statement, Version, Word, after_line, at_start, cases_lt, first_word_once, labels_ahead, line_once, lines, not_forward, situation, situation_from, slice_get, unknown}
 use Rattle.tw_asm.specs.declared.statement.First.TheVariants as first
-use Rattle.tw_asm.specs.declared.fault.FaultNo.{FaultNo}
 use Rattle.tw_asm.specs.declared.fault.FaultNo.TheVariants as fault
-use Rattle.tw_asm.specs.Fault.{Stage, InBody, Begins, GoalFault, HasWords, IsEmpty, IsEndFault, IsFirstFault, IsFirstGoalFault, IsLineFault, IsUnfinished, LineFault, LineSays, LinesSay, MayBegin, Situation, after_line, at_start, labels_ahead, situation, situation_from, not_forward, unknown}
 use Rattle.tw_asm.proofs.Begins.{line_begins}
 use Rattle.tw_asm.proofs.NamedLabels.{named_once}
 use Rattle.tw_asm.proofs.Twice.{both_alike, line_is_same, others_say, says_alike}
 use Rattle.tw_asm.proofs.Unspelled.{finished, has_words, line_no_fault}
-use Rattle.tw_words.proofs.Once.{first_word_once, line_once}
 use Rattle.tw_asm.proofs.Once.{one_expected}
 use Rattle.tw_asm.proofs.Spelled.{bare_is}
 

@@ -1,9 +1,6 @@
 -- An instruction comes from one line.
 use Rattle.std.proofs.Common.{◌≡◌, ◌⊎◌, ℕ, suc, ◌+◌, ◌<◌, ◌≤◌, List, [], ◌∷◌, ◌++◌, length, Option, Some, None, inl, inr, refl, sym, subst, ap, ◌∙◌, arith}
-use Rattle.std.specs.Str.Lines.{lines}
-use Rattle.tw_code.specs.declared.instr.Instr.{Instr}
-use Rattle.tw_asm.specs.Statement.{Statement, OfVersion, Head, Registers, Label, Code}
-use Rattle.tw_asm.specs.Fault.{LineSays, LinesSay, Situation, after_line, at_start, situation_from}
+use Rattle.tw_asm.proofs.AsmNames.{Code, Head, Instr, Label, LineSays, LinesSay, OfVersion, Registers, Situation, Statement, after_line, at_start, lines, situation_from}
 use Rattle.tw_asm.specs.Laws.{OneLine}
 use Rattle.tw_asm.proofs.Twice.{both_alike, others_say}
 

@@ -1,11 +1,7 @@
 -- The goals of code, each once where it is first named: as a set keeps them that they are inserted into.
 use Rattle.std.proofs.Common.{◌≡◌, ◌==◌, ◌||◌, ℕ, Bool, true, false, cond, filter, List, [], ◌∷◌, ◌++◌, length, drop, refl, sym, ap, ◌∙◌, append_assoc, append-nil}
-use Rattle.std.specs.Prelude.{not, nat_lt, nat_eq}
-use Rattle.std.specs.List.{list_any}
-use Rattle.std.proofs.lemmas.Bool.{eqb-true}
+use Rattle.tw_asm.proofs.AsmNames.{Instr, eqb-true, first_ones, goals_from, label_places, list_any, nat_eq, nat_lt, not}
 use Rattle.indexmap.specs.IndexSet.{insert_key}
-use Rattle.tw_code.specs.declared.instr.Instr.{Instr}
-use Rattle.tw_asm.specs.Disassembly.{first_ones, goals_from, label_places}
 
 -- the keys of a set after goals are inserted in turn
 abbrev pub insert_goals : List ℕ → List ℕ → List ℕ

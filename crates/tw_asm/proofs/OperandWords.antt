@@ -1,30 +1,13 @@
 -- The readings of single words.
 use Rattle.std.proofs.Common.{◌≡◌, ◌==◌, ℕ, ◌≤◌, Bool, true, false, cond, List, [], ◌∷◌, length, codes, Option, Some, None, Ok, Err, refl, sym, ap, subst, ◌∙◌, arith}
-use Rattle.std.specs.Prelude.{nat_lt, IsUtf8, FitsSigned}
-use Rattle.std.specs.Int.{IsInRange, w64}
-use Rattle.std.specs.Str.{bytes_eq}
-use Rattle.std.proofs.lemmas.Bool.{eqb-true, ltb-true}
-use Rattle.std.proofs.lemmas.Bool.Decides.{nat_tests}
-use Rattle.std.proofs.lemmas.Slice.Eq.{bytes_eq-Decides}
-use Rattle.tw_code.specs.declared.version.Version.{Version}
-use Rattle.tw_code.specs.declared.version.Version.TheVariants.{One, Two}
-use Rattle.tw_code.specs.format.Program.{IsRegister, IsSubscriptOf, IsTarget, IsWithin}
-use Rattle.tw_words.specs.Words.{Word, Bare, Quoted}
+use Rattle.tw_asm.proofs.AsmNames.{Bare, Closed, FitsSigned, Form, IsIn64, IsInRange, IsRegister, IsSubscriptOf, IsTarget, IsUtf8, IsWithin, Limit, Literal, Natural, NoName, Number, One, Part, Quoted, Ref, Right, Scalar, SpellsDigits, SpellsNumber, SpellsPart, SpellsWith, Target, Two, Val, Value, Version, Word, Write, as_is, bytes_eq, bytes_eq-Decides, container_in, container_word, digits_in, eqb-true, kind_word, literal_in, ltb-true, mode_in, mode_word, nat_lt, nat_tests, natural_in, number_in, register_in, scalar_in, scalar_word, signed_in, target_in, text_container, w64}
 use Rattle.tw_asm.proofs.Numbers.{digits_read, signed_read}
 use Rattle.tw_asm.proofs.Readings.{Reads, carried, likewise}
 use Rattle.tw_asm.proofs.TypeWords.{other_bytes}
-use Rattle.tw_asm.specs.Parts.{Part, Value, Right, Number, Natural, Literal, Target, container_word, kind_word, mode_word, scalar_word}
-use Rattle.tw_asm.specs.Statement.{SpellsPart, SpellsWith}
-use Rattle.tw_asm.specs.Seen.{NoName}
-use Rattle.tw_asm.specs.declared.refusal.Flaw.TheVariants.{Form, Limit}
 use Rattle.tw_asm.specs.reading.Lines.{Content, Operand, kind_in, literal, natural, number, operand_in, right, target, value}
-use Rattle.tw_asm.specs.reading.Operands.{as_is, container_in, digits_in, literal_in, mode_in, natural_in, number_in, register_in, scalar_in, signed_in, target_in, text_container}
 use Rattle.tw_types.specs.Text.{IsText}
 use Rattle.tw_types.specs.declared.actor.Kind.TheVariants.{Control, Leaf}
-use Rattle.tw_types.specs.declared.data_type.Scalar.{Scalar}
 use Rattle.tw_types.specs.declared.data_type.Scalar.TheVariants as scalar
-use Rattle.tw_types.specs.declared.param.Mode.TheVariants.{Val, Closed, Ref, Write}
-use Rattle.tw_words.specs.Number.{IsIn64, SpellsDigits, SpellsNumber}
 
 -- texts between quotes are UTF-8
 abbrev pub IsFine : Word → Type 0

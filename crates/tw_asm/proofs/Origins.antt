@@ -1,19 +1,8 @@
 -- The numbers that are kept of instructions are those of their lines.
 use Rattle.std.proofs.Common.{◌≡◌, ◌⊎◌, ℕ, zero, suc, ◌+◌, ◌<◌, List, [], ◌∷◌, ◌++◌, length, map, get_or, take, Option, Some, None, MatchOption, inl, inr, refl, sym, subst, ap, ◌∙◌, append_assoc, arith}
-use Rattle.std.proofs.lemmas.List.{append-nil, length-append, length-map, map-append}
-use Rattle.std.specs.List.{slice_get}
-use Rattle.std.specs.Str.Lines.{lines}
-use Rattle.tw_types.specs.declared.actor.Kind.{Kind}
-use Rattle.tw_types.specs.declared.param.Param.{Param}
-use Rattle.tw_code.specs.declared.instr.Instr.{Instr}
-use Rattle.tw_code.specs.declared.procedure.Procedure.{Procedure}
-use Rattle.tw_code.specs.declared.version.Version.{Version}
-use Rattle.tw_asm.specs.Seen.{Read}
-use Rattle.tw_asm.specs.Statement.{Statement, OfVersion, Head, Registers, Label, Code}
-use Rattle.tw_asm.specs.Fault.{MayStand, Situation, after_line, situation, situation_from}
+use Rattle.tw_asm.proofs.AsmNames.{AtStart, BehindHead, BehindVersion, Code, Drafted, HasSections, Head, Instr, Kind, Label, LineRead, LinesRead, MayStand, OfVersion, Param, Place, Procedure, Progress, Read, Registers, Section, Situation, Statement, Version, Within, after_line, append-nil, ended, length-append, length-map, line_step, lines, map-append, outset, progress_from, section_numbers, situation, situation_from, situation_of, slice_get, step}
 use Rattle.tw_asm.specs.Origins.{AreOrigins, ComesFrom, at_place, instr_at}
 use Rattle.tw_asm.specs.reading.Goals.{AreLinkedProcedures}
-use Rattle.tw_asm.specs.reading.Progress.{AtStart, BehindHead, BehindVersion, Within, Drafted, HasSections, LineRead, LinesRead, Place, Progress, Section, ended, line_step, outset, progress_from, section_numbers, situation_of, step}
 use Rattle.tw_asm.proofs.Linked.{linked_length}
 use Rattle.tw_asm.proofs.Stages.{body_head, body_start, head_body, head_start, progress, start_body, start_head, version_body, version_head, version_start}
 use Rattle.tw_asm.proofs.Steps.{line_after, lines_say, said_by, statement_of}

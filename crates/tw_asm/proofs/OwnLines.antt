@@ -1,14 +1,7 @@
 -- The line of an instruction depends on the word of its own skip alone.
 use Rattle.std.proofs.Common.{◌≡◌, ◌++◌, ℕ, ◌+◌, true, List, [], ◌∷◌, codes, Option, Some, None, refl, ap, ◌∙◌}
-use Rattle.std.specs.Prelude.{decimal}
-use Rattle.std.specs.List.{flat_map, join_with_byte}
-use Rattle.std.specs.Option.{option_and_then}
-use Rattle.tw_code.specs.declared.instr.Instr.{Instr}
-use Rattle.tw_asm.specs.Parts.{Part, Skip, Target, instr_parts, skip_among, skip_of}
-use Rattle.tw_asm.specs.Statement.{Code}
-use Rattle.tw_asm.specs.Written.{goal_word, line_of, part_words}
+use Rattle.tw_asm.proofs.AsmNames.{Code, Instr, Part, Skip, Target, decimal, flat_map, goal_word, instr_parts, join_with_byte, label_at, line_of, option_and_then, part_words, skip_among, skip_of}
 use Rattle.tw_asm.proofs.Rows.{is_last, row, skips_last}
-use Rattle.tw_asm.specs.Disassembly.{label_at}
 
 module _ (f g : ℕ → List ℕ) where
   last_words : (n : ℕ) (parts : List Part) → is_last parts ≡ true → f n ≡ g n → flat_map (part_words f) (Skip n ∷ parts) ≡ flat_map (part_words g) (Skip n ∷ parts)

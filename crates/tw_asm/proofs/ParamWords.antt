@@ -1,27 +1,11 @@
 -- The reading of parameters, from the last word on.
 use Rattle.std.proofs.Common.{◌≡◌, suc, ◌≤◌, Bool, true, false, cond, List, [], ◌∷◌, ◌++◌, length, Option, Some, None, Result, Ok, Err, refl, sym, ap, subst, ◌∙◌, arith}
-use Rattle.std.specs.Prelude.{nat_lt}
-use Rattle.std.specs.List.{AllByRecursion, flat_map}
-use Rattle.std.proofs.lemmas.Bool.{ltb-true}
-use Rattle.std.proofs.lemmas.Bool.Decides.{nat_tests}
-use Rattle.tw_code.specs.declared.version.Version.{Version}
-use Rattle.tw_words.specs.Words.{Word, Bare}
+use Rattle.tw_asm.proofs.AsmNames.{AllByRecursion, Bare, Closed, Flaw, Form, HasParam, HasType, Limit, Mode, NestedScalar, Param, Ref, Scalar, Val, Version, Word, Write, as_is, both, container_in, container_of, container_word, depth_of, flat_map, is_scalar, ltb-true, mode_in, mode_word, nat_lt, nat_tests, scalar_in, scalar_word}
 use Rattle.tw_asm.proofs.OperandWords.{Free, IsContainerOf, container_read, mode_read, scalar_read}
 use Rattle.tw_asm.proofs.Readings.{Reads, both_read, carried}
 use Rattle.tw_asm.proofs.Sequences.{IsShallow}
 use Rattle.tw_asm.proofs.TypeWords.{mode_no_container, mode_no_scalar, one_mode, one_type, words_of}
-use Rattle.tw_asm.specs.Parts.{container_word, mode_word, scalar_word}
-use Rattle.tw_asm.specs.Statement.{HasParam, HasType}
-use Rattle.tw_asm.specs.declared.refusal.Flaw.{Flaw}
-use Rattle.tw_asm.specs.declared.refusal.Flaw.TheVariants.{Form, Limit}
 use Rattle.tw_asm.specs.reading.Lines.{begins, contained, ended, ends, goes_on, param_of, params_from, put_first, taken, under}
-use Rattle.tw_asm.specs.reading.Operands.{as_is, both, container_in, mode_in, scalar_in}
-use Rattle.tw_types.specs.DataType.{container_of, depth_of, is_scalar}
-use Rattle.tw_types.specs.Nesting.{NestedScalar}
-use Rattle.tw_types.specs.declared.data_type.Scalar.{Scalar}
-use Rattle.tw_types.specs.declared.param.Mode.{Mode}
-use Rattle.tw_types.specs.declared.param.Mode.TheVariants.{Val, Closed, Ref, Write}
-use Rattle.tw_types.specs.declared.param.Param.{Param}
 
 abbrev pub param_words : Param → List Word
 param_words p = Bare (mode_word p.mode) ∷ words_of p.ty.containers p.ty.scalar

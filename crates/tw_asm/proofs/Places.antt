@@ -1,16 +1,8 @@
 -- The labels of a procedure's code: few enough to have numbers of the machine, and none past the code's length.
 use Rattle.std.proofs.Common.{◌≡◌, ◌==◌, ◌≤◌, ◌<◌, ◌^◌, ℕ, ◌+◌, Bool, true, false, cond, filter, List, [], ◌∷◌, ◌++◌, length, get_or, Option, Some, None, refl, subst, arith}
-use Rattle.std.specs.Prelude.{not, nat_lt}
-use Rattle.std.specs.List.{AllByRecursion}
-use Rattle.std.proofs.lemmas.Bool.{eqb-true}
-use Rattle.std.proofs.lemmas.Bool.Decides.{nat_tests}
+use Rattle.tw_asm.proofs.AsmNames.{AllByRecursion, Instr, IsProcedure, Procedure, eqb-true, first_ones, goal_from, goals_from, label_at, label_places, nat_lt, nat_tests, not, skip_of}
 use Rattle.std.proofs.lemmas.List.Elements.{All-from_recursion}
 use Rattle.std.proofs.lemmas.List.Quantifiers.{position-Some}
-use Rattle.tw_code.specs.declared.instr.Instr.{Instr}
-use Rattle.tw_code.specs.declared.procedure.Procedure.{Procedure}
-use Rattle.tw_code.specs.format.Program.{IsProcedure}
-use Rattle.tw_asm.specs.Parts.{skip_of}
-use Rattle.tw_asm.specs.Disassembly.{first_ones, goal_from, goals_from, label_at, label_places}
 
 -- the labels' numbers are the machine's
 abbrev pub AreNumbered : List ℕ → Type 0

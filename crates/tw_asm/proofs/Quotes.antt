@@ -1,8 +1,6 @@
 -- A text in UTF-8 that stands between quotes is UTF-8.
 use Rattle.std.proofs.Common.{◌≡◌, ◌==◌, ◌||◌, ◌<◌, ◌/◌, ◌%◌, ℕ, Bool, true, false, List, [], ◌∷◌, ◌++◌, codes, refl, sym, subst, append_assoc, arith}
-use Rattle.std.specs.Prelude.{IsUtf8, nat_lt, if◌then◌else◌}
-use Rattle.std.specs.List.{AllByRecursion, flat_map}
-use Rattle.std.proofs.lemmas.Bool.Decides.{nat_tests}
+use Rattle.tw_asm.proofs.AsmNames.{AllByRecursion, IsUtf8, flat_map, if◌then◌else◌, nat_lt, nat_tests}
 use Rattle.std.proofs.lemmas.Str.{IsUtf8-append, IsUtf8-from_ascii, IsUtf8-nil}
 use Rattle.std.proofs.lemmas.Str.Ascii.{IsAscii-cons, IsAscii-nil}
 use Rattle.tw_words.specs.Quoted.{escaped, hex_digit, quoted}

@@ -1,8 +1,6 @@
 -- Readings that answer what spells a value and what may stand there, and how they go together.
 use Rattle.std.proofs.Common.{◌≡◌, Result, Ok, Err, refl, ap, subst}
-use Rattle.tw_asm.specs.declared.refusal.Flaw.{Flaw}
-use Rattle.tw_asm.specs.declared.refusal.Flaw.TheVariants.{Form, Limit}
-use Rattle.tw_asm.specs.reading.Operands.{as_is, both, own}
+use Rattle.tw_asm.proofs.AsmNames.{Flaw, Form, Limit, as_is, both, own}
 use Rattle.tw_words.specs.Number.{IsRead}
 use Rattle.tw_words.specs.declared.numbers.Flaw as words
 use Rattle.tw_words.specs.declared.numbers.Flaw.TheVariants as word

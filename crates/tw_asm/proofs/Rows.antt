@@ -1,38 +1,24 @@
 -- The table of instructions as parts see it: which sorts of parts follow a name, and which instruction they make. So what holds of
 -- each instruction's parts is gone through once, in `row`.
-use Rattle.std.proofs.Common.{◌≡◌, ◌==◌, ◌⊎◌, inl, inr, ℕ, zero, suc, ℤ, pos, Bool, true, false, List, [], ◌∷◌, ◌++◌, map, codes, Option, None, refl, sym, ap, ◌∙◌, eq-eqb}
-use Rattle.std.specs.Prelude.{◌&&◌, if◌then◌else◌}
-use Rattle.std.proofs.lemmas.Bool.{eqb-true}
+use Rattle.std.proofs.Common.{◌≡◌, ◌==◌, ℕ, ℤ, pos, Bool, true, false, List, [], ◌∷◌, ◌++◌, map, codes, Option, None, refl, sym, ap, ◌∙◌, eq-eqb}
+use Rattle.tw_asm.proofs.AsmNames.{◌&&◌, Contents, Instr, Int, Literal, Name, Natural, NestedScalar, Number, Opcode, Operand, Part, Right, Skip, Target, Text, TypeOf, Value, eqb-true, forms_of, holds, if◌then◌else◌, instr_parts, scalar_type, with_skip, word_of}
 use Rattle.tw_code.specs.declared.form.Form.{Form}
 use Rattle.tw_code.specs.declared.form.Form.TheVariants as form
 use Rattle.tw_code.specs.declared.instr.Arithmetic.{Arithmetic}
-use Rattle.tw_code.specs.declared.instr.Arithmetic.TheVariants.{Add, Subtract, Multiply, Divide, Remainder}
+use Rattle.tw_code.specs.declared.instr.Arithmetic.TheVariants.{Add}
 use Rattle.tw_code.specs.declared.instr.DataInstr.{DataInstr}
 use Rattle.tw_code.specs.declared.instr.DataInstr.TheVariants as on_data
-use Rattle.tw_code.specs.declared.instr.Instr.{Instr}
 use Rattle.tw_code.specs.declared.instr.Instr.TheVariants as instr
 use Rattle.tw_code.specs.declared.instr.LocalInstr.{LocalInstr}
 use Rattle.tw_code.specs.declared.instr.LocalInstr.TheVariants as local
 use Rattle.tw_code.specs.declared.instr.Priority.{Priority}
 use Rattle.tw_code.specs.declared.instr.Priority.TheVariants.{Constant, Computed}
-use Rattle.tw_code.specs.declared.opcode.Opcode.{Opcode}
 use Rattle.tw_code.specs.declared.opcode.Opcode.TheVariants as op
 use Rattle.tw_code.specs.declared.opcode.TheConstants.{OPCODES}
-use Rattle.tw_code.specs.format.Table.{Contents, Operand, forms_of, holds}
 use Rattle.tw_code.specs.format.Table as table
 use Rattle.tw_code.proofs.TableRows.{instr_of}
-use Rattle.tw_asm.specs.Names.{word_of}
-use Rattle.tw_types.specs.DataType.{scalar_type}
-use Rattle.tw_types.specs.Nesting.{NestedScalar}
-use Rattle.tw_types.specs.declared.data_type.Scalar.TheVariants.{Int, Text}
-use Rattle.tw_asm.specs.Parts.{Part, Name, Value, Right, Number, Natural, Literal, TypeOf, Skip, Target, instr_parts}
-use Rattle.tw_asm.specs.Seen.{with_skip}
 
 -- ---- a word among names
-
-abbrev pub IsAmong : List ℕ → List (List ℕ) → Type 0
-IsAmong word [] = ⊥
-IsAmong word (name ∷ names) = (word ≡ name) ⊎ IsAmong word names
 
 pub different : {Z : Type 0} (n m : ℕ) → n ≡ m → (n == m) ≡ false → Z
 different n m e f = absurd (apart (sym (eq-eqb n m e) ∙ f))
@@ -340,21 +326,3 @@ others skip (instr.Data i) = data_others skip i
 others skip (instr.Rule action) = action_others skip (table.opcode_of_priority op.Rule op.RuleComputed action.priority) action.procedure action.priority action.target action.args
 others skip (instr.Put action) = action_others skip (table.opcode_of_priority op.Put op.PutComputed action.priority) action.procedure action.priority action.target action.args
 others skip instr.Ret = refl
-
--- ---- names
-
-pub same_is : (xs ys : List ℕ) → same xs ys ≡ true → xs ≡ ys
-same_is [] [] e = refl
-same_is [] (y ∷ ys) e = absurd cc
-same_is (x ∷ xs) [] e = absurd cc
-same_is (x ∷ xs) (y ∷ ys) e =
-    let both = both_true (x == y) (same xs ys) e in
-    ap (λ (b : ℕ). b ∷ xs) (eqb-true x y both.0) ∙ ap (λ (bs : List ℕ). y ∷ bs) (same_is xs ys both.1)
-
-among_by : (word name : List ℕ) (others : List (List ℕ)) (test : Bool) → same word name ≡ test → (is_in word others ≡ true → IsAmong word others) → (if test then true else is_in word others) ≡ true → IsAmong word (name ∷ others)
-among_by word name others true is more e = inl (same_is word name is)
-among_by word name others false is more e = inr (more e)
-
-pub among : (word : List ℕ) (all : List (List ℕ)) → is_in word all ≡ true → IsAmong word all
-among word [] e = absurd cc
-among word (name ∷ others) e = among_by word name others (same word name) refl (among word others) e

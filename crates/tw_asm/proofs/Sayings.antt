@@ -1,10 +1,6 @@
 -- Registers, the version and labels: what is read answers which words spell which statements.
 use Rattle.std.proofs.Common.{◌≡◌, ◌≢◌, ℕ, ◌≤◌, List, [], ◌∷◌, ◌++◌, length, map, codes, Option, Some, None, Result, Ok, Err, refl, sym, ap, subst, ◌∙◌}
-use Rattle.std.specs.List.{AllByRecursion, flat_map}
-use Rattle.tw_code.specs.declared.instr.Instr.{Instr}
-use Rattle.tw_code.specs.declared.version.Version.{Version}
-use Rattle.tw_code.specs.format.Program.{IsList, IsWithin}
-use Rattle.tw_words.specs.Words.{Word, Bare}
+use Rattle.tw_asm.proofs.AsmNames.{AllByRecursion, AnyName, AnyShortName, Bare, Code, Flaw, Form, Goals, HasForm, Head, Instr, IsInLimits, IsList, IsName, IsRead, IsWithin, Label, Limit, Name, Natural, NoName, OfVersion, Opcode, Part, Registers, Scalar, SpellParts, Spells, SpellsWith, Statement, Version, Word, as_is, flat_map, kind_word, name_in, natural_in, operand_parts, param_parts, register_part, row, scalar_in, scalar_word, word_of}
 use Rattle.tw_asm.proofs.Answered.{Judged, first_is, none_some, regs_is_none, version_is_none}
 use Rattle.tw_asm.proofs.Colons.{before, found_before}
 use Rattle.tw_asm.proofs.Names.{IsThisName, name_read}
@@ -15,17 +11,7 @@ use Rattle.tw_asm.proofs.Spelled.{bare_is}
 use Rattle.tw_asm.proofs.Table as tables
 use Rattle.tw_asm.proofs.TypeWords.{other_bytes}
 use Rattle.tw_asm.proofs.Versions.{by_number}
-use Rattle.tw_asm.specs.Parts.{Part, Name, Natural, kind_word, operand_parts, param_parts, register_part, scalar_word}
-use Rattle.tw_asm.specs.Seen.{IsRead, NoName}
-use Rattle.tw_asm.specs.Statement.{AnyName, AnyShortName, Code, Goals, HasForm, Head, IsInLimits, IsName, Label, OfVersion, Registers, SpellParts, Spells, SpellsWith, Statement}
-use Rattle.tw_code.specs.declared.opcode.Opcode.{Opcode}
-use Rattle.tw_code.specs.format.Table.{row}
-use Rattle.tw_asm.specs.declared.refusal.Flaw.{Flaw}
-use Rattle.tw_asm.specs.declared.refusal.Flaw.TheVariants.{Form, Limit}
-use Rattle.tw_asm.specs.Names.{word_of}
 use Rattle.tw_asm.specs.reading.Lines.{before_colon, each, few, label_line, label_read, named_in, opcode_in, registers_in, registers_read, version_in, version_read}
-use Rattle.tw_asm.specs.reading.Operands.{as_is, name_in, natural_in, scalar_in}
-use Rattle.tw_types.specs.declared.data_type.Scalar.{Scalar}
 
 -- an instruction's name is what the table finds
 pub code_first : (version : Version) (G : Goals) (i : Instr) (word : List ℕ) (ws : List Word) → Spells version G (Code i) (Bare word ∷ ws) → (o : Opcode) × (opcode_in version word ≡ Some o)

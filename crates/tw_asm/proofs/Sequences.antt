@@ -1,24 +1,9 @@
 -- The readings of items one after the other, and of types.
 use Rattle.std.proofs.Common.{◌≡◌, ℕ, suc, ◌≤◌, Bool, true, false, cond, List, [], ◌∷◌, ◌++◌, length, Result, Ok, Err, refl, sym, ap, subst, ◌∙◌, arith, append_assoc}
-use Rattle.std.specs.Prelude.{nat_lt}
-use Rattle.std.specs.List.{AllByRecursion}
-use Rattle.std.proofs.lemmas.Bool.{ltb-true}
-use Rattle.std.proofs.lemmas.Bool.Decides.{nat_tests}
-use Rattle.tw_code.specs.declared.version.Version.{Version}
-use Rattle.tw_code.specs.format.Program.{IsList}
-use Rattle.tw_words.specs.Words.{Word, Bare}
+use Rattle.tw_asm.proofs.AsmNames.{AllByRecursion, Bare, Flaw, Form, HasType, IsList, Limit, NestedScalar, Scalar, Version, Word, around, as_is, both, contained, container_in, container_of, container_word, depth_of, each, each_from, few, joined, ltb-true, nat_lt, nat_tests, put_first, scalar_in, scalar_type, scalar_word, type_in}
 use Rattle.tw_asm.proofs.OperandWords.{Free, IsContainerOf, container_read, scalar_read}
 use Rattle.tw_asm.proofs.Readings.{Reads, both_read, carried, likewise}
 use Rattle.tw_asm.proofs.TypeWords.{one_container, one_type, words_of}
-use Rattle.tw_asm.specs.Parts.{container_word, scalar_word}
-use Rattle.tw_asm.specs.Statement.{HasType}
-use Rattle.tw_asm.specs.declared.refusal.Flaw.{Flaw}
-use Rattle.tw_asm.specs.declared.refusal.Flaw.TheVariants.{Form, Limit}
-use Rattle.tw_asm.specs.reading.Lines.{around, contained, each, each_from, few, joined, put_first, type_in}
-use Rattle.tw_asm.specs.reading.Operands.{as_is, both, container_in, scalar_in}
-use Rattle.tw_types.specs.DataType.{container_of, depth_of, scalar_type}
-use Rattle.tw_types.specs.Nesting.{NestedScalar}
-use Rattle.tw_types.specs.declared.data_type.Scalar.{Scalar}
 
 -- ---- from the right
 
@@ -70,10 +55,6 @@ HaveEach Has (w ∷ ws) [] = ⊥
 HaveEach Has (w ∷ ws) (a ∷ items) = Has w a × HaveEach Has ws items
 
 module _ {A : Type 0} (Has : Word → A → Type 0) (May : A → Type 0) (read : Word → Result A Flaw) (item_read : (w : Word) → Reads (Has w) May (read w)) where
-  none_left : (items : List A) → HaveEach Has [] items → items ≡ []
-  none_left [] h = refl
-  none_left (a ∷ items) h = absurd h
-
   split : (w : Word) (ws : List Word) (items : List A) → HaveEach Has (w ∷ ws) items → (x : A × List A) × (Has w x.0 × HaveEach Has ws x.1) × (items ≡ x.0 ∷ x.1)
   split w ws [] h = absurd h
   split w ws (a ∷ items) h = ((a, items), (h.0, h.1), refl)

@@ -1,15 +1,7 @@
 -- Words spell one list of parts alone, but for names of skips.
 use Rattle.std.proofs.Common.{◌≡◌, ◌⊎◌, inl, inr, ℕ, true, List, [], ◌∷◌, ◌++◌, map, codes, Option, Some, None, refl, sym, ap, subst, ◌∙◌, arith}
-use Rattle.std.proofs.lemmas.List.{append_cancel_left}
-use Rattle.std.specs.Int.{IsInRange}
-use Rattle.tw_words.specs.Words.{Word, Bare, Quoted}
-use Rattle.tw_types.specs.Nesting.{NestedScalar}
-use Rattle.tw_types.specs.declared.data_type.Scalar.{Scalar}
-use Rattle.tw_words.specs.Number.{SpellsDigits, SpellsNumber}
+use Rattle.tw_asm.proofs.AsmNames.{Bare, Goals, IsInRange, IsName, Literal, Name, Natural, NestedScalar, NoName, Number, OnlyName, Part, Quoted, Right, Scalar, Skip, SpellParts, SpellsDigits, SpellsNumber, SpellsPart, SpellsWith, Target, TypeOf, Value, Word, append_cancel_left, container_word, scalar_word}
 use Rattle.tw_words.proofs.Numerals.{one_number, one_size}
-use Rattle.tw_asm.specs.Parts.{Part, Name, Value, Right, Number, Natural, Literal, TypeOf, Skip, Target, container_word, scalar_word}
-use Rattle.tw_asm.specs.Seen.{NoName, OnlyName}
-use Rattle.tw_asm.specs.Statement.{Goals, IsName, SpellParts, SpellsPart, SpellsWith}
 use Rattle.tw_asm.proofs.Rows.{AreAlike, different, is_last, reskip, skips_last, sort_of}
 use Rattle.tw_asm.proofs.TypeWords.{one_type, words_of}
 
@@ -176,73 +168,6 @@ parts_more a b more (p ∷ ps) words (f, x, is, h, hs) = (f, x, is, part_more a 
 last_is : (parts : List Part) → is_last parts ≡ true → parts ≡ []
 last_is [] e = refl
 last_is (p ∷ ps) e = absurd cc
-
--- the words of parts where one name stands as the skip, or no name
-pub data ByName (goals : Goals) (name : List ℕ) (ps qs : List Part) (words : List Word) : Type 0 where
-  unnamed : SpellParts NoName ps words → ByName goals name ps qs words
-  named : (skip : ℕ) → goals skip name → qs ≡ map (reskip skip) ps → ByName goals name ps qs words
-
-module _ (goals : Goals) (name : List ℕ) (names : AreNames goals) (is_name : IsName name) where
-  only : AreNames (OnlyName name)
-  only skip word (none, is) = subst IsName (sym is) is_name
-
-  plain : (p : Part) → (sort_of p ≡ 7 → ⊥) → (f : List Word) → SpellsPart (OnlyName name) p f → SpellsPart NoName p f
-  plain (Skip n) not f h = absurd (not refl)
-  plain (Target None) not f h = h
-  plain (Target (Some n)) not f h = h
-  plain p not f h = h
-
-  keeps : (p : Part) (skip : ℕ) → (sort_of p ≡ 7 → ⊥) → reskip skip p ≡ p
-  keeps (Skip n) skip not = absurd (not refl)
-  keeps p skip not = refl
-
-  tied_plain : (p q : Part) → (sort_of p ≡ 7 → ⊥) → AreTied (OnlyName name) goals p q → p ≡ q
-  tied_plain p q not (inl e) = e
-  tied_plain p q not (inr n) = absurd (not (ap sort_of n.first))
-
-  behind_plain : (p q : Part) (ps qs : List Part) (f x words : List Word) → (sort_of p ≡ 7 → ⊥) → words ≡ f ++ x → SpellsPart (OnlyName name) p f → AreTied (OnlyName name) goals p q → ByName goals name ps qs x → ByName goals name (p ∷ ps) (q ∷ qs) words
-  behind_plain p q ps qs f x words not is h tied (unnamed hs) = unnamed (f, x, is, plain p not f h, hs)
-  behind_plain p q ps qs f x words not is h tied (named skip goal e) =
-      named skip goal (ap (λ (r : Part). r ∷ qs) (sym (tied_plain p q not tied) ∙ sym (keeps p skip not)) ∙ ap (λ (rs : List Part). reskip skip p ∷ rs) e)
-
-  at_skip : (n m : ℕ) (f g x y words : List Word) → words ≡ f ++ x → x ≡ [] → f ++ x ≡ g ++ y → SpellsPart (OnlyName name) (Skip n) f → SpellsPart goals (Skip m) g → ByName goals name (Skip n ∷ []) (Skip m ∷ []) words
-  at_skip n m f g x y words is none e (inl h) k = unnamed (f, x, is, inl h, none)
-  at_skip n m f g x y words is none e (inr (word, (zero_is, same), has)) (inl (ds, k, are)) =
-      let one = first_words (Bare word) (Bare (codes "+" ++ ds)) f g x y has are e in
-      absurd (plus_is_no_name ds name (sym (bare_is word (codes "+" ++ ds) one.0) ∙ same) is_name)
-  at_skip n m f g x y words is none e (inr (word, (zero_is, same), has)) (inr (other, goal, are)) =
-      let one = first_words (Bare word) (Bare other) f g x y has are e in
-      named m (subst (goals m) (sym (bare_is word other one.0) ∙ same) goal) refl
-
-  skip_only : (n m : ℕ) (ps qs : List Part) (f g x y words : List Word) → ps ≡ [] → qs ≡ [] → words ≡ f ++ x → x ≡ [] → f ++ x ≡ g ++ y → SpellsPart (OnlyName name) (Skip n) f → SpellsPart goals (Skip m) g
-      → ByName goals name (Skip n ∷ ps) (Skip m ∷ qs) words
-  skip_only n m ps qs f g x y words no_ps no_qs is none e h k =
-      subst (λ (rs : List Part). ByName goals name (Skip n ∷ rs) (Skip m ∷ qs) words) (sym no_ps)
-      (subst (λ (rs : List Part). ByName goals name (Skip n ∷ []) (Skip m ∷ rs) words) (sym no_qs) (at_skip n m f g x y words is none e h k))
-
-  none_behind : (qs : List Part) (y : List Word) → SpellParts goals qs y → y ≡ [] → qs ≡ []
-  none_behind [] y h e = refl
-  none_behind (q ∷ qs) y (g, z, has, k, ks) e = absurd (some_word (OnlyName name) goals only names q g z k (sym has ∙ e))
-
-  spells_none : (ps : List Part) (x : List Word) → ps ≡ [] → SpellParts (OnlyName name) ps x → x ≡ []
-  spells_none [] x e h = h
-  spells_none (p ∷ ps) x e h = absurd (never_cons p ps e)
-
-  -- words of parts of the same sorts, with a name as a skip, or with none
-  pub by_name : (ps qs : List Part) (words ends : List Word) → skips_last ps ≡ true → AreAlike ps qs → words ≡ ends → SpellParts (OnlyName name) ps words → SpellParts goals qs ends → ByName goals name ps qs words
-  by_name [] [] words ends last alike e h k = unnamed h
-  by_name [] (q ∷ qs) words ends last alike e h (g, y, has, k, ks) = absurd (some_word (OnlyName name) goals only names q g y k (sym has ∙ sym e ∙ h))
-  by_name (p ∷ ps) [] words ends last alike e (f, x, is, h, hs) k = absurd (some_word goals (OnlyName name) names only p f x h (sym is ∙ e ∙ k))
-  by_name (Skip n ∷ ps) (Skip m ∷ qs) words ends last alike e (f, x, is, h, hs) (g, y, has, k, ks) =
-      let no_ps = last_is ps last in
-      let none = spells_none ps x no_ps hs in
-      let same = sym is ∙ e ∙ has in
-      let one = one_part (OnlyName name) goals only names (Skip n) (Skip m) f g x y refl h k same in
-      skip_only n m ps qs f g x y words no_ps (none_behind qs y ks (sym one.2 ∙ none)) is none same h k
-  by_name (Skip n ∷ ps) (q ∷ qs) words ends last alike e h k = different 7 (sort_of q) alike.0 refl
-  by_name (p ∷ ps) (q ∷ qs) words ends last alike e (f, x, is, h, hs) (g, y, has, k, ks) =
-      let one = one_part (OnlyName name) goals only names p q f g x y alike.0 h k (sym is ∙ e ∙ has) in
-      behind_plain p q ps qs f x words (λ seven. different (sort_of p) 7 seven refl) is h one.0 (by_name ps qs x y last alike.1 one.2 hs ks)
 
 -- the words of parts where a name stands as the skip are those of the parts with the skip for which it stands
 pub data Resolved (goals : Goals) (skip : ℕ) (ps : List Part) (words : List Word) : Type 0 where

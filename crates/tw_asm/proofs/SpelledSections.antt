@@ -1,28 +1,9 @@
 -- The procedures that have been read, and the words that spell them.
 use Rattle.std.proofs.Common.{true, ◌≡◌, ◌≢◌, ℕ, suc, ◌+◌, ◌<◌, ◌≤◌, List, [], ◌∷◌, ◌++◌, length, map, Option, Some, None, inl, inr, refl, sym, subst, ap, ◌∙◌, append_assoc, arith}
-use Rattle.std.proofs.lemmas.List.{append-nil, get_or_default, length-append, map-append}
+use Rattle.tw_asm.proofs.AsmNames.{AllByRecursion, AllPairs, AnyShortName, AreCode, AtStart, Bare, BehindHead, BehindVersion, Code, Contains, Drafted, Goals, GoesTo, HasInstr, HasSections, HaveWords, Head, Instr, IsGoalOf, IsInLimits, IsInstr, IsInstrOf, IsLine, IsOperand, IsProcedureOf, IsProgramOf, IsRead, IsWhole, Kind, Label, LinesRead, MayStand, NoName, OfVersion, One, Opcode, Operand, Param, Place, Placed, Procedure, Progress, Read, Registers, Scalar, Section, SpellProcedures, Spells, SpellsProcedure, SpellsProgram, SpellsVersion, Statement, Two, Version, Within, Word, append-nil, begun, ended, get_or_default, has_opcode, holds, length-append, line_step, lines, map-append, outset, progress_from, row, situation_of, step, version_by, with_skip}
 use Rattle.std.proofs.lemmas.List.Quantifiers.{all_pairs_push}
-use Rattle.std.specs.Str.Lines.{lines}
-use Rattle.std.specs.List.{AllByRecursion, AllPairs, Contains}
-use Rattle.tw_types.specs.declared.actor.Kind.{Kind}
-use Rattle.tw_types.specs.declared.data_type.Scalar.{Scalar}
-use Rattle.tw_types.specs.declared.param.Param.{Param}
-use Rattle.tw_code.specs.declared.form.Form.{Form}
 use Rattle.tw_code.specs.declared.form.Form.TheVariants as form
-use Rattle.tw_code.specs.declared.instr.Instr.{Instr}
-use Rattle.tw_code.specs.declared.opcode.Opcode.{Opcode}
-use Rattle.tw_code.specs.declared.procedure.Procedure.{Procedure}
-use Rattle.tw_code.specs.declared.version.Version.{Version}
-use Rattle.tw_code.specs.declared.version.Version.TheVariants.{One, Two}
-use Rattle.tw_code.specs.format.Program.{IsInstr, IsInstrOf, IsOperand, IsProcedureOf, IsProgramOf}
-use Rattle.tw_code.specs.format.Table.{Operand, has_opcode, holds, row}
-use Rattle.tw_words.specs.Words.{Bare, IsLine, Word}
-use Rattle.tw_asm.specs.Seen.{IsRead, NoName, Read, with_skip}
-use Rattle.tw_asm.specs.Statement.{Statement, OfVersion, Head, Registers, Label, Code, AnyShortName, Goals, HasInstr, IsInLimits, Spells, version_by}
-use Rattle.tw_asm.specs.Fault.{IsWhole, MayStand}
-use Rattle.tw_asm.specs.Spelling.{AreCode, GoesTo, HaveWords, Placed, SpellProcedures, SpellsProcedure, SpellsProgram, SpellsVersion}
 use Rattle.tw_asm.specs.reading.Goals.{AreLinkedCode, AreLinkedProcedures, HasLabelsWithin, IsLinkedProcedure, IsLinkedTo, goals_in}
-use Rattle.tw_asm.specs.reading.Progress.{AtStart, BehindHead, BehindVersion, Within, Drafted, HasSections, IsGoalOf, LinesRead, Place, Progress, Section, begun, ended, line_step, outset, progress_from, situation_of, step}
 use Rattle.tw_asm.proofs.Once.{had_still, resolved_spells, spells_more}
 use Rattle.tw_asm.proofs.Begins.{first_of_words}
 use Rattle.tw_asm.proofs.Rows.{others, reskip_operand}

@@ -1,8 +1,6 @@
 -- Where reading stands, by its parts, and stages that differ.
 use Rattle.std.proofs.Common.{◌≡◌, ℕ, List}
-use Rattle.tw_code.specs.declared.version.Version.{Version}
-use Rattle.tw_asm.specs.Fault.{Stage, Start, AfterVersion, AfterHead, InBody}
-use Rattle.tw_asm.specs.reading.Progress.{Place, Progress, Section}
+use Rattle.tw_asm.proofs.AsmNames.{AfterHead, AfterVersion, InBody, Place, Progress, Section, Stage, Start, Version}
 
 abbrev pub progress : Version → List Section → ℕ → Place → Progress
 progress version sections head_line place = record { version = version; sections = sections; head_line = head_line; place = place }

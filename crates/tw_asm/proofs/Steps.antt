@@ -1,27 +1,13 @@
 -- One line more.
 use Rattle.std.proofs.Common.{◌≡◌, ◌⊎◌, ℕ, zero, suc, ◌+◌, ◌<◌, List, [], ◌∷◌, ◌++◌, length, map, get_or, take, drop, Option, Some, None, Result, Ok, Err, MatchResult, inl, inr, refl, sym, subst, ap, ◌∙◌, arith}
-use Rattle.std.proofs.lemmas.List.{length-append, map-append, length-map}
+use Rattle.tw_asm.proofs.AsmNames.{AfterHead, AnyShortName, AreNotRead, AreTextRead, AsmFault, AtStart, BehindHead, BehindVersion, Code, FaultNo, Head, InBody, IsLineFault, IsMemory, IsNotFinished, IsRead, IsShortName, IsUnfinished, Label, LineFault, LineRead, LineSays, LinesRead, LinesSay, MayStand, NoName, OfVersion, OnlyName, Place, Placed, Progress, Read, Registers, Say, Section, Situation, Stage, Statement, Version, Within, Word, after, after_line, enumerate_from, length-append, length-map, line_step, lines, map-append, outset, progress_from, situation_from, situation_of, step}
 use denote.Ref.{Bor}
 use Rattle.std.proofs.Math.Seq.{split_at}
 use Rattle.std.proofs.lemmas.List.FromFn.{get_or-enumerate_from, length-enumerate_from}
-use Rattle.std.specs.List.{enumerate_from}
-use Rattle.std.specs.Str.Lines.{lines}
-use Rattle.tw_code.specs.declared.version.Version.{Version}
-use Rattle.tw_words.specs.Words.{Word}
-use Rattle.tw_asm.specs.Seen.{IsRead, NoName, OnlyName, Read}
-use Rattle.tw_asm.specs.Statement.{Statement, OfVersion, Head, Registers, Label, Code, AnyShortName, IsShortName, Say}
 use Rattle.tw_asm.proofs.Once.{spells_more}
-use Rattle.tw_asm.specs.declared.fault.AsmFault.{AsmFault}
-use Rattle.tw_asm.specs.declared.fault.FaultNo.{FaultNo}
-use Rattle.tw_asm.specs.Fault.{Stage, AfterHead, InBody, Situation, IsLineFault, IsUnfinished, LineFault, LineSays, LinesSay, MayStand, after, after_line, situation_from}
-use Rattle.tw_asm.specs.Spelling.{Placed}
-use Rattle.tw_asm.specs.reading.Progress.{AtStart, BehindHead, BehindVersion, Within, LineRead, LinesRead, Place, Progress, Section, AreNotRead, AreTextRead, IsMemory, IsNotFinished, line_step, outset, progress_from, situation_of, step}
 use Rattle.tw_asm.proofs.Stages.{body_head, body_start, head_body, head_start, progress, start_body, start_head, version_body, version_head, version_start}
 
 -- ---- the situation after a statement
-
-name_of : Placed → List ℕ
-name_of label = label.name
 
 abbrev counted : Version → Stage → ℕ → List (List ℕ) → ℕ → ℕ → Situation
 counted version stage head_line labels procedures instructions = record { version = version; stage = stage; procedures = procedures; head_line = head_line; labels = labels; instructions = instructions }
@@ -125,10 +111,6 @@ reads_length number p [] (read ∷ others) r = absurd r
 reads_length number p (line ∷ after) [] r = absurd r
 reads_length number p (line ∷ after) (read ∷ others) r = ap suc (reads_length (number + 1) (line_step number read p) after others r.1)
 
--- nothing has been read
-pub none_read : AreTextRead [] outset
-none_read = record { reads = []; are_read = tt; progress = refl }
-
 -- one line more
 pub one_more : (ls : List (List ℕ)) (line : List ℕ) (p q : Progress) (read : Option Read) → AreTextRead ls p → LineRead (situation_of p) line read → q ≡ line_step (length ls + 1) read p → AreTextRead (ls ++ (line ∷ [])) q
 one_more ls line p q read a r e =
@@ -214,10 +196,13 @@ line_stopped text before line index p f s a (inl m) = inl m
 line_stopped text before line index p f s a (inr x) =
     inr (fault_there text before line s.others p f.no f.line s.parts a (subst (λ (k : ℕ). LineFault (k + 1) (situation_of p) line f.no f.line) s.index_is x))
 
-pub lines_end : (ls : List (List ℕ)) (items : List (ℕ × Bor (List ℕ))) (p : Progress) → map (λ (item : ℕ × Bor (List ℕ)). (item.0, item.1.now)) items ≡ enumerate_from 0 ls → AreTextRead (map (λ item. item.1.now) items) p → AreTextRead ls p
-lines_end ls items p e a =
-    subst (λ (x : List (List ℕ)). AreTextRead x p) (sym (lines_of items) ∙ ap (map (λ (x : ℕ × List ℕ). x.1)) e ∙ all_seconds 0 ls) a
+-- at the end of such a loop all lines are yielded
+pub all_lines : (ls : List (List ℕ)) (items : List (ℕ × Bor (List ℕ))) → map (λ (item : ℕ × Bor (List ℕ)). (item.0, item.1.now)) items ≡ enumerate_from 0 ls → map (λ (item : ℕ × Bor (List ℕ)). item.1.now) items ≡ ls
+all_lines ls items e = sym (lines_of items) ∙ ap (map (λ (x : ℕ × List ℕ). x.1)) e ∙ all_seconds 0 ls
   where
     all_seconds : (k : ℕ) (ls : List (List ℕ)) → map (λ (x : ℕ × List ℕ). x.1) (enumerate_from k ls) ≡ ls
     all_seconds k [] = refl
     all_seconds k (l ∷ ls) = ap (λ (x : List (List ℕ)). l ∷ x) (all_seconds (k + 1) ls)
+
+pub lines_end : (ls : List (List ℕ)) (items : List (ℕ × Bor (List ℕ))) (p : Progress) → map (λ (item : ℕ × Bor (List ℕ)). (item.0, item.1.now)) items ≡ enumerate_from 0 ls → AreTextRead (map (λ item. item.1.now) items) p → AreTextRead ls p
+lines_end ls items p e a = subst (λ (x : List (List ℕ)). AreTextRead x p) (all_lines ls items e) a

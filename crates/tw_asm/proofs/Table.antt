@@ -1,38 +1,22 @@
 -- The table of instructions, as it is read and as it is defined.
 use Rattle.std.proofs.Common.{◌≡◌, ℕ, pos, Bool, true, false, cond, List, [], ◌∷◌, append-nil, map, Option, Some, None, refl, sym, ap, subst, ◌∙◌}
-use Rattle.std.specs.List.{find}
-use Rattle.std.specs.Str.{bytes_eq}
-use Rattle.std.proofs.lemmas.Slice.Eq.{bytes_eq-Decides}
-use Rattle.tw_code.specs.declared.form.Form.{Form}
+use Rattle.tw_asm.proofs.AsmNames.{Goal, HasInstr, Instr, Int, IsInstr, Name, Natural, NestedScalar, Number, Opcode, Operand as Item, Part, Target, Text, Value, Version, Word, as_is, bytes_eq, bytes_eq-Decides, find, further, has_opcode, holds, if_had, instr_parts, scalar_type}
 use Rattle.tw_code.specs.declared.form.Form.TheVariants as form
 use Rattle.tw_code.specs.declared.instr.Arithmetic.{Arithmetic}
-use Rattle.tw_code.specs.declared.instr.Arithmetic.TheVariants.{Add, Subtract, Multiply, Divide, Remainder}
+use Rattle.tw_code.specs.declared.instr.Arithmetic.TheVariants.{Add}
 use Rattle.tw_code.specs.declared.instr.DataInstr.{DataInstr}
 use Rattle.tw_code.specs.declared.instr.DataInstr.TheVariants as on_data
-use Rattle.tw_code.specs.declared.instr.Instr.{Instr}
 use Rattle.tw_code.specs.declared.instr.Instr.TheVariants as instr
 use Rattle.tw_code.specs.declared.instr.LocalInstr.{LocalInstr}
 use Rattle.tw_code.specs.declared.instr.LocalInstr.TheVariants as local
 use Rattle.tw_code.specs.declared.instr.Priority.{Priority}
 use Rattle.tw_code.specs.declared.instr.Priority.TheVariants.{Constant, Computed}
-use Rattle.tw_code.specs.declared.version.Version.{Version}
-use Rattle.tw_code.specs.declared.version.Version.TheVariants.{One, Two}
-use Rattle.tw_code.specs.format.Program.{IsInstr}
 use Rattle.tw_code.specs.format.Table as table
-use Rattle.tw_code.specs.format.Table.{Operand as Item, has_opcode, holds, if_had}
-use Rattle.tw_types.specs.DataType.{scalar_type}
-use Rattle.tw_types.specs.Nesting.{NestedScalar}
-use Rattle.tw_types.specs.declared.data_type.Scalar.TheVariants.{Int, Text}
-use Rattle.tw_words.specs.Words.{Word}
 use Rattle.tw_asm.proofs.Lined.{Had, MayParts, parts_of}
-use Rattle.tw_asm.specs.Statement.{HasInstr}
-use Rattle.tw_asm.specs.Parts.{Part, Name, Natural, Number, Target, Value, instr_parts}
-use Rattle.tw_code.specs.declared.opcode.Opcode.{Opcode}
 use Rattle.tw_code.specs.declared.opcode.Opcode.TheVariants as op
 use Rattle.tw_code.specs.declared.opcode.TheConstants.{OPCODES}
 use Rattle.tw_asm.specs.Names.{opcode_of, word_of}
 use Rattle.tw_asm.specs.reading.Lines.{Content, Line, LineContent, Operand, Row, args, before_colon, draft_by, draft_in, goal, label_in, line_in, literal, more, natural, never, nothing, number, opcode_in, right, row, row_of, target, type, value}
-use Rattle.tw_asm.specs.reading.Operands.{Goal, as_is, further}
 
 -- ---- a row's parts
 

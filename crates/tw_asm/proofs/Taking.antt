@@ -1,32 +1,17 @@
 -- What is wrong with a line, by its words.
-use Rattle.std.proofs.lemmas.List.{length-append}
-use Rattle.std.specs.List.{Contains, slice_get}
-use Rattle.tw_code.specs.declared.instr.Instr.{Instr}
-use Rattle.tw_code.specs.declared.version.Version.{Version}
-use Rattle.tw_words.specs.Seen.{IsRead as IsLineRead}
+use Rattle.tw_asm.proofs.AsmNames.{AnyName, AnyShortName, AreClosed, AreFinished, AsmFault, AtStart, Bare, Begins, BehindHead, BehindVersion, Code, Contains, FaultNo, First, HasWords, HaveForm, Head, InBody, Instr, IsBrokenLine, IsEmptyAt, IsExpected, IsFirstWord, IsGoalOf, IsLimit, IsLimitLine, IsLine, IsLineRead, IsMemory, IsNotClosed, IsNotFinished, IsOutset, Kind, Label, LineFault, MayBegin, MayStand, Param, Place, Progress, Quoted, Say, Section, Situation, Stage, Statement, Stopped, TakenLine, TakenStatement, Version, Within, Word, WordsRead, begun, blank_no_word, broken_here, broken_no_line, drafts_at, empty, ended, first_word_once, instructions, label_twice, length-append, limit, line_blank, line_once, operand, procedures, situation_of, slice_get, stage_of, step, word}
 use Rattle.tw_asm.specs.declared.statement.Statement as statements
 use Rattle.tw_asm.specs.declared.statement.Statement.TheVariants as statement
 use Rattle.tw_asm.specs.declared.reading.Reading as readings
-use Rattle.tw_types.specs.declared.actor.Kind.{Kind}
-use Rattle.tw_types.specs.declared.param.Param.{Param}
-use Rattle.tw_asm.specs.declared.fault.AsmFault.{AsmFault}
-use Rattle.tw_asm.specs.declared.fault.FaultNo.{FaultNo}
 use Rattle.std.proofs.Common.{◌≡◌, ◌⊎◌, ℕ, zero, suc, ◌+◌, ◌<◌, ◌≤◌, List, [], ◌∷◌, length, map, Bool, true, false, Option, Some, None, Result, Ok, Err, inl, inr, refl, sym, subst, ap, ◌∙◌, arith}
-use Rattle.tw_words.specs.Words.{Bare, IsBrokenLine, IsFirstWord, IsLine, Quoted, Word}
-use Rattle.tw_asm.specs.declared.statement.First.{First}
 use Rattle.tw_asm.specs.declared.statement.First.TheVariants as first
 use Rattle.tw_asm.specs.Seen.{IsRead, Read, seen}
-use Rattle.tw_asm.specs.Statement.{Statement, Code, Head, Label, OfVersion, AnyName, AnyShortName, HaveForm, IsExpected, Say, version_number}
 use Rattle.tw_asm.specs.declared.fault.FaultNo.TheVariants as fault
-use Rattle.tw_asm.specs.Fault.{Stage, Start, InBody, Begins, HasWords, IsOutset, LineFault, MayBegin, MayStand, Situation, empty, instructions, label_twice, limit, operand, procedures, word}
-use Rattle.tw_asm.specs.reading.Progress.{AreClosed, AreFinished, AtStart, BehindHead, BehindVersion, Within, IsEmptyAt, IsGoalOf, IsLimit, IsLimitLine, IsMemory, IsNotClosed, IsNotFinished, Place, Progress, Section, Stopped, TakenLine, TakenStatement, WordsRead, begun, drafts_at, ended, situation_of, stage_of, step}
 use Rattle.tw_asm.specs.reading.Expected.{IsExpectedBy, expectation}
 use Rattle.tw_asm.proofs.Begins.{first_of_words, front_of, line_begins}
-use Rattle.tw_words.proofs.Once.{blank_no_word, broken_here, broken_no_line, first_word_once, line_blank, line_once}
 use Rattle.tw_asm.proofs.Stages.{head_body, progress, start_body, version_body}
 use Rattle.tw_asm.proofs.Steps.{read_says}
 use Rattle.tw_asm.proofs.Once.{one_expected, spells_more}
-use Rattle.tw_asm.proofs.Versions.{number_back}
 
 begins : (s : Situation) (line : List ℕ) (w : Word) (rest : List ℕ) (expected : First) → IsFirstWord w line rest → IsExpectedBy s.version w expected → MayBegin s.stage expected → Begins s line expected
 begins s line (Bare bytes) rest expected f p m = (bytes, rest, f, p, m)
@@ -210,25 +195,3 @@ line_taken p number line said (Err f) w give = elim (give w.1) [ inl x ↦ inl x
 pub any_word_fault : (number : ℕ) (s : Situation) (line : List ℕ) (w : Word) (others : List Word) (whole : Bool) → IsLineRead (w ∷ others) whole line → ((expected : First) → IsExpectedBy s.version w expected → MayBegin s.stage expected → ⊥) → LineFault number s line fault.Word number
 any_word_fault number s line w others true r none = line_word_fault number s line w others r none
 any_word_fault number s line w others false r none = broken_word_fault number s line w others r none
-
--- ---- the version
-
-pub version_taken : (p : Progress) (number : ℕ) (version : Version) → MayBegin (stage_of p.place) first.Version
-    → (stage_of p.place ≡ Start) × (◌≡◌ {A = Progress} (record p { version = version; place = BehindVersion }) (step number (OfVersion (version_number version)) None p))
-version_taken p number version m = (at_start p.place m, ap (λ (v : Version). record p { version = v; place = BehindVersion }) (sym (number_back version)))
-  where
-    other : {Z : Type 0} → first.Version ≡ first.Head → Z
-    other e = absurd cc
-
-    registers : {Z : Type 0} → first.Version ≡ first.Registers → Z
-    registers e = absurd cc
-
-    body : {Z : Type 0} → first.Version ≡ first.Body → Z
-    body e = absurd cc
-
-    at_start : (place : Place) → MayBegin (stage_of place) first.Version → stage_of place ≡ Start
-    at_start AtStart m = refl
-    at_start BehindVersion m = other m
-    at_start (BehindHead kind params) m = registers m
-    at_start (Within section) (inl e) = other e
-    at_start (Within section) (inr e) = body e

@@ -1,14 +1,9 @@
 -- A text that isn't assembled has its first fault told.
 use Rattle.std.proofs.Common.{◌≡◌, ◌⊎◌, ℕ, List, inl, inr, refl}
-use Rattle.tw_code.specs.declared.version.Version.{Version}
+use Rattle.tw_asm.proofs.AsmNames.{AreNotRead, AsmFault, FaultNo, GoalFault, HasSections, IsFirstFault, IsMemory, LineFault, Section, Situation, Version, empty, flat_map, instructions, label_twice, limit, not_forward, operand, procedures, unknown, word}
 use Rattle.tw_asm.specs.Answers.{IsFault}
-use Rattle.tw_asm.specs.declared.fault.AsmFault.{AsmFault}
-use Rattle.tw_asm.specs.declared.fault.FaultNo.{FaultNo}
 use Rattle.tw_asm.specs.declared.fault.FaultNo.TheVariants as fault
-use Rattle.tw_asm.specs.Fault.{GoalFault, IsFirstFault, LineFault, Situation, empty, instructions, label_twice, limit, not_forward, operand, procedures, unknown, word}
-use Rattle.tw_asm.specs.reading.Progress.{AreNotRead, HasSections, IsMemory, Section}
 use Rattle.tw_asm.specs.reading.Goals.{FirstUnlinked, section_goals}
-use Rattle.std.specs.List.{flat_map}
 use Rattle.tw_asm.proofs.FirstGoals.{first_goal_fault}
 use Rattle.tw_asm.proofs.Unspelled.{fault_none}
 

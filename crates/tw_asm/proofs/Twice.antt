@@ -1,12 +1,8 @@
 -- Two readings of the same lines are alike.
 use Rattle.std.proofs.Common.{◌≡◌, ℕ, ◌+◌, List, [], ◌∷◌, Option, Some, None, refl, sym, subst, ap, ◌∙◌}
-use Rattle.tw_code.specs.declared.version.Version.{Version}
-use Rattle.tw_words.specs.Words.{Bare, IsLine, Word}
-use Rattle.tw_words.proofs.Once.{line_once}
-use Rattle.tw_asm.specs.Statement.{Statement, OfVersion, Head, Registers, Label, Code, AnyShortName, Goals, Say, Spells}
+use Rattle.tw_asm.proofs.AsmNames.{AnyShortName, Bare, Code, Goals, Head, IsLine, Label, LineSays, LinesSay, OfVersion, Registers, Say, Situation, Spells, Statement, Version, Word, after_line, labels_ahead, line_once}
 use Rattle.tw_asm.proofs.Once.{begins, first_word}
 use Rattle.tw_asm.proofs.Spelled.{never_cons}
-use Rattle.tw_asm.specs.Fault.{LineSays, LinesSay, Situation, after_line, labels_ahead}
 use Rattle.tw_asm.proofs.Alike.{AreAlike, after_alike, alike}
 
 pub none_spelled : {version : Version} (G : Goals) (statement : Statement) (words : List Word) → words ≡ [] → Spells version G statement words → ⊥

@@ -1,14 +1,6 @@
 -- The words of types: each says one thing alone.
 use Rattle.std.proofs.Common.{◌≡◌, ℕ, false, true, List, [], ◌∷◌, ◌++◌, map, codes, refl, sym, ap, ◌∙◌}
-use Rattle.std.specs.Str.{bytes_eq}
-use Rattle.std.proofs.lemmas.Slice.Eq.{bytes_eq-Decides}
-use Rattle.tw_words.specs.Words.{Word, Bare}
-use Rattle.tw_asm.specs.Parts.{container_word, mode_word, scalar_word}
-use Rattle.tw_types.specs.Nesting.{NestedScalar}
-use Rattle.tw_types.specs.declared.data_type.Scalar.{Scalar}
-use Rattle.tw_types.specs.declared.data_type.Scalar.TheVariants.{Int, Text}
-use Rattle.tw_types.specs.declared.param.Mode.{Mode}
-use Rattle.tw_types.specs.declared.param.Mode.TheVariants.{Val, Closed, Ref, Write}
+use Rattle.tw_asm.proofs.AsmNames.{Bare, Closed, Int, Mode, NestedScalar, Ref, Scalar, Text, Val, Word, Write, bytes_eq, bytes_eq-Decides, container_word, mode_word, scalar_word}
 
 pub other_bytes : (text word : List ℕ) → bytes_eq text word ≡ false → Bare text ≡ Bare word → ⊥
 other_bytes text word isnt e = no (sym isnt ∙ (bytes_eq-Decides text word).1 (inner e))

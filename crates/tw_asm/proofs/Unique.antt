@@ -1,20 +1,7 @@
 -- A text spells at most one program.
 use Rattle.std.proofs.Common.{◌≡◌, ◌⊎◌, ℕ, ◌+◌, List, [], ◌∷◌, ◌++◌, inl, inr, refl, sym, subst, ap, ◌∙◌, arith}
-use Rattle.std.specs.List.{Contains}
-use Rattle.std.specs.Str.Lines.{lines}
-use Rattle.tw_types.specs.declared.actor.Kind.{Kind}
-use Rattle.tw_types.specs.declared.data_type.Scalar.{Scalar}
-use Rattle.tw_types.specs.declared.param.Param.{Param}
-use Rattle.tw_code.specs.declared.instr.Instr.{Instr}
-use Rattle.tw_code.specs.declared.procedure.Procedure.{Procedure}
-use Rattle.tw_code.specs.declared.version.Version.{Version}
-use Rattle.tw_code.specs.declared.version.Version.TheVariants.{One}
-use Rattle.tw_code.specs.format.Program.{Versioned}
-use Rattle.tw_words.specs.Words.{Word}
-use Rattle.tw_asm.specs.Statement.{Statement, OfVersion, Head, Registers, Label, Code, Goals, IsShortName, Spells, version_by, version_number}
-use Rattle.tw_asm.specs.Spelling.{AreCode, GoesTo, HaveWords, Placed, SpellProcedures, SpellsProcedure, SpellsProgram, SpellsVersion}
+use Rattle.tw_asm.proofs.AsmNames.{AreCode, Code, Contains, Goals, GoesTo, HaveWords, Head, Instr, IsShortName, Kind, Label, OfVersion, One, Param, Placed, Procedure, Registers, Scalar, SpellProcedures, Spells, SpellsProcedure, SpellsProgram, SpellsVersion, Statement, Version, Versioned, Word, line_once, lines, version_by, version_number}
 use Rattle.tw_asm.proofs.Alike.{alike}
-use Rattle.tw_words.proofs.Once.{line_once}
 use Rattle.tw_asm.proofs.Spelled.{AreNames, cons_is, never_cons}
 use Rattle.tw_asm.proofs.Once.{spelled_once}
 use Rattle.tw_asm.proofs.Versions.{number_back}

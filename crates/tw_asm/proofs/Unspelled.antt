@@ -1,23 +1,12 @@
 -- A text with a fault spells no program.
 use Rattle.std.proofs.Common.{◌≡◌, ◌⊎◌, ℕ, zero, suc, ◌+◌, ◌<◌, List, [], ◌∷◌, ◌++◌, length, take, drop, Option, Some, None, inl, inr, refl, sym, subst, arith}
-use Rattle.std.specs.List.{Contains, slice_get}
-use Rattle.std.specs.Str.Lines.{lines}
-use Rattle.tw_code.specs.declared.instr.Instr.{Instr}
-use Rattle.tw_code.specs.declared.version.Version.{Version}
-use Rattle.tw_code.specs.format.Program.{Versioned}
+use Rattle.tw_asm.proofs.AsmNames.{AfterHead, AfterVersion, AnyName, AnyShortName, Bare, Begins, Code, Contains, FaultNo, First, GoalFault, HasWords, Head, InBody, Instr, IsEmpty, IsExpected, IsFirstFault, IsLine, IsLineFault, IsOutset, IsUnfinished, IsWhole, Label, LineFault, LineSays, LinesSay, MayBegin, MayStand, NamesLabel, OfVersion, Registers, Say, Situation, SpellsProgram, Stage, Start, Statement, Version, Versioned, Word, after_line, at_start, blank_no_word, first_word_once, labels_ahead, line_blank, lines, not_forward, situation, situation_from, slice_get, unknown}
 use Rattle.tw_code.proofs.Widening.{widened}
-use Rattle.tw_words.specs.Words.{Bare, IsLine, Word}
-use Rattle.tw_asm.specs.Statement.{Statement, OfVersion, Head, Registers, Label, Code, AnyName, AnyShortName, IsExpected, NamesLabel, Say}
-use Rattle.tw_asm.specs.declared.statement.First.{First}
 use Rattle.tw_asm.specs.declared.statement.First.TheVariants as first
-use Rattle.tw_asm.specs.declared.fault.FaultNo.{FaultNo}
 use Rattle.tw_asm.specs.reading.Expected.{expectation}
-use Rattle.tw_asm.specs.Fault.{Stage, Start, AfterVersion, AfterHead, InBody, Begins, GoalFault, HasWords, IsEmpty, IsFirstFault, IsLineFault, IsOutset, IsUnfinished, IsWhole, LineFault, LineSays, LinesSay, MayBegin, MayStand, Situation, after_line, at_start, labels_ahead, situation, situation_from, not_forward, unknown}
-use Rattle.tw_asm.specs.Spelling.{SpellsProgram}
 use Rattle.tw_asm.proofs.Alike.{AreAlike}
 use Rattle.tw_asm.proofs.Begins.{first_in_line, line_begins}
 use Rattle.tw_asm.proofs.Twice.{both_alike, line_is_same, nothing_says, others_say, same_ahead, says_alike}
-use Rattle.tw_words.proofs.Once.{blank_no_word, first_word_once, line_blank}
 use Rattle.tw_asm.proofs.Once.{one_expected, spells_more}
 use Rattle.tw_asm.proofs.Spelled.{bare_is}
 use Rattle.tw_asm.proofs.Walk.{LinesHold, lines_hold, procedures_said, program_said, program_says}

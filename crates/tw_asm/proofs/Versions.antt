@@ -1,21 +1,7 @@
 -- What a version has, and what is of it within the limits.
 use Rattle.std.proofs.Common.{◌≡◌, ℕ, zero, suc, ◌≤◌, true, List, [], ◌∷◌, refl, arith}
-use Rattle.std.specs.List.{AllByRecursion}
-use Rattle.tw_code.specs.declared.form.Form.{Form}
+use Rattle.tw_asm.proofs.AsmNames.{AllByRecursion, Closed, HasInstr, HasOperand, HasParam, HasType, Instr, Int, IsInstr, IsInstrOf, IsOperand, IsOperandOf, IsParam, IsParamOf, IsSubscriptOf, IsTypeOfMode, IsTypeUnderOf, IsWithin, Mode, NestedScalar, One, Operand, Param, Ref, Scalar, Text, Two, Val, Version, Write, depth_of, holds, is_scalar, row, version_by, version_number}
 use Rattle.tw_code.specs.declared.form.Form.TheVariants as form
-use Rattle.tw_code.specs.declared.instr.Instr.{Instr}
-use Rattle.tw_code.specs.declared.version.Version.{Version}
-use Rattle.tw_code.specs.declared.version.Version.TheVariants.{One, Two}
-use Rattle.tw_code.specs.format.Program.{IsInstr, IsInstrOf, IsOperand, IsOperandOf, IsParam, IsParamOf, IsSubscriptOf, IsTypeUnderOf, IsWithin}
-use Rattle.tw_code.specs.format.Table.{Operand, holds, row}
-use Rattle.tw_types.specs.DataType.{depth_of, is_scalar}
-use Rattle.tw_types.specs.Nesting.{NestedScalar}
-use Rattle.tw_types.specs.declared.data_type.Scalar.{Scalar}
-use Rattle.tw_types.specs.declared.data_type.Scalar.TheVariants.{Int, Text}
-use Rattle.tw_types.specs.declared.param.Mode.{Mode}
-use Rattle.tw_types.specs.declared.param.Mode.TheVariants.{Val, Closed, Ref, Write}
-use Rattle.tw_types.specs.declared.param.Param.{Param}
-use Rattle.tw_asm.specs.Statement.{HasInstr, HasOperand, HasParam, HasType, IsTypeOfMode, version_by, version_number}
 
 -- ---- numbers
 
@@ -90,18 +76,6 @@ had_param version Write ty h = (tt, h.1)
 pub had_params : (version : Version) (params : List Param) → AllByRecursion (IsParamOf version) params → AllByRecursion (HasParam version) params
 had_params version [] h = tt
 had_params version (param ∷ params) h = (had_param version param.mode param.ty h.0, had_params version params h.1)
-
--- ---- of version 2
-
-type_widened : (version : Version) (mode : Mode) (ty : NestedScalar) → IsTypeUnderOf version mode ty → IsTypeUnderOf Two mode ty
-type_widened version Val ty h = h
-type_widened version Closed ty h = (h.0, any_type ty.containers)
-type_widened version Ref ty h = (h.0, any_type ty.containers)
-type_widened version Write ty h = (h.0, any_type ty.containers)
-
-pub params_widened : (version : Version) (params : List Param) → AllByRecursion (IsParamOf version) params → AllByRecursion IsParam params
-params_widened version [] h = tt
-params_widened version (param ∷ params) h = (type_widened version param.mode param.ty h.0, params_widened version params h.1)
 
 -- ---- depths
 

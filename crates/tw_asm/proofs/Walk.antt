@@ -1,18 +1,8 @@
 -- The lines of a text that spells a program can follow, one after the other, and each goal is ahead.
 use Rattle.std.proofs.Common.{◌≡◌, ◌≢◌, ◌⊎◌, ℕ, zero, suc, ◌+◌, ◌<◌, ◌≤◌, List, [], ◌∷◌, ◌++◌, length, map, Option, Some, None, inl, inr, refl, sym, subst, ap, ◌∙◌, arith}
 use Rattle.std.proofs.lemmas.List.Elements.{All-contains, All-from_recursion, Contains-push_cases}
-use Rattle.std.specs.List.{AllByRecursion, AllPairs, Contains, slice_index_or}
-use Rattle.tw_code.specs.declared.instr.Instr.{Instr}
-use Rattle.tw_code.specs.declared.procedure.Procedure.{Procedure}
-use Rattle.tw_code.specs.declared.version.Version.{Version}
-use Rattle.tw_code.specs.declared.version.Version.TheVariants.{One}
-use Rattle.tw_code.specs.format.Program.{IsInstr, IsProcedure}
-use Rattle.tw_words.specs.Words.{IsLine, Word}
-use Rattle.tw_asm.specs.Statement.{Statement, OfVersion, Head, Registers, Label, Code, AnyShortName, Goals, IsShortName, NamesLabel, Say, Spells, version_number}
-use Rattle.tw_asm.specs.Fault.{InBody, IsOutset, IsWhole, LineSays, MayStand, Situation, after, after_line, at_start, labels_ahead}
-use Rattle.tw_asm.specs.Spelling.{AreCode, GoesTo, HaveWords, Placed, SpellProcedures, SpellsProcedure, SpellsVersion}
+use Rattle.tw_asm.proofs.AsmNames.{AllByRecursion, AllPairs, AnyShortName, AreCode, Code, Contains, Goals, GoesTo, HaveWords, Head, InBody, Instr, IsInstr, IsLine, IsOutset, IsProcedure, IsShortName, IsWhole, Label, LineSays, MayStand, NamesLabel, OfVersion, One, Placed, Procedure, Registers, Say, Situation, SpellProcedures, Spells, SpellsProcedure, SpellsVersion, Statement, Version, Word, after, after_line, at_start, labels_ahead, line_once, slice_index_or, version_number}
 use Rattle.tw_asm.proofs.Alike.{AreAlike, alike}
-use Rattle.tw_words.proofs.Once.{line_once}
 use Rattle.tw_asm.proofs.NamedLabels.{named_goal}
 use Rattle.tw_asm.proofs.Twice.{none_spelled}
 use Rattle.tw_asm.proofs.Once.{spells_more}

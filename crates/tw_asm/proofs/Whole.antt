@@ -1,29 +1,19 @@
 -- Whole lines: what is read answers which words spell which statements.
 use Rattle.std.proofs.Common.{◌≡◌, ◌≢◌, Bool, true, false, cond, ℕ, List, [], ◌∷◌, ◌++◌, map, codes, Option, Some, None, Result, Ok, Err, refl, sym, subst, ◌∙◌}
-use Rattle.std.specs.List.{AllByRecursion, flat_map}
-use Rattle.std.specs.Str.{bytes_eq}
-use Rattle.std.proofs.lemmas.Slice.Eq.{bytes_eq-Decides}
+use Rattle.tw_asm.proofs.AsmNames.{AllByRecursion, AnyName, Bare, Code, Flaw, Goals, Head, Label, Name, Natural, OfVersion, Opcode, Part, Quoted, Registers, SpellParts, Statement, Version, Word, bytes_eq, bytes_eq-Decides, flat_map, kind_word, operand_parts, param_parts, register_part, row, statement_parts, word_of}
 use Rattle.std.proofs.lemmas.Str.{IsUtf8-string_bytes}
-use Rattle.tw_code.specs.declared.version.Version.{Version}
 use Rattle.tw_words.specs.Seen as lines
-use Rattle.tw_words.specs.Words.{Word, Bare, Quoted}
 use Rattle.tw_words.specs.declared.word.Word as words
 use Rattle.tw_words.specs.declared.word.Word.TheVariants as word
 use Rattle.tw_asm.proofs.Answered.{Judged, code_answered, first_is}
 use Rattle.tw_asm.proofs.HeadWords.{head_answered}
 use Rattle.tw_asm.proofs.OperandWords.{IsFine}
 use Rattle.tw_asm.proofs.Sayings.{label_answered, nonempty, registers_answered, version_answered}
-use Rattle.tw_asm.specs.Parts.{Part, Name, Natural, kind_word, operand_parts, param_parts, register_part}
 use Rattle.tw_asm.specs.Seen.{Read, seen}
 use Rattle.tw_asm.specs.LineAnswers.{Answers}
-use Rattle.tw_asm.specs.Statement.{AnyName, Code, Goals, Head, Label, OfVersion, Registers, SpellParts, Statement, statement_parts}
-use Rattle.tw_code.specs.declared.opcode.Opcode.{Opcode}
-use Rattle.tw_code.specs.format.Table.{row}
-use Rattle.tw_asm.specs.declared.refusal.Flaw.{Flaw}
 use Rattle.tw_asm.specs.declared.refusal.Refusal.{Refusal}
 use Rattle.tw_asm.specs.declared.refusal.Refusal.TheVariants as refusal
 use Rattle.tw_asm.specs.declared.statement.Statement as statements
-use Rattle.tw_asm.specs.Names.{word_of}
 use Rattle.tw_asm.specs.reading.Lines.{Gives, body_in, head_in, opcode_in, registers_in, statement_in, version_in}
 
 -- each statement begins with a word that stands as it is
@@ -51,7 +41,7 @@ other_word a b isnt e = no (sym isnt ∙ (bytes_eq-Decides a b).1 e)
     no : false ≡ true → ⊥
     no e = cc
 
-judged : (version : Version) (ws : List Word) → AllByRecursion IsFine ws → Judged version (statement_in version ws) ws
+pub judged : (version : Version) (ws : List Word) → AllByRecursion IsFine ws → Judged version (statement_in version ws) ws
 unfolding statement_in
 judged version [] fine = λ form. some_word AnyName form.0 form.1.parts
 judged version (Quoted text ∷ ws) fine = λ form. bare_first AnyName text ws form.0 form.1.parts

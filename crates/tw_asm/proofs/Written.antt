@@ -1,45 +1,21 @@
 -- What is written of a statement spells it.
 use Rattle.std.proofs.Common.{◌≡◌, ◌≢◌, inl, inr, ◌≤◌, ◌<◌, ◌^◌, ◌==◌, ℕ, suc, ℤ, pos, negsuc, Bool, true, false, List, [], ◌∷◌, ◌++◌, map, length, codes, Option, Some, None, refl, ap, subst, ◌∙◌, arith}
-use Rattle.std.specs.Prelude.{FitsSigned, IsUtf8, ◌&&◌, ◌||◌, nat_lt, if◌then◌else◌, decimal}
+use Rattle.tw_asm.proofs.AsmNames.{◌&&◌, ◌||◌, AllByRecursion, Bare, Closed, Code, FitsSigned, Goals, HasForm, HasInstr, Head, Instr, Int, IsAscii, IsInLimits, IsInName, IsInstr, IsLine, IsName, IsOperand, IsRegister, IsSkip, IsTarget, IsUtf8, IsWord, Kind, Label, Literal, Mode, Name, Natural, Number, OfVersion, Opcode, Operand, Param, Part, Quoted, Ref, Registers, Right, Scalar, Skip, SpellParts, Spells, SpellsPart, SpellsWith, Statement, Target, Text, TypeOf, Val, Value, Version, Word, Write, container_word, decimal, flat_map, goal_word, holds, if◌then◌else◌, instr_parts, is_edge, join_with_byte, kind_word, ltb-true, map-append, mode_word, nat_lt, nat_tests, operand_parts, param_parts, part_words, register_part, scalar_word, skip_among, skip_of, statement_parts, w64, word_of}
 use Rattle.std.specs.Fmt.{signed_decimal}
-use Rattle.std.specs.Int.{w64}
-use Rattle.std.specs.List.{AllByRecursion, flat_map, join_with_byte}
-use Rattle.std.specs.Str.{IsAscii}
 use Rattle.std.specs.Str.Parse.{AllDigits, IsNumeral}
-use Rattle.std.proofs.lemmas.Bool.{ltb-true}
-use Rattle.std.proofs.lemmas.Bool.Decides.{nat_tests}
 use Rattle.std.proofs.lemmas.Fmt.{decimal_is_IsNumeral}
-use Rattle.std.proofs.lemmas.List.{map-append}
 use Rattle.std.proofs.lemmas.Str.{IsUtf8-append, IsUtf8-from_ascii, IsUtf8-nil}
 use Rattle.std.proofs.lemmas.Str.Ascii.{IsAscii-cons, IsAscii-nil}
 use Rattle.std.proofs.lemmas.Str.Parse.{digit_from_value}
-use Rattle.tw_code.specs.declared.form.Form.{Form}
 use Rattle.tw_code.specs.declared.form.Form.TheVariants as form
-use Rattle.tw_code.specs.declared.instr.Instr.{Instr}
-use Rattle.tw_code.specs.declared.opcode.Opcode.{Opcode}
-use Rattle.tw_code.specs.declared.version.Version.{Version}
-use Rattle.tw_code.specs.declared.version.Version.TheVariants.{Two}
 use Rattle.tw_code.specs.declared.opcode.Opcode.TheVariants as op
 use Rattle.tw_code.specs.format.Table as table
-use Rattle.tw_code.specs.format.Table.{Operand, holds}
-use Rattle.tw_code.specs.format.Program.{IsInstr, IsOperand, IsRegister, IsSkip, IsTarget}
-use Rattle.tw_words.specs.Words.{Bare, IsLine, IsWord, Quoted, Word, is_edge}
-use Rattle.tw_types.specs.declared.actor.Kind.{Kind}
 use Rattle.tw_types.specs.declared.actor.Kind.TheVariants.{Control, Leaf}
-use Rattle.tw_types.specs.declared.data_type.Scalar.{Scalar}
-use Rattle.tw_types.specs.declared.data_type.Scalar.TheVariants.{Int, Text}
-use Rattle.tw_types.specs.declared.param.Mode.{Mode}
-use Rattle.tw_types.specs.declared.param.Mode.TheVariants.{Val, Closed, Ref, Write}
-use Rattle.tw_types.specs.declared.param.Param.{Param}
 use Rattle.tw_words.specs.Quoted.{quoted}
 use Rattle.tw_words.proofs.Numerals.{shown}
 use Rattle.tw_words.proofs.Written.{quoted_spells}
 use Rattle.tw_words.proofs.Breaks.{IsOneLine}
 use Rattle.tw_words.proofs.Writing.{AreWords, joined_line, joined_one_line, quoted_one_line}
-use Rattle.tw_asm.specs.Names.{word_of}
-use Rattle.tw_asm.specs.Parts.{Literal, Name, Natural, Number, Part, Right, Skip, Target, TypeOf, Value, container_word, kind_word, mode_word, operand_parts, param_parts, register_part, scalar_word, skip_among, skip_of, instr_parts}
-use Rattle.tw_asm.specs.Statement.{Code, Goals, HasForm, HasInstr, Head, IsInLimits, IsInName, IsName, Label, OfVersion, Registers, SpellParts, Spells, SpellsPart, SpellsWith, Statement, statement_parts}
-use Rattle.tw_asm.specs.Written.{goal_word, part_words}
 use Rattle.tw_asm.proofs.Quotes.{after_ascii, quoted_utf8}
 use Rattle.tw_asm.proofs.Rows.{both_true, different, is_last, row, skips_last, sort_of}
 use Rattle.tw_asm.proofs.TypeWords.{words_of}

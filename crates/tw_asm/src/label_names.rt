@@ -2,8 +2,9 @@
 
 ghost use Rattle.std.specs.Prelude.{◌≡◌, ◌≢◌, ◌++◌, ℕ, List, MatchOption};
 ghost use Rattle.std.specs.Option.{option_map};
+ghost use Rattle.tw_words.specs.reading.Digits.{is_within};
 ghost use Rattle.tw_asm.specs.reading.Lines.{before_colon};
-ghost use Rattle.tw_asm.specs.reading.Operands.{as_is, is_within, is_letter, is_in_name, all_in_name, is_name, name_in};
+ghost use Rattle.tw_asm.specs.reading.Operands.{as_is, is_letter, is_in_name, all_in_name, is_name, name_in};
 
 use crate::refusal::Flaw;
 

@@ -6,12 +6,13 @@ ghost use Rattle.tw_asm.specs.Disassembly.{label_at, label_line, label_places};
 ghost use Rattle.tw_asm.specs.Listing.{head_lines, instr_text, right_text};
 
 use crate::disassembler::{label_places, put_instr_at};
-use crate::write::{Lines, put_head, put_label, put_numbered, put_param, put_registers};
+use crate::write::{Lines, put_head, put_label, put_param, put_registers};
 use indexmap::IndexSet;
 use std::alloc::{AllocError, Global};
 use std::marker::Model;
 use tw_code::{Instr, Procedure};
 use tw_types::Param;
+use tw_words::put_numbered;
 
 /// Where the labels of a procedure's code stand.
 #[derive(Drop)]

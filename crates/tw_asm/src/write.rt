@@ -20,7 +20,7 @@ use crate::opcode::word_of;
 use std::alloc::{AllocError, Global};
 use tw_code::{Instr, Opcode, Operand, Sink, Version};
 use tw_types::{DataType, Kind, Mode, Param, Scalar};
-use tw_words::put_quoted;
+use tw_words::{put, put_both, put_numbered, put_quoted};
 
 fn kind_word(kind: Kind) -> &'static str
     ensures { result.now ≡ kind_word kind }
@@ -60,33 +60,6 @@ fn word_of_container(ty: DataType) -> &'static str
     } else {
         "cont"
     }
-}
-
-// ---- bytes
-
-fn put(out: &mut Vec<u8>, text: &str) -> Result<(), AllocError>
-    ensures { OnOk result (out.new.items ≡ out.old.items ++ text.now) }
-{
-    out.extend_from_slice(text.as_bytes())
-}
-
-fn put_both(out: &mut Vec<u8>, front: &str, back: &str) -> Result<(), AllocError>
-    ensures { OnOk result (out.new.items ≡ out.old.items ++ (front.now ++ back.now)) }
-{
-    put(out, front)?;
-    put(out, back)
-}
-
-pub fn put_numbered(
-    alloc: Global,
-    out: &mut Vec<u8>,
-    front: &str,
-    number: usize,
-) -> Result<(), AllocError>
-    ensures { OnOk result (out.new.items ≡ out.old.items ++ (front.now ++ decimal number)) }
-{
-    let digits = format!(in alloc; "{number}")?;
-    put_both(out, front, &digits)
 }
 
 fn put_number(alloc: Global, out: &mut Vec<u8>, number: i64) -> Result<(), AllocError>

@@ -1,11 +1,8 @@
 -- The pieces of a word, byte by byte.
 use Rattle.std.proofs.Common.{[], ◌≡◌, ℕ, suc, ◌+◌, ◌-◌, ◌<◌, ◌≤◌, Bool, true, false, cond, List, ◌∷◌, ◌++◌, length, get_or, take, drop, refl, sym, ap, ◌∙◌, arith}
 use Rattle.std.proofs.Math.Seq.{drop-cons, take-suc}
-use Rattle.std.proofs.lemmas.List.{drop_all, get_or-drop, length-drop, length-map, take-map, take_all}
-use denote.Ref.{Bor}
-use Rattle.tw_names.specs.Seen.{now, texts}
+use Rattle.tw_names.proofs.TextNames.{Bor, drop_all, get_or-drop, is_sign, length-drop, length-map, now, pieces, pieces_behind, some_piece, take-map, take_all, texts}
 use Rattle.tw_names.specs.Answers.{pieces_left}
-use Rattle.tw_names.specs.Lines.{is_sign, pieces, pieces_behind, some_piece}
 
 at_byte : (front : List ℕ) (b : ℕ) (rest : List ℕ) (t : Bool) → is_sign b ≡ t → pieces_behind front (b ∷ rest) ≡ cond t (some_piece front ++ pieces_behind [] rest) (pieces_behind (front ++ b ∷ []) rest)
 at_byte front b rest t e = ap (λ (x : Bool). cond x (some_piece front ++ pieces_behind [] rest) (pieces_behind (front ++ b ∷ []) rest)) e

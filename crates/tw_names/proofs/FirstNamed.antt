@@ -1,11 +1,6 @@
 -- Whether a text has names, as its lines are read one by one.
 use Rattle.std.proofs.Common.{[], ◌≡◌, ℕ, Bool, true, false, List, ◌∷◌, ◌++◌, Option, Some, None, sym, subst, append_assoc}
-use Rattle.std.specs.Option.{unwrap_or}
-use Rattle.std.specs.Str.Lines.{lines}
-use Rattle.std.proofs.lemmas.List.{append-nil}
-use Rattle.tw_names.specs.Answers.{IsNamed, IsNamedAfter, named_by}
-use Rattle.tw_names.specs.Lines.{IsTaken, Line}
-use Rattle.tw_names.specs.Standing.{HasNames}
+use Rattle.tw_names.proofs.TextNames.{HasNames, IsNamed, IsNamedAfter, IsTaken, Line, append-nil, lines, named_by, unwrap_or}
 use Rattle.tw_names.proofs.NamesLine.{blank_line, named_false, named_true}
 use Rattle.tw_names.proofs.Walk.{AreBlank, behind_names, blank_more, blank_no_names, names_behind}
 

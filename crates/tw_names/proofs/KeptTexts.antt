@@ -1,16 +1,13 @@
 -- What texts keep that are made of texts of a line: that no line feed is in them, and that they are in UTF-8.
-use Rattle.std.proofs.Common.{[], ◌≡◌, ◌==◌, ◌<◌, ◌≤◌, ◌+◌, ◌-◌, ◌/◌, ◌%◌, ℕ, zero, suc, Bool, true, false, cond, List, ◌∷◌, ◌++◌, length, take, drop, refl, sym, ap, subst, ◌∙◌, append_assoc, arith}
-use Rattle.std.specs.Prelude.{IsUtf8, decimal, ◌||◌, nat_lt}
+use Rattle.std.proofs.Common.{[], ◌≡◌, ◌==◌, ◌<◌, ◌≤◌, ◌+◌, ◌-◌, ◌/◌, ◌%◌, ℕ, zero, suc, Bool, true, false, cond, List, ◌∷◌, ◌++◌, refl, sym, subst, append_assoc, arith}
+use Rattle.tw_names.proofs.TextNames.{AllByRecursion, IsUtf8, StandsFirst, append-nil, decimal, is_sign, nat_lt, pieces, pieces_behind, some_piece}
 use Rattle.std.specs.Fmt.{digit_glyph, digits, digits_onto}
-use Rattle.std.specs.List.{AllByRecursion}
 use Rattle.std.proofs.lemmas.Bool.Decides.{nat_tests}
-use Rattle.std.proofs.lemmas.List.{append-nil}
 use Rattle.std.proofs.lemmas.Str.{IsUtf8-append, IsUtf8-nil}
 use Rattle.tw_words.proofs.Breaks.{HasNoLineFeed}
 use Rattle.tw_words.proofs.Texts.{parting_small, rest_utf8}
 use Rattle.tw_words.proofs.Utf8.{cut_front, cut_rest, one_ascii}
 use Rattle.tw_words.specs.Words.{IsAtEdge, IsGap, is_edge}
-use Rattle.tw_names.specs.Lines.{StandsFirst, is_sign, pieces, pieces_behind, some_piece}
 
 -- no text of a line loses it by what a line stands for
 pub record IsKept (Q : List ℕ → Type 0) : Type 0 where

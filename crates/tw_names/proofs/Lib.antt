@@ -13,3 +13,4 @@ pub mod RegisterNames
 pub mod KeptTexts
 pub mod SaidTexts
 pub mod LineByLine
+mod TextNames

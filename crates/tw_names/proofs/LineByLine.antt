@@ -1,19 +1,12 @@
 -- A text with names stands for as many lines as it has, and where it is in UTF-8 for a text in UTF-8.
-use Rattle.std.proofs.Common.{[], ◌≡◌, ◌==◌, ◌<◌, ◌-◌, ◌+◌, ℕ, suc, Bool, true, false, cond, List, ◌∷◌, ◌++◌, length, take, drop, get_or, map, Result, Ok, Err, inl, inr, refl, sym, ap, subst, ◌∙◌, append_assoc, append-nil, arith}
-use Rattle.std.specs.Prelude.{IsUtf8, slice_index}
-use Rattle.std.specs.List.{AllByRecursion, onto_first, slice_split}
-use Rattle.std.specs.Str.Lines.{lines, lines_of_parts, strip_carriage_return}
+use Rattle.std.proofs.Common.{[], ◌≡◌, ◌==◌, ◌<◌, ◌-◌, ◌+◌, ℕ, suc, Bool, true, false, cond, List, ◌∷◌, ◌++◌, length, take, drop, get_or, Result, Ok, Err, inl, inr, refl, sym, ap, subst, ◌∙◌, append_assoc, append-nil, arith}
+use Rattle.tw_names.proofs.TextNames.{AllByRecursion, AreTaken, Broken, IsTaken, IsUtf8, Line, Names, Procedures, Refusal, Said, Says, StandFirst, Worded, at_number, ended, lines, lines_of_parts, lines_say, no_names, onto_first, procedures_of, slice_index, slice_split, strip_carriage_return, take-append-drop, taken_says}
 use Rattle.std.proofs.lemmas.Bool.{eqb-true}
-use Rattle.std.proofs.lemmas.List.{take-append-drop}
 use Rattle.std.proofs.lemmas.List.Splits.{slice_split-cons_no}
 use Rattle.std.proofs.lemmas.Str.{IsCharBoundary-before_ascii, IsUtf8-append, IsUtf8-nil, IsUtf8-take}
 use Rattle.tw_words.proofs.Breaks.{HasNoLineFeed}
 use Rattle.tw_words.proofs.Utf8.{cut_front, cut_rest, one_ascii}
 use Rattle.tw_names.specs.Laws.{AsManyLines, InUtf8}
-use Rattle.tw_names.specs.Lines.{AreTaken, Broken, IsTaken, Line, StandFirst, Worded}
-use Rattle.tw_names.specs.Meanings.{Names, Procedures, no_names}
-use Rattle.tw_names.specs.Saying.{Said}
-use Rattle.tw_names.specs.Standing.{Refusal, Says, StandsFor, at_number, ended, lines_say, procedures_of, taken_says}
 use Rattle.tw_names.proofs.KeptTexts.{AllKept, IsKept, either, feeds_front, feeds_kept, utf8_kept}
 use Rattle.tw_names.proofs.SaidTexts.{line_kept, ok_is, went_then}
 use Rattle.tw_names.proofs.Walk.{taken_length}

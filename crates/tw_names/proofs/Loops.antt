@@ -1,13 +1,7 @@
 -- The loops over a text's lines.
 use Rattle.std.proofs.Common.{[], ◌≡◌, ◌⊎◌, ◌≤◌, ℕ, suc, ◌+◌, List, ◌∷◌, ◌++◌, length, map, drop, Ok, Err, refl, sym, ap, subst, ◌∙◌, inl, inr, arith}
-use denote.Ref.{Bor}
-use Rattle.std.proofs.lemmas.List.{drop_all, length-append, map-append}
-use Rattle.std.specs.List.{enumerate_from}
-use Rattle.tw_names.specs.Answers.{IsMemory, told}
-use Rattle.tw_names.specs.Lines.{AreTaken, IsTaken, Line}
+use Rattle.tw_names.proofs.TextNames.{AreTaken, Bor, IsMemory, IsTaken, Line, Names, Procedures, Refusal, drop_all, length-append, lines_say, map-append, no_names, procedures_of, taken_says, told, with_line}
 use Rattle.tw_names.specs.declared.refusal.NameRefusal.{NameRefusal}
-use Rattle.tw_names.specs.Meanings.{Names, Procedures, no_names}
-use Rattle.tw_names.specs.Standing.{Refusal, lines_say, procedures_of, taken_says, with_line}
 use Rattle.tw_names.proofs.Walk.{taken_at, taken_length, taken_more, with_lines_more}
 
 abbrev pub Items : Type 0
@@ -15,18 +9,6 @@ Items = List (ℕ × Bor (List ℕ))
 
 abbrev pub lines_in : Items → List (List ℕ)
 lines_in items = map (λ (item : ℕ × Bor (List ℕ)). item.1.now) items
-
-seconds_of : (items : Items) → map (λ (p : ℕ × List ℕ). p.1) (map (λ (item : ℕ × Bor (List ℕ)). (item.0, item.1.now)) items) ≡ lines_in items
-seconds_of [] = refl
-seconds_of (i ∷ items) = ap (λ (x : List (List ℕ)). i.1.now ∷ x) (seconds_of items)
-
-all_seconds : (k : ℕ) (ls : List (List ℕ)) → map (λ (x : ℕ × List ℕ). x.1) (enumerate_from k ls) ≡ ls
-all_seconds k [] = refl
-all_seconds k (l ∷ ls) = ap (λ (x : List (List ℕ)). l ∷ x) (all_seconds (k + 1) ls)
-
--- at the end all lines are yielded
-pub all_lines : (ls : List (List ℕ)) (items : Items) → map (λ (item : ℕ × Bor (List ℕ)). (item.0, item.1.now)) items ≡ enumerate_from 0 ls → lines_in items ≡ ls
-all_lines ls items e = sym (seconds_of items) ∙ ap (map (λ (x : ℕ × List ℕ). x.1)) e ∙ all_seconds 0 ls
 
 pub one_line_in : (items : Items) (item : ℕ × Bor (List ℕ)) → lines_in (items ++ item ∷ []) ≡ lines_in items ++ item.1.now ∷ []
 one_line_in items item = map-append (λ (x : ℕ × Bor (List ℕ)). x.1.now) items (item ∷ [])

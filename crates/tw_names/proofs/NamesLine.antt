@@ -1,12 +1,8 @@
 -- The line `names`.
 use Rattle.std.proofs.Common.{[], ◌≡◌, ℕ, Bool, true, false, List, ◌∷◌, Option, Some, None, refl, sym, subst, ◌∙◌, inl, inr}
-use Rattle.std.specs.Prelude.{◌&&◌, codes}
+use Rattle.tw_names.proofs.TextNames.{◌&&◌, AreWords, Broken, HasNames, IsTaken, Line, Worded, codes, is_names_line, named_by}
 use Rattle.std.specs.Str.{bytes_eq}
 use Rattle.std.proofs.lemmas.Slice.Eq.{bytes_eq-Decides}
-use Rattle.tw_names.specs.Answers.{named_by}
-use Rattle.tw_names.specs.Lines.{AreWords, Broken, IsTaken, Line, Worded}
-use Rattle.tw_names.specs.Saying.{is_names_line}
-use Rattle.tw_names.specs.Standing.{HasNames}
 use Rattle.tw_names.proofs.Taking.{not_both_ways, words_once}
 use Rattle.tw_names.proofs.Walk.{not_blank}
 

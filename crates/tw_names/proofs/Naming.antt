@@ -1,7 +1,6 @@
 -- A name that may be given means nothing yet.
 use Rattle.std.proofs.Common.{◌≡◌, ℕ, Bool, true, false, cond, List, Option, Some, None, Ok, refl}
-use Rattle.std.specs.Option.{is_some}
-use Rattle.tw_names.specs.Meanings.{Names, Procedures, is_name, known, may_name, meaning, or_else, refused}
+use Rattle.tw_names.proofs.TextNames.{Names, Procedures, is_name, is_some, known, may_name, meaning, or_else, refused}
 use Rattle.tw_names.specs.declared.meaning.Thing.{Thing}
 use Rattle.tw_names.specs.declared.refusal.NameNo.TheVariants as no
 

@@ -1,8 +1,7 @@
 -- What a text says is one thing.
 use Rattle.std.proofs.Common.{◌≡◌, ℕ, List, Result, Ok, Err, inl, inr, refl, sym, ap, ◌∙◌}
-use Rattle.std.specs.Str.Lines.{lines}
+use Rattle.tw_names.proofs.TextNames.{Refusal, Says, lines, text_says}
 use Rattle.tw_names.specs.Laws.{NotBoth, OneFirstRefusal, StandsForItself, StandsForOne}
-use Rattle.tw_names.specs.Standing.{Refusal, Says, text_says}
 use Rattle.tw_names.proofs.Taking.{all_once}
 
 says_once : (text : List ℕ) (x y : Result (List ℕ) Refusal) → Says text x → Says text y → x ≡ y

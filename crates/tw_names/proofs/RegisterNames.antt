@@ -1,22 +1,12 @@
 -- Which names are known behind a line.
 use Rattle.std.proofs.Common.{[], ◌≡◌, ◌==◌, ◌≤◌, ◌⊎◌, ℕ, zero, suc, ◌+◌, ◌-◌, Bool, true, false, cond, List, ◌∷◌, ◌++◌, length, drop, take, Option, Some, None, Ok, Err, inl, inr, refl, sym, ap, subst, ◌∙◌, arith}
-use denote.Ref.{Bor}
-use Rattle.std.specs.Prelude.{option_map}
-use Rattle.std.specs.Option.{option_or}
-use Rattle.std.specs.List.{slice_get}
+use Rattle.tw_names.proofs.TextNames.{AreTaken, Bor, IsMemory, IsTaken, Line, Names, Procedures, Said, Table, drop-drop, drop_all, length-drop, length-map, no_names, now, option_map, option_or, seen_entry, seen_table, slice_get, take_all, taken_says}
 use Rattle.std.specs.Result.{IsErr}
 use Rattle.std.proofs.lemmas.Bool.{eqb-true}
 use Rattle.std.proofs.lemmas.Bool.Decides.{nat_tests}
-use Rattle.std.proofs.lemmas.List.{drop-drop, drop_all, length-drop, length-map, take_all}
-use Rattle.tw_names.specs.Answers.{IsMemory}
 use Rattle.tw_names.specs.declared.refusal.NameNo.TheVariants as no
 use Rattle.tw_names.specs.declared.refusal.NameRefusal.{NameRefusal}
-use Rattle.tw_names.specs.Lines.{AreTaken, IsTaken, Line}
-use Rattle.tw_names.specs.Meanings.{Names, Procedures, Table, no_names}
 use Rattle.tw_names.specs.Registers.{entry_name, first_part, is_register, last_name, names_behind}
-use Rattle.tw_names.specs.Saying.{Said}
-use Rattle.tw_names.specs.Seen.{now, seen_entry, seen_table}
-use Rattle.tw_names.specs.Standing.{taken_says}
 use Rattle.tw_names.specs.declared.meaning.Bank.{Bank}
 use Rattle.tw_names.specs.declared.meaning.Thing.{Thing}
 use Rattle.tw_names.proofs.Walk.{taken_at, taken_length}
@@ -138,12 +128,6 @@ pub found_all : (es : Entries) (i : ℕ) (in_bank : Bank) (number : ℕ) (found 
 found_all es i in_bank number found all so_far =
     let short : length (seen_table es) ≤ i = omega (arith, all, length-map es seen_entry) in
     so_far ∙ ap (λ (t : Table). last_name t in_bank number None) (take_all i (seen_table es) short)
-
--- an entry of what is kept
-pub entry_seen : (es : Entries) (i : ℕ) → slice_get (seen_table es) i ≡ option_map seen_entry (slice_get es i)
-entry_seen [] i = refl
-entry_seen (e ∷ es) zero = refl
-entry_seen (e ∷ es) (suc i) = entry_seen es i
 
 -- ---- up to the first space
 

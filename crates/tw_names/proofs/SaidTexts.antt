@@ -1,9 +1,7 @@
 -- What a line stands for keeps what its words keep.
-use Rattle.std.proofs.Common.{[], ◌≡◌, ◌==◌, ◌<◌, ◌≤◌, ◌+◌, ℕ, ℤ, pos, negsuc, zero, suc, Bool, true, false, cond, List, ◌∷◌, ◌++◌, length, take, drop, filter, Option, Some, None, Result, Ok, Err, refl, sym, ap, subst, ◌∙◌, append_assoc, append-nil, codes, decimal, is_some, is_none, slice_get, arith}
-use Rattle.std.specs.Prelude.{nat_lt}
+use Rattle.std.proofs.Common.{[], ◌≡◌, ◌<◌, ◌≤◌, ◌+◌, ℕ, ℤ, pos, negsuc, zero, suc, cond, List, ◌∷◌, ◌++◌, length, take, drop, filter, Option, Some, None, Result, Ok, Err, refl, sym, ap, subst, ◌∙◌, append_assoc, append-nil, codes, decimal, is_some, slice_get, arith}
+use Rattle.tw_names.proofs.TextNames.{Flaw, Names, Procedures, and_then, flat_map, is_name, known, may_name, name_register, nat_lt, pieces, unwrap_or, with_constant, with_register}
 use Rattle.std.specs.Fmt.{signed_decimal}
-use Rattle.std.specs.List.{AllByRecursion, flat_map}
-use Rattle.std.specs.Option.{unwrap_or}
 use Rattle.std.specs.Result.{result_ok}
 use Rattle.std.specs.Str.{bytes_eq}
 use Rattle.tw_asm.specs.reading.Lines.{before_colon, opcode_in}
@@ -11,8 +9,6 @@ use Rattle.tw_asm.specs.reading.Operands.{signed_in}
 use Rattle.tw_code.specs.declared.opcode.Opcode.{Opcode}
 use Rattle.tw_code.specs.declared.version.Version.TheVariants.{Two}
 use Rattle.tw_code.specs.format.Table.{forms_of}
-use Rattle.tw_names.specs.Lines.{pieces}
-use Rattle.tw_names.specs.Meanings.{Flaw, Names, Procedures, and_then, is_name, known, may_name, name_register, refused, with_constant, with_register}
 use Rattle.tw_names.specs.Saying.{Said, asked_by, assigned, at_head, banks_of, begins, begins_first, behind, body_says, constant_says, counted, fitting, head_says, instruction_says, is_names_line, is_unnamed, let_says, line_says, list_name, list_says, made, made_one, makes, name_before, name_says, named, number_in, only_names, parameters, procedure_name, register_of, registers_say, stands, value_types, with_word, word_says, words_say}
 use Rattle.tw_names.specs.declared.meaning.Asked.{Asked}
 use Rattle.tw_names.specs.declared.meaning.Asked.TheVariants as asked

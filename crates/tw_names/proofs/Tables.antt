@@ -1,11 +1,8 @@
 -- A map of names is a table.
 use Rattle.std.proofs.Common.{[], ◌≡◌, ℕ, cond, List, ◌∷◌, ◌++◌, Some, refl, ap, ◌∙◌}
-use denote.Ref.{Bor}
+use Rattle.tw_names.proofs.TextNames.{Bor, map-append, meaning, seen_entry, seen_table}
 use Rattle.std.specs.Map.{lookup}
 use Rattle.std.specs.Str.{bytes_eq}
-use Rattle.std.proofs.lemmas.List.{map-append}
-use Rattle.tw_names.specs.Meanings.{meaning}
-use Rattle.tw_names.specs.Seen.{seen_entry, seen_table}
 use Rattle.tw_names.specs.declared.meaning.Thing.{Thing}
 
 pub meaning_seen : (name : List ℕ) (es : List (Bor (List ℕ) × Thing)) → lookup (λ (k : Bor (List ℕ)). bytes_eq name k.now) es ≡ meaning name (seen_table es)

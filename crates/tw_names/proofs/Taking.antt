@@ -1,10 +1,9 @@
 -- The words of a line are one list.
 use Rattle.std.proofs.Common.{[], ◌≡◌, ℕ, ◌+◌, ◌-◌, ◌<◌, List, ◌∷◌, ◌++◌, length, take, refl, sym, ap, subst, ◌∙◌, arith}
-use Rattle.std.proofs.lemmas.List.{length-append, take_at}
+use Rattle.tw_names.proofs.TextNames.{AreTaken, AreWords, Broken, IsTaken, Line, StandFirst, StandsFirst, Worded, length-append, take_at}
 use Rattle.tw_words.specs.Words.{AreFirstWords, IsBlank, IsBroken, IsBrokenLine, IsFirstWord, IsLine, IsWord, Bare, Quoted, Word}
 use Rattle.tw_words.specs.reading.Next.{IsAfterGap}
 use Rattle.tw_words.proofs.Once.{blank_no_word, broken_no_line, first_word_once, gap_once, word_here}
-use Rattle.tw_names.specs.Lines.{AreTaken, AreWords, Broken, IsTaken, Line, StandFirst, StandsFirst, Worded}
 
 -- what stands before a text's end
 cut_front : (text after : List ℕ) → take (length (text ++ after) - length after) (text ++ after) ≡ text

@@ -1,9 +1,6 @@
 -- A text is gone over line by line.
 use Rattle.std.proofs.Common.{[], ◌≡◌, ℕ, suc, ◌+◌, List, ◌∷◌, ◌++◌, length, drop, refl, ap, ◌∙◌, inl, inr, arith}
-use Rattle.std.specs.Prelude.{codes}
-use Rattle.tw_names.specs.Lines.{AreTaken, AreWords, IsTaken, Line}
-use Rattle.tw_names.specs.Meanings.{Procedures}
-use Rattle.tw_names.specs.Standing.{HasNames, with_line, with_lines}
+use Rattle.tw_names.proofs.TextNames.{AreTaken, AreWords, HasNames, IsTaken, Line, Procedures, codes, with_line, with_lines}
 use Rattle.tw_names.proofs.Taking.{words_once}
 
 pub with_lines_more : (p : Procedures) (n : ℕ) (all : List Line) (t : Line) → with_lines p n (all ++ t ∷ []) ≡ with_line (with_lines p n all) (n + length all) t

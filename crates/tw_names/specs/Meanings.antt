@@ -2,6 +2,7 @@
 use Rattle.std.specs.Prelude.{◌==◌, ◌+◌, ◌||◌, ℕ, Bool, false, not, List, [], ◌∷◌, ◌++◌, length, codes, Option, Some, None, Result, Ok, Err, is_some, nat_lt, if◌then◌else◌}
 use Rattle.std.specs.Map.{lookup}
 use Rattle.std.specs.Str.{bytes_eq}
+use Rattle.tw_words.specs.reading.Digits.{are_digits}
 use Rattle.tw_asm.specs.reading.Operands as words
 use Rattle.tw_names.specs.declared.meaning.Bank.{Bank}
 use Rattle.tw_names.specs.declared.meaning.Bank.TheVariants as bank
@@ -15,7 +16,7 @@ use Rattle.tw_names.specs.declared.refusal.NameNo.TheVariants as no
 -- `v` or `d`, and digits
 abbrev pub is_register_word : List ℕ → Bool
 is_register_word [] = false
-is_register_word (b ∷ rest) = if (b == 118) || (b == 100) then words.are_digits rest else false
+is_register_word (b ∷ rest) = if (b == 118) || (b == 100) then are_digits rest else false
 
 -- a name as a label's, at most 64 bytes, and no word that means itself
 abbrev pub is_name : List ℕ → Bool

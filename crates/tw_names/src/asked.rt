@@ -1,8 +1,7 @@
 //! What is asked in the place of a word, and what stands there.
 
-ghost use Rattle.std.specs.Prelude.{◌≡◌, ◌++◌, OnOk, decimal, drop, slice_get, take, unwrap_or};
+ghost use Rattle.std.specs.Prelude.{◌≡◌, ◌++◌, OnOk, drop, slice_get, take, unwrap_or};
 ghost use Rattle.tw_names.specs.declared.meaning.Asked.TheVariants.{Nothing};
-ghost use Rattle.std.specs.Fmt.{signed_decimal};
 ghost use Rattle.std.specs.Option.{option_map};
 ghost use Rattle.tw_names.specs.Answers.{Gives, standing_text};
 ghost use Rattle.tw_names.specs.Saying.{behind, named, stands, with_word, word_says, words_say};
@@ -14,7 +13,7 @@ use crate::names::{Names, is_name, known};
 use crate::procedures::Procedures;
 use crate::refusal::{NameNo, Refusal};
 use std::alloc::{AllocError, Global};
-use tw_words::put;
+use tw_words::{put_numbered, put_signed};
 
 /// What stands in the place of a name.
 #[derive(Clone, Copy)]
@@ -58,38 +57,12 @@ fn standing_of(asked: Asked, thing: Thing) -> Option<Standing>
     }
 }
 
-fn put_both(out: &mut Vec<u8>, front: &str, back: &str) -> Result<(), AllocError>
-    ensures { OnOk result (out.new.items ≡ out.old.items ++ (front.now ++ back.now)) }
-{
-    put(out, front)?;
-    put(out, back)
-}
-
-fn put_numbered(
-    alloc: Global,
-    out: &mut Vec<u8>,
-    front: &str,
-    number: usize,
-) -> Result<(), AllocError>
-    ensures { OnOk result (out.new.items ≡ out.old.items ++ (front.now ++ decimal number)) }
-{
-    let digits = format!(in alloc; "{number}")?;
-    put_both(out, front, &digits)
-}
-
-fn put_number(alloc: Global, out: &mut Vec<u8>, number: i64) -> Result<(), AllocError>
-    ensures { OnOk result (out.new.items ≡ out.old.items ++ signed_decimal number) }
-{
-    let digits = format!(in alloc; "{number}")?;
-    put(out, &digits)
-}
-
 fn put_standing(alloc: Global, out: &mut Vec<u8>, standing: Standing) -> Result<(), AllocError>
     ensures { OnOk result (out.new.items ≡ out.old.items ++ standing_text standing) }
 {
     match standing {
         Standing::Numbered(front, number) => put_numbered(alloc, out, front, number),
-        Standing::Number(number) => put_number(alloc, out, number),
+        Standing::Number(number) => put_signed(alloc, out, number),
     }
 }
 

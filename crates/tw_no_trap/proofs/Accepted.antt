@@ -1,33 +1,10 @@
 -- What acceptance gives of a task that runs: its instruction's turn, and where it goes on.
 use Rattle.std.proofs.Common.{◌≡◌, ℕ, zero, suc, ◌<◌, ◌≤◌, true, List, [], ◌∷◌, ◌++◌, length, slice_get, get_or, Option, Some, None, refl, sym, ap, subst, ◌∙◌, arith}
-use Rattle.std.proofs.lemmas.Bool.{leb-true}
-use Rattle.std.proofs.lemmas.List.{length-map}
-use Rattle.std.proofs.lemmas.Option.{same_Some, slice_get-get_or, slice_get_within}
-use Rattle.std.specs.FinMap.{get}
-use Rattle.std.specs.List.{AllByRecursion, list_all}
-use Rattle.std.specs.Option.{option_to_list}
-use Rattle.std.specs.Prelude.{is_none}
-use Rattle.tw_types.specs.declared.actor.Actor.{Actor}
-use Rattle.tw_types.specs.declared.param.Param.{Param}
+use Rattle.tw_no_trap.proofs.MachineNames.{Accepts, Actor, AllByRecursion, Completed, DataInstr, Frame, Instr, IsDataInstr, IsHeld, IsInstr, Param, Procedure, RightType, Stands, State, Typing, Typings, asks, asks_at, asks_data, at_next_place, context_of, data_instr, flow_of, flows, get, is_none, is_ret, leb-true, length-map, list_all, local_steps, option_to_list, right_of, rights_given, same_Some, slice_get-get_or, slice_get_within, typing_of, value_types, values_fit}
 use Rattle.tw_code.specs.declared.flow.Flow.TheVariants.{Straight}
-use Rattle.tw_code.specs.declared.flow.Way.TheVariants.{Completed}
 use Rattle.tw_code.specs.declared.instr.Action.{Action}
-use Rattle.tw_code.specs.declared.instr.DataInstr.{DataInstr}
-use Rattle.tw_code.specs.declared.instr.Instr.{Instr}
 use Rattle.tw_code.specs.declared.instr.Instr.TheVariants as instr
-use Rattle.tw_code.specs.declared.procedure.Procedure.{Procedure}
-use Rattle.tw_code.specs.accepting.Flow.{flow_of, flows}
-use Rattle.tw_code.specs.accepting.Typing.{asks, asks_at, asks_data, rights_given, value_types, values_fit}
-use Rattle.tw_code.specs.format.Program.{IsDataInstr, IsInstr}
-use Rattle.tw_code.specs.machine.Data.{data_instr}
-use Rattle.tw_code.specs.machine.Holders.{Typings, typing_of}
-use Rattle.tw_code.specs.machine.Machine.{is_ret, local_steps}
-use Rattle.tw_code.specs.machine.Position.{at_next_place}
-use Rattle.tw_code.specs.machine.Rights.{RightType, Typing, right_of}
-use Rattle.tw_code.specs.machine.State.{Frame, State, context_of}
 use Rattle.tw_budget.proofs.FrameLaws.{starts_within}
-use Rattle.tw_no_trap.specs.Invariant.{IsHeld}
-use Rattle.tw_no_trap.specs.Standing.{Accepts, Stands}
 use Rattle.tw_no_trap.proofs.AllEvents.{Accepted, Known}
 use Rattle.tw_no_trap.proofs.DataLeaves.{data_leaves}
 use Rattle.tw_no_trap.proofs.Long.{typings_long}

@@ -1,12 +1,7 @@
 -- What data become: of the same type, with the same members, closed where they were, and right in content and writers.
 use Rattle.std.proofs.Common.{ℕ, suc, ◌+◌, ◌≤◌, ◌≡◌, true, Some, refl, ◌∙◌}
-use Rattle.std.specs.FinMap.{get, insert}
-use Rattle.tw_types.specs.Counts.{AreNested, Balanced, HasWriters, inside}
-use Rattle.tw_types.specs.Store.{Datum, Data, is_closed, members_of, settled_by, drop_read_within}
-use Rattle.tw_types.specs.TypedStore.{IsOfType}
+use Rattle.tw_no_trap.proofs.MachineNames.{AreNested, Balanced, Data, Datum, HasWriters, IsAging, IsOfType, depth_of, drop_read_within, get, insert, inside, is_closed, members_of, settled_by}
 use Rattle.tw_types.proofs.Freeing as freeing
-use Rattle.tw_types.specs.DataType.{depth_of}
-use Rattle.tw_types.proofs.Freeing.{IsAging}
 
 -- y is what x has become
 pub record Aged (x y : Datum) : Type 0 where

@@ -1,29 +1,9 @@
 -- One event, whichever: it keeps all that is held, and doesn't trap; with it runs from the opening.
 use Rattle.std.proofs.Common.{◌≡◌, ℕ, ◌+◌, ◌==◌, Bool, true, false, not, List, [], ◌∷◌, slice_get, Option, Some, None, is_none, refl, sym, ap, subst, arith}
-use Rattle.std.specs.FinMap.{get, remove}
-use Rattle.std.specs.List.{list_all}
-use Rattle.tw_types.specs.declared.actor.Actor.{Actor}
-use Rattle.tw_types.specs.declared.cause.Cause.TheVariants.{RightLeft}
-use Rattle.tw_types.specs.declared.event.Event.{Event}
+use Rattle.tw_no_trap.proofs.MachineNames.{◌>>◌, Actor, ActorCounts, Event, Frame, Instr, IsHeld, NotEnabled, Outcome, Position, Procedure, RightLeft, Rights, RightsFit, Stands, State, Store, Typing, Typings, Went, actor_cmp, actor_cmp-IsAntisymmetric, actor_cmp_total, balanced_same, before_removal, frame_reads, frame_writes, get, list_all, must, only_if, outcome_of, over, read_by, remove, typing_at, typing_of, with_frame, write_by}
 use Rattle.tw_types.specs.declared.event.Event.TheVariants.{Take, Local, Call, End, Ask, Deliver, Release}
-use Rattle.tw_types.specs.Actor.{actor_cmp}
-use Rattle.tw_types.proofs.ActorOrder.{actor_cmp_total, actor_cmp-IsAntisymmetric}
-use Rattle.tw_types.specs.Layout.{ActorCounts}
-use Rattle.tw_types.specs.Outcome.{Outcome, Went, NotEnabled, ◌>>◌, only_if, outcome_of}
-use Rattle.tw_types.specs.Result.{must}
-use Rattle.tw_types.specs.Store.{Store}
-use Rattle.tw_code.specs.declared.instr.Instr.{Instr}
-use Rattle.tw_code.specs.declared.procedure.Procedure.{Procedure}
-use Rattle.tw_code.specs.machine.Rights.{Rights, Typing}
-use Rattle.tw_code.specs.machine.State.{State, Frame, with_frame}
 use Rattle.tw_code.specs.machine.Machine.{local_event, call_event, end_event, step, run, local_steps, is_ret}
-use Rattle.tw_code.specs.machine.Position.{Position}
-use Rattle.tw_code.specs.machine.Holders.{over, read_by, write_by, Typings, typing_at, typing_of, frame_reads, frame_writes}
-use Rattle.tw_no_trap.specs.Invariant.{RightsFit, IsHeld}
-use Rattle.tw_no_trap.specs.Standing.{Stands}
 use Rattle.tw_no_trap.proofs.Framed.{types_framed, budgets_framed}
-use Rattle.tw_types.proofs.Freeing.{balanced_same}
-use Rattle.tw_types.proofs.Parts.{before_removal}
 use Rattle.tw_no_trap.proofs.RuleEvents.{ask_keeps, deliver_keeps, release_keeps}
 use Rattle.tw_no_trap.proofs.Steps.{Keeps, keeps_more, waits_keeps}
 use Rattle.tw_no_trap.proofs.TaskEvents.{Starts, take_keeps}

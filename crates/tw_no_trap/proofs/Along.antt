@@ -1,24 +1,11 @@
 -- Along a run numbers and counts stay small.
 use Rattle.std.proofs.Common.{◌≡◌, ℕ, suc, ◌+◌, ◌*◌, ◌≤◌, ◌==◌, not, List, [], ◌∷◌, length, slice_get, subst, arith}
-use Rattle.std.specs.FinMap.{get}
-use Rattle.tw_types.specs.declared.cause.Cause.TheVariants.{WrongCall}
-use Rattle.tw_types.specs.declared.event.Event.{Event}
+use Rattle.tw_no_trap.proofs.MachineNames.{ActorCounts, AreRight, Event, IsHeld, IsProgram, Procedure, State, Typings, Went, WrongCall, enabled, get, greatest_budget, only_if, outcome_of, procedure_of, there_ok}
 use Rattle.tw_types.specs.declared.event.Event.TheVariants.{Take, Local, Call, End, Ask, Deliver, Release}
-use Rattle.tw_types.specs.Layout.{ActorCounts}
-use Rattle.tw_types.specs.Outcome.{Went, enabled, only_if, outcome_of}
 use Rattle.tw_types.proofs.Outcomes.{same_went, went_after, went_enabled, went_first, went_ok}
-use Rattle.tw_types.proofs.Results.{there_ok}
-use Rattle.tw_code.specs.declared.procedure.Procedure.{Procedure}
-use Rattle.tw_code.specs.accepting.Walk.{greatest_budget}
-use Rattle.tw_code.specs.format.Program.{IsProgram}
-use Rattle.tw_code.specs.machine.Arguments.{procedure_of}
 use Rattle.tw_code.specs.machine.Bounds.{AreBelow, AreNumbersBelow, size_of}
-use Rattle.tw_code.specs.machine.Holders.{Typings}
 use Rattle.tw_code.specs.machine.Machine.{local_steps, run, step}
-use Rattle.tw_code.specs.machine.State.{State}
 use Rattle.tw_code.proofs.Growth.{below_more, numbers_wider, step_grows}
-use Rattle.tw_no_trap.specs.Invariant.{IsHeld}
-use Rattle.tw_no_trap.specs.NoTrap.{AreRight}
 use Rattle.tw_no_trap.proofs.Safe.{kept_by}
 use Rattle.tw_no_trap.proofs.Turning.{few_steps}
 

@@ -1,28 +1,13 @@
 -- Rules come, are asked for, told and released, and still just what waits is named.
 use Rattle.std.proofs.Common.{◌≡◌, ◌≢◌, ℕ, ◌+◌, ◌≤◌, inl, inr, Bool, true, false, if◌then◌else◌, List, [], ◌∷◌, slice_get, Option, Some, None, refl, sym, ap, subst, ◌∙◌, arith, nat_cmp}
-use Rattle.std.proofs.lemmas.Bool.{cases_eq}
-use Rattle.std.proofs.lemmas.Option.{same_Some}
-use Rattle.std.specs.FinMap.{get, insert, remove, empty, get-empty}
+use Rattle.tw_no_trap.proofs.MachineNames.{Arg, Data, Datum, Free, Input, Notice, Notices, Procedure, Ready, RightArg, Rule, Rules, Stage, Unasked, ValueArg, Waiting, arg_at, cases_eq, data_insert_other, data_insert_same, empty, get, get-empty, insert, is_closed, notice_cmp, remove, same_Some, stage_at, times_among, times_at, times_noticed, times_noticed_by, times_subscribed, times_waiting, total, with_subscriber}
 use Rattle.std.specs.FinSet as set
-use Rattle.tw_types.specs.declared.notice.Notice.{Notice}
-use Rattle.tw_types.specs.declared.stage.Stage.{Stage}
-use Rattle.tw_types.specs.declared.stage.Stage.TheVariants.{Free, Unasked, Waiting, Ready}
-use Rattle.tw_types.specs.Notices.{Notices, notice_cmp}
-use Rattle.tw_types.specs.Rule.{Rule, Rules}
-use Rattle.tw_types.specs.Store.{Data, Datum, is_closed}
-use Rattle.tw_types.specs.StoreCalls.{with_subscriber}
-use Rattle.tw_types.specs.Task.{Arg, ValueArg, RightArg}
-use Rattle.tw_types.specs.Totals.{total}
-use Rattle.tw_code.specs.machine.Waiting.{times_among, times_subscribed, stage_at, times_at, times_waiting, arg_at, times_noticed_by, times_noticed}
 use Rattle.tw_no_trap.specs.Noticed.{AreNamed, NoticesHeld}
 use Rattle.tw_code.proofs.Staged.{rule_put, rule_other, rule_gone, rule_kept, staged, staged_arg, staged_noticed, staged_here, was_here, staged_other, that_or_other, NothingWaits}
 use Rattle.tw_code.proofs.Opened.{opening_silent}
-use Rattle.tw_code.specs.declared.procedure.Procedure.{Procedure}
 use Rattle.tw_code.specs.machine.Opening.{opening}
-use Rattle.tw_types.specs.declared.input.Input.{Input}
 use Rattle.tw_code.proofs.Subscribed.{subscribed_put, subscribed-le, unsubscribed, waits-le, noticed_one, noticed_at, noticed_alike}
 use Rattle.tw_code.proofs.Sets.{is_that, that_itself, that_other, named-append, gone_has, gone_other, gone_only}
-use Rattle.tw_types.proofs.Freeing.{data_insert_same, data_insert_other}
 
 -- ---- a stage changes
 

@@ -1,19 +1,8 @@
 -- Stages and arguments of a rule that is neither to be asked for nor to be released.
 use Rattle.std.proofs.Common.{[], ◌≡◌, ℕ, suc, ◌+◌, ◌<◌, ◌==◌, Bool, true, false, ◌||◌, if◌then◌else◌, List, ◌∷◌, map, slice_get, Some, None, refl, ap, arith}
-use Rattle.std.specs.List.{list_all, list_any}
-use Rattle.tw_types.specs.declared.param.Mode.{Mode}
-use Rattle.tw_types.specs.declared.param.Mode.TheVariants.{Val, Closed, Ref, Write}
-use Rattle.tw_types.specs.declared.param.Param.{Param}
-use Rattle.tw_types.specs.declared.stage.Stage.{Stage}
-use Rattle.tw_types.specs.declared.stage.Stage.TheVariants.{Free, Unasked, Waiting, Ready}
-use Rattle.tw_types.specs.Counts.{hits}
+use Rattle.tw_no_trap.proofs.MachineNames.{Arg, Closed, Free, Mode, Param, Ready, Ref, RightArg, Stage, Unasked, Val, ValueArg, Waiting, Write, hits, id_of, is_settled, is_unasked, is_write, list_all, list_any, over, right_of, write_by}
 use Rattle.tw_types.specs.Distinct.{is_among}
-use Rattle.tw_types.specs.Mode.{is_write}
-use Rattle.tw_types.specs.Rule.{is_settled, is_unasked}
-use Rattle.tw_types.specs.Task.{Arg, ValueArg, RightArg}
-use Rattle.tw_code.specs.machine.Holders.{id_of, over, write_by}
 use Rattle.tw_code.specs.machine.Pending.{waited_for, written_by}
-use Rattle.tw_code.specs.machine.Rights.{right_of}
 
 -- ---- what waits
 

@@ -1,27 +1,11 @@
 -- RULE and PUT don't trap where they are asked for.
 use Rattle.std.proofs.Common.{◌≡◌, ℕ, ℤ, ◌+◌, ◌<◌, ◌==◌, Bool, true, false, if◌then◌else◌, List, [], ◌∷◌, length, slice_get, Option, Some, None, refl, ap, ◌∙◌, arith}
-use Rattle.std.proofs.lemmas.Bool.{eqb-true, eq-eqb}
-use Rattle.std.specs.FinMap.{get}
-use Rattle.tw_types.specs.declared.cause.Cause.TheVariants.{FreedDatum, WrongType, WrongRegister, ArgumentNotClosed, WrongCall}
-use Rattle.std.specs.Prelude.{Ok}
-use Rattle.tw_types.specs.declared.data_type.Scalar.{Scalar}
+use Rattle.tw_no_trap.proofs.MachineNames.{ArgumentNotClosed, Called, Context, Datum, FreedDatum, HandedOver, Ok, Param, Procedure, Scalar, Typing, ValuesFit, WrongCall, WrongRegister, WrongType, all_pass, asks_action, asks_args, asks_callee, asks_priority, called, eq-eqb, eqb-true, get, handed_over, held_is_there, is_closed_if_asked, is_control, is_live, is_of_type, ok_or, over, priority_at, procedure_of, put_called, read_by, values_suit, without_args, write_by}
 use Rattle.tw_types.specs.declared.data_type.Scalar.TheVariants as scalar
-use Rattle.tw_types.specs.declared.param.Param.{Param}
-use Rattle.tw_types.specs.Actor.{is_control}
-use Rattle.std.specs.Option.{ok_or}
-use Rattle.tw_types.specs.Store.{Datum}
 use Rattle.tw_code.specs.declared.instr.Action.{Action}
 use Rattle.tw_code.specs.declared.instr.Priority.{Priority}
 use Rattle.tw_code.specs.declared.instr.Priority.TheVariants.{Constant, Computed}
-use Rattle.tw_code.specs.declared.procedure.Procedure.{Procedure}
-use Rattle.tw_code.specs.machine.Arguments.{procedure_of, HandedOver, handed_over, Called, called, priority_at, put_called, values_suit, all_pass, is_live, is_of_type, is_closed_if_asked}
-use Rattle.tw_code.specs.machine.Data.{Context}
-use Rattle.tw_code.specs.machine.Rights.{Typing}
-use Rattle.tw_code.specs.accepting.Typing.{asks_args, asks_callee, asks_action, asks_priority, without_args}
-use Rattle.tw_code.specs.machine.Holders.{read_by, write_by, over}
 use Rattle.tw_no_trap.proofs.Over.{over_params}
-use Rattle.tw_no_trap.specs.Invariant.{ValuesFit}
-use Rattle.tw_types.proofs.Freeing.{held_is_there}
 use Rattle.tw_no_trap.proofs.Given.{GivenSo, moved_goes, values_met, all_live, all_typed, all_closed}
 use Rattle.tw_no_trap.proofs.Values.{AllYes, declared_as, int_there, yes_before, yes_behind}
 use Rattle.tw_no_trap.proofs.Registers.{Fits}

@@ -1,19 +1,8 @@
 -- What the calls of a store ask is met, where an instruction on data goes.
 use Rattle.std.proofs.Common.{◌≡◌, ℕ, ℤ, true, not, ◌==◌, slice_get, Some, is_none, refl}
-use Rattle.std.specs.Prelude.{Result, Ok, Err}
-use Rattle.tw_types.specs.declared.cause.Cause.{Cause}
-use Rattle.tw_types.specs.declared.cause.Cause.TheVariants.{EmptyRegister, WrongRegister}
-use Rattle.tw_types.specs.declared.value.Value.{Value}
-use Rattle.tw_types.specs.StoreChecks.{may_store, may_retrieve, may_insert, may_look, may_read_members, may_read_members_by, may_be_read, may_copy_write, may_drop_read, may_drop_write}
-use Rattle.tw_types.proofs.Results.{must_ok, must_then, ok_after, ok_first, there_then}
+use Rattle.tw_no_trap.proofs.MachineNames.{Cause, Context, EmptyRegister, Err, NestedScalar, Ok, Result, Scalar, Subscript, Value, WrongRegister, data_instr, datum_at, datum_of, int_at, may_be_read, may_copy_write, may_drop_read, may_drop_write, may_insert, may_look, may_read_members, may_read_members_by, may_retrieve, may_store, must_be_empty, must_have_type, must_ok, must_then, of_type_at, ok_after, ok_first, right_at, suits, there_then}
 use Rattle.tw_code.specs.declared.instr.DataInstr.TheVariants as on_data
-use Rattle.tw_types.specs.declared.data_type.Scalar.{Scalar}
 use Rattle.tw_types.specs.declared.data_type.Scalar.TheVariants as scalar
-use Rattle.tw_types.specs.ValueOrder.{Subscript}
-use Rattle.tw_types.specs.Nesting.{NestedScalar}
-use Rattle.tw_code.specs.machine.Data.{Context, data_instr, datum_of, datum_at, suits}
-use Rattle.tw_code.specs.machine.Position.{int_at, must_have_type, of_type_at}
-use Rattle.tw_code.specs.machine.Rights.{must_be_empty, right_at}
 use Rattle.tw_no_trap.proofs.Steps.{Goes}
 
 -- what goes comes to something

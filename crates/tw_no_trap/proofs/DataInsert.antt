@@ -1,29 +1,11 @@
 -- A member goes into a container, with its read: what INSERT leaves fits.
 use Rattle.std.proofs.Common.{◌≡◌, ℕ, ◌+◌, ◌<◌, ◌≤◌, true, false, List, [], ◌∷◌, map, slice_set, Option, Some, None, refl, sym, ap, subst, ◌∙◌, arith, inl, inr, nat_cmp}
-use Rattle.std.proofs.lemmas.Bool.{cases_eq, eqb-true}
-use Rattle.std.proofs.lemmas.Option.{same_Some}
-use Rattle.std.specs.Cmp.{nat_cmp_total}
-use Rattle.std.specs.FinMap.{get-empty, get, insert, entries, nat_cmp-IsAntisymmetric}
+use Rattle.tw_no_trap.proofs.MachineNames.{AreSubscriptsFor, Contains, Content, Context, Datum, HasWriters, IsDataType, IsOfType, IsTypedStore, Members, RightType, Set, Store, Subscript, Typing, Unset, balanced_none, cases_eq, count_of, element_is, element_of, entries, eqb-true, get, get-empty, hits, hits_other, hits_same, insert, inside, is_closed, is_container_by, is_element_of, is_scalar, is_write, members_in, members_of, nat_cmp-IsAntisymmetric, nat_cmp_total, over, part, part-le-total, put_balanced, put_or_before, read_by, same_Some, scalar_of, subscripts_in, value_cmp, with_member, write_by}
 use Rattle.std.specs.FinMap as fin
-use Rattle.tw_types.specs.Value.{scalar_of}
-use Rattle.tw_types.specs.ValueOrder.{Subscript, value_cmp}
 use Rattle.tw_types.proofs.ValueOrder.{value_cmp_total, value_cmp-IsAntisymmetric}
-use Rattle.tw_types.specs.DataType.{IsDataType, element_of, is_container_by, is_element_of, is_scalar}
-use Rattle.tw_types.specs.Mode.{is_write}
-use Rattle.tw_types.specs.Store.{Members, Content, Unset, Set, Contains, Datum, Store, is_closed, members_of}
-use Rattle.tw_types.specs.StoreCalls.{with_member, members_in}
 use Rattle.tw_types.specs.Totals.{sum_of, total}
-use Rattle.tw_code.specs.machine.Data.{Context}
-use Rattle.tw_code.specs.machine.Rights.{RightType, Typing}
-use Rattle.tw_types.specs.Counts.{hits, count_of, subscripts_in, inside, HasWriters}
-use Rattle.tw_code.specs.machine.Holders.{read_by, write_by, over}
-use Rattle.tw_types.specs.TypedStore.{AreSubscriptsFor, IsOfType, IsTypedStore}
-use Rattle.tw_types.proofs.Freeing.{put_balanced, hits_other, hits_same, balanced_none}
-use Rattle.tw_types.proofs.Totals.{part, part-le-total}
 use Rattle.tw_types.proofs.Subscripts.{members_kinds, one_more_kind}
-use Rattle.tw_types.proofs.Parts.{put_or_before}
 use Rattle.tw_no_trap.proofs.Registers.{Fits, Settles, At, Undisturbed, holds_undisturbed, rights_kept, emptied, rights_set}
-use Rattle.tw_types.proofs.SameTypes.{element_is}
 use Rattle.tw_no_trap.proofs.Sums.{sum_new}
 
 -- ---- how often a datum stands in a map of members

@@ -1,13 +1,7 @@
 -- Each instruction on data, a line an instruction.
 use Rattle.std.proofs.Common.{◌≡◌, ℕ, length, arith}
-use Rattle.tw_code.specs.declared.instr.DataInstr.{DataInstr}
+use Rattle.tw_no_trap.proofs.MachineNames.{Context, DataInstr, IsDataInstr, Procedure, Typing, ValuesFit, asks_data, data_instr}
 use Rattle.tw_code.specs.declared.instr.DataInstr.TheVariants as on_data
-use Rattle.tw_code.specs.declared.procedure.Procedure.{Procedure}
-use Rattle.tw_code.specs.accepting.Typing.{asks_data}
-use Rattle.tw_code.specs.format.Program.{IsDataInstr}
-use Rattle.tw_code.specs.machine.Data.{Context, data_instr}
-use Rattle.tw_code.specs.machine.Rights.{Typing}
-use Rattle.tw_no_trap.specs.Invariant.{ValuesFit}
 use Rattle.tw_no_trap.proofs.DataLeft.{Leaves, drop_read_leaves, drop_write_leaves, store_leaves}
 use Rattle.tw_no_trap.proofs.DataMade.{copy_read_leaves, copy_write_leaves}
 use Rattle.tw_no_trap.proofs.DataNew.{new_leaves}

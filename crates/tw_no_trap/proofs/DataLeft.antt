@@ -1,36 +1,8 @@
 -- STORE and the drops of rights go where they are asked for, and leave what fits the typing behind them.
 use Rattle.std.proofs.Common.{◌≡◌, ℕ, ◌+◌, ◌-◌, ◌<◌, ◌==◌, Bool, true, false, not, ◌&&◌, ◌||◌, List, slice_get, slice_set, Option, Some, None, refl, sym, ap, ◌∙◌, arith}
-use Rattle.std.proofs.lemmas.Bool.{and_parts, ne_eqb, eq-eqb, eqb-true, not-true}
-use Rattle.std.specs.FinMap.{get}
-use Rattle.std.specs.Option.{option_and_then, option_flatten, ok_or}
-use Rattle.tw_types.specs.Nesting.{NestedScalar}
-use Rattle.tw_types.specs.declared.value.Value.{Value}
-use Rattle.tw_types.specs.DataType.{same_scalar, is_scalar}
-use Rattle.tw_types.specs.Value.{scalar_of}
-use Rattle.tw_types.proofs.SameTypes.{scalar_itself}
-use Rattle.tw_types.specs.declared.cause.Cause.TheVariants.{EmptyRegister, WrongRegister}
-use Rattle.tw_types.specs.declared.data_type.Scalar.{Scalar}
-use Rattle.tw_types.specs.Mode.{is_write, is_read}
-use Rattle.tw_types.specs.declared.param.Mode.{Mode}
-use Rattle.tw_types.specs.declared.param.Mode.TheVariants.{Val, Closed, Ref, Write}
-use Rattle.tw_types.specs.Store.{members_of, Content, Unset, Set, Contains, Datum, is_closed, subscribers_cleared, settled}
-use Rattle.tw_types.specs.StoreCalls.{set_to, one_write_less, store_after, read_dropped}
-use Rattle.tw_types.specs.StoreChecks.{is_unset, may_store, may_drop_read, may_drop_write}
-use Rattle.tw_code.specs.declared.flow.Way.TheVariants.{Completed}
-use Rattle.tw_code.specs.declared.instr.DataInstr.{DataInstr}
+use Rattle.tw_no_trap.proofs.MachineNames.{Closed, Completed, Contains, Content, Context, DataInstr, Datum, EmptyRegister, HasWriters, IsOfType, Mode, NestedScalar, Procedure, Ref, RightType, Scalar, Set, Typing, Unset, Val, Value, ValuesFit, Write, WrongRegister, after_data, and_parts, asks_data, data_flow, data_instr, datum_at, datum_of, eq-eqb, eqb-true, get, held, hits, hits_other, hits_same, is_closed, is_read, is_scalar, is_unset, is_write, may_drop_read, may_drop_write, may_store, members_of, ne_eqb, not-true, ok_or, one_write_less, option_and_then, option_flatten, over, passes, read_by, read_dropped, reads, right_at, same_scalar, scalar_itself, scalar_of, set_to, settled, store_after, subscribers_cleared, suits, write_by, writes, writes_scalar}
 use Rattle.tw_code.specs.declared.instr.DataInstr.TheVariants as on_data
-use Rattle.tw_code.specs.declared.procedure.Procedure.{Procedure}
-use Rattle.tw_code.specs.machine.Data.{datum_at, suits, Context, datum_of, data_instr}
-use Rattle.tw_code.specs.machine.Rights.{held, RightType, Typing, right_at}
-use Rattle.tw_code.specs.accepting.Flow.{data_flow}
-use Rattle.tw_code.specs.accepting.Question.{passes}
-use Rattle.tw_code.specs.accepting.Typing.{writes, writes_scalar, reads, asks_data, after_data}
-use Rattle.tw_types.specs.Counts.{hits, HasWriters}
-use Rattle.tw_code.specs.machine.Holders.{read_by, write_by, over}
-use Rattle.tw_types.specs.TypedStore.{IsOfType}
-use Rattle.tw_no_trap.specs.Invariant.{ValuesFit}
 use Rattle.tw_no_trap.proofs.Aging.{Aged}
-use Rattle.tw_types.proofs.Freeing.{hits_same, hits_other}
 use Rattle.tw_no_trap.proofs.Values.{AllYes, passed}
 use Rattle.tw_no_trap.proofs.Registers.{Fits, Settles, At, at_right, aged_context, emptied, rights_set}
 use Rattle.tw_no_trap.proofs.Steps.{Goes, goes, goes_must, goes_then}

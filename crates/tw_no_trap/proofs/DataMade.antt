@@ -1,31 +1,9 @@
 -- The copies of rights go where they are asked for, and leave what fits the typing behind them.
 use Rattle.std.proofs.Common.{◌≡◌, ℕ, ◌+◌, ◌<◌, true, false, not, ◌&&◌, length, is_none, slice_get, slice_set, Option, Some, None, refl, sym, ap, subst, ◌∙◌, arith}
-use Rattle.std.proofs.lemmas.Bool.{eqb-true, not-true}
-use Rattle.std.proofs.lemmas.Option.{same_Some}
-use Rattle.std.specs.FinMap.{get, insert}
-use Rattle.std.specs.Option.{option_flatten, ok_or}
-use Rattle.tw_types.specs.declared.cause.Cause.TheVariants.{EmptyRegister, WrongRegister}
-use Rattle.tw_types.specs.Mode.{is_write}
-use Rattle.std.specs.Prelude.{Ok}
-use Rattle.tw_types.specs.Result.{must}
-use Rattle.tw_types.specs.Store.{Content, Unset, Set, Contains, Datum, Store, is_closed}
-use Rattle.tw_types.specs.DataType.{is_scalar}
-use Rattle.tw_types.specs.StoreCalls.{one_write_more, one_read_more, changed}
-use Rattle.tw_types.specs.StoreChecks.{may_be_read, may_copy_write}
-use Rattle.tw_code.specs.declared.flow.Way.TheVariants.{Completed}
+use Rattle.tw_no_trap.proofs.MachineNames.{Completed, Contains, Content, Context, Datum, EmptyRegister, Holds, IsOfType, Ok, Procedure, RightType, RightsFit, Set, Store, Typing, Unset, ValuesFit, WrongRegister, asks_data, changed, count_of, data_instr, datum_of, eqb-true, get, held, hits, hits_other, hits_same, insert, inside, is_closed, is_free, is_scalar, is_write, may_be_read, may_copy_write, must, must_be_empty, not-true, ok_or, one_read_more, one_write_more, option_flatten, over, passes, put_balanced, read_by, reads, right_at, same_Some, subscripts_in, write_by, writes, writes_scalar}
 use Rattle.tw_code.specs.declared.instr.DataInstr.TheVariants as on_data
-use Rattle.tw_code.specs.declared.procedure.Procedure.{Procedure}
-use Rattle.tw_code.specs.machine.Data.{Context, datum_of, data_instr}
-use Rattle.tw_code.specs.machine.Rights.{held, must_be_empty, RightType, Typing, right_at}
-use Rattle.tw_code.specs.accepting.Question.{passes}
-use Rattle.tw_code.specs.accepting.Typing.{is_free, writes, writes_scalar, reads, asks_data}
-use Rattle.tw_types.specs.Counts.{hits, count_of, subscripts_in, inside}
-use Rattle.tw_code.specs.machine.Holders.{read_by, write_by, over}
-use Rattle.tw_types.specs.TypedStore.{IsOfType}
-use Rattle.tw_no_trap.specs.Invariant.{Holds, RightsFit, ValuesFit}
 use Rattle.tw_no_trap.proofs.DataLeft.{Leaves, read_no_write}
 use Rattle.tw_no_trap.proofs.Aging.{Aged, later_put}
-use Rattle.tw_types.proofs.Freeing.{put_balanced, hits_same, hits_other}
 use Rattle.tw_no_trap.proofs.Values.{AllYes, passed}
 use Rattle.tw_no_trap.proofs.Long.{free_there, empty_there}
 use Rattle.tw_no_trap.proofs.Registers.{Fits, Settles, At, at_right, holds_undisturbed, later_undisturbed, later_store, rights_kept, over-set, rights_set}

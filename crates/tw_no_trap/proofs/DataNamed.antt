@@ -1,37 +1,12 @@
 -- An instruction on data keeps that just what waits is named.
 use Rattle.std.proofs.Common.{◌≡◌, ℕ, ◌+◌, ◌<◌, ◌==◌, true, false, not, ◌&&◌, [], Option, Some, None, refl, sym, ap, subst, ◌∙◌, arith, inl, inr}
-use Rattle.std.proofs.lemmas.Bool.{and_parts, cases_eq, not-true, ne_eqb}
-use Rattle.std.proofs.lemmas.Option.{same_Some}
-use Rattle.std.specs.FinMap.{get, insert}
-use Rattle.tw_types.specs.declared.cause.Cause.{Cause}
-use Rattle.tw_types.specs.declared.cause.Cause.TheVariants.{EmptyRegister, FreedDatum, WrongRegister, UnsetDatum, WrongType, AlreadySet, NoWriteCount}
-use Rattle.std.specs.Option.{ok_or}
-use Rattle.tw_types.specs.Result.{must}
-use Rattle.tw_types.specs.Rule.{Rules}
-use Rattle.tw_types.specs.Store.{Members, Content, Unset, Set, Contains, Datum, Data, Store, is_closed, subscribers_cleared, settled, new_datum, notices_of}
-use Rattle.tw_types.specs.DataType.{is_container_by, is_element_of, is_scalar}
-use Rattle.tw_types.specs.StoreCalls.{set_to, one_write_less, one_write_more, one_read_more, with_member, members_in, member_at, created, changed, store_after, notices_after, read_dropped}
+use Rattle.tw_no_trap.proofs.MachineNames.{AlreadySet, Cause, Contains, Content, Context, Data, DataInstr, Datum, EmptyRegister, FreedDatum, IsOfType, IsTypedStore, Members, NoWriteCount, Ok, Rules, Scalar, Set, Store, Subscript, Unset, UnsetDatum, Value, WhereOk, WrongRegister, WrongType, after_insert, after_look, and_parts, by_deep, cases_eq, changed, data_insert_other, data_insert_same, data_instr, datum_at, datum_of, get, held, insert, int_at, is_closed, is_container_by, is_element_of, is_of, is_scalar, is_unset, may_be_read, may_copy_write, may_drop_read, may_drop_write, may_insert, may_look, may_read_members, may_read_members_by, may_retrieve, may_store, member_at, must, must_be_empty, must_have_type, must_ok, must_then, ne_eqb, new_datum, not-true, notices_after, notices_of, of_type_at, ok_both, ok_or, ok_then, ok_there, one_read_more, one_write_less, one_write_more, read_dropped, right_at, same_Some, set_to, settled, store_after, subscribers_cleared, suits, there_then, value_at, with_member, with_notices}
 use Rattle.tw_types.specs.StoreCalls as store
-use Rattle.tw_types.specs.StoreChecks.{is_unset, may_store, may_retrieve, may_insert, may_look, may_read_members, may_read_members_by, may_be_read, may_copy_write, may_drop_read, may_drop_write}
-use Rattle.tw_types.specs.Value.{is_of}
-use Rattle.tw_types.specs.Notices.{with_notices}
-use Rattle.tw_types.specs.declared.data_type.Scalar.{Scalar}
 use Rattle.tw_types.specs.declared.data_type.Scalar.TheVariants as scalar
-use Rattle.tw_types.specs.ValueOrder.{Subscript}
-use Rattle.tw_types.specs.declared.value.Value.{Value}
-use Rattle.tw_code.specs.declared.instr.DataInstr.{DataInstr}
 use Rattle.tw_code.specs.declared.instr.DataInstr.TheVariants as on_data
-use Rattle.tw_types.proofs.SameTypes.{by_deep}
-use Rattle.std.specs.Prelude.{Ok}
-use Rattle.tw_code.specs.machine.Data.{Context, datum_of, datum_at, suits, after_insert, after_look, data_instr}
-use Rattle.tw_code.specs.machine.Rights.{right_at, held, must_be_empty}
-use Rattle.tw_code.specs.machine.Position.{value_at, int_at, must_have_type, of_type_at}
-use Rattle.tw_types.specs.TypedStore.{IsOfType, IsTypedStore}
 use Rattle.tw_no_trap.specs.Noticed.{AreNamed}
-use Rattle.tw_types.proofs.Freeing.{data_insert_same, data_insert_other}
 use Rattle.tw_code.proofs.Losing.{IsKept, put_kept, settled_kept, within_kept}
 use Rattle.tw_no_trap.proofs.Named.{Wanted, IsFrom, named_follows, named_told}
-use Rattle.tw_types.proofs.Results.{WhereOk, must_ok, must_then, ok_both, ok_then, ok_there, there_then}
 
 -- ---- one datum
 

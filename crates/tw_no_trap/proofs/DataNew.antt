@@ -1,39 +1,14 @@
 -- NEW goes where it is asked for: a new datum, with one write and one read.
 use Rattle.std.proofs.Common.{◌≡◌, ◌≢◌, ℕ, ◌+◌, ◌<◌, ◌≤◌, ◌==◌, Bool, true, false, not, if◌then◌else◌, [], map, length, is_none, slice_get, slice_set, Option, Some, None, refl, sym, ap, subst, ◌∙◌, arith, inl, inr, nat_cmp}
-use Rattle.std.proofs.lemmas.Bool.{cases_Bool, eqb-false, not-true}
-use Rattle.std.proofs.lemmas.Option.{same_Some}
-use Rattle.std.specs.Cmp.{nat_cmp_total}
+use Rattle.tw_no_trap.proofs.MachineNames.{Completed, Contains, Context, Datum, HasWriters, Holds, IsDataType, IsOfType, IsTypedStore, NestedScalar, Procedure, Ref, RightType, Store, Typing, Unset, ValuesFit, Write, WrongRegister, a_read, a_write, asks_data, balanced_none, cases_Bool, count_of, created, data_insert_other, data_insert_same, data_instr, empty_content, entries, eqb-false, get, get-empty, hits, hits_other, hits_same, inside, is_closed_mode, is_scalar, len-empty, len-entries, members_of, must, must_be_empty, nat_cmp-IsAntisymmetric, nat_cmp_total, new_balanced, new_datum, not-true, option_flatten, over, part, part-le-total, put_or_before, read_by, same_Some, subscripts_in, value_cmp, write_by}
 use Rattle.std.specs.FinMap as fin
-use Rattle.std.specs.FinMap.{get, get-empty, entries, len-entries, len-empty, nat_cmp-IsAntisymmetric}
-use Rattle.std.specs.Option.{option_flatten}
-use Rattle.tw_types.specs.declared.cause.Cause.TheVariants.{WrongRegister}
-use Rattle.tw_types.specs.declared.param.Mode.TheVariants.{Write, Ref}
-use Rattle.tw_types.specs.DataType.{IsDataType, is_scalar}
-use Rattle.tw_types.specs.Mode.{is_closed_mode}
-use Rattle.tw_types.specs.ValueOrder.{value_cmp}
-use Rattle.tw_types.specs.Nesting.{NestedScalar}
-use Rattle.tw_types.specs.Result.{must}
-use Rattle.tw_types.specs.Store.{Unset, Contains, Datum, Store, empty_content, new_datum, members_of}
-use Rattle.tw_types.specs.StoreCalls.{created}
-use Rattle.tw_code.specs.declared.flow.Way.TheVariants.{Completed}
 use Rattle.tw_code.specs.declared.instr.DataInstr.TheVariants as on_data
-use Rattle.tw_code.specs.declared.procedure.Procedure.{Procedure}
-use Rattle.tw_code.specs.machine.Data.{Context, data_instr}
-use Rattle.tw_code.specs.machine.Rights.{must_be_empty, RightType, Typing}
-use Rattle.tw_code.specs.accepting.Typing.{a_write, a_read, asks_data}
-use Rattle.tw_types.specs.Counts.{hits, count_of, subscripts_in, inside, HasWriters}
-use Rattle.tw_code.specs.machine.Holders.{read_by, write_by, over}
-use Rattle.tw_types.specs.TypedStore.{IsOfType, IsTypedStore}
-use Rattle.tw_no_trap.specs.Invariant.{Holds, ValuesFit}
 use Rattle.tw_no_trap.proofs.DataLeft.{Leaves}
-use Rattle.tw_types.proofs.Freeing.{new_balanced, balanced_none, data_insert_same, data_insert_other, hits_same, hits_other}
 use Rattle.tw_no_trap.proofs.Values.{AllYes}
 use Rattle.tw_no_trap.proofs.Long.{free_there, empty_there}
 use Rattle.tw_types.proofs.Elements.{get_set_other, no_items}
-use Rattle.tw_types.proofs.Parts.{put_or_before}
 use Rattle.tw_no_trap.proofs.Registers.{Fits, Undisturbed, holds_undisturbed, rights_kept, over-set, rights_set}
 use Rattle.tw_no_trap.proofs.Steps.{Goes, goes_then}
-use Rattle.tw_types.proofs.Totals.{part, part-le-total}
 
 pub no_members : (ty : NestedScalar) → members_of (empty_content ty) ≡ []
 no_members ty = by (is_scalar ty)

@@ -1,47 +1,17 @@
 -- Instructions that read data, or put a member into a container, go where they are asked for, and leave what fits.
 use Rattle.std.proofs.Common.{◌≡◌, ℕ, ◌+◌, ◌<◌, ◌==◌, pos, true, false, not, ◌||◌, length, is_none, slice_get, slice_set, Option, Some, None, refl, sym, ap, subst, ◌∙◌, arith}
-use Rattle.std.proofs.lemmas.Bool.{and_parts, ne_eqb, not-true}
-use Rattle.std.proofs.lemmas.Option.{same_Some}
+use Rattle.tw_no_trap.proofs.MachineNames.{Completed, Contains, Content, Context, Datum, EmptyRegister, FreedDatum, Holds, IsOfType, NestedScalar, Ok, Procedure, Ref, RightType, Scalar, Set, Skipped, Store, Subscript, Typing, Unset, UnsetDatum, Value, ValuesFit, WrongRegister, a_member_read, a_read, after_insert, after_look, and_parts, asks_data, balanced_some, by_deep, changed, data_instr, datum_at, datum_of, element_of, get, given, held, hits, hits_other, hits_same, insert, inserted, int_at, is_closed, is_closed_mode, is_container_by, is_element_of, is_kept, is_read, is_scalar, is_write, may_insert, may_look, may_read_members, may_read_members_by, may_retrieve, member_at, members_at, members_in, must, must_be_empty, must_have_type, ne_eqb, not-true, of_type_at, ok_or, one_read_more, option_and_then, option_flatten, over, passes, read_by, reads_closed_container, reads_closed_container_by, reads_closed_scalar, reads_member_of, right_at, same_Some, same_scalar, scalar_itself, scalar_of, subscript_after, suits, value_at, value_in, with_member, with_result, write_by, writes_container_by}
 use Rattle.std.specs.FinMap as map
-use Rattle.std.specs.FinMap.{get, insert}
-use Rattle.std.specs.Option.{option_and_then, option_flatten, ok_or}
-use Rattle.std.specs.Prelude.{Ok}
-use Rattle.tw_types.specs.declared.cause.Cause.TheVariants.{EmptyRegister, FreedDatum, UnsetDatum, WrongRegister}
-use Rattle.tw_types.specs.declared.data_type.Scalar.{Scalar}
 use Rattle.tw_types.specs.declared.data_type.Scalar.TheVariants as scalar
-use Rattle.tw_types.specs.declared.param.Mode.TheVariants.{Ref}
-use Rattle.tw_types.specs.declared.value.Value.{Value}
 use Rattle.tw_types.specs.declared.value.Value.TheVariants as value
-use Rattle.tw_types.specs.Counts.{hits}
-use Rattle.tw_types.specs.DataType.{element_of, is_container_by, is_element_of, is_scalar, same_scalar}
-use Rattle.tw_types.specs.Mode.{is_closed_mode, is_read, is_write}
-use Rattle.tw_types.specs.Nesting.{NestedScalar}
-use Rattle.tw_types.specs.Result.{must}
-use Rattle.tw_types.specs.Store.{Content, Unset, Set, Contains, Datum, Store, is_closed}
 use Rattle.tw_types.specs.StoreCalls as store
-use Rattle.tw_types.specs.StoreCalls.{changed, inserted, member_at, members_at, members_in, one_read_more, read_copied, subscript_after, value_in, with_member}
-use Rattle.tw_types.specs.StoreChecks.{is_kept, may_insert, may_look, may_read_members, may_read_members_by, may_retrieve}
-use Rattle.tw_types.specs.TypedStore.{IsOfType}
-use Rattle.tw_types.specs.Value.{scalar_of}
-use Rattle.tw_types.specs.ValueOrder.{Subscript}
-use Rattle.tw_types.proofs.Freeing.{balanced_some, hits_other, hits_same}
-use Rattle.tw_code.specs.declared.flow.Way.TheVariants.{Completed, Skipped}
 use Rattle.tw_code.specs.declared.instr.DataInstr.TheVariants as on_data
-use Rattle.tw_code.specs.declared.procedure.Procedure.{Procedure}
-use Rattle.tw_code.specs.accepting.Question.{passes}
-use Rattle.tw_code.specs.accepting.Typing.{a_member_read, a_read, asks_data, reads_closed_container, reads_closed_container_by, reads_closed_scalar, reads_member_of, writes_container_by}
-use Rattle.tw_code.specs.machine.Data.{Context, after_insert, after_look, data_instr, datum_at, datum_of, given, suits}
-use Rattle.tw_code.specs.machine.Holders.{over, read_by, write_by}
-use Rattle.tw_code.specs.machine.Position.{int_at, must_have_type, of_type_at, value_at, with_result}
-use Rattle.tw_code.specs.machine.Rights.{RightType, Typing, held, must_be_empty, right_at}
-use Rattle.tw_no_trap.specs.Invariant.{Holds, ValuesFit}
 use Rattle.tw_no_trap.proofs.DataInsert.{insert_settles, member_there, same_settles}
 use Rattle.tw_no_trap.proofs.DataLeft.{Leaves, read_no_write}
 use Rattle.tw_no_trap.proofs.DataMade.{put_context}
 use Rattle.tw_no_trap.proofs.Long.{empty_there, free_there}
 use Rattle.tw_no_trap.proofs.Registers.{At, Fits, Settles, Undisturbed, at_right, over-set, rights_set}
 use Rattle.tw_types.proofs.Subscripts.{members_kinds, subscript_kind}
-use Rattle.tw_types.proofs.SameTypes.{by_deep, scalar_itself}
 use Rattle.tw_no_trap.proofs.Steps.{Goes, at_some, goes, goes_must, goes_then}
 use Rattle.tw_no_trap.proofs.Values.{AllYes, declared_as, found_moves, has_type, int_there, value_found, value_there, values_set, passed}
 

@@ -1,39 +1,17 @@
 -- A quiet end leaves the outputs and what they hold; in a stuck one each rule waits for what a rule may write.
 use Rattle.std.proofs.Common.{◌≡◌, ◌⊎◌, inl, inr, ℕ, zero, suc, ◌+◌, ◌<◌, ◌≤◌, ◌==◌, Bool, true, false, not, ◌&&◌, if◌then◌else◌, T, List, [], ◌∷◌, map, slice_get, length, Option, Some, None, refl, sym, ap, subst, ◌∙◌, arith, nat_cmp}
-use Rattle.std.proofs.lemmas.Bool.{and_parts, cases_eq, eqb-true, eqb-false, eq-eqb, not-true}
-use Rattle.std.proofs.lemmas.Option.{same_Some}
-use Rattle.std.specs.Cmp.{nat_cmp_total}
-use Rattle.std.specs.FinMap.{entries, entries_sorted, get, is_sorted, len, len-entries, nat_cmp-IsAntisymmetric, values}
+use Rattle.tw_no_trap.proofs.MachineNames.{Arg, Contains, Content, Datum, HasWriters, IsEntry, IsHeld, Notice, Procedure, RightArg, Rule, Set, State, Typings, Unset, ValueArg, Waiting, actor_cmp, and_parts, arg_at, balanced_none, balanced_some, cases_eq, count_of, depth_of, element_of, entries, entries_sorted, eq-eqb, eqb-false, eqb-true, frame_reads, frame_writes, get, get_entry, has_unasked, held_is_there, inside, is_closed, is_releasable, is_sorted, len, len-entries, list_any, nat_cmp-IsAntisymmetric, nat_cmp_total, not-true, notice_cmp, params_of, part, part-le-total, reads_of, rule_reads, rule_writes, same_Some, stage_at, subscripts_in, task_reads, task_writes, times_at, times_noticed, times_noticed_by, times_subscribed, times_waiting, total, values, writes_of}
 use Rattle.std.specs.FinMap.Entries.{below_all}
 use Rattle.std.specs.FinSet as set
-use Rattle.std.specs.List.{list_any}
 use Rattle.tw_types.specs.declared.ending.Ending.TheVariants.{Quiet, Stuck}
-use Rattle.tw_types.specs.declared.notice.Notice.{Notice}
-use Rattle.tw_types.specs.declared.stage.Stage.TheVariants.{Waiting}
 use Rattle.tw_types.specs.declared.pending.Link.{Link}
 use Rattle.tw_types.specs.declared.pending.Pending.{Pending}
-use Rattle.tw_types.specs.Actor.{actor_cmp}
 use Rattle.tw_types.specs.Circle.{IsCircle, circle_of, has_rule}
-use Rattle.tw_types.specs.Counts.{count_of, inside, subscripts_in, HasWriters}
-use Rattle.tw_types.specs.DataType.{depth_of, element_of}
 use Rattle.tw_types.proofs.Depths.{element_depth}
-use Rattle.tw_types.specs.Notices.{notice_cmp}
-use Rattle.tw_types.specs.Rule.{Rule, has_unasked, is_releasable}
-use Rattle.tw_types.specs.Store.{Content, Unset, Set, Contains, Datum, is_closed}
-use Rattle.tw_types.specs.Task.{Arg, ValueArg, RightArg}
-use Rattle.tw_types.specs.Totals.{total}
 use Rattle.tw_types.proofs.Circles.{AreNumbered, IsBlocked, IsIn, circles_are_found}
-use Rattle.tw_types.proofs.Freeing.{balanced_none, balanced_some, held_is_there}
 use Rattle.tw_types.proofs.Rising.{first, second}
-use Rattle.tw_types.proofs.Totals.{IsEntry, get_entry, part, part-le-total}
-use Rattle.tw_code.specs.declared.procedure.Procedure.{Procedure}
-use Rattle.tw_code.specs.machine.Arguments.{params_of}
 use Rattle.tw_code.specs.machine.Ending.{ending, has_idle_rules, is_quiet}
-use Rattle.tw_code.specs.machine.Holders.{Typings, frame_reads, frame_writes, reads_of, rule_reads, rule_writes, task_reads, task_writes, writes_of}
 use Rattle.tw_code.specs.machine.Pending.{pending_of, pending_rules}
-use Rattle.tw_code.specs.machine.State.{State}
-use Rattle.tw_code.specs.machine.Waiting.{arg_at, stage_at, times_at, times_noticed, times_noticed_by, times_subscribed, times_waiting}
-use Rattle.tw_no_trap.specs.Invariant.{IsHeld}
 use Rattle.tw_no_trap.specs.EndsWell.{EndsWell, IsBlockedRule, IsKept, LeavesOutputs, member, output}
 use Rattle.tw_no_trap.proofs.Blocked.{IsFirstWaited, first_waited, written_there}
 use Rattle.tw_no_trap.proofs.Entries.{entry_of, none_of, none_passes, not_below, some_part}

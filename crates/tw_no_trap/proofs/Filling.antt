@@ -1,16 +1,6 @@
 -- A store to which data are added one by one: those of main's parameters, and a container before its members.
 use Rattle.std.proofs.Common.{◌≡◌, ℕ, ◌+◌, ◌<◌, ◌≤◌, ◌⊎◌, inl, inr, [], Option, Some, None, refl, sym, ap, subst, ◌∙◌, arith, nat_cmp}
-use Rattle.std.proofs.lemmas.Bool.{cases_lt}
-use Rattle.std.specs.Cmp.{nat_cmp_total}
-use Rattle.std.specs.FinMap.{get, insert, nat_cmp-IsAntisymmetric}
-use Rattle.tw_types.specs.declared.data_type.Scalar.{Scalar}
-use Rattle.tw_types.specs.Counts.{Balanced, BalancedAt, HasWriters, HaveWriters, count_of, inside, subscripts_in}
-use Rattle.tw_types.specs.DataType.{IsDataType, element_of, scalar_type}
-use Rattle.tw_types.specs.Store.{Datum, Store, added, members_of}
-use Rattle.tw_types.specs.TypedStore.{IsOfType, IsTypedStore}
-use Rattle.tw_types.proofs.Freeing.{data_insert_other, data_insert_same}
-use Rattle.tw_types.proofs.Parts.{put_or_before}
-use Rattle.tw_types.proofs.Totals.{part, part-le-total}
+use Rattle.tw_no_trap.proofs.MachineNames.{Balanced, BalancedAt, Datum, HasWriters, HaveWriters, IsDataType, IsOfType, IsTypedStore, Scalar, Store, added, cases_lt, count_of, data_insert_other, data_insert_same, element_of, get, insert, inside, members_of, nat_cmp-IsAntisymmetric, nat_cmp_total, part, part-le-total, put_or_before, scalar_type, subscripts_in}
 use Rattle.tw_no_trap.proofs.Registers.{Undisturbed}
 use Rattle.tw_no_trap.proofs.Sums.{sum_new}
 

@@ -1,23 +1,7 @@
 -- A task, a rule or a frame is put into a state.
 use Rattle.std.proofs.Common.{◌≡◌, ℕ, ◌+◌, List, slice_get, Some, None, sym, ap, subst, ◌∙◌, arith, inl, inr, nat_cmp}
-use Rattle.std.proofs.lemmas.Option.{same_Some}
-use Rattle.std.specs.Cmp.{nat_cmp_total}
-use Rattle.std.specs.FinMap.{get, remove, nat_cmp-IsAntisymmetric}
-use Rattle.tw_types.specs.declared.actor.Actor.{Actor}
-use Rattle.tw_types.specs.Actor.{actor_cmp}
-use Rattle.tw_types.proofs.ActorOrder.{actor_cmp_total, actor_cmp-IsAntisymmetric}
-use Rattle.tw_types.specs.Rule.{Rule}
-use Rattle.tw_types.specs.Task.{Task}
-use Rattle.tw_code.specs.declared.procedure.Procedure.{Procedure}
-use Rattle.tw_code.specs.accepting.Flow.{flows}
-use Rattle.tw_code.specs.machine.State.{State, Frame, with_frame, with_task, with_rule}
-use Rattle.tw_code.specs.accepting.Walk.{IsBudget}
+use Rattle.tw_no_trap.proofs.MachineNames.{Actor, AreBegun, ArgsFit, BudgetsHeld, CountsHeld, Frame, IsBudget, NumbersHeld, Procedure, RightsFit, Rule, RuleArgsFit, Stands, State, Task, TypesHeld, Typings, ValuesFit, actor_cmp, actor_cmp-IsAntisymmetric, actor_cmp_total, balanced_same, before_removal, flows, frame_reads, frame_writes, get, nat_cmp-IsAntisymmetric, nat_cmp_total, put_or_before, remove, rule_reads, rule_writes, same_Some, task_reads, task_writes, typing_of, with_frame, with_rule, with_task}
 use Rattle.tw_budget.specs.Frames.{IsWithinBudget}
-use Rattle.tw_code.specs.machine.Holders.{Typings, typing_of, rule_reads, rule_writes, task_reads, task_writes, frame_reads, frame_writes}
-use Rattle.tw_no_trap.specs.Invariant.{RightsFit, ValuesFit, ArgsFit, RuleArgsFit, AreBegun, NumbersHeld, TypesHeld, CountsHeld, BudgetsHeld}
-use Rattle.tw_no_trap.specs.Standing.{Stands}
-use Rattle.tw_types.proofs.Freeing.{balanced_same}
-use Rattle.tw_types.proofs.Parts.{put_or_before, before_removal}
 use Rattle.tw_no_trap.proofs.Sums.{sum_apart, sum_new, sum_replaced}
 
 module _ (program : List Procedure) (typings : Typings) where

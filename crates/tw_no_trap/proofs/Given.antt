@@ -1,41 +1,11 @@
 -- What RULE and PUT ask for goes: the rights leave their registers and stand for the parameters.
 use Rattle.std.proofs.Common.{◌≡◌, ℕ, ◌+◌, ◌<◌, Bool, true, false, not, ◌||◌, if◌then◌else◌, List, [], ◌∷◌, ◌++◌, map, length, slice_get, slice_set, Option, Some, None, is_some, refl, sym, ap, subst, ◌∙◌, arith, inl, inr}
-use Rattle.std.proofs.lemmas.Bool.{cases_Bool, and_parts, and_from, or_right, or_left}
-use Rattle.std.specs.FinMap.{get}
-use Rattle.std.specs.Option.{option_flatten, ok_or}
-use Rattle.tw_types.specs.declared.cause.Cause.TheVariants.{EmptyRegister, WrongRegister}
-use Rattle.tw_types.specs.declared.data_type.Scalar.{Scalar}
-use Rattle.tw_types.specs.declared.param.Mode.{Mode}
-use Rattle.tw_types.specs.declared.param.Mode.TheVariants.{Val, Closed, Ref, Write}
-use Rattle.tw_types.specs.declared.param.Param.{Param}
-use Rattle.tw_types.specs.declared.stage.Stage.TheVariants.{Free, Unasked}
-use Rattle.tw_types.specs.declared.value.Value.{Value}
-use Rattle.tw_types.specs.Mode.{is_val, is_closed_mode, is_write, is_read}
-use Rattle.tw_types.specs.Nesting.{NestedScalar}
-use Rattle.tw_types.specs.declared.cause.Cause.{Cause}
-use Rattle.std.specs.Prelude.{Result, Ok}
+use Rattle.tw_no_trap.proofs.MachineNames.{Arg, ArgFits, ArgsFit, Cause, Closed, Datum, EmptyRegister, Free, HandedOver, Holds, Mode, NestedScalar, Ok, Param, Ref, Result, RightArg, RightType, Rights, RightsFit, RuleArgsFit, Scalar, Store, Typing, Unasked, Val, Value, ValueArg, ValuesFit, Write, WrongRegister, all_pass, and_from, and_parts, asks_args, asks_value, cases_Bool, first_stage, get, handed_over, has_type, held, hits, hits_same, is_asked_for, is_closed, is_closed_if_asked, is_closed_mode, is_live, is_of_type, is_read, is_val, is_write, may_stand_for, ok_or, option_flatten, or_left, or_right, over, passes, read_by, right_at, right_of, right_until, same_scalar, same_type, same_types, scalar_itself, scalar_of, suits_mode, type_itself, values_suit, with_arg, without_args, write_by}
 use Rattle.tw_types.specs.Result.{◌>>=◌}
-use Rattle.tw_types.specs.Rule.{first_stage}
-use Rattle.tw_types.specs.Store.{Datum, Store, is_closed}
-use Rattle.tw_types.specs.Task.{Arg, ValueArg, RightArg}
-use Rattle.tw_types.specs.DataType.{same_scalar, same_type}
-use Rattle.tw_types.specs.Value.{scalar_of}
-use Rattle.tw_code.specs.machine.Arguments.{HandedOver, with_arg, handed_over, has_type, values_suit, all_pass, is_live, is_of_type, is_closed_if_asked}
-use Rattle.tw_code.specs.machine.Rights.{Rights, held, RightType, Typing, right_at, right_of}
-use Rattle.tw_code.specs.accepting.Question.{passes}
-use Rattle.tw_code.specs.accepting.Typing.{suits_mode, may_stand_for, asks_value, asks_args, without_args}
-use Rattle.tw_types.specs.Counts.{hits}
-use Rattle.tw_code.specs.machine.Holders.{read_by, write_by, over}
 use Rattle.tw_no_trap.proofs.Over.{over_params}
-use Rattle.tw_no_trap.specs.Invariant.{Holds, RightsFit, ValuesFit, ArgFits, ArgsFit, RuleArgsFit}
-use Rattle.tw_no_trap.specs.InOrder.{right_until, is_asked_for}
-use Rattle.tw_types.proofs.Freeing.{hits_same}
 use Rattle.tw_no_trap.proofs.Registers.{Found, found, emptied, rights_set}
-use Rattle.tw_types.proofs.SameTypes.{scalar_itself, same_types, type_itself}
 use Rattle.tw_no_trap.proofs.Steps.{Goes, goes_more, goes}
 use Rattle.tw_no_trap.proofs.Values.{AllYes, declared_as, value_found, passed}
-
--- ---- questions
 
 -- ---- what stands for a parameter
 

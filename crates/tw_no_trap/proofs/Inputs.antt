@@ -1,40 +1,19 @@
 -- Each input that main is given makes a store that is right: closed, with one read, which main holds.
 use Rattle.std.proofs.Common.{◌≡◌, ℕ, ◌+◌, ◌<◌, ◌≤◌, ◌⊎◌, inl, inr, Bool, true, false, List, [], ◌∷◌, fold, length, Some, None, refl, sym, ap, subst, ◌∙◌, arith}
-use Rattle.std.proofs.lemmas.Bool.{and_parts, cases_eq}
-use Rattle.std.proofs.lemmas.Option.{same_Some}
+use Rattle.tw_no_trap.proofs.MachineNames.{Balanced, Contains, Datum, HaveWriters, Holds, Input, IsTypedStore, Mode, NestedScalar, Scalar, Store, Subscript, Value, added, added_given, and_parts, cases_eq, closed_scalar, container_of, count_of, data_insert_same, get, get-empty, hits, hits_other, hits_same, insert, insert_other, is_closed, is_short, nat_le, numbered, put_or_before, same_Some, same_scalar, same_type, same_types, scalar_itself, scalar_of, scalar_type, subscripts_in, tied_itself, total-empty, value_cmp, with_container, with_input}
 use Rattle.std.specs.declared.cmp.Ordering.TheVariants.{Less}
-use Rattle.std.specs.Cmp.{tied_itself}
 use Rattle.std.specs.FinMap as fin
-use Rattle.std.specs.FinMap.{get, get-empty, insert}
 use Rattle.std.specs.Ordering.{is_lt}
-use Rattle.std.specs.Prelude.{nat_le}
-use Rattle.tw_types.specs.declared.data_type.Scalar.{Scalar}
 use Rattle.tw_types.specs.declared.data_type.Scalar.TheVariants as scalar
-use Rattle.tw_types.specs.declared.input.Input.{Input}
 use Rattle.tw_types.specs.declared.input.Input.TheVariants as input
-use Rattle.tw_types.specs.declared.param.Mode.{Mode}
-use Rattle.tw_types.specs.declared.value.Value.{Value}
 use Rattle.tw_types.specs.declared.value.Value.TheVariants as value
-use Rattle.tw_types.specs.Counts.{Balanced, HaveWriters, count_of, hits, subscripts_in}
-use Rattle.tw_types.specs.DataType.{container_of, same_scalar, same_type, scalar_type}
 use Rattle.tw_types.specs.Given.{Given, Single, Container, given_by, members_by}
-use Rattle.tw_types.specs.Nesting.{NestedScalar}
-use Rattle.tw_types.specs.Store.{Contains, Datum, Store, added, is_closed}
-use Rattle.tw_types.specs.TypedStore.{IsTypedStore}
-use Rattle.tw_types.specs.Value.{is_short, scalar_of}
-use Rattle.tw_types.specs.ValueOrder.{Subscript, value_cmp}
 use Rattle.tw_types.proofs.ValueOrder.{value_cmp_total, value_cmp-IsAntisymmetric}
 use Rattle.tw_types.proofs.Orders.{below}
-use Rattle.tw_types.proofs.Parts.{put_or_before}
-use Rattle.tw_types.proofs.Freeing.{data_insert_same, hits_other, hits_same}
-use Rattle.tw_types.proofs.Totals.{insert_other, total-empty}
 use Rattle.tw_code.specs.machine.Inputs.{are_members, is_given_for, is_input_of, rises, rises_from}
-use Rattle.tw_code.specs.machine.Opening.{added_given, closed_scalar, numbered, with_container, with_input}
-use Rattle.tw_no_trap.specs.Invariant.{Holds}
 use Rattle.tw_no_trap.proofs.DataInsert.{count_total, values_insert}
 use Rattle.tw_no_trap.proofs.Filling.{IsFilling, IsNext, added_filling, filled, filled_balanced, filled_typed, inside-le, not_yet, plain_next, undisturbed_added}
 use Rattle.tw_no_trap.proofs.Registers.{Undisturbed, holds_undisturbed, undisturbed_after, undisturbed_itself}
-use Rattle.tw_types.proofs.SameTypes.{same_types, scalar_itself}
 
 -- ---- subscripts that rise
 

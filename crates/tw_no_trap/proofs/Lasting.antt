@@ -1,35 +1,13 @@
 -- What an event leaves as it was: data that were there keep their types and stay closed, the host has its outputs, and the
 -- numbers of tasks that run are below the next one.
 use Rattle.std.proofs.Common.{◌≡◌, ℕ, ◌+◌, ◌<◌, ◌≤◌, List, [], ◌∷◌, slice_get, Some, inl, inr, refl, sym, ap, subst, ◌∙◌, arith}
-use Rattle.std.proofs.lemmas.Option.{same_Some}
-use Rattle.std.specs.Prelude.{Result, Ok}
-use Rattle.std.specs.FinMap.{get, insert}
-use Rattle.tw_types.specs.declared.actor.Actor.{Actor}
-use Rattle.tw_types.specs.declared.cause.Cause.{Cause}
-use Rattle.tw_types.specs.declared.cause.Cause.TheVariants.{WrongCall}
-use Rattle.tw_types.specs.declared.event.Event.{Event}
+use Rattle.tw_no_trap.proofs.MachineNames.{Actor, ActorCounts, Cause, Context, DataInstr, Datum, Event, Frame, Frames, Instr, IsHeld, Ok, Procedure, Result, State, Task, Typings, Went, WhereOk, WrongCall, actor_cmp-IsAntisymmetric, actor_cmp_total, before_removal, called, context_of, data_instr, filled, frame_of, get, insert, ok_both, ok_of, ok_there, put_called, put_or_before, same_Some, subscribed, values_in}
 use Rattle.tw_types.specs.declared.event.Event.TheVariants.{Take, Local, Call, End, Ask, Deliver, Release}
 use Rattle.tw_types.specs.declared.notice.Subscriber.{Subscriber}
-use Rattle.tw_types.specs.Layout.{ActorCounts}
-use Rattle.tw_types.specs.Outcome.{Went}
-use Rattle.tw_types.specs.Store.{Datum}
-use Rattle.tw_types.specs.StoreCalls.{subscribed}
-use Rattle.tw_types.specs.Task.{Task}
-use Rattle.tw_types.proofs.ActorOrder.{actor_cmp_total, actor_cmp-IsAntisymmetric}
 use Rattle.tw_types.proofs.Outcomes.{IfWent, if_both, if_ok, same_went, went_first, went_of}
-use Rattle.tw_types.proofs.Parts.{before_removal, put_or_before}
-use Rattle.tw_types.proofs.Results.{WhereOk, ok_both, ok_of, ok_there}
-use Rattle.tw_code.specs.declared.instr.DataInstr.{DataInstr}
-use Rattle.tw_code.specs.declared.instr.Instr.{Instr}
 use Rattle.tw_code.specs.declared.instr.Instr.TheVariants as instr
-use Rattle.tw_code.specs.declared.procedure.Procedure.{Procedure}
-use Rattle.tw_code.specs.machine.Arguments.{called, put_called}
-use Rattle.tw_code.specs.machine.Data.{Context, data_instr}
-use Rattle.tw_code.specs.machine.Holders.{Typings}
 use Rattle.tw_code.specs.machine.Machine.{Standing, call_by, call_event, run, standing_of, step}
-use Rattle.tw_code.specs.machine.State.{Frame, Frames, State, context_of, filled, frame_of, values_in}
 use Rattle.tw_code.proofs.Leaving.{Stood, ask_leaves, deliver_leaves, end_leaves, local_leaves, release_leaves, stood, take_leaves}
-use Rattle.tw_no_trap.specs.Invariant.{IsHeld}
 use Rattle.tw_no_trap.proofs.AllEvents.{Accepted, step_keeps}
 use Rattle.tw_no_trap.proofs.Registers.{Undisturbed, undisturbed_after, undisturbed_itself}
 use Rattle.tw_no_trap.proofs.Stages.{subscribed_undisturbed}

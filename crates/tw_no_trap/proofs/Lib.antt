@@ -42,3 +42,4 @@ pub mod Turning
 pub mod Along
 pub mod Blocked
 pub mod Ends
+mod MachineNames

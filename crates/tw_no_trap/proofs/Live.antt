@@ -1,31 +1,7 @@
 -- What is held is live: by a register, an argument of a task or of a rule, an output, a container and a notice.
 use Rattle.std.proofs.Common.{[], ◌≡◌, ℕ, zero, suc, ◌+◌, ◌≤◌, Bool, true, false, List, ◌∷◌, slice_get, if◌then◌else◌, Option, Some, None, refl, sym, ap, subst, ◌∙◌, arith, nat_cmp}
-use Rattle.std.proofs.lemmas.Option.{same_Some}
-use Rattle.std.specs.Cmp.{nat_cmp_total}
-use Rattle.std.specs.FinMap.{get, nat_cmp-IsAntisymmetric}
+use Rattle.tw_no_trap.proofs.MachineNames.{Actor, Arg, ArgFits, ArgsFit, Datum, Frame, Free, IsHeld, Notice, Param, Procedure, Ready, Ref, RightArg, RightType, Rights, RightsFit, Rule, RuleArgsFit, Stage, State, Store, Task, Typing, Typings, Unasked, Waiting, context_of, count_of, get, held_is_there, hits, hits_same, is_val, is_write, nat_cmp-IsAntisymmetric, nat_cmp_total, option_flatten, params_in, part, part-le-total, read_by, read_until, reads_of, right_at, right_of, right_until, rule_reads, rule_writes, same_Some, task_reads, task_writes, total, typing_of, write_by, writes_of}
 use Rattle.std.specs.FinSet as set
-use Rattle.std.specs.Option.{option_flatten}
-use Rattle.tw_types.specs.declared.actor.Actor.{Actor}
-use Rattle.tw_types.specs.declared.notice.Notice.{Notice}
-use Rattle.tw_types.specs.declared.param.Mode.TheVariants.{Ref}
-use Rattle.tw_types.specs.declared.param.Param.{Param}
-use Rattle.tw_types.specs.declared.stage.Stage.{Stage}
-use Rattle.tw_types.specs.declared.stage.Stage.TheVariants.{Free, Unasked, Waiting, Ready}
-use Rattle.tw_types.specs.Counts.{count_of, hits}
-use Rattle.tw_types.specs.Mode.{is_val, is_write}
-use Rattle.tw_types.specs.Rule.{Rule}
-use Rattle.tw_types.specs.Store.{Datum, Store}
-use Rattle.tw_types.specs.Task.{Arg, RightArg, Task}
-use Rattle.tw_types.specs.Totals.{total}
-use Rattle.tw_types.proofs.Freeing.{held_is_there, hits_same}
-use Rattle.tw_types.proofs.Totals.{part, part-le-total}
-use Rattle.tw_code.specs.declared.procedure.Procedure.{Procedure}
-use Rattle.tw_code.specs.machine.Arguments.{params_in}
-use Rattle.tw_code.specs.machine.Holders.{Typings, read_by, reads_of, rule_reads, rule_writes, task_reads, task_writes, typing_of, write_by, writes_of}
-use Rattle.tw_code.specs.machine.Rights.{RightType, Rights, Typing, right_at, right_of}
-use Rattle.tw_code.specs.machine.State.{Frame, State, context_of}
-use Rattle.tw_no_trap.specs.Invariant.{ArgFits, ArgsFit, IsHeld, RightsFit, RuleArgsFit}
-use Rattle.tw_no_trap.specs.InOrder.{read_until, right_until}
 use Rattle.tw_no_trap.proofs.Named.{notice_wants}
 use Rattle.tw_no_trap.proofs.Over.{over_params}
 use Rattle.tw_no_trap.proofs.Registers.{at_right}

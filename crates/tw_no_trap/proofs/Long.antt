@@ -1,23 +1,10 @@
 -- A typing has all 16 registers, and so have the registers: one that is free is there.
 use Rattle.std.proofs.Common.{◌≡◌, ℕ, zero, suc, ◌-◌, ◌<◌, ◌≤◌, Bool, true, false, if◌then◌else◌, List, [], ◌∷◌, map, length, replicate, slice_get, slice_set, Option, Some, None, refl, ap, ◌∙◌, arith, length-append}
-use Rattle.std.proofs.lemmas.List.{length-map, length-replicate}
-use Rattle.std.proofs.lemmas.Option.{slice_get_within, slice_get-get_or}
-use Rattle.std.specs.Prelude.{get_or}
-use Rattle.tw_types.specs.declared.param.Param.{Param}
-use Rattle.tw_types.specs.Mode.{is_val}
-use Rattle.tw_types.specs.Store.{Store}
+use Rattle.tw_no_trap.proofs.MachineNames.{Completed, DataInstr, Instr, Param, Procedure, RightType, Rights, RightsFit, Skipped, Store, Typing, a_member_read, a_read, a_write, after, after_data, get_or, is_free, is_val, length-map, length-replicate, params_of, right_at, rights_given, slice_get-get_or, slice_get_within, start_typing, without_args}
 use Rattle.tw_code.specs.declared.flow.Way.{Way}
-use Rattle.tw_code.specs.declared.flow.Way.TheVariants.{Completed, Skipped}
-use Rattle.tw_code.specs.declared.instr.Instr.{Instr}
 use Rattle.tw_code.specs.declared.instr.Instr.TheVariants as instr
-use Rattle.tw_code.specs.declared.instr.DataInstr.{DataInstr}
 use Rattle.tw_code.specs.declared.instr.DataInstr.TheVariants as on_data
-use Rattle.tw_code.specs.declared.procedure.Procedure.{Procedure}
-use Rattle.tw_code.specs.machine.Rights.{Rights, RightType, Typing, right_at}
-use Rattle.tw_code.specs.accepting.Typing.{is_free, a_write, a_read, a_member_read, rights_given, start_typing, without_args, after, after_data}
-use Rattle.tw_code.specs.machine.Arguments.{params_of}
 use Rattle.tw_code.specs.accepting.WellTyped.{IsWellTyped}
-use Rattle.tw_no_trap.specs.Invariant.{RightsFit}
 
 set_long : (typing : Typing) (k : ℕ) (o : Option RightType) → length (slice_set typing k o) ≡ length typing
 set_long [] k o = refl

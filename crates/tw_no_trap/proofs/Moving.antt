@@ -1,33 +1,18 @@
 -- Where a task goes on: in the loops that it has begun, within its budget, and with the typing of the place.
 use Rattle.std.proofs.Common.{◌≡◌, ℕ, zero, suc, ◌+◌, ◌<◌, ◌==◌, ◌⊎◌, inl, inr, List, [], ◌∷◌, length, slice_get, get_or, Some, None, refl, sym, ap, subst, ◌∙◌, arith, if◌then◌else◌}
-use Rattle.std.proofs.lemmas.List.{length-map}
-use Rattle.std.proofs.lemmas.Option.{slice_get-map, slice_get-get_or, slice_get_within, same_Some}
-use Rattle.std.specs.Option.{option_and_then, option_map}
-use Rattle.tw_types.specs.Outcome.{Outcome, NotEnabled, outcome_of}
+use Rattle.tw_no_trap.proofs.MachineNames.{Accepts, AreBegun, Completed, Cursor, DataInstr, Instr, Loop, NotEnabled, Outcome, Position, Procedure, Skipped, Stands, Typing, after, asks, asks_at, asks_params, data_flow, flow_of, flows, length-map, local_flow, local_of, local_step, local_steps, moved, onward, option_and_then, option_map, outcome_of, same_Some, slice_get-get_or, slice_get-map, slice_get_within, turned}
 use Rattle.tw_code.specs.declared.flow.Flow.{Flow}
 use Rattle.tw_code.specs.declared.flow.Flow.TheVariants.{Straight, Branch, Jump, Begin, Close, Stop}
 use Rattle.tw_code.specs.declared.flow.Way.{Way}
-use Rattle.tw_code.specs.declared.flow.Way.TheVariants.{Completed, Skipped}
-use Rattle.tw_code.specs.declared.instr.DataInstr.{DataInstr}
 use Rattle.tw_code.specs.declared.instr.DataInstr.TheVariants as on_data
 use Rattle.tw_code.specs.declared.instr.LocalInstr.{LocalInstr}
-use Rattle.tw_code.specs.declared.instr.Instr.{Instr}
 use Rattle.tw_code.specs.declared.instr.Instr.TheVariants as instr
-use Rattle.tw_code.specs.declared.procedure.Procedure.{Procedure}
-use Rattle.tw_code.specs.accepting.Flow.{data_flow, local_flow, flow_of, flows, onward}
-use Rattle.tw_code.specs.machine.Position.{Position, Loop, Cursor, turned}
 use Rattle.tw_code.specs.machine.Local.{local_instr}
-use Rattle.tw_code.specs.machine.Machine.{local_of, local_step, local_steps}
 use Rattle.tw_code.specs.accepting.Structure.{end_of}
-use Rattle.tw_code.specs.machine.Rights.{Typing}
-use Rattle.tw_code.specs.accepting.Typing.{asks, asks_at, asks_params, after}
-use Rattle.tw_code.specs.accepting.Walk.{moved}
 use Rattle.tw_code.specs.accepting.WellTyped.{IsEndOf}
 use Rattle.tw_budget.specs.Frames.{LoopsFit}
 use Rattle.tw_budget.proofs.FrameLaws.{stays_within, end_goes_on}
 use Rattle.tw_budget.proofs.Places.{close_end}
-use Rattle.tw_no_trap.specs.Invariant.{AreBegun}
-use Rattle.tw_no_trap.specs.Standing.{Accepts, Stands}
 use Rattle.tw_no_trap.proofs.Steps.{Happens, Keeps, goes_happens, happens_keeps, keeps_more, waits_keeps}
 use Rattle.tw_no_trap.proofs.Values.{AllYes, HasLoop, Moves, all_yes, local_moves, yes_behind}
 

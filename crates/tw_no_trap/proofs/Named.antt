@@ -1,21 +1,10 @@
 -- Subscribers and notices name just the parameters that wait, whatever happens to data, notices and rules.
 use Rattle.std.proofs.Common.{◌≡◌, ◌≢◌, ℕ, ◌+◌, ◌≤◌, inl, inr, Bool, true, false, if◌then◌else◌, [], Option, Some, None, refl, sym, ap, subst, ◌∙◌, arith}
-use Rattle.std.proofs.lemmas.Bool.{cases_eq, cases_Bool}
-use Rattle.std.proofs.lemmas.Option.{same_Some}
-use Rattle.std.specs.FinMap.{get, insert}
+use Rattle.tw_no_trap.proofs.MachineNames.{Data, Datum, Notice, Notices, RightArg, Rules, arg_at, cases_Bool, cases_eq, data_insert_other, data_insert_same, get, insert, is_closed, notices_of, part, same_Some, stage_at, subscribers_cleared, times_among, times_noticed, times_subscribed, times_waiting, total, with_notices}
 use Rattle.std.specs.FinSet as set
-use Rattle.tw_types.specs.declared.notice.Notice.{Notice}
-use Rattle.tw_types.specs.Notices.{Notices, with_notices}
-use Rattle.tw_types.specs.Rule.{Rules}
-use Rattle.tw_types.specs.Store.{Data, Datum, is_closed, subscribers_cleared, notices_of}
-use Rattle.tw_types.specs.Task.{RightArg}
-use Rattle.tw_types.specs.Totals.{total}
-use Rattle.tw_code.specs.machine.Waiting.{times_among, times_subscribed, stage_at, times_waiting, arg_at, times_noticed}
 use Rattle.tw_no_trap.specs.Noticed.{AreNamed}
 use Rattle.tw_code.proofs.Sets.{told_keeps, told_has, told_only}
-use Rattle.tw_types.proofs.Totals.{part}
 use Rattle.tw_code.proofs.Subscribed.{subscribed_put, subscribed-le, waits-le, noticed_at, noticed_one, noticed_alike, silenced, and_told}
-use Rattle.tw_types.proofs.Freeing.{data_insert_same, data_insert_other}
 use Rattle.tw_no_trap.proofs.Sums.{same_bool, subscribed_same}
 
 -- ---- what waits

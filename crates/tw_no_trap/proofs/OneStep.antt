@@ -1,31 +1,10 @@
 -- Each task that runs has exactly one next step, which goes, and is below its budget.
 use Rattle.std.proofs.Common.{◌≡◌, ℕ, ◌+◌, inl, inr, true, false, List, slice_get, Some, None, is_none, refl, sym, ap, subst, ◌∙◌}
-use Rattle.std.specs.FinMap.{get, remove}
-use Rattle.std.specs.List.{list_all}
-use Rattle.std.specs.Prelude.{Result, Ok, Err}
-use Rattle.tw_types.specs.declared.actor.Actor.{Actor}
-use Rattle.tw_types.specs.declared.cause.Cause.{Cause}
-use Rattle.tw_types.specs.declared.cause.Cause.TheVariants.{RightLeft}
-use Rattle.tw_types.specs.Actor.{number_in_kind}
-use Rattle.tw_types.specs.Layout.{ActorCounts}
-use Rattle.tw_types.specs.Outcome.{Outcome, Went, NotEnabled, Trap, ◌>>=◌, ◌>>◌, only_if, outcome_of}
-use Rattle.tw_types.specs.Result.{must}
-use Rattle.tw_code.specs.declared.instr.Instr.{Instr}
+use Rattle.tw_no_trap.proofs.MachineNames.{◌>>=◌, ◌>>◌, Accepts, Actor, ActorCounts, Cause, Err, ExactlyOne, Frame, GivesState, HasOneStep, Instr, IsBelowBudget, IsHeld, NotEnabled, Ok, Outcome, Position, Procedure, Result, RightLeft, State, Trap, Typings, Went, after_context, asks, called, context_of, data_instr, flows, get, gone_behind, list_all, must, new_rule, number_in_kind, only_if, outcome_of, put_called, remove, typing_of, with_frame, with_rule, with_task}
 use Rattle.tw_code.specs.declared.instr.Instr.TheVariants as instr
 use Rattle.tw_code.specs.declared.instr.LocalInstr.{LocalInstr}
-use Rattle.tw_code.specs.declared.procedure.Procedure.{Procedure}
-use Rattle.tw_code.specs.accepting.Flow.{flows}
-use Rattle.tw_code.specs.accepting.Typing.{asks}
-use Rattle.tw_code.specs.machine.Arguments.{called, put_called}
-use Rattle.tw_code.specs.machine.Data.{data_instr}
-use Rattle.tw_code.specs.machine.Holders.{Typings, typing_of}
 use Rattle.tw_code.specs.machine.Machine.{Standing, call_by, call_event, end_event, is_ret, local_event, local_of, local_step, local_steps, standing_of, step}
-use Rattle.tw_code.specs.machine.Position.{Position}
-use Rattle.tw_code.specs.machine.State.{Frame, State, after_context, context_of, gone_behind, new_rule, with_frame, with_rule, with_task}
 use Rattle.tw_budget.proofs.FrameLaws.{below_budget}
-use Rattle.tw_no_trap.specs.Invariant.{IsHeld}
-use Rattle.tw_no_trap.specs.NoTrap.{ExactlyOne, GivesState, HasOneStep, IsBelowBudget}
-use Rattle.tw_no_trap.specs.Standing.{Accepts}
 use Rattle.tw_no_trap.proofs.Accepted.{known, stands}
 use Rattle.tw_no_trap.proofs.AllEvents.{Known, all_empty}
 use Rattle.tw_no_trap.proofs.Called.{called_goes, put_goes}

@@ -1,39 +1,11 @@
 -- The state in which main waits: all is held, whatever the inputs.
 use Rattle.std.proofs.Common.{◌≡◌, ℕ, ◌+◌, Bool, true, false, not, List, [], ◌∷◌, ◌++◌, length, map, filter, slice_get, Option, Some, None, refl, sym, ap, subst, ◌∙◌, arith, if◌then◌else◌, nat_cmp, inl, inr}
-use Rattle.std.proofs.lemmas.Bool.{and_parts, cases_eq, eqb-true, not-true}
-use Rattle.std.proofs.lemmas.List.{append-nil, append_assoc, map-append}
+use Rattle.tw_no_trap.proofs.MachineNames.{Actor, AllByRecursion, Arg, ArgFits, ArgsFit, BalancedAt, BudgetsHeld, Closed, CountsHeld, Datum, Frame, Holds, Input, IsDataType, IsHeld, IsParam, IsTypeUnder, Mode, NestedScalar, NumbersHeld, Param, Procedure, Ref, RightArg, RightType, Rule, Store, Task, TypesHeld, Typings, Val, Write, actor_cmp, added, and_parts, append-nil, append_assoc, balanced_same, cases_eq, count_of, empty, eqb-true, frame_reads, frame_writes, get, get-empty, hits, hits_other, hits_same, id_of, insert, insert_other, insert_same, inside, is_closed_mode, is_control, is_flat, is_val, is_write, list_all, map-append, nat_cmp-IsAntisymmetric, nat_cmp_total, new_datum, not-true, output_rights, part, read_by, right_of, rule_reads, rule_writes, same_Some, subscripts_in, task_reads, task_writes, total, total-empty, total-insert, write_by}
 use Rattle.std.proofs.lemmas.List.Elements.{filter-append}
-use Rattle.std.proofs.lemmas.Option.{same_Some}
-use Rattle.std.specs.Cmp.{nat_cmp_total}
-use Rattle.std.specs.FinMap.{empty, get, get-empty, insert, nat_cmp-IsAntisymmetric}
-use Rattle.std.specs.List.{AllByRecursion, list_all}
-use Rattle.tw_types.specs.declared.actor.Actor.{Actor}
 use Rattle.tw_types.specs.declared.data_type.Scalar.TheVariants as scalar
-use Rattle.tw_types.specs.declared.input.Input.{Input}
-use Rattle.tw_types.specs.declared.param.Mode.{Mode}
-use Rattle.tw_types.specs.declared.param.Mode.TheVariants.{Val, Closed, Ref, Write}
-use Rattle.tw_types.specs.declared.param.Param.{Param}
-use Rattle.tw_types.specs.Actor.{actor_cmp, is_control}
-use Rattle.tw_types.specs.Counts.{BalancedAt, count_of, hits, inside, subscripts_in}
-use Rattle.tw_types.specs.DataType.{IsDataType, is_flat}
-use Rattle.tw_types.specs.Mode.{is_closed_mode, is_val, is_write}
-use Rattle.tw_types.specs.Nesting.{NestedScalar}
-use Rattle.tw_types.specs.Rule.{Rule}
-use Rattle.tw_types.specs.Store.{Datum, Store, added, new_datum}
-use Rattle.tw_types.specs.Task.{Arg, RightArg, Task}
-use Rattle.tw_types.specs.Totals.{total}
-use Rattle.tw_types.proofs.Freeing.{balanced_same, hits_other, hits_same}
-use Rattle.tw_types.proofs.Totals.{insert_other, insert_same, part, total-empty, total-insert}
-use Rattle.tw_code.specs.declared.procedure.Procedure.{Procedure}
 use Rattle.tw_code.specs.accepting.MainShape.{has_main_shape, is_main_param}
-use Rattle.tw_code.specs.format.Program.{IsParam, IsTypeUnder}
-use Rattle.tw_code.specs.machine.Holders.{Typings, frame_reads, frame_writes, id_of, read_by, rule_reads, rule_writes, task_reads, task_writes, write_by}
 use Rattle.tw_code.specs.machine.Inputs.{AreInputsOf, are_inputs_of, input_params, is_input_of}
 use Rattle.tw_code.specs.machine.Opening.{Opened, main_task, nothing_opened, opened, opening, opening_of, with_given, with_input, with_output}
-use Rattle.tw_code.specs.machine.Rights.{RightType, right_of}
-use Rattle.tw_code.specs.machine.State.{Frame}
-use Rattle.tw_no_trap.specs.Invariant.{ArgFits, ArgsFit, Holds, IsHeld, NumbersHeld, TypesHeld, CountsHeld, BudgetsHeld}
-use Rattle.tw_no_trap.specs.InOrder.{output_rights}
 use Rattle.tw_no_trap.proofs.Asked.{opening_named}
 use Rattle.tw_no_trap.proofs.DataNew.{new_content, new_writers, no_members}
 use Rattle.tw_no_trap.proofs.Filling.{added_filling, not_yet, plain_next, undisturbed_added}

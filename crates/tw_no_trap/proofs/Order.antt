@@ -1,22 +1,6 @@
 -- What is held of a state, in the reader's words.
 use Rattle.std.proofs.Common.{◌≡◌, ℕ, zero, suc, List, [], ◌∷◌, slice_get, Option, Some, None, refl, sym, ap, subst, ◌∙◌}
-use Rattle.std.specs.FinMap.{get}
-use Rattle.tw_types.specs.declared.actor.Actor.{Actor}
-use Rattle.tw_types.specs.declared.data_type.Scalar.{Scalar}
-use Rattle.tw_types.specs.declared.param.Param.{Param}
-use Rattle.tw_types.specs.declared.stage.Stage.{Stage}
-use Rattle.tw_types.specs.declared.value.Value.{Value}
-use Rattle.tw_types.specs.Rule.{Rule}
-use Rattle.tw_types.specs.Store.{Datum, Store}
-use Rattle.tw_types.specs.Task.{Arg, ValueArg, RightArg, Task}
-use Rattle.tw_code.specs.declared.procedure.Procedure.{Procedure}
-use Rattle.tw_code.specs.format.Program.{IsProgram}
-use Rattle.tw_code.specs.machine.Holders.{Typings, typing_of}
-use Rattle.tw_code.specs.machine.Rights.{RightType, right_at, right_of}
-use Rattle.tw_code.specs.machine.State.{Frame, State}
-use Rattle.tw_no_trap.specs.Invariant.{ArgFits, ArgsFit, Holds, IsHeld, RuleArgsFit, ValuesFit}
-use Rattle.tw_no_trap.specs.InOrder.{ArgAsDue, HeldAsDue, IsArgOf, IsHeldAs, IsInOrder, IsTypedFrame, IsTypedRule, IsTypedTask, RuleArgAsDue, ValueAsDue, output_rights, right_until}
-use Rattle.tw_no_trap.specs.NoTrap.{AreRight}
+use Rattle.tw_no_trap.proofs.MachineNames.{Actor, AreRight, Arg, ArgAsDue, ArgFits, ArgsFit, Datum, Frame, HeldAsDue, Holds, IsArgOf, IsHeld, IsHeldAs, IsInOrder, IsProgram, IsTypedFrame, IsTypedRule, IsTypedTask, Param, Procedure, RightArg, RightType, Rule, RuleArgAsDue, RuleArgsFit, Scalar, Stage, State, Store, Task, Typings, Value, ValueArg, ValueAsDue, ValuesFit, get, output_rights, right_at, right_of, right_until, typing_of}
 use Rattle.tw_no_trap.proofs.Lasting.{AreRunning}
 use Rattle.tw_no_trap.proofs.Live.{notice_is_live, output_is_live, rule_is_live, task_is_live}
 use Rattle.tw_no_trap.proofs.Opening.{OutputsFit}

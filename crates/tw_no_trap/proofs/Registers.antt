@@ -1,18 +1,7 @@
 -- What is known of a right register, and what an instruction leaves that changes one datum.
 use Rattle.std.proofs.Common.{◌≡◌, ℕ, zero, suc, ◌+◌, ◌<◌, ◌≤◌, true, false, [], ◌∷◌, slice_get, slice_set, Option, Some, None, refl, ap, subst, ◌∙◌, arith, inl, inr}
-use Rattle.std.proofs.lemmas.Bool.{cases_Bool}
-use Rattle.std.specs.FinMap.{get}
-use Rattle.tw_types.specs.DataType.{depth_of}
-use Rattle.tw_types.specs.Store.{Datum, Store, is_closed, settled, drop_read_within}
-use Rattle.tw_code.specs.machine.Rights.{Rights, RightType, Typing, right_at}
-use Rattle.tw_code.specs.machine.Data.{Context}
-use Rattle.tw_types.specs.Mode.{is_write, is_closed_mode}
-use Rattle.tw_types.specs.Counts.{inside, Balanced, HaveWriters}
-use Rattle.tw_code.specs.machine.Holders.{read_by, write_by, over}
-use Rattle.tw_types.specs.TypedStore.{IsTypedStore}
-use Rattle.tw_no_trap.specs.Invariant.{Holds, RightFits, RightsFit}
+use Rattle.tw_no_trap.proofs.MachineNames.{Balanced, Context, Datum, HaveWriters, Holds, IsTypedStore, RightFits, RightType, Rights, RightsFit, Store, Typing, balanced_some, cases_Bool, depth_of, drop_read_within, get, held_is_there, hits_same, inside, is_closed, is_closed_mode, is_write, over, read_by, right_at, settled, write_by}
 use Rattle.tw_no_trap.proofs.Aging.{Aged, Later, Freed, drops, settled_balanced, nested_later}
-use Rattle.tw_types.proofs.Freeing.{held_is_there, hits_same, balanced_some}
 
 -- ---- all registers
 

@@ -1,25 +1,9 @@
 -- Ask, Deliver and Release keep all that is held, and never trap.
 use Rattle.std.proofs.Common.{◌≡◌, ℕ, ◌==◌, true, false, ◌&&◌, nat_lt, List, slice_get, is_none, Option, Some, None, refl, sym, ap, subst, ◌∙◌, arith, inl, inr}
-use Rattle.std.proofs.lemmas.Bool.{cases_Bool}
-use Rattle.std.proofs.lemmas.Option.{same_Some}
-use Rattle.std.specs.FinMap.{get}
+use Rattle.tw_no_trap.proofs.MachineNames.{ActorCounts, Arg, ArgFits, Datum, FreedDatum, IsHeld, Notice, Procedure, Ready, RightArg, Rule, State, Task, Typings, Unasked, ValueArg, Waiting, WrongCall, ask_event, asked, cases_Bool, deliver_event, get, id_in, is_closed, is_releasable, is_unasked, own_rule, ready_at, release_event, right_of, right_until, same_Some, server_of, with_stage}
 use Rattle.std.specs.FinSet as set
 use Rattle.tw_types.specs.declared.actor.Actor.TheVariants.{Engine}
-use Rattle.tw_types.specs.declared.cause.Cause.TheVariants.{FreedDatum, WrongCall}
 use Rattle.tw_types.specs.declared.notice.Subscriber.{Subscriber}
-use Rattle.tw_types.specs.declared.stage.Stage.TheVariants.{Unasked, Waiting, Ready}
-use Rattle.tw_types.specs.Layout.{ActorCounts}
-use Rattle.tw_types.specs.declared.notice.Notice.{Notice}
-use Rattle.tw_types.specs.Rule.{Rule, is_unasked, is_releasable}
-use Rattle.tw_types.specs.Store.{Datum, is_closed, server_of}
-use Rattle.tw_types.specs.Task.{Arg, ValueArg, RightArg, Task}
-use Rattle.tw_code.specs.declared.procedure.Procedure.{Procedure}
-use Rattle.tw_code.specs.machine.State.{State, with_stage}
-use Rattle.tw_code.specs.machine.Machine.{own_rule, id_in, asked, ask_event, ready_at, deliver_event, release_event}
-use Rattle.tw_code.specs.machine.Holders.{Typings}
-use Rattle.tw_no_trap.specs.Invariant.{ArgFits, IsHeld}
-use Rattle.tw_no_trap.specs.InOrder.{right_until}
-use Rattle.tw_code.specs.machine.Rights.{right_of}
 use Rattle.tw_no_trap.proofs.Asked.{Noted, noted, named_staged, named_asked, named_delivered, named_released}
 use Rattle.tw_code.proofs.Staged.{settled_waits}
 use Rattle.tw_no_trap.proofs.Wanted.{asked_is_there}

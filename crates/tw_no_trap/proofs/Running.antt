@@ -1,32 +1,11 @@
 -- What right typings say of the code, and of a task that runs: what is asked, what is left, and what its registers hold.
 use Rattle.std.proofs.Common.{[], ◌≡◌, ℕ, ◌+◌, ◌<◌, true, List, length, slice_get, Option, Some, None, refl, sym, ap, subst, ◌∙◌, arith}
-use Rattle.std.proofs.lemmas.List.{length-map}
-use Rattle.std.proofs.lemmas.Option.{slice_get-get_or, slice_get-map, slice_get_within, same_Some}
-use Rattle.std.specs.FinMap.{get}
-use Rattle.std.specs.Option.{option_flatten, option_map}
-use Rattle.tw_types.specs.declared.actor.Actor.{Actor}
-use Rattle.tw_types.specs.Mode.{is_closed_mode}
-use Rattle.tw_types.specs.Outcome.{Went}
-use Rattle.tw_types.specs.Store.{Datum, is_closed}
+use Rattle.tw_no_trap.proofs.MachineNames.{Accepts, Actor, AreRight, Completed, Datum, Frame, Instr, IsHeld, IsProgram, Position, Procedure, RightType, Rights, RightsFit, Skipped, Stands, State, Typing, Typings, Went, after, asks, context_of, flow_of, flows, get, goal_of, is_closed, is_closed_mode, length-map, local_steps, onward, option_flatten, option_map, right_at, same_Some, slice_get-get_or, slice_get-map, slice_get_within, start_typing, typing_at, typing_of}
 use Rattle.tw_code.specs.declared.flow.Flow.{Flow}
 use Rattle.tw_code.specs.declared.flow.Flow.TheVariants.{Straight, Branch, Jump, Begin, Close, Stop}
 use Rattle.tw_code.specs.declared.flow.Way.{Way}
-use Rattle.tw_code.specs.declared.flow.Way.TheVariants.{Completed, Skipped}
-use Rattle.tw_code.specs.declared.instr.Instr.{Instr}
-use Rattle.tw_code.specs.declared.procedure.Procedure.{Procedure}
-use Rattle.tw_code.specs.accepting.Flow.{flow_of, flows, onward}
-use Rattle.tw_code.specs.accepting.Typing.{after, asks, start_typing}
-use Rattle.tw_code.specs.format.Program.{IsProgram}
-use Rattle.tw_code.specs.machine.Holders.{Typings, typing_at, typing_of}
-use Rattle.tw_code.specs.machine.Machine.{local_steps}
-use Rattle.tw_code.specs.machine.Position.{Position, goal_of}
-use Rattle.tw_code.specs.machine.Rights.{RightType, Rights, Typing, right_at}
-use Rattle.tw_code.specs.machine.State.{Frame, State, context_of}
 use Rattle.tw_budget.proofs.Places.{no_refusals, not_last, stays}
 use Rattle.tw_budget.specs.Sound.{IsSound}
-use Rattle.tw_no_trap.specs.Invariant.{IsHeld, RightsFit}
-use Rattle.tw_no_trap.specs.NoTrap.{AreRight}
-use Rattle.tw_no_trap.specs.Standing.{Accepts, Stands}
 use Rattle.tw_no_trap.proofs.Accepted as acceptance
 use Rattle.tw_no_trap.proofs.Live.{typed_where_held}
 use Rattle.tw_no_trap.proofs.Moving.{IsLeftBy, asked, steps_keep}

@@ -1,20 +1,8 @@
 -- Accepted programs reach no trap.
 use Rattle.std.proofs.Common.{◌≡◌, ℕ, List, [], ◌∷◌, slice_get, Some}
-use Rattle.tw_types.specs.declared.event.Event.{Event}
-use Rattle.tw_types.specs.declared.input.Input.{Input}
-use Rattle.tw_types.specs.Layout.{ActorCounts}
-use Rattle.tw_types.specs.Outcome.{Went}
-use Rattle.tw_code.specs.declared.procedure.Procedure.{Procedure}
-use Rattle.tw_code.specs.format.Program.{IsProcedure, IsProgram}
-use Rattle.tw_code.specs.machine.Holders.{Typings}
+use Rattle.tw_no_trap.proofs.MachineNames.{Accepts, ActorCounts, AreRight, Event, Input, IsHeld, IsProcedure, IsProgram, IsSafe, NoTrap, Procedure, State, Typings, Went, opening, reached, step}
 use Rattle.tw_code.specs.machine.Inputs.{AreInputsOf}
-use Rattle.tw_code.specs.machine.Machine.{step}
-use Rattle.tw_code.specs.machine.Opening.{opening, reached}
-use Rattle.tw_code.specs.machine.State.{State}
 use Rattle.tw_budget.proofs.Sound.{sound_flows}
-use Rattle.tw_no_trap.specs.Invariant.{IsHeld}
-use Rattle.tw_no_trap.specs.NoTrap.{AreRight, IsSafe, NoTrap}
-use Rattle.tw_no_trap.specs.Standing.{Accepts}
 use Rattle.tw_no_trap.proofs.Accepted.{accepted, all_found}
 use Rattle.tw_no_trap.proofs.AllEvents.{run_keeps, step_keeps}
 use Rattle.tw_no_trap.proofs.OneStep.{below, one_step}

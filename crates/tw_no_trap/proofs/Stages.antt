@@ -1,31 +1,8 @@
 -- Ask, Deliver and Release keep numbers, types and counts, and don't trap.
 use Rattle.std.proofs.Common.{◌≡◌, ℕ, zero, suc, Bool, true, false, if◌then◌else◌, List, [], ◌∷◌, slice_get, slice_set, Option, Some, None, refl, sym, ap, subst, ◌∙◌, arith, inl, inr, nat_cmp}
-use Rattle.std.proofs.lemmas.Bool.{and_parts}
-use Rattle.std.proofs.lemmas.Option.{same_Some}
-use Rattle.std.specs.Cmp.{nat_cmp_total}
-use Rattle.std.specs.FinMap.{get, insert, remove, nat_cmp-IsAntisymmetric}
-use Rattle.std.specs.List.{list_all}
-use Rattle.tw_types.specs.declared.param.Mode.TheVariants.{Ref}
-use Rattle.tw_types.specs.declared.param.Param.{Param}
+use Rattle.tw_no_trap.proofs.MachineNames.{Arg, ArgFits, ArgsFit, CountsHeld, Datum, Free, HasWriters, Notices, NumbersHeld, Param, Procedure, Ready, Ref, RightArg, RightType, Rule, RuleArgsFit, Stage, State, Store, Task, TypesHeld, Typings, Unasked, ValueArg, Waiting, and_parts, at_stage, balanced_same, balanced_some, before_removal, get, insert, is_asked_for, is_closed, is_settled, is_val, list_all, nat_cmp-IsAntisymmetric, nat_cmp_total, put_balanced, put_or_before, reads_of, remove, right_of, right_until, rule_reads, rule_writes, same_Some, task_from, task_reads, task_writes, typing_of, with_stage, with_subscriber, with_task, writes_of}
 use Rattle.tw_types.specs.declared.notice.Subscriber.{Subscriber}
-use Rattle.tw_types.specs.declared.stage.Stage.{Stage}
-use Rattle.tw_types.specs.declared.stage.Stage.TheVariants.{Free, Unasked, Waiting, Ready}
-use Rattle.tw_types.specs.Mode.{is_val}
-use Rattle.tw_types.specs.Notices.{Notices}
-use Rattle.tw_types.specs.Rule.{Rule, task_from, is_settled, at_stage}
-use Rattle.tw_types.specs.Store.{Datum, Store, is_closed}
-use Rattle.tw_types.specs.StoreCalls.{with_subscriber}
-use Rattle.tw_types.specs.Task.{Arg, ValueArg, RightArg, Task}
-use Rattle.tw_code.specs.declared.procedure.Procedure.{Procedure}
-use Rattle.tw_code.specs.machine.State.{State, with_stage, with_task}
-use Rattle.tw_code.specs.machine.Rights.{RightType, right_of}
-use Rattle.tw_types.specs.Counts.{HasWriters}
-use Rattle.tw_code.specs.machine.Holders.{Typings, typing_of, rule_reads, rule_writes, task_reads, task_writes, reads_of, writes_of}
-use Rattle.tw_no_trap.specs.Invariant.{ArgFits, ArgsFit, RuleArgsFit, NumbersHeld, TypesHeld, CountsHeld}
-use Rattle.tw_no_trap.specs.InOrder.{right_until, is_asked_for}
 use Rattle.tw_no_trap.proofs.Aging.{Aged, later_put}
-use Rattle.tw_types.proofs.Freeing.{balanced_same, balanced_some, put_balanced}
-use Rattle.tw_types.proofs.Parts.{put_or_before, before_removal}
 use Rattle.tw_no_trap.proofs.Registers.{Undisturbed, holds_undisturbed, rights_kept, later_undisturbed, later_store}
 use Rattle.tw_no_trap.proofs.Sums.{sum_apart, sum_new, sum_replaced}
 

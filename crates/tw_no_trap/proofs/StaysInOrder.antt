@@ -1,19 +1,8 @@
 -- Each state that an accepted program reaches is in order, and its data live on.
 use Rattle.std.proofs.Common.{◌≡◌, List, [], ◌∷◌, sym, subst}
-use Rattle.tw_types.specs.declared.event.Event.{Event}
-use Rattle.tw_types.specs.declared.input.Input.{Input}
-use Rattle.tw_types.specs.Layout.{ActorCounts}
-use Rattle.tw_types.specs.Outcome.{Went}
-use Rattle.tw_code.specs.declared.procedure.Procedure.{Procedure}
-use Rattle.tw_code.specs.format.Program.{IsProgram}
-use Rattle.tw_code.specs.machine.Holders.{Typings}
+use Rattle.tw_no_trap.proofs.MachineNames.{ActorCounts, AreRight, Event, Input, IsProgram, LivesOn, Procedure, State, StaysInOrder, Typings, Went, opening, output_rights, reached, run}
 use Rattle.tw_code.specs.machine.Inputs.{AreInputsOf}
-use Rattle.tw_code.specs.machine.Machine.{run}
-use Rattle.tw_code.specs.machine.Opening.{opening, reached}
-use Rattle.tw_code.specs.machine.State.{State}
 use Rattle.tw_code.proofs.Taken.{takes_once}
-use Rattle.tw_no_trap.specs.InOrder.{LivesOn, StaysInOrder, output_rights}
-use Rattle.tw_no_trap.specs.NoTrap.{AreRight}
 use Rattle.tw_no_trap.proofs.Accepted.{accepted}
 use Rattle.tw_no_trap.proofs.Lasting.{AreRunning, Lasts, run_lasts}
 use Rattle.tw_no_trap.proofs.Opening.{OutputsFit, opening_outputs, opening_running, outputs_kept}

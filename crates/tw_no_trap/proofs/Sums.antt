@@ -1,13 +1,7 @@
 -- Sums over a finite map of a state, with one entry taken apart, replaced or new.
 use Rattle.std.proofs.Common.{◌≡◌, ℕ, ◌+◌, Bool, true, false, Some, None, refl, sym, subst, arith, nat_cmp}
 use Rattle.std.specs.declared.cmp.Ordering.{Ordering}
-use Rattle.std.specs.Cmp.{IsTotalOrder, nat_cmp_total}
-use Rattle.std.specs.FinMap.{FinMap, IsAntisymmetric, get, insert, remove, nat_cmp-IsAntisymmetric}
-use Rattle.tw_types.specs.Store.{Data}
-use Rattle.tw_types.specs.Totals.{total}
-use Rattle.tw_code.specs.machine.Waiting.{times_subscribed}
-use Rattle.tw_types.proofs.Parts.{total-le}
-use Rattle.tw_types.proofs.Totals.{part, total-insert, total-remove}
+use Rattle.tw_no_trap.proofs.MachineNames.{Data, FinMap, IsAntisymmetric, IsTotalOrder, get, insert, nat_cmp-IsAntisymmetric, nat_cmp_total, part, remove, times_subscribed, total, total-insert, total-le, total-remove}
 
 module _ {K X : Type 0} (R : K → K → Ordering) (o : IsTotalOrder R) (same : IsAntisymmetric R) where
   -- a sum with one entry taken apart

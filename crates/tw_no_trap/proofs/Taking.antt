@@ -1,26 +1,9 @@
 -- The task that is taken waits, and its frame starts as its arguments say.
 use Rattle.std.proofs.Common.{◌≡◌, ℕ, zero, suc, ◌+◌, ◌-◌, ◌≤◌, Bool, true, false, List, [], ◌∷◌, ◌++◌, length, map, replicate, Option, Some, None, refl, sym, ap, subst, ◌∙◌, arith, if◌then◌else◌}
-use Rattle.std.proofs.lemmas.Bool.{and_parts}
-use Rattle.std.specs.Option.{option_to_list}
-use Rattle.tw_types.specs.declared.cause.Cause.TheVariants.{WrongRegister}
-use Rattle.tw_types.specs.declared.data_type.Scalar.{Scalar}
+use Rattle.tw_no_trap.proofs.MachineNames.{Arg, ArgFits, ArgsFit, Ok, Param, RightArg, RightType, Rights, RightsFit, Scalar, Store, Typing, Value, ValueArg, ValuesFit, WrongRegister, and_parts, blank_of, filled, first_rights, id_of, ids_in, is_val, option_to_list, over, rights_given, same_scalar, same_scalars, scalar_itself, scalar_of, start_typing, value_types, values_fit, values_in}
 use Rattle.tw_types.specs.declared.data_type.Scalar.TheVariants as scalar
-use Rattle.tw_types.specs.declared.param.Param.{Param}
-use Rattle.tw_types.specs.declared.value.Value.{Value}
-use Rattle.std.specs.Prelude.{Ok}
 use Rattle.tw_types.specs.Result.{◌>>=◌, ◌>>◌, must}
-use Rattle.tw_types.specs.Store.{Store}
-use Rattle.tw_types.specs.Task.{Arg, ValueArg, RightArg}
-use Rattle.tw_types.specs.DataType.{same_scalar}
-use Rattle.tw_types.specs.Value.{scalar_of, blank_of}
-use Rattle.tw_code.specs.machine.Rights.{Rights, first_rights, RightType, Typing}
-use Rattle.tw_code.specs.machine.State.{values_in, ids_in, filled}
-use Rattle.tw_types.specs.Mode.{is_val}
-use Rattle.tw_code.specs.accepting.Typing.{value_types, rights_given, start_typing, values_fit}
-use Rattle.tw_code.specs.machine.Holders.{over, id_of}
 use Rattle.tw_no_trap.proofs.Over.{over_params}
-use Rattle.tw_no_trap.specs.Invariant.{RightsFit, ValuesFit, ArgFits, ArgsFit}
-use Rattle.tw_types.proofs.SameTypes.{same_scalars, scalar_itself}
 
 -- ---- its values
 

@@ -1,37 +1,13 @@
 -- RULE, PUT and Take keep all that is held, and never trap.
 use Rattle.std.proofs.Common.{◌≡◌, ℕ, ◌+◌, ◌≤◌, Bool, true, false, ◌&&◌, List, [], map, length, slice_get, is_none, Option, Some, None, refl, sym, ap, subst, ◌∙◌, arith}
-use Rattle.std.proofs.lemmas.Bool.{and_parts}
-use Rattle.std.specs.FinMap.{get, remove}
-use Rattle.tw_types.specs.declared.actor.Actor.{Actor}
-use Rattle.tw_types.specs.Actor.{actor_cmp, is_in, number_in_kind}
-use Rattle.tw_types.proofs.ActorOrder.{actor_cmp_total, actor_cmp-IsAntisymmetric}
-use Rattle.tw_types.specs.Layout.{ActorCounts}
-use Rattle.tw_types.specs.Outcome.{Went, outcome_of, ◌>>=◌}
-use Rattle.std.specs.Prelude.{Ok}
-use Rattle.tw_types.specs.Rule.{Rule, first_stage}
-use Rattle.tw_types.specs.Task.{Task, best}
-use Rattle.tw_types.specs.Totals.{total}
+use Rattle.tw_no_trap.proofs.MachineNames.{◌>>=◌, Actor, ActorCounts, Called, Frame, IsBudget, IsHeld, Ok, Procedure, RightsFit, Rule, RuleArgsFit, Standing, Stands, State, Task, Typing, Typings, Went, actor_cmp, actor_cmp-IsAntisymmetric, actor_cmp_total, and_parts, asks_action, at_next_place, balanced_same, best, called, context_of, count_of, first_rights, first_stage, flows, frame_of, frame_reads, frame_writes, get, gone_behind, ids_in, is_in, new_rule, number_in_kind, outcome_of, over, params_in, params_of, put_called, put_event, read_by, remove, rule_event, rule_reads, rule_writes, start_typing, take_event, task_reads, task_writes, total, typing_at, typing_of, value_types, values_fit, values_in, with_frame, with_rule, with_task, without_args, write_by}
 use Rattle.tw_code.specs.declared.instr.Action.{Action}
-use Rattle.tw_code.specs.declared.procedure.Procedure.{Procedure}
-use Rattle.tw_code.specs.machine.Arguments.{Called, called, put_called, params_in, params_of}
-use Rattle.tw_code.specs.accepting.Flow.{flows}
-use Rattle.tw_code.specs.machine.State.{State, Frame, values_in, ids_in, frame_of, with_frame, with_task, with_rule, new_rule, gone_behind, context_of}
-use Rattle.tw_code.specs.machine.Machine.{Standing, rule_event, put_event, take_event}
-use Rattle.tw_code.specs.machine.Rights.{first_rights, Typing}
-use Rattle.tw_code.specs.machine.Position.{at_next_place}
-use Rattle.tw_code.specs.accepting.Typing.{value_types, start_typing, values_fit, asks_action, without_args}
-use Rattle.tw_code.specs.accepting.Walk.{IsBudget}
 use Rattle.tw_budget.specs.Frames.{IsWithinBudget}
-use Rattle.tw_types.specs.Counts.{count_of}
-use Rattle.tw_code.specs.machine.Holders.{read_by, write_by, over, Typings, typing_at, typing_of, task_reads, task_writes, rule_reads, rule_writes, frame_reads, frame_writes}
 use Rattle.tw_no_trap.proofs.Over.{over_params}
-use Rattle.tw_no_trap.specs.Invariant.{RightsFit, RuleArgsFit, IsHeld}
-use Rattle.tw_no_trap.specs.Standing.{Stands}
 use Rattle.tw_code.proofs.Staged.{first_waits}
 use Rattle.tw_no_trap.proofs.Asked.{named_new}
 use Rattle.tw_no_trap.proofs.Called.{CalledSo, called_goes, put_goes}
 use Rattle.tw_no_trap.proofs.Framed.{types_tasked, numbers_tasked, types_ruled, numbers_ruled, types_untasked, numbers_untasked, types_framed, budgets_framed, counts_put, counts_rule, counts_took}
-use Rattle.tw_types.proofs.Freeing.{balanced_same}
 use Rattle.tw_no_trap.proofs.Given.{put_fit, rule_fit}
 use Rattle.tw_no_trap.proofs.Values.{AllYes}
 use Rattle.tw_no_trap.proofs.Registers.{Fits}

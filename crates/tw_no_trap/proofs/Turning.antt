@@ -1,24 +1,8 @@
 -- What a turn needs: an instruction of a task that runs goes, a task begins, and what an engine asks for is a read.
 use Rattle.std.proofs.Common.{◌≡◌, ℕ, ◌+◌, ◌<◌, List, slice_get, Some, sym, ap, ◌∙◌, arith}
-use Rattle.std.specs.Prelude.{Ok}
-use Rattle.std.proofs.lemmas.Option.{same_Some}
-use Rattle.std.specs.FinMap.{get}
-use Rattle.tw_types.specs.declared.actor.Actor.{Actor}
-use Rattle.tw_types.specs.Outcome.{Went}
-use Rattle.tw_code.specs.declared.instr.DataInstr.{DataInstr}
+use Rattle.tw_no_trap.proofs.MachineNames.{Actor, AreRight, Context, DataInstr, Frame, IsHeld, IsProgram, Ok, Position, Procedure, State, Typings, Went, context_of, data_instr, flows, get, greatest_budget, local_steps, same_Some}
 use Rattle.tw_code.specs.declared.instr.Instr.TheVariants as instr
-use Rattle.tw_code.specs.declared.procedure.Procedure.{Procedure}
-use Rattle.tw_code.specs.accepting.Flow.{flows}
-use Rattle.tw_code.specs.accepting.Walk.{greatest_budget}
-use Rattle.tw_code.specs.format.Program.{IsProgram}
-use Rattle.tw_code.specs.machine.Data.{Context, data_instr}
-use Rattle.tw_code.specs.machine.Holders.{Typings}
-use Rattle.tw_code.specs.machine.Machine.{local_steps}
-use Rattle.tw_code.specs.machine.Position.{Position}
-use Rattle.tw_code.specs.machine.State.{Frame, State, context_of}
 use Rattle.tw_budget.proofs.FrameLaws.{below_budget}
-use Rattle.tw_no_trap.specs.Invariant.{IsHeld}
-use Rattle.tw_no_trap.specs.NoTrap.{AreRight}
 use Rattle.tw_no_trap.proofs.Accepted as acceptance
 use Rattle.tw_no_trap.proofs.Conditions.{goes_ok}
 use Rattle.tw_no_trap.proofs.Running.{steps_stand}

@@ -1,31 +1,17 @@
 -- The local instructions that are asked for go, and keep the types of the values.
 use Rattle.std.proofs.Common.{◌≡◌, ℕ, zero, suc, Bool, true, false, List, [], ◌∷◌, ◌++◌, length, ℤ, pos, slice_get, slice_set, Option, Some, None, refl, sym, ap, ◌∙◌, if◌then◌else◌, bytes_eq}
-use Rattle.std.specs.Prelude.{int_lt, Ok}
+use Rattle.tw_no_trap.proofs.MachineNames.{Completed, Cursor, NoLoop, Ok, Position, Question, Scalar, Skipped, Value, ValuesFit, WrongRegister, after_end, asks_alike, asks_local, asks_value, asks_values, at_goal, at_next_place, int_at, int_in, int_lt, local_flow, moved, must_have_type, of_type_at, ok_or, option_map, passes, refusal_in, same_scalar, same_scalars, scalar_itself, scalar_of, text_at, text_in, value_at, with_result, with_value}
 use Rattle.std.specs.Fmt.{signed_decimal}
-use Rattle.std.specs.Option.{option_map, ok_or}
 use Rattle.std.specs.Ordering.{int_eq}
-use Rattle.tw_types.specs.declared.cause.Cause.TheVariants.{NoLoop, WrongRegister}
-use Rattle.tw_types.specs.declared.data_type.Scalar.{Scalar}
 use Rattle.tw_types.specs.declared.data_type.Scalar.TheVariants as scalar
-use Rattle.tw_types.specs.declared.value.Value.{Value}
 use Rattle.tw_types.specs.declared.value.Value.TheVariants as value
-use Rattle.tw_types.specs.DataType.{same_scalar}
-use Rattle.tw_types.specs.Value.{scalar_of}
 use Rattle.tw_code.specs.declared.flow.Flow.{Flow}
 use Rattle.tw_code.specs.declared.flow.Flow.TheVariants.{Straight, Branch, Jump, Begin, Close}
 use Rattle.tw_code.specs.declared.flow.Way.{Way}
-use Rattle.tw_code.specs.declared.flow.Way.TheVariants.{Completed, Skipped}
 use Rattle.tw_code.specs.declared.instr.Arithmetic.{Arithmetic}
 use Rattle.tw_code.specs.declared.instr.LocalInstr.{LocalInstr}
 use Rattle.tw_code.specs.declared.instr.LocalInstr.TheVariants as local
-use Rattle.tw_code.specs.machine.Position.{Position, value_at, int_in, text_in, int_at, text_at, must_have_type, of_type_at, at_next_place, at_goal, with_value, with_result, Cursor, after_end}
 use Rattle.tw_code.specs.machine.Local.{result_of, joined, int_shown_as, same_value, local_instr}
-use Rattle.tw_code.specs.accepting.Question.{Question, refusal_in, passes}
-use Rattle.tw_code.specs.accepting.Typing.{asks_value, asks_alike, asks_values, asks_local}
-use Rattle.tw_code.specs.accepting.Flow.{local_flow}
-use Rattle.tw_code.specs.accepting.Walk.{moved}
-use Rattle.tw_no_trap.specs.Invariant.{ValuesFit}
-use Rattle.tw_types.proofs.SameTypes.{same_scalars, scalar_itself}
 use Rattle.tw_no_trap.proofs.Steps.{Goes, goes, goes_then, at_some}
 
 -- ---- questions

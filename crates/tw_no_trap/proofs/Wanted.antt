@@ -1,31 +1,8 @@
 -- What is asked for holds a read, so it is there.
 use Rattle.std.proofs.Common.{◌≡◌, ℕ, zero, suc, ◌≤◌, true, false, if◌then◌else◌, List, [], ◌∷◌, slice_get, Option, Some, None, refl, sym, ap, subst, ◌∙◌, arith, nat_cmp}
-use Rattle.std.proofs.lemmas.Option.{same_Some}
-use Rattle.std.specs.Cmp.{nat_cmp_total}
-use Rattle.std.specs.FinMap.{get, nat_cmp-IsAntisymmetric}
-use Rattle.tw_types.specs.declared.param.Mode.{Mode}
-use Rattle.tw_types.specs.declared.param.Mode.TheVariants.{Val, Closed, Ref, Write}
-use Rattle.tw_types.specs.declared.param.Param.{Param}
-use Rattle.tw_types.specs.declared.stage.Stage.{Stage}
-use Rattle.tw_types.specs.declared.stage.Stage.TheVariants.{Free, Unasked, Waiting, Ready}
-use Rattle.tw_types.specs.Mode.{is_val, is_closed_mode, is_write}
-use Rattle.tw_types.specs.Rule.{Rule}
-use Rattle.tw_types.specs.Store.{Datum, Store}
-use Rattle.tw_types.specs.Task.{Arg, RightArg}
-use Rattle.tw_types.specs.Totals.{total}
-use Rattle.tw_code.specs.declared.procedure.Procedure.{Procedure}
-use Rattle.tw_code.specs.machine.State.{State}
-use Rattle.tw_code.specs.machine.Arguments.{params_in}
-use Rattle.tw_code.specs.machine.Waiting.{stage_at, times_at, arg_at}
-use Rattle.tw_code.specs.machine.Holders.{read_by, Typings, rule_reads, reads_of, writes_of}
+use Rattle.tw_no_trap.proofs.MachineNames.{Arg, Closed, CountsHeld, Datum, Free, Mode, Param, Procedure, Ready, Ref, RightArg, Rule, RuleArgsFit, Stage, State, Store, TypesHeld, Typings, Unasked, Val, Waiting, Write, arg_at, get, held_is_there, hits, hits_same, is_asked_for, is_closed_mode, is_val, is_write, nat_cmp-IsAntisymmetric, nat_cmp_total, params_in, part, part-le-total, read_by, reads_of, right_of, rule_reads, same_Some, stage_at, times_at, total, writes_of}
 use Rattle.tw_no_trap.proofs.Over.{over_params}
-use Rattle.tw_types.specs.Counts.{hits}
-use Rattle.tw_code.specs.machine.Rights.{right_of}
-use Rattle.tw_no_trap.specs.Invariant.{RuleArgsFit, TypesHeld, CountsHeld}
-use Rattle.tw_no_trap.specs.InOrder.{is_asked_for}
-use Rattle.tw_types.proofs.Freeing.{hits_same, held_is_there}
 use Rattle.tw_no_trap.proofs.Named.{Wanted}
-use Rattle.tw_types.proofs.Totals.{part, part-le-total}
 
 closed_is_no_value : (mode : Mode) → is_closed_mode mode ≡ true → is_val mode ≡ false
 closed_is_no_value Val e = cc

@@ -1,44 +1,17 @@
 -- The three events of a task that runs keep all that is held, and never trap, where its turn is as the typing says.
 use Rattle.std.proofs.Common.{◌≡◌, ℕ, ◌+◌, ◌<◌, true, List, slice_get, Some, refl, sym, ap, subst, ◌∙◌, arith}
-use Rattle.std.proofs.lemmas.Option.{same_Some}
-use Rattle.std.specs.FinMap.{get, insert}
-use Rattle.std.specs.Option.{option_flatten}
-use Rattle.tw_types.specs.declared.actor.Actor.{Actor}
-use Rattle.tw_types.specs.Actor.{actor_cmp}
-use Rattle.tw_types.proofs.ActorOrder.{actor_cmp_total, actor_cmp-IsAntisymmetric}
-use Rattle.tw_types.specs.Mode.{is_write}
-use Rattle.tw_types.specs.Outcome.{Outcome, Went, outcome_of, ◌>>=◌}
-use Rattle.tw_types.specs.declared.cause.Cause.{Cause}
-use Rattle.tw_types.specs.declared.data_type.Scalar.{Scalar}
-use Rattle.std.specs.Prelude.{Result, Ok, Err}
-use Rattle.tw_code.specs.declared.instr.DataInstr.{DataInstr}
+use Rattle.tw_no_trap.proofs.MachineNames.{◌>>=◌, Actor, Cause, Context, CountsHeld, DataInstr, Datum, Err, Frame, Instr, IsHeld, Ok, Outcome, Procedure, Result, RightType, Scalar, Standing, Stands, State, TypesHeld, Typing, Typings, Went, actor_cmp, actor_cmp-IsAntisymmetric, actor_cmp_total, after_context, asks, asks_data, at_next_place, balanced_same, call_by, call_event, context_of, data_instr, frame_reads, frame_writes, get, insert, is_write, ok_of, option_flatten, outcome_of, params_of, right_at, same_Some, standing_of, total, typing_at, typing_of, without_args, writes}
 use Rattle.tw_code.specs.declared.instr.DataInstr.TheVariants as on_data
-use Rattle.tw_types.specs.Store.{Datum}
-use Rattle.tw_types.specs.Totals.{total}
 use Rattle.tw_code.specs.declared.instr.Action.{Action}
-use Rattle.tw_code.specs.declared.instr.Instr.{Instr}
 use Rattle.tw_code.specs.declared.instr.Instr.TheVariants as instr
-use Rattle.tw_code.specs.declared.procedure.Procedure.{Procedure}
-use Rattle.tw_code.specs.machine.Data.{Context, data_instr}
-use Rattle.tw_code.specs.machine.Rights.{right_at, RightType, Typing}
-use Rattle.tw_code.specs.machine.State.{State, Frame, after_context, context_of}
-use Rattle.tw_code.specs.machine.Machine.{Standing, call_by, standing_of, call_event}
-use Rattle.tw_code.specs.machine.Position.{at_next_place}
-use Rattle.tw_code.specs.accepting.Typing.{writes, asks, asks_data, without_args}
-use Rattle.tw_code.specs.machine.Arguments.{params_of}
-use Rattle.tw_code.specs.machine.Holders.{Typings, typing_at, typing_of, frame_reads, frame_writes}
-use Rattle.tw_no_trap.specs.Invariant.{TypesHeld, CountsHeld, IsHeld}
-use Rattle.tw_no_trap.specs.Standing.{Stands}
 use Rattle.tw_no_trap.proofs.DataNamed.{HasWriter, data_named}
 use Rattle.tw_no_trap.proofs.Framed.{types_framed, budgets_framed}
-use Rattle.tw_types.proofs.Freeing.{balanced_same}
 use Rattle.tw_no_trap.proofs.Values.{AllYes, passed}
 use Rattle.tw_no_trap.proofs.Wanted.{wanted_is_there}
 use Rattle.tw_no_trap.proofs.Registers.{Fits, Settles, At, at_right, holds_undisturbed, rights_kept}
 use Rattle.tw_no_trap.proofs.Stages.{args_kept, rule_args_kept}
 use Rattle.tw_no_trap.proofs.Steps.{Goes, Keeps}
 use Rattle.tw_no_trap.proofs.TaskEvents.{other_reads, other_writes, fits_of, put_goes_on, rule_goes_on}
-use Rattle.tw_types.proofs.Results.{ok_of}
 use Rattle.tw_no_trap.proofs.Sums.{sum_apart, sum_replaced}
 
 -- ---- a write that is copied has a holder

@@ -1,32 +1,11 @@
 -- Data are added, and one takes the place of another of its id: what the store's calls leave, where nothing is freed or told.
 use Rattle.std.proofs.Common.{◌≡◌, ◌<◌, ◌+◌, ℕ, Bool, true, false, cond, List, [], Option, Some, None, refl, sym, ap, subst, ◌∙◌, arith, inl, inr, slice_set}
-use Rattle.std.specs.Prelude.{IsSome, Ok}
-use Rattle.std.specs.Option.{option_and_then}
-use Rattle.std.proofs.lemmas.Bool.{cases_eq}
-use Rattle.std.proofs.lemmas.List.{append-nil, set-get_or}
-use Rattle.std.specs.Cmp.{IsTotalOrder, nat_cmp_total}
-use Rattle.std.specs.FinMap.{FinMap, IsAntisymmetric, empty, get, get-empty, get-insert, insert, nat_cmp-IsAntisymmetric, same_map}
-use Rattle.std.specs.Ordering.{eq_by_cmp, nat_cmp}
+use Rattle.tw_parts.proofs.PartNames.{Datum, FinMap, FreedDatum, HasNoticeRoom, IsAntisymmetric, IsHere, IsLeft, IsNow, IsSome, IsTotalOrder, NestedScalar, Notice, Ok, Right, Scalar, Served, Store, Subscript, Value, added, append-nil, cases_eq, changed, closed_scalar, created, empty, eq_by_cmp, get, get-empty, get-insert, insert, inserted, is_unheld, may_insert, may_store, member_at, members_in, nat_cmp, nat_cmp-IsAntisymmetric, nat_cmp_total, new_datum, notices_after, notices_of, option_and_then, queued, same_map, scalar_of, scalar_type, set-get_or, set_to, store_after, subscribers_cleared, there_then, with_datum, with_member}
 use Rattle.std.specs.declared.cmp.Ordering.{Ordering}
-use Rattle.tw_types.specs.declared.data_type.Scalar.{Scalar}
-use Rattle.tw_types.specs.declared.value.Value.{Value}
 use Rattle.tw_types.specs.declared.value.Value.TheVariants as value
-use Rattle.tw_types.specs.declared.notice.Notice.{Notice}
-use Rattle.tw_types.specs.declared.cause.Cause.TheVariants.{FreedDatum}
-use Rattle.tw_types.specs.DataType.{scalar_type}
-use Rattle.tw_types.specs.Nesting.{NestedScalar}
-use Rattle.tw_types.specs.Store.{Datum, Store, added, is_unheld, new_datum, notices_of, subscribers_cleared, with_datum}
-use Rattle.tw_types.specs.StoreCalls.{changed, created, inserted, member_at, members_in, notices_after, set_to, store_after, with_member}
-use Rattle.tw_types.specs.StoreChecks.{may_insert, may_store}
-use Rattle.tw_types.specs.Value.{scalar_of}
-use Rattle.tw_types.specs.ValueOrder.{Subscript}
 use Rattle.tw_types.proofs.Freeing.{data_insert_other, data_insert_same}
 use Rattle.tw_types.proofs.Orders.{tied}
-use Rattle.tw_types.proofs.Results.{there_then}
 use Rattle.tw_types.proofs.Totals.{insert_other}
-use Rattle.tw_rights.specs.Rights.{Right}
-use Rattle.tw_store.specs.Served.{HasNoticeRoom, IsHere, IsLeft, IsNow, Served, queued}
-use Rattle.tw_code.specs.machine.Opening.{closed_scalar}
 use Rattle.tw_parts.specs.Givens.{AreAllLive, HasMember}
 use Rattle.tw_parts.specs.Opening.{IsAdded}
 

@@ -1,11 +1,7 @@
 -- What an instruction on data answers, by cases.
 use Rattle.std.proofs.Common.{◌≡◌, Ok, Err, Result}
-use Rattle.std.specs.Prelude.{IfErr, IfOk, OnErr, OnOk}
-use Rattle.tw_store.specs.Served.{Served}
+use Rattle.tw_parts.proofs.PartNames.{DoneView, DraftView, FrameView, IfErr, IfOk, IsAnswer, IsDone, IsRefused, OnErr, OnOk, Served, come, draft_of}
 use Rattle.tw_code.specs.declared.instr.DataInstr.{DataInstr}
-use Rattle.tw_frame.specs.Jobs.{DoneView, DraftView, FrameView, draft_of}
-use Rattle.tw_parts.specs.Coming.{come}
-use Rattle.tw_parts.specs.Data.{IsAnswer, IsDone, IsRefused}
 
 module _ (d : DataInstr) (old new : Served) (f g : FrameView) (done : DoneView) where
   pub when_done : (P : Type 0) (r : Result DraftView DoneView) → IsAnswer d old new f g done r → (IsDone d old new (come f done) g → P) → OnOk r P

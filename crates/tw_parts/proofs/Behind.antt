@@ -1,28 +1,11 @@
 -- RULE and PUT: what is asked of their parts, where a task stands at one behind a Done.
 use Rattle.std.proofs.Common.{map as each, ◌≡◌, ◌≤◌, ◌<◌, ◌+◌, ◌^◌, ◌∙◌, ℕ, List, Option, Some, None, IsSome, true, sym, ap, subst, length, slice_get, arith}
-use Rattle.std.proofs.lemmas.Option.{same_Some}
-use Rattle.std.specs.FinMap.{get}
-use Rattle.tw_types.specs.declared.actor.Actor.{Actor}
-use Rattle.tw_types.specs.declared.param.Param.{Param}
-use Rattle.tw_types.specs.declared.value.Value.{Value}
-use Rattle.tw_rights.specs.declared.held.Held.{Held}
+use Rattle.tw_parts.proofs.PartNames.{Action, Actor, DoneView, FrameView, HasSeat, Held, IsInstr, IsOwed, IsProcedure, IsProgram, Param, Parts, Procedure, StandsAt, Value, bare_frame, come, context_of, get, job_of, named_values, same_Some, state_of, values_suit, with_done}
 use Rattle.tw_rights.specs.Bundled.{Bundled, bundled}
 use Rattle.tw_queue.specs.Queues as queues
-use Rattle.tw_code.specs.declared.instr.Action.{Action}
 use Rattle.tw_code.specs.declared.instr.Instr.{Instr}
-use Rattle.tw_code.specs.declared.procedure.Procedure.{Procedure}
 use Rattle.tw_code.specs.format.Program as format
-use Rattle.tw_code.specs.format.Program.{IsInstr, IsProcedure, IsProgram}
-use Rattle.tw_code.specs.machine.Arguments.{values_suit}
 use Rattle.tw_no_trap.proofs.Accepted.{all_found}
-use Rattle.tw_code.specs.machine.State.{context_of}
-use Rattle.tw_frame.specs.Jobs.{DoneView, FrameView, bare_frame, job_of}
-use Rattle.tw_parts.specs.Coming.{come}
-use Rattle.tw_parts.specs.Copies.{named_values}
-use Rattle.tw_parts.specs.Events.{IsOwed, StandsAt, with_done}
-use Rattle.tw_parts.specs.Parts.{state_of}
-use Rattle.tw_parts.specs.Seats.{HasSeat}
-use Rattle.tw_parts.specs.declared.parts.Parts.{Parts}
 use Rattle.tw_parts.proofs.Fitting.{seen}
 use Rattle.tw_parts.proofs.Handovers.{few_params, low_place, may_bundle}
 use Rattle.tw_parts.proofs.Law.{runner_has_seat}

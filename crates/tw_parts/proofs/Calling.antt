@@ -1,48 +1,16 @@
 -- An instruction on data is called: on the parts.
 use Rattle.std.proofs.Common.{map as each, ◌≡◌, ◌<◌, ◌+◌, ℕ, List, Some, None, refl, sym, ap, subst, ◌∙◌, slice_get, slice_index_or, length, arith, inl, inr}
-use Rattle.std.proofs.lemmas.List.{length-set}
-use Rattle.std.proofs.lemmas.Option.{slice_get_within}
-use Rattle.std.specs.Prelude.{Ok}
-use Rattle.std.specs.FinMap.{get, insert}
-use Rattle.tw_types.specs.declared.actor.Actor.{Actor}
-use Rattle.tw_types.specs.declared.event.Event.TheVariants.{Call}
-use Rattle.tw_types.specs.Layout.{ActorCounts}
-use Rattle.tw_types.specs.Mapped.{mapped}
-use Rattle.tw_types.specs.Notices.{Notices, with_notices}
-use Rattle.tw_types.specs.Outcome.{Went}
-use Rattle.tw_types.specs.Store.{notice_to, server_of}
-use Rattle.tw_types.proofs.ActorOrder.{actor_cmp_total, actor_cmp-IsAntisymmetric}
-use Rattle.tw_types.proofs.Mapped.{insert_mapped}
+use Rattle.tw_parts.proofs.PartNames.{Actor, ActorCounts, AreAt, AreParts, AreQueued, Call, Context, FrameFits, FrameView, Goes, Held, IsAt, IsDone, IsInstr, IsLive, IsProcedure, IsSmall, MayDo, Notices, Ok, Parts, Procedure, Right, Stand, TypedProgram, Went, actor_cmp-IsAntisymmetric, actor_cmp_total, after_context, after_data, asked_at, bare_file, bare_frame, bare_rule, bare_task, data_instr, get, id_of, insert, insert_mapped, kinds_in, length-set, mapped, notice_to, params_of, queued, right_in, sees, server_of, slice_get_within, state_of, typed_after, typings_of, with_notices}
 use Rattle.tw_types.proofs.Parts.{put_or_before}
-use Rattle.tw_rights.specs.declared.held.Held.{Held}
-use Rattle.tw_rights.specs.Bare.{bare_file, bare_rule, bare_task}
-use Rattle.tw_rights.specs.Held.{id_of}
-use Rattle.tw_rights.specs.Rights.{Right}
-use Rattle.tw_store.specs.Served.{queued}
 use Rattle.tw_code.specs.declared.instr.DataInstr.{DataInstr}
 use Rattle.tw_code.specs.declared.instr.Instr.TheVariants as instr
-use Rattle.tw_code.specs.declared.procedure.Procedure.{Procedure}
-use Rattle.tw_code.specs.accepting.Typing.{after_data}
-use Rattle.tw_code.specs.format.Program.{IsInstr, IsProcedure}
-use Rattle.tw_code.specs.machine.Arguments.{params_of}
-use Rattle.tw_code.specs.machine.Data.{Context, data_instr}
 use Rattle.tw_code.specs.machine.Holders.{typing_at}
 use Rattle.tw_code.specs.machine.Machine.{step}
-use Rattle.tw_code.specs.machine.State.{after_context}
 use Rattle.tw_no_trap.specs.Invariant.{IsHeld}
 use Rattle.tw_no_trap.proofs.Accepted.{all_found}
 use Rattle.tw_no_trap.proofs.Live.{output_is_live, register_is_live, rule_is_live, task_is_live}
-use Rattle.tw_no_trap.proofs.Running.{asked_at, typed_after}
 use Rattle.tw_no_trap.proofs.Safe.{kept_by}
 use Rattle.tw_no_trap.proofs.Turning.{data_goes}
-use Rattle.tw_verify.specs.Typed.{TypedProgram, typings_of}
-use Rattle.tw_frame.specs.Jobs.{FrameView, bare_frame}
-use Rattle.tw_parts.specs.Data.{IsDone, IsLive, MayDo, sees}
-use Rattle.tw_parts.specs.Events.{Goes, IsSmall}
-use Rattle.tw_parts.specs.Fits.{AreAt, AreParts, FrameFits, IsAt, Stand, kinds_in, right_in}
-use Rattle.tw_parts.specs.Notes.{AreQueued}
-use Rattle.tw_parts.specs.Parts.{state_of}
-use Rattle.tw_parts.specs.declared.parts.Parts.{Parts}
 use Rattle.tw_parts.proofs.Fitting.{seen}
 use Rattle.tw_parts.proofs.Keeping.{all_kept, args_kept, file_kept}
 use Rattle.tw_parts.proofs.Law.{goes_to, held}

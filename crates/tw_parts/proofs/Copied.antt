@@ -1,13 +1,6 @@
 -- RULE and PUT: the values that are copied.
 use Rattle.std.proofs.Common.{map as each, length, arith, ◌≡◌, ◌≢◌, ◌<◌, ◌+◌, ℕ, zero, suc, Bool, true, false, not, ◌||◌, if◌then◌else◌, List, [], ◌∷◌, ◌++◌, take, Option, Some, None, refl, sym, ap, subst, ◌∙◌, slice_get}
-use Rattle.std.proofs.lemmas.Bool.{and_parts}
-use Rattle.std.proofs.lemmas.List.{append-nil, map-append}
-use Rattle.std.proofs.lemmas.Option.{same_Some}
-use Rattle.tw_types.specs.declared.param.Param.{Param}
-use Rattle.tw_types.specs.declared.value.Value.{Value}
-use Rattle.tw_types.specs.Mode.{is_val}
-use Rattle.tw_code.specs.machine.Arguments.{has_type, values_suit}
-use Rattle.tw_parts.specs.Copies.{named_values}
+use Rattle.tw_parts.proofs.PartNames.{Param, Value, and_parts, append-nil, has_type, is_val, map-append, named_values, same_Some, values_suit}
 
 -- ---- as a relation
 

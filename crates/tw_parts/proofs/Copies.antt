@@ -1,15 +1,10 @@
 -- DUPR and DUPW: what is asked is met, and that it is done.
 use Rattle.tw_types.specs.Room.{HasReadRoom, HasWriteRoom}
 use Rattle.tw_no_trap.proofs.DataLeft.{read_no_write}
-use Rattle.tw_types.specs.StoreCalls.{read_copied, write_copied}
-use Rattle.tw_types.specs.StoreChecks.{may_be_read, may_copy_write}
+use Rattle.tw_parts.proofs.PartNames.{◌^◌, Context, Datum, EmptyRegister, FrameView, HasRoom, IsDone, IsHere, IsNow, MayDo, Notices, Ok, Right, RightType, Served, Typing, at_next_place, bare_file, copy_read_asks, copy_write_asks, data_instr, get, is_none, kind_at, kinds_in, map-set, may_be_read, may_copy_write, must_be_empty, ok_after, passed, passes, read_copied, reads, right_at, sees, there_then, with_notices, write_copied, writes as typed_writes, writes as writes_one}
 use Rattle.tw_rights.specs.declared.held.Held.TheVariants as held
 use Rattle.tw_code.specs.declared.instr.DataInstr.TheVariants as on_data
-use Rattle.tw_code.specs.accepting.Typing.{reads, writes as writes_one}
-use Rattle.tw_code.specs.machine.Rights.{must_be_empty}
-use Rattle.tw_no_trap.proofs.Conditions.{copy_read_asks, copy_write_asks}
-use Rattle.tw_parts.specs.Data.{HasRoom}
-use Rattle.tw_parts.proofs.DataNames.{◌≡◌, ◌∙◌, ◌+◌, ◌<◌, ◌^◌, ℕ, Bool, true, false, [], None, Some, Option, Ok, refl, sym, ap, inl, arith, slice_index_or, slice_set, option_map, map-set, get, is_none, EmptyRegister, Notices, with_notices, Datum, ok_after, there_then, bare_file, kind_at, Right, Served, IsHere, IsNow, Context, data_instr, at_next_place, passes, passed, right_at, RightType, Typing, FrameView, IsDone, MayDo, sees, kinds_in, typed_writes}
+use Rattle.std.proofs.Common.{◌≡◌, ◌∙◌, ◌+◌, ◌<◌, ℕ, Bool, true, false, [], None, Some, Option, refl, sym, ap, inl, arith, slice_index_or, slice_set, option_map}
 use Rattle.tw_parts.proofs.Left.{filled_done, now_stays, same_ok}
 use Rattle.tw_parts.proofs.Registers.{empty_at, its_id, kind_passed, placed_at}
 

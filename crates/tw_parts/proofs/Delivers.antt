@@ -1,38 +1,14 @@
 -- A server delivers: on the parts.
 use Rattle.std.proofs.Common.{map, ◌≡◌, ◌<◌, ℕ, true, false, nat_lt, nat_eq, List, ◌∷◌, Some, refl, sym, ap, subst, ◌∙◌, length, set, slice_get, option_map, arith}
-use Rattle.std.proofs.lemmas.Bool.Decides.{nat_tests}
-use Rattle.std.proofs.lemmas.List.{length-set}
-use Rattle.std.specs.Cmp.{nat_cmp_total}
-use Rattle.std.specs.FinMap.{get, insert, nat_cmp-IsAntisymmetric}
+use Rattle.tw_parts.proofs.PartNames.{ActorCounts, AreParts, AreQueued, Arg, Deliver, Goes, Notice, Notices, Parts, Procedure, Right, Rule, RuleOf, RulesOf, Stand, State, TypedProgram, Went, at_stage, bare_frame, bare_rule, bare_task, get, insert, insert_mapped, is_settled, length-set, mapped, nat_cmp-IsAntisymmetric, nat_cmp_total, nat_tests, queue_at, server_of, state_of, with_stage}
 use Rattle.std.specs.FinSet as set_of
-use Rattle.tw_types.specs.declared.event.Event.TheVariants.{Deliver}
-use Rattle.tw_types.specs.declared.notice.Notice.{Notice}
 use Rattle.tw_types.specs.declared.stage.Stage.{Stage}
 use Rattle.tw_types.specs.declared.stage.Stage.TheVariants.{Waiting, Ready}
-use Rattle.tw_types.specs.Layout.{ActorCounts}
-use Rattle.tw_types.specs.Notices.{Notices}
-use Rattle.tw_types.specs.Outcome.{Went}
-use Rattle.tw_types.specs.Rule.{Rule, RuleOf, RulesOf, at_stage, is_settled}
-use Rattle.tw_types.specs.Store.{server_of}
-use Rattle.tw_rights.specs.declared.arg.Arg.{Arg}
 use Rattle.tw_rules.specs.Table.{stage_at, staged}
-use Rattle.tw_code.specs.declared.procedure.Procedure.{Procedure}
-use Rattle.tw_verify.specs.Typed.{TypedProgram}
 use Rattle.tw_code.specs.machine.Machine.{step}
-use Rattle.tw_code.specs.machine.State.{State, with_stage}
 use Rattle.tw_no_trap.proofs.Asked.{Noted, noted}
-use Rattle.tw_parts.specs.Events.{Goes}
-use Rattle.tw_parts.specs.Fits.{AreParts, Stand}
-use Rattle.tw_types.specs.Mapped.{mapped}
-use Rattle.tw_parts.specs.Notes.{AreQueued, queue_at}
-use Rattle.tw_rights.specs.Bare.{bare_rule, bare_task}
-use Rattle.tw_parts.specs.Parts.{state_of}
-use Rattle.tw_frame.specs.Jobs.{bare_frame}
-use Rattle.tw_rights.specs.Rights.{Right}
-use Rattle.tw_parts.specs.declared.parts.Parts.{Parts}
 use Rattle.tw_parts.proofs.Law.{goes_to, held}
 use Rattle.tw_parts.proofs.Fitting.{Behind, behind, stand_staged}
-use Rattle.tw_types.proofs.Mapped.{insert_mapped}
 use Rattle.tw_parts.proofs.Notes as notes
 use Rattle.tw_parts.proofs.Notes.{IsFirst}
 

@@ -1,13 +1,9 @@
 -- DROPW and DROPR: what is asked is met, and that it is done.
-use Rattle.tw_types.specs.StoreCalls.{notices_after, notices_of_write_dropped, one_write_less, read_dropped, write_dropped}
+use Rattle.tw_parts.proofs.PartNames.{Context, Datum, EmptyRegister, FrameView, FreedDatum, IsDone, IsHere, IsLeft, KeepsPlaces, MayDo, Notices, Ok, Right, Served, at_next_place, bare_file, data_instr, drop_read_asks, drop_write_asks, get, kind_at, may_drop_read, may_drop_write, notices_after, notices_of_write_dropped, ok_after, one_write_less, read_dropped, reads, right_at, sees, there_then, with_notices, write_dropped, writes as writes_one}
 use Rattle.tw_no_trap.proofs.DataLeft.{read_no_write}
-use Rattle.tw_types.specs.StoreChecks.{may_drop_read, may_drop_write}
 use Rattle.tw_rights.specs.declared.held.Held.TheVariants as held
-use Rattle.tw_store.specs.Served.{KeepsPlaces}
 use Rattle.tw_code.specs.declared.instr.DataInstr.TheVariants as on_data
-use Rattle.tw_code.specs.accepting.Typing.{reads, writes as writes_one}
-use Rattle.tw_no_trap.proofs.Conditions.{drop_read_asks, drop_write_asks}
-use Rattle.tw_parts.proofs.DataNames.{◌≡◌, ◌∙◌, ◌+◌, ℕ, true, false, [], None, Some, Ok, refl, sym, ap, inl, slice_index_or, slice_set, get, EmptyRegister, FreedDatum, Notices, with_notices, Datum, ok_after, there_then, bare_file, kind_at, Right, Served, IsHere, IsLeft, Context, data_instr, at_next_place, right_at, FrameView, IsDone, MayDo, sees}
+use Rattle.std.proofs.Common.{◌≡◌, ◌∙◌, ◌+◌, ℕ, true, false, [], None, Some, refl, sym, ap, inl, slice_index_or, slice_set}
 use Rattle.tw_parts.proofs.Left.{emptied_done, left_stays, left_told, same_ok}
 use Rattle.tw_parts.proofs.Registers.{its_id, kind_passed, placed_at}
 

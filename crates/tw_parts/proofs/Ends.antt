@@ -1,29 +1,11 @@
 -- A task ends: on the parts.
 use Rattle.std.proofs.Common.{map, ◌≡◌, ◌∙◌, Some, true, refl, ap, slice_get, is_none}
-use Rattle.std.specs.FinMap.{get, remove}
+use Rattle.tw_parts.proofs.PartNames.{Actor, ActorCounts, AreParts, End, FrameView, Goes, Notices, Parts, Procedure, Right, Stand, TypedProgram, Went, actor_cmp-IsAntisymmetric, actor_cmp_total, asked_at, bare_frame, bare_rule, bare_task, get, mapped, remove, remove_mapped, state_of, typings_of}
 use Rattle.std.specs.List.{list_all}
-use Rattle.tw_types.specs.declared.actor.Actor.{Actor}
-use Rattle.tw_types.specs.declared.event.Event.TheVariants.{End}
-use Rattle.tw_types.specs.Layout.{ActorCounts}
-use Rattle.tw_types.specs.Mapped.{mapped}
-use Rattle.tw_types.specs.Notices.{Notices}
-use Rattle.tw_types.specs.Outcome.{Went}
-use Rattle.tw_types.proofs.ActorOrder.{actor_cmp_total, actor_cmp-IsAntisymmetric}
-use Rattle.tw_types.proofs.Mapped.{remove_mapped}
-use Rattle.tw_rights.specs.Bare.{bare_rule, bare_task}
-use Rattle.tw_rights.specs.Rights.{Right}
 use Rattle.tw_code.specs.declared.instr.Instr.TheVariants.{Ret}
-use Rattle.tw_code.specs.declared.procedure.Procedure.{Procedure}
 use Rattle.tw_code.specs.machine.Holders.{typing_of}
 use Rattle.tw_code.specs.machine.Machine.{step}
 use Rattle.tw_no_trap.proofs.AllEvents.{all_empty}
-use Rattle.tw_no_trap.proofs.Running.{asked_at}
-use Rattle.tw_verify.specs.Typed.{TypedProgram, typings_of}
-use Rattle.tw_frame.specs.Jobs.{FrameView, bare_frame}
-use Rattle.tw_parts.specs.Events.{Goes}
-use Rattle.tw_parts.specs.Fits.{AreParts, Stand}
-use Rattle.tw_parts.specs.Parts.{state_of}
-use Rattle.tw_parts.specs.declared.parts.Parts.{Parts}
 use Rattle.tw_parts.proofs.Fitting.{seen, stand_ended}
 use Rattle.tw_parts.proofs.Law.{goes_to, held}
 use Rattle.tw_parts.proofs.Seating.{get_other_left}

@@ -1,33 +1,17 @@
 -- A container that is filled with closed scalars by rising subscripts, and then closed.
 use Rattle.std.proofs.Common.{◌≡◌, ◌<◌, ◌≤◌, ◌+◌, ℕ, zero, suc, true, ◌&&◌, List, [], ◌∷◌, ◌++◌, get_or, length, take, Some, None, refl, sym, ap, subst, ◌∙◌, arith}
-use Rattle.std.specs.Prelude.{◌^◌, Ok}
-use Rattle.std.proofs.lemmas.Bool.{and_parts}
+use Rattle.tw_parts.proofs.PartNames.{◌^◌, Contains, Datum, HasNoticeRoom, IsLeft, Members, NestedScalar, Ok, Right, Scalar, Served, Store, Subscript, Value, added, and_parts, closed_scalar, container_of, created, get, get-empty, insert, inserted, is_lt, is_short, length-map, length-take-le, map_more, may_drop_write, may_insert, member_at, new_datum, numbered, one_write_less, scalar_of, scalar_type, take_all, value_cmp, with_container, with_member}
 use Rattle.std.proofs.lemmas.Grind.{fold-append}
 use Rattle.std.proofs.lemmas.Cmp.{tied_itself}
-use Rattle.std.proofs.lemmas.List.{length-map, length-take-le, map_more, take_all}
-use Rattle.std.specs.Ordering.{is_lt}
 use Rattle.std.specs.declared.cmp.Ordering.TheVariants.{Less, Equal}
 use Rattle.std.specs.FinMap as fin
-use Rattle.std.specs.FinMap.{get, get-empty, insert}
-use Rattle.tw_types.specs.declared.data_type.Scalar.{Scalar}
 use Rattle.tw_types.specs.declared.data_type.Scalar.TheVariants as scalar
-use Rattle.tw_types.specs.declared.value.Value.{Value}
 use Rattle.tw_types.specs.declared.value.Value.TheVariants as value
-use Rattle.tw_types.specs.DataType.{container_of, scalar_type}
 use Rattle.tw_types.specs.Given.{Container, members_by}
-use Rattle.tw_types.specs.Nesting.{NestedScalar}
-use Rattle.tw_types.specs.Store.{Contains, Datum, Members, Store, added, new_datum}
-use Rattle.tw_types.specs.StoreCalls.{created, inserted, member_at, one_write_less, with_member}
-use Rattle.tw_types.specs.StoreChecks.{may_drop_write, may_insert}
-use Rattle.tw_types.specs.Value.{is_short, scalar_of}
-use Rattle.tw_types.specs.ValueOrder.{Subscript, value_cmp}
 use Rattle.tw_types.proofs.Totals.{insert_other}
 use Rattle.tw_types.proofs.ValueOrder.{value_cmp_total, value_cmp-IsAntisymmetric}
-use Rattle.tw_rights.specs.Rights.{Right}
-use Rattle.tw_store.specs.Served.{HasNoticeRoom, IsLeft, Served}
 use Rattle.tw_code.specs.machine.Inputs.{is_given_for, rises, rises_from}
 use Rattle.tw_code.specs.machine.Members.{are_short, with_members}
-use Rattle.tw_code.specs.machine.Opening.{closed_scalar, numbered, with_container}
 use Rattle.tw_parts.specs.Givens.{AreAllLive, HasMember}
 use Rattle.tw_parts.specs.Opening.{IsAdded}
 use Rattle.tw_types.proofs.Orders.{below}

@@ -1,26 +1,10 @@
 -- What stands, when one rule, task or frame changes.
 use Rattle.std.proofs.Common.{◌≡◌, ℕ, List, Option, Some, None, refl, sym, ap, subst, ◌∙◌, inl, inr, option_map}
 use Rattle.std.specs.declared.cmp.Ordering.{Ordering}
-use Rattle.std.specs.Cmp.{nat_cmp_total}
-use Rattle.std.specs.FinMap.{FinMap, get, insert, remove, nat_cmp-IsAntisymmetric}
-use Rattle.std.proofs.lemmas.Option.{same_Some}
-use Rattle.tw_types.specs.declared.actor.Actor.{Actor}
+use Rattle.tw_parts.proofs.PartNames.{Actor, Arg, ArgsStand, FinMap, FrameFits, FrameView, Places, Right, RuleOf, RulesOf, Seated, Stand, TaskOf, TasksOf, TypedProgram, actor_cmp-IsAntisymmetric, actor_cmp_total, at_stage, get, get_mapped, insert, mapped, nat_cmp-IsAntisymmetric, nat_cmp_total, params_of, remove, same_Some, task_from}
 use Rattle.tw_types.specs.declared.actor.Kind.{Kind}
 use Rattle.tw_types.specs.declared.stage.Stage.{Stage}
-use Rattle.tw_types.specs.Rule.{RuleOf, RulesOf, at_stage, task_from}
-use Rattle.tw_types.specs.Task.{TaskOf, TasksOf}
-use Rattle.tw_types.proofs.ActorOrder.{actor_cmp_total, actor_cmp-IsAntisymmetric}
 use Rattle.tw_types.proofs.Parts.{put_or_before, before_removal}
-use Rattle.tw_rights.specs.declared.arg.Arg.{Arg}
-use Rattle.tw_rights.specs.Rights.{Right}
-use Rattle.tw_store.specs.Slots.{Places}
-use Rattle.tw_code.specs.machine.Arguments.{params_of}
-use Rattle.tw_verify.specs.Typed.{TypedProgram}
-use Rattle.tw_frame.specs.Jobs.{FrameView}
-use Rattle.tw_parts.specs.Seats.{Seated}
-use Rattle.tw_parts.specs.Fits.{Stand, ArgsStand, FrameFits}
-use Rattle.tw_types.specs.Mapped.{mapped}
-use Rattle.tw_types.proofs.Mapped.{get_mapped}
 
 -- what stands behind an entry that is something else
 pub record Behind {K X Y : Type 0} {R : K → K → Ordering} (f : X → Y) (m : FinMap R X) (k : K) (y : Y) : Type 0 where

@@ -1,14 +1,8 @@
 -- GET: what is asked is met, and that it is done.
-use Rattle.std.specs.Option.{option_and_then}
-use Rattle.std.specs.Cmp.{first_so}
-use Rattle.tw_types.specs.StoreCalls.{value_at}
-use Rattle.tw_types.specs.StoreChecks.{may_retrieve}
+use Rattle.tw_parts.proofs.PartNames.{Completed, Context, EmptyRegister, FrameView, IsDone, IsHere, MayDo, MaySet, Notices, Ok, Right, Served, UnsetDatum, Value, WrongRegister, at_next_place, bare_file, data_instr, datum_at, first_so, get, get_asks, is_closed_mode, is_scalar, kind_at, may_retrieve, must_then, ok_after, option_and_then, reads_closed_scalar, right_at, same_Some, sees, suits, there_then, value_at, with_notices, with_value}
 use Rattle.tw_rights.specs.declared.held.Held.TheVariants as held
 use Rattle.tw_code.specs.declared.instr.DataInstr.TheVariants as on_data
-use Rattle.tw_code.specs.accepting.Typing.{reads_closed_scalar}
-use Rattle.tw_no_trap.proofs.Conditions.{get_asks}
-use Rattle.tw_frame.specs.Drafts.{MaySet}
-use Rattle.tw_parts.proofs.DataNames.{◌≡◌, ◌∙◌, ◌+◌, ℕ, false, [], None, Some, Ok, refl, sym, ap, inl, slice_get, slice_index_or, same_Some, get, EmptyRegister, WrongRegister, UnsetDatum, Value, is_closed_mode, is_scalar, Notices, with_notices, must_then, ok_after, there_then, bare_file, kind_at, Right, Served, IsHere, Completed, Context, data_instr, datum_at, suits, at_next_place, with_value, right_at, FrameView, IsDone, MayDo, sees}
+use Rattle.std.proofs.Common.{◌≡◌, ◌∙◌, ◌+◌, ℕ, false, [], None, Some, refl, sym, ap, inl, slice_get, slice_index_or}
 use Rattle.tw_parts.proofs.Left.{moved_done, now_stays, same_ok}
 use Rattle.tw_parts.proofs.Registers.{closed_reads, its_id, kind_passed, placed_at}
 use Rattle.tw_parts.proofs.ValueRegisters.{value_fits}

@@ -1,28 +1,10 @@
 -- A task goes on by local steps, and is lent: on the parts.
 use Rattle.std.proofs.Common.{◌≡◌, ◌<◌, ◌+◌, ◌∙◌, ℕ, false, List, Some, refl, sym, ap, slice_get, arith, nat_eq}
-use Rattle.std.proofs.lemmas.Bool.Decides.{nat_tests}
-use Rattle.std.specs.FinMap.{get, insert}
-use Rattle.tw_types.specs.declared.actor.Actor.{Actor}
-use Rattle.tw_types.specs.declared.event.Event.TheVariants.{Local}
-use Rattle.tw_types.specs.Layout.{ActorCounts}
-use Rattle.tw_types.specs.Mapped.{mapped}
-use Rattle.tw_types.specs.Notices.{Notices}
-use Rattle.tw_types.specs.Outcome.{Went}
-use Rattle.tw_types.proofs.ActorOrder.{actor_cmp_total, actor_cmp-IsAntisymmetric}
-use Rattle.tw_types.proofs.Mapped.{insert_mapped}
+use Rattle.tw_parts.proofs.PartNames.{Actor, ActorCounts, AreParts, FrameFits, Goes, IsOwed, Local, Notices, Parts, Procedure, TypedProgram, Went, actor_cmp-IsAntisymmetric, actor_cmp_total, come, get, insert, insert_mapped, kinds_in, mapped, nat_tests, stands_there, state_of, steps_leave, typings_of, with_done, with_frame}
 use Rattle.tw_types.proofs.Outcomes.{same_went}
-use Rattle.tw_code.specs.declared.procedure.Procedure.{Procedure}
 use Rattle.tw_code.specs.machine.Machine.{step, local_steps}
-use Rattle.tw_code.specs.machine.State.{with_frame}
-use Rattle.tw_no_trap.proofs.Running.{stands_there, steps_leave}
-use Rattle.tw_verify.specs.Typed.{TypedProgram, typings_of}
 use Rattle.tw_frame.specs.Jobs.{DoneView, FrameView, IsDone, JobView, MayStand, bare_frame}
 use Rattle.tw_frame.proofs.Lending.{stands_fresh}
-use Rattle.tw_parts.specs.Coming.{come}
-use Rattle.tw_parts.specs.Events.{Goes, IsOwed, with_done}
-use Rattle.tw_parts.specs.Fits.{AreParts, FrameFits, kinds_in}
-use Rattle.tw_parts.specs.Parts.{state_of}
-use Rattle.tw_parts.specs.declared.parts.Parts.{Parts}
 use Rattle.tw_parts.proofs.Fitting.{seen, stand_seated}
 use Rattle.tw_parts.proofs.Law.{goes_to, held}
 use Rattle.tw_parts.proofs.Seating.{get_other, same_seat}

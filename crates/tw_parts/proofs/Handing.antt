@@ -1,27 +1,12 @@
 -- RULE and PUT: what leaves the registers as the definition says leaves the file, with its rights.
 use Rattle.std.proofs.Common.{map as each, length, arith, ◌≡◌, ℕ, zero, suc, Bool, true, false, if◌then◌else◌, List, [], ◌∷◌, Option, Some, None, Result, Ok, Err, refl, sym, ap, subst, ◌∙◌, slice_get, slice_set, slice_index_or, option_map, set}
-use Rattle.std.proofs.lemmas.List.{map-set}
-use Rattle.std.specs.Option.{ok_or, option_and_then, option_flatten}
+use Rattle.tw_parts.proofs.PartNames.{ArePlaced, Arg, ArgStands, ArgsStand, Cause, EmptyRegister, Held, IsPlaced, Mode, Param, Places, RightArg, Value, ValueArg, WrongRegister, bare_arg, bare_file, id_of, is_val, is_write, map-set, ok_or, option_and_then, option_flatten, right_of}
 use Rattle.tw_types.specs.Result.{◌>>=◌}
-use Rattle.tw_types.specs.declared.cause.Cause.{Cause}
-use Rattle.tw_types.specs.declared.cause.Cause.TheVariants.{EmptyRegister, WrongRegister}
-use Rattle.tw_types.specs.declared.param.Mode.{Mode}
 use Rattle.tw_types.specs.declared.param.Mode.TheVariants as mode
-use Rattle.tw_types.specs.declared.param.Param.{Param}
-use Rattle.tw_types.specs.declared.value.Value.{Value}
-use Rattle.tw_types.specs.Mode.{is_val, is_write}
-use Rattle.tw_types.specs.Task.{ValueArg, RightArg}
-use Rattle.tw_rights.specs.declared.arg.Arg.{Arg}
 use Rattle.tw_rights.specs.declared.arg.Arg.TheVariants as arg
-use Rattle.tw_rights.specs.declared.held.Held.{Held}
 use Rattle.tw_rights.specs.declared.held.Held.TheVariants as right
-use Rattle.tw_rights.specs.Held.{id_of}
 use Rattle.tw_rights.specs.Bundled as file
-use Rattle.tw_store.specs.Slots.{Places}
 use Rattle.tw_code.specs.machine.Arguments as bare
-use Rattle.tw_code.specs.machine.Rights.{right_of}
-use Rattle.tw_parts.specs.Fits.{ArePlaced, ArgStands, ArgsStand, IsPlaced}
-use Rattle.tw_rights.specs.Bare.{bare_arg, bare_file}
 use Rattle.tw_rights.specs.Kinds.{writes}
 use Rattle.tw_parts.proofs.Copied.{AreVals, ValOr}
 

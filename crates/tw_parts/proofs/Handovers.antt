@@ -1,34 +1,10 @@
 -- RULE and PUT: what leaves the frame, and what is left of it.
 use Rattle.std.proofs.Common.{map as each, ◌≡◌, ◌+◌, ◌<◌, ◌≤◌, ◌∙◌, ℕ, List, Option, Some, IsSome, refl, sym, ap, subst, slice_get, length, arith}
-use Rattle.std.proofs.lemmas.Option.{same_Some, slice_get_within}
-use Rattle.std.specs.FinMap.{get}
-use Rattle.tw_types.specs.declared.actor.Actor.{Actor}
-use Rattle.tw_types.specs.declared.value.Value.{Value}
-use Rattle.tw_types.specs.Layout.{ActorCounts}
-use Rattle.tw_types.specs.Notices.{Notices}
-use Rattle.tw_rights.specs.declared.arg.Arg.{Arg}
-use Rattle.tw_rights.specs.declared.held.Held.{Held}
-use Rattle.tw_rights.specs.Bare.{bare_arg, bare_file}
+use Rattle.tw_parts.proofs.PartNames.{Action, Actor, ActorCounts, AreParts, ArePlaced, Arg, ArgsStand, FrameFits, FrameView, Held, IsProcedure, IsProgram, Notices, Parts, Procedure, TypedProgram, Typing, Value, at_next_place, bare_arg, bare_file, bare_frame, context_of, get, gone_behind, gone_on, kinds_in, kinds_of, named_values, params_in, params_of, same_Some, slice_get_within, state_of, typings_of, without_args}
 use Rattle.tw_rights.specs.Bundled.{Bundled, bundled}
-use Rattle.tw_rights.specs.Kinds.{kinds_of}
-use Rattle.tw_code.specs.accepting.Typing.{without_args}
-use Rattle.tw_code.specs.declared.instr.Action.{Action}
 use Rattle.tw_code.specs.declared.instr.Instr.{Instr}
-use Rattle.tw_code.specs.declared.procedure.Procedure.{Procedure}
-use Rattle.tw_code.specs.format.Program.{IsProgram, IsProcedure}
-use Rattle.tw_code.specs.machine.Arguments.{params_in, params_of}
 use Rattle.tw_code.specs.machine.Holders.{typing_at}
-use Rattle.tw_code.specs.machine.Position.{at_next_place}
-use Rattle.tw_code.specs.machine.Rights.{Typing}
-use Rattle.tw_code.specs.machine.State.{context_of, gone_behind}
 use Rattle.tw_no_trap.proofs.Accepted.{all_found}
-use Rattle.tw_verify.specs.Typed.{TypedProgram, typings_of}
-use Rattle.tw_frame.specs.Jobs.{FrameView, bare_frame}
-use Rattle.tw_parts.specs.Coming.{gone_on}
-use Rattle.tw_parts.specs.Copies.{named_values}
-use Rattle.tw_parts.specs.Fits.{AreParts, ArePlaced, ArgsStand, FrameFits, kinds_in}
-use Rattle.tw_parts.specs.Parts.{state_of}
-use Rattle.tw_parts.specs.declared.parts.Parts.{Parts}
 use Rattle.tw_parts.proofs.Copied.{are_vals}
 use Rattle.tw_parts.proofs.Handing.{Handed, handed}
 use Rattle.tw_parts.proofs.Kinding.{kinds_left}

@@ -1,20 +1,9 @@
 -- INS: what is asked is met, and that it is done.
-use Rattle.tw_types.specs.StoreCalls.{inserted, member_at}
+use Rattle.tw_parts.proofs.PartNames.{Context, EmptyRegister, FrameView, Held, IsAbsent, IsDone, IsHere, IsNow, IsSome, IsUnchanged, MayDo, Notices, Ok, Right, RightType, Scalar, Served, Skipped, Subscript, after_insert, at_goal, at_next_place, bare_file, bare_frame, data_instr, first_so, get, insert_asks, inserted, is_container_by, is_element_of, is_read, is_write, kind_at, may_insert, member_at, of_type_at, ok_after, ok_first, passed, passes, reads_member_of, right_at, scalar_of, sees, there_then, writes_container_by}
 use Rattle.tw_no_trap.proofs.DataLeft.{read_no_write}
-use Rattle.std.specs.Cmp.{first_so}
-use Rattle.tw_types.specs.StoreChecks.{may_insert}
-use Rattle.tw_types.specs.DataType.{is_container_by}
-use Rattle.tw_types.specs.Value.{scalar_of}
-use Rattle.tw_types.specs.ValueOrder.{Subscript}
 use Rattle.tw_rights.specs.declared.held.Held.TheVariants as held
 use Rattle.tw_code.specs.declared.instr.DataInstr.TheVariants as on_data
-use Rattle.tw_code.specs.accepting.Typing.{reads_member_of, writes_container_by}
-use Rattle.tw_code.specs.machine.Data.{after_insert}
-use Rattle.tw_code.specs.machine.Position.{of_type_at}
-use Rattle.tw_no_trap.proofs.Conditions.{insert_asks}
-use Rattle.tw_parts.proofs.DataNames.{◌≡◌, ◌<◌, ◌∙◌, ◌+◌, ℕ, Scalar, length, zero, suc, true, false, List, [], ◌∷◌, None, Some, Option, IsSome, Ok, refl, sym, ap, inl, slice_get, slice_index_or, slice_set, get, EmptyRegister, is_element_of, is_read, is_write, Notices, ok_after, ok_first, there_then, Held, bare_file, kind_at, Right, Served, IsHere, IsNow, IsUnchanged, Skipped, Context, data_instr, at_goal, at_next_place, passes, passed, right_at, RightType, FrameView, IsDone, MayDo, sees}
-use Rattle.tw_frame.specs.Jobs.{bare_frame}
-use Rattle.tw_parts.specs.Memory.{IsAbsent}
+use Rattle.std.proofs.Common.{◌≡◌, ◌<◌, ◌∙◌, ◌+◌, ℕ, length, zero, suc, true, false, List, [], ◌∷◌, None, Some, Option, refl, sym, ap, inl, slice_get, slice_index_or, slice_set}
 use Rattle.tw_parts.proofs.Left.{emptied_done, moved_done, now_stays, same_ok}
 use Rattle.tw_parts.proofs.Registers.{id_at, its_id, kind_passed, placed_at}
 use Rattle.tw_parts.proofs.ValueRegisters.{of_type_inside, of_type_kind, of_type_same}

@@ -1,18 +1,7 @@
 -- What is held before and after an instruction on data is live, so it keeps its place, whatever was freed.
 use Rattle.std.proofs.Common.{map as each, ◌≡◌, ℕ, suc, List, [], ◌∷◌, Option, Some, None, refl, ap, slice_get}
-use Rattle.std.specs.FinMap.{get}
-use Rattle.std.specs.Option.{option_flatten}
-use Rattle.tw_types.specs.declared.param.Param.{Param}
-use Rattle.tw_types.specs.Task.{RightArg}
-use Rattle.tw_rights.specs.declared.arg.Arg.{Arg}
-use Rattle.tw_rights.specs.declared.arg.Arg.TheVariants.{Val, Read, Write}
-use Rattle.tw_rights.specs.declared.held.Held.{Held}
+use Rattle.tw_parts.proofs.PartNames.{AreAt, ArePlaced, Arg, ArgStands, ArgsStand, Held, Param, Places, Read, Right, RightArg, RightType, Val, Write, bare_arg, bare_file, get, option_flatten, right_of}
 use Rattle.tw_rights.specs.declared.held.Held.TheVariants as held
-use Rattle.tw_rights.specs.Bare.{bare_arg, bare_file}
-use Rattle.tw_rights.specs.Rights.{Right}
-use Rattle.tw_store.specs.Slots.{Places}
-use Rattle.tw_code.specs.machine.Rights.{RightType, right_of}
-use Rattle.tw_parts.specs.Fits.{AreAt, ArePlaced, ArgStands, ArgsStand}
 
 -- every right of these has its place still, where it is live
 module _ (places new_places : Places) (Lives : ℕ → Type 0) (stays : (id place : ℕ) → Lives id → get places id ≡ Some place → get new_places id ≡ Some place) where

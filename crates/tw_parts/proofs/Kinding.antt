@@ -1,21 +1,8 @@
 -- RULE and PUT: the kinds of the rights that leave the registers, and of those that are left.
 use Rattle.std.proofs.Common.{◌≡◌, ℕ, zero, suc, Bool, true, false, if◌then◌else◌, List, [], ◌∷◌, ◌++◌, Option, Some, None, refl, sym, ap, ◌∙◌, slice_set, slice_index_or, option_map, set}
-use Rattle.std.specs.Cmp.{first_so}
-use Rattle.std.proofs.lemmas.List.{map-set}
-use Rattle.std.proofs.lemmas.Option.{same_Some}
-use Rattle.tw_types.specs.declared.data_type.Scalar.{Scalar}
-use Rattle.tw_types.specs.declared.param.Mode.{Mode}
+use Rattle.tw_parts.proofs.PartNames.{AllYes, Held, Mode, Param, RightType, Scalar, Typing, asks_args, asks_value, first_so, is_closed_mode, is_read, is_val, is_write, kinds_in, map-set, may_stand_for, passed, passes, right_at, same_Some, same_type, suits_mode, without_args, yes_behind}
 use Rattle.tw_types.specs.declared.param.Mode.TheVariants as mode
-use Rattle.tw_types.specs.declared.param.Param.{Param}
-use Rattle.tw_types.specs.DataType.{same_type}
-use Rattle.tw_types.specs.Mode.{is_val, is_write, is_read, is_closed_mode}
-use Rattle.tw_rights.specs.declared.held.Held.{Held}
 use Rattle.tw_rights.specs.Kinds.{kinds_of, writes}
-use Rattle.tw_code.specs.accepting.Question.{passes}
-use Rattle.tw_code.specs.accepting.Typing.{asks_args, asks_value, may_stand_for, suits_mode, without_args}
-use Rattle.tw_code.specs.machine.Rights.{RightType, Typing, right_at}
-use Rattle.tw_no_trap.proofs.Values.{AllYes, passed, yes_behind}
-use Rattle.tw_parts.specs.Fits.{kinds_in}
 use Rattle.tw_parts.proofs.Handing.{AreSuited, Suits, SuitsOr, without_held}
 
 kind_there : (held : List (Option Held)) (typing : Typing) (k : ℕ) → kinds_of held ≡ kinds_in typing → option_map writes (slice_index_or held k None) ≡ option_map (λ (t : RightType). is_write t.mode) (right_at typing k)

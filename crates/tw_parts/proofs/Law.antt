@@ -1,35 +1,17 @@
 -- What the laws of the machine say of the state for which parts stand.
 use Rattle.std.proofs.Common.{◌≡◌, ◌≢◌, ◌<◌, ◌∙◌, sym, ap, ℕ, ◌++◌, ◌∷◌, [], length, slice_get, Option, Some, None, ◌≤◌, true, arith}
-use Rattle.std.proofs.lemmas.Bool.{ltb-true}
-use Rattle.std.specs.FinMap.{get}
-use Rattle.tw_types.specs.declared.actor.Actor.{Actor}
+use Rattle.tw_parts.proofs.PartNames.{Actor, ActorCounts, AreParts, AreQueued, FrameView, Goes, HasSeat, IsLayout, IsReached, Notices, Parts, Procedure, Stand, State, TypedProgram, Went, bare_frame, get, is_control, is_in, ltb-true, number_in_kind, opening, state_of, step, typings_of}
 use Rattle.tw_types.specs.declared.actor.Actor.TheVariants.{Engine, Server, Worker}
 use Rattle.tw_types.specs.declared.event.Event.{Event}
 use Rattle.tw_types.specs.declared.actor.Kind.{Kind}
 use Rattle.tw_types.specs.declared.actor.Kind.TheVariants.{Control, Leaf}
-use Rattle.tw_types.specs.Actor.{is_control, is_in, number_in_kind}
-use Rattle.tw_types.specs.Layout.{ActorCounts, IsLayout}
-use Rattle.tw_types.specs.Notices.{Notices}
-use Rattle.tw_types.specs.Outcome.{Went}
-use Rattle.tw_code.specs.declared.procedure.Procedure.{Procedure}
 use Rattle.tw_code.specs.machine.History.{actor_of}
-use Rattle.tw_code.specs.machine.Machine.{step}
-use Rattle.tw_code.specs.machine.Opening.{opening}
-use Rattle.tw_code.specs.machine.State.{State}
 use Rattle.tw_code.specs.accepting.Needs.{up_to}
 use Rattle.tw_code.proofs.Placed.{IsPlaced, count_of, engine_below, reached_placed}
 use Rattle.tw_code.proofs.Runs.{run_more}
 use Rattle.tw_no_trap.specs.Invariant.{IsHeld}
 use Rattle.tw_no_trap.proofs.Safe.{reached_is_held}
 use Rattle.tw_queue.specs.Queues.{IsTarget}
-use Rattle.tw_verify.specs.Typed.{TypedProgram, typings_of}
-use Rattle.tw_parts.specs.Events.{Goes}
-use Rattle.tw_parts.specs.Fits.{AreParts, IsReached, Stand}
-use Rattle.tw_parts.specs.Notes.{AreQueued}
-use Rattle.tw_parts.specs.Parts.{state_of}
-use Rattle.tw_parts.specs.Seats.{HasSeat}
-use Rattle.tw_frame.specs.Jobs.{FrameView, bare_frame}
-use Rattle.tw_parts.specs.declared.parts.Parts.{Parts}
 use Rattle.tw_parts.proofs.Fitting.{seen}
 
 module _ (verified : TypedProgram) (layout : ActorCounts) (p : Parts) (notices : Notices) (h : AreParts verified layout p notices) where

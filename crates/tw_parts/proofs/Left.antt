@@ -1,7 +1,11 @@
 -- What an instruction leaves, by what became of the right registers: one was emptied, one was filled, or none changed.
-use Rattle.tw_types.specs.StoreCalls.{notices_after}
+use Rattle.tw_parts.proofs.PartNames.{AllYes, Cause, Completed, Context, Datum, FrameView, Held, IsAt, IsDone, IsLeft, IsLive, IsTold, Notice, Notices, Ok, Position, Result, Scalar, Served, Typing, after_data, asks_data, at_next_place, bare_file, data_instr, get, id_of, is_closed, kinds_in, map-set, notice_to, notices_after, notices_of, queued, right_in, same_Some, sees, with_notices, writes as typed_writes}
 use Rattle.tw_parts.proofs.Registers.{set_own}
-use Rattle.tw_parts.proofs.DataNames.{each, ◌≡◌, ◌⊎◌, ◌+◌, ◌∙◌, ℕ, zero, suc, Bool, true, false, if◌then◌else◌, List, [], ◌∷◌, ◌++◌, Some, None, refl, sym, ap, subst, slice_index_or, slice_set, set, option_map, inl, inr, Result, Ok, map-set, same_Some, get, Cause, Scalar, Notice, Notices, with_notices, Datum, is_closed, notice_to, notices_of, Held, bare_file, id_of, kinds_of, writes, Served, IsLeft, queued, Way, Completed, DataInstr, data_flow, onward, after_data, asks_data, Context, data_instr, Position, at_next_place, Typing, AllYes, FrameView, IsDone, IsLive, IsTold, sees, IsAt, kinds_in, right_in, typed_writes}
+use Rattle.std.proofs.Common.{map as each, ◌≡◌, ◌⊎◌, ◌+◌, ◌∙◌, ℕ, zero, suc, Bool, true, false, if◌then◌else◌, List, [], ◌∷◌, ◌++◌, Some, None, refl, sym, ap, subst, slice_index_or, slice_set, set, option_map, inl, inr}
+use Rattle.tw_rights.specs.Kinds.{kinds_of, writes}
+use Rattle.tw_code.specs.declared.flow.Way.{Way}
+use Rattle.tw_code.specs.declared.instr.DataInstr.{DataInstr}
+use Rattle.tw_code.specs.accepting.Flow.{data_flow, onward}
 
 pub same_ok : (a b : Context) → ◌≡◌ {A = Result Context Cause} (Ok a) (Ok b) → a ≡ b
 same_ok a b e = cc

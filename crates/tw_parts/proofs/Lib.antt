@@ -18,7 +18,6 @@ mod Behind
 mod Puts
 mod NewRules
 mod Quieting
-pub mod DataNames
 pub mod Registers
 pub mod ValueRegisters
 pub mod Left
@@ -38,3 +37,4 @@ pub mod Adding
 pub mod Filled
 mod MainParameters
 mod Openings
+mod PartNames

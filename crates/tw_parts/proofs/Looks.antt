@@ -1,19 +1,9 @@
 -- LOOK: what is asked is met, and that it is done.
-use Rattle.tw_types.specs.StoreCalls.{member_at}
-use Rattle.std.specs.Cmp.{first_so, second_so}
-use Rattle.tw_types.specs.StoreChecks.{may_look}
+use Rattle.tw_parts.proofs.PartNames.{Context, EmptyRegister, FrameView, HasMemberRoom, IsDone, IsHere, IsLook, MayDo, NestedScalar, Notices, Ok, Right, RightType, Scalar, Served, Skipped, Subscript, a_member_read, after_look, at_goal, at_next_place, bare_file, data_instr, element_of, first_so, get, is_closed_mode, is_container_by, is_none, kind_at, kinds_in, look_asks, map-set, may_look, member_at, must_be_empty, of_type_at, ok_after, ok_first, passed, passes, reads_closed_container_by, right_at, second_so, sees, there_then, writes as typed_writes}
 use Rattle.tw_rights.specs.declared.held.Held.TheVariants as held
-use Rattle.tw_types.specs.DataType.{is_container_by}
-use Rattle.tw_types.specs.ValueOrder.{Subscript}
-use Rattle.tw_store.specs.Calls.{HasMemberRoom, IsLook}
 use Rattle.tw_code.specs.declared.instr.DataInstr.TheVariants as on_data
-use Rattle.tw_code.specs.accepting.Typing.{a_member_read, reads_closed_container_by}
-use Rattle.tw_code.specs.machine.Data.{after_look}
-use Rattle.tw_code.specs.machine.Position.{of_type_at}
-use Rattle.tw_code.specs.machine.Rights.{must_be_empty}
-use Rattle.tw_no_trap.proofs.Conditions.{look_asks}
 use Rattle.tw_parts.proofs.Copies.{read_room}
-use Rattle.tw_parts.proofs.DataNames.{◌≡◌, ◌<◌, ◌∙◌, ◌+◌, ℕ, Scalar, Bool, true, false, List, [], ◌∷◌, length, None, Some, Option, Ok, refl, sym, ap, inl, slice_get, slice_index_or, slice_set, option_map, map-set, get, is_none, EmptyRegister, NestedScalar, element_of, is_closed_mode, Notices, ok_after, ok_first, there_then, bare_file, kind_at, Right, Served, IsHere, Skipped, Context, data_instr, at_goal, at_next_place, passes, passed, right_at, RightType, FrameView, IsDone, MayDo, sees, kinds_in, typed_writes}
+use Rattle.std.proofs.Common.{◌≡◌, ◌<◌, ◌∙◌, ◌+◌, ℕ, Bool, true, false, List, [], ◌∷◌, length, None, Some, Option, refl, sym, ap, inl, slice_get, slice_index_or, slice_set, option_map}
 use Rattle.tw_parts.proofs.Left.{filled_done, moved_done, now_stays, same_ok}
 use Rattle.tw_parts.proofs.Registers.{closed_reads, empty_at, its_id, kind_passed, placed_at}
 use Rattle.tw_parts.proofs.ValueRegisters.{of_type_inside, of_type_same}

@@ -1,36 +1,13 @@
 -- Main's parameters get their data one after the other: on the parts.
 use Rattle.std.proofs.Common.{map as each, ◌≡◌, ◌<◌, ◌≤◌, ◌+◌, ℕ, zero, suc, true, false, List, [], ◌∷◌, ◌++◌, Some, None, refl, sym, ap, subst, ◌∙◌, arith, cond, length, length-append, slice_get, drop, append_assoc}
-use Rattle.std.proofs.lemmas.List.{map-append}
-use Rattle.std.proofs.lemmas.Bool.{and_parts}
-use Rattle.std.proofs.lemmas.Bool.Decides.{nat_tests}
-use Rattle.std.proofs.lemmas.Option.{same_Some}
-use Rattle.std.specs.Cmp.{nat_cmp_total}
-use Rattle.std.specs.FinMap.{empty, get, insert, get-insert}
-use Rattle.std.specs.Prelude.{replicate}
+use Rattle.tw_parts.proofs.PartNames.{Adds, AreAt, AreBefore, AreForAll, Arg, ArgStands, ArgsStand, IsAt, IsMade, MayAdd, Mode, Opened, OpenedParts, Param, Places, Read, Right, RightArg, Served, Store, Write, added, and_parts, bare_arg, created, empty, empty_store, eq_by_cmp, get, get-insert, insert, is_val, is_write, map-append, nat_cmp, nat_cmp_total, nat_tests, nothing_opened, opened, replicate, right_of, same_Some, with_given, with_input, with_output}
 use Rattle.std.specs.List.{list_all}
-use Rattle.std.specs.Ordering.{eq_by_cmp, nat_cmp}
 use Rattle.tw_types.specs.declared.input.Input.{Input}
-use Rattle.tw_types.specs.declared.param.Mode.{Mode}
 use Rattle.tw_types.specs.declared.param.Mode.TheVariants as mode
-use Rattle.tw_types.specs.declared.param.Param.{Param}
 use Rattle.tw_types.specs.Given.{given_by}
-use Rattle.tw_types.specs.Mode.{is_val, is_write}
-use Rattle.tw_types.specs.Store.{Store, added, empty_store}
-use Rattle.tw_types.specs.StoreCalls.{created}
-use Rattle.tw_types.specs.Task.{RightArg}
-use Rattle.tw_rights.specs.declared.arg.Arg.{Arg}
-use Rattle.tw_rights.specs.declared.arg.Arg.TheVariants.{Read, Write}
-use Rattle.tw_rights.specs.Bare.{bare_arg}
-use Rattle.tw_rights.specs.Rights.{Right}
-use Rattle.tw_store.specs.Served.{Served}
-use Rattle.tw_store.specs.Slots.{Places}
 use Rattle.tw_code.specs.accepting.MainShape.{is_main_param}
 use Rattle.tw_code.specs.machine.Inputs.{are_inputs_of, input_params, is_input_of}
 use Rattle.tw_code.proofs.Givens.{input_next, skips, takes}
-use Rattle.tw_code.specs.machine.Opening.{Opened, nothing_opened, opened, with_given, with_input, with_output}
-use Rattle.tw_code.specs.machine.Rights.{right_of}
-use Rattle.tw_parts.specs.Fits.{ArgStands, ArgsStand, AreAt, IsAt}
-use Rattle.tw_parts.specs.OpenedParts.{Adds, AreBefore, AreForAll, IsMade, MayAdd, OpenedParts}
 use Rattle.tw_parts.specs.Opening.{IsAdded}
 use Rattle.tw_parts.specs.Givens.{AreAllLive}
 use Rattle.tw_parts.proofs.Adding.{empty_live, made_live}

@@ -1,39 +1,13 @@
 -- RULE and PUT: what the law says of them, where a task stands at one.
 use Rattle.std.proofs.Common.{◌≡◌, ◌==◌, ℤ, Bool, true, false, List, Some, Result, Ok, Err, refl, sym, ap, subst, ◌∙◌, length, slice_get}
-use Rattle.std.proofs.lemmas.Option.{same_Some}
-use Rattle.std.specs.FinMap.{get}
-use Rattle.tw_types.specs.declared.actor.Actor.{Actor}
+use Rattle.tw_parts.proofs.PartNames.{Action, Actor, ActorCounts, AllYes, AreParts, ArgumentNotClosed, Call, Called, Cause, Context, FrameView, FreedDatum, HandedOver, Held, Notices, Parts, Procedure, Trap, TypedProgram, Typing, WrongCall, WrongRegister, WrongType, all_pass, asked_at, asks_callee, asks_priority, bare_frame, called, context_of, get, handed_over, is_closed_if_asked, is_control, is_live, is_of_type, mapped, must_then, ok_first, priority_at, put_called, same_Some, state_of, there_then, typings_of, values_suit, yes_behind}
 use Rattle.tw_types.specs.declared.actor.Kind.{Kind}
-use Rattle.tw_types.specs.declared.cause.Cause.{Cause}
-use Rattle.tw_types.specs.declared.cause.Cause.TheVariants.{ArgumentNotClosed, FreedDatum, WrongCall, WrongRegister, WrongType}
-use Rattle.tw_types.specs.declared.event.Event.TheVariants.{Call}
-use Rattle.tw_types.specs.Actor.{is_control}
-use Rattle.tw_types.specs.Layout.{ActorCounts}
-use Rattle.tw_types.specs.Mapped.{mapped}
-use Rattle.tw_types.specs.Notices.{Notices}
-use Rattle.tw_types.specs.Outcome.{Trap}
-use Rattle.tw_types.proofs.Results.{must_then, ok_first, there_then}
-use Rattle.tw_rights.specs.declared.held.Held.{Held}
 use Rattle.std.specs.declared.option.Option.{Option}
-use Rattle.tw_code.specs.accepting.Typing.{asks_callee, asks_priority}
-use Rattle.tw_code.specs.declared.instr.Action.{Action}
 use Rattle.tw_code.specs.declared.instr.Instr.TheVariants as instr
-use Rattle.tw_code.specs.declared.procedure.Procedure.{Procedure}
-use Rattle.tw_code.specs.machine.Arguments.{Called, HandedOver, all_pass, called, handed_over, is_closed_if_asked, is_live, is_of_type, priority_at, put_called, values_suit}
-use Rattle.tw_code.specs.machine.Data.{Context}
 use Rattle.tw_code.specs.machine.Holders.{typing_at}
 use Rattle.tw_code.specs.machine.Machine.{step}
-use Rattle.tw_code.specs.machine.Rights.{Typing}
-use Rattle.tw_code.specs.machine.State.{context_of}
 use Rattle.tw_no_trap.proofs.Called.{callee_met}
-use Rattle.tw_no_trap.proofs.Running.{asked_at}
 use Rattle.tw_no_trap.proofs.Safe.{safe}
-use Rattle.tw_no_trap.proofs.Values.{AllYes, yes_behind}
-use Rattle.tw_verify.specs.Typed.{TypedProgram, typings_of}
-use Rattle.tw_frame.specs.Jobs.{FrameView, bare_frame}
-use Rattle.tw_parts.specs.Fits.{AreParts}
-use Rattle.tw_parts.specs.Parts.{state_of}
-use Rattle.tw_parts.specs.declared.parts.Parts.{Parts}
 use Rattle.tw_parts.proofs.Fitting.{seen}
 use Rattle.tw_parts.proofs.Handing.{AreSuited}
 use Rattle.tw_parts.proofs.Kinding.{suited}

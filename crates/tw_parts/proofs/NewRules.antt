@@ -1,39 +1,10 @@
 -- RULE: on the parts.
 use Rattle.std.proofs.Common.{map as each, ◌≡◌, ◌+◌, ◌∙◌, List, Option, Some, refl, sym, ap, slice_get}
-use Rattle.std.specs.Cmp.{nat_cmp_total}
-use Rattle.std.specs.FinMap.{get, insert, nat_cmp-IsAntisymmetric}
-use Rattle.tw_types.specs.declared.actor.Actor.{Actor}
-use Rattle.tw_types.specs.declared.event.Event.TheVariants.{Call}
-use Rattle.tw_types.specs.declared.value.Value.{Value}
-use Rattle.tw_types.specs.Layout.{ActorCounts}
-use Rattle.tw_types.specs.Mapped.{mapped}
-use Rattle.tw_types.specs.Notices.{Notices}
-use Rattle.tw_types.specs.Outcome.{Went}
-use Rattle.tw_types.specs.Rule.{RuleOf}
-use Rattle.tw_types.specs.Actor.{number_in_kind}
-use Rattle.tw_types.proofs.ActorOrder.{actor_cmp_total, actor_cmp-IsAntisymmetric}
-use Rattle.tw_types.proofs.Mapped.{insert_mapped}
-use Rattle.tw_rights.specs.declared.arg.Arg.{Arg}
-use Rattle.tw_rights.specs.declared.held.Held.{Held}
-use Rattle.tw_rights.specs.Bare.{bare_rule, bare_task}
+use Rattle.tw_parts.proofs.PartNames.{Action, Actor, ActorCounts, AreParts, Arg, Call, Completed, FrameFits, FrameView, Goes, Held, Notices, Parts, Procedure, Right, RuleOf, Stand, TypedProgram, Value, Went, actor_cmp-IsAntisymmetric, actor_cmp_total, bare_frame, bare_rule, bare_task, context_of, get, gone_behind, gone_on, insert, insert_mapped, mapped, named_values, nat_cmp-IsAntisymmetric, nat_cmp_total, new_rule, number_in_kind, state_of, typed_after, typings_of, with_frame, with_rule}
 use Rattle.tw_rights.specs.Bundled.{bundled}
-use Rattle.tw_rights.specs.Rights.{Right}
-use Rattle.tw_code.specs.declared.flow.Way.TheVariants.{Completed}
-use Rattle.tw_code.specs.declared.instr.Action.{Action}
 use Rattle.tw_code.specs.declared.instr.Instr.TheVariants as instr
-use Rattle.tw_code.specs.declared.procedure.Procedure.{Procedure}
 use Rattle.tw_code.specs.machine.Machine.{step}
-use Rattle.tw_code.specs.machine.State.{context_of, gone_behind, new_rule, with_frame, with_rule}
-use Rattle.tw_no_trap.proofs.Running.{typed_after}
-use Rattle.tw_verify.specs.Typed.{TypedProgram, typings_of}
-use Rattle.tw_frame.specs.Jobs.{FrameView, bare_frame}
 use Rattle.tw_rules.specs.Table as table
-use Rattle.tw_parts.specs.Coming.{gone_on}
-use Rattle.tw_parts.specs.Copies.{named_values}
-use Rattle.tw_parts.specs.Events.{Goes}
-use Rattle.tw_parts.specs.Fits.{AreParts, FrameFits, Stand}
-use Rattle.tw_parts.specs.Parts.{state_of}
-use Rattle.tw_parts.specs.declared.parts.Parts.{Parts}
 use Rattle.tw_parts.proofs.Fitting.{seen, stand_ruled, stand_seated}
 use Rattle.tw_parts.proofs.Handovers.{args_stand, bare_args, fits_behind, frame_is}
 use Rattle.tw_parts.proofs.Law.{goes_to}

@@ -1,16 +1,9 @@
 -- NEW: what is asked is met, and that it is done.
-use Rattle.std.specs.Cmp.{nat_cmp_total}
-use Rattle.std.specs.FinMap.{insert, get-insert}
-use Rattle.std.specs.Ordering.{eq_by_cmp, nat_cmp}
-use Rattle.std.proofs.lemmas.Bool.Decides.{nat_tests}
-use Rattle.std.proofs.lemmas.List.{get_or-set_other}
-use Rattle.tw_types.specs.StoreCalls.{created}
+use Rattle.tw_parts.proofs.PartNames.{◌==◌, Completed, Context, FrameView, Held, IsAt, IsDone, IsHere, MayDo, NestedScalar, Notices, Ok, Right, Served, WrongRegister, a_read, a_write, at_next_place, bare_file, created, data_instr, eq_by_cmp, get, get-insert, get_or-set_other, id_of, insert, is_none, map-set, must_be_empty, must_then, nat_cmp, nat_cmp_total, nat_tests, new_asks, not, ok_after, right_at, right_in, same_Some, sees, with_notices, writes as typed_writes}
 use Rattle.tw_rights.specs.declared.held.Held.TheVariants as held
 use Rattle.tw_code.specs.declared.instr.DataInstr.TheVariants as on_data
-use Rattle.tw_code.specs.accepting.Typing.{a_read, a_write}
-use Rattle.tw_code.specs.machine.Rights.{must_be_empty}
-use Rattle.tw_no_trap.proofs.Conditions.{new_asks}
-use Rattle.tw_parts.proofs.DataNames.{◌≡◌, ◌⊎◌, ◌∙◌, ◌<◌, ◌+◌, ◌==◌, ℕ, true, false, not, List, [], Option, None, Some, Ok, refl, sym, ap, subst, arith, inl, inr, is_none, option_map, map-set, slice_index_or, slice_set, set, same_Some, get, WrongRegister, NestedScalar, Notices, with_notices, must_then, ok_after, Held, bare_file, id_of, writes, Right, Served, IsHere, Completed, Context, data_instr, at_next_place, right_at, FrameView, IsDone, MayDo, sees, IsAt, right_in, typed_writes}
+use Rattle.std.proofs.Common.{◌≡◌, ◌⊎◌, ◌∙◌, ◌<◌, ◌+◌, ℕ, true, false, List, [], Option, None, Some, refl, sym, ap, subst, arith, inl, inr, option_map, slice_index_or, slice_set, set}
+use Rattle.tw_rights.specs.Kinds.{writes}
 use Rattle.tw_parts.proofs.Left.{same_ok}
 use Rattle.tw_parts.proofs.Registers.{empty_at, set_own}
 

@@ -1,15 +1,8 @@
 -- Notices leave the queues, and come to them.
 use Rattle.std.proofs.Common.{◌≡◌, ◌≢◌, ◌<◌, ℕ, Bool, true, false, not, ◌&&◌, ◌||◌, List, [], ◌∷◌, Some, None, refl, sym, ap, subst, ◌∙◌, length, set, slice_get, drop, inl, inr}
-use Rattle.std.proofs.lemmas.Bool.{cases_eq}
-use Rattle.std.proofs.lemmas.List.{get_or-set_same, get_or-set_other, length-set}
-use Rattle.std.specs.Cmp.{Equal-is, tied_itself}
-use Rattle.std.specs.Ordering.{eq_by_cmp, is_eq}
+use Rattle.tw_parts.proofs.PartNames.{AreApart, AreQueued, Equal-is, Notice, Notices, cases_eq, eq_by_cmp, get_or-set_other, get_or-set_same, is_among, is_eq, is_queued, length-set, notice_cmp, queue_at, server_of, tied_itself}
 use Rattle.std.specs.FinSet as set_of
-use Rattle.tw_types.specs.declared.notice.Notice.{Notice}
-use Rattle.tw_types.specs.Notices.{Notices, notice_cmp}
-use Rattle.tw_types.specs.Store.{server_of}
 use Rattle.tw_types.proofs.NoticeOrder.{notice_cmp_total, notice_cmp-IsAntisymmetric}
-use Rattle.tw_parts.specs.Notes.{is_among, AreApart, queue_at, is_queued, AreQueued}
 
 pub same_is : (m n : Notice) → eq_by_cmp notice_cmp m n ≡ true → m ≡ n
 same_is m n e = notice_cmp-IsAntisymmetric m n ((Equal-is (notice_cmp m n)).0 e)

@@ -1,44 +1,17 @@
 -- A program is opened: on the parts.
 use Rattle.std.proofs.Common.{map as each, ◌≡◌, ℕ, pos, zero, suc, false, List, [], ◌∷◌, Some, None, refl, sym, ap, subst, ◌∙◌, length, replicate}
-use Rattle.std.proofs.lemmas.List.{length-replicate}
-use Rattle.std.specs.Cmp.{nat_cmp_total}
-use Rattle.std.specs.Ordering.{nat_cmp}
+use Rattle.tw_parts.proofs.PartNames.{ActorCounts, AreApart, AreAt, AreQueued, Arg, ArgsStand, IsLayout, IsMade, IsProgram, IsReached, MainWaits, Notice, OpenedParts, Parts, Places, Procedure, Right, Served, Stand, TaskOf, Tasks, TypedProgram, Went, actor_cmp, bare_frame, bare_rule, bare_task, empty_mapped, get-empty, insert, insert_mapped, is_among, length-replicate, mapped, nat_cmp, nat_cmp-IsAntisymmetric, nat_cmp_total, notice_cmp, params_of, queue_at, server_of, state_of, typings_of}
 use Rattle.std.specs.FinMap as fin
-use Rattle.std.specs.FinMap.{get-empty, insert, nat_cmp-IsAntisymmetric}
 use Rattle.std.specs.FinSet as set
 use Rattle.std.specs.FinSet.{contains-empty}
 use Rattle.tw_types.specs.declared.actor.Kind.TheVariants.{Control}
 use Rattle.tw_types.specs.declared.input.Input.{Input}
-use Rattle.tw_types.specs.declared.notice.Notice.{Notice}
-use Rattle.tw_types.specs.Actor.{actor_cmp}
-use Rattle.tw_types.specs.Layout.{ActorCounts, IsLayout}
-use Rattle.tw_types.specs.Mapped.{mapped}
-use Rattle.tw_types.specs.Notices.{notice_cmp}
-use Rattle.tw_types.specs.Outcome.{Went}
-use Rattle.tw_types.specs.Store.{server_of}
-use Rattle.tw_types.specs.Task.{Tasks, TaskOf}
-use Rattle.tw_types.proofs.Mapped.{empty_mapped, insert_mapped}
-use Rattle.tw_rights.specs.declared.arg.Arg.{Arg}
-use Rattle.tw_rights.specs.Bare.{bare_rule, bare_task}
-use Rattle.tw_rights.specs.Rights.{Right}
-use Rattle.tw_store.specs.Served.{Served}
-use Rattle.tw_store.specs.Slots.{Places}
 use Rattle.tw_code.specs.accepting.Needs.{HasTargets}
-use Rattle.tw_code.specs.declared.procedure.Procedure.{Procedure}
-use Rattle.tw_code.specs.format.Program.{IsProgram}
-use Rattle.tw_code.specs.machine.Arguments.{params_of}
 use Rattle.tw_code.specs.machine.Inputs.{AreInputsOf}
 use Rattle.tw_code.specs.machine.Machine.{run}
 use Rattle.tw_code.specs.machine.Opening.{main_params, main_task, nothing_opened, opened, opening}
 use Rattle.tw_no_trap.specs.NoTrap.{AreRight}
-use Rattle.tw_verify.specs.Typed.{TypedProgram, typings_of}
-use Rattle.tw_frame.specs.Jobs.{bare_frame}
-use Rattle.tw_parts.specs.Fits.{AreAt, ArgsStand, IsReached, Stand}
-use Rattle.tw_parts.specs.Notes.{AreApart, AreQueued, is_among, queue_at}
-use Rattle.tw_parts.specs.OpenedParts.{IsMade, MainWaits, OpenedParts}
 use Rattle.tw_parts.specs.Opening.{IsOpening}
-use Rattle.tw_parts.specs.Parts.{state_of}
-use Rattle.tw_parts.specs.declared.parts.Parts.{Parts}
 use Rattle.tw_parts.proofs.Fitting.{stand_put}
 
 -- ---- no notices

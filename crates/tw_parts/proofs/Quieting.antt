@@ -1,34 +1,18 @@
 -- Whether a run is quiet, by what the parts tell at once: how many run, how many wait, the firsts of queues and agendas.
 use Rattle.std.proofs.Common.{map as each, ◌≡◌, ◌<◌, inl, inr, ◌⊎◌, ℕ, zero, suc, slice_get, ◌==◌, Bool, true, false, not, ◌&&◌, List, [], ◌∷◌, Option, Some, None, refl, sym, ap, subst, ◌∙◌, length, is_some, arith, nat_cmp}
-use Rattle.std.proofs.lemmas.Bool.{eq-eqb, eqb-true, or_left, or_right}
-use Rattle.std.proofs.lemmas.Option.{same_Some}
+use Rattle.tw_parts.proofs.PartNames.{AreQueued, Arg, MatchBool, Notice, Notices, Parts, Rule, RuleOf, RulesOf, bare_arg, bare_frame, bare_rule, bare_task, entries, eq-eqb, eqb-true, get, has_unasked, is_among, is_releasable, is_unasked, len_mapped, mapped, nat_cmp_total, next_ask, next_release, notice_cmp, or_left, or_right, queue_at, same_Some, server_of, state_of}
 use Rattle.tw_types.specs.declared.stage.Stage.{Stage}
 use Rattle.tw_types.specs.declared.stage.Stage.TheVariants.{Unasked}
 use Rattle.std.proofs.lemmas.Nat.{mod_below}
-use Rattle.std.specs.Cmp.{nat_cmp_total}
 use Rattle.std.specs.FinMap as map
-use Rattle.std.specs.FinMap.{entries, get}
 use Rattle.std.specs.FinSet as set_of
 use Rattle.std.specs.List.{list_any}
-use Rattle.std.specs.Prelude.{MatchBool}
 use Rattle.tw_types.specs.declared.ending.Ending.TheVariants.{Quiet, Stuck}
-use Rattle.tw_types.specs.declared.notice.Notice.{Notice}
-use Rattle.tw_types.specs.Notices.{Notices, notice_cmp}
-use Rattle.tw_types.specs.Rule.{Rule, RuleOf, RulesOf, has_unasked, is_unasked, is_releasable, next_ask, next_release}
-use Rattle.tw_types.specs.Store.{server_of}
 use Rattle.tw_types.proofs.NoticeOrder.{notice_cmp_total, notice_cmp-IsAntisymmetric}
 use Rattle.tw_types.proofs.Totals.{IsEntry, get_entry}
-use Rattle.tw_rights.specs.declared.arg.Arg.{Arg}
 use Rattle.tw_code.specs.machine.Ending.{ending, has_idle_rules, is_quiet}
 use Rattle.tw_code.proofs.Found.{any_entry, ask_found, ask_there, release_found, release_there}
-use Rattle.tw_frame.specs.Jobs.{bare_frame}
-use Rattle.tw_types.specs.Mapped.{mapped}
-use Rattle.tw_parts.specs.Notes.{AreQueued, is_among, queue_at}
-use Rattle.tw_rights.specs.Bare.{bare_arg, bare_rule, bare_task}
-use Rattle.tw_parts.specs.Parts.{state_of}
-use Rattle.tw_parts.specs.declared.parts.Parts.{Parts}
 use Rattle.tw_parts.proofs.Fitting.{behind}
-use Rattle.tw_types.proofs.Mapped.{len_mapped}
 use Rattle.tw_types.proofs.Chosen.{next_ask_mapped, next_release_mapped}
 use Rattle.tw_parts.proofs.Notes.{first_of, has, none_of}
 

@@ -1,8 +1,8 @@
 -- One right register: what a typing says of it, the right that is in it, and what is left when it is filled or emptied.
 use Rattle.tw_types.specs.declared.param.Mode.TheVariants as mode
 use Rattle.tw_rights.specs.declared.held.Held.TheVariants as held
-use Rattle.tw_store.specs.Slots.{Places}
-use Rattle.tw_parts.proofs.DataNames.{◌≡◌, ◌⊎◌, ◌∙◌, ◌<◌, ◌≤◌, arith, ℕ, zero, suc, Bool, true, false, List, [], ◌∷◌, Option, Some, None, refl, sym, ap, subst, slice_index_or, slice_set, option_map, inl, inr, is_none, same_Some, Mode, is_closed_mode, is_write, Held, bare_file, id_of, kind_at, kinds_of, passes, RightType, Typing, right_at, passed, FrameView, ArePlaced, IsAt, kinds_in, right_in, typed_writes}
+use Rattle.tw_parts.proofs.PartNames.{ArePlaced, FrameView, Held, IsAt, Mode, Places, RightType, Typing, bare_file, id_of, is_closed_mode, is_none, is_write, kind_at, kinds_in, kinds_of, passed, passes, right_at, right_in, same_Some, writes as typed_writes}
+use Rattle.std.proofs.Common.{◌≡◌, ◌⊎◌, ◌∙◌, ◌<◌, ◌≤◌, arith, ℕ, zero, suc, Bool, true, false, List, [], ◌∷◌, Option, Some, None, refl, sym, ap, subst, slice_index_or, slice_set, option_map, inl, inr}
 
 -- ---- by the typing
 

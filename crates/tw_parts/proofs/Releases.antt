@@ -1,34 +1,14 @@
 -- An engine releases a rule: on the parts.
 use Rattle.std.proofs.Common.{map, ◌≡◌, ◌≤◌, ◌+◌, ℕ, true, Option, Some, None, refl, sym, ap, subst, ◌∙◌, slice_get, option_map, arith}
-use Rattle.std.specs.Cmp.{nat_cmp_total}
-use Rattle.std.specs.FinMap.{entries, get, insert, remove, nat_cmp-IsAntisymmetric}
+use Rattle.tw_parts.proofs.PartNames.{ActorCounts, AreParts, Arg, Goes, Notices, Parts, Procedure, Release, Right, Rule, Stand, TaskOf, TypedProgram, Went, bare_arg, bare_frame, bare_rule, bare_task, entries, get, insert, insert_mapped, is_releasable, mapped, nat_cmp-IsAntisymmetric, nat_cmp_total, next_release, remove, remove_mapped, state_of, task_from, with_task}
 use Rattle.tw_types.specs.declared.actor.Actor.TheVariants.{Engine}
 use Rattle.tw_types.specs.declared.actor.Kind.{Kind}
-use Rattle.tw_types.specs.declared.event.Event.TheVariants.{Release}
-use Rattle.tw_types.specs.Layout.{ActorCounts}
-use Rattle.tw_types.specs.Notices.{Notices}
-use Rattle.tw_types.specs.Outcome.{Went}
-use Rattle.tw_types.specs.Rule.{Rule, is_releasable, next_release, task_from}
-use Rattle.tw_types.specs.Task.{TaskOf}
-use Rattle.tw_rights.specs.declared.arg.Arg.{Arg}
-use Rattle.tw_rights.specs.Rights.{Right}
-use Rattle.tw_code.specs.declared.procedure.Procedure.{Procedure}
-use Rattle.tw_verify.specs.Typed.{TypedProgram}
 use Rattle.tw_code.specs.machine.Machine.{step}
-use Rattle.tw_code.specs.machine.State.{with_task}
 use Rattle.tw_code.specs.accepting.Needs.{up_to}
 use Rattle.tw_code.proofs.Placed.{count_of}
 use Rattle.tw_queue.specs.Queues.{IsTarget}
 use Rattle.tw_code.proofs.Found.{IsOwn, MayBeReleased, own_rule_there, release_found}
-use Rattle.tw_parts.specs.Events.{Goes}
-use Rattle.tw_parts.specs.Fits.{AreParts, Stand}
-use Rattle.tw_frame.specs.Jobs.{bare_frame}
-use Rattle.tw_types.specs.Mapped.{mapped}
-use Rattle.tw_rights.specs.Bare.{bare_arg, bare_rule, bare_task}
-use Rattle.tw_parts.specs.Parts.{state_of}
-use Rattle.tw_parts.specs.declared.parts.Parts.{Parts}
 use Rattle.tw_parts.proofs.Fitting.{Behind, behind, seen, stand_released}
-use Rattle.tw_types.proofs.Mapped.{insert_mapped, remove_mapped}
 use Rattle.tw_types.proofs.Chosen.{next_release_mapped}
 use Rattle.tw_parts.proofs.Law.{goes_to, held, in_layout, target_below}
 

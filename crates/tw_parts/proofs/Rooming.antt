@@ -1,8 +1,6 @@
 -- Each empty seat has room for a task, whoever comes and goes.
 use Rattle.std.proofs.Common.{◌≡◌, ◌<◌, ℕ, zero, suc, List, [], ◌∷◌, length, Option, Some, None, get_or, set, refl, sym, ap, subst, arith}
-use Rattle.std.specs.Prelude.{IsSome}
-use Rattle.tw_frame.specs.Jobs.{FrameView}
-use Rattle.tw_parts.specs.Seats.{AreKept}
+use Rattle.tw_parts.proofs.PartNames.{AreKept, FrameView, IsSome}
 
 abbrev Seats : Type 0
 Seats = List (Option FrameView)

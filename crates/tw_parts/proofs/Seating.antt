@@ -1,18 +1,9 @@
 -- The seats, seen as a finite map by actors.
 use Rattle.std.proofs.Common.{◌≡◌, ◌≢◌, ◌<◌, ◌≤◌, ◌+◌, ◌-◌, ℕ, zero, suc, Bool, true, false, cond, nat_lt, if◌then◌else◌, List, [], ◌∷◌, length, Option, Some, None, is_some, count_by, length-set, refl, sym, ap, subst, ◌∙◌, get_or, set, arith}
-use Rattle.std.proofs.lemmas.Bool.Decides.{nat_tests}
-use Rattle.std.proofs.lemmas.List.{get_or-set_same, get_or-set_other}
+use Rattle.tw_parts.proofs.PartNames.{Actor, AreSeats, Equal-is, FrameView, HasSeat, Seated, actor_cmp, actor_cmp-IsAntisymmetric, actor_cmp_total, actor_of, eq_by_cmp, find, from_entries, get, get-from_entries, get-insert, get-remove, get_or-set_other, get_or-set_same, insert, len, len-empty, len-insert, nat_tests, remove, same_map, seat_of, seated, who_sit}
 use Rattle.std.proofs.lemmas.List.Sums.{sum_by-cons}
-use Rattle.std.specs.Cmp.{Equal-is}
-use Rattle.std.specs.Ordering.{eq_by_cmp}
-use Rattle.std.specs.FinMap.{find, from_entries, get, get-from_entries, get-insert, get-remove, insert, len, len-empty, len-insert, remove, same_map}
-use Rattle.tw_types.specs.declared.actor.Actor.{Actor}
 use Rattle.tw_types.specs.declared.actor.Actor.TheVariants.{Engine, Server, Worker}
-use Rattle.tw_types.specs.Actor.{actor_cmp}
 use Rattle.tw_types.proofs.Orders.{other_key, own_key}
-use Rattle.tw_types.proofs.ActorOrder.{actor_cmp_total, actor_cmp-IsAntisymmetric}
-use Rattle.tw_frame.specs.Jobs.{FrameView}
-use Rattle.tw_parts.specs.Seats.{AreSeats, HasSeat, Seated, actor_of, seat_of, seated, who_sit}
 
 abbrev Seats : Type 0
 Seats = List (Option FrameView)

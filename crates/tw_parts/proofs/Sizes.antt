@@ -1,27 +1,14 @@
 -- SIZE and SUBAT: what is asked is met, and that it is done.
 use Rattle.std.specs.FinMap as map
-use Rattle.std.specs.Cmp.{first_so}
+use Rattle.tw_parts.proofs.PartNames.{◌^◌, Completed, Context, Datum, EmptyRegister, FrameView, FreedDatum, HasThatMany, IsDone, IsHere, MayDo, MaySet, Notices, Ok, Position, Right, RightType, Scalar, Served, Skipped, Store, Subscript, WrongType, ℤ, at_goal, at_next_place, bare_file, bare_frame, data_instr, first_so, get, int_at, is_closed_mode, is_container_by, is_scalar, kind_at, may_read_members, may_read_members_by, members_at, members_in, must_have_type, must_then, not, ok_after, ok_first, pos, reads_closed_container, reads_closed_container_by, right_at, scalar_of, sees, size_asks, subscript_after, subscript_asks, there_then, with_notices, with_result, with_value, writes as typed_writes}
 use Rattle.tw_types.specs.declared.data_type.Scalar.TheVariants as scalar
 use Rattle.tw_types.specs.declared.value.Value.TheVariants as value
-use Rattle.tw_types.specs.declared.cause.Cause.TheVariants.{WrongType}
-use Rattle.tw_types.specs.DataType.{is_container_by}
-use Rattle.tw_types.specs.Store.{Store}
-use Rattle.tw_types.specs.StoreCalls.{members_at, members_in, subscript_after}
-use Rattle.tw_types.specs.StoreChecks.{may_read_members, may_read_members_by}
-use Rattle.tw_types.specs.Value.{scalar_of}
-use Rattle.tw_types.specs.ValueOrder.{Subscript}
 use Rattle.tw_types.proofs.Passed.{read_container}
 use Rattle.tw_types.proofs.SameTypes.{by_deep}
 use Rattle.tw_types.proofs.Subscripts.{members_kinds, subscript_kind}
 use Rattle.tw_rights.specs.declared.held.Held.TheVariants as held
 use Rattle.tw_code.specs.declared.instr.DataInstr.TheVariants as on_data
-use Rattle.tw_code.specs.accepting.Typing.{reads_closed_container, reads_closed_container_by}
-use Rattle.tw_code.specs.machine.Position.{must_have_type, with_result}
-use Rattle.tw_no_trap.proofs.Conditions.{size_asks, subscript_asks}
-use Rattle.tw_frame.specs.Drafts.{MaySet}
-use Rattle.tw_frame.specs.Jobs.{bare_frame}
-use Rattle.tw_parts.specs.Memory.{HasThatMany}
-use Rattle.tw_parts.proofs.DataNames.{◌≡◌, ◌∙◌, ◌+◌, ◌<◌, ◌^◌, ℕ, ℤ, pos, true, false, not, [], None, Some, Option, Ok, refl, sym, ap, inl, slice_get, slice_index_or, get, Scalar, Datum, must_then, EmptyRegister, FreedDatum, is_closed_mode, is_scalar, Notices, with_notices, ok_after, ok_first, there_then, bare_file, kind_at, Right, Served, IsHere, Completed, Skipped, Context, data_instr, at_goal, at_next_place, int_at, Position, with_value, RightType, right_at, FrameView, IsDone, MayDo, sees, typed_writes}
+use Rattle.std.proofs.Common.{◌≡◌, ◌∙◌, ◌+◌, ◌<◌, ℕ, true, false, [], None, Some, Option, refl, sym, ap, inl, slice_get, slice_index_or}
 use Rattle.tw_parts.proofs.Left.{moved_done, now_stays, same_ok}
 use Rattle.tw_parts.proofs.Registers.{closed_reads, id_at, its_id, kind_passed, placed_at}
 use Rattle.tw_parts.proofs.ValueRegisters.{int_is, int_same, may_set_kind}

@@ -1,46 +1,16 @@
 -- An engine asks: on the parts.
 use Rattle.std.proofs.Common.{map, length, ◌≡◌, ℕ, zero, suc, true, false, if◌then◌else◌, List, [], ◌∷◌, Some, None, refl, sym, ap, subst, ◌∙◌, slice_get, option_map}
-use Rattle.std.proofs.lemmas.Option.{same_Some}
-use Rattle.std.specs.FinMap.{entries, get, insert}
+use Rattle.tw_parts.proofs.PartNames.{ActorCounts, AreParts, AreQueued, Arg, ArgStands, ArgsStand, Ask, AsksOpen, Datum, Goes, IsAt, Mode, Notices, Param, Parts, Places, Read, Right, RightArg, Rule, Stand, Store, TypedProgram, Val, Went, Write, at_stage, bare_arg, bare_frame, bare_rule, bare_task, closed_by, entries, get, insert, is_closed, is_closed_mode, is_settled, is_val, mapped, next_ask, params_in, params_of, right_of, same_Some, state_of, subscribed, typings_of, with_stage}
 use Rattle.tw_types.specs.declared.actor.Actor.TheVariants.{Engine}
-use Rattle.tw_types.specs.declared.event.Event.TheVariants.{Ask}
-use Rattle.tw_types.specs.declared.param.Mode.{Mode}
 use Rattle.tw_types.specs.declared.param.Mode.TheVariants as mode
-use Rattle.tw_types.specs.declared.param.Param.{Param}
 use Rattle.tw_types.specs.declared.stage.Stage.{Stage}
 use Rattle.tw_types.specs.declared.stage.Stage.TheVariants.{Unasked, Waiting, Ready}
-use Rattle.tw_types.specs.Layout.{ActorCounts}
-use Rattle.tw_types.specs.Mode.{is_val, is_closed_mode}
-use Rattle.tw_types.specs.Notices.{Notices}
-use Rattle.tw_types.specs.Outcome.{Went}
-use Rattle.tw_types.specs.Rule.{Rule, at_stage, is_settled, next_ask}
-use Rattle.tw_types.specs.Store.{Datum, Store, is_closed}
-use Rattle.tw_types.specs.StoreCalls.{subscribed}
-use Rattle.tw_types.specs.Task.{RightArg}
-use Rattle.tw_rights.specs.declared.arg.Arg.{Arg}
-use Rattle.tw_rights.specs.declared.arg.Arg.TheVariants.{Val, Read, Write}
-use Rattle.tw_rights.specs.Rights.{Right}
 use Rattle.tw_rules.specs.Table.{right_at, stage_at, staged}
-use Rattle.tw_store.specs.Calls.{closed_by}
-use Rattle.tw_store.specs.Slots.{Places}
-use Rattle.tw_code.specs.machine.Arguments.{params_in, params_of}
-use Rattle.tw_verify.specs.Typed.{TypedProgram, typings_of}
 use Rattle.tw_code.specs.machine.Machine.{asked, step}
-use Rattle.tw_code.specs.machine.Rights.{right_of}
-use Rattle.tw_code.specs.machine.State.{with_stage}
 use Rattle.tw_code.proofs.Found.{IsOwn, IsUnaskedAt, ask_found, own_rule_there}
 use Rattle.tw_no_trap.specs.InOrder.{is_asked_for}
 use Rattle.tw_no_trap.specs.Invariant.{IsHeld, RuleArgsFit}
 use Rattle.tw_no_trap.proofs.Wanted.{asked_is_there}
-use Rattle.tw_parts.specs.Events.{Goes}
-use Rattle.tw_parts.specs.Fits.{AreParts, ArgStands, ArgsStand, IsAt, Stand}
-use Rattle.tw_parts.specs.Memory.{AsksOpen}
-use Rattle.tw_frame.specs.Jobs.{bare_frame}
-use Rattle.tw_types.specs.Mapped.{mapped}
-use Rattle.tw_parts.specs.Notes.{AreQueued}
-use Rattle.tw_rights.specs.Bare.{bare_arg, bare_rule, bare_task}
-use Rattle.tw_parts.specs.Parts.{state_of}
-use Rattle.tw_parts.specs.declared.parts.Parts.{Parts}
 use Rattle.tw_parts.proofs.Delivers.{staged_bare, staged_is}
 use Rattle.tw_parts.proofs.Fitting.{Behind, behind, seen, stand_staged}
 use Rattle.tw_types.proofs.Chosen.{next_ask_mapped}

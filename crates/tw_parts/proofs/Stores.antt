@@ -1,12 +1,8 @@
 -- STORE: what is asked is met, and that it is done.
-use Rattle.tw_types.specs.StoreCalls.{notices_after, notices_of_stored, set_to, stored}
-use Rattle.std.specs.Cmp.{first_so}
-use Rattle.tw_types.specs.StoreChecks.{may_store}
+use Rattle.tw_parts.proofs.PartNames.{Context, Datum, EmptyRegister, FrameView, FreedDatum, IsDone, IsHere, IsLeft, MayDo, Notices, Ok, Right, Served, Value, WrongRegister, at_next_place, bare_file, data_instr, datum_at, first_so, get, is_scalar, is_write, kind_at, may_store, must_then, notices_after, notices_of_stored, ok_after, right_at, same_Some, sees, set_to, slice_get_within, store_asks, stored, suits, there_then, with_notices, writes_scalar}
 use Rattle.tw_rights.specs.declared.held.Held.TheVariants as held
 use Rattle.tw_code.specs.declared.instr.DataInstr.TheVariants as on_data
-use Rattle.tw_code.specs.accepting.Typing.{writes_scalar}
-use Rattle.tw_no_trap.proofs.Conditions.{store_asks}
-use Rattle.tw_parts.proofs.DataNames.{◌≡◌, ◌∙◌, ◌<◌, ◌+◌, ℕ, true, None, Some, Ok, refl, sym, ap, slice_get, slice_index_or, slice_set, length, same_Some, slice_get_within, get, EmptyRegister, WrongRegister, FreedDatum, Value, is_scalar, is_write, Notices, with_notices, Datum, must_then, ok_after, there_then, bare_file, kind_at, Right, Served, IsHere, IsLeft, Context, data_instr, datum_at, suits, at_next_place, right_at, FrameView, IsDone, MayDo, sees}
+use Rattle.std.proofs.Common.{◌≡◌, ◌∙◌, ◌<◌, ◌+◌, ℕ, true, None, Some, refl, sym, ap, slice_get, slice_index_or, slice_set, length}
 use Rattle.tw_parts.proofs.Left.{emptied_done, left_stays, left_told, same_ok}
 use Rattle.tw_parts.proofs.Registers.{its_id, kind_passed, placed_at}
 

@@ -1,49 +1,13 @@
 -- An actor takes a task: on the parts.
 use Rattle.std.proofs.Common.{map as each, ◌≡◌, ◌-◌, ℕ, zero, suc, true, List, [], ◌∷◌, ◌++◌, Option, Some, None, Result, Ok, Err, refl, sym, ap, subst, ◌∙◌, slice_get, option_map, length, replicate, option_to_list}
-use Rattle.std.specs.Cmp.{nat_cmp_total}
-use Rattle.std.specs.FinMap.{get, insert, remove, nat_cmp-IsAntisymmetric}
-use Rattle.tw_types.specs.declared.actor.Actor.{Actor}
-use Rattle.tw_types.specs.declared.cause.Cause.{Cause}
-use Rattle.tw_types.specs.declared.event.Event.TheVariants.{Take}
-use Rattle.tw_types.specs.declared.param.Param.{Param}
-use Rattle.tw_types.specs.declared.value.Value.{Value}
-use Rattle.tw_types.specs.Actor.{is_in}
-use Rattle.tw_types.specs.Layout.{ActorCounts}
-use Rattle.tw_types.specs.Mode.{is_write}
-use Rattle.tw_types.specs.Notices.{Notices}
-use Rattle.tw_types.specs.Outcome.{Went, Trap}
-use Rattle.tw_types.specs.Task.{TaskOf, TasksOf, best}
-use Rattle.tw_types.proofs.ActorOrder.{actor_cmp_total, actor_cmp-IsAntisymmetric}
+use Rattle.tw_parts.proofs.PartNames.{Actor, ActorCounts, AreParts, ArePlaced, Arg, ArgStands, ArgsStand, Begins, BeginsOrNone, Cause, DraftView, FrameFits, FrameView, Goes, MayStand, MayStart, Notices, Param, Parts, Places, Procedure, Read, Right, RightType, Seated, Stand, StartsAsMachine, Take, TaskOf, TasksOf, Trap, TypedProgram, Val, Value, Went, Write, actor_cmp-IsAntisymmetric, actor_cmp_total, bare_arg, bare_file, bare_frame, bare_rule, bare_task, best, entry_by, first_rights, frame_of, get, insert, insert_mapped, is_in, is_write, kinds_in, mapped, nat_cmp-IsAntisymmetric, nat_cmp_total, params_in, remove, remove_mapped, right_of, rights_given, started, state_of, typed_at_start, typings_of, with_frame}
 use Rattle.tw_types.proofs.Best.{best_waits}
-use Rattle.tw_rights.specs.declared.arg.Arg.{Arg}
-use Rattle.tw_rights.specs.declared.arg.Arg.TheVariants.{Val, Read, Write}
-use Rattle.tw_rights.specs.Rights.{Right}
-use Rattle.tw_store.specs.Slots.{Places}
-use Rattle.tw_code.specs.accepting.Typing.{rights_given}
-use Rattle.tw_code.specs.declared.procedure.Procedure.{Procedure}
-use Rattle.tw_code.specs.machine.Arguments.{params_in}
-use Rattle.tw_verify.specs.Typed.{TypedProgram, typings_of}
 use Rattle.tw_code.specs.machine.Machine.{step}
-use Rattle.tw_code.specs.machine.Rights.{RightType, first_rights, right_of}
-use Rattle.tw_code.specs.machine.State.{frame_of, with_frame}
-use Rattle.tw_no_trap.proofs.Running.{typed_at_start}
 use Rattle.tw_no_trap.proofs.Safe.{safe}
-use Rattle.tw_parts.specs.Events.{Goes}
-use Rattle.tw_parts.specs.Fits.{AreParts, ArePlaced, ArgStands, ArgsStand, FrameFits, Stand, kinds_in}
 use Rattle.tw_frame.proofs.Frames.{first_each}
-use Rattle.tw_frame.specs.Jobs.{DraftView, FrameView, MayStand, bare_frame}
-use Rattle.tw_rights.specs.Bare.{bare_file}
 use Rattle.tw_rights.specs.Filed.{filed, rights_in}
 use Rattle.tw_rights.specs.Kinds.{writes}
-use Rattle.tw_frame.specs.Drafts.{MayStart, StartsAsMachine, started}
-use Rattle.tw_types.specs.Mapped.{entry_by, mapped}
-use Rattle.tw_rights.specs.Bare.{bare_arg, bare_rule, bare_task}
-use Rattle.tw_parts.specs.Coming.{Begins, BeginsOrNone}
-use Rattle.tw_parts.specs.Parts.{state_of}
-use Rattle.tw_parts.specs.Seats.{Seated}
-use Rattle.tw_parts.specs.declared.parts.Parts.{Parts}
 use Rattle.tw_parts.proofs.Fitting.{seen, stand_seated, stand_without}
-use Rattle.tw_types.proofs.Mapped.{insert_mapped, remove_mapped}
 use Rattle.tw_types.proofs.Chosen.{best_mapped}
 use Rattle.tw_parts.proofs.Law.{goes_to, held}
 use Rattle.tw_parts.proofs.Goings.{may_stand}

@@ -1,22 +1,13 @@
 -- A datum closes: its subscribers become notices in the queue of its server.
 use Rattle.std.proofs.Common.{map as each, ◌≡◌, ◌≢◌, ◌<◌, ◌≤◌, ◌+◌, ℕ, Bool, true, false, ◌||◌, List, [], ◌∷◌, ◌++◌, Some, refl, sym, ap, subst, ◌∙◌, length, arith, inl, inr}
-use Rattle.std.proofs.lemmas.Bool.{cases_eq}
-use Rattle.std.proofs.lemmas.List.{get_or-set_same, get_or-set_other, length-set}
-use Rattle.std.specs.FinMap.{get}
+use Rattle.tw_parts.proofs.PartNames.{AreApart, AreQueued, Data, Datum, Notice, Notices, Rules, cases_eq, eq_by_cmp, get, get_or-set_other, get_or-set_same, is_among, length-set, notice_cmp, notice_to, queue_at, queued, server_of, with_notices}
 use Rattle.std.specs.FinSet as set_of
-use Rattle.std.specs.Ordering.{eq_by_cmp}
-use Rattle.tw_types.specs.declared.notice.Notice.{Notice}
 use Rattle.tw_types.specs.declared.notice.Subscriber.{Subscriber}
-use Rattle.tw_types.specs.Notices.{Notices, notice_cmp, with_notices}
-use Rattle.tw_types.specs.Rule.{Rules}
-use Rattle.tw_types.specs.Store.{Data, Datum, notice_to, server_of}
 use Rattle.tw_types.proofs.NoticeOrder.{notice_cmp_total}
-use Rattle.tw_store.specs.Served.{queued}
 use Rattle.tw_code.specs.machine.Waiting.{stage_at, times_among, times_noticed, times_subscribed}
 use Rattle.tw_code.proofs.Sets.{is_that, that_itself}
 use Rattle.tw_code.proofs.Subscribed.{noticed_one, subscribed-le, waits-le}
 use Rattle.tw_no_trap.specs.Noticed.{AreNamed}
-use Rattle.tw_parts.specs.Notes.{AreApart, AreQueued, is_among, queue_at}
 use Rattle.tw_parts.proofs.Notes.{itself, same_is}
 
 -- ---- lists

@@ -1,19 +1,10 @@
 -- One value register: the number that is in it, and the values that it may be given.
-use Rattle.std.specs.Option.{option_and_then}
-use Rattle.std.specs.Cmp.{second_so}
+use Rattle.tw_parts.proofs.PartNames.{◌||◌, Cause, Contains, Content, Datum, FreedDatum, IsTextAt, MaySet, NestedScalar, Ok, Position, Result, Scalar, Set, Store as Data, Unset, Value, WrongRegister, ℤ, get, int_at, int_in, is_of, is_scalar, may_retrieve, must_have_type, must_ok, must_then, not, of_type_at, option_and_then, same_Some, same_scalar, scalar_of, second_so, slice_get_within, suits, there_then, value_at, value_in}
 use Rattle.tw_types.specs.declared.data_type.Scalar.TheVariants as scalar
 use Rattle.tw_types.specs.declared.value.Value.TheVariants as value
-use Rattle.tw_types.specs.DataType.{same_scalar}
-use Rattle.tw_types.specs.Store.{Content, Unset, Set, Contains}
-use Rattle.tw_types.specs.StoreCalls.{value_at, value_in}
-use Rattle.tw_types.specs.StoreChecks.{may_retrieve}
 use Rattle.tw_types.specs.TypedStore.{IsOfType, IsTypedStore}
-use Rattle.tw_types.specs.Value.{is_of, scalar_of}
-use Rattle.tw_code.specs.machine.Position.{int_in, must_have_type, of_type_at}
-use Rattle.tw_frame.specs.Drafts.{MaySet}
 use Rattle.tw_types.proofs.SameTypes.{same_scalars}
-use Rattle.tw_parts.specs.Memory.{IsTextAt}
-use Rattle.tw_parts.proofs.DataNames.{◌≡◌, ◌<◌, ◌∙◌, ℕ, ℤ, length, slice_get_within, Scalar, Bool, true, false, not, ◌||◌, List, Option, Some, None, Result, Ok, refl, sym, ap, option_map, slice_get, same_Some, get, Cause, FreedDatum, WrongRegister, Value, is_scalar, NestedScalar, Datum, Data, must_ok, must_then, there_then, suits, Position, int_at}
+use Rattle.std.proofs.Common.{◌≡◌, ◌<◌, ◌∙◌, ℕ, length, Bool, true, false, List, Option, Some, None, refl, sym, ap, option_map, slice_get}
 
 -- ---- numbers
 

@@ -1,7 +1,6 @@
 -- Registers are asked what right typing asks.
 use Rattle.std.proofs.Common.{◌≡◌, ℕ, Bool, true, false, cond, List, [], ◌∷◌, ◌++◌, map, None, refl, ap}
-use Rattle.std.specs.Prelude.{slice_set}
-use Rattle.tw_types.specs.declared.data_type.Scalar.{Scalar}
+use Rattle.tw_reasons.proofs.ReasonNames.{Scalar, Typing, asked_args, asked_data, asked_local, asked_priority, asked_right, asked_value, asks_args, asks_data, asks_local, asks_priority, asks_value, may_stand_for, question_of, right_at, slice_set}
 use Rattle.tw_types.specs.declared.param.Param.{Param}
 use Rattle.tw_types.specs.Mode.{is_val}
 use Rattle.tw_code.specs.declared.instr.DataInstr.{DataInstr}
@@ -11,9 +10,6 @@ use Rattle.tw_code.specs.declared.instr.LocalInstr.TheVariants as local
 use Rattle.tw_code.specs.declared.instr.Priority.{Priority}
 use Rattle.tw_code.specs.declared.instr.Priority.TheVariants.{Constant, Computed}
 use Rattle.tw_code.specs.accepting.Question.{Question, passes}
-use Rattle.tw_code.specs.accepting.Typing.{asks_args, asks_data, asks_local, asks_priority, asks_value, may_stand_for}
-use Rattle.tw_code.specs.machine.Rights.{Typing, right_at}
-use Rattle.tw_reasons.specs.Asked.{asked_args, asked_data, asked_local, asked_priority, asked_right, asked_value, question_of}
 use Rattle.tw_reasons.specs.Same.{AsksTheSame}
 
 same_local : (registers : List Scalar) (i : LocalInstr) → map question_of (asked_local registers i) ≡ asks_local registers i

@@ -1,13 +1,11 @@
 -- What an earlier place brings.
 use Rattle.std.proofs.Common.{◌≡◌, ℕ, ◌<◌, List, Option, None, Some, refl}
-use Rattle.std.specs.Prelude.{IfSome, slice_get}
+use Rattle.tw_reasons.proofs.ReasonNames.{IfSome, Typing, after, slice_get}
 use Rattle.tw_code.specs.declared.flow.Way.{Way}
 use Rattle.tw_code.specs.declared.instr.Instr.{Instr}
 use Rattle.tw_code.specs.declared.procedure.Procedure.{Procedure}
 use Rattle.tw_code.specs.accepting.Flow.{flow_of, onward}
-use Rattle.tw_code.specs.accepting.Typing.{after}
 use Rattle.tw_code.specs.accepting.WellTyped.{Brings}
-use Rattle.tw_code.specs.machine.Rights.{Typing}
 
 pub if_some : {A : Type 0} (P Q : A → Type 0) (r : Option A) → ((x : A) → P x → Q x) → IfSome r P → IfSome r Q
 if_some P Q None f h = h

@@ -1,17 +1,12 @@
 -- Words of types and modes: no word is of two kinds, and none is past a limit.
 use Rattle.std.proofs.Common.{◌≡◌, Bool, true, false, ℕ, List, Ok, Err, codes, refl, sym, subst}
-use Rattle.std.specs.Str.{bytes_eq}
+use Rattle.tw_reasons.proofs.ReasonNames.{Bare, Form, Quoted, Scalar, Version, Word, bytes_eq, container_in, mode_in, scalar_in}
 use Rattle.std.proofs.lemmas.Slice.Eq.{bytes_eq-Decides}
-use Rattle.tw_types.specs.declared.data_type.Scalar.{Scalar}
 use Rattle.tw_types.specs.declared.data_type.Scalar.TheVariants.{Int, Text}
 use Rattle.tw_types.specs.declared.param.Mode.{Mode}
 use Rattle.tw_types.specs.declared.param.Mode.TheVariants.{Val, Closed, Ref, Write}
-use Rattle.tw_code.specs.declared.version.Version.{Version}
 use Rattle.tw_code.specs.declared.version.Version.TheVariants.{One, Two}
-use Rattle.tw_words.specs.Words.{Word, Bare, Quoted}
 use Rattle.tw_asm.specs.Parts.{container_word, mode_word, scalar_word}
-use Rattle.tw_asm.specs.declared.refusal.Flaw.TheVariants.{Form}
-use Rattle.tw_asm.specs.reading.Operands.{container_in, mode_in, scalar_in}
 
 pub data Class (version : Version) (w : Word) : Type 0 where
   scalar : (s : Scalar) → scalar_in w ≡ Ok s → container_in version w ≡ Err Form → mode_in w ≡ Err Form → Class version w

@@ -1,14 +1,11 @@
 -- An instruction has at most four operands.
 use Rattle.std.proofs.Common.{ℕ, zero, suc, ◌<◌, ◌≤◌, List, [], ◌∷◌, length, Option, None, Some, arith}
-use Rattle.std.specs.Prelude.{IfSome, slice_get}
+use Rattle.tw_reasons.proofs.ReasonNames.{IfSome, Version, form_behind, opcode_in, slice_get}
 use Rattle.std.specs.Option.{option_and_then}
 use Rattle.tw_code.specs.declared.form.Form.{Form}
 use Rattle.tw_code.specs.declared.opcode.Opcode.{Opcode}
 use Rattle.tw_code.specs.declared.opcode.Opcode.TheVariants as op
-use Rattle.tw_code.specs.declared.version.Version.{Version}
 use Rattle.tw_code.specs.format.Table.{forms_of}
-use Rattle.tw_asm.specs.reading.Lines.{opcode_in}
-use Rattle.tw_reasons.specs.Going.{form_behind}
 
 few : (o : Opcode) → length (forms_of o) ≤ 4
 few op.Int = omega arith

@@ -1,16 +1,8 @@
 -- What has a form, limits aside: two readings one after the other have it where both have.
 use Rattle.std.proofs.Common.{◌≡◌, ◌&&◌, ℕ, Bool, true, false, cond, List, [], ◌∷◌, ◌++◌, length, Result, Ok, Err, refl, sym, ap, ◌∙◌}
-use Rattle.std.specs.Prelude.{nat_lt}
-use Rattle.std.specs.List.{list_all}
+use Rattle.tw_reasons.proofs.ReasonNames.{Flaw, Form, Limit, Scalar, Word, around, as_is, both, contained, each, each_from, few, has_form, joined, list_all, nat_lt, put_first}
 use Rattle.tw_types.specs.DataType.{container_of, depth_of}
 use Rattle.tw_types.specs.Nesting.{NestedScalar}
-use Rattle.tw_types.specs.declared.data_type.Scalar.{Scalar}
-use Rattle.tw_words.specs.Words.{Word}
-use Rattle.tw_asm.specs.declared.refusal.Flaw.{Flaw}
-use Rattle.tw_asm.specs.declared.refusal.Flaw.TheVariants.{Form, Limit}
-use Rattle.tw_asm.specs.reading.Lines.{around, contained, each, each_from, few, joined, put_first}
-use Rattle.tw_asm.specs.reading.Operands.{as_is, both}
-use Rattle.tw_reasons.specs.Going.{has_form}
 
 pub and_false : (b : Bool) → (b && false) ≡ false
 and_false true = refl

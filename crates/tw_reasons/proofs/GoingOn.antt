@@ -1,18 +1,12 @@
 -- A line is gone along just where some statement goes on so.
 use Rattle.std.proofs.Common.{◌≡◌, ◌+◌, ◌&&◌, ◌||◌, ◌==◌, ℕ, zero, suc, Bool, true, false, not, cond, List, [], ◌∷◌, codes, drop, length, Option, None, Some, Ok, Err, refl, sym, ap, ◌∙◌, add-one}
 use Rattle.std.specs.Cmp.{second_so}
-use Rattle.std.specs.Prelude.{nat_lt, slice_get}
+use Rattle.tw_reasons.proofs.ReasonNames.{Bare, Form, Limit, Operand, Quoted, Version, Word, behind_operand, bytes_eq, each, ends_at, form_behind, go_on, goal, goes, has_form, is_any, is_goal, is_quoted, line_in, line_of, literal, nat_lt, natural, number, only_if, operand_in, right, slice_get, target, type_in, value}
 use Rattle.std.specs.Borrow.{Bor}
-use Rattle.std.specs.Str.{bytes_eq}
 use Rattle.tw_types.specs.DataType.{scalar_type}
 use Rattle.tw_code.specs.declared.form.Form.{Form as OperandForm}
 use Rattle.tw_code.specs.declared.form.Form.TheVariants as form
-use Rattle.tw_code.specs.declared.version.Version.{Version}
-use Rattle.tw_words.specs.Words.{Word, Bare, Quoted}
-use Rattle.tw_asm.specs.declared.refusal.Flaw.TheVariants.{Form, Limit}
-use Rattle.tw_asm.specs.reading.Lines.{Operand, goal, each, line_in, line_of, literal, natural, number, operand_in, right, target, type_in, value}
 use Rattle.tw_asm.specs.reading.Operands.{as_is, at_label, both, container_in, digits_in, further, goal_in, is_name, literal_in, name_in, natural_in, number_in, register_in, scalar_in, target_in}
-use Rattle.tw_reasons.specs.Going.{behind_operand, ends_at, form_behind, go_on, goes, has_form, is_any, is_goal, is_quoted, only_if}
 use Rattle.tw_reasons.specs.declared.step.Read.{Read}
 use Rattle.tw_reasons.specs.declared.step.Read.TheVariants as read
 use Rattle.tw_reasons.proofs.Classes.{Class, class_of, container, mode, other, scalar}

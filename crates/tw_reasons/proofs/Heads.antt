@@ -1,9 +1,6 @@
 -- The first line that begins a procedure, and lines up to one.
-use Rattle.std.proofs.Common.{◌≡◌, ◌+◌, ℕ, suc, true, false, List, [], ◌∷◌, ◌++◌, length, map, Bor, Option, Some, None, refl, sym, ap, subst, ◌∙◌, arith}
-use Rattle.std.specs.List.{AllByRecursion, enumerate_from}
-use Rattle.std.specs.Str.Lines.{lines}
-use Rattle.tw_asm.specs.Statement.{Statement, Code, Head, Label, OfVersion, Registers}
-use Rattle.tw_asm.specs.Fault.{LineSays, LinesSay, Situation, after_line, at_start, situation, situation_from}
+use Rattle.std.proofs.Common.{◌≡◌, ◌+◌, ℕ, suc, true, false, List, [], ◌∷◌, ◌++◌, length, Option, Some, None, refl, sym, ap, subst, ◌∙◌, arith}
+use Rattle.tw_reasons.proofs.ReasonNames.{AllByRecursion, Code, Head, Label, LineSays, LinesSay, OfVersion, Registers, Situation, Statement, after_line, at_start, lines, situation, situation_from}
 use Rattle.tw_reasons.specs.Says.{HasNoHead, IsFirstHead, is_head, says_of}
 use Rattle.tw_reasons.specs.declared.situation.Says.{Says}
 use Rattle.tw_reasons.proofs.Saying.{split_last}
@@ -24,19 +21,6 @@ front_is [] (y ∷ b) c d e l = absurd (omega (arith, l))
 front_is (x ∷ a) [] c d e l = absurd (omega (arith, l))
 front_is {A} (x ∷ a) (y ∷ b) c d e l =
     ap (λ (z : A). z ∷ a) (first_is x y (a ++ c) (b ++ d) e) ∙ ap (λ (zs : List A). y ∷ zs) (front_is a b c d (tail_is x y (a ++ c) (b ++ d) e) (omega (arith, l)))
-
--- ---- the lines of a loop that counts them
-
-seconds_are : (items : List (ℕ × Bor (List ℕ))) → map (λ (p : ℕ × List ℕ). p.1) (map (λ (item : ℕ × Bor (List ℕ)). (item.0, item.1.now)) items) ≡ map (λ (item : ℕ × Bor (List ℕ)). item.1.now) items
-seconds_are [] = refl
-seconds_are (i ∷ items) = ap (λ (x : List (List ℕ)). i.1.now ∷ x) (seconds_are items)
-
-all_seconds : (k : ℕ) (ls : List (List ℕ)) → map (λ (x : ℕ × List ℕ). x.1) (enumerate_from k ls) ≡ ls
-all_seconds k [] = refl
-all_seconds k (l ∷ ls) = ap (λ (x : List (List ℕ)). l ∷ x) (all_seconds (k + 1) ls)
-
-pub all_lines : (ls : List (List ℕ)) (items : List (ℕ × Bor (List ℕ))) → map (λ (item : ℕ × Bor (List ℕ)). (item.0, item.1.now)) items ≡ enumerate_from 0 ls → map (λ (item : ℕ × Bor (List ℕ)). item.1.now) items ≡ ls
-all_lines ls items e = sym (seconds_are items) ∙ ap (map (λ (x : ℕ × List ℕ). x.1)) e ∙ all_seconds 0 ls
 
 -- ---- lines before one
 

@@ -18,3 +18,4 @@ pub mod Stopping
 pub mod Telling
 pub mod Types
 pub mod Whys
+mod ReasonNames

@@ -1,7 +1,6 @@
 -- Lines of a text, and parts of a word.
 use Rattle.std.proofs.Common.{◌≡◌, ℕ, Bool, true, ◌||◌, List, [], ◌∷◌, Option, None, Some, sym, ap, option_map}
-use Rattle.std.specs.Prelude.{MatchOption, nat_eq}
-use Rattle.std.specs.List.{starts_with}
+use Rattle.tw_reasons.proofs.ReasonNames.{MatchOption, nat_eq, starts_with}
 use Rattle.std.specs.Borrow.{Bor}
 use Rattle.tw_reasons.specs.Told.{has_part}
 

@@ -1,19 +1,11 @@
 -- Parameters are gone along as they are read.
 use Rattle.std.proofs.Common.{◌≡◌, ◌&&◌, Bool, true, false, cond, List, [], ◌∷◌, Option, None, Some, Result, Ok, Err, refl, sym, ap, ◌∙◌}
-use Rattle.std.specs.Prelude.{nat_lt}
+use Rattle.tw_reasons.proofs.ReasonNames.{Flaw, Form, Limit, Params, Scalar, Version, Word, as_is, contained, ended, goes, has_form, nat_lt, param_of, params_from, put_first, taken, under}
 use Rattle.tw_types.specs.DataType.{container_of, depth_of}
 use Rattle.tw_types.specs.Nesting.{NestedScalar}
-use Rattle.tw_types.specs.declared.data_type.Scalar.{Scalar}
 use Rattle.tw_types.specs.declared.param.Mode.{Mode}
 use Rattle.tw_types.specs.declared.param.Mode.TheVariants.{Val, Closed, Ref, Write}
 use Rattle.tw_types.specs.declared.param.Param.{Param}
-use Rattle.tw_code.specs.declared.version.Version.{Version}
-use Rattle.tw_words.specs.Words.{Word}
-use Rattle.tw_asm.specs.declared.refusal.Flaw.{Flaw}
-use Rattle.tw_asm.specs.declared.refusal.Flaw.TheVariants.{Form, Limit}
-use Rattle.tw_asm.specs.reading.Lines.{Params, contained, ended, param_of, params_from, put_first, taken, under}
-use Rattle.tw_asm.specs.reading.Operands.{as_is}
-use Rattle.tw_reasons.specs.Going.{goes, has_form}
 use Rattle.tw_reasons.specs.declared.step.Read.TheVariants as read
 use Rattle.tw_reasons.proofs.Classes.{Class, class_of, container, mode, other, scalar}
 use Rattle.tw_reasons.proofs.Forms.{form_as_is, form_contained, form_put_first}

@@ -1,20 +1,13 @@
 -- That the reason is told at the refused place.
 use Rattle.std.proofs.Common.{◌≡◌, ℕ, List, [], None, Some, Result, Ok, Err, sym, subst, ◌∙◌}
-use Rattle.std.proofs.lemmas.List.{append-nil}
-use Rattle.std.specs.Prelude.{OnOk, slice_get}
+use Rattle.std.proofs.lemmas.Option.{none-some, same_Some}
+use Rattle.tw_reasons.proofs.ReasonNames.{OnOk, Typing, append-nil, slice_get}
 use Rattle.tw_code.specs.declared.instr.Instr.{Instr}
 use Rattle.tw_code.specs.declared.procedure.Procedure.{Procedure}
-use Rattle.tw_code.specs.machine.Rights.{Typing}
 use Rattle.tw_verify.specs.Known.{AreFound}
 use Rattle.tw_verify.specs.Refusal.{verify_refusal_number}
 use Rattle.tw_verify.specs.declared.refusal.VerifyRefusal.{VerifyRefusal}
 use Rattle.tw_reasons.specs.Reasons.{AddsReason, AddsTold, IsReason, TellsReason}
-
-none_some : {A : Type 0} (x : A) → None ≡ Some x → ⊥
-none_some x e = cc
-
-one_some : {A : Type 0} (x y : A) → Some x ≡ Some y → x ≡ y
-one_some x y e = cc
 
 pub on_ok : {T E : Type 0} (P Q : Type 0) (r : Result T E) → OnOk r P → (P → Q) → OnOk r Q
 on_ok P Q (Ok x) h f = f h
@@ -27,9 +20,9 @@ module _ (which : VerifyRefusal) (lines : List (List ℕ)) (program : List Proce
     where
       told : TellsReason which lines program procedure place adds.0
       told q j e f =
-          let same : p ≡ q = one_some p q (sym here ∙ e) in
+          let same : p ≡ q = same_Some p q (sym here ∙ e) in
           let also : slice_get p.code place ≡ Some j = subst (λ (x : Procedure). slice_get x.code place ≡ Some j) (sym same) f in
-          let alike : i ≡ j = one_some i j (sym there ∙ also) in (
+          let alike : i ≡ j = same_Some i j (sym there ∙ also) in (
             typings,
             found,
             subst (λ (x : Procedure). IsReason which lines program x procedure place j typings adds.0) same (subst (λ (x : Instr). IsReason which lines program p procedure place x typings adds.0) alike adds.1),
@@ -40,8 +33,8 @@ module _ (which : VerifyRefusal) (lines : List (List ℕ)) (program : List Proce
     where
       told : TellsReason which lines program procedure place []
       told q j e f =
-          let same : p ≡ q = one_some p q (sym here ∙ e) in
-          absurd (none_some j (sym none ∙ subst (λ (x : Procedure). slice_get x.code place ≡ Some j) (sym same) f))
+          let same : p ≡ q = same_Some p q (sym here ∙ e) in
+          absurd (none-some j (sym none ∙ subst (λ (x : Procedure). slice_get x.code place ≡ Some j) (sym same) f))
 
   pub tells_nowhere : (old : List ℕ) → slice_get program procedure ≡ None → AddsTold which lines program procedure place old old
-  tells_nowhere old none = ([], λ q j e f. absurd (none_some q (sym none ∙ e)), sym (append-nil old))
+  tells_nowhere old none = ([], λ q j e f. absurd (none-some q (sym none ∙ e)), sym (append-nil old))

@@ -1,22 +1,14 @@
 -- A line's first word tells what the line says.
 use Rattle.std.proofs.Common.{◌≡◌, ◌≢◌, ◌+◌, ℕ, suc, Bool, true, false, List, [], ◌∷◌, ◌++◌, length, map, codes, Option, Some, None, refl, sym, ap, subst, ◌∙◌, arith}
-use Rattle.std.specs.Str.{bytes_eq}
-use Rattle.std.specs.List.{flat_map}
+use Rattle.tw_reasons.proofs.ReasonNames.{AnyShortName, Bare, Code, Head, IsLine, IsRead, Label, LineSays, LinesSay, OfVersion, Quoted, Registers, Say, Situation, SpellParts, Spells, Statement, Version, Word, after_line, at_start, before_colon, broken_no_line, bytes_eq, flat_map, line_once, opcode_in, seen, situation, situation_from, version_by}
 use Rattle.std.proofs.lemmas.Slice.Eq.{bytes_eq-Decides}
 use Rattle.tw_code.specs.declared.opcode.Opcode.{Opcode}
-use Rattle.tw_code.specs.declared.version.Version.{Version}
 use Rattle.tw_code.specs.format.Program.{IsWithin}
 use Rattle.tw_code.specs.format.Table.{row}
 use Rattle.tw_words.specs.Number.{SpellsDigits}
-use Rattle.tw_words.specs.Seen.{IsRead, seen}
-use Rattle.tw_words.specs.Words.{Word, Bare, Quoted, IsLine}
 use Rattle.tw_words.specs.declared.word.Word as words
-use Rattle.tw_words.proofs.Once.{broken_no_line, line_once}
 use Rattle.tw_asm.specs.Names.{word_of}
 use Rattle.tw_asm.specs.Parts.{Name, Natural, kind_word, operand_parts, param_parts, register_part}
-use Rattle.tw_asm.specs.Statement.{AnyShortName, Code, Head, Label, OfVersion, Registers, Say, SpellParts, Spells, Statement, version_by}
-use Rattle.tw_asm.specs.Fault.{LineSays, LinesSay, Situation, after_line, at_start, situation, situation_from}
-use Rattle.tw_asm.specs.reading.Lines.{before_colon, opcode_in}
 use Rattle.tw_asm.proofs.Answered.{first_is, none_some, proc_is_none, regs_is_none, version_is_none}
 use Rattle.tw_asm.proofs.Sayings.{code_first, no_label}
 use Rattle.tw_asm.proofs.Spelled.{bare_is}

@@ -1,10 +1,7 @@
 -- Where a word stands in a line.
 use Rattle.std.proofs.Common.{◌≡◌, ℕ, ◌+◌, ◌-◌, ◌<◌, ◌≤◌, List, [], ◌∷◌, ◌++◌, length, take, refl, sym, ap, ◌∙◌, append_assoc, arith}
-use Rattle.std.proofs.lemmas.List.{length-append}
-use Rattle.tw_words.proofs.Once.{first_words_more, word_here}
-use Rattle.tw_words.specs.Words.{AreFirstWords, IsFirstWord, IsWord, Word}
+use Rattle.tw_reasons.proofs.ReasonNames.{AreFirstWords, IsFirstWord, IsWord, Stands, Word, first_words_more, length-append, word_here}
 use Rattle.tw_words.specs.reading.Next.{IsAfterGap}
-use Rattle.tw_reasons.specs.Stops.{Stands}
 
 take_front : (front back : List ℕ) → take (length front) (front ++ back) ≡ front
 take_front [] back = refl

@@ -1,23 +1,17 @@
 -- Behind its first word a line is gone along just where some statement goes on so; and from wherever it stands some words end it.
 use Rattle.std.proofs.Common.{◌≡◌, ◌&&◌, ℕ, zero, suc, Bool, true, false, not, cond, List, [], ◌∷◌, codes, drop, Option, None, Some, Result, refl, sym, ap, ◌∙◌, inl, inr}
 use Rattle.std.specs.Cmp.{second_so}
-use Rattle.std.specs.Prelude.{slice_get}
+use Rattle.tw_reasons.proofs.ReasonNames.{AllByRecursion, Bare, Flaw, IsExpected, IsLabelWord, Quoted, Version, Word, behind_operand, bytes_eq, ends_at, first_read, form_behind, go_on, goes, has_form, slice_get}
 use Rattle.std.specs.Borrow.{Bor}
-use Rattle.std.specs.List.{AllByRecursion}
 use Rattle.std.specs.Option.{is_some, option_and_then}
-use Rattle.std.specs.Str.{bytes_eq}
 use Rattle.std.proofs.lemmas.Str.{IsUtf8-nil}
 use Rattle.std.proofs.lemmas.Slice.Eq.{bytes_eq-Decides}
 use Rattle.tw_code.specs.declared.form.Form.{Form as OperandForm}
 use Rattle.tw_code.specs.declared.form.Form.TheVariants as form
 use Rattle.tw_code.specs.declared.opcode.Opcode.{Opcode}
 use Rattle.tw_code.specs.declared.opcode.Opcode.TheVariants as op
-use Rattle.tw_code.specs.declared.version.Version.{Version}
 use Rattle.tw_code.specs.format.Table as table
 use Rattle.tw_code.specs.format.Table.{a_row, forms_in, forms_of}
-use Rattle.tw_words.specs.Words.{Word, Bare, Quoted}
-use Rattle.tw_asm.specs.Statement.{IsExpected, IsLabelWord}
-use Rattle.tw_asm.specs.declared.refusal.Flaw.{Flaw}
 use Rattle.tw_asm.specs.declared.statement.First.{First}
 use Rattle.tw_asm.specs.declared.statement.First.TheVariants as first
 use Rattle.tw_asm.specs.reading.Lines.{before_colon, body_in, code_read, draft_in, each, ended, few, goal, head_in, head_read, kind_in, label_in, label_line, label_read, line_in, line_of, named_in, opcode_in, params_from, registers_in, registers_read, row_by, statement_in, version_in, version_read}
@@ -28,7 +22,6 @@ use Rattle.tw_asm.proofs.Names.{name_decide}
 use Rattle.tw_asm.proofs.OperandWords.{IsFine}
 use Rattle.tw_asm.proofs.Table as tables
 use Rattle.tw_asm.proofs.Table.{draft_is}
-use Rattle.tw_reasons.specs.Going.{behind_operand, ends_at, first_read, form_behind, go_on, goes, has_form}
 use Rattle.tw_reasons.specs.declared.step.Read.{Read}
 use Rattle.tw_reasons.specs.declared.step.Read.TheVariants as read
 use Rattle.tw_reasons.proofs.Forms.{all_form, and_false, and_true, form_as_is, form_both, form_each, form_few}

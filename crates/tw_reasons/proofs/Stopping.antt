@@ -1,18 +1,10 @@
 -- Where a line stops, its words so far begin a statement, and with what stands there they begin none.
 use Rattle.std.proofs.Common.{◌≡◌, ◌+◌, ℕ, true, false, List, [], ◌∷◌, ◌++◌, length, Option, None, Some, refl, sym, ap, subst, ◌∙◌, append_assoc}
 use Rattle.std.specs.Borrow.{Bor}
-use Rattle.std.specs.List.{AllByRecursion}
-use Rattle.std.proofs.lemmas.List.{append-nil, length-append}
-use Rattle.tw_code.specs.declared.version.Version.{Version}
-use Rattle.tw_words.specs.Words.{AreFirstWords, IsBlank, IsFirstWord, Word, Bare, Quoted}
-use Rattle.tw_words.proofs.Once.{blank_no_word, first_word_once, first_words_more}
-use Rattle.tw_asm.specs.Fault.{HasWords}
-use Rattle.tw_asm.specs.Statement.{HaveForm, IsExpected}
+use Rattle.tw_reasons.proofs.ReasonNames.{AllByRecursion, AreFirstWords, Bare, Begin, Ends, HasWords, HaveForm, IsBlank, IsExpected, IsFirstWord, IsFound, IsText, Quoted, Version, Word, append-nil, blank_no_word, first_word_once, first_words_more, length-append, statement_in}
 use Rattle.tw_asm.specs.declared.statement.First.{First}
-use Rattle.tw_asm.specs.reading.Lines.{statement_in}
 use Rattle.tw_asm.proofs.OperandWords.{IsFine}
 use Rattle.tw_reasons.specs.Going.{after, first_read, go_on, goes, has_form, may_end}
-use Rattle.tw_reasons.specs.Stops.{Begin, Ends, IsFound, IsText}
 use Rattle.tw_reasons.specs.declared.step.Read.{Read}
 use Rattle.tw_reasons.specs.declared.stop.Found.{Found}
 use Rattle.tw_reasons.specs.declared.stop.Found.TheVariants as found

@@ -1,21 +1,14 @@
 -- The first that is asked in vain, among lists one behind the other.
 use Rattle.std.proofs.Common.{◌≡◌, ℕ, zero, suc, ◌+◌, ◌-◌, ◌≢◌, Bool, true, false, cond, List, [], ◌∷◌, ◌++◌, None, Some, refl, sym, ap, subst, ◌∙◌, arith, length, take, drop, get_or, ◌≤◌}
-use Rattle.std.specs.Prelude.{slice_set}
-use Rattle.std.proofs.lemmas.List.{take_all}
-use Rattle.tw_types.specs.declared.data_type.Scalar.{Scalar}
+use Rattle.std.proofs.lemmas.Option.{none-some}
+use Rattle.tw_reasons.proofs.ReasonNames.{Scalar, Typing, asked_args, asked_left, asked_right, asked_value, asked_values, is_left, is_vain, slice_set, take_all, told, value_types, without_args}
 use Rattle.tw_types.specs.declared.param.Param.{Param}
 use Rattle.tw_types.specs.Mode.{is_val}
-use Rattle.tw_code.specs.accepting.Typing.{value_types, without_args}
-use Rattle.tw_code.specs.machine.Rights.{Typing}
 use Rattle.tw_reasons.specs.declared.asked.Asked.{Asked}
-use Rattle.tw_reasons.specs.Asked.{asked_args, asked_left, asked_right, asked_value, asked_values, is_left, is_vain, told}
-
-none_some : {A : Type 0} (a : A) → None ≡ Some a → ⊥
-none_some a e = cc
 
 module _ (number : ℕ) where
   pub told_first : (xs ys : List Asked) (a : Asked) → told number xs ≡ Some a → told number (xs ++ ys) ≡ Some a
-  told_first [] ys a e = absurd (none_some a e)
+  told_first [] ys a e = absurd (none-some a e)
   told_first (x ∷ xs) ys a e = by (is_vain number x) (told_first xs ys a) e
     where
       by : (b : Bool) → (told number xs ≡ Some a → told number (xs ++ ys) ≡ Some a) → cond b (Some x) (told number xs) ≡ Some a → cond b (Some x) (told number (xs ++ ys)) ≡ Some a
@@ -27,7 +20,7 @@ module _ (number : ℕ) where
   told_later (x ∷ xs) ys e = by (is_vain number x) (told_later xs ys) e
     where
       by : (b : Bool) → (told number xs ≡ None → told number (xs ++ ys) ≡ told number ys) → cond b (Some x) (told number xs) ≡ None → cond b (Some x) (told number (xs ++ ys)) ≡ told number ys
-      by true more f = absurd (none_some x (sym f))
+      by true more f = absurd (none-some x (sym f))
       by false more f = more f
 
 module _ (waits : Bool) (registers : List Scalar) (typing : Typing) where

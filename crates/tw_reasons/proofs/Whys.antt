@@ -1,17 +1,11 @@
 -- Why a line is refused, by what is told of it.
 use Rattle.std.proofs.Common.{◌≡◌, ◌+◌, ◌++◌, ℕ, List, [], length, Option, None, inl, inr, refl, sym, ap, subst, ◌∙◌}
-use Rattle.std.proofs.lemmas.List.{append-nil}
-use Rattle.std.specs.Str.Lines.{lines}
+use Rattle.tw_reasons.proofs.ReasonNames.{Bare, Begins, HasWords, IsExpected, IsFirstStop, IsFirstWord, IsStop, LineFault, LinesSay, Situation, Statement, Version, append-nil, at_start, empty, instructions, label_twice, limit, lines, operand, procedures, situation, word}
 use Rattle.tw_asm.specs.declared.fault.FaultNo.{FaultNo}
 use Rattle.tw_asm.specs.declared.fault.FaultNo.TheVariants as fault
-use Rattle.tw_code.specs.declared.version.Version.{Version}
-use Rattle.tw_words.specs.Words.{Bare, IsFirstWord}
-use Rattle.tw_asm.specs.Fault.{Begins, HasWords, LineFault, LinesSay, Situation, at_start, empty, instructions, label_twice, limit, operand, procedures, situation, word}
 use Rattle.tw_asm.specs.declared.statement.First.{First}
-use Rattle.tw_asm.specs.Statement.{IsExpected, Statement}
 use Rattle.tw_reasons.specs.Says.{situation_of, stage_of, stage_text}
 use Rattle.tw_reasons.specs.declared.situation.Situation as declared
-use Rattle.tw_reasons.specs.Stops.{IsFirstStop, IsStop}
 use Rattle.tw_reasons.specs.Told.{AddsLineReason, AddsWhy, IsBefore, IsLineReason, IsReasonIn, TellsFirst, expected_text, line_text, said_text, stop_line}
 use Rattle.tw_reasons.specs.declared.stop.Stop.{Stop}
 use Rattle.tw_reasons.specs.declared.told.Said.{Said}

@@ -4,11 +4,11 @@ ghost use Rattle.std.specs.Prelude.{◌≡◌, ◌<◌, ◌++◌, OnOk, codes, d
 ghost use Rattle.tw_reasons.specs.Asked.{are_two, has_type, holds, is_declared, is_empty, is_of, wanted_scalar};
 ghost use Rattle.tw_reasons.specs.Words.{asked_line, held_text, scalar_text, stand_in_text, type_text, wanted_text};
 
-use crate::put::{put, put_numbered};
 use crate::rights::{container_word, put_right, put_type, scalar_word};
 use std::alloc::{AllocError, Global};
 use tw_types::{DataType, Mode, Param, Scalar};
 use tw_verify::{RightType, Typing};
+use tw_words::{put, put_both, put_numbered};
 
 /// What a register holds.
 #[derive(Clone, Copy)]
@@ -201,13 +201,6 @@ fn scalar_text(ty: Option<Scalar>) -> &'static str
         Some(ty) => scalar_word(ty),
         None => "int or text",
     }
-}
-
-fn put_both(out: &mut Vec<u8>, front: &str, back: &str) -> Result<(), AllocError>
-    ensures { OnOk result (out.new.items ≡ out.old.items ++ (front.now ++ back.now)) }
-{
-    put(out, front)?;
-    put(out, back)
 }
 
 fn stand_in_text(waits: bool, mode: Mode) -> &'static str

@@ -15,7 +15,6 @@ mod local_asked;
 mod main_reason;
 mod meeting;
 mod program_reason;
-mod put;
 mod rights;
 mod situation;
 mod step;

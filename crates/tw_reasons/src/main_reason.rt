@@ -3,11 +3,11 @@
 ghost use Rattle.std.specs.Prelude.{◌≡◌, ◌<◌, ◌+◌, ◌++◌, length, OnOk};
 ghost use Rattle.tw_reasons.specs.Reasons.{param_line, params_line, shape_line, unwanted_text};
 
-use crate::put::{put, put_numbered};
 use crate::rights::put_param;
 use std::alloc::{AllocError, Global};
 use tw_code::Procedure;
 use tw_types::{Kind, Param};
+use tw_words::{put, put_numbered};
 
 fn unwanted_text(is_val: bool) -> &'static str
     ensures { result.now ≡ unwanted_text is_val }

@@ -11,7 +11,7 @@ ghost use Rattle.tw_verify.specs.Same.{same_right};
 ghost use Rattle.tw_reasons.specs.Meetings.{IsDifference, IsMeeting};
 
 use tw_code::{Flow, Instr, Procedure, Way};
-use tw_verify::{RightType, Typing};
+use tw_verify::{RightType, Typing, next_place};
 
 /// A register of which two typings say something else.
 #[derive(Clone, Copy)]
@@ -66,30 +66,12 @@ pub(crate) fn first_difference(first: &Typing, second: &Typing) -> Option<Differ
     None
 }
 
-/// The later place where an instruction goes on by this outcome.
-fn onward(way: Way, place: usize, flow: Flow) -> Option<usize>
-    requires { place < 2 ^ 32 }
-    ensures { result ≡ onward way place flow }
-{
-    match way {
-        Way::Completed => match flow {
-            Flow::Straight | Flow::Branch(_) | Flow::Begin(_) | Flow::Close => Some(place + 1),
-            Flow::Jump(skip) => Some(place + 1 + skip as usize),
-            Flow::Stop => None,
-        },
-        Way::Skipped => match flow {
-            Flow::Branch(skip) => Some(place + 1 + skip as usize),
-            Flow::Straight | Flow::Jump(_) | Flow::Begin(_) | Flow::Close | Flow::Stop => None,
-        },
-    }
-}
-
 /// Whether an instruction at a place goes on at another by this outcome.
 fn goes_on(way: Way, before: usize, instr: &Instr, place: usize) -> bool
     requires { before < 2 ^ 32 }
     ensures { IsTrue result → onward way before (flow_of instr.now) ≡ Some place }
 {
-    match onward(way, before, instr.flow()) {
+    match next_place(way, before, instr.flow()) {
         Some(next) => next == place,
         None => false,
     }

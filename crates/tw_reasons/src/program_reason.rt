@@ -11,12 +11,12 @@ ghost use Rattle.tw_reasons.specs.Reasons.{AddsReason, AddsTold, TellsMeeting, a
 use crate::asked::{Asked, put_asked};
 use crate::find::asked_at;
 use crate::meeting::meeting_at;
-use crate::put::{put, put_number, put_numbered};
 use crate::told_meeting::{put_changed, put_meeting};
 use std::alloc::{AllocError, Global};
 use tw_asm::LineNumbers;
 use tw_code::{Flow, Instr, Procedure};
 use tw_verify::{Refused, Typing, VerifyRefusal};
+use tw_words::{put, put_decimal, put_numbered};
 
 // ---- a register that is asked in vain
 
@@ -151,7 +151,7 @@ fn arguments_text(args: usize) -> &'static str
 fn put_count(alloc: Global, out: &mut Vec<u8>, args: usize, params: usize) -> Result<(), AllocError>
     ensures { OnOk result (out.new.items ≡ out.old.items ++ count_line args params) }
 {
-    put_number(alloc, out, args)?;
+    put_decimal(alloc, out, args)?;
     put(out, arguments_text(args))?;
     put_numbered(alloc, out, ", asked: ", params)?;
     put(out, "\n")

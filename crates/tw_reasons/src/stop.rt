@@ -13,8 +13,9 @@ ghost use Rattle.tw_reasons.specs.Stops.{Begin, Ends, IsFirstStop, IsFound, IsSt
 use crate::breaks::{Break, break_of};
 use crate::due::Due;
 use crate::step::Ahead;
-use crate::words::{Ask, is_name};
+use crate::words::Ask;
 use std::alloc::{AllocError, Global};
+use tw_asm::is_name;
 use tw_code::Version;
 use tw_words::{Next, Word, next_word, without_gap};
 

@@ -9,10 +9,11 @@ use crate::due::Due;
 use crate::labels::label_before;
 use crate::situation::situation_before;
 use crate::stop::{Found, first_stop, is_long_label, last_stop, line_stop};
-use crate::told::{Said, put_both, put_stop, put_whole};
+use crate::told::{Said, put_stop, put_whole};
 use crate::words::Ask;
 use std::alloc::{AllocError, Global};
 use tw_asm::{AsmFault, FaultNo};
+use tw_words::put_both;
 
 /// A01: what may begin the line.
 fn put_first(

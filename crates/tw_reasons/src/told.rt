@@ -5,9 +5,9 @@ ghost use Rattle.tw_reasons.specs.Stops.{IsStop};
 ghost use Rattle.tw_reasons.specs.Told.{AddsLineReason, break_text, expected_text, found_text, has_part, hidden_text, line_text, said_text, stop_line, where_text, word_text};
 
 use crate::breaks::Break;
-use crate::put::{put, put_numbered};
 use crate::stop::{Found, Stop};
 use std::alloc::{AllocError, Global};
+use tw_words::{put, put_both, put_numbered};
 
 // ---- words that stood there
 
@@ -118,13 +118,6 @@ fn put_line_of(alloc: Global, out: &mut Vec<u8>, line: Option<usize>) -> Result<
         Some(line) => put_numbered(alloc, out, " of line ", line),
         None => Ok(()),
     }
-}
-
-pub(crate) fn put_both(out: &mut Vec<u8>, front: &str, back: &str) -> Result<(), AllocError>
-    ensures { OnOk result (out.new.items ≡ out.old.items ++ (front.now ++ back.now)) }
-{
-    put(out, front)?;
-    put(out, back)
 }
 
 fn put_said(

@@ -6,12 +6,12 @@ ghost use Rattle.tw_reasons.specs.Reasons.{holding_text, meeting_line, place_tex
 
 use crate::asked::{Held, put_held};
 use crate::meeting::{Meeting, first_difference, loop_begin};
-use crate::put::{put, put_numbered};
 use crate::rights::put_right;
 use std::alloc::{AllocError, Global};
 use tw_asm::LineNumbers;
 use tw_code::Instr;
 use tw_verify::{RightType, Typing};
+use tw_words::{put, put_numbered};
 
 /// Adds the line of the text from which the instruction at a place comes, or the place.
 fn put_place(

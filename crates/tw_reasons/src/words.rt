@@ -4,9 +4,10 @@ ghost use Rattle.std.specs.Prelude.{◌≡◌, ◌||◌, Bool, true};
 ghost use Rattle.tw_words.specs.Words.{Bare};
 ghost use Rattle.tw_words.specs.Seen.{seen};
 ghost use Rattle.tw_asm.specs.reading.Lines.{kind_in};
-ghost use Rattle.tw_asm.specs.reading.Operands.{all_in_name, container_in, digits_in, is_in_name, is_letter, is_name, is_within, mode_in, natural_in, number_in, own, register_in, scalar_in, signed_in, text_container};
+ghost use Rattle.tw_asm.specs.reading.Operands.{container_in, digits_in, is_name, mode_in, natural_in, number_in, own, register_in, scalar_in, signed_in, text_container};
 ghost use Rattle.tw_reasons.specs.Going.{found, has_form, is_any, is_goal, is_operand, is_quoted};
 
+use tw_asm::is_name;
 use tw_code::{Form, Version};
 use tw_types::Mode;
 use tw_words::{Flaw, Word, digits, number};
@@ -104,45 +105,6 @@ fn is_register(ask: Ask, letter: u8, word: &Word<'_>) -> bool
 }
 
 // ---- names
-
-fn is_within(low: u8, high: u8, byte: u8) -> bool
-    ensures { result ≡ is_within low high byte }
-{
-    low <= byte && byte <= high
-}
-
-fn is_letter(byte: u8) -> bool
-    ensures { result ≡ is_letter byte }
-{
-    is_within(b'A', b'Z', byte) || is_within(b'a', b'z', byte)
-}
-
-fn is_in_name(byte: u8) -> bool
-    ensures { result ≡ is_in_name byte }
-{
-    is_letter(byte) || is_within(b'0', b'9', byte) || byte == b'_'
-}
-
-fn all_in_name(text: &[u8]) -> bool
-    ensures { result ≡ all_in_name text.now }
-{
-    for byte in text {
-        if !is_in_name(*byte) {
-            return false;
-        }
-    }
-    true
-}
-
-/// Whether it is a letter and then letters, digits or `_`.
-pub(crate) fn is_name(text: &[u8]) -> bool
-    ensures { result ≡ is_name text.now }
-{
-    match text {
-        [] => false,
-        [first, others @ ..] => is_letter(*first) && all_in_name(others),
-    }
-}
 
 /// A name that isn't too long.
 fn is_short_name(ask: Ask, text: &[u8]) -> bool

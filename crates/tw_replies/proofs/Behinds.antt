@@ -1,32 +1,19 @@
 -- What stands behind replies about programs that were read from a text.
 use Rattle.std.proofs.Common.{◌≡◌, ◌≢◌, ◌≤◌, ◌++◌, ◌∙◌, ℕ, suc, List, [], ◌∷◌, length, Option, Some, None, refl, sym, ap, subst}
-use Rattle.std.proofs.lemmas.List.{append-nil}
+use Rattle.tw_replies.proofs.ReplyNames.{◌>>=◌, AreShort, ClosesBy, Event, Input, IsEndingBehind, IsUndrawn, MayBeSource, MayTell, NotEnabled, Outcome, PlainView, Procedure, Spoken as Reply, Start, State, TellsCircle, Trap, Went, append-nil, open_refusal_number, opening_line, refusal_of, reply}
 use Rattle.tw_types.specs.declared.ending.Ending.{Ending}
 use Rattle.tw_types.specs.declared.ending.Ending.TheVariants.{Quiet, Stuck}
-use Rattle.tw_types.specs.declared.event.Event.{Event}
-use Rattle.tw_types.specs.declared.input.Input.{Input}
 use Rattle.tw_types.specs.Layout.{ActorCounts}
-use Rattle.tw_types.specs.Outcome.{Outcome, Went, NotEnabled, Trap, ◌>>=◌}
-use Rattle.tw_code.specs.declared.procedure.Procedure.{Procedure}
 use Rattle.tw_code.specs.machine.Ending.{ending}
 use Rattle.tw_code.specs.machine.Machine.{run, step}
 use Rattle.tw_code.specs.machine.Pending.{circle}
-use Rattle.tw_code.specs.machine.State.{State}
 use Rattle.tw_command.specs.declared.command.Answer.{Answer}
 use Rattle.tw_command.specs.declared.command.Answer.TheVariants.{Numbers, Picture, Report}
 use Rattle.tw_command.specs.declared.shown.Stretch.{Stretch}
-use Rattle.tw_machine.specs.PlainView.{PlainView}
 use Rattle.tw_machine.specs.declared.refusal.OpenRefusal.{OpenRefusal}
 use Rattle.tw_machine.specs.declared.refusal.OpenRefusal.TheVariants as opening
-use Rattle.tw_machine.specs.Opening.{open_refusal_number, refusal_of}
-use Rattle.tw_report.specs.Lines.{opening_line}
-use Rattle.tw_replies.specs.Circle.{IsEndingBehind, Start, TellsCircle}
-use Rattle.tw_replies.specs.Counted.{AreShort}
 use Rattle.tw_replies.specs.Opening.{IsOpeningBehind}
 use Rattle.tw_replies.specs.Replay.{ByOutcome, IsAnswer, IsNumbered, IsRefusalBehind, IsReportBehind, after_event, close_of, played, played_from}
-use Rattle.tw_replies.specs.Reply.{Reply, reply}
-use Rattle.tw_replies.specs.Source.{MayBeSource}
-use Rattle.tw_replies.specs.Stuck.{ClosesBy, IsUndrawn, MayTell}
 use Rattle.tw_replies.specs.declared.source.SourceText.{SourceText}
 use Rattle.tw_replies.specs.declared.close.Close.{Close}
 use Rattle.tw_replies.specs.declared.close.Close.TheVariants as close

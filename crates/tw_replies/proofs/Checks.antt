@@ -1,9 +1,6 @@
 -- The lines of a check, one procedure more.
 use Rattle.std.proofs.Common.{◌≡◌, ◌<◌, ◌+◌, ℕ, suc, List, [], ◌∷◌, ◌++◌, length, take, get_or, refl, sym, ap, subst, ◌∙◌, append_assoc, arith, length-take, Option, Some, IsSomeAnd, codes}
-use Rattle.std.specs.Prelude.{slice_get}
-use Rattle.std.proofs.lemmas.List.{append-nil, take_more}
-use Rattle.std.proofs.lemmas.Option.{slice_get-get_or}
-use Rattle.tw_code.specs.declared.procedure.Procedure.{Procedure}
+use Rattle.tw_replies.proofs.ReplyNames.{Procedure, append-nil, slice_get, slice_get-get_or, take_more}
 use Rattle.tw_code.specs.accepting.Flow.{flows}
 use Rattle.tw_types.specs.declared.actor.Kind.TheVariants.{Control, Leaf}
 use Rattle.tw_code.specs.accepting.Needs.{needed}

@@ -1,28 +1,16 @@
 -- The numbers of a replay, and the budgets of its program.
-use Rattle.std.proofs.Common.{arith, ◌≡◌, ◌+◌, ◌*◌, ◌<◌, ◌≤◌, ◌++◌, ◌⊎◌, inl, inr, ℕ, zero, suc, List, [], ◌∷◌, length, length-take, get_or, take, slice_get, Option, Some, None, sym, ap, subst, ◌∙◌}
-use Rattle.std.proofs.lemmas.List.{take_all, take_more}
+use Rattle.std.proofs.Common.{arith, ◌≡◌, ◌+◌, ◌*◌, ◌<◌, ◌≤◌, ◌++◌, ℕ, zero, suc, List, [], ◌∷◌, length, length-take, get_or, take, slice_get, Option, Some, sym, ap, subst, ◌∙◌}
+use Rattle.tw_replies.proofs.ReplyNames.{AreBudgets, AreShort, Event, IsComing, IsSmall, IsTally, NotEnabled, Outcome, PlainView, Procedure, State, Trap, Went, size_of, slice_get-get_or, step, take_all, take_more}
 use Rattle.std.proofs.lemmas.List.Sums.{sum_by-cons}
-use Rattle.std.proofs.lemmas.Option.{slice_get-get_or}
 use Rattle.std.specs.Option.{IsSomeAnd}
-use Rattle.tw_types.specs.declared.event.Event.{Event}
 use Rattle.tw_types.specs.Layout.{ActorCounts}
-use Rattle.tw_types.specs.Outcome.{Outcome, Went, NotEnabled, Trap}
-use Rattle.tw_code.specs.declared.procedure.Procedure.{Procedure}
 use Rattle.tw_code.specs.accepting.Flow.{flows}
 use Rattle.tw_code.specs.accepting.Walk.{IsBudget}
-use Rattle.tw_code.specs.accepting.WellTyped.{IsAccepted}
-use Rattle.tw_code.specs.machine.Bounds.{size_of}
 use Rattle.tw_code.specs.machine.History.{if_went}
-use Rattle.tw_code.specs.machine.Machine.{step}
-use Rattle.tw_code.specs.machine.State.{State}
-use Rattle.tw_machine.specs.PlainView.{PlainView}
 use Rattle.tw_picture.specs.History.{Moment, history, moments}
 use Rattle.tw_stats.specs.declared.coming.Coming.{Coming}
 use Rattle.tw_stats.specs.declared.tally.Tally.{Tally}
-use Rattle.tw_stats.specs.Kept.{IsComing, IsSmall, IsTally}
 use Rattle.tw_stats.specs.Waits.{steps_in}
-use Rattle.tw_replies.specs.Counted.{AreShort}
-use Rattle.tw_replies.specs.Replay.{AreBudgets, AreKnownBudgets}
 
 -- ---- one event more
 
@@ -96,12 +84,3 @@ budget_added (q ∷ program) old new i budget inside is h more =
     let p = get_or all i q in
     let here : IsBudget (flows p.code) budget = budget_of (slice_get all i) p budget (slice_get-get_or all i q inside) is in
     subst (λ (ps : List Procedure). AreBudgets ps new) (sym (take_more all i q inside)) (subst (λ (bs : List ℕ). AreBudgets (take i all ++ p ∷ []) bs) (sym more) (budgets_more (take i all) old p budget h here))
-
-pub all_budgets : (program : List Procedure) (budgets : List ℕ) (i : ℕ) → length program ≤ i → AreBudgets (take i program) budgets → AreBudgets program budgets
-all_budgets program budgets i all h = subst (λ (ps : List Procedure). AreBudgets ps budgets) (take_all i program all) h
-
-pub known : (program : List Procedure) (budgets : List ℕ) → IsAccepted program → AreBudgets program budgets → AreKnownBudgets program budgets
-known program budgets accepted h = inl (accepted, h)
-
-pub unknown : (program : List Procedure) (budgets : List ℕ) → (IsAccepted program → ⊥) → budgets ≡ [] → AreKnownBudgets program budgets
-unknown program budgets refused none = inr (refused, none)

@@ -1,11 +1,10 @@
 -- A program and the inputs behind it, line by line.
 use Rattle.std.proofs.Common.{◌≡◌, ◌==◌, ◌++◌, ℕ, Bool, true, false, List, [], ◌∷◌, length, codes, cond, refl, sym, ◌∙◌, append_assoc}
 use Rattle.std.specs.Str.{bytes_eq}
-use Rattle.std.proofs.lemmas.List.{append-nil}
+use Rattle.tw_replies.proofs.ReplyNames.{Inputs, Program, Rest, append-nil}
 use Rattle.clap.specs.Words.{Text}
 use Rattle.tw_replies.specs.Inputs.{before_inputs, behind_inputs, words_in}
 use Rattle.tw_replies.specs.Parts.{Parts, after_line, after_lines, parts}
-use Rattle.tw_replies.specs.declared.inputs.Section.TheVariants.{Program, Inputs, Rest}
 
 pub one_more : (p : Parts) (ls : List Text) (line : Text) → after_lines p (ls ++ line ∷ []) ≡ after_line (after_lines p ls) line
 one_more p [] line = refl

@@ -12,3 +12,4 @@ pub mod Behinds
 pub mod Unfits
 pub mod LineListings
 pub mod Faults
+mod ReplyNames

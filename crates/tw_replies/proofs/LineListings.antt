@@ -1,26 +1,16 @@
 -- A text's own lines in a listing, one line more.
-use Rattle.std.proofs.Common.{◌≡◌, ◌<◌, ◌≤◌, ◌+◌, ◌⊎◌, inl, inr, ℕ, suc, List, [], ◌∷◌, ◌++◌, length, get_or, map, Option, Some, None, refl, sym, ap, subst, ◌∙◌, append_assoc, arith}
+use Rattle.std.proofs.Common.{◌≡◌, ◌<◌, ◌≤◌, ◌+◌, ◌⊎◌, inl, inr, ℕ, suc, List, [], ◌∷◌, ◌++◌, length, get_or, map, Option, refl, sym, ap, subst, ◌∙◌, append_assoc, arith}
 use Rattle.std.proofs.lemmas.Bool.{cases_lt}
-use Rattle.std.proofs.lemmas.List.{append-nil, get_or_append_left, length-append}
+use Rattle.tw_replies.proofs.ReplyNames.{IsSource, LineSays, LinesSay, Procedure, Situation, Typing, after_line, append-nil, at_start, counts_of, get_or_append_left, length-append, lines, plain_of, said_line, said_lines, situation, situation_from, slice_get_within, typings_in, zip}
 use Rattle.std.proofs.Math.Seq.{get_or-append_seam}
 use denote.Ref.{Bor}
-use Rattle.std.specs.Prelude.{slice_get}
-use Rattle.std.specs.List.{zip}
-use Rattle.std.specs.Str.Lines.{lines}
-use Rattle.std.proofs.lemmas.Option.{slice_get_within}
-use Rattle.tw_asm.specs.Fault.{LineSays, LinesSay, Situation, after_line, at_start, situation, situation_from}
 use Rattle.tw_asm.specs.Statement.{Statement}
-use Rattle.tw_code.specs.declared.procedure.Procedure.{Procedure}
 use Rattle.tw_code.specs.accepting.WellTyped.{IsWellTyped}
 use Rattle.tw_code.specs.machine.Holders.{Typings}
-use Rattle.tw_code.specs.machine.Rights.{Typing}
 use Rattle.tw_no_trap.specs.NoTrap.{AreRight}
 use Rattle.tw_reasons.specs.Says.{says_of}
 use Rattle.tw_reasons.specs.declared.situation.Says.{Says}
 use Rattle.tw_reasons.proofs.Saying.{split_last}
-use Rattle.tw_replies.specs.Listed.{counts_of, typings_in}
-use Rattle.tw_replies.specs.Listing.{said_line, said_lines}
-use Rattle.tw_replies.specs.Source.{IsSource, plain_of}
 use Rattle.tw_replies.specs.declared.source.SourceText.{SourceText}
 use Rattle.tw_replies.specs.declared.text_listing.Counts.{Counts}
 use Rattle.tw_replies.proofs.Places.{main_there}

@@ -1,14 +1,10 @@
 -- A listing, one register or procedure more.
 use Rattle.std.proofs.Common.{◌≡◌, ◌≢◌, ◌<◌, ◌≤◌, ◌+◌, ◌==◌, ◌⊎◌, inl, inr, ℕ, Bool, true, false, List, [], ◌∷◌, ◌++◌, length, drop, get_or, add-one, Option, refl, sym, ap, subst, ◌∙◌, append_assoc, arith, None}
-use Rattle.std.specs.Prelude.{if◌then◌else◌}
+use Rattle.tw_replies.proofs.ReplyNames.{IsRefusedListing, Procedure, RightType, Typing, append-nil, drop_all, drop_more, if◌then◌else◌, listing_from, no_typings, procedure_listing, right_at, right_column, rights_below}
 use Rattle.std.proofs.lemmas.Bool.{cases_lt}
 use Rattle.std.proofs.lemmas.Bool.Decides.{eqb_tells}
-use Rattle.std.proofs.lemmas.List.{append-nil, drop_all, drop_more}
-use Rattle.tw_code.specs.declared.procedure.Procedure.{Procedure}
 use Rattle.tw_code.specs.machine.Holders.{Typings}
-use Rattle.tw_code.specs.machine.Rights.{RightType, Typing, right_at}
 use Rattle.tw_verify.specs.Known.{AreFound}
-use Rattle.tw_replies.specs.Listing.{IsRefusedListing, listing_from, no_typings, procedure_listing, right_column, rights_below}
 
 pub one_right : (typing : Typing) (register : ℕ) (right : Option RightType) (now next : List ℕ) → now ≡ rights_below typing register → right ≡ right_at typing register → next ≡ now ++ right_column register right → next ≡ rights_below typing (register + 1)
 one_right typing register right now next before is added =

@@ -1,45 +1,25 @@
 -- Which events made rules, and the numbers of these.
 use Rattle.std.proofs.Common.{◌≡◌, ◌↔◌, ◌+◌, ◌<◌, ◌≤◌, ◌⊎◌, inl, inr, Bool, true, false, ℕ, zero, suc, List, [], ◌∷◌, ◌++◌, length, get_or, take, Option, Some, None, refl, sym, ap, subst, ◌∙◌, append_assoc, arith}
-use Rattle.std.proofs.lemmas.List.{append-nil, length-append, take_more}
+use Rattle.std.proofs.lemmas.Option.{same_Some}
+use Rattle.tw_replies.proofs.ReplyNames.{AreMade, ComesFrom, DoesRule, Event, Frame, Input, IsLineOf, IsMade, IsMadeSo, IsOpened, IsSpelled, IsStartOf, IsTrue, IsUnmade, NotEnabled, Outcome, PlainView, Procedure, StandsFor, Start, State, TellRules, TellsRule, Trap, Versioned, Went, append-nil, instr_at, length-append, option_map, option_to_list, reached_from, refusal_of, rule_by, rule_done, rule_in, rule_line, rules_in, slice_get, take_more}
 use Rattle.std.specs.FinMap.{get}
-use Rattle.std.specs.Option.{option_and_then}
-use Rattle.std.specs.Prelude.{IsTrue, option_map, option_to_list, slice_get}
 use Rattle.tw_types.specs.declared.actor.Actor.{Actor}
-use Rattle.tw_types.specs.declared.event.Event.{Event}
 use Rattle.tw_types.specs.declared.event.Event.TheVariants.{Take, Local, Call, End, Ask, Deliver, Release}
-use Rattle.tw_types.specs.declared.input.Input.{Input}
 use Rattle.tw_types.specs.declared.pending.Link.{Link}
 use Rattle.tw_types.specs.Layout.{ActorCounts}
 use Rattle.tw_types.specs.declared.cause.Cause.{Cause}
-use Rattle.tw_types.specs.Outcome.{Outcome, Went, NotEnabled, Trap}
-use Rattle.tw_asm.specs.Origins.{ComesFrom, instr_at}
 use Rattle.tw_asm.specs.Spelling.{SpellsProgram}
 use Rattle.tw_asm.proofs.Unique.{spells_once}
 use Rattle.tw_code.specs.declared.instr.Action.{Action}
 use Rattle.tw_code.specs.declared.instr.Instr.{Instr}
 use Rattle.tw_code.specs.declared.instr.Instr.TheVariants as instr
-use Rattle.tw_code.specs.declared.procedure.Procedure.{Procedure}
-use Rattle.tw_code.specs.format.Program.{Versioned}
 use Rattle.tw_code.specs.machine.Due.{instr_here}
 use Rattle.tw_code.specs.machine.Machine.{run, step}
 use Rattle.tw_code.specs.machine.Opening.{opening}
-use Rattle.tw_code.specs.machine.State.{Frame, State}
-use Rattle.tw_machine.specs.Opening.{refusal_of}
-use Rattle.tw_machine.specs.PlainView.{PlainView}
-use Rattle.tw_stats.specs.declared.thing.Thing.{Thing}
 use Rattle.tw_stats.specs.declared.thing.Thing.TheVariants.{Datum}
-use Rattle.tw_stats.specs.Kept.{rules_in}
 use Rattle.tw_stats.specs.Waits.{made_at, made_by, made_in}
 use Rattle.tw_stats.proofs.Nexts.{step_more}
-use Rattle.tw_names.specs.Standing.{StandsFor}
-use Rattle.tw_replies.specs.Circle.{DoesRule, IsMade, Start, TellRules, TellsRule, reached_from, rule_line}
-use Rattle.tw_replies.specs.Source.{IsSpelled}
-use Rattle.tw_replies.specs.Stuck.{AreMade, IsMadeSo, IsOpened, IsStartOf, IsUnmade, rule_by, rule_done, rule_in}
-use Rattle.tw_replies.specs.Text.{IsLineOf}
 use Rattle.tw_replies.specs.declared.stuck.Made.{Made}
-
-some_is : {A : Type 0} (x y : A) → Some x ≡ Some y → x ≡ y
-some_is x y e = cc
 
 none_some : {A : Type 0} {Z : Type 0} (x : A) → None ≡ Some x → Z
 none_some x e = absurd cc
@@ -54,7 +34,7 @@ rule_here f None m e = none_some m e
 rule_here f (Some (instr.Local i)) m e = none_some m e
 rule_here f (Some (instr.Data i)) m e = none_some m e
 rule_here f (Some (instr.Rule action)) m e =
-    let is = some_is (record { procedure = f.procedure; place = f.position.place; runs = action.procedure }) m e in
+    let is = same_Some (record { procedure = f.procedure; place = f.position.place; runs = action.procedure }) m e in
     (action, refl, ap (λ (x : Made). x.procedure) is, ap (λ (x : Made). x.place) is, ap (λ (x : Made). x.runs) is)
 rule_here f (Some (instr.Put action)) m e = none_some m e
 rule_here f (Some instr.Ret) m e = none_some m e
@@ -177,7 +157,7 @@ made_back start events event s rule procedure place action leads h = by (split_e
     by (inr (rest, cut, is)) = inl (record { before = h.before; event = h.event; after = rest; parts = is; at = h.at; leads = h.leads; number = h.number; does = h.does })
 
 at_end : {A : Type 0} (xs : List A) (x y : A) (k : ℕ) → slice_get (xs ++ x ∷ []) k ≡ Some y → (slice_get xs k ≡ Some y) ⊎ ((k ≡ length xs) × (x ≡ y))
-at_end [] x y zero e = inr (refl, some_is x y e)
+at_end [] x y zero e = inr (refl, same_Some x y e)
 at_end [] x y (suc k) e = none_some y e
 at_end (z ∷ xs) x y zero e = inl e
 at_end {A} (z ∷ xs) x y (suc k) e = by (at_end xs x y k e)

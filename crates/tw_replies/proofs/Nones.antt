@@ -1,17 +1,9 @@
 -- What stands behind the line that tells why there is no program.
 use Rattle.std.proofs.Common.{◌≡◌, ◌≢◌, ◌++◌, ℕ, List, [], IsUtf8, inr, refl, sym}
-use Rattle.std.proofs.lemmas.List.{append-nil}
+use Rattle.tw_replies.proofs.ReplyNames.{Assembly, Hex, IsFaultBehind, IsNoneBehind, NoProgram, Refused, RepliesBySource, SpellsNone, Spoken as Reply, StandsFor, Versioned, append-nil, name_behind, no_program_line, reply}
 use Rattle.tw_asm.specs.declared.fault.AsmFault.{AsmFault}
 use Rattle.tw_command.specs.declared.command.Source.{Source}
-use Rattle.tw_command.specs.declared.command.Source.TheVariants.{Hex, Assembly}
-use Rattle.tw_names.specs.Standing.{StandsFor}
 use Rattle.tw_names.specs.declared.refusal.NameRefusal.{NameRefusal}
-use Rattle.tw_replies.specs.Names.{IsFaultBehind, name_behind}
-use Rattle.tw_code.specs.format.Program.{Versioned}
-use Rattle.tw_replies.specs.Program.{IsNoneBehind, RepliesBySource, SpellsNone, no_program_line}
-use Rattle.tw_replies.specs.Reply.{Reply, reply}
-use Rattle.tw_replies.specs.declared.close.Close.TheVariants.{Refused}
-use Rattle.tw_replies.specs.declared.program.NoProgram.{NoProgram}
 use Rattle.tw_replies.specs.declared.program.NoProgram.TheVariants.{NotHex, NotUtf8, Bytes, Text, Named, NoMemory}
 
 abbrev pub Adds : List ℕ → NoProgram → List ℕ → List ℕ → Type 0

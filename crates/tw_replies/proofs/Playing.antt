@@ -1,37 +1,23 @@
 -- Events, one after the other, in a replay and in a picture.
 use Rattle.std.proofs.Common.{◌≡◌, ◌+◌, ◌<◌, ◌≤◌, ℕ, zero, suc, List, [], ◌∷◌, ◌++◌, length, length-take, get_or, drop, take, Option, Some, None, sym, ap, subst, ◌∙◌, add-one, drop-cons, arith}
-use Rattle.std.proofs.lemmas.List.{drop_all, take_all, take_more}
-use Rattle.std.specs.List.{AllByRecursion}
+use Rattle.tw_replies.proofs.ReplyNames.{◌>>=◌, AllByRecursion, AreShort, Event, Input, IsShort, IsTold, NotEnabled, Outcome, PlainView, Procedure, Refused, Spoken as Reply, State, Trap, Trapped, Versioned, Went, drop_all, not_enabled_line, refusal_of, reply, size_of, take_all, take_more, trap_line}
 use Rattle.tw_types.specs.declared.cause.Cause.{Cause}
-use Rattle.tw_types.specs.declared.event.Event.{Event}
 use Rattle.tw_types.specs.declared.event.Event.TheVariants.{Take, Local, Call, End, Ask, Deliver, Release}
-use Rattle.tw_types.specs.declared.input.Input.{Input}
 use Rattle.tw_types.specs.Cause.{cause_number}
 use Rattle.tw_types.specs.Layout.{ActorCounts}
-use Rattle.tw_types.specs.Outcome.{Outcome, Went, NotEnabled, Trap, ◌>>=◌}
-use Rattle.tw_code.specs.declared.procedure.Procedure.{Procedure}
 use Rattle.tw_code.specs.declared.version.Version.{Version}
-use Rattle.tw_code.specs.format.Program.{Versioned}
-use Rattle.tw_code.specs.machine.Bounds.{size_of}
 use Rattle.tw_code.specs.machine.Machine.{run, step}
 use Rattle.tw_code.specs.machine.Opening.{opening}
-use Rattle.tw_code.specs.machine.State.{State}
 use Rattle.tw_command.specs.declared.command.ReplayOrder.{ReplayOrder}
 use Rattle.tw_command.specs.declared.shown.Stretch.{Stretch}
-use Rattle.tw_machine.specs.PlainView.{PlainView}
 use Rattle.tw_machine.specs.declared.refusal.OpenRefusal.{OpenRefusal}
 use Rattle.tw_machine.specs.declared.refusal.OpenRefusal.TheVariants.{NoMemory}
-use Rattle.tw_machine.specs.Opening.{IsTold, refusal_of}
 use Rattle.tw_picture.specs.declared.trail.Trail.{Trail}
 use Rattle.tw_picture.specs.History.{HasFew, IsTrail}
 use Rattle.tw_picture.proofs.History.{trail_length}
 use Rattle.tw_report.specs.Events.{IsEvent}
-use Rattle.tw_report.specs.Lines.{not_enabled_line, trap_line}
-use Rattle.tw_replies.specs.Counted.{AreShort, IsShort}
 use Rattle.tw_replies.specs.Replay.{ByOutcome, IsAnswered, IsPicture, IsReplayed, OpensOr, after_event, opened, played, state_reply}
-use Rattle.tw_replies.specs.Reply.{Reply, reply}
 use Rattle.tw_replies.proofs.Behinds.{IsUnopened}
-use Rattle.tw_replies.specs.declared.close.Close.TheVariants.{Refused, Trapped}
 
 -- ---- one event
 
@@ -125,12 +111,6 @@ all_run program layout events i s whole all before = sym before ∙ ap (λ (es :
 
 pub by_not_enabled : (o : Outcome State) (goes : State → Type 0) (stops : Type 0) → o ≡ NotEnabled → stops → ByOutcome o goes stops
 by_not_enabled o goes stops is h = subst (λ (p : Outcome State). ByOutcome p goes stops) (sym is) h
-
--- what one thing leads to
-pub by_weaker : (o : Outcome State) (goes also : State → Type 0) (stops : Type 0) → ((s : State) → goes s → also s) → ByOutcome o goes stops → ByOutcome o also stops
-by_weaker (Went s) goes also stops f h = f s h
-by_weaker NotEnabled goes also stops f h = h
-by_weaker (Trap cause) goes also stops f h = h
 
 pub by_trap : (o : Outcome State) (cause : Cause) (goes : State → Type 0) (stops : Type 0) → o ≡ Trap cause → stops → ByOutcome o goes stops
 by_trap o cause goes stops is h = subst (λ (p : Outcome State). ByOutcome p goes stops) (sym is) h

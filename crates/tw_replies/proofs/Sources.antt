@@ -1,17 +1,11 @@
 -- Which line of a text is told.
 use Rattle.std.proofs.Common.{◌≡◌, ℕ, zero, suc, ◌+◌, ◌-◌, ◌<◌, List, [], ◌∷◌, length, Option, Some, None, MatchOption, refl, subst, ap, ◌∙◌, arith}
-use Rattle.std.proofs.lemmas.List.{length-append}
+use Rattle.tw_replies.proofs.ReplyNames.{AreOrigins, ComesFrom, IsPlaceBehind, IsTextBehind, LinesSay, Procedure, Situation, StandsFor, after_line, at_place, at_start, instr_at, length-append, lines}
 use Rattle.std.specs.List.{slice_get}
-use Rattle.std.specs.Str.Lines.{lines}
-use Rattle.tw_code.specs.declared.procedure.Procedure.{Procedure}
 use Rattle.tw_asm.specs.Statement.{Statement, Code, Head}
-use Rattle.tw_asm.specs.Fault.{LinesSay, Situation, after_line, at_start}
-use Rattle.tw_asm.specs.Origins.{AreOrigins, ComesFrom, at_place, instr_at}
 use Rattle.tw_reasons.proofs.Heads.{front_no_procedure}
 use Rattle.tw_reasons.specs.Says.{HasNoHead, IsFirstHead}
-use Rattle.tw_names.specs.Standing.{StandsFor}
 use Rattle.tw_names.proofs.LineByLine.{as_many}
-use Rattle.tw_replies.specs.Text.{IsPlaceBehind, IsTextBehind}
 use Rattle.tw_verify.specs.declared.refusal.VerifyRefusal.{VerifyRefusal}
 use Rattle.tw_verify.specs.declared.refusal.VerifyRefusal.TheVariants as refusal
 

@@ -1,12 +1,10 @@
 -- The first input that its parameter can't be given.
-use Rattle.std.proofs.Common.{◌≡◌, ◌<◌, ◌+◌, ◌&&◌, ◌++◌, append_assoc, ℕ, zero, suc, Bool, true, false, List, [], ◌∷◌, length, take, Option, Some, None, refl, sym, ap, subst, ◌∙◌, add-one, arith}
-use Rattle.std.specs.Prelude.{slice_get}
-use Rattle.tw_types.specs.declared.input.Input.{Input}
+use Rattle.std.proofs.Common.{◌≡◌, ◌<◌, ◌+◌, ◌&&◌, ◌++◌, append_assoc, ℕ, zero, suc, Bool, true, false, List, [], ◌∷◌, length, take, Some, None, refl, sym, ap, ◌∙◌, add-one, arith}
+use Rattle.tw_replies.proofs.ReplyNames.{Input, Procedure, slice_get}
 use Rattle.tw_types.specs.declared.param.Param.{Param}
-use Rattle.tw_code.specs.declared.procedure.Procedure.{Procedure}
+use Rattle.tw_code.proofs.Givens.{none_fit}
 use Rattle.tw_code.specs.machine.Inputs.{are_inputs_of, has_fitting_inputs, input_params, is_input_of}
 use Rattle.tw_code.specs.machine.Opening.{main_params}
-use Rattle.tw_replies.specs.Opening.{IsFirstUnfit}
 
 untrue : {Z : Type 0} → true ≡ false → Z
 untrue e = absurd cc
@@ -26,10 +24,6 @@ first_false false b e h = refl
 second_false : (a b : Bool) → (a && b) ≡ false → a ≡ true → b ≡ false
 second_false true b e h = e
 second_false false b e h = untrue (sym h)
-
-pub none_fit : (params : List Param) → are_inputs_of params [] ≡ true
-none_fit [] = refl
-none_fit (p ∷ params) = refl
 
 -- an input behind so many, its parameter, and that they don't fit
 pub record Misfit (params : List Param) (inputs : List Input) (k : ℕ) : Type 0 where
@@ -56,9 +50,6 @@ first_misfit program inputs index inside fit unfit =
 
 pub some_none : {A : Type 0} {Z : Type 0} (x : A) → Some x ≡ None → Z
 some_none x e = absurd cc
-
-pub some_same : {A : Type 0} (x y : A) → Some x ≡ Some y → x ≡ y
-some_same x y e = cc
 
 -- three parts, one after the other
 pub three_parts : (old a b c first second third : List ℕ) → first ≡ old ++ a → second ≡ first ++ b → third ≡ second ++ c → third ≡ old ++ (a ++ (b ++ c))

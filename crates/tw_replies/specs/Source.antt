@@ -4,7 +4,7 @@ use Rattle.std.specs.declared.alloc.Global.{Global}
 use Rattle.tw_names.specs.Standing.{StandsFor}
 use Rattle.tw_code.specs.declared.procedure.Procedure.{Procedure}
 use Rattle.tw_code.specs.declared.version.Version.{Version}
-use Rattle.tw_code.specs.format.Program.{IsProgram, Versioned}
+use Rattle.tw_code.specs.format.Program.{IsProgram}
 use Rattle.tw_asm.specs.Origins.{AreOrigins, instr_at}
 use Rattle.tw_asm.specs.Spelling.{SpellsProgram}
 use Rattle.tw_replies.specs.declared.source.SourceText.{SourceText}

@@ -1,14 +1,8 @@
 -- What RULE and PUT ask of their arguments, one by one.
 use Rattle.std.proofs.Common.{◌≡◌, ◌⊎◌, inl, inr, ℕ, Bool, true, false, List, [], ◌∷◌, ◌++◌, refl, sym, ap, ◌∙◌}
-use Rattle.std.specs.Prelude.{if◌then◌else◌, slice_set, None}
-use Rattle.std.proofs.lemmas.List.{append-nil}
-use Rattle.tw_types.specs.declared.data_type.Scalar.{Scalar}
+use Rattle.tw_verify.proofs.VerifierNames.{None, Question, Scalar, Typing, append-nil, asks_args, asks_value, if◌then◌else◌, lowest_of, may_stand_for, passes, refusal_in, right_at, slice_set, without_args}
 use Rattle.tw_types.specs.declared.param.Param.{Param}
 use Rattle.tw_types.specs.Mode.{is_val}
-use Rattle.tw_code.specs.accepting.Question.{Question, passes, refusal_in}
-use Rattle.tw_code.specs.accepting.Typing.{asks_value, asks_args, may_stand_for, without_args}
-use Rattle.tw_code.specs.machine.Rights.{Typing, right_at}
-use Rattle.tw_verify.specs.Refusal.{lowest_of}
 use Rattle.tw_verify.proofs.Numbers.{refusal_in-append}
 
 -- one argument, and the others when it has left its register

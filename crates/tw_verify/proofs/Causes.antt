@@ -1,13 +1,8 @@
 -- The lowest number at a place, and what it comes from.
 use Rattle.std.proofs.Common.{◌≡◌, ℕ, suc, ◌≤◌, ◌⊎◌, inl, inr, Bool, true, false, Option, Some, None, refl, sym, ap, ◌∙◌, arith}
-use Rattle.std.specs.Prelude.{nat_lt, if◌then◌else◌}
+use Rattle.tw_verify.proofs.VerifierNames.{if◌then◌else◌, leb-false, leb-true, lowest_at, lowest_of, nat_lt, option_map, same_Some, verify_refusal_number}
 use Rattle.std.specs.Bool.{then_some}
-use Rattle.std.specs.Option.{option_map}
-use Rattle.std.proofs.lemmas.Bool.{leb-true, leb-false}
-use Rattle.std.proofs.lemmas.Option.{same_Some}
 use Rattle.tw_verify.specs.declared.refusal.VerifyRefusal.{VerifyRefusal}
-use Rattle.tw_verify.specs.Refusal.{lowest_of, verify_refusal_number}
-use Rattle.tw_verify.specs.Passes.{lowest_at}
 
 -- ---- the lower of two
 

@@ -12,3 +12,4 @@ pub mod Typings
 pub mod Asking
 pub mod Numbers
 pub mod OneMore
+mod VerifierNames

@@ -1,19 +1,9 @@
 -- What is wrong at a place, and lists of typings with one place more where nothing is.
 use Rattle.std.proofs.Common.{◌≡◌, ℕ, ◌+◌, ◌<◌, ◌≤◌, ◌⊎◌, inl, inr, Bool, true, false, List, [], ◌∷◌, ◌++◌, length, length-append, get_or, Option, Some, None, refl, sym, ap, ◌∙◌, subst, arith}
-use Rattle.std.specs.Prelude.{slice_get}
-use Rattle.std.proofs.lemmas.Bool.{cases_lt}
-use Rattle.std.proofs.lemmas.Option.{slice_get_within, slice_get-get_or, same_Some}
+use Rattle.tw_verify.proofs.VerifierNames.{Brings, HasChanged, Instr, IsEndOf, IsReached, IsRefusalAt, IsTypingRefusal, IsWellTyped, LeadsTo, Procedure, Typing, after, asks_at, cases_lt, flow_of, lowest_at, onward, refusal_in, same_Some, slice_get, slice_get-get_or, slice_get_within, start_typing}
 use Rattle.tw_code.specs.declared.flow.Way.{Way}
 use Rattle.tw_code.specs.declared.flow.Way.TheVariants.{Completed, Skipped}
-use Rattle.tw_code.specs.declared.instr.Instr.{Instr}
-use Rattle.tw_code.specs.declared.procedure.Procedure.{Procedure}
-use Rattle.tw_code.specs.accepting.Flow.{flow_of, onward}
-use Rattle.tw_code.specs.accepting.Question.{refusal_in}
-use Rattle.tw_code.specs.machine.Rights.{Typing}
-use Rattle.tw_code.specs.accepting.Typing.{start_typing, asks_at, after}
-use Rattle.tw_code.specs.accepting.WellTyped.{LeadsTo, IsEndOf, IsWellTyped, Brings, IsReached, IsRefusalAt, IsTypingRefusal}
 use Rattle.tw_verify.specs.declared.reached.Reached.{Reached}
-use Rattle.tw_verify.specs.Passes.{lowest_at, HasChanged}
 use Rattle.tw_verify.proofs.Lists.{get_pushed}
 use Rattle.tw_verify.proofs.Causes.{IsCause, cause_at, least_at}
 use Rattle.tw_verify.proofs.Places.{loop_within}

@@ -1,9 +1,7 @@
 -- The lowest number of questions.
 use Rattle.std.proofs.Common.{◌≡◌, ℕ, Bool, true, false, List, [], ◌∷◌, ◌++◌, Option, Some, None, refl, sym, ap, ◌∙◌, arith}
-use Rattle.std.specs.Prelude.{nat_lt, if◌then◌else◌}
+use Rattle.tw_verify.proofs.VerifierNames.{Question, if◌then◌else◌, lower, lowest_of, nat_lt, refusal_in}
 use Rattle.std.proofs.lemmas.Bool.Decides.{nat_tests}
-use Rattle.tw_code.specs.accepting.Question.{Question, lower, refusal_in}
-use Rattle.tw_verify.specs.Refusal.{lowest_of}
 
 lower_twice : (n m k : ℕ) → (if nat_lt (if nat_lt k m then k else m) n then (if nat_lt k m then k else m) else n) ≡ (if nat_lt k (if nat_lt m n then m else n) then k else (if nat_lt m n then m else n))
 lower_twice n m k = grind (arith, nat_tests)

@@ -1,14 +1,9 @@
 -- One parameter more.
 use Rattle.std.proofs.Common.{◌≡◌, ℕ, suc, ◌+◌, ◌-◌, ◌<◌, Bool, true, false, ◌&&◌, List, [], ◌∷◌, ◌++◌, length, map, set, replicate, take, get_or, Option, Some, None, refl, sym, ap, ◌∙◌, arith, length-append}
-use Rattle.std.specs.Prelude.{slice_get, if◌then◌else◌}
-use Rattle.std.specs.Option.{option_map_or, option_to_list}
-use Rattle.std.proofs.lemmas.List.{append-nil, append_assoc, take_more}
-use Rattle.tw_types.specs.declared.data_type.Scalar.{Scalar}
+use Rattle.tw_verify.proofs.VerifierNames.{RightType, Scalar, append-nil, append_assoc, if◌then◌else◌, option_map_or, option_to_list, right_of, rights_given, slice_get, start_typing, take_more, value_types, values_fit}
 use Rattle.tw_types.specs.declared.param.Param.{Param}
 use Rattle.tw_types.specs.DataType.{same_scalar}
 use Rattle.tw_types.specs.Mode.{is_val}
-use Rattle.tw_code.specs.machine.Rights.{RightType, right_of}
-use Rattle.tw_code.specs.accepting.Typing.{value_types, values_fit, rights_given, start_typing}
 
 abbrev pub as_right : Param → RightType
 as_right p = record { mode = p.mode; ty = p.ty }

@@ -1,15 +1,6 @@
 -- A program has one first refusal.
 use Rattle.std.proofs.Common.{◌≡◌, ℕ, ◌+◌, ◌<◌, ◌≤◌, ◌⊎◌, inl, inr, true, false, List, length, take, get_or, Some, None, sym, ap, ◌∙◌, subst, arith, ext_get_or}
-use Rattle.std.specs.Prelude.{slice_get}
-use Rattle.std.proofs.lemmas.Bool.{cases_lt}
-use Rattle.std.proofs.lemmas.Option.{slice_get-get_or, same_Some}
-use Rattle.tw_code.specs.declared.instr.Instr.{Instr}
-use Rattle.tw_code.specs.declared.procedure.Procedure.{Procedure}
-use Rattle.tw_code.specs.accepting.Flow.{flows}
-use Rattle.tw_code.specs.accepting.Structure.{IsStructureRefusal, structure_refusal_at}
-use Rattle.tw_code.specs.accepting.Typing.{start_typing}
-use Rattle.tw_code.specs.accepting.WellTyped.{IsLowestRefusal, IsProcedureRefusal, IsTypingRefusal, IsWellTyped}
-use Rattle.tw_code.specs.machine.Rights.{Typing}
+use Rattle.tw_verify.proofs.VerifierNames.{Instr, IsLowestRefusal, IsProcedureRefusal, IsStructureRefusal, IsTypingRefusal, IsWellTyped, Procedure, Typing, cases_lt, flows, same_Some, slice_get, slice_get-get_or, start_typing, structure_refusal_at}
 use Rattle.tw_verify.specs.Laws.{OneFirstRefusal}
 use Rattle.tw_verify.proofs.Programs.{not_accepted}
 use Rattle.tw_verify.proofs.Typings.{agree, well_typed_front}

@@ -1,20 +1,12 @@
 -- Where loops end, what is begun at a place, and the tables of both.
 use Rattle.std.proofs.Common.{◌≡◌, ◌≢◌, ℕ, zero, suc, ◌+◌, ◌-◌, ◌<◌, ◌≤◌, ◌⊎◌, inl, inr, List, [], ◌∷◌, ◌++◌, length, length-append, drop, set, get_or, Option, Some, None, refl, sym, ap, ◌∙◌, subst, arith}
-use Rattle.std.specs.Prelude.{slice_get, slice_index}
+use Rattle.tw_verify.proofs.VerifierNames.{AreFirsts, DepthsTo, EndsFrom, Instr, IsEndOf, cases_lt, depth_after, depth_of, end_from, end_of, flow_of, flows, length-map, length-set, same_Some, slice_get, slice_index}
 use Rattle.std.proofs.Math.ListN.{get_or-append}
 use Rattle.std.proofs.Math.Seq.{drop-length, get_or-append_seam}
-use Rattle.std.proofs.lemmas.Bool.{cases_lt}
-use Rattle.std.proofs.lemmas.List.{length-map, length-set}
-use Rattle.std.proofs.lemmas.Option.{same_Some}
 use Rattle.tw_code.specs.declared.flow.Flow.{Flow}
 use Rattle.tw_code.specs.declared.flow.Flow.TheVariants.{Straight, Branch, Jump, Begin, Close, Stop}
-use Rattle.tw_code.specs.declared.instr.Instr.{Instr}
-use Rattle.tw_code.specs.accepting.Flow.{flow_of, flows}
-use Rattle.tw_code.specs.accepting.Structure.{end_from, end_of, depth_after, depth_of}
-use Rattle.tw_code.specs.accepting.WellTyped.{IsEndOf}
 use Rattle.tw_budget.proofs.Places.{drop_at, slide, end_is, end_past, straight_end, branch_end, jump_end, end_within, depth_next, end_depth}
 use Rattle.tw_budget.proofs.Tables.{set_from}
-use Rattle.tw_verify.specs.Loops.{EndsFrom, DepthsTo, AreFirsts}
 use Rattle.tw_verify.proofs.Lists.{get_set_at, get_set_other}
 
 -- ---- ENDs

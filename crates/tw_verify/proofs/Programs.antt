@@ -1,20 +1,12 @@
 -- Accepted programs have no first refusal.
 use Rattle.std.proofs.Common.{◌≡◌, ◌≢◌, ℕ, ◌+◌, ◌<◌, ◌≤◌, ◌⊎◌, inl, inr, true, false, List, [], ◌∷◌, ◌++◌, length, length-append, take, get_or, Option, Some, None, refl, sym, ap, ◌∙◌, subst, arith}
-use Rattle.std.specs.Prelude.{slice_get, IsSomeAnd}
-use Rattle.std.proofs.lemmas.Option.{slice_get_within, slice_get-get_or, same_Some}
-use Rattle.tw_code.specs.declared.procedure.Procedure.{Procedure}
-use Rattle.tw_code.specs.accepting.Flow.{flows}
+use Rattle.tw_verify.proofs.VerifierNames.{AreFindings, AreTyped, Findings, IfFault, IsAccepted, IsAcceptedProcedure, IsFirstRefusal, IsProcedureRefusal, IsRefusal, IsSomeAnd, IsTyped, Procedure, flows, is_memory, refusal_of, same_Some, slice_get, slice_get-get_or, slice_get_within, verify_refusal_number}
 use Rattle.tw_code.specs.accepting.MainShape.{has_main_shape}
 use Rattle.tw_code.specs.accepting.Walk.{IsBudget, greatest_budget}
-use Rattle.tw_code.specs.accepting.WellTyped.{IsAcceptedProcedure, IsAccepted, IsProcedureRefusal, IsFirstRefusal}
 use Rattle.tw_verify.specs.declared.refusal.VerifyRefusal.{VerifyRefusal}
 use Rattle.tw_verify.specs.declared.refusal.VerifyRefusal.TheVariants as refusal
-use Rattle.tw_verify.specs.Refusal.{is_memory, verify_refusal_number}
 use Rattle.tw_verify.specs.declared.fault.Fault.{Fault}
-use Rattle.tw_verify.specs.declared.findings.Findings.{Findings}
-use Rattle.tw_verify.specs.Passes.{IfFault, refusal_of, IsRefusal}
 use Rattle.tw_verify.specs.Quick.{AreQuick}
-use Rattle.tw_verify.specs.Verified.{AreFindings, AreTyped, IsTyped}
 use Rattle.tw_verify.proofs.Lists.{get_none, get_pushed}
 use Rattle.tw_verify.proofs.Typings.{well_typed_front}
 

@@ -1,8 +1,6 @@
 -- Where a pass stops.
 use Rattle.std.proofs.Common.{◌≡◌, ℕ, ◌+◌, inl, inr, List, [], ◌∷◌, ◌++◌, None, refl}
-use Rattle.tw_code.specs.declared.procedure.Procedure.{Procedure}
-use Rattle.tw_code.specs.accepting.WellTyped.{IsReached, IsWellTyped}
-use Rattle.tw_code.specs.machine.Rights.{Typing}
+use Rattle.tw_verify.proofs.VerifierNames.{IsReached, IsWellTyped, Procedure, Typing}
 use Rattle.tw_verify.specs.Known.{AreUpTo}
 use Rattle.tw_verify.proofs.Mistakes.{early_outcome}
 use Rattle.tw_verify.proofs.Reaching.{IsRow}

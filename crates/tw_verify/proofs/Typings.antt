@@ -1,20 +1,11 @@
 -- Lists of typings: a list that stands is the only one of its length, and has all that reaches a place of it.
 use Rattle.std.proofs.Common.{◌≡◌, ℕ, zero, suc, ◌+◌, ◌<◌, ◌≤◌, ◌⊎◌, inl, inr, List, take, get_or, Some, refl, sym, ap, ◌∙◌, subst, arith}
-use Rattle.std.specs.Prelude.{slice_get}
-use Rattle.std.proofs.lemmas.Bool.{cases_lt}
-use Rattle.std.proofs.lemmas.List.{length-take}
-use Rattle.std.proofs.lemmas.Option.{slice_get_within, slice_get-get_or, same_Some}
+use Rattle.tw_verify.proofs.VerifierNames.{Brings, Instr, IsReached, IsWellTyped, Procedure, Typing, after, cases_lt, flow_of, length-take, onward, same_Some, slice_get, slice_get-get_or, slice_get_within}
 use Rattle.tw_code.specs.declared.flow.Flow.{Flow}
 use Rattle.tw_code.specs.declared.flow.Flow.TheVariants.{Straight, Branch, Jump, Begin, Close, Stop}
 use Rattle.tw_code.specs.declared.flow.Way.{Way}
 use Rattle.tw_code.specs.declared.flow.Way.TheVariants.{Completed, Skipped}
-use Rattle.tw_code.specs.declared.instr.Instr.{Instr}
-use Rattle.tw_code.specs.declared.procedure.Procedure.{Procedure}
-use Rattle.tw_code.specs.accepting.Flow.{flow_of, onward}
 use Rattle.tw_code.specs.machine.Position.{goal_of}
-use Rattle.tw_code.specs.machine.Rights.{Typing}
-use Rattle.tw_code.specs.accepting.Typing.{after}
-use Rattle.tw_code.specs.accepting.WellTyped.{Brings, IsWellTyped, IsReached}
 use Rattle.tw_verify.proofs.Lists.{get-take}
 
 -- the later place of an outcome is later

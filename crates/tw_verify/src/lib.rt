@@ -29,6 +29,7 @@ mod verifier;
 pub use instructions::place_refusal;
 pub use laws::{ends_well, no_trap, one_first_refusal};
 pub use quick::Quick;
+pub use reached::next_place;
 pub use refusal::VerifyRefusal;
 pub use refused::Refused;
 pub use tw_no_trap::{budgets_held, counts_held, notes_held, types_held};

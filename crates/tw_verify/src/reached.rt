@@ -35,7 +35,7 @@ fn note(reached: Option<Reached>, typing: Typing) -> Option<Reached>
 }
 
 /// The later place where an instruction goes on by this outcome.
-fn next_place(way: Way, place: usize, flow: Flow) -> Option<usize>
+pub fn next_place(way: Way, place: usize, flow: Flow) -> Option<usize>
     requires { place < 2 ^ 32 }
     ensures { result ≡ onward way place flow }
 {

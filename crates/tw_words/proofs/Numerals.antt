@@ -69,7 +69,7 @@ numbers_are_read_back n m h = (λ spells. one_number m n (signed_decimal n) spel
 
 -- ---- as the reader of a number finds it
 
-size_fits : (size : ℕ) → IsIn64 (neg_ℤ (pos size)) → IsInRange 0 (2 ^ 63) size
+pub size_fits : (size : ℕ) → IsIn64 (neg_ℤ (pos size)) → IsInRange 0 (2 ^ 63) size
 size_fits zero h = (omega arith, omega arith)
 size_fits (suc n) h = (omega arith, omega (arith, h.sfits))
 

@@ -1,12 +1,50 @@
 //! Texts that are written behind others.
 
-ghost use Rattle.std.specs.Prelude.{◌≡◌, ◌++◌, OnOk};
+ghost use Rattle.std.specs.Prelude.{◌≡◌, ◌++◌, OnOk, decimal};
+ghost use Rattle.std.specs.Fmt.{signed_decimal};
 
-use std::alloc::AllocError;
+use std::alloc::{AllocError, Global};
 
 /// Adds a text, by its bytes.
 pub fn put(out: &mut Vec<u8>, text: &str) -> Result<(), AllocError>
     ensures { OnOk result (out.new.items ≡ out.old.items ++ text.now) }
 {
     out.extend_from_slice(text.as_bytes())
+}
+
+/// Adds two texts.
+pub fn put_both(out: &mut Vec<u8>, front: &str, back: &str) -> Result<(), AllocError>
+    ensures { OnOk result (out.new.items ≡ out.old.items ++ (front.now ++ back.now)) }
+{
+    put(out, front)?;
+    put(out, back)
+}
+
+/// Adds a number in decimal digits.
+pub fn put_decimal(alloc: Global, out: &mut Vec<u8>, number: usize) -> Result<(), AllocError>
+    ensures { OnOk result (out.new.items ≡ out.old.items ++ decimal number) }
+{
+    let digits = format!(in alloc; "{number}")?;
+    put(out, &digits)
+}
+
+/// Adds a text, and a number after it.
+pub fn put_numbered(
+    alloc: Global,
+    out: &mut Vec<u8>,
+    front: &str,
+    number: usize,
+) -> Result<(), AllocError>
+    ensures { OnOk result (out.new.items ≡ out.old.items ++ (front.now ++ decimal number)) }
+{
+    put(out, front)?;
+    put_decimal(alloc, out, number)
+}
+
+/// Adds an integer as it is shown.
+pub fn put_signed(alloc: Global, out: &mut Vec<u8>, number: i64) -> Result<(), AllocError>
+    ensures { OnOk result (out.new.items ≡ out.old.items ++ signed_decimal number) }
+{
+    let digits = format!(in alloc; "{number}")?;
+    put(out, &digits)
 }

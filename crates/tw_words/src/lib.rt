@@ -12,7 +12,7 @@ mod numbers;
 mod quoted;
 mod word;
 
-pub use behind::put;
+pub use behind::{put, put_both, put_decimal, put_numbered, put_signed};
 pub use first::after;
 pub use laws::{numbers_are_read_back, quoted_texts_are_read_back};
 pub use numbers::{Flaw, digits, number};

@@ -1,11 +1,11 @@
 -- What one word says, or what is wrong with it.
 use Rattle.std.specs.Prelude.{ℕ, ℤ, pos, neg_ℤ, Bool, true, false, ◌&&◌, ◌||◌, List, [], ◌∷◌, length, codes, Option, Some, None, Result, Ok, Err, nat_lt, ◌==◌, if◌then◌else◌}
-use Rattle.std.specs.Char.{digit_value}
 use Rattle.std.specs.Str.{bytes_eq}
 use Rattle.std.specs.Str.Parse.{digits_value}
 use Rattle.tw_code.specs.declared.version.Version.{Version}
 use Rattle.tw_code.specs.declared.version.Version.TheVariants.{One, Two}
 use Rattle.tw_words.specs.Words.{Word, Bare, Quoted}
+use Rattle.tw_words.specs.reading.Digits.{are_digits, is_within}
 use Rattle.tw_asm.specs.Parts.{container_word, mode_word, scalar_word}
 use Rattle.tw_asm.specs.declared.refusal.Flaw.{Flaw}
 use Rattle.tw_asm.specs.declared.refusal.Flaw.TheVariants.{Form, Limit}
@@ -35,17 +35,6 @@ own (Err word.Form) = Err Form
 own (Err word.Limit) = Err Limit
 
 -- ---- numbers
-
-abbrev pub all_digits : List ℕ → Bool
-all_digits [] = true
-all_digits (d ∷ ds) = nat_lt (digit_value d) 10 && all_digits ds
-
-abbrev pub are_digits : List ℕ → Bool
-are_digits [] = false
-are_digits (d ∷ ds) = all_digits (d ∷ ds)
-
-abbrev pub is_within : ℕ → ℕ → ℕ → Bool
-is_within low high n = if nat_lt n low then false else if nat_lt high n then false else true
 
 -- the number between these limits
 unfoldable pub digits_in : ℕ → ℕ → List ℕ → Result ℕ Flaw

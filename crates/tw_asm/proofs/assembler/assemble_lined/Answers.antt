@@ -1,6 +1,5 @@
 use Rattle.std.proofs.Common.{map}
-use Rattle.std.proofs.lemmas.Result.{err_from_is_err_and}
-use Rattle.tw_asm.specs.reading.Progress.{seen_section}
+use Rattle.tw_asm.proofs.AsmNames.{err_from_is_err_and, seen_section}
 use Rattle.tw_asm.proofs.Origins.{origins}
 use Rattle.tw_asm.proofs.SpelledSections.{is_program, labels_fit, spells_program}
 use Rattle.tw_asm.proofs.Told.{not_linked, not_read}

@@ -1,10 +1,5 @@
 use Rattle.std.proofs.Common.{◌≡◌, ◌++◌, ℕ, Global, List, Vec, true, false, sym, ap, subst, ◌∙◌}
-use Rattle.std.specs.Prelude.{IsUtf8}
-use Rattle.std.specs.List.{flat_map}
-use Rattle.tw_code.specs.declared.procedure.Procedure.{Procedure}
-use Rattle.tw_code.specs.declared.version.Version.{Version}
-use Rattle.tw_asm.specs.Disassembly.{disassembly, procedure_lines, version_line}
-use Rattle.tw_asm.specs.Spelling.{SpellsProgram}
+use Rattle.tw_asm.proofs.AsmNames.{IsUtf8, Procedure, SpellsProgram, Version, disassembly, flat_map, procedure_lines, version_line}
 use Rattle.tw_asm.proofs.Disassembled.{disassembly_spells, disassembly_text}
 use Rattle.tw_asm.proofs.disassembler.disassemble.Goals as goal
 

@@ -1,6 +1,5 @@
 use Rattle.std.proofs.Common.{ℕ, ◌+◌, sym, ap, ◌∙◌}
-use Rattle.std.specs.Option.{option_and_then}
-use Rattle.tw_asm.specs.Disassembly.{label_at}
+use Rattle.tw_asm.proofs.AsmNames.{label_at, option_and_then}
 use Rattle.tw_asm.proofs.disassembler.goal_label.Goals as goal
 
 pub returns-in-Some : goal.returns-in-Some

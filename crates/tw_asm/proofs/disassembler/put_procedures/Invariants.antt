@@ -1,6 +1,5 @@
 use Rattle.std.proofs.Common.{◌≡◌, ◌++◌, drop}
-use Rattle.std.specs.List.{flat_map}
-use Rattle.tw_asm.specs.Disassembly.{procedure_lines}
+use Rattle.tw_asm.proofs.AsmNames.{flat_map, procedure_lines}
 use Rattle.tw_asm.proofs.disassembler.put_procedures.Given as goal
 
 -- with the lines of what is left, there are all

@@ -1,7 +1,5 @@
 use Rattle.std.proofs.Common.{◌≡◌, drop, map}
-use Rattle.tw_words.specs.Seen.{seen}
-use Rattle.tw_asm.specs.reading.Lines.{each, each_from}
-use Rattle.tw_asm.specs.reading.Operands.{as_is, scalar_in}
+use Rattle.tw_asm.proofs.AsmNames.{as_is, each, each_from, scalar_in, seen}
 use Rattle.tw_asm.proofs.gathering.scalar_list.Given as goal
 
 abbrev pub invariant-loop-word : goal.invariant-loop-word

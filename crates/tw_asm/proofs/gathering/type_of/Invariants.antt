@@ -1,6 +1,5 @@
 use Rattle.std.proofs.Common.{◌≡◌, drop, map}
-use Rattle.tw_words.specs.Seen.{seen}
-use Rattle.tw_asm.specs.reading.Lines.{type_from}
+use Rattle.tw_asm.proofs.AsmNames.{seen, type_from}
 use Rattle.tw_asm.proofs.gathering.type_of.Given as goal
 
 abbrev pub invariant-loop-index : goal.invariant-loop-index

@@ -1,7 +1,6 @@
 use Rattle.std.proofs.Common.{◌≡◌, drop, map}
-use Rattle.tw_words.specs.Seen.{seen}
+use Rattle.tw_asm.proofs.AsmNames.{params_from, seen}
 use Rattle.tw_asm.specs.reading.Heads.{seen_params}
-use Rattle.tw_asm.specs.reading.Lines.{params_from}
 use Rattle.tw_asm.proofs.heads.param_list.Given as goal
 
 abbrev pub invariant-loop-index : goal.invariant-loop-index

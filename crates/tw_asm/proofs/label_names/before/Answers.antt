@@ -1,5 +1,4 @@
-use Rattle.std.proofs.lemmas.Bool.Decides.{Decides-eqb}
-use Rattle.std.proofs.lemmas.Slice.Eq.{strip_suffix_is}
+use Rattle.tw_asm.proofs.AsmNames.{Decides-eqb, strip_suffix_is}
 use Rattle.tw_asm.proofs.label_names.before.Goals as goal
 
 pub returns : goal.returns

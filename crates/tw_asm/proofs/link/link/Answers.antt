@@ -1,11 +1,8 @@
 use Rattle.std.proofs.Common.{suc, List, [], ◌∷◌, length, map, drop, inl, inr, sym, subst, arith}
 use Rattle.std.proofs.lemmas.Iterator.Adapters.{YieldsList-from_vec}
 use Rattle.std.proofs.lemmas.Iterator.Consumers.{YieldsList-so_far, YieldsList-turn}
-use Rattle.std.proofs.lemmas.List.{map-append}
-use Rattle.std.proofs.lemmas.Result.{err_from_is_err_and}
-use Rattle.std.specs.List.{AllByRecursion, flat_map}
+use Rattle.tw_asm.proofs.AsmNames.{AllByRecursion, Section, err_from_is_err_and, flat_map, map-append, seen_section}
 use Rattle.tw_asm.specs.reading.Goals.{FirstUnlinked, HasLabelsWithin, section_goals}
-use Rattle.tw_asm.specs.reading.Progress.{Section, seen_section}
 use Rattle.tw_asm.proofs.Linked.{parts_of, procedures_more, section_unlinked, seen_parts, within_there}
 use Rattle.tw_asm.proofs.link.link.Goals as goal
 

@@ -1,8 +1,6 @@
 use Rattle.std.proofs.Common.{◌≡◌, ℕ, suc, ◌+◌, List, [], ◌∷◌, length, map, drop, inl, inr, sym, subst, arith}
-use Rattle.std.proofs.lemmas.List.{map-append}
-use Rattle.std.proofs.lemmas.Result.{err_from_is_err_and}
+use Rattle.tw_asm.proofs.AsmNames.{Drafted, err_from_is_err_and, map-append, seen_draft, seen_label}
 use Rattle.tw_asm.specs.reading.Goals.{FirstUnlinked, IsLinked, IsUnlinked, goals_in}
-use Rattle.tw_asm.specs.reading.Progress.{Drafted, seen_draft, seen_label}
 use Rattle.tw_asm.proofs.Linked.{linked_length, linked_more, parts_of, seen_parts, unlinked_there}
 use Rattle.std.proofs.lemmas.Iterator.Adapters.{YieldsList-from_vec}
 use Rattle.std.proofs.lemmas.Iterator.Consumers.{YieldsList-so_far, YieldsList-turn}

@@ -1,8 +1,5 @@
 use Rattle.std.proofs.Common.{◌≡◌, ℕ, ◌+◌, ◌-◌, ◌≤◌, map, inl, inr, refl, sym, subst, ap, arith}
-use Rattle.std.specs.List.{Contains}
-use Rattle.std.specs.Option.{is_some}
-use Rattle.tw_asm.specs.Spelling.{Placed}
-use Rattle.tw_asm.specs.reading.Progress.{seen_label}
+use Rattle.tw_asm.proofs.AsmNames.{Contains, Placed, is_some, seen_label}
 use Rattle.tw_asm.proofs.Walk.{all_of}
 use Rattle.tw_asm.proofs.LabelMaps.{label_found, name_absent}
 use Rattle.tw_asm.proofs.link.skip_to.Goals as goal

@@ -1,9 +1,7 @@
 use Rattle.std.proofs.Common.{map, rules}
-use Rattle.std.specs.Str.Lines.{lines}
+use Rattle.tw_asm.proofs.AsmNames.{err_from_is_err_and, lines, seen_reading}
 use Rattle.std.proofs.lemmas.Iterator.Consumers.{YieldsList-at, YieldsList-end, YieldsList-from_enumerate, YieldsList-so_far, YieldsList-turn}
 use Rattle.std.proofs.lemmas.Iterator.Splits.{YieldsList-from_lines}
-use Rattle.std.proofs.lemmas.Result.{err_from_is_err_and}
-use Rattle.tw_asm.specs.reading.Progress.{seen_reading}
 use Rattle.tw_asm.proofs.Steps.{items_more, line_stopped, line_turn, lines_end}
 use Rattle.tw_asm.proofs.reading.read_lines.Goals as goal
 

@@ -1,6 +1,5 @@
 use Rattle.std.proofs.Common.{refl}
-use Rattle.std.proofs.lemmas.Result.{err_from_is_err_and}
-use Rattle.tw_asm.specs.reading.Progress.{seen_reading}
+use Rattle.tw_asm.proofs.AsmNames.{err_from_is_err_and, seen_reading}
 use Rattle.tw_asm.proofs.Steps.{not_finished}
 use Rattle.tw_asm.proofs.reading.read_text.Goals as goal
 

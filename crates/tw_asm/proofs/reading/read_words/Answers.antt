@@ -1,13 +1,10 @@
 use Rattle.std.proofs.Common.{◌∙◌, ℕ, List, map, Err, inr, subst, ap}
-use Rattle.std.specs.List.{slice_get}
-use Rattle.tw_words.specs.Seen.{IsRead as IsLineRead, seen as seen_word}
-use Rattle.tw_words.specs.Words.{IsBrokenLine, IsLine, Word}
+use Rattle.tw_asm.proofs.AsmNames.{IsBrokenLine, IsLine, IsLineRead, Word, seen as seen_word, seen_reading, seen_stage, situation_of, slice_get, stage_of}
 use Rattle.tw_asm.specs.declared.refusal.Flaw.TheVariants as flaw
 use Rattle.tw_asm.specs.declared.refusal.Refusal.{Refusal}
 use Rattle.tw_asm.specs.declared.refusal.Refusal.TheVariants as refusal
 use Rattle.tw_asm.specs.Seen.{IsRead, seen}
 use Rattle.tw_asm.specs.LineAnswers.{Answers}
-use Rattle.tw_asm.specs.reading.Progress.{seen_reading, seen_stage, situation_of, stage_of}
 use Rattle.tw_asm.proofs.Taking.{a_first, any_word_fault, broken_fault, broken_operand, form_fault, limit_fault, may_stand_there, no_first}
 use Rattle.tw_asm.proofs.reading.read_words.Goals as goal
 use Rattle.tw_asm.proofs.reading.read_words.Goals.{then-read, else-read}

@@ -1,6 +1,5 @@
 use Rattle.std.proofs.Common.{map}
-use Rattle.std.proofs.lemmas.Result.{err_from_is_err_and}
-use Rattle.tw_asm.specs.reading.Progress.{seen_section}
+use Rattle.tw_asm.proofs.AsmNames.{err_from_is_err_and, seen_section}
 use Rattle.tw_asm.proofs.Taking.{label_stopped}
 use Rattle.tw_asm.proofs.reading.take_label.Goals as goal
 

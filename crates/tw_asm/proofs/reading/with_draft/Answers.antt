@@ -1,6 +1,5 @@
 use Rattle.std.proofs.Common.{◌∷◌, [], inr, refl, arith}
-use Rattle.std.proofs.lemmas.List.{length-map, map-append}
-use Rattle.tw_asm.specs.reading.Progress.{seen_draft}
+use Rattle.tw_asm.proofs.AsmNames.{length-map, map-append, seen_draft}
 use Rattle.tw_asm.proofs.reading.with_draft.Goals as goal
 
 pub returns-then-len-from : goal.returns-then-len-from

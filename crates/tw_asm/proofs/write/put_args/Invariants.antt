@@ -1,7 +1,5 @@
 use Rattle.std.proofs.Common.{◌≡◌, ◌++◌, ◌∷◌, [], take}
-use Rattle.std.specs.Prelude.{decimal}
-use Rattle.std.specs.List.{flat_map}
-use Rattle.tw_asm.specs.words.Lines.{behind}
+use Rattle.tw_asm.proofs.AsmNames.{behind, decimal, flat_map}
 use Rattle.tw_asm.proofs.write.put_args.Given as goal
 
 abbrev pub invariant-loop-arg : goal.invariant-loop-arg

@@ -1,8 +1,5 @@
 use Rattle.std.proofs.Common.{◌≡◌, ◌++◌, ◌∷◌, [], ℕ, List, None, codes, subst}
-use Rattle.std.specs.Prelude.{OnOk}
-use Rattle.std.specs.List.{flat_map, join_with_byte}
-use Rattle.tw_asm.specs.Parts.{kind_word, param_parts}
-use Rattle.tw_asm.specs.Written.{goal_word, part_words}
+use Rattle.tw_asm.proofs.AsmNames.{OnOk, flat_map, goal_word, join_with_byte, kind_word, param_parts, part_words}
 use Rattle.tw_asm.proofs.Lines.{flat_twice, wrote_item, wrote_line}
 use Rattle.tw_asm.proofs.write.put_head.Goals as goal
 

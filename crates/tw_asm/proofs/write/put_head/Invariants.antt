@@ -1,8 +1,5 @@
 use Rattle.std.proofs.Common.{◌≡◌, ◌++◌, ◌∷◌, [], None, codes, take}
-use Rattle.std.specs.List.{flat_map}
-use Rattle.tw_asm.specs.Parts.{kind_word, param_parts}
-use Rattle.tw_asm.specs.words.Lines.{behind}
-use Rattle.tw_asm.specs.Written.{goal_word, part_words}
+use Rattle.tw_asm.proofs.AsmNames.{behind, flat_map, goal_word, kind_word, param_parts, part_words}
 use Rattle.tw_asm.proofs.write.put_head.Given as goal
 
 abbrev pub invariant-loop-param : goal.invariant-loop-param

@@ -1,7 +1,5 @@
 use Rattle.std.proofs.Common.{◌≡◌, ◌++◌, List, ℕ, subst}
-use Rattle.std.specs.Prelude.{OnOk}
-use Rattle.tw_asm.specs.Written.{goal_word}
-use Rattle.tw_asm.specs.words.Lines.{behind}
+use Rattle.tw_asm.proofs.AsmNames.{OnOk, behind, goal_word}
 use Rattle.tw_asm.proofs.Lines.{arg_words}
 use Rattle.tw_asm.proofs.write.put_operand.Goals as goal
 

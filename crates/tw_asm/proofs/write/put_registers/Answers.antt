@@ -1,8 +1,5 @@
 use Rattle.std.proofs.Common.{◌≡◌, ◌++◌, ◌∷◌, [], ℕ, List, None, codes, subst}
-use Rattle.std.specs.Prelude.{OnOk}
-use Rattle.std.specs.List.{join_with_byte}
-use Rattle.tw_asm.specs.Parts.{register_part, scalar_word}
-use Rattle.tw_asm.specs.Written.{goal_word, part_words}
+use Rattle.tw_asm.proofs.AsmNames.{OnOk, goal_word, join_with_byte, part_words, register_part, scalar_word}
 use Rattle.tw_asm.proofs.Lines.{flat_mapped, wrote, wrote_line}
 use Rattle.tw_asm.proofs.write.put_registers.Goals as goal
 

@@ -1,11 +1,7 @@
 use Rattle.std.proofs.Common.{◌≡◌, ◌++◌, ◌∷◌, [], ℕ, List, codes, subst}
-use Rattle.std.specs.Prelude.{OnOk}
-use Rattle.std.specs.List.{join_with_byte}
+use Rattle.tw_asm.proofs.AsmNames.{OnOk, goal_word, join_with_byte, operand_words, word_of}
 use Rattle.tw_code.specs.format.Sink.{seen}
-use Rattle.tw_asm.specs.words.Lines.{operand_words}
-use Rattle.tw_asm.specs.Written.{goal_word}
 use Rattle.tw_asm.proofs.Lines.{row_words, wrote_item, wrote_line}
-use Rattle.tw_asm.specs.Names.{word_of}
 use Rattle.tw_asm.proofs.write.put_row.Goals as goal
 
 pub loop-operand-preserved : goal.loop-operand-preserved

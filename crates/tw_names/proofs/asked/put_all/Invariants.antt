@@ -1,6 +1,5 @@
 use Rattle.std.proofs.Common.{◌≡◌, drop}
-use Rattle.tw_names.specs.Saying.{behind}
-use Rattle.tw_names.specs.Seen.{texts}
+use Rattle.tw_names.proofs.TextNames.{behind, texts}
 use Rattle.tw_names.proofs.asked.put_all.Given as goal
 
 abbrev pub invariant-loop-word : goal.invariant-loop-word

@@ -1,6 +1,5 @@
 use Rattle.std.proofs.Common.{◌≡◌, drop}
-use Rattle.tw_names.specs.Saying.{words_say}
-use Rattle.tw_names.specs.Seen.{seen_names, seen_procedures, texts}
+use Rattle.tw_names.proofs.TextNames.{seen_names, seen_procedures, texts, words_say}
 use Rattle.tw_names.proofs.asked.put_words.Given as goal
 
 abbrev pub invariant-loop-word : goal.invariant-loop-word

@@ -1,7 +1,5 @@
 use Rattle.std.proofs.Common.{◌≡◌, ◌++◌, drop}
-use Rattle.std.specs.List.{filter_map}
-use Rattle.tw_names.specs.Saying.{bank_of_mode}
-use Rattle.tw_names.specs.Seen.{texts}
+use Rattle.tw_names.proofs.TextNames.{bank_of_mode, filter_map, texts}
 use Rattle.tw_names.proofs.heads.banks_of_modes.Given as goal
 
 abbrev pub invariant-loop-word : goal.invariant-loop-word

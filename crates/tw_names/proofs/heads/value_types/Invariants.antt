@@ -1,6 +1,5 @@
 use Rattle.std.proofs.Common.{◌≡◌, ◌++◌, length}
-use Rattle.tw_names.specs.Saying.{value_types}
-use Rattle.tw_names.specs.Seen.{texts}
+use Rattle.tw_names.proofs.TextNames.{texts, value_types}
 use Rattle.tw_names.proofs.heads.value_types.Given as goal
 
 abbrev pub invariant-loop-rest : goal.invariant-loop-rest

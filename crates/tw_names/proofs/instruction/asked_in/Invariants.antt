@@ -1,6 +1,5 @@
 use Rattle.std.proofs.Common.{◌≡◌, ◌++◌, drop}
-use Rattle.std.specs.List.{flat_map}
-use Rattle.tw_names.specs.Saying.{asked_by}
+use Rattle.tw_names.proofs.TextNames.{asked_by, flat_map}
 use Rattle.tw_names.proofs.instruction.asked_in.Given as goal
 
 abbrev pub invariant-loop-form : goal.invariant-loop-form

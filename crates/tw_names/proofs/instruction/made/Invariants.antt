@@ -1,6 +1,5 @@
 use Rattle.std.proofs.Common.{◌≡◌, drop}
-use Rattle.tw_names.specs.Saying.{made}
-use Rattle.tw_names.specs.Seen.{seen_names, seen_procedures, texts}
+use Rattle.tw_names.proofs.TextNames.{made, seen_names, seen_procedures, texts}
 use Rattle.tw_names.proofs.instruction.made.Given as goal
 
 abbrev pub invariant-loop-word : goal.invariant-loop-word

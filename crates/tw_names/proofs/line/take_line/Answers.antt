@@ -1,8 +1,6 @@
 use Rattle.std.proofs.Common.{◌≡◌, ◌<◌, ◌++◌, ◌∷◌, [], List, ℕ, length, IsUtf8, refl, ap, sym, subst, ◌∙◌}
-use Rattle.std.proofs.lemmas.List.{map-append}
+use Rattle.tw_names.proofs.TextNames.{StandFirst, StandsFirst, map-append, now, texts}
 use Rattle.tw_words.specs.Words.{IsBroken}
-use Rattle.tw_names.specs.Lines.{StandFirst, StandsFirst}
-use Rattle.tw_names.specs.Seen.{now, texts}
 use Rattle.tw_names.proofs.Taking.{broken_line, first_more}
 use Rattle.tw_names.proofs.line.take_line.Goals as goal
 

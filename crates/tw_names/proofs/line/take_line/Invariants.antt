@@ -1,6 +1,5 @@
 use Rattle.std.proofs.Common.{length, IsUtf8}
-use Rattle.tw_names.specs.Lines.{StandFirst}
-use Rattle.tw_names.specs.Seen.{texts}
+use Rattle.tw_names.proofs.TextNames.{StandFirst, texts}
 use Rattle.tw_names.proofs.line.take_line.Given as goal
 
 abbrev pub invariant-loop-words : goal.invariant-loop-words

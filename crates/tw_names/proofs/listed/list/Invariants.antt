@@ -1,6 +1,5 @@
 use Rattle.std.proofs.Common.{◌≡◌, ◌≤◌, ◌+◌, length}
-use Rattle.tw_names.specs.Saying.{list_says}
-use Rattle.tw_names.specs.Seen.{seen_names, seen_procedures, texts}
+use Rattle.tw_names.proofs.TextNames.{list_says, seen_names, seen_procedures, texts}
 use Rattle.tw_names.proofs.listed.list.Given as goal
 
 abbrev pub invariant-loop-rest : goal.invariant-loop-rest

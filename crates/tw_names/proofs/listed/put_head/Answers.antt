@@ -1,7 +1,6 @@
 use Rattle.std.proofs.Common.{ap, ◌∙◌}
 use Rattle.std.specs.Option.{option_map}
-use Rattle.tw_names.specs.Saying.{behind}
-use Rattle.tw_names.specs.Seen.{now, seen_names, seen_procedures, texts}
+use Rattle.tw_names.proofs.TextNames.{behind, now, seen_names, seen_procedures, texts}
 use Rattle.tw_names.proofs.Then.{head_said}
 use Rattle.tw_names.proofs.listed.put_head.Goals as goal
 

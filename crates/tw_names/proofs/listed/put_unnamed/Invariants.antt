@@ -1,6 +1,5 @@
 use Rattle.std.proofs.Common.{◌≡◌, drop, filter}
-use Rattle.tw_names.specs.Saying.{behind, is_unnamed}
-use Rattle.tw_names.specs.Seen.{texts}
+use Rattle.tw_names.proofs.TextNames.{behind, is_unnamed, texts}
 use Rattle.tw_names.proofs.listed.put_unnamed.Given as goal
 
 abbrev pub invariant-loop-word : goal.invariant-loop-word

@@ -1,7 +1,5 @@
 use Rattle.std.proofs.Common.{◌≡◌, ◌++◌, drop}
-use Rattle.std.specs.List.{flat_map}
-use Rattle.tw_names.specs.Lines.{pieces}
-use Rattle.tw_names.specs.Seen.{texts}
+use Rattle.tw_names.proofs.TextNames.{flat_map, pieces, texts}
 use Rattle.tw_names.proofs.pieces.pieces_of.Given as goal
 
 abbrev pub invariant-loop-word : goal.invariant-loop-word

@@ -1,6 +1,5 @@
 use Rattle.std.proofs.Common.{◌++◌, ◌+◌, List, ℕ, ap, sym, ◌∙◌, append_assoc}
-use Rattle.tw_names.specs.Answers.{pieces_left}
-use Rattle.tw_names.specs.Seen.{texts}
+use Rattle.tw_names.proofs.TextNames.{pieces_left, texts}
 use Rattle.tw_names.proofs.Cutting.{ends}
 use Rattle.tw_names.proofs.pieces.push_ended.Goals as goal
 

@@ -1,7 +1,5 @@
 use Rattle.std.proofs.Common.{◌≡◌, ◌≤◌, ◌++◌}
-use Rattle.tw_names.specs.Answers.{pieces_left}
-use Rattle.tw_names.specs.Lines.{pieces}
-use Rattle.tw_names.specs.Seen.{texts}
+use Rattle.tw_names.proofs.TextNames.{pieces, pieces_left, texts}
 use Rattle.tw_names.proofs.pieces.push_pieces.Given as goal
 
 abbrev pub invariant-loop-index : goal.invariant-loop-index

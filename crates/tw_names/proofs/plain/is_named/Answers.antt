@@ -1,9 +1,7 @@
 use Rattle.std.proofs.Common.{List, ◌∷◌, [], Bor, Bool, ℕ, map, subst, sym}
-use Rattle.std.specs.Str.Lines.{lines}
+use Rattle.tw_names.proofs.TextNames.{IsNamed, lines, map-append}
 use Rattle.std.proofs.lemmas.Iterator.Consumers.{YieldsList-at, YieldsList-end}
 use Rattle.std.proofs.lemmas.Iterator.Splits.{YieldsList-from_lines}
-use Rattle.std.proofs.lemmas.List.{map-append}
-use Rattle.tw_names.specs.Answers.{IsNamed}
 use Rattle.tw_names.proofs.FirstNamed.{IsFirstNamed, all_named, first_more}
 use Rattle.tw_names.proofs.plain.is_named.Goals as goal
 

@@ -1,6 +1,5 @@
 use Rattle.std.proofs.Common.{length}
-use Rattle.std.specs.Str.Lines.{lines}
-use Rattle.tw_names.specs.Seen.{seen_names, seen_procedures}
+use Rattle.tw_names.proofs.TextNames.{lines, seen_names, seen_procedures}
 use Rattle.tw_names.proofs.Loops.{HasCome, lines_in}
 use Rattle.tw_names.proofs.plain.plain_lines.Given as goal
 

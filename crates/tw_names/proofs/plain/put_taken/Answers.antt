@@ -1,9 +1,5 @@
 use Rattle.std.proofs.Common.{◌≡◌, ◌++◌, ℕ, List, Ok, sym, subst}
-use denote.Ref.{Bor}
-use Rattle.tw_names.specs.Answers.{SaysBehind}
-use Rattle.tw_names.specs.Lines.{Broken, IsTaken, Line, Worded}
-use Rattle.tw_names.specs.Seen.{seen_names, seen_procedures, texts}
-use Rattle.tw_names.specs.Standing.{ended, taken_says}
+use Rattle.tw_names.proofs.TextNames.{Bor, Broken, IsTaken, Line, SaysBehind, Worded, ended, seen_names, seen_procedures, taken_says, texts}
 use Rattle.tw_names.proofs.Taking.{taken_once}
 use Rattle.tw_names.proofs.Then.{broken_says}
 use Rattle.tw_names.proofs.plain.put_taken.Goals as goal

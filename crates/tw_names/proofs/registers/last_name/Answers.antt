@@ -1,6 +1,5 @@
 use Rattle.std.proofs.Common.{◌≤◌, length, arith}
-use Rattle.std.specs.Prelude.{option_map}
-use Rattle.tw_names.specs.Seen.{now, seen_table}
+use Rattle.tw_names.proofs.TextNames.{now, option_map, seen_table}
 use Rattle.tw_names.proofs.RegisterNames.{found_all, next_name}
 use Rattle.tw_names.proofs.registers.last_name.Goals as goal
 

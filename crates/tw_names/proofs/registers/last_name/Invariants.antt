@@ -1,7 +1,6 @@
 use Rattle.std.proofs.Common.{◌≡◌, None, take}
-use Rattle.std.specs.Prelude.{option_map}
+use Rattle.tw_names.proofs.TextNames.{now, option_map, seen_table}
 use Rattle.tw_names.specs.Registers.{last_name}
-use Rattle.tw_names.specs.Seen.{now, seen_table}
 use Rattle.tw_names.proofs.registers.last_name.Given as goal
 
 abbrev pub invariant-loop-index : goal.invariant-loop-index

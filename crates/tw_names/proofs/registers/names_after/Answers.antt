@@ -1,5 +1,4 @@
-use Rattle.tw_names.specs.Seen.{seen_names, seen_procedures}
-use Rattle.tw_names.specs.Standing.{taken_says}
+use Rattle.tw_names.proofs.TextNames.{seen_names, seen_procedures, taken_says}
 use Rattle.tw_names.proofs.RegisterNames.{says_refused}
 use Rattle.tw_names.proofs.registers.names_after.Goals as goal
 

@@ -1,6 +1,5 @@
 use Rattle.std.proofs.Common.{length}
-use Rattle.std.specs.Str.Lines.{lines}
-use Rattle.tw_names.specs.Seen.{seen_names, seen_procedures}
+use Rattle.tw_names.proofs.TextNames.{lines, seen_names, seen_procedures}
 use Rattle.tw_names.proofs.Loops.{lines_in}
 use Rattle.tw_names.proofs.RegisterNames.{HasGone}
 use Rattle.tw_names.proofs.registers.names_behind.Given as goal

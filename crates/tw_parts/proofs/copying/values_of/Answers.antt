@@ -1,7 +1,5 @@
 use Rattle.std.proofs.Common.{◌<◌, ◌∙◌, length, arith, slice_index_or, refl, sym, ap}
-use Rattle.std.proofs.lemmas.Option.{slice_get_read, slice_get-get_or}
-use Rattle.tw_types.specs.declared.param.Param.{Param}
-use Rattle.tw_types.specs.Mode.{is_val}
+use Rattle.tw_parts.proofs.PartNames.{Param, is_val, slice_get-get_or, slice_get_read}
 use Rattle.tw_parts.proofs.Copied.{is_declared, past, with_value}
 use Rattle.tw_parts.proofs.copying.values_of.Goals as goal
 

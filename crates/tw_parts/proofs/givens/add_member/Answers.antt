@@ -1,10 +1,6 @@
 use Rattle.std.proofs.Common.{◌≡◌, subst, sym}
 use Rattle.std.specs.declared.result.Result.TheVariants.{Ok}
-use Rattle.std.specs.FinMap.{get}
-use Rattle.tw_types.specs.StoreChecks.{may_insert}
-use Rattle.tw_types.specs.Value.{IsProper, scalar_of}
-use Rattle.tw_types.specs.ValueOrder.{Subscript}
-use Rattle.tw_store.specs.Calls.{IsInsertion}
+use Rattle.tw_parts.proofs.PartNames.{IsInsertion, IsProper, Subscript, get, may_insert, scalar_of}
 use Rattle.tw_store.specs.declared.calls.Inserted.{Inserted}
 use Rattle.tw_parts.proofs.Adding.{member_added, member_allowed, member_not_there}
 use Rattle.tw_parts.proofs.givens.add_member.Goals as goal

@@ -1,7 +1,5 @@
 use Rattle.std.proofs.Common.{◌∙◌, ap}
-use Rattle.tw_types.specs.DataType.{scalar_type}
-use Rattle.tw_types.specs.StoreCalls.{created}
-use Rattle.tw_types.specs.Value.{scalar_of}
+use Rattle.tw_parts.proofs.PartNames.{created, scalar_of, scalar_type}
 use Rattle.tw_parts.proofs.Adding.{IsMade, scalar_added, scalar_allowed, scalar_told}
 use Rattle.tw_parts.proofs.givens.add_scalar.Goals as goal
 

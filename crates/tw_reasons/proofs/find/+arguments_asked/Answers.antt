@@ -1,6 +1,5 @@
 use Rattle.std.proofs.Common.{◌-◌, ◌≤◌, [], ◌∷◌, get_or, length, take, drop, sym, ap, ◌∙◌, arith}
-use Rattle.tw_code.specs.accepting.Typing.{without_args}
-use Rattle.tw_reasons.specs.Asked.{asked_args, told}
+use Rattle.tw_reasons.proofs.ReasonNames.{asked_args, told, without_args}
 use Rattle.tw_reasons.proofs.Telling.{args_more}
 use Rattle.tw_reasons.proofs.find.+arguments_asked.Goals as goal
 

@@ -1,6 +1,5 @@
 use Rattle.std.proofs.Common.{◌+◌, ◌-◌, ◌≤◌, length, take, drop, sym, ap, ◌∙◌}
-use Rattle.tw_code.specs.accepting.Typing.{value_types}
-use Rattle.tw_reasons.specs.Asked.{asked_value, asked_values, told}
+use Rattle.tw_reasons.proofs.ReasonNames.{asked_value, asked_values, told, value_types}
 use Rattle.tw_reasons.proofs.Telling.{params_more}
 use Rattle.tw_reasons.proofs.find.+params_asked.Goals as goal
 

@@ -1,11 +1,9 @@
 use Rattle.std.proofs.Common.{◌≡◌, ◌++◌, ◌∷◌, [], ℕ, List, Bor, map, sym, subst, ◌∙◌, rules}
-use Rattle.std.specs.Str.Lines.{lines}
-use Rattle.std.proofs.lemmas.List.{map-append}
+use Rattle.tw_reasons.proofs.ReasonNames.{LinesSay, at_start, lines, map-append}
 use Rattle.std.proofs.lemmas.Iterator.Consumers.{YieldsList-at, YieldsList-end, YieldsList-from_enumerate, YieldsList-so_far, YieldsList-turn}
 use Rattle.std.proofs.lemmas.Iterator.Splits.{YieldsList-from_lines}
-use Rattle.tw_asm.specs.Fault.{LinesSay, at_start}
-use Rattle.tw_asm.proofs.Steps.{line_turn}
-use Rattle.tw_reasons.proofs.Heads.{NoHeads, all_lines, first_head, none_on}
+use Rattle.tw_asm.proofs.Steps.{all_lines, line_turn}
+use Rattle.tw_reasons.proofs.Heads.{NoHeads, first_head, none_on}
 use Rattle.tw_reasons.proofs.situation.head_line.Goals as goal
 
 pub returns-then-is_head : goal.returns-then-is_head

@@ -1,11 +1,9 @@
 use Rattle.std.proofs.Common.{◌≡◌, ◌++◌, ◌∷◌, [], ℕ, List, Bor, length, map, sym, ap, subst, ◌∙◌, arith, rules}
-use Rattle.std.specs.Str.Lines.{lines}
-use Rattle.std.proofs.lemmas.List.{append-nil, length-append, map-append}
+use Rattle.tw_reasons.proofs.ReasonNames.{LinesSay, append-nil, at_start, length-append, lines, map-append}
 use Rattle.std.proofs.lemmas.Iterator.Consumers.{YieldsList-at, YieldsList-end, YieldsList-from_enumerate, YieldsList-so_far, YieldsList-turn}
 use Rattle.std.proofs.lemmas.Iterator.Splits.{YieldsList-from_lines}
-use Rattle.tw_asm.specs.Fault.{LinesSay, at_start}
-use Rattle.tw_asm.proofs.Steps.{line_turn}
-use Rattle.tw_reasons.proofs.Heads.{all_lines, front_is}
+use Rattle.tw_asm.proofs.Steps.{all_lines, line_turn}
+use Rattle.tw_reasons.proofs.Heads.{front_is}
 use Rattle.tw_reasons.proofs.Saying.{Stands, stands_on}
 use Rattle.tw_reasons.proofs.situation.situation_before.Goals as goal
 

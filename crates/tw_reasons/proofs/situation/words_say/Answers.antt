@@ -1,6 +1,5 @@
 use Rattle.std.proofs.Common.{◌≡◌, true, false, map, codes, rules}
-use Rattle.std.specs.Str.{bytes_eq}
-use Rattle.tw_words.specs.Seen.{seen}
+use Rattle.tw_reasons.proofs.ReasonNames.{bytes_eq, seen}
 use Rattle.tw_reasons.proofs.Saying.{apart, code_tells, head_tells, is_word, label_tells, registers_tell, version_tells}
 use Rattle.tw_reasons.proofs.situation.words_say.Goals as goal
 

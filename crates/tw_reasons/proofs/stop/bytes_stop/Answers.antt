@@ -1,6 +1,4 @@
-use Rattle.tw_words.specs.Seen.{seen}
-use Rattle.tw_words.specs.Words.{Bare, IsBlank, IsBroken}
-use Rattle.tw_words.proofs.Once.{blank_no_word}
+use Rattle.tw_reasons.proofs.ReasonNames.{Bare, IsBlank, IsBroken, blank_no_word, seen}
 use Rattle.tw_words.proofs.Texts.{rest_utf8}
 use Rattle.tw_reasons.proofs.stop.bytes_stop.Goals as goal
 

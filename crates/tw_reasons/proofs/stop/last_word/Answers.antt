@@ -1,6 +1,5 @@
 use Rattle.tw_words.specs.declared.word.Next.TheVariants as next
-use Rattle.tw_words.specs.Seen.{seen}
-use Rattle.tw_words.specs.Words.{IsFirstWord}
+use Rattle.tw_reasons.proofs.ReasonNames.{IsFirstWord, seen}
 use Rattle.tw_words.proofs.FirstWords.{behind_gap}
 use Rattle.tw_words.proofs.Texts.{rest_utf8}
 use Rattle.tw_reasons.proofs.Standing.{one_passed, one_room}

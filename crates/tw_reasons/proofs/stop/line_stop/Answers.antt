@@ -1,9 +1,5 @@
 use Rattle.std.proofs.Common.{ℕ, List, subst}
-use Rattle.std.specs.Prelude.{IfOk, MatchOption}
-use Rattle.tw_words.specs.Words.{Bare, IsFirstWord}
-use Rattle.tw_asm.specs.Fault.{HasWords}
-use Rattle.tw_asm.specs.Statement.{IsExpected}
-use Rattle.tw_reasons.specs.Stops.{IsFirstStop}
+use Rattle.tw_reasons.proofs.ReasonNames.{Bare, HasWords, IfOk, IsExpected, IsFirstStop, IsFirstWord, MatchOption}
 use Rattle.tw_reasons.proofs.stop.line_stop.Goals as goal
 
 pub returns-clause-first : goal.returns-clause-first

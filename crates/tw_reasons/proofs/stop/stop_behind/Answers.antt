@@ -1,7 +1,6 @@
 use Rattle.std.proofs.Common.{◌∙◌, [], ◌∷◌, sym}
 use Rattle.tw_words.specs.declared.word.Next.TheVariants as next
-use Rattle.tw_words.specs.Seen.{seen}
-use Rattle.tw_words.specs.Words.{Bare, IsBlank, IsBroken, IsFirstWord}
+use Rattle.tw_reasons.proofs.ReasonNames.{Bare, IsBlank, IsBroken, IsFirstWord, seen}
 use Rattle.tw_words.proofs.FirstWords.{behind_gap}
 use Rattle.tw_words.proofs.Texts.{rest_utf8}
 use Rattle.tw_asm.proofs.Whole.{all_fine}

@@ -1,7 +1,5 @@
 use Rattle.std.proofs.Common.{subst, sym}
-use Rattle.tw_words.specs.Words.{Bare, IsFirstWord, Quoted}
-use Rattle.tw_words.proofs.Once.{first_word_once}
-use Rattle.tw_asm.specs.Statement.{IsExpected}
+use Rattle.tw_reasons.proofs.ReasonNames.{Bare, IsExpected, IsFirstWord, Quoted, first_word_once}
 use Rattle.tw_asm.proofs.Spelled.{bare_is}
 use Rattle.tw_reasons.proofs.Saying.{quoted_apart}
 use Rattle.tw_reasons.proofs.stop.word_stop.Goals as goal

@@ -1,7 +1,6 @@
 use Rattle.std.proofs.Common.{◌∙◌, ℤ, Result, ap}
 use Rattle.tw_asm.proofs.Numbers.{signed_same}
-use Rattle.tw_asm.specs.declared.refusal.Flaw.{Flaw}
-use Rattle.tw_reasons.specs.Going.{has_form}
+use Rattle.tw_reasons.proofs.ReasonNames.{Flaw, has_form}
 use Rattle.tw_reasons.proofs.words.spells_number.Goals as goal
 
 pub returns : goal.returns

@@ -1,10 +1,8 @@
 use Rattle.std.proofs.Common.{◌≡◌, ◌∙◌, List, [], ◌∷◌, Bor, ℕ, ap, map, sym}
-use Rattle.std.specs.Str.Lines.{lines}
+use Rattle.tw_replies.proofs.ReplyNames.{Program, lines, map-append}
 use Rattle.std.proofs.lemmas.Iterator.Consumers.{YieldsList-at, YieldsList-end}
 use Rattle.std.proofs.lemmas.Iterator.Splits.{YieldsList-from_lines}
-use Rattle.std.proofs.lemmas.List.{map-append}
 use Rattle.tw_replies.specs.Parts.{Parts, after_line, after_lines, parts, seen}
-use Rattle.tw_replies.specs.declared.inputs.Section.TheVariants.{Program}
 use Rattle.tw_replies.proofs.InputLines.{one_more, program_read}
 use Rattle.tw_replies.proofs.inputs.input_parts.Goals as goal
 

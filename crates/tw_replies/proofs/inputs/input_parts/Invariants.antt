@@ -1,6 +1,5 @@
 use Rattle.std.proofs.Common.{◌≡◌, [], map}
-use Rattle.tw_replies.specs.Parts.{after_lines, parts, seen}
-use Rattle.tw_replies.specs.declared.inputs.Section.TheVariants.{Program}
+use Rattle.tw_replies.proofs.ReplyNames.{Program, after_lines, parts, seen}
 use Rattle.tw_replies.proofs.inputs.input_parts.Given as goal
 
 -- so many lines are taken

@@ -1,10 +1,8 @@
 use Rattle.std.proofs.Common.{◌≡◌, ◌==◌, ◌∙◌, List, [], ◌∷◌, Bor, ℕ, ap, codes, false, length, map, rules}
 use Rattle.std.specs.Str.{bytes_eq}
-use Rattle.std.proofs.lemmas.List.{map-append}
+use Rattle.tw_replies.proofs.ReplyNames.{Inputs, map-append, parts}
 use Rattle.clap.specs.Words.{Text}
-use Rattle.tw_replies.specs.Parts.{parts}
 use Rattle.tw_replies.specs.declared.inputs.Section.{Section}
-use Rattle.tw_replies.specs.declared.inputs.Section.TheVariants.{Inputs}
 use Rattle.tw_replies.proofs.inputs.take_input_line.Goals as goal
 
 pub returns : goal.returns

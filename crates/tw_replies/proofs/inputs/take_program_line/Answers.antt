@@ -1,8 +1,7 @@
 use Rattle.std.proofs.Common.{◌≡◌, ◌∙◌, List, Bor, ℕ, ap, codes, false, map, rules}
 use Rattle.std.specs.Str.{bytes_eq}
-use Rattle.tw_replies.specs.Parts.{parts}
+use Rattle.tw_replies.proofs.ReplyNames.{Program, parts}
 use Rattle.tw_replies.specs.declared.inputs.Section.{Section}
-use Rattle.tw_replies.specs.declared.inputs.Section.TheVariants.{Program}
 use Rattle.tw_replies.proofs.inputs.take_program_line.Goals as goal
 
 pub returns : goal.returns

@@ -1,7 +1,6 @@
 use Rattle.std.proofs.Common.{List, subst, sym}
-use Rattle.tw_code.specs.machine.Rights.{Typing}
+use Rattle.tw_replies.proofs.ReplyNames.{Typing, verify_refusal_number}
 use Rattle.tw_verify.specs.Known.{AreFound}
-use Rattle.tw_verify.specs.Refusal.{verify_refusal_number}
 use Rattle.tw_replies.proofs.Listings.{all_found, none_listed, one_found}
 use Rattle.tw_replies.proofs.listing.refused_text.Goals as goal
 

@@ -1,8 +1,6 @@
 use Rattle.std.proofs.Common.{◌≡◌, ◌++◌, ◌∙◌, List, ℕ, ap, inl, inr}
 use Rattle.tw_names.specs.Answers.{told}
-use Rattle.tw_replies.specs.Names.{name_behind, name_line}
-use Rattle.tw_replies.specs.Reply.{reply}
-use Rattle.tw_replies.specs.declared.close.Close.TheVariants.{Refused}
+use Rattle.tw_replies.proofs.ReplyNames.{Refused, name_behind, name_line, reply}
 use Rattle.tw_replies.proofs.names.named_reply.Goals as goal
 
 pub returns : goal.returns

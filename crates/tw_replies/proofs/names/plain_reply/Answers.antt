@@ -1,8 +1,5 @@
 use Rattle.std.proofs.Common.{List, ℕ, inr, subst}
-use Rattle.std.proofs.lemmas.Result.{IfOk-weaker}
-use Rattle.tw_replies.specs.Names.{RepliesByPlain}
-use Rattle.tw_replies.specs.Reply.{reply}
-use Rattle.tw_replies.specs.declared.reply.Reply.{Reply}
+use Rattle.tw_replies.proofs.ReplyNames.{IfOk-weaker, RepliesByPlain, Reply, reply}
 use Rattle.tw_replies.proofs.names.plain_reply.Goals as goal
 
 pub returns-in-Ok : goal.returns-in-Ok

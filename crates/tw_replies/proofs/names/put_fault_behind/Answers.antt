@@ -1,10 +1,7 @@
-use Rattle.std.proofs.Common.{◌≡◌, ◌++◌, ◌-◌, ◌∙◌, List, ℕ, codes, inr, refl, slice_get, string_bytes, subst, sym}
-use Rattle.std.specs.Str.Lines.{lines}
-use Rattle.std.proofs.lemmas.Result.{on_ok_weaker}
+use Rattle.std.proofs.Common.{◌≡◌, ◌++◌, ◌-◌, List, ℕ, codes, inr, refl, slice_get, string_bytes, subst, sym}
+use Rattle.tw_replies.proofs.ReplyNames.{HasNames, IsFirstRefusal, StandsFor, line_text, lines, on_ok_weaker}
 use Rattle.tw_names.specs.Answers.{told}
-use Rattle.tw_names.specs.Standing.{HasNames, IsFirstRefusal, StandsFor}
 use Rattle.tw_names.proofs.Once.{never_both}
-use Rattle.tw_replies.specs.Names.{line_text}
 use Rattle.tw_replies.proofs.NamedTexts.{is_refused}
 use Rattle.tw_replies.proofs.names.put_fault_behind.Goals as goal
 

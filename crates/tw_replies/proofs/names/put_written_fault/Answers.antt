@@ -1,7 +1,5 @@
 use Rattle.std.proofs.Common.{◌++◌, ◌-◌, ◌∙◌, ℕ, List, ap, append_assoc, codes, slice_get}
-use Rattle.std.specs.Str.Lines.{lines}
-use Rattle.std.proofs.lemmas.Result.{on_ok_weaker}
-use Rattle.tw_replies.specs.Names.{line_text}
+use Rattle.tw_replies.proofs.ReplyNames.{line_text, lines, on_ok_weaker}
 use Rattle.tw_replies.proofs.names.put_written_fault.Goals as goal
 
 pub returns : goal.returns

@@ -1,11 +1,6 @@
 use Rattle.std.proofs.Common.{Global, ℕ, Vec, ap, inl, string_bytes}
-use Rattle.std.proofs.lemmas.Result.{IfOk-weaker}
+use Rattle.tw_replies.proofs.ReplyNames.{IfOk-weaker, IsFirstRefusal, RepliesByPlain, Reply, StandsFor, Success, reply}
 use Rattle.tw_names.specs.Answers.{told}
-use Rattle.tw_names.specs.Standing.{IsFirstRefusal, StandsFor}
-use Rattle.tw_replies.specs.Names.{RepliesByPlain}
-use Rattle.tw_replies.specs.Reply.{reply}
-use Rattle.tw_replies.specs.declared.reply.Reply.{Reply}
-use Rattle.tw_replies.specs.declared.close.Close.TheVariants.{Success}
 use Rattle.tw_replies.proofs.NamedTexts.{is_refused}
 use Rattle.tw_replies.proofs.names.text_plain_reply.Goals as goal
 

@@ -1,13 +1,7 @@
 use Rattle.std.proofs.Common.{◌≡◌, ◌+◌, ◌*◌, ◌≤◌, ◌^◌, arith, ◌∙◌, refl, take}
-use Rattle.tw_types.specs.Outcome.{Went, NotEnabled, Trap}
+use Rattle.tw_replies.proofs.ReplyNames.{AreBelow, NotEnabled, Trap, Trapped, Went, opening_bound, played_from, reply, run, size_of, step, trap_line}
 use Rattle.tw_types.specs.Cause.{cause_number}
-use Rattle.tw_code.specs.machine.Bounds.{AreBelow, opening_bound, size_of}
-use Rattle.tw_code.specs.machine.Machine.{run, step}
 use Rattle.tw_code.proofs.Growth.{below_more}
-use Rattle.tw_report.specs.Lines.{trap_line}
-use Rattle.tw_replies.specs.Replay.{played_from}
-use Rattle.tw_replies.specs.Reply.{reply}
-use Rattle.tw_replies.specs.declared.close.Close.TheVariants.{Trapped}
 use Rattle.tw_replies.proofs.Playing.{by_not_enabled, by_trap, event_small, not_enabled, run_not_enabled, run_on, run_trapped, stays_so, stepped, trapped, went_on}
 use Rattle.tw_replies.proofs.CountedEvents.{came, small_on, tally_of_all, tally_on}
 use Rattle.tw_replies.proofs.numbers.count.Goals as goal

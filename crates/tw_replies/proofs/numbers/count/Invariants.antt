@@ -1,8 +1,5 @@
 use Rattle.std.proofs.Common.{◌≡◌, ◌+◌, ◌*◌, drop, take}
-use Rattle.tw_code.specs.machine.Bounds.{AreBelow, opening_bound}
-use Rattle.tw_code.specs.machine.Machine.{run}
-use Rattle.tw_stats.specs.Kept.{IsTally}
-use Rattle.tw_replies.specs.Replay.{played}
+use Rattle.tw_replies.proofs.ReplyNames.{AreBelow, IsTally, opening_bound, played, run}
 use Rattle.tw_replies.proofs.numbers.count.Given as goal
 
 abbrev pub invariant-loop-index : goal.invariant-loop-index

@@ -1,15 +1,7 @@
 use Rattle.std.proofs.Common.{◌≡◌, List, subst, sym}
-use Rattle.std.proofs.lemmas.Result.{IfOk-weaker}
-use Rattle.tw_types.specs.declared.event.Event.{Event}
-use Rattle.tw_code.specs.machine.Machine.{run}
-use Rattle.tw_machine.specs.PlainView.{PlainView}
-use Rattle.tw_stats.specs.Kept.{IsTally}
-use Rattle.tw_replies.specs.Counted.{IsCounting}
-use Rattle.tw_replies.specs.Replay.{AreKnownBudgets, IsCounted, IsNumbered, played_from}
-use Rattle.tw_replies.specs.Reply.{reply}
+use Rattle.tw_replies.proofs.ReplyNames.{AreKnownBudgets, Event, IfOk-weaker, IsCounted, IsCounting, IsNumbered, IsTally, PlainView, Reply, played_from, reply, run}
 use Rattle.tw_replies.specs.declared.numbers.Counting.{Counting}
-use Rattle.tw_replies.specs.declared.reply.Reply.{Reply}
-use Rattle.tw_replies.proofs.Playing.{by_weaker, by_went}
+use Rattle.tw_replies.proofs.Playing.{by_went}
 use Rattle.tw_replies.proofs.numbers.counted_reply.Goals as goal
 
 pub numbers_reply-requires : goal.numbers_reply-requires

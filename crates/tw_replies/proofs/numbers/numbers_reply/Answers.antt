@@ -1,9 +1,6 @@
-use Rattle.std.proofs.Common.{◌≡◌, ◌++◌, ◌∙◌, ℕ, List, ap, subst}
-use Rattle.tw_code.specs.machine.Ending as machine
-use Rattle.tw_machine.specs.PlainView.{PlainView}
+use Rattle.std.proofs.Common.{◌++◌, ◌∙◌, ℕ, List, ap, subst}
+use Rattle.tw_replies.proofs.ReplyNames.{AreKnownBudgets, PlainView, close_of, reply}
 use Rattle.tw_report.specs.Report.{state_report}
-use Rattle.tw_replies.specs.Replay.{AreKnownBudgets, close_of}
-use Rattle.tw_replies.specs.Reply.{reply}
 use Rattle.tw_replies.specs.declared.close.Close.{Close}
 use Rattle.tw_replies.proofs.numbers.numbers_reply.Goals as goal
 

@@ -1,6 +1,6 @@
 use Rattle.tw_code.specs.machine.Inputs.{input_params}
 use Rattle.tw_code.specs.machine.Opening.{main_params}
-use Rattle.tw_replies.proofs.Unfits.{none_fit}
+use Rattle.tw_code.proofs.Givens.{none_fit}
 use Rattle.tw_replies.proofs.opening.first_unfit.Goals as goal
 
 pub loop-index-init : goal.loop-index-init

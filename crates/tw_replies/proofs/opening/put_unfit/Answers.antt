@@ -1,11 +1,10 @@
 use Rattle.std.proofs.Common.{◌≡◌, ◌++◌, ◌+◌, ◌∙◌, ℕ, List, ap, append_assoc, codes, decimal, length, refl, sym}
-use Rattle.std.proofs.lemmas.Option.{slice_get_read}
-use Rattle.std.proofs.lemmas.Result.{on_ok_weaker}
-use Rattle.tw_types.specs.declared.input.Input.{Input}
+use Rattle.std.proofs.lemmas.Option.{same_Some}
+use Rattle.tw_replies.proofs.ReplyNames.{Input, on_ok_weaker, slice_get_read}
 use Rattle.tw_types.specs.declared.param.Param.{Param}
 use Rattle.tw_types.specs.Given.{given_by}
 use Rattle.tw_replies.specs.Opening.{unfit_text}
-use Rattle.tw_replies.proofs.Unfits.{first_misfit, some_none, some_same}
+use Rattle.tw_replies.proofs.Unfits.{first_misfit, some_none}
 use Rattle.tw_replies.proofs.opening.put_unfit.Goals as goal
 
 pub returns-in_default-input_param : goal.returns-in_default-input_param
@@ -18,8 +17,8 @@ returns c =
     let i = c.in-Some.index in
     let old = c.args.out.now.items in
     let m = first_misfit c.args.program.now c.args.inputs.now i c.in-Some.ensures.0 c.in-Some.ensures.1 c.in-Some.ensures.2 in
-    let param : c.in-Some-input_param.param ≡ m.param = some_same c.in-Some-input_param.param m.param (c.in-Some-input_param.ensures ∙ m.param_is) in
-    let input : c.in-Some-get.input.now ≡ m.input = some_same c.in-Some-get.input.now m.input (sym (slice_get_read c.args.inputs.now (length c.args.inputs.now) i c.in-Some-get.input.now refl c.in-Some.ensures.0 c.in-Some-get.ensures.lookup.1) ∙ m.input_is) in
+    let param : c.in-Some-input_param.param ≡ m.param = same_Some c.in-Some-input_param.param m.param (c.in-Some-input_param.ensures ∙ m.param_is) in
+    let input : c.in-Some-get.input.now ≡ m.input = same_Some c.in-Some-get.input.now m.input (sym (slice_get_read c.args.inputs.now (length c.args.inputs.now) i c.in-Some-get.input.now refl c.in-Some.ensures.0 c.in-Some-get.ensures.lookup.1) ∙ m.input_is) in
     let front = codes "input " ++ decimal (i + 1) in
     let text = unfit_text c.in-Some-input_param.param.ty (given_by c.in-Some-get.input.now) in
     on_ok_weaker c.put_unfit_text.result

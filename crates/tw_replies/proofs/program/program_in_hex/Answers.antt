@@ -1,13 +1,9 @@
 use Rattle.std.proofs.Common.{◌≡◌, ◌≢◌, Ok, Err, rules, subst, sym}
-use Rattle.std.proofs.lemmas.Result.{IfErr-weaker, IfOk-weaker}
+use Rattle.tw_replies.proofs.ReplyNames.{Hex, IfErr-weaker, IfOk-weaker, NoProgram, Spells, SpellsNone, Versioned}
 use Rattle.hex.specs.Hex.{decode_of}
 use Rattle.tw_bytes.specs.declared.fault.Fault.{Fault}
-use Rattle.tw_code.specs.format.Program.{Versioned}
 use Rattle.tw_bytes.specs.Reading.{program_of}
-use Rattle.tw_command.specs.declared.command.Source.TheVariants.{Hex}
 use Rattle.tw_replies.specs.Input.{digits_in}
-use Rattle.tw_replies.specs.Program.{Spells, SpellsNone}
-use Rattle.tw_replies.specs.declared.program.NoProgram.{NoProgram}
 use Rattle.tw_replies.specs.declared.program.NoProgram.TheVariants.{Bytes, NoMemory}
 use Rattle.tw_replies.proofs.program.program_in_hex.Goals as goal
 

@@ -1,9 +1,5 @@
 use Rattle.std.proofs.Common.{◌≡◌, ◌≢◌, ◌∙◌, IsUtf8, List, Some, ℕ, ap, subst, sym}
-use Rattle.std.proofs.lemmas.Result.{IfErr-weaker, IfOk-weaker}
-use Rattle.tw_command.specs.declared.command.Source.TheVariants.{Assembly}
-use Rattle.tw_replies.specs.Program.{Spells, SpellsNone, SpellsText}
-use Rattle.tw_replies.specs.Source.{text_of}
-use Rattle.tw_replies.specs.declared.program.NoProgram.{NoProgram}
+use Rattle.tw_replies.proofs.ReplyNames.{Assembly, IfErr-weaker, IfOk-weaker, NoProgram, Spells, SpellsNone, SpellsText, text_of}
 use Rattle.tw_replies.specs.declared.program.NoProgram.TheVariants.{NoMemory}
 use Rattle.tw_replies.specs.declared.program.ReadProgram.{ReadProgram}
 use Rattle.tw_replies.proofs.program.program_in_text.Goals as goal

@@ -1,8 +1,6 @@
 use Rattle.std.proofs.Common.{sym, subst}
 use Rattle.tw_code.proofs.Widening.{widened}
-use Rattle.tw_command.specs.declared.command.Source.TheVariants.{Assembly}
-use Rattle.tw_replies.specs.Program.{SpellsNone}
-use Rattle.tw_replies.specs.declared.program.NoProgram.{NoProgram}
+use Rattle.tw_replies.proofs.ReplyNames.{Assembly, NoProgram, SpellsNone}
 use Rattle.tw_replies.proofs.program.program_of_itself.Goals as goal
 
 pub returns-in-Ok-clause-spells : goal.returns-in-Ok-clause-spells

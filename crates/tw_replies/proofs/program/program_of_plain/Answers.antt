@@ -1,11 +1,8 @@
 use Rattle.std.proofs.Common.{◌≡◌, List, ℕ, sym, subst, string_bytes}
 use Rattle.tw_asm.specs.Answers.{HasFault}
-use Rattle.tw_asm.specs.Origins.{AreOrigins}
+use Rattle.tw_replies.proofs.ReplyNames.{AreOrigins, Assembly, NoProgram, SpellsNone}
 use Rattle.tw_asm.specs.Spelling.{SpellsProgram}
 use Rattle.tw_code.proofs.Widening.{widened}
-use Rattle.tw_command.specs.declared.command.Source.TheVariants.{Assembly}
-use Rattle.tw_replies.specs.Program.{SpellsNone}
-use Rattle.tw_replies.specs.declared.program.NoProgram.{NoProgram}
 use Rattle.tw_replies.proofs.program.program_of_plain.Goals as goal
 
 pub returns-in-Ok-clause-spells : goal.returns-in-Ok-clause-spells

@@ -1,7 +1,5 @@
 use Rattle.std.proofs.Common.{List, ℕ, subst, sym}
-use Rattle.std.proofs.lemmas.Result.{on_ok_weaker}
-use Rattle.tw_names.specs.Standing.{StandsFor}
-use Rattle.tw_replies.specs.Names.{IsFaultBehind}
+use Rattle.tw_replies.proofs.ReplyNames.{IsFaultBehind, StandsFor, on_ok_weaker}
 use Rattle.tw_replies.proofs.program.put_fault_reason.Goals as goal
 
 pub returns-in-Ok : goal.returns-in-Ok

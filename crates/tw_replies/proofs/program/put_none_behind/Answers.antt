@@ -1,6 +1,5 @@
 use Rattle.std.proofs.Common.{sym, subst}
-use Rattle.std.proofs.lemmas.Result.{on_ok_weaker}
-use Rattle.tw_replies.specs.declared.program.NoProgram.{NoProgram}
+use Rattle.tw_replies.proofs.ReplyNames.{NoProgram, on_ok_weaker}
 use Rattle.tw_replies.proofs.Nones.{Adds, nothing_added, reason_added, refusal_added}
 use Rattle.tw_replies.proofs.program.put_none_behind.Goals as goal
 

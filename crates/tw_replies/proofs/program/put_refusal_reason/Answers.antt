@@ -1,6 +1,5 @@
 use Rattle.std.proofs.Common.{◌++◌, ◌∙◌, List, ℕ, ap}
-use Rattle.std.proofs.lemmas.Result.{on_ok_weaker}
-use Rattle.tw_replies.specs.Names.{name_behind}
+use Rattle.tw_replies.proofs.ReplyNames.{name_behind, on_ok_weaker}
 use Rattle.tw_replies.proofs.program.put_refusal_reason.Goals as goal
 
 pub returns-in-Ok : goal.returns-in-Ok

@@ -1,7 +1,5 @@
 use Rattle.std.proofs.Common.{◌≡◌, ◌++◌, ◌∙◌, ℕ, List, ap}
-use Rattle.tw_replies.specs.Program.{no_program_line}
-use Rattle.tw_replies.specs.Reply.{reply}
-use Rattle.tw_replies.specs.declared.close.Close.TheVariants.{Refused}
+use Rattle.tw_replies.proofs.ReplyNames.{Refused, no_program_line, reply}
 use Rattle.tw_replies.proofs.program.reasoned_reply.Goals as goal
 
 pub returns : goal.returns

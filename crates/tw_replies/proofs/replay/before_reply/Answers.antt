@@ -1,13 +1,8 @@
 use Rattle.std.proofs.Common.{List, ℕ, inl, inr, subst}
-use Rattle.std.proofs.lemmas.Result.{IfOk-weaker}
-use Rattle.std.specs.Str.Lines.{lines}
+use Rattle.tw_replies.proofs.ReplyNames.{IfOk-weaker, RepliesByLines, RepliesBySource, Reply, lines, reply, text_told}
 use Rattle.tw_command.specs.CommandLine.{replay_with}
 use Rattle.tw_report.specs.History.{lines_in}
 use Rattle.tw_replies.specs.Inputs.{RepliesByWords, before_inputs, behind_inputs, words_in}
-use Rattle.tw_replies.specs.Program.{RepliesBySource, text_told}
-use Rattle.tw_replies.specs.Replay.{RepliesByLines}
-use Rattle.tw_replies.specs.Reply.{reply}
-use Rattle.tw_replies.specs.declared.reply.Reply.{Reply}
 use Rattle.tw_replies.proofs.replay.before_reply.Goals as goal
 
 pub returns-in-Ok : goal.returns-in-Ok

@@ -1,6 +1,5 @@
 use Rattle.std.proofs.Common.{◌≡◌, ◌∙◌, List, Bor, ℕ, ap, inl, inr, map, subst}
-use Rattle.std.proofs.lemmas.Result.{IfOk-weaker}
-use Rattle.std.specs.Str.Lines.{lines}
+use Rattle.tw_replies.proofs.ReplyNames.{IfOk-weaker, RepliesByLines, RepliesBySource, Reply, lines, reply, text_told}
 use Rattle.clap.specs.Words.{Text}
 use Rattle.tw_command.specs.CommandLine.{replay_with}
 use Rattle.tw_command.specs.InputWords.{AreSpelled}
@@ -8,10 +7,6 @@ use Rattle.tw_command.specs.Order.{IsInputReason}
 use Rattle.tw_command.specs.declared.command.ReplayOrder.{ReplayOrder}
 use Rattle.tw_report.specs.History.{lines_in}
 use Rattle.tw_replies.specs.Inputs.{before_inputs, behind_inputs, words_in}
-use Rattle.tw_replies.specs.Program.{RepliesBySource, text_told}
-use Rattle.tw_replies.specs.Replay.{RepliesByLines}
-use Rattle.tw_replies.specs.Reply.{reply}
-use Rattle.tw_replies.specs.declared.reply.Reply.{Reply}
 use Rattle.tw_replies.proofs.replay.inputs_reply.Goals as goal
 
 pub returns-in-Ok : goal.returns-in-Ok

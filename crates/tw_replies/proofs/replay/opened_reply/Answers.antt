@@ -1,17 +1,8 @@
 use Rattle.std.proofs.Common.{◌≡◌, List, None, ap, subst, sym}
-use Rattle.std.proofs.lemmas.Result.{IfOk-weaker}
-use Rattle.tw_types.specs.declared.input.Input.{Input}
-use Rattle.tw_machine.specs.PlainView.{PlainView}
-use Rattle.tw_machine.specs.Opening.{IsTold, refusal_of}
+use Rattle.tw_replies.proofs.ReplyNames.{AreKnownBudgets, IfOk-weaker, Input, IsAnswer, IsAnswered, IsFirst, IsTold, PlainView, Reply, Versioned, refusal_of, reply, text_of}
 use Rattle.tw_picture.specs.History.{IsOpening}
 use Rattle.tw_picture.proofs.History.{opening_is}
-use Rattle.tw_code.specs.format.Program.{Versioned}
-use Rattle.tw_stats.specs.Kept.{IsFirst}
 use Rattle.tw_stats.proofs.Openings.{first_is}
-use Rattle.tw_replies.specs.Replay.{AreKnownBudgets, IsAnswer, IsAnswered}
-use Rattle.tw_replies.specs.Reply.{reply}
-use Rattle.tw_replies.specs.Source.{text_of}
-use Rattle.tw_replies.specs.declared.reply.Reply.{Reply}
 use Rattle.tw_replies.proofs.Behinds.{IsUnopened}
 use Rattle.tw_replies.proofs.Playing.{opened_answer, opened_is, refused_answer}
 use Rattle.tw_replies.proofs.replay.opened_reply.Goals as goal

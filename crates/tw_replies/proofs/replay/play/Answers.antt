@@ -1,15 +1,7 @@
 use Rattle.std.proofs.Common.{◌≡◌, ◌+◌, ◌*◌, ◌≤◌, arith, ◌∙◌}
-use Rattle.std.proofs.lemmas.Result.{IfOk-weaker}
-use Rattle.tw_types.specs.Outcome.{NotEnabled, Trap}
-use Rattle.tw_code.specs.machine.Bounds.{opening_bound, size_of}
-use Rattle.tw_code.specs.machine.Machine.{step}
+use Rattle.tw_replies.proofs.ReplyNames.{IfOk-weaker, NotEnabled, Refused, Reply, Trap, Trapped, not_enabled_line, opening_bound, played, reply, size_of, state_reply, step, trap_line}
 use Rattle.tw_code.proofs.Growth.{below_more}
 use Rattle.tw_types.specs.Cause.{cause_number}
-use Rattle.tw_report.specs.Lines.{not_enabled_line, trap_line}
-use Rattle.tw_replies.specs.Replay.{played, state_reply}
-use Rattle.tw_replies.specs.Reply.{reply}
-use Rattle.tw_replies.specs.declared.close.Close.TheVariants.{Refused, Trapped}
-use Rattle.tw_replies.specs.declared.reply.Reply.{Reply}
 use Rattle.tw_replies.proofs.Playing.{all_played, event_small, not_enabled, trapped, went_on}
 use Rattle.tw_replies.proofs.replay.play.Goals as goal
 

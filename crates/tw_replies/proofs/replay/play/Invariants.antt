@@ -1,6 +1,5 @@
 use Rattle.std.proofs.Common.{◌≡◌, ◌+◌, ◌*◌, drop}
-use Rattle.tw_code.specs.machine.Bounds.{AreBelow, opening_bound}
-use Rattle.tw_replies.specs.Replay.{played}
+use Rattle.tw_replies.proofs.ReplyNames.{AreBelow, opening_bound, played}
 use Rattle.tw_replies.proofs.replay.play.Given as goal
 
 abbrev pub invariant-loop-index : goal.invariant-loop-index

@@ -1,11 +1,7 @@
 use Rattle.std.proofs.Common.{inl, inr}
-use Rattle.std.proofs.lemmas.Result.{IfOk-weaker}
+use Rattle.tw_replies.proofs.ReplyNames.{IfOk-weaker, RepliesByHistory, RepliesByLines, RepliesBySource, Reply, reply, text_told}
 use Rattle.tw_command.specs.CommandLine.{replay_with}
 use Rattle.tw_replies.specs.Inputs.{RepliesByInputs}
-use Rattle.tw_replies.specs.Replay.{RepliesByHistory, RepliesByLines}
-use Rattle.tw_replies.specs.Program.{RepliesBySource, text_told}
-use Rattle.tw_replies.specs.Reply.{reply}
-use Rattle.tw_replies.specs.declared.reply.Reply.{Reply}
 use Rattle.tw_replies.proofs.replay.replay_inputs_reply.Goals as goal
 
 pub returns-in-Ok : goal.returns-in-Ok

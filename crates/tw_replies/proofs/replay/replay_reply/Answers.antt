@@ -1,9 +1,5 @@
 use Rattle.std.proofs.Common.{inr}
-use Rattle.std.proofs.lemmas.Result.{IfOk-weaker}
-use Rattle.tw_replies.specs.Replay.{RepliesByHistory, RepliesByLines}
-use Rattle.tw_replies.specs.Program.{RepliesBySource, text_told}
-use Rattle.tw_replies.specs.Reply.{reply}
-use Rattle.tw_replies.specs.declared.reply.Reply.{Reply}
+use Rattle.tw_replies.proofs.ReplyNames.{IfOk-weaker, RepliesByHistory, RepliesByLines, RepliesBySource, Reply, reply, text_told}
 use Rattle.tw_replies.proofs.replay.replay_reply.Goals as goal
 
 pub returns-in-Err : goal.returns-in-Err

@@ -1,10 +1,6 @@
 use Rattle.std.proofs.Common.{List, Option, inl, subst, ℕ}
-use Rattle.std.proofs.lemmas.Result.{IfOk-weaker}
+use Rattle.tw_replies.proofs.ReplyNames.{IfOk-weaker, RepliesByLines, RepliesBySource, Reply, reply, text_told}
 use Rattle.tw_report.specs.History.{lines_in}
-use Rattle.tw_replies.specs.Program.{RepliesBySource, text_told}
-use Rattle.tw_replies.specs.Replay.{RepliesByLines}
-use Rattle.tw_replies.specs.Reply.{reply}
-use Rattle.tw_replies.specs.declared.reply.Reply.{Reply}
 use Rattle.tw_replies.proofs.Nones.{Tells, none_told}
 use Rattle.tw_replies.proofs.replay.source_reply.Goals as goal
 

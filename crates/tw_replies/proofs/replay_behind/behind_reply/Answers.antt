@@ -1,6 +1,5 @@
-use Rattle.std.proofs.Common.{◌++◌, ◌∙◌, List, ap, refl, ℕ}
-use Rattle.tw_replies.specs.Replay.{opened, start_of}
-use Rattle.tw_replies.specs.Reply.{reply}
+use Rattle.std.proofs.Common.{List, ap, refl, ℕ}
+use Rattle.tw_replies.proofs.ReplyNames.{opened, reply, start_of}
 use Rattle.tw_replies.proofs.Behinds.{answer_closes, may_tell}
 use Rattle.tw_replies.proofs.replay_behind.behind_reply.Goals as goal
 

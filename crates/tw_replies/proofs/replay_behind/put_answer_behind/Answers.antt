@@ -1,9 +1,5 @@
 use Rattle.std.proofs.Common.{Option, refl, subst, sym}
-use Rattle.std.proofs.lemmas.Result.{on_ok_weaker}
-use Rattle.tw_replies.specs.Circle.{reached_from}
-use Rattle.tw_replies.specs.Replay.{IsAnswerBehind}
-use Rattle.tw_replies.specs.Source.{text_of}
-use Rattle.tw_replies.specs.Stuck.{MayTell}
+use Rattle.tw_replies.proofs.ReplyNames.{IsAnswerBehind, MayTell, on_ok_weaker, reached_from, text_of}
 use Rattle.tw_replies.specs.declared.source.SourceText.{SourceText}
 use Rattle.tw_replies.proofs.Behinds.{Adds}
 use Rattle.tw_replies.proofs.replay_behind.put_answer_behind.Goals as goal

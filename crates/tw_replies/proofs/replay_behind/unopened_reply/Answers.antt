@@ -1,14 +1,6 @@
 use Rattle.std.proofs.Common.{◌≡◌, ◌++◌, List, subst, ℕ}
-use Rattle.std.proofs.lemmas.Result.{IfOk-weaker}
-use Rattle.tw_types.specs.declared.input.Input.{Input}
-use Rattle.tw_code.specs.declared.procedure.Procedure.{Procedure}
-use Rattle.tw_report.specs.Lines.{opening_line}
+use Rattle.tw_replies.proofs.ReplyNames.{IfOk-weaker, Input, Procedure, Refused, Reply, Spoken, opening_line, reply, text_of}
 use Rattle.tw_replies.specs.Opening.{IsOpeningBehind}
-use Rattle.tw_replies.specs.Reply.{reply}
-use Rattle.tw_replies.specs.Reply.{Reply as Spoken}
-use Rattle.tw_replies.specs.declared.close.Close.TheVariants.{Refused}
-use Rattle.tw_replies.specs.Source.{text_of}
-use Rattle.tw_replies.specs.declared.reply.Reply.{Reply}
 use Rattle.tw_replies.proofs.Behinds.{inputs_refused, main_refused}
 use Rattle.tw_replies.proofs.replay_behind.unopened_reply.Goals as goal
 

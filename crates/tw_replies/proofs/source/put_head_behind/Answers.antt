@@ -1,10 +1,7 @@
 use Rattle.std.proofs.Common.{◌++◌, ◌∙◌, ℕ, List, ap, append_assoc, subst, sym}
-use Rattle.std.proofs.lemmas.Result.{on_ok_weaker}
-use Rattle.tw_asm.specs.Origins.{ComesFrom}
-use Rattle.tw_names.specs.Standing.{StandsFor}
+use Rattle.tw_replies.proofs.ReplyNames.{ComesFrom, StandsFor, on_ok_weaker, text_line}
 use Rattle.tw_reasons.specs.Reasons.{shape_line}
 use Rattle.tw_reasons.specs.Says.{IsFirstHead}
-use Rattle.tw_replies.specs.Text.{text_line}
 use Rattle.tw_replies.proofs.Sources.{head_counts, head_there, some_head}
 use Rattle.tw_replies.proofs.source.put_head_behind.Goals as goal
 

@@ -1,11 +1,8 @@
 use Rattle.std.proofs.Common.{◌++◌, ◌∙◌, List, ap, refl, sym}
 use Rattle.std.specs.List.{slice_get}
-use Rattle.std.proofs.lemmas.Result.{on_ok_weaker}
+use Rattle.tw_replies.proofs.ReplyNames.{Procedure, on_ok_weaker, plain_of, text_line}
 use Rattle.tw_asm.proofs.Taking.{no_first}
-use Rattle.tw_code.specs.declared.procedure.Procedure.{Procedure}
 use Rattle.tw_reasons.specs.Reasons.{shape_line}
-use Rattle.tw_replies.specs.Source.{plain_of}
-use Rattle.tw_replies.specs.Text.{text_line}
 use Rattle.tw_replies.proofs.Sources.{none_there, some_origin}
 use Rattle.tw_replies.proofs.source.put_main_behind.Goals as goal
 

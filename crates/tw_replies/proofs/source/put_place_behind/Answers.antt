@@ -1,7 +1,5 @@
 use Rattle.std.proofs.Common.{◌++◌, ◌∙◌, ℕ, List, ap, append_assoc, refl}
-use Rattle.std.proofs.lemmas.Result.{on_ok_weaker}
-use Rattle.tw_replies.specs.Source.{plain_of}
-use Rattle.tw_replies.specs.Text.{text_line}
+use Rattle.tw_replies.proofs.ReplyNames.{on_ok_weaker, plain_of, text_line}
 use Rattle.tw_replies.proofs.source.put_place_behind.Goals as goal
 
 pub returns-in_default : goal.returns-in_default

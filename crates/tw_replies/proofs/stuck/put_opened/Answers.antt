@@ -1,7 +1,6 @@
-use Rattle.std.proofs.Common.{◌≡◌, Option, None, ap, subst, sym, ◌∙◌}
-use Rattle.std.proofs.lemmas.Result.{on_ok_weaker}
+use Rattle.std.proofs.Common.{Option, subst}
+use Rattle.tw_replies.proofs.ReplyNames.{IsTold, on_ok_weaker}
 use Rattle.tw_machine.specs.declared.refusal.OpenRefusal.{OpenRefusal}
-use Rattle.tw_machine.specs.Opening.{IsTold, refusal_of}
 use Rattle.tw_replies.proofs.Making.{opened_so, opens_so}
 use Rattle.tw_replies.proofs.stuck.put_opened.Goals as goal
 

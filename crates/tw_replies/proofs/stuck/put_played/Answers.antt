@@ -1,19 +1,8 @@
 use Rattle.std.proofs.Common.{◌≡◌, ◌+◌, ◌*◌, ◌≤◌, ◌++◌, ◌∙◌, List, Option, take, arith, refl, sym, ap, subst}
-use Rattle.std.specs.Prelude.{option_to_list}
-use Rattle.std.proofs.lemmas.List.{take_all}
-use Rattle.std.proofs.lemmas.Result.{on_ok_weaker}
-use Rattle.tw_types.specs.declared.event.Event.{Event}
-use Rattle.tw_types.specs.Outcome.{Went, NotEnabled, Trap}
-use Rattle.tw_code.specs.machine.Bounds.{opening_bound, size_of}
-use Rattle.tw_code.specs.machine.Machine.{run, step}
+use Rattle.tw_replies.proofs.ReplyNames.{AreMade, Event, IsOpened, NotEnabled, PlainView, Procedure, Start, State, TellsCircle, Trap, Went, on_ok_weaker, opening_bound, option_to_list, rule_done, run, size_of, step, take_all}
 use Rattle.tw_code.specs.machine.Pending.{circle}
-use Rattle.tw_code.specs.machine.State.{State}
-use Rattle.tw_code.specs.declared.procedure.Procedure.{Procedure}
 use Rattle.tw_code.proofs.Growth.{below_more}
 use Rattle.tw_code.proofs.Runs.{run_more}
-use Rattle.tw_machine.specs.PlainView.{PlainView}
-use Rattle.tw_replies.specs.Circle.{Start, TellsCircle}
-use Rattle.tw_replies.specs.Stuck.{AreMade, IsOpened, rule_done}
 use Rattle.tw_replies.specs.declared.stuck.Made.{Made}
 use Rattle.tw_replies.proofs.Making.{AddsTold, all_more, first_next, from_there, made_first, next_on, not_went, not_within, one_taken, run_none, same_state, steps_there, trapped_not}
 use Rattle.tw_replies.proofs.Playing.{all_run, event_small, run_not_enabled, run_on, run_trapped, stays_so, stepped}

@@ -1,9 +1,5 @@
 use Rattle.std.proofs.Common.{◌≡◌, ◌+◌, ◌*◌, drop, length, take}
-use Rattle.tw_types.specs.Outcome.{Went}
-use Rattle.tw_code.specs.machine.Bounds.{AreBelow, opening_bound}
-use Rattle.tw_code.specs.machine.Machine.{run}
-use Rattle.tw_replies.specs.Circle.{Start}
-use Rattle.tw_replies.specs.Stuck.{AreMade, IsOpened}
+use Rattle.tw_replies.proofs.ReplyNames.{AreBelow, AreMade, IsOpened, Start, Went, opening_bound, run}
 use Rattle.tw_replies.proofs.stuck.put_played.Given as goal
 
 -- so many events are made, and the rules that they made are known

@@ -1,5 +1,4 @@
-use Rattle.std.proofs.lemmas.Result.{on_ok_weaker}
-use Rattle.tw_replies.specs.Source.{plain_of}
+use Rattle.tw_replies.proofs.ReplyNames.{on_ok_weaker, plain_of}
 use Rattle.tw_replies.proofs.Making.{none_told, rule_told, there}
 use Rattle.tw_replies.proofs.stuck.put_rule.Goals as goal
 

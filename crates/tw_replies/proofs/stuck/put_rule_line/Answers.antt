@@ -1,7 +1,5 @@
 use Rattle.std.proofs.Common.{◌++◌, ◌∙◌, List, ap, append_assoc, ℕ}
-use Rattle.std.proofs.lemmas.Result.{on_ok_weaker}
-use Rattle.tw_replies.specs.Circle.{rule_text}
-use Rattle.tw_replies.specs.Text.{text_line}
+use Rattle.tw_replies.proofs.ReplyNames.{on_ok_weaker, rule_text, text_line}
 use Rattle.tw_replies.proofs.stuck.put_rule_line.Goals as goal
 
 pub returns : goal.returns

@@ -1,7 +1,6 @@
 use Rattle.std.proofs.Common.{◌+◌, List, subst, take}
-use Rattle.std.proofs.lemmas.List.{take_all}
+use Rattle.tw_replies.proofs.ReplyNames.{TellRules, take_all}
 use Rattle.tw_types.specs.declared.pending.Link.{Link}
-use Rattle.tw_replies.specs.Circle.{TellRules}
 use Rattle.tw_replies.proofs.Making.{AddsTold, link_taken, rule_more}
 use Rattle.tw_replies.proofs.stuck.put_rules.Goals as goal
 

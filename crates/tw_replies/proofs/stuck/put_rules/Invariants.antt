@@ -1,8 +1,5 @@
 use Rattle.std.proofs.Common.{List, take}
-use Rattle.tw_types.specs.declared.event.Event.{Event}
-use Rattle.tw_replies.specs.Circle.{Start, TellRules}
-use Rattle.tw_replies.specs.Source.{IsSource}
-use Rattle.tw_replies.specs.Stuck.{AreMade}
+use Rattle.tw_replies.proofs.ReplyNames.{AreMade, Event, IsSource, Start, TellRules}
 use Rattle.tw_replies.proofs.Making.{AddsTold}
 use Rattle.tw_replies.proofs.stuck.put_rules.Given as goal
 

@@ -1,6 +1,5 @@
 use Rattle.std.proofs.Common.{List, ℕ, subst, sym}
-use Rattle.std.proofs.lemmas.Result.{on_ok_weaker}
-use Rattle.tw_replies.specs.Source.{IsSpelled}
+use Rattle.tw_replies.proofs.ReplyNames.{IsSpelled, on_ok_weaker}
 use Rattle.tw_replies.proofs.Making.{same_program}
 use Rattle.tw_replies.proofs.Faults.{fault_has}
 use Rattle.tw_replies.proofs.stuck.put_stuck.Goals as goal

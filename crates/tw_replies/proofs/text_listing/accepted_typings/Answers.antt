@@ -1,5 +1,4 @@
-use Rattle.std.proofs.Common.{◌≡◌, ◌∙◌, List, ap, rules, sym, ℕ}
-use Rattle.tw_code.specs.machine.Rights.{Typing}
+use Rattle.std.proofs.Common.{◌≡◌, ◌∙◌}
 use Rattle.tw_verify.specs.Typed.{typings_of}
 use Rattle.tw_replies.proofs.LineListings.{one_counted, one_kept}
 use Rattle.tw_replies.proofs.text_listing.accepted_typings.Goals as goal

@@ -1,13 +1,6 @@
-use Rattle.std.proofs.Common.{◌≡◌, ◌∙◌, Global, List, Some, Vec, ap, subst, sym, ℕ}
-use Rattle.std.proofs.lemmas.Result.{IfOk-weaker}
-use Rattle.std.specs.Str.Lines.{lines}
-use Rattle.tw_asm.specs.Fault.{LinesSay, at_start}
-use Rattle.tw_code.specs.machine.Rights.{Typing}
-use Rattle.tw_names.specs.Standing.{StandsFor}
+use Rattle.std.proofs.Common.{◌∙◌, Global, List, Some, Vec, ap, subst, sym, ℕ}
+use Rattle.tw_replies.proofs.ReplyNames.{IfOk-weaker, IsRefusedListing, LinesSay, StandsFor, Typing, at_start, lines, said_lines, typings_in, verify_refusal_number}
 use Rattle.tw_names.proofs.LineByLine.{as_many}
-use Rattle.tw_replies.specs.Listed.{typings_in}
-use Rattle.tw_replies.specs.Listing.{IsRefusedListing, said_lines}
-use Rattle.tw_verify.specs.Refusal.{verify_refusal_number}
 use Rattle.tw_replies.proofs.LineListings.{some_said}
 use Rattle.tw_replies.proofs.text_listing.refused_lines.Goals as goal
 

@@ -1,12 +1,8 @@
-use Rattle.std.proofs.Common.{◌≡◌, ◌++◌, ◌∷◌, [], ◌∙◌, List, Bor, ℕ, ap, length, map, refl, rules, subst, sym}
-use Rattle.std.proofs.lemmas.List.{map-append}
+use Rattle.std.proofs.Common.{◌≡◌, ◌++◌, ◌∷◌, [], ◌∙◌, List, Bor, ℕ, ap, refl, rules, subst, sym}
+use Rattle.tw_replies.proofs.ReplyNames.{LinesSay, at_start, lines, map-append, said_lines, typings_in}
 use Rattle.std.proofs.lemmas.Iterator.{YieldsList-from_zip}
 use Rattle.std.proofs.lemmas.Iterator.Consumers.{YieldsList-at, YieldsList-end}
 use Rattle.std.proofs.lemmas.Iterator.Splits.{YieldsList-from_lines}
-use Rattle.std.specs.Str.Lines.{lines}
-use Rattle.tw_asm.specs.Fault.{LinesSay, at_start}
-use Rattle.tw_replies.specs.Listed.{typings_in}
-use Rattle.tw_replies.specs.Listing.{said_lines}
 use Rattle.tw_replies.proofs.LineListings.{AreLinesListed, all_written, line_listed, none_listed_yet, own_in, pairs_length, written_in}
 use Rattle.tw_replies.proofs.text_listing.said_text.Goals as goal
 

@@ -1,10 +1,6 @@
 use Rattle.std.proofs.Common.{◌∙◌, ap, sym, Bool, List, ℕ, Option, slice_get}
-use Rattle.std.specs.Option.{option_map}
+use Rattle.tw_verify.proofs.VerifierNames.{Scalar, asks_callee, asks_priority, lowest_of, option_map, refusal_in, refusal_with, verify_refusal_number}
 use Rattle.tw_types.specs.Actor.{is_control}
-use Rattle.tw_types.specs.declared.data_type.Scalar.{Scalar}
-use Rattle.tw_code.specs.accepting.Question.{refusal_in}
-use Rattle.tw_code.specs.accepting.Typing.{asks_callee, asks_priority}
-use Rattle.tw_verify.specs.Refusal.{lowest_of, refusal_with, verify_refusal_number}
 use Rattle.tw_verify.proofs.Numbers.{refusal_in-append}
 use Rattle.tw_verify.proofs.arguments.action_refusal.Goals as goal
 

@@ -2,14 +2,9 @@ use Rattle.std.proofs.Common.{◌∷◌, [], ℕ, List, Option, refl, sym, ap, s
 use Rattle.std.proofs.lemmas.Slice.Zip.{Zip-more, either_empty_from_Zip}
 use Rattle.std.specs.Iterator.Adapters.{zip_first, zip_second}
 use Rattle.std.specs.List.{AllByRecursion}
-use Rattle.std.specs.Option.{option_map}
+use Rattle.tw_verify.proofs.VerifierNames.{IsRegister, Typing, asks_args, lowest_of, option_map, refusal_in, verify_refusal_number, without_args}
 use Rattle.std.specs.Slice.Iter.{iter_rest}
 use Rattle.tw_types.specs.declared.param.Param.{Param}
-use Rattle.tw_code.specs.format.Program.{IsRegister}
-use Rattle.tw_code.specs.machine.Rights.{Typing}
-use Rattle.tw_code.specs.accepting.Question.{refusal_in}
-use Rattle.tw_code.specs.accepting.Typing.{asks_args, without_args}
-use Rattle.tw_verify.specs.Refusal.{lowest_of, verify_refusal_number}
 use Rattle.tw_verify.proofs.Asking.{ask_more, nothing_asked}
 use Rattle.tw_verify.proofs.Numbers.{lowest_nothing, lowest_of_three}
 use Rattle.tw_verify.proofs.arguments.arguments_refusal.Goals as goal

@@ -1,12 +1,8 @@
 use Rattle.std.proofs.Common.{◌≡◌}
 use Rattle.std.specs.Iterator.Adapters.{zip_first, zip_second}
 use Rattle.std.specs.List.{AllByRecursion}
-use Rattle.std.specs.Option.{option_map}
+use Rattle.tw_verify.proofs.VerifierNames.{IsRegister, asks_args, lowest_of, option_map, refusal_in, verify_refusal_number}
 use Rattle.std.specs.Slice.Iter.{iter_rest}
-use Rattle.tw_code.specs.format.Program.{IsRegister}
-use Rattle.tw_code.specs.accepting.Question.{refusal_in}
-use Rattle.tw_code.specs.accepting.Typing.{asks_args}
-use Rattle.tw_verify.specs.Refusal.{lowest_of, verify_refusal_number}
 use Rattle.tw_verify.proofs.arguments.arguments_refusal.Given as goal
 
 -- what is found so far, and what is still asked

@@ -1,9 +1,6 @@
 use Rattle.std.proofs.Common.{Bool, true, ◌&&◌, ap, sym, ◌∙◌, arith, length, length-append, take, ◌∷◌, []}
-use Rattle.std.specs.Prelude.{slice_get}
-use Rattle.std.specs.Option.{option_map_or}
-use Rattle.tw_types.specs.declared.data_type.Scalar.{Scalar}
+use Rattle.tw_verify.proofs.VerifierNames.{Scalar, option_map_or, slice_get, value_types, values_fit}
 use Rattle.tw_types.specs.DataType.{same_scalar}
-use Rattle.tw_code.specs.accepting.Typing.{value_types, values_fit}
 use Rattle.tw_verify.proofs.OneMore.{next_value, next_right, next_fits}
 use Rattle.tw_verify.proofs.instructions.params_refusal.Goals as goal
 use Rattle.tw_verify.proofs.instructions.params_refusal.Goals.{then-is_val, else-is_val}

@@ -1,8 +1,5 @@
 use Rattle.std.proofs.Common.{◌≡◌, ℕ, Option, ap, sym, ◌∙◌, subst}
-use Rattle.std.specs.Option.{option_map}
-use Rattle.tw_code.specs.accepting.Question.{refusal_in}
-use Rattle.tw_code.specs.accepting.Typing.{asks_params, asks, asks_at}
-use Rattle.tw_verify.specs.Refusal.{lowest_of, verify_refusal_number}
+use Rattle.tw_verify.proofs.VerifierNames.{asks, asks_at, asks_params, lowest_of, option_map, refusal_in, verify_refusal_number}
 use Rattle.tw_verify.proofs.Numbers.{refusal_in-append}
 use Rattle.tw_verify.proofs.instructions.place_refusal.Goals as goal
 

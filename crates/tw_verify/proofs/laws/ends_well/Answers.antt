@@ -1,8 +1,7 @@
 use Rattle.std.proofs.Common.{subst}
-use Rattle.tw_code.specs.format.Program.{IsProgram}
+use Rattle.tw_verify.proofs.VerifierNames.{IsProgram, typings_of}
 use Rattle.tw_no_trap.proofs.Ends as ends
 use Rattle.tw_no_trap.proofs.Safe.{reached_is_held}
-use Rattle.tw_verify.specs.Typed.{typings_of}
 use Rattle.tw_verify.proofs.laws.ends_well.Goals as goal
 
 pub returns : goal.returns

@@ -1,7 +1,5 @@
 use Rattle.std.proofs.Common.{ℕ, ◌+◌, List, sym, ap, ◌∙◌, subst, arith, [], ◌∷◌}
-use Rattle.tw_code.specs.accepting.Flow.{flows}
-use Rattle.tw_code.specs.accepting.Structure.{depth_after}
-use Rattle.tw_verify.specs.Loops.{DepthsTo}
+use Rattle.tw_verify.proofs.VerifierNames.{DepthsTo, depth_after, flows}
 use Rattle.tw_budget.proofs.Places.{depth_next}
 use Rattle.tw_verify.proofs.Places.{depths_more}
 use Rattle.tw_verify.proofs.loops.all_depths.Goals as goal

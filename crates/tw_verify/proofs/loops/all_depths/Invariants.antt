@@ -1,7 +1,5 @@
 use Rattle.std.proofs.Common.{◌≡◌, ◌≤◌}
-use Rattle.tw_code.specs.accepting.Flow.{flows}
-use Rattle.tw_code.specs.accepting.Structure.{depth_of}
-use Rattle.tw_verify.specs.Loops.{DepthsTo}
+use Rattle.tw_verify.proofs.VerifierNames.{DepthsTo, depth_of, flows}
 use Rattle.tw_verify.proofs.loops.all_depths.Given as goal
 
 abbrev pub invariant-loop-place : goal.invariant-loop-place

@@ -1,8 +1,5 @@
 use Rattle.std.proofs.Common.{◌≡◌, ℕ, ◌+◌, ◌-◌, List, length, Option, None, sym, subst, arith, set}
-use Rattle.std.proofs.lemmas.List.{length-map}
-use Rattle.std.proofs.lemmas.Option.{slice_get_within}
-use Rattle.tw_code.specs.accepting.Flow.{flow_of, flows}
-use Rattle.tw_verify.specs.Loops.{EndsFrom}
+use Rattle.tw_verify.proofs.VerifierNames.{EndsFrom, flow_of, flows, length-map, slice_get_within}
 use Rattle.tw_verify.proofs.Places.{ends_more, end_past_code}
 use Rattle.tw_verify.proofs.loops.all_ends.Goals as goal
 

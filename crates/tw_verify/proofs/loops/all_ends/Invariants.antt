@@ -1,5 +1,4 @@
-use Rattle.tw_code.specs.accepting.Flow.{flows}
-use Rattle.tw_verify.specs.Loops.{EndsFrom}
+use Rattle.tw_verify.proofs.VerifierNames.{EndsFrom, flows}
 use Rattle.tw_verify.proofs.loops.all_ends.Given as goal
 
 abbrev pub invariant-loop-place : goal.invariant-loop-place

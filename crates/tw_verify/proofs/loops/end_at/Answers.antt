@@ -1,6 +1,5 @@
 use Rattle.std.proofs.Common.{◌+◌, Some, sym, ap, ◌∙◌, arith}
-use Rattle.std.proofs.lemmas.List.{length-map}
-use Rattle.tw_code.specs.accepting.Flow.{flow_of, flows}
+use Rattle.tw_verify.proofs.VerifierNames.{flow_of, flows, length-map}
 use Rattle.tw_budget.proofs.Places.{end_within, close_end}
 use Rattle.tw_verify.proofs.Places.{begin_end, begin_no_end, passes_end}
 use Rattle.tw_verify.proofs.loops.end_at.Goals as goal

@@ -1,6 +1,5 @@
 use Rattle.std.proofs.Common.{◌≡◌, Some, None, Bool, true, false, not, refl, sym, ap, ◌∙◌}
-use Rattle.std.specs.Prelude.{slice_get}
-use Rattle.std.proofs.lemmas.Option.{same_Some}
+use Rattle.tw_verify.proofs.VerifierNames.{same_Some, slice_get}
 use Rattle.tw_verify.proofs.Reaching.{typing_decides}
 use Rattle.tw_verify.proofs.pass.is_changed.Goals as goal
 

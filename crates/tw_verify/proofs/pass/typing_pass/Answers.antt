@@ -1,16 +1,7 @@
 use Rattle.std.proofs.Common.{◌≡◌, ℕ, ◌+◌, ◌∷◌, [], ◌++◌, List, Option, Some, drop, take, refl, sym, ap, ◌∙◌, subst, arith}
-use Rattle.std.specs.Prelude.{length, slice_get}
-use Rattle.std.specs.Option.{option_map}
-use Rattle.std.proofs.lemmas.Option.{slice_get_read}
-use Rattle.tw_code.specs.declared.instr.Instr.{Instr}
-use Rattle.tw_code.specs.accepting.Question.{refusal_in}
-use Rattle.tw_code.specs.machine.Rights.{Typing}
-use Rattle.tw_code.specs.accepting.Typing.{start_typing, asks_at}
-use Rattle.tw_code.specs.accepting.WellTyped.{IsEndOf, IsWellTyped}
+use Rattle.tw_verify.proofs.VerifierNames.{HasChanged, Instr, IsEndOf, IsWellTyped, Typing, asks_at, first_row, length, lowest_at, option_map, refusal_in, slice_get, slice_get_read, start_typing, verify_refusal_number}
 use Rattle.tw_verify.specs.Known.{AreUpTo}
-use Rattle.tw_verify.specs.Refusal.{verify_refusal_number}
 use Rattle.tw_verify.specs.declared.reached.Reached.{Reached}
-use Rattle.tw_verify.specs.Passes.{first_row, HasChanged, lowest_at}
 use Rattle.tw_verify.proofs.Causes.{nothing_at}
 use Rattle.tw_verify.proofs.Mistakes.{none_typed, typed_more, unreached, refusal_at}
 use Rattle.tw_verify.proofs.Reaching.{IsRow, HasReached, start_row, rows_more, whole_slice}

@@ -1,10 +1,6 @@
 use Rattle.std.proofs.Common.{ℕ, Option, Some, None, ap, ◌∙◌}
-use Rattle.std.specs.Prelude.{if◌then◌else◌}
-use Rattle.std.specs.Option.{option_map}
-use Rattle.tw_code.specs.accepting.Question.{refusal_in}
-use Rattle.tw_code.specs.accepting.Typing.{asks_at}
+use Rattle.tw_verify.proofs.VerifierNames.{asks_at, if◌then◌else◌, lowest_of, option_map, refusal_in, verify_refusal_number}
 use Rattle.tw_verify.specs.declared.refusal.VerifyRefusal.TheVariants.{TypingsDiffer, TypingChanged}
-use Rattle.tw_verify.specs.Refusal.{lowest_of, verify_refusal_number}
 use Rattle.tw_verify.proofs.Causes.{then_number}
 use Rattle.tw_verify.proofs.pass.typing_refusal.Goals as goal
 

@@ -1,11 +1,5 @@
 use Rattle.std.proofs.Common.{◌≡◌, ℕ, ◌+◌, ◌<◌, ◌≤◌, ◌⊎◌, inl, inr, None, ap, subst, sym, ◌∙◌, arith}
-use Rattle.std.proofs.lemmas.Bool.{cases_lt}
-use Rattle.std.proofs.lemmas.List.{length-map}
-use Rattle.std.proofs.lemmas.Option.{slice_get_past}
-use Rattle.std.specs.Option.{option_and_then, option_map}
-use Rattle.tw_code.specs.accepting.Flow.{flow_of, flows}
-use Rattle.tw_code.specs.accepting.Structure.{structure_refusal, structure_refusal_at}
-use Rattle.tw_verify.specs.Refusal.{verify_refusal_number}
+use Rattle.tw_verify.proofs.VerifierNames.{cases_lt, flow_of, flows, length-map, option_and_then, option_map, slice_get_past, structure_refusal, structure_refusal_at, verify_refusal_number}
 use Rattle.tw_verify.proofs.structure.ask_structure.Goals as goal
 
 pub loop-place-preserved : goal.loop-place-preserved

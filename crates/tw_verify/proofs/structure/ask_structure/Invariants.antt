@@ -1,6 +1,5 @@
 use Rattle.std.proofs.Common.{◌≡◌, ℕ, ◌<◌, None}
-use Rattle.tw_code.specs.accepting.Flow.{flows}
-use Rattle.tw_code.specs.accepting.Structure.{structure_refusal_at}
+use Rattle.tw_verify.proofs.VerifierNames.{flows, structure_refusal_at}
 use Rattle.tw_verify.proofs.structure.ask_structure.Given as goal
 
 -- no place so far is refused

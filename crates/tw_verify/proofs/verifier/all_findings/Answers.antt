@@ -1,9 +1,6 @@
 use Rattle.std.proofs.Common.{◌≡◌, ◌+◌, ◌∷◌, [], ◌++◌, List, length, refl, sym, ◌∙◌, subst}
-use Rattle.std.proofs.lemmas.Option.{slice_get_read}
+use Rattle.tw_verify.proofs.VerifierNames.{AreTyped, Findings, IsRefusal, slice_get_read}
 use Rattle.tw_verify.specs.declared.fault.Refusal.{Refusal}
-use Rattle.tw_verify.specs.declared.findings.Findings.{Findings}
-use Rattle.tw_verify.specs.Passes.{IsRefusal}
-use Rattle.tw_verify.specs.Verified.{AreTyped}
 use Rattle.tw_verify.proofs.Programs.{refusal_by, accepted_more}
 use Rattle.tw_verify.proofs.verifier.all_findings.Goals as goal
 

@@ -1,7 +1,5 @@
 use Rattle.std.proofs.Common.{List, subst}
-use Rattle.tw_code.specs.declared.procedure.Procedure.{Procedure}
-use Rattle.tw_code.specs.accepting.WellTyped.{IsAccepted}
-use Rattle.tw_verify.specs.Passes.{IsRefusal}
+use Rattle.tw_verify.proofs.VerifierNames.{IsAccepted, IsRefusal, Procedure}
 use Rattle.tw_verify.proofs.Programs.{accepted, refusal_is_memory}
 use Rattle.tw_verify.proofs.verifier.verify.Goals as goal
 

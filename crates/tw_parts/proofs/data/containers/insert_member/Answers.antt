@@ -1,11 +1,7 @@
 use Rattle.std.proofs.Common.{◌∙◌, ◌+◌, ap, sym, refl, subst, slice_set, Some, Ok}
-use Rattle.tw_types.specs.ValueOrder.{named}
+use Rattle.tw_parts.proofs.PartNames.{FrameView, IsInsertion, at_goal, at_next_place, come, draft_of, job_of, named}
 use Rattle.tw_rights.specs.declared.held.Held.TheVariants as held
-use Rattle.tw_store.specs.Calls.{IsInsertion}
 use Rattle.tw_store.specs.declared.calls.Inserted.{Inserted}
-use Rattle.tw_code.specs.machine.Position.{at_goal, at_next_place}
-use Rattle.tw_frame.specs.Jobs.{FrameView, draft_of, job_of}
-use Rattle.tw_parts.specs.Coming.{come}
 use Rattle.tw_parts.proofs.Inserts.{insert_absent, insert_allowed, insert_here, insert_inside, insert_member_here, insert_read, insert_write, inserted_none, inserted_some}
 use Rattle.tw_parts.proofs.Registers.{put_back}
 use Rattle.tw_parts.proofs.data.containers.insert_member.Goals as goal

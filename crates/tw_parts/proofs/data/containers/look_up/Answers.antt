@@ -1,7 +1,5 @@
 use Rattle.std.proofs.Common.{◌∙◌, ◌+◌, ap}
-use Rattle.tw_types.specs.ValueOrder.{named}
-use Rattle.tw_code.specs.machine.Position.{at_next_place}
-use Rattle.tw_frame.specs.Jobs.{FrameView}
+use Rattle.tw_parts.proofs.PartNames.{FrameView, at_next_place, named}
 use Rattle.tw_parts.proofs.Looks.{look_allowed, look_empty, look_here, look_inside, look_right, look_room, looked_none, looked_some}
 use Rattle.tw_parts.proofs.data.containers.look_up.Goals as goal
 

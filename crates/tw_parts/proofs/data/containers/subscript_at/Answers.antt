@@ -1,11 +1,6 @@
 use Rattle.std.proofs.Common.{◌≡◌, ◌∙◌, ◌+◌, Some, sym, ap, refl, arith, to_z, of_z, w64, slice_get, option_map}
 use Rattle.std.proofs.lemmas.Int.{to_z-of_z}
-use Rattle.std.specs.FinMap.{keys}
-use Rattle.tw_types.specs.StoreCalls.{members_at, subscript_after}
-use Rattle.tw_types.specs.Value.{scalar_of}
-use Rattle.tw_code.specs.machine.Position.{at_goal, at_next_place, with_value}
-use Rattle.tw_frame.specs.Jobs.{FrameView, draft_of}
-use Rattle.tw_parts.specs.Coming.{come}
+use Rattle.tw_parts.proofs.PartNames.{FrameView, at_goal, at_next_place, come, draft_of, keys, members_at, scalar_of, subscript_after, with_value}
 use Rattle.tw_store.proofs.Here.{unchanged}
 use Rattle.tw_parts.proofs.Sizes.{subscript_allowed, subscript_by, subscript_fits, subscript_here, subscript_int, subscript_none, subscript_right, subscript_some, subscript_there}
 use Rattle.tw_parts.proofs.data.containers.subscript_at.Goals as goal

@@ -1,6 +1,5 @@
 use Rattle.std.proofs.Common.{◌∙◌, ◌+◌, ap}
-use Rattle.tw_code.specs.machine.Position.{at_next_place}
-use Rattle.tw_frame.specs.Jobs.{FrameView}
+use Rattle.tw_parts.proofs.PartNames.{FrameView, at_next_place}
 use Rattle.tw_parts.proofs.Copies.{copy_read_empty, copy_read_here, copy_read_right, read_copied_done, read_room}
 use Rattle.tw_parts.proofs.data.rights.copy_read.Goals as goal
 

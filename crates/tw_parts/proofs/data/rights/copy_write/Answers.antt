@@ -1,6 +1,5 @@
 use Rattle.std.proofs.Common.{◌∙◌, ◌+◌, ap}
-use Rattle.tw_code.specs.machine.Position.{at_next_place}
-use Rattle.tw_frame.specs.Jobs.{FrameView}
+use Rattle.tw_parts.proofs.PartNames.{FrameView, at_next_place}
 use Rattle.tw_parts.proofs.Copies.{copy_write_allowed, copy_write_empty, copy_write_here, copy_write_right, write_copied_done, write_room}
 use Rattle.tw_parts.proofs.data.rights.copy_write.Goals as goal
 

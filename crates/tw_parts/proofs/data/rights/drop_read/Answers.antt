@@ -1,6 +1,5 @@
 use Rattle.std.proofs.Common.{◌∙◌, ◌+◌, ap}
-use Rattle.tw_code.specs.machine.Position.{at_next_place}
-use Rattle.tw_frame.specs.Jobs.{FrameView}
+use Rattle.tw_parts.proofs.PartNames.{FrameView, at_next_place}
 use Rattle.tw_parts.proofs.Drops.{drop_read_allowed, drop_read_here, drop_read_right, read_dropped_done}
 use Rattle.tw_parts.proofs.data.rights.drop_read.Goals as goal
 

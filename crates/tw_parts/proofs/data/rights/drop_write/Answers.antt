@@ -1,8 +1,6 @@
 use Rattle.std.proofs.Common.{◌∙◌, ◌+◌, ap, sym, refl}
 use Rattle.tw_rights.specs.declared.held.Held.TheVariants as held
-use Rattle.tw_code.specs.machine.Position.{at_next_place}
-use Rattle.tw_frame.specs.Jobs.{FrameView, draft_of, job_of}
-use Rattle.tw_parts.specs.Coming.{come}
+use Rattle.tw_parts.proofs.PartNames.{FrameView, at_next_place, come, draft_of, job_of}
 use Rattle.tw_parts.proofs.Drops.{drop_write_allowed, drop_write_here, drop_write_right, write_dropped_done}
 use Rattle.tw_parts.proofs.Registers.{id_at, more_than, put_back}
 use Rattle.tw_parts.proofs.data.rights.drop_write.Goals as goal

@@ -1,8 +1,6 @@
 use Rattle.std.proofs.Common.{◌∙◌, ◌+◌, ap, sym, refl, slice_set, slice_index_or, Some, None}
 use Rattle.tw_rights.specs.declared.held.Held.TheVariants as held
-use Rattle.tw_code.specs.machine.Position.{at_next_place}
-use Rattle.tw_frame.specs.Jobs.{FrameView, draft_of}
-use Rattle.tw_parts.specs.Coming.{come}
+use Rattle.tw_parts.proofs.PartNames.{FrameView, at_next_place, come, draft_of}
 use Rattle.tw_parts.proofs.News.{made_done, read_empty, write_empty}
 use Rattle.tw_parts.proofs.Registers.{nothing_left}
 use Rattle.tw_parts.proofs.data.rights.new_datum.Goals as goal

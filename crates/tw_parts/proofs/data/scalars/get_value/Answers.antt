@@ -1,10 +1,6 @@
 use Rattle.std.proofs.Common.{◌∙◌, ◌+◌, slice_get, ap, refl}
 use Rattle.tw_types.specs.declared.value.Value.TheVariants as value
-use Rattle.tw_code.specs.machine.Position.{at_next_place, with_value}
-use Rattle.tw_frame.specs.Jobs.{FrameView}
-use Rattle.tw_parts.specs.Coming.{come}
-use Rattle.std.specs.Option.{option_map}
-use Rattle.tw_types.specs.Value.{scalar_of}
+use Rattle.tw_parts.proofs.PartNames.{FrameView, at_next_place, come, option_map, scalar_of, with_value}
 use Rattle.tw_parts.proofs.Gets.{get_allowed, get_fits, get_here, get_right, got_done}
 use Rattle.tw_parts.proofs.ValueRegisters.{text_there}
 use Rattle.tw_store.proofs.Here.{unchanged}

@@ -1,10 +1,6 @@
 use Rattle.std.proofs.Common.{◌∙◌, ◌+◌, sym, ap, refl, inl, inr}
-use Rattle.tw_types.specs.declared.value.Value.{Value}
-use Rattle.tw_rights.specs.Rights.{Right}
+use Rattle.tw_parts.proofs.PartNames.{FrameView, Right, Value, at_next_place, come, draft_of, job_of}
 use Rattle.tw_rights.specs.declared.held.Held.TheVariants as held
-use Rattle.tw_code.specs.machine.Position.{at_next_place}
-use Rattle.tw_frame.specs.Jobs.{FrameView, draft_of, job_of}
-use Rattle.tw_parts.specs.Coming.{come}
 use Rattle.tw_parts.proofs.Registers.{id_at, more_than, put_back}
 use Rattle.tw_parts.proofs.Stores.{store_allowed, store_declared, store_here, store_right, stored_done}
 use Rattle.tw_store.proofs.Here.{unchanged}

@@ -1,7 +1,6 @@
 use Rattle.std.proofs.Common.{Bor, List, ◌∷◌, Some, sym, ap, subst, ◌∙◌}
 use Rattle.tw_types.specs.declared.input.Input.{Input}
-use Rattle.tw_code.specs.machine.Opening.{with_given, with_output}
-use Rattle.tw_parts.specs.OpenedParts.{Adds, OpenedParts}
+use Rattle.tw_parts.proofs.PartNames.{Adds, OpenedParts, with_given, with_output}
 use Rattle.tw_code.proofs.Givens.{next_param}
 use Rattle.tw_parts.proofs.MainParameters.{begun_first, given_begun, may_add, output_begun}
 use Rattle.tw_parts.proofs.open.Opened.add_all.Goals as goal

@@ -1,7 +1,5 @@
 use Rattle.std.proofs.Common.{◌++◌, ◌∷◌, [], Some, arith, length, length-append, sym, ap, subst}
-use Rattle.tw_rights.specs.declared.arg.Arg.TheVariants.{Read}
-use Rattle.tw_code.specs.machine.Opening.{with_given}
-use Rattle.tw_parts.specs.OpenedParts.{IsMade, OpenedParts}
+use Rattle.tw_parts.proofs.PartNames.{IsMade, OpenedParts, Read, with_given}
 use Rattle.tw_parts.proofs.MainParameters.{given_made, has_place}
 use Rattle.tw_parts.proofs.open.Opened.add_given.Goals as goal
 

@@ -1,9 +1,5 @@
 use Rattle.std.proofs.Common.{map as each, ◌++◌, ◌∷◌, [], arith, length, length-append, sym, ap, subst, ◌∙◌}
-use Rattle.std.proofs.lemmas.List.{map-append}
-use Rattle.tw_rights.specs.declared.arg.Arg.TheVariants.{Write}
-use Rattle.tw_rights.specs.Rights.{Right}
-use Rattle.tw_code.specs.machine.Opening.{with_output}
-use Rattle.tw_parts.specs.OpenedParts.{IsMade, OpenedParts}
+use Rattle.tw_parts.proofs.PartNames.{IsMade, OpenedParts, Right, Write, map-append, with_output}
 use Rattle.tw_parts.proofs.MainParameters.{has_place, output_made}
 use Rattle.tw_parts.proofs.open.Opened.add_output.Goals as goal
 

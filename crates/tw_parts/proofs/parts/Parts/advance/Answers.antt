@@ -1,8 +1,6 @@
 use Rattle.std.proofs.Common.{◌∙◌, ap, Some, arith}
-use Rattle.std.specs.FinMap.{get}
-use Rattle.tw_parts.specs.Coming.{come}
+use Rattle.tw_parts.proofs.PartNames.{bare_frame, come, get}
 use Rattle.tw_parts.proofs.Seating.{get_own}
-use Rattle.tw_frame.specs.Jobs.{bare_frame}
 use Rattle.tw_parts.proofs.Fitting.{seen}
 use Rattle.tw_parts.proofs.Law.{runner_has_seat}
 use Rattle.tw_parts.proofs.parts.Parts.advance.Goals as goal

@@ -1,14 +1,8 @@
 use Rattle.std.proofs.Common.{◌∙◌, sym, ap, refl, IsSome, subst, ◌≡◌, ℕ}
-use Rattle.std.proofs.lemmas.Option.{same_Some}
-use Rattle.tw_rights.specs.Rights.{Right}
+use Rattle.tw_parts.proofs.PartNames.{AsksOpen, IsAsking, IsAt, Right, closed_by, get, same_Some, state_of}
 use Rattle.tw_types.specs.declared.stage.Stage.TheVariants.{Waiting, Ready}
 use Rattle.std.specs.declared.alloc.AllocError.{AllocError}
 use Rattle.std.specs.declared.result.Result.TheVariants.{Ok}
-use Rattle.std.specs.FinMap.{get}
-use Rattle.tw_store.specs.Calls.{IsAsking, closed_by}
-use Rattle.tw_parts.specs.Fits.{IsAt}
-use Rattle.tw_parts.specs.Memory.{AsksOpen}
-use Rattle.tw_parts.specs.Parts.{state_of}
 use Rattle.tw_parts.proofs.Staging.{right_is, reads, stage_is, unsettled, closed_leads, open_leads, asks, asks_open}
 use Rattle.tw_parts.proofs.parts.Parts.ask.Goals as goal
 

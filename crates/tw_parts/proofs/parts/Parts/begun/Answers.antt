@@ -1,8 +1,5 @@
 use Rattle.std.proofs.Common.{ap, ◌∙◌}
-use Rattle.std.specs.FinMap.{get, get-empty}
-use Rattle.std.specs.Ordering.{nat_cmp}
-use Rattle.tw_types.specs.Task.{TasksOf}
-use Rattle.tw_rights.specs.declared.arg.Arg.{Arg}
+use Rattle.tw_parts.proofs.PartNames.{Arg, TasksOf, get, get-empty, nat_cmp}
 use Rattle.tw_parts.proofs.parts.Parts.begun.Goals as goal
 
 pub put-requires-clause-new : goal.put-requires-clause-new

@@ -1,12 +1,5 @@
 use Rattle.std.proofs.Common.{◌≡◌, ◌∙◌, refl, sym, ap, subst}
-use Rattle.std.proofs.lemmas.Option.{same_Some}
-use Rattle.std.specs.FinMap.{get, insert}
-use Rattle.tw_types.specs.declared.event.Event.TheVariants.{Call}
-use Rattle.tw_frame.specs.Jobs.{DraftView, FrameView}
-use Rattle.tw_parts.specs.Coming.{come}
-use Rattle.tw_parts.specs.Memory.{TakesMemory}
-use Rattle.tw_parts.specs.declared.parts.Parts.{Parts}
-use Rattle.tw_parts.specs.Events.{IsDrafted, IsOwed, Makes, MakesBehind, Untouched, with_done}
+use Rattle.tw_parts.proofs.PartNames.{Call, DraftView, FrameView, IsDrafted, IsOwed, Makes, MakesBehind, Parts, TakesMemory, Untouched, come, get, insert, same_Some, with_done}
 use Rattle.tw_parts.proofs.Answering.{when_back, when_done, when_drafted, when_refused}
 use Rattle.tw_parts.proofs.Calling.{called, may_do}
 use Rattle.tw_parts.proofs.Law.{runner_has_seat}

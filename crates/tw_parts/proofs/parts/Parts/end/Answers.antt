@@ -1,10 +1,6 @@
 use Rattle.std.proofs.Common.{◌≡◌, ◌∙◌, refl, sym, ap, slice_get, is_some}
-use Rattle.std.proofs.lemmas.Option.{same_Some}
-use Rattle.tw_types.proofs.ActorOrder.{actor_cmp_total, actor_cmp-IsAntisymmetric}
+use Rattle.tw_parts.proofs.PartNames.{FrameView, actor_cmp-IsAntisymmetric, actor_cmp_total, come, same_Some, with_done}
 use Rattle.tw_types.proofs.Maps.{remove_insert}
-use Rattle.tw_frame.specs.Jobs.{FrameView}
-use Rattle.tw_parts.specs.Coming.{come}
-use Rattle.tw_parts.specs.Events.{with_done}
 use Rattle.tw_parts.proofs.Ends.{ended}
 use Rattle.tw_parts.proofs.Law.{runner_has_seat}
 use Rattle.tw_parts.proofs.Seating.{get_own}

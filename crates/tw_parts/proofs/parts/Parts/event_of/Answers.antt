@@ -1,7 +1,6 @@
 use Rattle.std.proofs.Common.{◌≡◌, ◌<◌, sym, ap, subst, arith}
-use Rattle.std.proofs.lemmas.Bool.Decides.{nat_tests}
+use Rattle.tw_parts.proofs.PartNames.{Goes, nat_tests, with_done}
 use Rattle.tw_types.specs.declared.event.Event.TheVariants as event
-use Rattle.tw_parts.specs.Events.{Goes, with_done}
 use Rattle.tw_parts.proofs.Goings.{gone, leads, stayed}
 use Rattle.tw_parts.proofs.parts.Parts.event_of.Goals as goal
 

@@ -1,9 +1,6 @@
 use Rattle.std.proofs.Common.{◌≡◌, ◌<◌, ◌==◌, ℕ, false, true, ◌⊎◌, is_some, None, Some, arith, sym, subst}
-use Rattle.std.proofs.lemmas.Bool.Decides.{nat_tests}
+use Rattle.tw_parts.proofs.PartNames.{MatchBool, bare_rule, nat_tests, next_ask, next_release}
 use Rattle.std.specs.FinMap as map
-use Rattle.std.specs.Prelude.{MatchBool}
-use Rattle.tw_types.specs.Rule.{next_ask, next_release}
-use Rattle.tw_rights.specs.Bare.{bare_rule}
 use Rattle.tw_parts.proofs.Fitting.{seen}
 use Rattle.tw_parts.proofs.Law.{in_layout}
 use Rattle.tw_parts.proofs.Quieting.{quiet_or, running, telling, waiting}

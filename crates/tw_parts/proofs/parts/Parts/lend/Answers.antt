@@ -1,8 +1,5 @@
 use Rattle.std.proofs.Common.{◌∙◌, sym, ap, subst}
-use Rattle.tw_frame.specs.Jobs.{DraftView}
-use Rattle.tw_parts.specs.Fits.{AreParts}
-use Rattle.tw_parts.specs.Parts.{state_of}
-use Rattle.tw_parts.specs.Seats.{Seated}
+use Rattle.tw_parts.proofs.PartNames.{AreParts, DraftView, Seated, state_of}
 use Rattle.tw_parts.proofs.Goings.{lent_parts, lent_state, may_stand}
 use Rattle.tw_parts.proofs.Law.{runner_has_seat}
 use Rattle.tw_parts.proofs.parts.Parts.lend.Goals as goal

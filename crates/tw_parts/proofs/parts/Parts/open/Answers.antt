@@ -1,11 +1,6 @@
 use Rattle.std.proofs.Common.{◌≡◌, ℕ, List, ap, subst, ◌∙◌, rules}
 use Rattle.std.specs.FinMap as map
-use Rattle.tw_types.specs.declared.param.Param.{Param}
-use Rattle.tw_types.specs.Layout.{IsLayout}
-use Rattle.tw_code.specs.format.Program.{IsProgram}
-use Rattle.tw_code.specs.machine.Opening.{main_params, nothing_opened, opened}
-use Rattle.tw_parts.specs.OpenedParts.{IsMade, MainWaits}
-use Rattle.tw_parts.specs.Seats.{Seated}
+use Rattle.tw_parts.proofs.PartNames.{IsLayout, IsMade, IsProgram, MainWaits, Param, Seated, main_params, nothing_opened, opened}
 use Rattle.tw_parts.proofs.Openings.{is_opening}
 use Rattle.tw_parts.proofs.parts.Parts.open.Goals as goal
 

@@ -1,13 +1,9 @@
 use Rattle.std.proofs.Common.{◌≡◌, ◌∙◌, sym, ap, refl, Some, arith, to_z-of_z, to_z, of_z, w64, IsSome, subst, List, slice_get, option_map}
-use Rattle.std.proofs.lemmas.Option.{same_Some}
-use Rattle.std.specs.FinMap.{get, insert}
+use Rattle.tw_parts.proofs.PartNames.{Arg, Procedure, RuleOf, get, insert, same_Some, task_from}
 use Rattle.std.specs.declared.option.Option.{Option}
-use Rattle.tw_types.specs.Rule.{RuleOf, task_from}
-use Rattle.tw_rights.specs.declared.arg.Arg.{Arg}
 use Rattle.tw_rules.specs.declared.planned.PlannedTask.{PlannedTask}
 use Rattle.tw_rules.specs.Table.{action_of}
 use Rattle.tw_queue.specs.Queues.{IsTarget, waiting}
-use Rattle.tw_code.specs.declared.procedure.Procedure.{Procedure}
 use Rattle.tw_parts.proofs.Releases.{its, fresh, releasable, procedure, releases, target}
 use Rattle.tw_parts.proofs.parts.Parts.release.Goals as goal
 

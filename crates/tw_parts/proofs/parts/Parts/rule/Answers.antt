@@ -1,14 +1,9 @@
 use Rattle.std.proofs.Common.{◌≡◌, ◌∙◌, ◌+◌, Some, IsSome, refl, sym, ap, subst, slice_get, arith, to_z, of_z, w64}
 use Rattle.std.proofs.lemmas.Int.{to_z-of_z}
-use Rattle.std.specs.FinMap.{get, insert}
-use Rattle.tw_types.specs.Actor.{number_in_kind}
+use Rattle.tw_parts.proofs.PartNames.{JobView, TypedProgram, come, get, gone_on, insert, number_in_kind, with_done}
 use Rattle.tw_code.specs.declared.instr.Instr.TheVariants as instr
 use Rattle.tw_rules.specs.Table.{new_rule}
 use Rattle.tw_rules.proofs.Fitting.{bundled_suit}
-use Rattle.tw_verify.specs.Typed.{TypedProgram}
-use Rattle.tw_frame.specs.Jobs.{JobView}
-use Rattle.tw_parts.specs.Coming.{come, gone_on}
-use Rattle.tw_parts.specs.Events.{with_done}
 use Rattle.tw_parts.proofs.Behind.{few, here_too, long, params_of_callee, runs_there, runs_too, seat_there, sits_ready, so_bundled, so_valued, suit, there}
 use Rattle.tw_parts.proofs.Law.{engine_low}
 use Rattle.tw_parts.proofs.NewRules.{rule, rule_goes, rule_named}

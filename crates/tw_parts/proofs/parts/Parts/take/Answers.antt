@@ -1,7 +1,5 @@
 use Rattle.std.proofs.Common.{◌≡◌, ◌∙◌, refl, ap}
-use Rattle.std.specs.FinMap.{get, insert}
-use Rattle.tw_frame.specs.Jobs.{FrameView}
-use Rattle.tw_parts.specs.Coming.{Begins, begun}
+use Rattle.tw_parts.proofs.PartNames.{Begins, FrameView, begun, get, insert}
 use Rattle.tw_parts.proofs.Seating.{again, get_own}
 use Rattle.tw_parts.proofs.Takes.{begun_stands, has_begun, may_start, takes}
 use Rattle.tw_parts.proofs.parts.Parts.take.Goals as goal

@@ -1,8 +1,6 @@
 use Rattle.std.proofs.Common.{◌≡◌, ◌<◌, ◌∙◌, ℕ, List, None, false, true, arith, ap, cond, count_by, get_or, is_some, length, length-set, set, subst, sym}
 use Rattle.std.specs.declared.option.Option.{Option}
-use Rattle.std.specs.FinMap.{get, remove}
-use Rattle.tw_frame.specs.Jobs.{FrameView}
-use Rattle.tw_parts.specs.Seats.{AreKept, seat_of, seated}
+use Rattle.tw_parts.proofs.PartNames.{AreKept, FrameView, get, remove, seat_of, seated}
 use Rattle.tw_parts.proofs.Rooming.{as_many, kept_ended}
 use Rattle.tw_parts.proofs.Seating.{count_set, get_seated, low_seat, seated_without}
 use Rattle.tw_parts.proofs.seats.Seats.end.Goals as goal

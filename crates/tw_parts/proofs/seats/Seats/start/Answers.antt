@@ -1,19 +1,9 @@
 use Rattle.std.proofs.Common.{◌≡◌, ◌<◌, ◌∙◌, ℕ, List, Some, None, Ok, [], arith, ap, cond, count_by, get_or, is_some, length, length-set, option_map, refl, set, slice_get, subst, sym}
-use Rattle.std.proofs.lemmas.Option.{same_Some}
+use Rattle.tw_parts.proofs.PartNames.{Actor, AreKept, Arg, FrameView, Procedure, StartsAsMachine, TaskOf, TypedProgram, Value, bare_frame, get, insert, same_Some, seat_of, seated, started}
 use Rattle.std.specs.declared.option.Option.{Option}
-use Rattle.std.specs.FinMap.{get, insert}
-use Rattle.tw_types.specs.declared.actor.Actor.{Actor}
-use Rattle.tw_types.specs.declared.value.Value.{Value}
-use Rattle.tw_types.specs.Task.{TaskOf}
-use Rattle.tw_rights.specs.declared.arg.Arg.{Arg}
 use Rattle.tw_rights.specs.Filed.{filed, rights_in}
 use Rattle.tw_rights.specs.declared.task.Task.{Task}
 use Rattle.tw_queue.specs.Queues.{handed_out, without}
-use Rattle.tw_code.specs.declared.procedure.Procedure.{Procedure}
-use Rattle.tw_verify.specs.Typed.{TypedProgram}
-use Rattle.tw_frame.specs.Drafts.{StartsAsMachine, started}
-use Rattle.tw_frame.specs.Jobs.{FrameView, bare_frame}
-use Rattle.tw_parts.specs.Seats.{AreKept, seat_of, seated}
 use Rattle.tw_parts.proofs.Rooming.{as_many, kept_begun, kept_laid, room_there}
 use Rattle.tw_parts.proofs.Seating.{count_set, get_seated, low_seat, seated_put}
 use Rattle.tw_parts.proofs.seats.Seats.start.Goals as goal

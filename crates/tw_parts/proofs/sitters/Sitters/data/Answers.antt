@@ -1,8 +1,5 @@
 use Rattle.std.proofs.Common.{◌≡◌, ◌∙◌, None, sym, subst}
-use Rattle.std.proofs.lemmas.Option.{same_Some}
-use Rattle.tw_frame.specs.Jobs.{FrameView}
-use Rattle.tw_parts.specs.Coming.{come}
-use Rattle.tw_parts.specs.Data.{MayDo}
+use Rattle.tw_parts.proofs.PartNames.{FrameView, MayDo, come, same_Some}
 use Rattle.tw_parts.proofs.Seating.{in_list}
 use Rattle.tw_parts.proofs.sitters.Sitters.data.Goals as goal
 

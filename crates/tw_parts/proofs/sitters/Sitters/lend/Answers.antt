@@ -1,6 +1,5 @@
 use Rattle.std.proofs.Common.{◌≡◌, ◌∙◌, None, sym, subst}
-use Rattle.std.proofs.lemmas.Option.{same_Some}
-use Rattle.tw_frame.specs.Jobs.{FrameView, MayStand}
+use Rattle.tw_parts.proofs.PartNames.{FrameView, MayStand, same_Some}
 use Rattle.tw_parts.proofs.Seating.{in_list}
 use Rattle.tw_parts.proofs.sitters.Sitters.lend.Goals as goal
 

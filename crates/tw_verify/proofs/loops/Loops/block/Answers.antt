@@ -1,6 +1,5 @@
 use Rattle.std.proofs.Common.{sym, ◌∙◌, arith}
-use Rattle.std.proofs.lemmas.List.{length-map}
-use Rattle.tw_code.specs.accepting.Flow.{flow_of, flows}
+use Rattle.tw_verify.proofs.VerifierNames.{flow_of, flows, length-map}
 use Rattle.tw_budget.proofs.Places.{end_within}
 use Rattle.tw_verify.proofs.loops.Loops.block.Goals as goal
 

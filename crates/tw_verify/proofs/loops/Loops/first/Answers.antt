@@ -1,6 +1,5 @@
 use Rattle.std.proofs.Common.{◌≡◌, length, Some, refl, sym, ◌∙◌, arith}
-use Rattle.std.specs.Prelude.{slice_get}
-use Rattle.std.proofs.lemmas.Option.{slice_get_read, same_Some}
+use Rattle.tw_verify.proofs.VerifierNames.{same_Some, slice_get, slice_get_read}
 use Rattle.tw_verify.proofs.Places.{loop_within}
 use Rattle.tw_verify.proofs.loops.Loops.first.Goals as goal
 

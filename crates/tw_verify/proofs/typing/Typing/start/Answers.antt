@@ -1,6 +1,5 @@
 use Rattle.std.proofs.Common.{◌-◌, List, ◌++◌, map, replicate, Some, None, ap, sym, ◌∙◌, arith, length, length-append, set, take, ◌∷◌, []}
-use Rattle.tw_code.specs.machine.Rights.{RightType, Typing}
-use Rattle.tw_code.specs.accepting.Typing.{rights_given}
+use Rattle.tw_verify.proofs.VerifierNames.{RightType, Typing, rights_given}
 use Rattle.tw_verify.proofs.OneMore.{next_value, next_right, next_typing, as_right}
 use Rattle.tw_verify.proofs.typing.Typing.start.Goals as goal
 use Rattle.tw_verify.proofs.typing.Typing.start.Goals.{then-not-is_val, else-not-is_val}

@@ -2,8 +2,7 @@ use Rattle.std.proofs.Common.{◌≡◌}
 use Rattle.std.specs.Iterator.Adapters.{zip_first, zip_second}
 use Rattle.std.specs.List.{AllByRecursion}
 use Rattle.std.specs.Slice.Iter.{iter_rest}
-use Rattle.tw_code.specs.format.Program.{IsRegister}
-use Rattle.tw_code.specs.accepting.Typing.{without_args}
+use Rattle.tw_verify.proofs.VerifierNames.{IsRegister, without_args}
 use Rattle.tw_verify.proofs.typing.Typing.without_args.Given as goal
 
 -- what is still to leave the registers
