@@ -98,17 +98,46 @@ fn args<'a>(alloc: Global, bytes: &mut &'a [u8]) -> Result<Items<u8>, Stop>
     }
 }
 
+// ---- operands of several registers
+
+/// Two registers.
+fn two<'a>(bytes: &mut &'a [u8]) -> Result<(u8, u8), Stop>
+    ensures { Gives (λ x. ((x.0, (x.1, tt)), bytes.new.now)) result (contents_at One (Value ∷ Value ∷ []) bytes.old.now) }
+{
+    Ok((register(bytes)?, register(bytes)?))
+}
+
+/// Two registers and a skip.
+fn two_and_skip<'a>(bytes: &mut &'a [u8]) -> Result<(u8, u8, u16), Stop>
+    ensures { Gives (λ x. ((x.0, (x.1, (x.2, tt))), bytes.new.now)) result (contents_at One (Value ∷ Value ∷ Skip ∷ []) bytes.old.now) }
+{
+    Ok((register(bytes)?, register(bytes)?, skip(bytes)?))
+}
+
+/// Three registers and a skip.
+fn three_and_skip<'a>(bytes: &mut &'a [u8]) -> Result<(u8, u8, u8, u16), Stop>
+    ensures { Gives (λ x. ((x.0, (x.1, (x.2, (x.3, tt)))), bytes.new.now)) result (contents_at One (Value ∷ Value ∷ Value ∷ Skip ∷ []) bytes.old.now) }
+{
+    Ok((
+        register(bytes)?,
+        register(bytes)?,
+        register(bytes)?,
+        skip(bytes)?,
+    ))
+}
+
 /// The operands of ADD to REM.
 fn compute<'a>(operation: Arithmetic, bytes: &mut &'a [u8]) -> Result<LocalInstr, Stop>
     ensures { Gives (λ x. (x, bytes.new.now)) result
         (as_is (λ x. Compute operation x.0 x.1.0 x.1.1.0 x.1.1.1.0) (contents_at One (Value ∷ Value ∷ Value ∷ Skip ∷ [])) bytes.old.now) }
 {
+    let (to, left, right, skip) = three_and_skip(bytes)?;
     Ok(LocalInstr::Compute {
         operation,
-        to: register(bytes)?,
-        left: register(bytes)?,
-        right: register(bytes)?,
-        skip: skip(bytes)?,
+        to,
+        left,
+        right,
+        skip,
     })
 }
 
@@ -144,38 +173,38 @@ fn operands_of<'a>(alloc: Global, version: Version, opcode: Opcode, bytes: &mut 
     match opcode {
         Opcode::Int => Ok(Instr::Local(LocalInstr::Int { to: register(bytes)?, value: number(bytes)? })),
         Opcode::Text => Ok(Instr::Local(LocalInstr::Text { to: register(bytes)?, text: text(alloc, bytes)? })),
-        Opcode::Copy => Ok(Instr::Local(LocalInstr::Copy { to: register(bytes)?, from: register(bytes)? })),
+        Opcode::Copy => { let (to, from) = two(bytes)?; Ok(Instr::Local(LocalInstr::Copy { to, from })) }
         Opcode::Add => Ok(Instr::Local(compute(Arithmetic::Add, bytes)?)),
         Opcode::Subtract => Ok(Instr::Local(compute(Arithmetic::Subtract, bytes)?)),
         Opcode::Multiply => Ok(Instr::Local(compute(Arithmetic::Multiply, bytes)?)),
         Opcode::Divide => Ok(Instr::Local(compute(Arithmetic::Divide, bytes)?)),
         Opcode::Remainder => Ok(Instr::Local(compute(Arithmetic::Remainder, bytes)?)),
-        Opcode::Concatenate => Ok(Instr::Local(LocalInstr::Concatenate { to: register(bytes)?, left: register(bytes)?, right: register(bytes)?, skip: skip(bytes)? })),
-        Opcode::Length => Ok(Instr::Local(LocalInstr::Length { to: register(bytes)?, from: register(bytes)? })),
-        Opcode::Show => Ok(Instr::Local(LocalInstr::Show { to: register(bytes)?, from: register(bytes)? })),
-        Opcode::ReadInt => Ok(Instr::Local(LocalInstr::ReadInt { to: register(bytes)?, from: register(bytes)?, skip: skip(bytes)? })),
+        Opcode::Concatenate => { let (to, left, right, skip) = three_and_skip(bytes)?; Ok(Instr::Local(LocalInstr::Concatenate { to, left, right, skip })) }
+        Opcode::Length => { let (to, from) = two(bytes)?; Ok(Instr::Local(LocalInstr::Length { to, from })) }
+        Opcode::Show => { let (to, from) = two(bytes)?; Ok(Instr::Local(LocalInstr::Show { to, from })) }
+        Opcode::ReadInt => { let (to, from, skip) = two_and_skip(bytes)?; Ok(Instr::Local(LocalInstr::ReadInt { to, from, skip })) }
         Opcode::Jump => Ok(Instr::Local(LocalInstr::Jump { skip: skip(bytes)? })),
-        Opcode::JumpEqual => Ok(Instr::Local(LocalInstr::JumpEqual { left: register(bytes)?, right: register(bytes)?, skip: skip(bytes)? })),
-        Opcode::JumpLess => Ok(Instr::Local(LocalInstr::JumpLess { left: register(bytes)?, right: register(bytes)?, skip: skip(bytes)? })),
+        Opcode::JumpEqual => { let (left, right, skip) = two_and_skip(bytes)?; Ok(Instr::Local(LocalInstr::JumpEqual { left, right, skip })) }
+        Opcode::JumpLess => { let (left, right, skip) = two_and_skip(bytes)?; Ok(Instr::Local(LocalInstr::JumpLess { left, right, skip })) }
         Opcode::Repeat => Ok(Instr::Local(LocalInstr::Repeat { turns: turns(bytes)? })),
         Opcode::End => Ok(Instr::Local(LocalInstr::End)),
-        Opcode::New => Ok(Instr::Data(DataInstr::New { write: register(bytes)?, read: register(bytes)?, ty: data_type(version, bytes)? })),
-        Opcode::Store => Ok(Instr::Data(DataInstr::Store { datum: register(bytes)?, from: register(bytes)? })),
-        Opcode::Get => Ok(Instr::Data(DataInstr::Get { to: register(bytes)?, datum: register(bytes)? })),
-        Opcode::Insert => Ok(Instr::Data(DataInstr::Insert { by: Scalar::Int, container: register(bytes)?, subscript: register(bytes)?, member: register(bytes)?, skip: skip(bytes)? })),
-        Opcode::Look => Ok(Instr::Data(DataInstr::Look { by: Scalar::Int, member: register(bytes)?, container: register(bytes)?, subscript: register(bytes)?, skip: skip(bytes)? })),
-        Opcode::Size => Ok(Instr::Data(DataInstr::Size { to: register(bytes)?, container: register(bytes)? })),
-        Opcode::SubscriptAt => Ok(Instr::Data(DataInstr::SubscriptAt { by: Scalar::Int, to: register(bytes)?, container: register(bytes)?, index: register(bytes)?, skip: skip(bytes)? })),
-        Opcode::CopyRead => Ok(Instr::Data(DataInstr::CopyRead { to: register(bytes)?, from: register(bytes)? })),
-        Opcode::CopyWrite => Ok(Instr::Data(DataInstr::CopyWrite { to: register(bytes)?, from: register(bytes)? })),
+        Opcode::New => { let (write, read) = two(bytes)?; Ok(Instr::Data(DataInstr::New { write, read, ty: data_type(version, bytes)? })) }
+        Opcode::Store => { let (datum, from) = two(bytes)?; Ok(Instr::Data(DataInstr::Store { datum, from })) }
+        Opcode::Get => { let (to, datum) = two(bytes)?; Ok(Instr::Data(DataInstr::Get { to, datum })) }
+        Opcode::Insert => { let (container, subscript, member, skip) = three_and_skip(bytes)?; Ok(Instr::Data(DataInstr::Insert { by: Scalar::Int, container, subscript, member, skip })) }
+        Opcode::Look => { let (member, container, subscript, skip) = three_and_skip(bytes)?; Ok(Instr::Data(DataInstr::Look { by: Scalar::Int, member, container, subscript, skip })) }
+        Opcode::Size => { let (to, container) = two(bytes)?; Ok(Instr::Data(DataInstr::Size { to, container })) }
+        Opcode::SubscriptAt => { let (to, container, index, skip) = three_and_skip(bytes)?; Ok(Instr::Data(DataInstr::SubscriptAt { by: Scalar::Int, to, container, index, skip })) }
+        Opcode::CopyRead => { let (to, from) = two(bytes)?; Ok(Instr::Data(DataInstr::CopyRead { to, from })) }
+        Opcode::CopyWrite => { let (to, from) = two(bytes)?; Ok(Instr::Data(DataInstr::CopyWrite { to, from })) }
         Opcode::DropRead => Ok(Instr::Data(DataInstr::DropRead { right: register(bytes)? })),
         Opcode::DropWrite => Ok(Instr::Data(DataInstr::DropWrite { right: register(bytes)? })),
         Opcode::Rule => Ok(Instr::Rule(constant_action(alloc, bytes)?)),
         Opcode::Put => Ok(Instr::Put(constant_action(alloc, bytes)?)),
         Opcode::Ret => Ok(Instr::Ret),
-        Opcode::InsertByText => Ok(Instr::Data(DataInstr::Insert { by: Scalar::Text, container: register(bytes)?, subscript: register(bytes)?, member: register(bytes)?, skip: skip(bytes)? })),
-        Opcode::LookByText => Ok(Instr::Data(DataInstr::Look { by: Scalar::Text, member: register(bytes)?, container: register(bytes)?, subscript: register(bytes)?, skip: skip(bytes)? })),
-        Opcode::SubscriptAtByText => Ok(Instr::Data(DataInstr::SubscriptAt { by: Scalar::Text, to: register(bytes)?, container: register(bytes)?, index: register(bytes)?, skip: skip(bytes)? })),
+        Opcode::InsertByText => { let (container, subscript, member, skip) = three_and_skip(bytes)?; Ok(Instr::Data(DataInstr::Insert { by: Scalar::Text, container, subscript, member, skip })) }
+        Opcode::LookByText => { let (member, container, subscript, skip) = three_and_skip(bytes)?; Ok(Instr::Data(DataInstr::Look { by: Scalar::Text, member, container, subscript, skip })) }
+        Opcode::SubscriptAtByText => { let (to, container, index, skip) = three_and_skip(bytes)?; Ok(Instr::Data(DataInstr::SubscriptAt { by: Scalar::Text, to, container, index, skip })) }
         Opcode::RuleComputed => Ok(Instr::Rule(computed_action(alloc, bytes)?)),
         Opcode::PutComputed => Ok(Instr::Put(computed_action(alloc, bytes)?)),
     }
