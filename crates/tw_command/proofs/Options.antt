@@ -23,15 +23,10 @@ use Rattle.tw_words.specs.Number.{IsRead, SpellsDigits}
 use Rattle.tw_words.specs.declared.numbers.Flaw.{Flaw}
 use Rattle.tw_words.specs.declared.numbers.Flaw.TheVariants.{Form, Limit}
 use Rattle.tw_types.specs.Layout.{ActorCounts}
-use Rattle.tw_command.specs.Options.{HasActors, HasStretch, NumberOption, actor_options, actors_told, engines, first_shown, in_turn, inputs, is_given, last_shown, limit, number_in, number_of, number_options, option_faults, picture, servers, source_told, stats, stretch_options, stretch_told, told, trace, workers}
-use Rattle.tw_command.specs.Order.{HasReason, IsInputReason, IsRequest}
-use Rattle.tw_command.specs.CommandLine.{Asked, IsRefusedInput, Replays, Runs, answer_told, drawing_faults, given_words, input_faults, is_cut, picture_faults, replay_asked, replay_faults, run_answer_told, run_asked, run_faults, stretch_faults, words_told}
-use Rattle.tw_command.specs.InputWords.{IsRefusedWord}
-use Rattle.tw_command.specs.reading.Inputs.{HasInputs}
-use Rattle.tw_command.specs.declared.command.Answer.{Answer}
-use Rattle.tw_command.specs.declared.command.Answer.TheVariants.{Picture}
-use Rattle.tw_command.specs.declared.command.NoOrder.{NoOrder}
-use Rattle.tw_command.specs.declared.command.NoOrder.TheVariants.{Explanation, Help, InputWord, NoMemory, Refused}
+use Rattle.tw_command.specs.Options.{HasActors, HasStretch, NumberOption, actor_options, engines, first_shown, inputs, is_given, last_shown, limit, number_in, number_of, number_options, option_faults, servers, stretch_options, workers}
+use Rattle.tw_command.specs.Order.{HasReason, IsRequest}
+use Rattle.tw_command.specs.CommandLine.{Asked, drawing_faults, given_words, input_faults, picture_faults, replay_faults, run_faults, stretch_faults}
+use Rattle.tw_command.specs.declared.command.NoOrder.TheVariants.{Refused}
 use Rattle.tw_command.specs.declared.shown.Stretch.{Stretch}
 
 -- ---- the digits
@@ -168,35 +163,6 @@ backward_refused rows s shown refused =
 -- where they are to be read and there are words
 pub both_refused : (rows : List Row) (asked : Asked) → is_given inputs rows ≡ true → not (is_empty (given_words rows)) ≡ true → HasReason (input_faults rows) asked Refused
 both_refused rows asked read given = has_conflict (input_faults rows) asked (rw (read, given) refl)
-
--- where they are to be read alone
-pub none_given : (rows : List Row) → is_given inputs rows ≡ true → not (is_empty (given_words rows)) ≡ false → (input_faults rows ≡ []) × HasInputs (words_told rows) None
-none_given rows read none = (rw (read, none) refl, rw read tt)
-
--- where they are words
-pub no_conflict : (rows : List Row) → is_given inputs rows ≡ false → input_faults rows ≡ []
-no_conflict rows other = rw other refl
-
-pub words_are : (rows : List Row) → is_given inputs rows ≡ false → words_told rows ≡ Some (given_words rows)
-words_are rows other = rw other refl
-
--- why words spell no inputs is why there is no order
-words_refused : (kinds : Kinds) (asked : Asked) (words : List Text) (reason : NoOrder) → kinds ≡ [] → ((number : ℕ) → IsRefusedWord words number → IsRefusedInput asked number) → IsInputReason words reason → HasReason kinds asked reason
-words_refused kinds asked words NoMemory none so h = tt
-words_refused kinds asked words (Help text) none so h = absurd h
-words_refused kinds asked words Refused none so h = absurd h
-words_refused kinds asked words (InputWord number) none so h = (none, so number h)
-words_refused kinds asked words (Explanation text) none so h = absurd h
-
-pub run_words : (rows : List Row) (reason : NoOrder) → is_given inputs rows ≡ false → IsInputReason (given_words rows) reason → HasReason (input_faults rows) (run_asked rows) reason
-run_words rows reason other h =
-    words_refused (input_faults rows) (run_asked rows) (given_words rows) reason (no_conflict rows other)
-    (λ number r. subst (λ (words : Option (List Text)). IsRefusedInput (Runs (source_told rows) (run_answer_told rows) (actors_told rows) (told limit rows) (is_given trace rows) (is_given in_turn rows) words) number) (sym (words_are rows other)) r) h
-
-pub replay_words : (rows : List Row) (answer : Answer) (reason : NoOrder) → is_given inputs rows ≡ false → IsInputReason (given_words rows) reason → HasReason (input_faults rows) (replay_asked answer rows) reason
-replay_words rows answer reason other h =
-    words_refused (input_faults rows) (replay_asked answer rows) (given_words rows) reason (no_conflict rows other)
-    (λ number r. subst (λ (words : Option (List Text)). IsRefusedInput (Replays (source_told rows) answer (actors_told rows) words) number) (sym (words_are rows other)) r) h
 
 -- what is wrong with an option is wrong with the command, and else what is wrong with the inputs
 pub run_refused : (rows : List Row) → option_faults number_options rows ≡ ValueValidation ∷ [] → run_faults rows ≡ ValueValidation ∷ []

@@ -1,5 +1,5 @@
 -- The command line: what clap is told of it, and what the words then ask for.
-use Rattle.std.specs.Prelude.{◌≡◌, ◌||◌, ◌++◌, ◌&&◌, ℕ, Bool, true, not, List, [], ◌∷◌, Option, Some, None, codes, bytes_eq, fold, if◌then◌else◌, is_some, map, nat_lt, unwrap_or}
+use Rattle.std.specs.Prelude.{◌≡◌, ◌||◌, ◌&&◌, ℕ, Bool, true, not, List, [], ◌∷◌, Option, Some, None, codes, bytes_eq, fold, if◌then◌else◌, is_some, map, nat_lt, unwrap_or}
 use Rattle.clap.specs.Kinds.{or_else}
 use Rattle.clap.specs.Lexer.{usize_max}
 use Rattle.clap.specs.Walk.{is_empty}
@@ -8,7 +8,7 @@ use Rattle.clap.specs.declared.error.ErrorKind.TheVariants.{ArgumentConflict}
 use Rattle.tw_types.specs.declared.input.Input.{Input}
 use Rattle.tw_types.specs.Layout.{ActorCounts}
 use Rattle.tw_command.specs.InputWords.{AreSpelled, IsRefusedWord}
-use Rattle.tw_command.specs.Options.{NumberOption, actor_options, actors_told, assembling_told, first_shown, flag_rule, in_turn, inputs, is_given, last_shown, limit, names, number_options, option_faults, option_rule, picture, picture_options, places, places_told, plain, source_told, stats, stretch_options, stretch_told, text, told, trace}
+use Rattle.tw_command.specs.Options.{NumberOption, actor_options, actors_told, assembling_told, first_shown, flag_rule, in_turn, inputs, is_given, last_shown, limit, names, number_options, option_faults, option_rule, picture, picture_options, places, places_told, plain, quiet, source_told, stats, stretch_options, stretch_told, text, told, trace}
 use Rattle.tw_command.specs.Explanations.{IsExplanation, number_faults, number_rule, number_word}
 use Rattle.tw_command.specs.declared.command.Answer.{Answer}
 use Rattle.tw_command.specs.declared.command.Answer.TheVariants.{Numbers, Picture, Report}
@@ -46,20 +46,27 @@ explain_line = with_rule (new_app (codes "explain")) number_rule
 abbrev pub input_rule : Rule
 input_rule = record (new_rule (codes "input")) { range = Some (record { start_inclusive = 0; end_inclusive = usize_max }) }
 
--- a command with these options and flags, and input words
-abbrev pub options_line : Text → List NumberOption → List Text → App
-options_line name options flags =
-    with_rule (fold with_rule (new_app name) (map (λ o. option_rule o.name) options ++ map flag_rule flags)) input_rule
+-- a command with these options
+abbrev pub numbers_line : Text → List NumberOption → App
+numbers_line name options = fold with_rule (new_app name) (map (λ o. option_rule o.name) options)
+
+-- and these flags
+abbrev pub flags_line : App → List Text → App
+flags_line line flags = fold with_rule line (map flag_rule flags)
+
+-- and how its program and inputs are read, and input words
+abbrev pub reading_line : App → App
+reading_line line = with_rule (flags_line line (text ∷ inputs ∷ [])) input_rule
 
 abbrev pub run_line : App
-run_line = options_line (codes "run") number_options (trace ∷ in_turn ∷ stats ∷ picture ∷ text ∷ inputs ∷ [])
+run_line = reading_line (flags_line (numbers_line (codes "run") number_options) (trace ∷ in_turn ∷ stats ∷ picture ∷ quiet ∷ []))
 
 -- the commands that are given a history
 abbrev pub replay_line : App
-replay_line = options_line (codes "replay") actor_options (stats ∷ text ∷ inputs ∷ [])
+replay_line = reading_line (flags_line (numbers_line (codes "replay") actor_options) (stats ∷ []))
 
 abbrev pub picture_line : App
-picture_line = options_line (codes "picture") picture_options (text ∷ inputs ∷ [])
+picture_line = reading_line (numbers_line (codes "picture") picture_options)
 
 -- the words come without the program's own name, and a command must be among them, or what asks for help or the version
 abbrev pub bare_line : App

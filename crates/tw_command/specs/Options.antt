@@ -71,6 +71,10 @@ in_turn = codes "in-turn"
 abbrev pub stats : Text
 stats = codes "stats"
 
+-- the flag of `run`: nothing is told on the way; what is answered is the same
+abbrev pub quiet : Text
+quiet = codes "quiet"
+
 -- the flag of `run`: the picture of the events is written in place of the report
 abbrev pub picture : Text
 picture = codes "picture"

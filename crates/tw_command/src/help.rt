@@ -59,14 +59,16 @@ may have no member.
 Between quotes \\\", \\\\, \\n and \\x with two hex digits are read.
 With --inputs they stand in what is read: behind the program a line `inputs`, then the same words, one a line, up to a
 line `end` or the end. A word is all of its line; empty lines are skipped. No input is a word behind the command then.
-Options stand before, behind or between the inputs. --trace, --in-turn, --stats, --picture, --text and --inputs take no
-value; the others take a number in decimal digits.
+Options stand before, behind or between the inputs. --trace, --in-turn, --stats, --picture, --quiet, --text and --inputs take
+no value; the others take a number in decimal digits.
 The report has a line for each output, with a line for each member behind a container's, and then how the run ended.
 With --trace the history stands before the report: a line `events`, a line for each event, in their order, and a line
 `end`. The program isn't written: its hex text, a line end and then all of this can be piped into `tw replay`, which is
 given the same inputs and as many engines, servers and workers.
 Each engine, server and worker is a thread. With --in-turn there is one thread, in which they have their turns one after the
 other, in this order, again and again: the same command makes the same history each time.
+A run in threads that takes more than two seconds tells once a second on standard error, if that is a terminal, how many events
+there are so far; with --quiet it doesn't.
 With --stats the numbers of the events stand behind the report, as `tw replay --stats` writes them. With --picture their SVG
 picture, as `tw picture` draws it, stands in place of the report; neither --trace nor --stats is taken then. --from and --to
 are taken with --picture alone: the picture shows the events from one number to the other, which count from 1.
@@ -141,6 +143,8 @@ pub(crate) const FROM_HELP: &str =
 
 pub(crate) const TO_HELP: &str =
     "The number of the last event that the picture shows: 1 to 4294967295 (default: that of the last)";
+
+pub(crate) const QUIET_HELP: &str = "Don't tell on standard error how many events there are so far";
 
 pub(crate) const PICTURE_HELP: &str = "Write the SVG picture of the events in place of the report";
 

@@ -49,6 +49,8 @@ pub fn commands_are_taken()
     ensures run_stretch { (word_faults (codes "run" ∷ codes "--from=5" ∷ codes "--picture" ∷ codes "--to" ∷ codes "9" ∷ []) ≡ [])
         × (asked_by_words (codes "run" ∷ codes "--from=5" ∷ codes "--picture" ∷ codes "--to" ∷ codes "9" ∷ [])
         ≡ Runs Hex (Picture (stretch 5 9)) (actors 1 1 1) 10000 false false (Some [])) }
+    ensures quiet { (word_faults (codes "run" ∷ codes "--quiet" ∷ []) ≡ [])
+        × (asked_by_words (codes "run" ∷ codes "--quiet" ∷ []) ≡ asked_by_words (codes "run" ∷ [])) }
     ensures last { (word_faults (codes "run" ∷ codes "int:7" ∷ codes "--limit" ∷ codes "100" ∷ codes "--trace" ∷ []) ≡ [])
         × (asked_by_words (codes "run" ∷ codes "int:7" ∷ codes "--limit" ∷ codes "100" ∷ codes "--trace" ∷ [])
         ≡ Runs Hex Report (actors 1 1 1) 100 true false (Some (codes "int:7" ∷ []))) }

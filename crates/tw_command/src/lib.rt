@@ -3,24 +3,30 @@
 //! `read_order` takes all words, and `input_of` one word that is to spell an input. Nothing is read or written here.
 #![tactic(auto)]
 
+mod arguments;
 mod command;
 mod explained_names;
+mod explained_programs;
 mod explanations;
+mod found;
 mod help;
 mod in_turn;
 mod input_words;
 mod laws;
 mod limit;
 mod lists;
+mod orders;
 mod shown;
 mod wrong_words;
 
 pub use command::{
     Answer, Assembling, InputsOrder, NoOrder, Order, Places, ProgramOrder, ReplayOptions,
-    ReplayOrder, RunOptions, RunOrder, Source, VerifiedOrder, inputs_of, read_order,
+    ReplayOrder, RunOptions, RunOrder, Source, VerifiedOrder,
 };
+pub use found::inputs_of;
 pub use input_words::input_of;
 pub use laws::{commands_are_taken, strangers_are_refused, words_spell_one_input};
 pub use limit::EventLimit;
+pub use orders::read_order;
 pub use shown::Stretch;
 pub use wrong_words::complaint;

@@ -6,7 +6,8 @@ ghost use Rattle.clap.specs.declared.error.ErrorKind.TheVariants.{ArgumentConfli
 ghost use Rattle.tw_command.specs.CommandLine.{is_cut, picture_faults, run_answer_told, stretch_faults};
 ghost use Rattle.tw_command.specs.Options.{HasStretch, option_faults, stretch_options, stretch_told};
 
-use crate::command::{Answer, answer_given, flag_given, number_given};
+use crate::command::Answer;
+use crate::found::{answer_given, flag_given, number_given};
 use clap::ArgMatches;
 
 /// The events from one number to another, which a picture shows. They count from 1; past the last event there are none.

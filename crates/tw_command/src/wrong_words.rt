@@ -6,7 +6,9 @@ ghost use Rattle.tw_command.specs.CommandLine.{Asked, word_faults};
 ghost use Rattle.tw_command.specs.Complaint.{HasComplaint};
 ghost use Rattle.tw_command.specs.Order.{HasReason};
 
-use crate::command::{NoOrder, command, flag_given, number_given, order_of, reason_of};
+use crate::command::{NoOrder, command};
+use crate::found::{flag_given, number_given};
+use crate::orders::{order_of, reason_of};
 use crate::shown::{Conflict, run_answer_told, stretch_given};
 use clap::ArgMatches;
 use std::alloc::{AllocError, Global};

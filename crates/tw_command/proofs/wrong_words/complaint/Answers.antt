@@ -1,4 +1,4 @@
-use Rattle.std.proofs.Common.{◌≡◌, ◌∙◌, inl, map, string_bytes, subst, sym}
+use Rattle.std.proofs.Common.{◌∙◌, inl, map, string_bytes, subst, sym}
 use Rattle.clap.specs.Words.{Kinds, subcommand_rows_of}
 use Rattle.tw_command.specs.CommandLine.{Asked, asked_by_words, faults_behind, word_faults}
 use Rattle.tw_command.specs.Order.{HasReason}

@@ -1,0 +1,168 @@
+//! What was found behind a command: its options, and the input words.
+
+ghost use Rattle.std.specs.Prelude.{◌≡◌, not, [], ◌∷◌, map, IfOk, IfErr, IfSome, MatchOption};
+ghost use Rattle.clap.specs.Walk.{is_empty};
+ghost use Rattle.clap.specs.Words.{found_of, rows_of};
+ghost use Rattle.clap.specs.declared.error.ErrorKind.TheVariants.{ValueValidation};
+ghost use Rattle.tw_command.specs.CommandLine.{answer_told, given_words, input_faults, replay_asked, run_asked, words_told};
+ghost use Rattle.tw_command.specs.declared.command.Answer.{Answer as Answers};
+ghost use Rattle.tw_command.specs.InputWords.{AreSpelled};
+ghost use Rattle.tw_command.specs.reading.Inputs.{HasInputs};
+ghost use Rattle.tw_command.specs.Options.{HasActors, actor_options, assembling_told, is_given, limit, number_of, option_faults, places_told, source_told};
+ghost use Rattle.std.specs.Int.{IsInRange};
+ghost use Rattle.tw_command.specs.Order.{HasReason, IsInputReason};
+
+use crate::command::{Answer, Assembling, NoOrder, Places, Source};
+use crate::input_words::input_of;
+use crate::limit::EventLimit;
+use clap::ArgMatches;
+use std::alloc::Global;
+use tw_types::{Input, Items, Layout};
+use tw_words::digits;
+
+/// The number from 1 to `most` that an option has, or `default` where it isn't given.
+pub(crate) fn number_given(
+    matches: &ArgMatches<'_>,
+    name: &str,
+    most: u64,
+    default: u64,
+) -> Option<u64>
+    requires { IsInRange 1 most default }
+    ensures number { result
+        ≡ number_of (record { name = name.now; most = most; default = default }) (rows_of (found_of matches.now)) }
+    ensures range { IfSome result (IsInRange 1 most) }
+{
+    let Some(word) = matches.get_str(name) else {
+        return Some(default);
+    };
+    digits(word.as_bytes(), 1, most).ok()
+}
+
+/// The actors that the options tell.
+pub(crate) fn layout_given(matches: &ArgMatches<'_>) -> Option<Layout>
+    ensures { MatchOption result
+        (option_faults actor_options (rows_of (found_of matches.now)) ≡ ValueValidation ∷ [])
+        (HasActors (rows_of (found_of matches.now))) }
+{
+    let engines = number_given(matches, "engines", u64::from(Layout::MAX_ENGINES), 1)?;
+    let servers = number_given(matches, "servers", u64::from(Layout::MAX_SERVERS), 1)?;
+    let workers = number_given(matches, "workers", u64::from(Layout::MAX_WORKERS), 1)?;
+    Layout::new(engines as u8, servers as u8, workers as u8).ok()
+}
+
+/// The most events that the options tell.
+pub(crate) fn limit_given(matches: &ArgMatches<'_>) -> Option<EventLimit>
+    ensures { result ≡ number_of limit (rows_of (found_of matches.now)) }
+{
+    let events = number_given(matches, "limit", EventLimit::MAX as u64, 10_000)?;
+    EventLimit::new(events as usize)
+}
+
+/// Whether a flag is given. `get_flag` promises nothing where the text found is neither `true` nor `false`.
+pub(crate) fn flag_given(matches: &ArgMatches<'_>, name: &str) -> bool
+    ensures { result ≡ is_given name.now (rows_of (found_of matches.now)) }
+{
+    matches.get_one(name).unwrap_or(false)
+}
+
+/// How the program is written that is read.
+pub(crate) fn source_given(matches: &ArgMatches<'_>) -> Source
+    ensures { result ≡ source_told (rows_of (found_of matches.now)) }
+{
+    if flag_given(matches, "text") {
+        Source::Assembly
+    } else {
+        Source::Hex
+    }
+}
+
+/// Whether the places of instructions are listed.
+pub(crate) fn places_given(matches: &ArgMatches<'_>) -> Places
+    ensures { result ≡ places_told (rows_of (found_of matches.now)) }
+{
+    if flag_given(matches, "places") {
+        Places::Shown
+    } else {
+        Places::Hidden
+    }
+}
+
+/// What is assembled, and what is written of it.
+pub(crate) fn assembling_given(matches: &ArgMatches<'_>) -> Assembling
+    ensures { result ≡ assembling_told (rows_of (found_of matches.now)) }
+{
+    if flag_given(matches, "plain") {
+        Assembling::Plain
+    } else if flag_given(matches, "names") {
+        Assembling::Names
+    } else {
+        Assembling::Text
+    }
+}
+
+/// What `replay` writes.
+pub(crate) fn answer_given(matches: &ArgMatches<'_>) -> Answer
+    ensures { result ≡ answer_told (rows_of (found_of matches.now)) }
+{
+    if flag_given(matches, "stats") {
+        Answer::Numbers
+    } else {
+        Answer::Report
+    }
+}
+
+/// The inputs that words spell, one each; or `NoOrder::InputWord`, or want of memory.
+pub fn inputs_of(alloc: Global, words: &[&str]) -> Result<Items<Input>, NoOrder>
+    ensures spelled { IfOk result (λ inputs. AreSpelled inputs (map (λ word. word.now) words.now)) }
+    ensures refused { IfErr result (IsInputReason (map (λ word. word.now) words.now)) }
+{
+    let mut inputs = Vec::new(alloc);
+    for (index, word) in words.iter().enumerate() {
+        match input_of(alloc, word)? {
+            Some(input) => inputs.push(input)?,
+            None => return Err(NoOrder::InputWord(index + 1)),
+        }
+    }
+    Ok(Items::from(inputs))
+}
+
+/// The inputs that the words behind `run`, `replay` or `picture` spell.
+fn inputs_in_words(alloc: Global, matches: &ArgMatches<'_>) -> Result<Items<Input>, NoOrder>
+    ensures spelled { IfOk result (λ inputs. AreSpelled inputs (given_words (rows_of (found_of matches.now)))) }
+    ensures refused { IfErr result (IsInputReason (given_words (rows_of (found_of matches.now)))) }
+{
+    match matches.get_strs("input") {
+        Some(words) => inputs_of(alloc, words),
+        None => inputs_of(alloc, &[]),
+    }
+}
+
+/// Whether there are such words.
+fn has_words(matches: &ArgMatches<'_>) -> bool
+    ensures { result ≡ not (is_empty (given_words (rows_of (found_of matches.now)))) }
+{
+    match matches.get_strs("input") {
+        Some(words) => !words.is_empty(),
+        None => false,
+    }
+}
+
+/// The inputs, where they don't stand in what is read.
+pub(crate) fn inputs_given(
+    alloc: Global,
+    matches: &ArgMatches<'_>,
+) -> Result<Option<Items<Input>>, NoOrder>
+    ensures taken { IfOk result (λ given. (input_faults (rows_of (found_of matches.now)) ≡ [])
+        × HasInputs (words_told (rows_of (found_of matches.now))) given) }
+    ensures run { IfErr result (HasReason (input_faults (rows_of (found_of matches.now))) (run_asked (rows_of (found_of matches.now)))) }
+    ensures replay { (answer : Answers) → IfErr result
+        (HasReason (input_faults (rows_of (found_of matches.now))) (replay_asked answer (rows_of (found_of matches.now)))) }
+{
+    if !flag_given(matches, "inputs") {
+        return Ok(Some(inputs_in_words(alloc, matches)?));
+    }
+    if has_words(matches) {
+        return Err(NoOrder::Refused);
+    }
+    Ok(None)
+}
