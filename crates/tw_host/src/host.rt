@@ -159,6 +159,12 @@ impl<'a, N: Named> Host<'a, N> {
         self.news.of(actor)
     }
 
+    /// How many events there are by now, or were lately; None once a turn or a stop has said that the run is over. It decides nothing, and is
+    /// read without the lock.
+    pub fn events_so_far(&self) -> Option<u64> {
+        self.news.events_so_far()
+    }
+
     /// From now on no turn makes an event.
     pub fn stop(&self, rt: &impl Wait) {
         self.locked.lock(rt).stop();

@@ -33,6 +33,17 @@ impl News {
         self.ends.fetch_add(1, Ordering::SeqCst);
     }
 
+    /// How many events were told to all seats; None once it was said that the run is over.
+    pub(crate) fn events_so_far(&self) -> Option<u64> {
+        if self.ends.load(Ordering::SeqCst) != 0 {
+            return None;
+        }
+        let engines = self.engines.load(Ordering::SeqCst);
+        let servers = self.servers.load(Ordering::SeqCst);
+        let workers = self.workers.load(Ordering::SeqCst);
+        Some(engines.wrapping_add(servers).wrapping_add(workers))
+    }
+
     /// What an actor of this kind looks at.
     pub(crate) fn of(&self, actor: Actor) -> u64 {
         let ends = self.ends.load(Ordering::SeqCst);

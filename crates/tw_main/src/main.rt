@@ -1,6 +1,9 @@
 //! The command `tw`.
 #![tactic(auto)]
 
+mod teller;
+
+use crate::teller::Teller;
 use std::rt::Env;
 use std::{env, io};
 use tw_session::{Close, Status, complaint, session, without_words};
@@ -23,8 +26,11 @@ fn main(rt: HostRuntime) -> Status {
     let mut writer = rt.stdout();
     match own_words(&rt) {
         Ok(words) => {
-            let status = session(&rt, words.as_slice(), &mut rt.stdin(), &mut writer);
-            complain(&rt, status, words.as_slice());
+            let is_quiet = words.iter().any(|word| word.as_str() == "--quiet");
+            let teller = Teller::new(rt.stderr(), is_quiet);
+            let words = words.as_slice();
+            let status = session(&rt, &teller, words, &mut rt.stdin(), &mut writer);
+            complain(&rt, status, words);
             status
         }
         Err(error) => without_words(error.kind(), &mut writer),

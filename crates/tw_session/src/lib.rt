@@ -22,3 +22,4 @@ pub use status::Status;
 pub use streams::{InStream, OutStream};
 pub use tw_command::{complaint, input_of};
 pub use tw_replies::{Close, Reply};
+pub use tw_workers::{Gate, NoGate, Progress};

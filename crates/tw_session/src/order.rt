@@ -39,6 +39,7 @@ use tw_replies::{
     replay_reply,
 };
 use tw_report::{put, put_asm_line};
+use tw_workers::Gate;
 
 /// A program that is to be read, and what is asked for of it.
 #[derive(Drop)]
@@ -199,9 +200,10 @@ fn step_of(alloc: Global, order: Order, input: Vec<u8>) -> Result<Step, AllocErr
 }
 
 /// Runs an accepted program in threads, or in turn if that is ordered.
-fn run_as_ordered<H: Threads + Wait + Clock + Sync>(
+fn run_as_ordered<H: Threads + Wait + Clock + Sync, G: Gate + Sync>(
     rt: &H,
     alloc: Global,
+    gate: &G,
     source: &Option<SourceText<'_>>,
     ordered: Ordered,
 ) -> Result<Reply, AllocError>
@@ -212,14 +214,15 @@ fn run_as_ordered<H: Threads + Wait + Clock + Sync>(
     if order.in_turn {
         turned_reply(alloc, source, &order, verified)
     } else {
-        run_of(rt, alloc, source, &order, verified)
+        run_of(rt, alloc, gate, source, &order, verified)
     }
 }
 
 /// The reply to a program in hex text or in assembly text.
-fn source_reply<H: Threads + Wait + Clock + Sync>(
+fn source_reply<H: Threads + Wait + Clock + Sync, G: Gate + Sync>(
     rt: &H,
     alloc: Global,
+    gate: &G,
     source: Source,
     order: ProgramOrder,
     input: &[u8],
@@ -234,7 +237,7 @@ fn source_reply<H: Threads + Wait + Clock + Sync>(
             } = read;
             match program_reply(alloc, &text, order, program)? {
                 Answered::Told(reply) => Ok(reply),
-                Answered::Run(ordered) => run_as_ordered(rt, alloc, &text, ordered),
+                Answered::Run(ordered) => run_as_ordered(rt, alloc, gate, &text, ordered),
             }
         }
         Err(why) => reasoned_reply(alloc, input, why),
@@ -269,10 +272,11 @@ fn source_in_turn(
     }
 }
 
-/// The whole reply to an order and the bytes that were read; refused where memory is.
-pub fn reply_to<H: Threads + Wait + Clock + Sync>(
+/// The whole reply to an order and the bytes that were read; refused where memory is. The gate stands round the jobs of a run in threads.
+pub fn reply_to<H: Threads + Wait + Clock + Sync, G: Gate + Sync>(
     rt: &H,
     alloc: Global,
+    gate: &G,
     order: Order,
     input: Vec<u8>,
 ) -> Result<Reply, AllocError>
@@ -286,7 +290,7 @@ pub fn reply_to<H: Threads + Wait + Clock + Sync>(
                 order,
                 program,
             } = asking;
-            source_reply(rt, alloc, source, order, &program)
+            source_reply(rt, alloc, gate, source, order, &program)
         }
     }
 }

@@ -20,7 +20,7 @@ use tw_pool::{Closing, Final, History, OpenRefusal};
 use tw_replies::{Close, Reply, SourceText, fixed_reply, inputs_refused_reply};
 use tw_report::{put, put_event_line, put_numbered};
 use tw_verify::Verified;
-use tw_workers::{NoGate, run};
+use tw_workers::{Gate, run};
 
 /// How a session ends whose run has ended so.
 pub fn close_of(closing: Closing) -> Close
@@ -130,9 +130,10 @@ fn closed_reply(
 }
 
 /// Opens and runs an accepted program in threads, one an actor.
-pub fn run_of<H: Threads + Wait + Clock + Sync>(
+pub fn run_of<H: Threads + Wait + Clock + Sync, G: Gate + Sync>(
     rt: &H,
     alloc: Global,
+    gate: &G,
     source: &Option<SourceText<'_>>,
     order: &RunOrder,
     verified: Verified,
@@ -149,7 +150,7 @@ pub fn run_of<H: Threads + Wait + Clock + Sync>(
         inputs,
         order.layout,
         order.limit.events(),
-        &NoGate,
+        gate,
     ) {
         Ok((closed, memory)) => {
             if memory {

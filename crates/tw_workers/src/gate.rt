@@ -1,9 +1,23 @@
-//! What stands round each job.
+//! What stands round each job, and looks on.
 
 ghost use Rattle.std.specs.Prelude.{◌≡◌, false};
 
 use std::sync::Wait;
+use std::time::Clock;
+use tw_host::{Host, Named};
 use tw_types::Actor;
+
+/// How far a run is.
+pub trait Progress {
+    /// How many events there are by now, or were lately; None once the run is over.
+    fn events(&self) -> Option<u64>;
+}
+
+impl<'a, N: Named> Progress for Host<'a, N> {
+    fn events(&self) -> Option<u64> {
+        self.events_so_far()
+    }
+}
 
 /// Is called before and after each job, in the thread that runs it, with its actor and its task's number.
 pub trait Gate {
@@ -21,6 +35,10 @@ pub trait Gate {
     fn before_job<R: Wait>(&self, rt: &R, actor: Actor, task: u64);
 
     fn after_job<R: Wait>(&self, rt: &R, actor: Actor, task: u64);
+
+    /// Is called once, in the thread that has begun the drivers and waits for them to end. It may look at the run until that is over; how
+    /// often is its own.
+    fn look_on<R: Wait + Clock, P: Progress>(&self, _rt: &R, _run: &P) {}
 }
 
 /// Lets each job pass.

@@ -9,5 +9,5 @@ mod threads;
 
 pub use desk::{Desk, Guarded};
 pub use driver::{Driven, drive, drive_at};
-pub use gate::{Gate, NoGate};
+pub use gate::{Gate, NoGate, Progress};
 pub use threads::{run, run_all};

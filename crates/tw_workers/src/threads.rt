@@ -67,7 +67,7 @@ fn begin<'s, 'e, 'a, N: Named + Send + Sync, G: Gate + Sync, R: Threads + Wait +
     }
 }
 
-/// Drives each of these seats in a thread of its own, and joins the threads. True where memory ran out, or a seat had no thread.
+/// Drives each of these seats in a thread of its own, lets the gate look on, and joins the threads. True where memory ran out, or a seat had no thread.
 fn drive_each<'s, 'e, 'a, N: Named + Send + Sync, G: Gate + Sync, R: Threads + Wait + Clock + Sync>(
     rt: &'e R,
     alloc: Global,
@@ -79,6 +79,7 @@ fn drive_each<'s, 'e, 'a, N: Named + Send + Sync, G: Gate + Sync, R: Threads + W
     ensures { AllDrove N.run G.unwatched (map (λ s. told_by s.actor s.told.items) seats.old) result }
 {
     let Some((seat, others)) = seats.split_first_mut() else {
+        gate.look_on(rt, host);
         return false;
     };
     match begin(rt, alloc, scope, host, seat, gate) {

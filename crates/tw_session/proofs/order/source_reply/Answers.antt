@@ -17,7 +17,7 @@ pub program_reply-requires : goal.program_reply-requires
 program_reply-requires g c = c.in-Ok.ensures.source
 
 pub run_as_ordered-requires : goal.run_as_ordered-requires
-run_as_ordered-requires g c = let run = subst (λ (a : Answered). Leads (λ (run : RunOrder). c.args.order ≡ Verified (Run run)) c.in-Ok.read.source (RepliesByProgram (text_of c.in-Ok.read.source) c.args.order c.in-Ok.read.program) a) c.in-Run.is c.in_ok-reply-in-Ok.ensures in (search rules, run.1)
+run_as_ordered-requires g c = let run = subst (λ (a : Answered). Leads (λ (run : RunOrder). c.args.order ≡ Verified (Run run)) c.in-Ok.read.source (RepliesByProgram (text_of c.in-Ok.read.source) c.args.order c.in-Ok.read.program) a) c.in-Run.is c.in_ok-reply-in-Ok.ensures in (search rules, (search rules, run.1))
 
 pub returns-in-Told : goal.returns-in-Told
 returns-in-Told g c =
