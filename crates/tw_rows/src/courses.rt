@@ -2,9 +2,9 @@
 
 use crate::complaint::Complaint;
 use crate::events::read_actor;
-use crate::tables::{Answer, Said, Table};
+use crate::tables::{Said, Table};
 use crate::text::Text;
-use std::alloc::{AllocError, Global};
+use std::alloc::Global;
 use std::sync::Wait;
 use tw_types::{Actor, Layout};
 
@@ -31,6 +31,8 @@ pub struct Talk {
     pub behind: Option<(Said, u64)>,
     /// Whether all that was said behind the stop is the same.
     pub is_one: bool,
+    /// Why the turns weren't made to their end.
+    pub complaint: Option<Complaint>,
 }
 
 impl Talk {
@@ -55,8 +57,8 @@ fn turn<K: Drop, T: Table<K>, R: Wait>(
     table: &mut T,
     talk: &mut Talk,
     actor: Actor,
-    kept: Option<K>,
-) -> Result<Answer<K>, Complaint> {
+    kept: &mut Option<K>,
+) -> Result<Said, Complaint> {
     if talk.left == 0 {
         table.stop(rt);
     }
@@ -71,7 +73,7 @@ fn turn<K: Drop, T: Table<K>, R: Wait>(
             talk.text.event(&event);
         }
     }
-    Ok(answer)
+    Ok(answer.said)
 }
 
 /// The turns of an actor until it is idle or the run is over; whether that is over.
@@ -84,31 +86,28 @@ fn turn_on<K: Drop, T: Table<K>, R: Wait>(
 ) -> Result<bool, Complaint> {
     let mut kept = None;
     for _ in 0..MOST {
-        let answer = turn(rt, alloc, table, talk, actor, kept.take())?;
-        if answer.said.is_over() || answer.said == Said::Idle {
-            return Ok(answer.said.is_over());
+        let said = turn(rt, alloc, table, talk, actor, &mut kept)?;
+        if said.is_over() || said == Said::Idle {
+            return Ok(said.is_over());
         }
-        if !answer.said.goes_on() {
+        if !said.goes_on() {
             return Err(Complaint::Astray);
         }
-        kept = answer.kept;
     }
     Err(Complaint::Endless)
 }
 
-/// Engines, then workers, then servers.
-pub fn actors_of(alloc: Global, layout: Layout) -> Result<Vec<Actor>, AllocError> {
-    let mut actors = Vec::new(alloc);
-    for number in 0..layout.engines() {
-        actors.push(Actor::Engine(number))?;
-    }
-    for number in 0..layout.workers() {
-        actors.push(Actor::Worker(number))?;
-    }
-    for number in 0..layout.servers() {
-        actors.push(Actor::Server(number))?;
-    }
-    Ok(actors)
+/// As many actors as there may be.
+pub const PLACES: u8 = 24;
+
+/// The actor of a place, if there is one: engines, then workers, then servers.
+pub fn actor_at(layout: Layout, place: u8) -> Option<Actor> {
+    let actor = match place {
+        0..=3 => Actor::Engine(place),
+        4..=19 => Actor::Worker(place.wrapping_sub(4)),
+        _ => Actor::Server(place.wrapping_sub(20)),
+    };
+    if layout.has(actor) { Some(actor) } else { None }
 }
 
 fn turn_rounds<K: Drop, T: Table<K>, R: Wait>(
@@ -118,11 +117,12 @@ fn turn_rounds<K: Drop, T: Table<K>, R: Wait>(
     talk: &mut Talk,
     layout: Layout,
 ) -> Result<(), Complaint> {
-    let actors = actors_of(alloc, layout)?;
     for _ in 0..MOST {
         let mut is_over = true;
-        for actor in &actors {
-            is_over &= turn_on(rt, alloc, table, talk, *actor)?;
+        for place in 0..PLACES {
+            if let Some(actor) = actor_at(layout, place) {
+                is_over &= turn_on(rt, alloc, table, talk, actor)?;
+            }
         }
         if is_over {
             return Ok(());
@@ -147,7 +147,7 @@ fn taken<K: Drop>(kept: &mut [Option<K>], register: usize) -> Option<K> {
     }
 }
 
-/// One item of a script, of which `given` is handed in: a turn of the first table, or behind `b ` of the second one.
+/// One item of a script, which is handed what is kept: a turn of the first table, or behind `b ` of the second one.
 fn turn_item<K: Drop, A: Table<K>, B: Table<K>, R: Wait>(
     rt: &R,
     alloc: Global,
@@ -155,17 +155,17 @@ fn turn_item<K: Drop, A: Table<K>, B: Table<K>, R: Wait>(
     second: &mut B,
     talk: &mut Talk,
     item: &str,
-    given: Option<K>,
-) -> Result<Option<K>, Complaint> {
+    kept: &mut Option<K>,
+) -> Result<(), Complaint> {
     if item == "stop" {
         talk.left = 0;
-        return Ok(None);
+        return Ok(());
     }
-    let answer = match item.strip_prefix("b ") {
-        Some(actor) => turn(rt, alloc, second, talk, read_actor(actor)?, given)?,
-        None => turn(rt, alloc, first, talk, read_actor(item)?, given)?,
+    let _said = match item.strip_prefix("b ") {
+        Some(actor) => turn(rt, alloc, second, talk, read_actor(actor)?, kept)?,
+        None => turn(rt, alloc, first, talk, read_actor(item)?, kept)?,
     };
-    Ok(answer.kept)
+    Ok(())
 }
 
 /// Plays a script: `e0 <1 >2` is a turn of e0 that hands in what register 1 keeps, and whose Done register 2 keeps.
@@ -184,16 +184,16 @@ fn play<K: Drop, A: Table<K>, B: Table<K>, R: Wait>(
     for item in script.split(',') {
         let (item, to) = cut_register(item.trim(), '>')?;
         let (item, from) = cut_register(item, '<')?;
-        let given = taken(kept.as_mut_slice(), from);
-        let comes = turn_item(rt, alloc, first, second, talk, item, given)?;
+        let mut done = taken(kept.as_mut_slice(), from);
+        turn_item(rt, alloc, first, second, talk, item, &mut done)?;
         if let Some(slot) = kept.get_mut(to) {
-            *slot = comes;
+            *slot = done;
         }
     }
     Ok(())
 }
 
-/// What is said where a table is turned so, beside another one of the same program.
+/// What is said where a table is turned so, beside another one of the same program; and why it wasn't turned to its end.
 pub fn turned<K: Drop, A: Table<K>, B: Table<K>, R: Wait>(
     rt: &R,
     alloc: Global,
@@ -201,19 +201,24 @@ pub fn turned<K: Drop, A: Table<K>, B: Table<K>, R: Wait>(
     second: &mut B,
     layout: Layout,
     course: Course<'_>,
-) -> Result<Talk, Complaint> {
+) -> Talk {
     let mut talk = Talk {
         text: Text::new(alloc),
         left: u64::MAX,
         behind: None,
         is_one: true,
+        complaint: None,
     };
-    match course {
-        Course::Script(script) => play(rt, alloc, first, second, &mut talk, script)?,
+    let came = match course {
+        Course::Script(script) => play(rt, alloc, first, second, &mut talk, script),
         Course::Rounds(turns) => {
             talk.left = turns;
-            turn_rounds(rt, alloc, first, &mut talk, layout)?;
+            turn_rounds(rt, alloc, first, &mut talk, layout)
         }
+    };
+    if let Err(complaint) = came {
+        talk.complaint = Some(complaint);
+        talk.text.lose();
     }
-    Ok(talk)
+    talk
 }

@@ -4,7 +4,7 @@ ghost use Rattle.std.specs.Prelude.{◌≡◌, ◌<◌, vec_len};
 ghost use Rattle.tw_host.specs.Seats.{actor_count};
 
 use crate::complaint::Complaint;
-use crate::given::{Given, read_given, read_verified};
+use crate::given::Given;
 use crate::text::Text;
 use crate::threads::put_end;
 use std::alloc::Global;
@@ -64,21 +64,18 @@ fn driven_by<N: Named, R: Wait + Clock>(
 pub fn drives_text<R: Wait + Clock>(
     rt: &R,
     alloc: Global,
-    words: &str,
-    bytes: &[u8],
+    verified: &Verified,
+    given: &Given,
+    is_stopped: bool,
 ) -> Result<String, Complaint> {
-    let given = read_given(alloc, "1 1 1")?;
-    let verified = read_verified(alloc, bytes)?;
     if given.layout.actor_count() != 3 {
         return Err(Complaint::SeatCount);
     }
     let blank = Blank::new(3);
-    let is_stopped = words == "stopped";
-    let driven = driven_by::<Brand, R>(rt, alloc, blank, &verified, &given, is_stopped);
-    let Some((false, closed)) = driven else {
-        return Err(Complaint::NotOpened);
-    };
     let mut text = Text::new(alloc);
-    put_end(alloc, &mut text, &closed, true);
+    match driven_by::<Brand, R>(rt, alloc, blank, verified, given, is_stopped) {
+        Some((false, closed)) => put_end(&mut text, &closed, true),
+        _ => text.put("not opened, or memory ran out"),
+    }
     text.into_line()
 }

@@ -5,26 +5,25 @@ ghost use Rattle.tw_host.specs.Seats.{actor_count};
 
 use crate::complaint::Complaint;
 use crate::courses::{Course, Talk, turned};
-use crate::given::{Given, read_given, read_verified};
+use crate::given::Given;
 use crate::machine::steps_all;
-use crate::tables::{Pooled, Said, Seated, over};
+use crate::tables::{Pooled, Seated, over};
 use crate::text::Text;
-use std::alloc::{AllocError, Global};
+use std::alloc::Global;
 use std::marker::Brand;
 use std::sync::Wait;
 use std::sync::ledger::Blank;
 use tw_host::{Closed, Host, Named};
 use tw_pool::{Events, Final, History, Pool};
-use tw_run_report::report;
 use tw_types::{Actor, Event, Input, Layout};
 use tw_verify::Verified;
 
 /// A run that is over: what was said of its turns, and what is left.
 #[derive(Drop)]
-struct Ran {
-    talk: Talk,
-    history: History,
-    left: Final,
+pub struct Ran {
+    pub talk: Talk,
+    pub history: History,
+    pub left: Final,
 }
 
 /// Two pools of one program, with the inputs and with the others.
@@ -63,7 +62,6 @@ fn run_pool<'a, N: Named, R: Wait>(
     let talk = turned(rt, alloc, &mut first, &mut second, given.layout, course);
     let _ends = second.shut();
     let (left, history) = first.shut();
-    let talk = talk?;
     Ok(Ran {
         talk,
         history,
@@ -116,6 +114,7 @@ fn open_hosts<'a, N: Named, M: Named>(
     }
 }
 
+/// What is told of a host, with what each seat was told.
 fn run_host<'a, N: Named, M: Named, R: Wait>(
     rt: &R,
     alloc: Global,
@@ -124,18 +123,65 @@ fn run_host<'a, N: Named, M: Named, R: Wait>(
     verified: &'a Verified,
     given: &'a Given,
     course: Course<'_>,
-) -> Result<(Talk, Closed), Complaint>
+) -> Result<Text, Complaint>
     requires ledger { (blank.name ≡ N.name) × (blank.parts ≡ N.parts) × (blank.parts ≡ actor_count given.now.layout) }
     requires run { N.run ≡ record { program = verified.now; inputs = given.now.inputs.items; layout = given.now.layout; limit = given.now.limit } }
     requires second_ledger { (second.name ≡ M.name) × (second.parts ≡ M.parts) × (second.parts ≡ actor_count given.now.layout) }
     requires second_run { M.run ≡ record { program = verified.now; inputs = given.now.others.items; layout = given.now.layout; limit = given.now.limit } }
 {
     let (mut first, mut second) = open_hosts::<N, M>(alloc, blank, second, verified, given)?;
-    let talk = turned(rt, alloc, &mut first, &mut second, given.layout, course);
+    let Talk { mut text, .. } = turned(rt, alloc, &mut first, &mut second, given.layout, course);
     let _end = second.close();
     first.reorder(given.order);
-    let closed = first.close();
-    Ok((talk?, closed))
+    put_closed(&mut text, &first.close());
+    Ok(text)
+}
+
+/// Adds how a host closed, and behind it what each seat was told.
+fn put_closed(text: &mut Text, closed: &Closed) {
+    match closed {
+        Closed::Ended {
+            history,
+            outcome,
+            by_seat,
+        } => {
+            put_left(text, outcome, history);
+            for told in by_seat {
+                put_told(text, told);
+            }
+        }
+        Closed::Differs { .. } => text.put("a seat was told something else"),
+    }
+}
+
+/// Adds why a run was over, its report, and its events.
+fn put_left(text: &mut Text, left: &Final, history: &History) {
+    if let Some(closing) = left.closing() {
+        let (said, number) = over(closing);
+        text.number(said.words(), number);
+    }
+    text.put("\nreport\n");
+    text.put_report(left);
+    text.put("events\n");
+    put_events(text, history, None);
+}
+
+/// Adds what a seat was told.
+fn put_told(text: &mut Text, told: &Events) {
+    text.put("a seat\n");
+    for index in 0..told.len() {
+        text.event(&told.event(index));
+    }
+}
+
+/// Adds the events of a history, or of one actor in it.
+pub fn put_events(text: &mut Text, history: &History, actor: Option<Actor>) {
+    for index in 0..history.len() {
+        let event = history.event(index);
+        if actor.is_none_or(|actor| maker(event) == actor) {
+            text.event(&event);
+        }
+    }
 }
 
 /// Who made an event.
@@ -149,134 +195,89 @@ fn maker(event: Event) -> Actor {
     }
 }
 
-/// The events of a history, or of one actor in it.
-pub fn events_of(
-    alloc: Global,
-    history: &History,
-    actor: Option<Actor>,
-) -> Result<Vec<Event>, AllocError> {
-    let mut events = Vec::new(alloc);
-    for index in 0..history.len() {
-        let event = history.event(index);
-        if actor.is_none_or(|actor| maker(event) == actor) {
-            events.push(event)?;
-        }
-    }
-    Ok(events)
-}
-
-/// Whether a seat was told just these.
-fn is_told(told: &Events, wanted: &[Event]) -> bool {
-    let mut is_so = told.len() == wanted.len();
-    for (index, event) in wanted.iter().enumerate() {
-        is_so &= index < told.len() && told.event(index) == *event;
-    }
-    is_so
-}
-
-/// Whether the lists are each actor's events, in the order of the actors.
-fn are_by_seat(
-    alloc: Global,
-    by_seat: &[Events],
-    history: &History,
-    layout: Layout,
-) -> Result<bool, AllocError> {
-    let mut are_so = by_seat.len() == layout.actor_count();
+/// What is to be told of a host where a pool was turned like it: the seats are told each actor's events, in the order of the actors.
+fn wanted(alloc: Global, pool: &Ran, layout: Layout) -> Text {
+    let mut text = Text::new(alloc);
+    text.add(&pool.talk.text);
+    put_left(&mut text, &pool.left, &pool.history);
     for seat in 0..layout.actor_count() {
-        let wanted = events_of(alloc, history, Some(layout.actor_at(seat)))?;
-        are_so &= by_seat
-            .get(seat)
-            .is_some_and(|told| is_told(told, wanted.as_slice()));
+        text.put("a seat\n");
+        put_events(&mut text, &pool.history, Some(layout.actor_at(seat)));
     }
-    Ok(are_so)
+    text
 }
 
-/// Whether a host said and left what a pool said and left.
-fn is_same(
-    alloc: Global,
-    pool: &Ran,
-    talk: &Talk,
-    closed: &Closed,
-    layout: Layout,
-) -> Result<bool, AllocError> {
-    let Closed::Ended {
-        history,
-        outcome,
-        by_seat,
-    } = closed
-    else {
-        return Ok(false);
-    };
-    let events = events_of(alloc, history, None)?;
-    let wanted = events_of(alloc, &pool.history, None)?;
-    Ok(
-        talk.text.is(&pool.talk.text)
-            && events.as_slice() == wanted.as_slice()
-            && outcome.closing() == pool.left.closing()
-            && report(alloc, outcome)?.as_slice() == report(alloc, &pool.left)?.as_slice()
-            && are_by_seat(alloc, by_seat.as_slice(), history, layout)?,
-    )
-}
-
-/// A pool and a host of one program that are turned alike: what the pool said and left, and what the host said, and how it closed.
-fn ran_both<R: Wait>(
+/// What is told of a host.
+fn host_text<R: Wait>(
     rt: &R,
     alloc: Global,
     verified: &Verified,
     given: &Given,
     course: Course<'_>,
-) -> Result<(Ran, Talk, Closed), Complaint> {
-    let pool = run_pool::<Brand, R>(rt, alloc, verified, given, course)?;
+) -> Result<Text, Complaint> {
     let blank = Blank::new(given.layout.actor_count() as u64);
     let second = Blank::new(given.layout.actor_count() as u64);
-    let (talk, closed) = run_host::<Brand, Brand, R>(
-        rt, alloc, blank, second, verified, given, course,
-    )?;
-    Ok((pool, talk, closed))
+    run_host::<Brand, Brand, R>(rt, alloc, blank, second, verified, given, course)
 }
 
-/// The events of a pool, where the host said and left the same, and the reference machine makes them all.
-fn events_of_both(
+/// Makes the events of a history on the reference machine.
+pub fn steps_history(
+    alloc: Global,
+    bytes: &[u8],
+    given: &Given,
+    history: &History,
+) -> Result<(), Complaint> {
+    let mut events = Vec::new(alloc);
+    for index in 0..history.len() {
+        events.push(history.event(index))?;
+    }
+    steps_all(alloc, bytes, given, events.as_slice())
+}
+
+/// Whether a pool was turned to its end, the host said and left the same, and the reference machine makes all events.
+fn agree(
     alloc: Global,
     bytes: &[u8],
     given: &Given,
     pool: &Ran,
-    talk: &Talk,
-    closed: &Closed,
-) -> Result<Vec<Event>, Complaint> {
-    if !is_same(alloc, pool, talk, closed, given.layout)? {
+    host: &Text,
+) -> Result<(), Complaint> {
+    if let Some(complaint) = pool.talk.complaint {
+        return Err(complaint);
+    }
+    if !host.is(&wanted(alloc, pool, given.layout)) {
         return Err(Complaint::HostDiffers);
     }
-    let events = events_of(alloc, &pool.history, None)?;
-    steps_all(alloc, bytes, given, events.as_slice())?;
-    Ok(events)
+    steps_history(alloc, bytes, given, &pool.history)
 }
 
-/// What a pool said and left, and its events, where a host that is turned alike said and left the same, and the reference machine makes
-/// all its events.
-fn run_both<R: Wait>(
+/// What a pool said and left, where a host that is turned alike said and left the same, and the reference machine makes all its events.
+pub fn run_both<R: Wait>(
     rt: &R,
     alloc: Global,
     bytes: &[u8],
+    verified: &Verified,
     given: &Given,
     course: Course<'_>,
-) -> Result<(Ran, Vec<Event>), Complaint> {
-    let verified = read_verified(alloc, bytes)?;
-    let (pool, talk, closed) = ran_both(rt, alloc, &verified, given, course)?;
-    let events = events_of_both(alloc, bytes, given, &pool, &talk, &closed)?;
-    Ok((pool, events))
+) -> Result<Ran, Complaint> {
+    let host = host_text(rt, alloc, verified, given, course)?;
+    let pool = run_pool::<Brand, R>(rt, alloc, verified, given, course)?;
+    match agree(alloc, bytes, given, &pool, &host) {
+        Ok(()) => Ok(pool),
+        Err(complaint) => Err(complaint),
+    }
 }
 
 /// What a script's turns say, with the events that they make, and at the end why the run was over.
 pub fn turns_text<R: Wait>(
     rt: &R,
     alloc: Global,
-    words: &str,
     bytes: &[u8],
+    verified: &Verified,
+    given: &Given,
     script: &str,
 ) -> Result<String, Complaint> {
-    let given = read_given(alloc, words)?;
-    let (ran, _events) = run_both(rt, alloc, bytes, &given, Course::Script(script))?;
+    let ran = run_both(rt, alloc, bytes, verified, given, Course::Script(script))?;
     ran.talk.text.into_line()
 }
 
@@ -284,75 +285,14 @@ pub fn turns_text<R: Wait>(
 pub fn rounds_text<R: Wait>(
     rt: &R,
     alloc: Global,
-    words: &str,
     bytes: &[u8],
-) -> Result<String, Complaint> {
-    let given = read_given(alloc, words)?;
-    let (ran, events) = run_both(rt, alloc, bytes, &given, Course::Rounds(u64::MAX))?;
-    let mut text = Text::new(alloc);
-    text.number("", events.len() as u64);
-    text.put(" events\n");
-    text.put_bytes(report(alloc, &ran.left)?.as_slice());
-    text.into_line()
-}
-
-/// How many events a run has that is stopped before the turn behind so many, and whether it was stopped before it was over; where its
-/// events are a beginning of these, and all that was said behind the stop is why it was over.
-fn stopped_after<R: Wait>(
-    rt: &R,
-    alloc: Global,
-    bytes: &[u8],
+    verified: &Verified,
     given: &Given,
-    whole: &[Event],
-    turns: u64,
-) -> Result<(usize, bool), Complaint> {
-    let (ran, events) = run_both(rt, alloc, bytes, given, Course::Rounds(turns))?;
-    let closing = ran.left.closing().map(over);
-    let wanted = if events.len() == whole.len() {
-        Said::Quiet
-    } else {
-        Said::Stopped
-    };
-    let is_stopped = ran.talk.behind.is_some();
-    let is_told = ran.talk.is_one && (!is_stopped || ran.talk.behind == closing);
-    if is_told && closing == Some((wanted, 0)) && whole.starts_with(events.as_slice()) {
-        Ok((events.len(), is_stopped))
-    } else {
-        Err(Complaint::StopDiffers)
-    }
-}
-
-/// How many events a run has, and how many beginnings of them there are where it is stopped after each number of turns.
-pub fn stops_text<R: Wait>(
-    rt: &R,
-    alloc: Global,
-    words: &str,
-    bytes: &[u8],
 ) -> Result<String, Complaint> {
-    let given = read_given(alloc, words)?;
-    let (_ran, whole) = run_both(rt, alloc, bytes, &given, Course::Rounds(u64::MAX))?;
-    let (mut last, mut beginnings) = (0, 1_u64);
-    for turns in 0..1_000 {
-        let (events, is_stopped) = stopped_after(
-            rt,
-            alloc,
-            bytes,
-            &given,
-            whole.as_slice(),
-            turns,
-        )?;
-        if events < last {
-            return Err(Complaint::StopDiffers);
-        }
-        beginnings = beginnings.wrapping_add(u64::from(events != last));
-        last = events;
-        if !is_stopped {
-            let mut text = Text::new(alloc);
-            text.number("", last as u64);
-            text.number(" events, ", beginnings);
-            text.put(" beginnings");
-            return text.into_line();
-        }
-    }
-    Err(Complaint::Endless)
+    let ran = run_both(rt, alloc, bytes, verified, given, Course::Rounds(u64::MAX))?;
+    let mut text = Text::new(alloc);
+    text.number("", ran.history.len() as u64);
+    text.put(" events\n");
+    text.put_report(&ran.left);
+    text.into_line()
 }

@@ -5,7 +5,8 @@ use crate::bytes::read_bytes;
 use crate::case::first_field;
 use crate::complaint::Complaint;
 use crate::drives::drives_text;
-use crate::hosts::{rounds_text, stops_text, turns_text};
+use crate::given::{Given, read_given, read_verified};
+use crate::hosts::{rounds_text, turns_text};
 use crate::layouts::layout_text;
 use crate::machine::{machine_text, open_text, state_text, steps_text};
 use crate::named::{alike_text, names_text};
@@ -13,15 +14,18 @@ use crate::parts::part_text;
 use crate::programs::{decode_text, fronts_text, verify_text};
 use crate::scarce::{scarce_text, unthreaded_text};
 use crate::scarce_pools::scarce_pool_text;
-use crate::sessions::{cuts_text, phrases_text, tw_text};
+use crate::sessions::{cuts_text, phrases_text, read_input, tw_text};
 use crate::shown::shown_text;
+use crate::stops::stops_text;
 use crate::streams::stream_text;
 use crate::threads::threads_text;
+use crate::words::read_words;
 use std::alloc::Global;
 use std::rt::Files;
 use std::sync::Wait;
 use std::thread::Threads;
 use std::time::Clock;
+use tw_verify::Verified;
 
 /// What a case comes to: the first field is its kind, with words that belong to it; the others are what it is given.
 pub fn outcome<H: AllocGlobal + Files + Threads + Wait + Clock + Sync>(
@@ -32,10 +36,11 @@ pub fn outcome<H: AllocGlobal + Files + Threads + Wait + Clock + Sync>(
     let (kind, given) = first_field(inputs);
     let (kind, words) = kind.split_once(' ').unwrap_or((kind, ""));
     match kind {
-        "tw" => tw_text(rt, book, words, given),
-        "stream" => stream_text(rt, book, words, given),
-        "scarce" => scarce_text(rt, book, words, given),
-        "cuts" => cuts_text(rt, book, words, given),
+        "tw" | "scarce" | "cuts" => session_kind(rt, book, kind, words, given),
+        "stream" => {
+            let (streams, words) = words.split_once(' ').unwrap_or((words, ""));
+            session_kind(rt, book, streams, words, given)
+        }
         "phrases" => phrases_text(rt, words, given),
         "shown" => shown_text(rt, given),
         "layout" => layout_text(rt.alloc(), given),
@@ -44,13 +49,32 @@ pub fn outcome<H: AllocGlobal + Files + Threads + Wait + Clock + Sync>(
         _ => {
             let (bytes, rest) = first_field(given);
             let bytes = read_bytes(rt.alloc(), book, bytes)?;
-            asked(rt, kind, words, bytes.as_slice(), rest)
+            program_kind(rt, kind, words, bytes.as_slice(), rest)
         }
     }
 }
 
+/// The kinds that are given the words and the input of a session, or of several.
+fn session_kind<H: AllocGlobal + Threads + Wait + Clock + Sync>(
+    rt: &H,
+    book: &Book,
+    kind: &str,
+    words: &str,
+    input: &str,
+) -> Result<String, Complaint> {
+    let words = read_words(rt.alloc(), words)?;
+    let input = read_input(rt.alloc(), book, input)?;
+    let (words, input) = (words.as_slice(), input.as_slice());
+    match kind {
+        "tw" => tw_text(rt, words, input),
+        "scarce" => scarce_text(rt, words, input),
+        "cuts" => cuts_text(rt, words, input),
+        _ => stream_text(rt, kind, words, input),
+    }
+}
+
 /// The kinds that are given bytes, and events or turns behind them.
-fn asked<H: AllocGlobal + Threads + Wait + Clock + Sync>(
+fn program_kind<H: AllocGlobal + Threads + Wait + Clock + Sync>(
     rt: &H,
     kind: &str,
     words: &str,
@@ -58,22 +82,58 @@ fn asked<H: AllocGlobal + Threads + Wait + Clock + Sync>(
     rest: &str,
 ) -> Result<String, Complaint> {
     match kind {
-        "turns" => turns_text(rt, rt.alloc(), words, bytes, rest),
-        "rounds" => rounds_text(rt, rt.alloc(), words, bytes),
-        "stops" => stops_text(rt, rt.alloc(), words, bytes),
-        "threads" => threads_text(rt, words, bytes),
-        "unthreaded" => unthreaded_text(rt, words, bytes),
-        "scarce_pool" => scarce_pool_text(rt, rt.alloc(), words, bytes),
-        "drives" => drives_text(rt, rt.alloc(), words, bytes),
+        "turns" | "rounds" | "stops" | "unthreaded" | "scarce_pool" => {
+            run_kind(rt, kind, words, bytes, rest)
+        }
+        "threads" => match words.strip_prefix("held ") {
+            Some(layout) => run_kind(rt, "held", layout, bytes, rest),
+            None => run_kind(rt, kind, words, bytes, rest),
+        },
+        "drives" if words == "stopped" => run_kind(rt, words, "1 1 1", bytes, rest),
+        "drives" => run_kind(rt, kind, "1 1 1", bytes, rest),
         "machine" => machine_text(rt.alloc(), words, bytes, rest),
         "state" => state_text(rt.alloc(), words, bytes, rest),
         "steps" => steps_text(rt.alloc(), words, bytes, rest),
-        _ => program(rt.alloc(), kind, words, bytes, rest),
+        _ => still_kind(rt.alloc(), kind, words, bytes, rest),
+    }
+}
+
+/// The kinds that run a program, which is verified here.
+fn run_kind<H: AllocGlobal + Threads + Wait + Clock + Sync>(
+    rt: &H,
+    kind: &str,
+    words: &str,
+    bytes: &[u8],
+    rest: &str,
+) -> Result<String, Complaint> {
+    let given = read_given(rt.alloc(), words)?;
+    let verified = read_verified(rt.alloc(), bytes)?;
+    run_text(rt, kind, bytes, &verified, &given, rest)
+}
+
+fn run_text<H: AllocGlobal + Threads + Wait + Clock + Sync>(
+    rt: &H,
+    kind: &str,
+    bytes: &[u8],
+    verified: &Verified,
+    given: &Given,
+    rest: &str,
+) -> Result<String, Complaint> {
+    match kind {
+        "turns" => turns_text(rt, rt.alloc(), bytes, verified, given, rest),
+        "rounds" => rounds_text(rt, rt.alloc(), bytes, verified, given),
+        "stops" => stops_text(rt, rt.alloc(), bytes, verified, given),
+        "threads" => threads_text(rt, verified, given, false),
+        "held" => threads_text(rt, verified, given, true),
+        "unthreaded" => unthreaded_text(rt, bytes, verified, given),
+        "scarce_pool" => scarce_pool_text(rt, rt.alloc(), verified, given),
+        "drives" => drives_text(rt, rt.alloc(), verified, given, false),
+        _ => drives_text(rt, rt.alloc(), verified, given, true),
     }
 }
 
 /// The kinds that ask something of a program as it stands.
-fn program(
+fn still_kind(
     alloc: Global,
     kind: &str,
     words: &str,

@@ -25,6 +25,7 @@ mod scarce_pools;
 mod sessions;
 mod shown;
 mod state;
+mod stops;
 mod streams;
 mod tables;
 mod text;

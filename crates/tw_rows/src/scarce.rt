@@ -1,15 +1,12 @@
 //! Cases of sessions and of runs in threads to which memory or threads are refused, by a hoard of all addresses but for a few.
 
-use crate::book::Book;
 use crate::complaint::Complaint;
-use crate::given::{Given, read_given, read_verified};
+use crate::given::Given;
 use crate::hoard::Hoard;
-use crate::hosts::events_of;
-use crate::machine::steps_all;
-use crate::sessions::{code_of, read_input};
+use crate::hosts::steps_history;
+use crate::sessions::code_of;
 use crate::streams::{Room, put_told};
 use crate::text::Text;
-use crate::words::read_words;
 use std::alloc::Global;
 use std::sync::Wait;
 use std::thread::Threads;
@@ -75,17 +72,13 @@ fn refused_before<H: AllocGlobal + Threads + Wait + Clock + Sync>(
 /// What a session comes to where memory is there; and, with each few bytes more, either that or that memory ran out.
 pub fn scarce_text<H: AllocGlobal + Threads + Wait + Clock + Sync>(
     rt: &H,
-    book: &Book,
-    words: &str,
-    input: &str,
+    words: &[String],
+    input: &[u8],
 ) -> Result<String, Complaint> {
     let alloc = rt.alloc();
-    let words = read_words(alloc, words)?;
-    let input = read_input(alloc, book, input)?;
-    let (code, room) = written_below(rt, words.as_slice(), input.as_slice());
+    let (code, room) = written_below(rt, words, input);
     let mut hoard = Hoard::new(alloc)?;
-    let whole = (code, room.written());
-    let refused = refused_before(rt, &mut hoard, words.as_slice(), input.as_slice(), whole);
+    let refused = refused_before(rt, &mut hoard, words, input, (code, room.written()));
     drop(hoard);
     let mut text = Text::new(alloc);
     put_told(&mut text, code, room.written());
@@ -97,51 +90,49 @@ pub fn scarce_text<H: AllocGlobal + Threads + Wait + Clock + Sync>(
     text.into_line()
 }
 
-/// A run in threads, while no piece is left that a stack fits in. The second answer is true where memory ran out.
+/// A run in threads, while no piece is left that a stack fits in; nothing where it isn't opened, or memory didn't run out.
 fn run_without_stacks<H: AllocGlobal + Threads + Wait + Clock + Sync>(
     rt: &H,
     verified: &Verified,
     given: &Given,
-) -> Result<(Closed, bool), Complaint> {
+) -> Option<Closed> {
     let alloc = rt.alloc();
-    let mut hoard = Hoard::new(alloc)?;
+    let Ok(mut hoard) = Hoard::new(alloc) else {
+        return None;
+    };
     hoard.take(alloc, 1 << 40, 1 << 22);
     let (inputs, limit) = (given.inputs.as_slice(), given.limit);
     let came = run(rt, alloc, verified, inputs, given.layout, limit, &NoGate);
     drop(hoard);
     match came {
-        Ok(ended) => Ok(ended),
-        Err(_) => Err(Complaint::NotOpened),
+        Ok((closed, true)) => Some(closed),
+        _ => None,
     }
 }
 
-/// Makes the events of a host that is closed on the reference machine.
-fn steps_ended(
+/// That the reference machine makes the events of a host that is closed.
+fn stepped_text(
     alloc: Global,
     bytes: &[u8],
     given: &Given,
     closed: &Closed,
-) -> Result<(), Complaint> {
+) -> Result<String, Complaint> {
     let Closed::Ended { history, .. } = closed else {
         return Err(Complaint::NotRefused);
     };
-    let events = events_of(alloc, history, None)?;
-    steps_all(alloc, bytes, given, events.as_slice())
+    steps_history(alloc, bytes, given, history)?;
+    Ok("memory, and the reference machine makes the events".to_string(alloc)?)
 }
 
 /// Whether a run in threads is refused one, says so, and has events that the reference machine makes.
 pub fn unthreaded_text<H: AllocGlobal + Threads + Wait + Clock + Sync>(
     rt: &H,
-    words: &str,
     bytes: &[u8],
+    verified: &Verified,
+    given: &Given,
 ) -> Result<String, Complaint> {
-    let alloc = rt.alloc();
-    let given = read_given(alloc, words)?;
-    let verified = read_verified(alloc, bytes)?;
-    let (closed, is_refused) = run_without_stacks(rt, &verified, &given)?;
-    if !is_refused {
-        return Err(Complaint::NotRefused);
+    match run_without_stacks(rt, verified, given) {
+        Some(closed) => stepped_text(rt.alloc(), bytes, given, &closed),
+        None => Err(Complaint::NotRefused),
     }
-    steps_ended(alloc, bytes, &given, &closed)?;
-    Ok("memory, and the reference machine makes the events".to_string(alloc)?)
 }

@@ -3,8 +3,8 @@
 ghost use Rattle.std.specs.Prelude.{◌≡◌};
 
 use crate::complaint::Complaint;
-use crate::courses::{MOST, actors_of};
-use crate::given::{Given, read_given, read_verified};
+use crate::courses::{MOST, PLACES, actor_at};
+use crate::given::Given;
 use crate::hoard::Hoard;
 use crate::tables::{Pooled, Said, Table};
 use crate::text::Text;
@@ -13,8 +13,7 @@ use std::marker::Brand;
 use std::sync::Wait;
 use tw_host::Named;
 use tw_pool::{OpenRefusal, Pool};
-use tw_run_report::report;
-use tw_types::Actor;
+use tw_types::{Actor, Layout};
 use tw_verify::Verified;
 
 /// What is done where memory is refused: the same turn is made again, once there is memory; or the run is shut at once.
@@ -27,6 +26,8 @@ enum AtRefusal {
 /// How turns have ended.
 #[derive(Clone, Copy, PartialEq, Eq)]
 enum Came {
+    /// The opening was refused for memory.
+    Unopened,
     Idle,
     Over,
     Refused,
@@ -52,7 +53,7 @@ fn turn_on<K: Drop, T: Table<K>, R: Wait>(
     let mut kept = None;
     for _ in 0..MOST {
         let before = table.count(actor);
-        let Some(answer) = table.turn(rt, alloc, actor, kept.take()) else {
+        let Some(answer) = table.turn(rt, alloc, actor, &mut kept) else {
             return Came::Astray;
         };
         let is_refused = answer.said == Said::NoMemory;
@@ -75,7 +76,6 @@ fn turn_on<K: Drop, T: Table<K>, R: Wait>(
         if !is_refused && !answer.said.goes_on() {
             return Came::Astray;
         }
-        kept = answer.kept;
     }
     Came::Astray
 }
@@ -85,15 +85,17 @@ fn turn_rounds<K: Drop, T: Table<K>, R: Wait>(
     alloc: Global,
     table: &mut T,
     lack: &mut Lack<'_>,
-    actors: &[Actor],
+    layout: Layout,
 ) -> Came {
     for _ in 0..MOST {
         let mut all = Came::Over;
-        for actor in actors {
-            match turn_on(rt, alloc, table, lack, *actor) {
-                Came::Over => {}
-                Came::Idle => all = Came::Idle,
-                other => return other,
+        for place in 0..PLACES {
+            if let Some(actor) = actor_at(layout, place) {
+                match turn_on(rt, alloc, table, lack, actor) {
+                    Came::Over => {}
+                    Came::Idle => all = Came::Idle,
+                    other => return other,
+                }
             }
         }
         if all == Came::Over {
@@ -103,38 +105,38 @@ fn turn_rounds<K: Drop, T: Table<K>, R: Wait>(
     Came::Astray
 }
 
-/// What a run with so few bytes comes to, and its report; nothing where the opening is refused for memory.
+/// What a run with so few bytes comes to; its report is added.
 fn run_with<'a, N: Named, R: Wait>(
     rt: &R,
     alloc: Global,
     verified: &'a Verified,
     given: &'a Given,
-    actors: &[Actor],
     lack: &mut Lack<'_>,
     bytes: usize,
-) -> Result<Option<(Came, Text)>, Complaint>
+    text: &mut Text,
+) -> Came
     requires { N.run.program ≡ verified.now }
 {
     if !lack.hoard.leave(alloc, bytes) {
-        return Err(Complaint::TooLittle);
+        return Came::Astray;
     }
     let inputs = given.inputs.as_slice();
-    let pool = match Pool::open(alloc, verified, inputs, given.layout, given.limit) {
-        Ok(pool) => pool,
+    match Pool::open(alloc, verified, inputs, given.layout, given.limit) {
+        Ok(pool) => {
+            let mut table = Pooled::<N>::new(pool);
+            let came = turn_rounds(rt, alloc, &mut table, lack, given.layout);
+            let (left, _history) = table.shut();
+            lack.hoard.relieve();
+            text.put_report(&left);
+            came
+        }
         Err(OpenRefusal::NoMemory) => {
             lack.is_met = true;
             lack.hoard.relieve();
-            return Ok(None);
+            Came::Unopened
         }
-        Err(_) => return Err(Complaint::NotOpened),
-    };
-    let mut table = Pooled::<N>::new(pool);
-    let came = turn_rounds(rt, alloc, &mut table, lack, actors);
-    let (left, _history) = table.shut();
-    lack.hoard.relieve();
-    let mut text = Text::new(alloc);
-    text.put_bytes(report(alloc, &left)?.as_slice());
-    Ok(Some((came, text)))
+        Err(_) => Came::Astray,
+    }
 }
 
 /// Whether runs with each few bytes more come to this report, or are shut before and can be read; up to the first to which no memory is
@@ -147,50 +149,48 @@ fn agree<R: Wait>(
     given: &Given,
     at_refusal: AtRefusal,
     whole: &Text,
-) -> Result<bool, Complaint> {
-    let actors = actors_of(alloc, given.layout)?;
+) -> bool {
     for step in 0..20_000_usize {
         let mut lack = Lack {
             hoard: &mut *hoard,
             at_refusal,
             is_met: false,
         };
+        let mut text = Text::new(alloc);
         let bytes = step.wrapping_mul(64);
-        let actors = actors.as_slice();
-        let ran = run_with::<Brand, R>(rt, alloc, verified, given, actors, &mut lack, bytes)?;
-        let Some((came, text)) = ran else {
-            continue;
-        };
+        let came = run_with::<Brand, R>(rt, alloc, verified, given, &mut lack, bytes, &mut text);
         let agrees = match came {
+            Came::Unopened => true,
             Came::Over => text.is(whole),
             Came::Refused => text.stands_between("out 0 ", "\nrunning\n"),
             Came::Idle | Came::Astray => false,
         };
         if !agrees || !lack.is_met {
-            return Ok(agrees && step > 0);
+            return agrees && step > 0;
         }
     }
-    Ok(false)
+    false
 }
 
-/// The report of a run in rounds to which hardly any memory is refused.
+/// The report of a run in rounds to which hardly any memory is refused, where it comes to its end.
 fn whole_of<R: Wait>(
     rt: &R,
     alloc: Global,
     hoard: &mut Hoard,
     verified: &Verified,
     given: &Given,
-) -> Result<Text, Complaint> {
-    let actors = actors_of(alloc, given.layout)?;
+) -> Text {
     let mut lack = Lack {
         hoard,
         at_refusal: AtRefusal::Again,
         is_met: false,
     };
-    match run_with::<Brand, R>(rt, alloc, verified, given, &actors, &mut lack, 1 << 24)? {
-        Some((Came::Over, whole)) => Ok(whole),
-        _ => Err(Complaint::NotOver),
+    let mut whole = Text::new(alloc);
+    let came = run_with::<Brand, R>(rt, alloc, verified, given, &mut lack, 1 << 24, &mut whole);
+    if came != Came::Over {
+        whole.lose();
     }
+    whole
 }
 
 /// The report of a run in rounds; and whether runs with each few bytes more come to it, where a refused turn is made again, and where the
@@ -198,35 +198,33 @@ fn whole_of<R: Wait>(
 pub fn scarce_pool_text<R: Wait>(
     rt: &R,
     alloc: Global,
-    words: &str,
-    bytes: &[u8],
+    verified: &Verified,
+    given: &Given,
 ) -> Result<String, Complaint> {
-    let given = read_given(alloc, words)?;
-    let verified = read_verified(alloc, bytes)?;
     let mut hoard = Hoard::new(alloc)?;
-    let mut whole = whole_of(rt, alloc, &mut hoard, &verified, &given)?;
+    let mut text = whole_of(rt, alloc, &mut hoard, verified, given);
     let goes = agree(
         rt,
         alloc,
         &mut hoard,
-        &verified,
-        &given,
+        verified,
+        given,
         AtRefusal::Again,
-        &whole,
-    )?;
-    if !goes
-        || !agree(
-            rt,
-            alloc,
-            &mut hoard,
-            &verified,
-            &given,
-            AtRefusal::Shut,
-            &whole,
-        )?
-    {
-        return Err(Complaint::RefusalDiffers);
-    }
-    whole.put("made again, and shut");
-    whole.into_line()
+        &text,
+    );
+    let is_read = agree(
+        rt,
+        alloc,
+        &mut hoard,
+        verified,
+        given,
+        AtRefusal::Shut,
+        &text,
+    );
+    text.put(if goes && is_read {
+        "made again, and shut"
+    } else {
+        "or something else"
+    });
+    text.into_line()
 }

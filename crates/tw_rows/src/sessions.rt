@@ -10,17 +10,15 @@ use std::sync::Wait;
 use std::thread::Threads;
 use std::time::Clock;
 use tw_session::{InStream, OutStream, session};
+use tw_workers::NoGate;
 
 /// The status and the whole text of a session with these words and this input.
 pub fn tw_text<H: AllocGlobal + Threads + Wait + Clock + Sync>(
     rt: &H,
-    book: &Book,
-    words: &str,
-    input: &str,
+    words: &[String],
+    input: &[u8],
 ) -> Result<String, Complaint> {
-    let words = read_words(rt.alloc(), words)?;
-    let input = read_input(rt.alloc(), book, input)?;
-    let (code, left, written) = ended(rt, words.as_slice(), input.as_slice());
+    let (code, left, written) = ended(rt, words, input);
     let is_unread = left == input.len() && !input.is_empty();
     session_text(rt.alloc(), code, written, is_unread)
 }
@@ -35,7 +33,7 @@ pub fn code_of<H, R: InStream, W: OutStream>(
 where
     H: AllocGlobal + Threads + Wait + Clock + Sync,
 {
-    session(rt, words, reader, writer).code()
+    session(rt, &NoGate, words, reader, writer).code()
 }
 
 /// The status of a session, how many bytes it left unread, and what it wrote.
@@ -124,14 +122,11 @@ fn repeated(alloc: Global, times: usize, text: &str) -> Result<Vec<u8>, Complain
 /// How many cuts a text has, where a session answers each with a line of a known form; else the first that it doesn't.
 pub fn cuts_text<H: AllocGlobal + Threads + Wait + Clock + Sync>(
     rt: &H,
-    book: &Book,
-    words: &str,
-    input: &str,
+    words: &[String],
+    input: &[u8],
 ) -> Result<String, Complaint> {
-    let words = read_words(rt.alloc(), words)?;
-    let input = read_input(rt.alloc(), book, input)?;
     for count in 0..input.len() {
-        let (code, _, written) = ended(rt, words.as_slice(), &input[..count]);
+        let (code, _, written) = ended(rt, words, &input[..count]);
         let told = session_text(rt.alloc(), code, written, false)?;
         if !is_known(told.as_str()) {
             let mut text = Text::new(rt.alloc());

@@ -1,11 +1,9 @@
 //! Cases of sessions over readers that are slow, fail in mid-stream, never end or never fail, over writers that fail, and without
 //! words.
 
-use crate::book::Book;
 use crate::complaint::Complaint;
-use crate::sessions::{code_of, read_input};
+use crate::sessions::code_of;
 use crate::text::Text;
-use crate::words::read_words;
 use std::alloc::Global;
 use std::io;
 use std::io::{ErrorKind, Read, Write};
@@ -322,16 +320,12 @@ fn streamed<H: AllocGlobal + Threads + Wait + Clock + Sync>(
     }
 }
 
-/// The same in one line: the first word is the kind of streams, the others are the session's.
+/// The same in one line.
 pub fn stream_text<H: AllocGlobal + Threads + Wait + Clock + Sync>(
     rt: &H,
-    book: &Book,
-    words: &str,
-    input: &str,
+    kind: &str,
+    words: &[String],
+    input: &[u8],
 ) -> Result<String, Complaint> {
-    let alloc = rt.alloc();
-    let (kind, words) = words.split_once(' ').unwrap_or((words, ""));
-    let words = read_words(alloc, words)?;
-    let input = read_input(alloc, book, input)?;
-    streamed(rt, kind, words.as_slice(), input.as_slice()).into_line()
+    streamed(rt, kind, words, input).into_line()
 }

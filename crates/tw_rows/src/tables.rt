@@ -67,39 +67,37 @@ impl Said {
     }
 }
 
-/// What a turn answers, with the number of the task or of the rules, and the Done of the job that it lends, or the Done that it gives
-/// back.
-#[derive(Drop)]
-pub struct Answer<K> {
+/// What a turn answers, with the number of the task or of the rules.
+#[derive(Clone, Copy)]
+pub struct Answer {
     pub said: Said,
     pub number: u64,
     /// Whether memory was refused to the job.
     pub is_short: bool,
-    pub kept: Option<K>,
 }
 
-fn bare<'a, N: Named>(said: Said, number: u64) -> Answer<Kept<'a, N>> {
+fn bare(said: Said, number: u64) -> Answer {
     Answer {
         said,
         number,
         is_short: false,
-        kept: None,
     }
 }
 
-fn with_done<'a, N: Named>(said: Said, done: Done<'a>) -> Answer<Kept<'a, N>>
+/// The answer with a Done, which is kept.
+fn with_done<'a, N: Named>(said: Said, done: Done<'a>, kept: &mut Option<Kept<'a, N>>) -> Answer
     requires { done.before.program ≡ N.run.program }
 {
     let number = done.before().task().number();
     let is_short = done.short();
+    *kept = Some(Kept {
+        done,
+        run: PhantomData,
+    });
     Answer {
         said,
         number,
         is_short,
-        kept: Some(Kept {
-            done,
-            run: PhantomData,
-        }),
     }
 }
 
@@ -113,8 +111,8 @@ pub fn over(closing: Closing) -> (Said, u64) {
     }
 }
 
-/// What a turn answers, whose job is run.
-fn answer_of<'a, N: Named>(alloc: Global, turn: Turn<'a>) -> Answer<Kept<'a, N>>
+/// What a turn answers, whose job is run. The Done of the job that it lends, or the Done that it gives back, is kept.
+fn answer_of<'a, N: Named>(alloc: Global, turn: Turn<'a>, kept: &mut Option<Kept<'a, N>>) -> Answer
     requires { IsAnswerOf N.run.program turn }
 {
     match turn {
@@ -122,11 +120,11 @@ fn answer_of<'a, N: Named>(alloc: Global, turn: Turn<'a>) -> Answer<Kept<'a, N>>
             let (said, number) = over(closing);
             bare(said, number)
         }
-        Turn::Foreign(done) => with_done(Said::Foreign, done),
+        Turn::Foreign(done) => with_done(Said::Foreign, done, kept),
         Turn::Owed => bare(Said::Owed, 0),
         Turn::NoMemory(None) => bare(Said::NoMemory, 0),
-        Turn::NoMemory(Some(done)) => with_done(Said::NoMemory, done),
-        Turn::Run(job) => with_done(Said::Run, job.run(alloc)),
+        Turn::NoMemory(Some(done)) => with_done(Said::NoMemory, done, kept),
+        Turn::Run(job) => with_done(Said::Run, job.run(alloc), kept),
         Turn::Ended => bare(Said::Ended, 0),
         Turn::Went => bare(Said::Went, 0),
         Turn::Idle => bare(Said::Idle, 0),
@@ -142,7 +140,7 @@ fn done_of<'a, N: Named>(kept: Option<Kept<'a, N>>) -> Option<Done<'a>>
     }
 }
 
-/// What one thread turns. A Done is handed in and given back as it is kept.
+/// What one thread turns. A Done that is kept is handed in, and what comes back is kept in its place.
 pub trait Table<K> {
     /// One turn of an actor, whose job is run; nothing where it is none of the run's, or its seat was told something else.
     fn turn<R: Wait>(
@@ -150,8 +148,8 @@ pub trait Table<K> {
         rt: &R,
         alloc: Global,
         actor: Actor,
-        kept: Option<K>,
-    ) -> Option<Answer<K>>;
+        kept: &mut Option<K>,
+    ) -> Option<Answer>;
 
     fn stop<R: Wait>(&mut self, rt: &R);
 
@@ -191,14 +189,14 @@ impl<'a, N: Named> Table<Kept<'a, N>> for Pooled<'a, N> {
         _rt: &R,
         alloc: Global,
         actor: Actor,
-        kept: Option<Kept<'a, N>>,
-    ) -> Option<Answer<Kept<'a, N>>> {
+        kept: &mut Option<Kept<'a, N>>,
+    ) -> Option<Answer> {
         if !self.pool.layout().has(actor) {
             return None;
         }
-        let done = done_of(kept);
+        let done = done_of(kept.take());
         let turn = self.pool.turn(alloc, actor, done);
-        Some(answer_of(alloc, turn))
+        Some(answer_of(alloc, turn, kept))
     }
 
     fn stop<R: Wait>(&mut self, _rt: &R) {
@@ -285,12 +283,12 @@ impl<'a, M: Named, N: Named> Table<Kept<'a, N>> for Seated<'a, M, N> {
         rt: &R,
         alloc: Global,
         actor: Actor,
-        kept: Option<Kept<'a, N>>,
-    ) -> Option<Answer<Kept<'a, N>>> {
-        let done = done_of(kept);
+        kept: &mut Option<Kept<'a, N>>,
+    ) -> Option<Answer> {
         let place = place_of(self.seats.as_slice(), actor)?;
+        let done = done_of(kept.take());
         match self.host.turn(rt, alloc, &mut self.seats[place], done) {
-            Ok(turn) => Some(answer_of(alloc, turn)),
+            Ok(turn) => Some(answer_of(alloc, turn, kept)),
             Err(_) => None,
         }
     }

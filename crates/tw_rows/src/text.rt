@@ -3,7 +3,9 @@
 use crate::complaint::Complaint;
 use std::alloc::Global;
 use std::fmt::{Debug, Display};
+use tw_pool::Final;
 use tw_report::{put_event_line, put_numbered};
+use tw_run_report::report;
 use tw_types::Event;
 
 /// A text that grows. Where memory runs out it is lost, which is asked once, at its end: so whoever adds to it has no case for that.
@@ -29,6 +31,20 @@ impl Text {
 
     pub fn put_bytes(&mut self, bytes: &[u8]) {
         self.is_whole &= self.bytes.extend_from_slice(bytes).is_ok();
+    }
+
+    /// Adds another text.
+    pub fn add(&mut self, other: &Text) {
+        self.is_whole &= other.is_whole;
+        self.put_bytes(other.bytes.as_slice());
+    }
+
+    /// Adds the report of a run's end.
+    pub fn put_report(&mut self, left: &Final) {
+        match report(self.alloc, left) {
+            Ok(lines) => self.put_bytes(lines.as_slice()),
+            Err(_) => self.is_whole = false,
+        }
     }
 
     /// Adds words and a number behind them.

@@ -1,7 +1,8 @@
 //! Cases of runs in threads.
 
 use crate::complaint::Complaint;
-use crate::given::{read_given, read_verified};
+use crate::given::Given;
+use crate::hosts::put_events;
 use crate::text::Text;
 use std::alloc::{AllocError, Global};
 use std::sync::Wait;
@@ -10,8 +11,8 @@ use std::thread;
 use std::thread::Threads;
 use std::time::Clock;
 use tw_host::Closed;
-use tw_run_report::report;
 use tw_types::Actor;
+use tw_verify::Verified;
 use tw_workers::{Gate, run};
 
 const MOST_POLLS: u64 = 1_000_000;
@@ -123,7 +124,7 @@ fn put_seen(text: &mut Text, watch: &Watch) {
 }
 
 /// Adds how many events there were, and which if that is asked, and the report.
-pub fn put_end(alloc: Global, text: &mut Text, closed: &Closed, is_traced: bool) {
+pub fn put_end(text: &mut Text, closed: &Closed, is_traced: bool) {
     let Closed::Ended {
         history,
         outcome,
@@ -135,38 +136,31 @@ pub fn put_end(alloc: Global, text: &mut Text, closed: &Closed, is_traced: bool)
     };
     text.number("events ", history.len() as u64);
     text.put("\n");
-    for index in 0..history.len() {
-        if is_traced {
-            text.event(&history.event(index));
-        }
+    if is_traced {
+        put_events(text, history, None);
     }
-    match report(alloc, outcome) {
-        Ok(lines) => text.put_bytes(lines.as_slice()),
-        Err(_) => text.lose(),
-    }
+    text.put_report(outcome);
 }
 
-/// What comes of a run in threads: how often the gate was called, how many events there were, and the report.
+/// What comes of a run in threads: how often the gate was called, how many events there were, and the report. The first job may be held
+/// until another worker has one.
 pub fn threads_text<R: AllocGlobal + Threads + Wait + Clock + Sync>(
     rt: &R,
-    words: &str,
-    bytes: &[u8],
+    verified: &Verified,
+    given: &Given,
+    holds: bool,
 ) -> Result<String, Complaint> {
     let alloc = rt.alloc();
-    let (layout, holds) = match words.strip_prefix("held ") {
-        Some(layout) => (layout, true),
-        None => (words, false),
-    };
-    let given = read_given(alloc, layout)?;
-    let verified = read_verified(alloc, bytes)?;
     let watch = Watch::new(alloc, holds)?;
     let (inputs, limit) = (given.inputs.as_slice(), given.limit);
-    let Ok((closed, false)) = run(rt, alloc, &verified, inputs, given.layout, limit, &watch) else {
-        return Err(Complaint::NotOpened);
-    };
     let mut text = Text::new(alloc);
-    put_seen(&mut text, &watch);
-    let is_traced = given.layout.engines() == 1 && given.layout.workers() == 1;
-    put_end(alloc, &mut text, &closed, is_traced);
+    match run(rt, alloc, verified, inputs, given.layout, limit, &watch) {
+        Ok((closed, false)) => {
+            put_seen(&mut text, &watch);
+            let is_traced = given.layout.engines() == 1 && given.layout.workers() == 1;
+            put_end(&mut text, &closed, is_traced);
+        }
+        _ => text.put("not opened, or memory ran out"),
+    }
     text.into_line()
 }

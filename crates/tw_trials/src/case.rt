@@ -45,16 +45,20 @@ impl Case {
     }
 }
 
+/// The program of a text with a layout for it, where it is accepted.
+fn accepted(alloc: Global, seed: &mut u64, text: &[u8]) -> Option<(Verified, Layout)> {
+    let program = program_of(alloc, text)?;
+    let verified = verify(alloc, program).ok()?;
+    let layout = next_layout(seed, &verified)?;
+    Some((verified, layout))
+}
+
 /// The program of this number; nothing where it isn't accepted.
 pub fn case_of(alloc: Global, number: u64) -> Option<Case> {
     let mut seed = seed_of(number);
     let Drawn { text, main } = next_program(alloc, &mut seed)?;
-    let Ok(inputs) = next_inputs(alloc, &mut seed, &main) else {
-        return None;
-    };
-    let program = program_of(alloc, &text)?;
-    let verified = verify(alloc, program).ok()?;
-    let layout = next_layout(&mut seed, &verified)?;
+    let inputs = next_inputs(alloc, &mut seed, &main).ok()?;
+    let (verified, layout) = accepted(alloc, &mut seed, &text)?;
     let limit = usize::from(draw(&mut seed, 250))
         .wrapping_mul(2)
         .wrapping_add(1);

@@ -115,25 +115,35 @@ fn beginning(alloc: Global, procedure: &Procedure) -> Result<Position, AllocErro
     Ok(Position::first(alloc, values))
 }
 
+/// Where the reference machine comes to in a procedure, by at most so many steps, and after how many.
+fn walked(alloc: Global, main: &Procedure, most: u64) -> Result<(Position, u64), AllocError> {
+    let mut position = beginning(alloc, main)?;
+    let steps = count_local(alloc, main.code.as_slice(), &mut position, most)?;
+    Ok((position, steps))
+}
+
+/// Whether the job of main comes to the same after as many steps.
+fn agrees_of(alloc: Global, verified: &Verified, most: u64) -> Result<Option<bool>, AllocError> {
+    let Some(main) = verified.program().procedures().first() else {
+        return Ok(None);
+    };
+    let (position, steps) = walked(alloc, main, most)?;
+    match stretch_of(alloc, verified)? {
+        Some(stretch) => Ok(Some(stretch.steps == steps && came_to(&stretch.done, &position))),
+        None => Ok(Some(false)),
+    }
+}
+
 /// Whether the job of main, and at most so many steps of the reference machine, come to the same after as many steps.
 /// Nothing where the program is refused.
 fn agrees(alloc: Global, bytes: &[u8], most: u64) -> Result<Option<bool>, AllocError> {
     let Ok(program) = decode(alloc, bytes) else {
         return Ok(None);
     };
-    let Ok(verified) = verify(alloc, program) else {
-        return Ok(None);
-    };
-    let procedures = verified.program().procedures();
-    let Some(main) = procedures.first() else {
-        return Ok(None);
-    };
-    let mut position = beginning(alloc, main)?;
-    let steps = count_local(alloc, main.code.as_slice(), &mut position, most)?;
-    let Some(stretch) = stretch_of(alloc, &verified)? else {
-        return Ok(Some(false));
-    };
-    Ok(Some(stretch.steps == steps && came_to(&stretch.done, &position)))
+    match verify(alloc, program) {
+        Ok(verified) => agrees_of(alloc, &verified, most),
+        Err(_) => Ok(None),
+    }
 }
 
 /// The same, once more where memory may have been refused.

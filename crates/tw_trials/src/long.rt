@@ -1,6 +1,6 @@
 //! A run of many events in threads, whose outputs don't depend on the order.
 
-use crate::replay::{Told, told_of};
+use crate::replay::Ended;
 use crate::threads::run_in_threads;
 use std::alloc::{AllocError, Global};
 use std::sync::Wait;
@@ -77,21 +77,17 @@ fn program(alloc: Global) -> Option<Verified> {
     verify(alloc, program).ok()
 }
 
-/// The report of one run, of 100,000 events at least.
-fn report_of<R: Threads + Wait + Clock + Sync>(
+/// One run with all actors that there may be.
+fn run_of<R: Threads + Wait + Clock + Sync>(
     rt: &R,
     alloc: Global,
     verified: &Verified,
-) -> Option<Told> {
+) -> Option<Ended> {
     let layout = Layout::new(4, 4, 16).ok()?;
-    let (left, history) = run_in_threads(rt, alloc, verified, &[], layout, 1_000_000)?;
-    if history.len() < 100_000 {
-        return None;
-    }
-    told_of(alloc, &left)
+    run_in_threads(rt, alloc, verified, &[], layout, 1_000_000)
 }
 
-/// Whether so many runs come to the report that is wanted.
+/// Whether so many runs come to the report that is wanted, each of 100,000 events at least.
 pub fn runs_agree<R: Threads + Wait + Clock + Sync>(rt: &R, alloc: Global, runs: u8) -> bool {
     let Some(verified) = program(alloc) else {
         return false;
@@ -101,10 +97,10 @@ pub fn runs_agree<R: Threads + Wait + Clock + Sync>(rt: &R, alloc: Global, runs:
     };
     let mut agree = true;
     for _run in 0..runs {
-        match report_of(rt, alloc, &verified) {
-            Some(told) => agree &= told.text.as_slice() == wanted.as_slice(),
-            None => agree = false,
-        }
+        agree &= match run_of(rt, alloc, &verified) {
+            Some(run) => run.events.len() >= 100_000 && run.text.as_slice() == wanted.as_slice(),
+            None => false,
+        };
     }
     agree
 }

@@ -4,33 +4,16 @@ ghost use Rattle.std.specs.Prelude.{◌≤◌, length};
 ghost use Rattle.tw_code.specs.machine.Bounds.{AreBelow, opening_bound};
 
 use crate::case::Case;
-use crate::replay::{goes, tells, told_of};
+use crate::replay::{goes, tells};
 use crate::rounds::run_in_rounds;
 use std::alloc::Global;
 use tw_machine::Plain;
-use tw_pool::History;
 use tw_types::Event;
-
-/// Whether a history has just these events.
-fn has_events(history: &History, events: &[Event]) -> bool {
-    if history.len() != events.len() {
-        return false;
-    }
-    for index in 0..history.len() {
-        if history.event(index) != events[index] {
-            return false;
-        }
-    }
-    true
-}
 
 /// Whether the run makes these events, where there may be no more, and then tells what the machine tells.
 fn agrees_at(alloc: Global, case: &Case, plain: &Plain, events: &[Event]) -> bool {
-    let Some((left, history)) = run_in_rounds(alloc, case, events.len()) else {
-        return false;
-    };
-    match told_of(alloc, &left) {
-        Some(told) => has_events(&history, events) && tells(alloc, plain, &told),
+    match run_in_rounds(alloc, case, events.len()) {
+        Some(run) => run.events.as_slice() == events && tells(alloc, plain, &run),
         None => false,
     }
 }

@@ -5,7 +5,7 @@ ghost use Rattle.tw_code.specs.machine.Bounds.{AreBelow, opening_bound, size_of}
 
 use std::alloc::{AllocError, Global};
 use tw_machine::Plain;
-use tw_pool::{Closing, Final};
+use tw_pool::{Closing, Final, History};
 use tw_report::{put_report, report_state};
 use tw_run_report::report;
 use tw_types::Event;
@@ -57,24 +57,37 @@ fn text_of(alloc: Global, plain: &Plain, closing: Closing) -> Result<Vec<u8>, Al
     Ok(text)
 }
 
-/// The end of a run, as it is told.
+/// A run that is over: why, its report, and its events.
 #[derive(Drop)]
-pub struct Told {
+pub struct Ended {
     pub closing: Closing,
     pub text: Vec<u8>,
+    pub events: Vec<Event>,
 }
 
-/// What is told of the end of a run.
-pub fn told_of(alloc: Global, left: &Final) -> Option<Told> {
+/// What is told of a run that is over.
+pub fn end_of(alloc: Global, left: &Final, history: &History) -> Option<Ended> {
     let closing = left.closing()?;
-    match report(alloc, left) {
-        Ok(text) => Some(Told { closing, text }),
-        Err(_) => None,
+    let text = report(alloc, left).ok()?;
+    let events = events_of(alloc, history).ok()?;
+    Some(Ended {
+        closing,
+        text,
+        events,
+    })
+}
+
+/// The events of a history.
+fn events_of(alloc: Global, history: &History) -> Result<Vec<Event>, AllocError> {
+    let mut events = Vec::new(alloc);
+    for index in 0..history.len() {
+        events.push(history.event(index))?;
     }
+    Ok(events)
 }
 
 /// Whether a machine tells the same.
-pub fn tells(alloc: Global, plain: &Plain, wanted: &Told) -> bool {
+pub fn tells(alloc: Global, plain: &Plain, wanted: &Ended) -> bool {
     match text_of(alloc, plain, wanted.closing) {
         Ok(text) => text.as_slice() == wanted.text.as_slice(),
         Err(_) => false,
@@ -82,7 +95,7 @@ pub fn tells(alloc: Global, plain: &Plain, wanted: &Told) -> bool {
 }
 
 /// Whether the machine makes the events, and then tells the same.
-pub fn agrees(alloc: Global, first: Plain, events: &[Event], wanted: &Told) -> bool
+pub fn agrees(alloc: Global, first: Plain, events: &[Event], wanted: &Ended) -> bool
     requires { AreBelow opening_bound first.state }
 {
     if events.len() > 1_000_000 {

@@ -6,9 +6,10 @@ ghost use Rattle.tw_host.specs.Tells.{IsDoneOf};
 
 use crate::case::Case;
 use crate::draw::draw;
+use crate::replay::{Ended, end_of};
 use std::alloc::Global;
 use tw_frame::Done;
-use tw_pool::{Final, History, Pool, Turn};
+use tw_pool::{Pool, Turn};
 use tw_types::{Actor, Layout};
 
 /// What a turn comes to for who turns.
@@ -100,9 +101,8 @@ fn turn_all<'a>(alloc: Global, pool: &mut Pool<'a>, seed: &mut u64) -> bool {
     false
 }
 
-/// What is left of a run in one thread with so many events at most, and its history; nothing where it isn't opened, or comes to
-/// no end.
-pub fn run_in_rounds(alloc: Global, case: &Case, limit: usize) -> Option<(Final, History)> {
+/// A run in one thread with so many events at most; nothing where it isn't opened, or comes to no end.
+pub fn run_in_rounds(alloc: Global, case: &Case, limit: usize) -> Option<Ended> {
     let opened = Pool::open(alloc, &case.verified, &case.inputs, case.layout, limit);
     let Ok(mut pool) = opened else {
         return None;
@@ -110,5 +110,9 @@ pub fn run_in_rounds(alloc: Global, case: &Case, limit: usize) -> Option<(Final,
     let mut seed = case.seed;
     let came = turn_all(alloc, &mut pool, &mut seed);
     let (left, history) = pool.shut();
-    if came { Some((left, history)) } else { None }
+    if came {
+        end_of(alloc, &left, &history)
+    } else {
+        None
+    }
 }

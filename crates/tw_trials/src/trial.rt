@@ -2,14 +2,14 @@
 
 use crate::case::{Case, case_of};
 use crate::prefixes::agree_at_each;
-use crate::replay::{Told, agrees, told_of};
+use crate::replay::{Ended, agrees};
 use crate::rounds::run_in_rounds;
 use crate::threads::agrees_in_threads;
-use std::alloc::{AllocError, Global};
+use std::alloc::Global;
 use std::sync::Wait;
 use std::thread::Threads;
 use std::time::Clock;
-use tw_pool::{Closing, History};
+use tw_pool::Closing;
 use tw_types::{Actor, Event};
 
 /// What is done to a history before it is replayed.
@@ -37,15 +37,6 @@ pub struct Tally {
     pub in_rounds: Option<u64>,
     pub at_each: Option<u64>,
     pub in_threads: Option<u64>,
-}
-
-/// The events of a history.
-pub fn events_of(alloc: Global, history: &History) -> Result<Vec<Event>, AllocError> {
-    let mut events = Vec::new(alloc);
-    for index in 0..history.len() {
-        events.push(history.event(index))?;
-    }
-    Ok(events)
 }
 
 /// The actor and the steps of an event that has steps.
@@ -77,22 +68,20 @@ fn make_change(events: &mut Vec<Event>, change: Change) {
     }
 }
 
-/// Whether the reference machine makes the events, and then tells what is left of the run.
-pub fn replays(alloc: Global, case: &Case, events: &[Event], told: &Told) -> bool {
+/// Whether the reference machine makes the events of a run, and then tells what is left of it.
+pub fn replays(alloc: Global, case: &Case, run: &Ended) -> bool {
     match case.machine(alloc) {
-        Some(plain) => agrees(alloc, plain, events, told),
+        Some(plain) => agrees(alloc, plain, run.events.as_slice(), run),
         None => false,
     }
 }
 
-/// Runs a program in rounds, and replays its history, changed: how it ended and its events, where the replay comes to the same end.
-fn run_changed(alloc: Global, case: &Case, by: Change) -> Option<(Closing, Vec<Event>)> {
-    let (left, history) = run_in_rounds(alloc, case, case.limit)?;
-    let mut events = events_of(alloc, &history).ok()?;
-    make_change(&mut events, by);
-    let told = told_of(alloc, &left)?;
-    if replays(alloc, case, &events, &told) {
-        Some((told.closing, events))
+/// Runs a program in rounds, and replays its history, changed: the run so changed, where the replay comes to the same end.
+fn run_changed(alloc: Global, case: &Case, by: Change) -> Option<Ended> {
+    let mut run = run_in_rounds(alloc, case, case.limit)?;
+    make_change(&mut run.events, by);
+    if replays(alloc, case, &run) {
+        Some(run)
     } else {
         None
     }
@@ -145,11 +134,15 @@ fn try_case<R: Threads + Wait + Clock + Sync>(
     tally: &mut Tally,
 ) {
     match run_changed(alloc, case, Change::None) {
-        Some((closing, events)) => {
-            note(&mut tally.in_rounds, number, closing != Closing::Stopped);
-            count_closing(tally, closing);
-            tally.events = tally.events.wrapping_add(events.len() as u64);
-            let agrees = try_each(alloc, case, &events, most, tally);
+        Some(run) => {
+            note(
+                &mut tally.in_rounds,
+                number,
+                run.closing != Closing::Stopped,
+            );
+            count_closing(tally, run.closing);
+            tally.events = tally.events.wrapping_add(run.events.len() as u64);
+            let agrees = try_each(alloc, case, run.events.as_slice(), most, tally);
             note(&mut tally.at_each, number, agrees);
         }
         None => note(&mut tally.in_rounds, number, false),

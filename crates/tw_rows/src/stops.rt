@@ -1,0 +1,92 @@
+//! Cases of pools and hosts that are stopped.
+
+use crate::complaint::Complaint;
+use crate::courses::Course;
+use crate::given::Given;
+use crate::hosts::{Ran, run_both};
+use crate::tables::{Said, over};
+use crate::text::Text;
+use std::alloc::Global;
+use std::sync::Wait;
+use tw_pool::History;
+use tw_verify::Verified;
+
+/// Whether a history is a beginning of another one.
+fn is_beginning(history: &History, whole: &History) -> bool {
+    let mut is_so = history.len() <= whole.len();
+    for index in 0..history.len() {
+        is_so &= index < whole.len() && history.event(index) == whole.event(index);
+    }
+    is_so
+}
+
+/// Whether the events of a run that may have been stopped are a beginning of these, and all that was said behind the stop is why it was
+/// over.
+fn is_stopped_well(ran: &Ran, whole: &History) -> bool {
+    let closing = ran.left.closing().map(over);
+    let wanted = if ran.history.len() == whole.len() {
+        Said::Quiet
+    } else {
+        Said::Stopped
+    };
+    let is_told = ran.talk.is_one && (ran.talk.behind.is_none() || ran.talk.behind == closing);
+    is_told && closing == Some((wanted, 0)) && is_beginning(&ran.history, whole)
+}
+
+/// How many events a run has that is stopped before the turn behind so many, and whether it was stopped before it was over.
+fn stopped_after<R: Wait>(
+    rt: &R,
+    alloc: Global,
+    bytes: &[u8],
+    verified: &Verified,
+    given: &Given,
+    whole: &History,
+    turns: u64,
+) -> Result<(usize, bool), Complaint> {
+    let ran = run_both(rt, alloc, bytes, verified, given, Course::Rounds(turns))?;
+    if is_stopped_well(&ran, whole) {
+        Ok((ran.history.len(), ran.talk.behind.is_some()))
+    } else {
+        Err(Complaint::StopDiffers)
+    }
+}
+
+/// How many events a run has, and how many beginnings of them there are where it is stopped after each number of turns.
+fn beginnings_text<R: Wait>(
+    rt: &R,
+    alloc: Global,
+    bytes: &[u8],
+    verified: &Verified,
+    given: &Given,
+    whole: &History,
+) -> Result<String, Complaint> {
+    let (mut last, mut beginnings) = (0, 1_u64);
+    for turns in 0..1_000 {
+        let (events, is_stopped) = stopped_after(rt, alloc, bytes, verified, given, whole, turns)?;
+        if events < last {
+            return Err(Complaint::StopDiffers);
+        }
+        beginnings = beginnings.wrapping_add(u64::from(events != last));
+        last = events;
+        if !is_stopped {
+            let mut text = Text::new(alloc);
+            text.number("", last as u64);
+            text.number(" events, ", beginnings);
+            text.put(" beginnings");
+            return text.into_line();
+        }
+    }
+    Err(Complaint::Endless)
+}
+
+/// The same, of the whole run's events.
+pub fn stops_text<R: Wait>(
+    rt: &R,
+    alloc: Global,
+    bytes: &[u8],
+    verified: &Verified,
+    given: &Given,
+) -> Result<String, Complaint> {
+    let whole = run_both(rt, alloc, bytes, verified, given, Course::Rounds(u64::MAX))?;
+    beginnings_text(rt, alloc, bytes, verified, given, &whole.history)
+}
