@@ -1,7 +1,7 @@
 #!/bin/sh
 # Makes out/index.html, a page that needs nothing besides: the proved library tw_embed as a WebAssembly module, the examples, and page.html.
 #
-# The module is the library's own, as rattle hands it to its clang (module.py), retargeted from x86-64 to wasm64, whose pointers, sizes and
+# The module is the library's own, as rattle handed it to its clang (tools/library.py keeps it), retargeted from x86-64 to wasm64, whose pointers, sizes and
 # alignments are the same (retarget.py), with a heap (heap.c), 128-bit arithmetic (wide.c) and rattle's three functions over malloc
 # (glue.ll). No proof covers these, nor that the module means there what it means as a program.
 set -e
@@ -12,11 +12,8 @@ kit=$(dirname "$(dirname "$(readlink -f "$(command -v rt)")")")
 tools=$kit/toolchain/bin
 "$root/tw" build --library
 mkdir -p "$out"
-if [ ! -e "$out/module.bc" ] || [ "$root/crates/tw_embed/out/libtw_embed.a" -nt "$out/module.bc" ]; then
-    python3 -B "$here/module.py" "$kit" "$root" "$out/module.bc" >"$out/module.log" 2>&1 || { tail -n 5 "$out/module.log" >&2; exit 70; }
-fi
 wasm="$tools/clang --no-default-config --target=wasm64-unknown-unknown -mcpu=lime1 -O3 -ffunction-sections -fdata-sections"
-"$tools/clang" --no-default-config --target=x86_64-unknown-linux-gnu -S -emit-llvm -Xclang -disable-llvm-passes -x ir "$out/module.bc" -o "$out/module.ll"
+"$tools/clang" --no-default-config --target=x86_64-unknown-linux-gnu -S -emit-llvm -Xclang -disable-llvm-passes -x ir "$root/crates/tw_embed/out/module.bc" -o "$out/module.ll"
 python3 -B "$here/retarget.py" <"$out/module.ll" >"$out/wasm.ll"
 $wasm -mllvm -no-trap-after-noreturn -mllvm -trap-unreachable -c -x ir "$out/wasm.ll" -o "$out/module.o"
 for part in heap.c wide.c glue.ll; do

@@ -17,12 +17,12 @@ const native = (words, input) => { const ran = spawnSync(tw, words, {input, maxB
     say(await page.until('document.title === "Yuglemit: ready"', 60000), 'the page is not ready');
 
     // every example by every button
-    for (const name of fs.readdirSync(folder).filter(it => it.endsWith('.tw')).sort()) {
+    for (const name of fs.readdirSync(folder).filter(it => /\.twn?$/.test(it)).sort()) {
         await pick(name);
         const text = fs.readFileSync(`${folder}/${name}`, 'utf8');
         const layout = []; for (const actor of ['engines', 'servers', 'workers']) layout.push('--' + actor, await at(actor));
         const inputs = (await page.evaluate('document.getElementById("inputs").value')).split('\n').filter(line => line);
-        for (const [what, words] of [['check', ['check', '--text']], ['places', ['check', '--text', '--places']], ['bytes', ['asm']], ['numbers', ['run', '--text', '--in-turn', '--stats', ...layout, ...inputs]], ['run', ['run', '--text', '--in-turn', ...layout, ...inputs]]]) {
+        for (const [what, words] of [['check', ['check', '--text']], ['places', ['check', '--text', '--places']], ['bytes', name.endsWith('.twn') ? ['asm', '--names'] : ['asm']], ['numbers', ['run', '--text', '--in-turn', '--stats', ...layout, ...inputs]], ['run', ['run', '--text', '--in-turn', ...layout, ...inputs]]]) {
             say(await press(`[data-do=${what}]`), name, what, 'no answer');
             const wanted = native(words, text);
             same(await shown(), wanted, name, what);

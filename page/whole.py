@@ -13,7 +13,7 @@ def read(path):
         return file.read()
 
 
-examples = {name: {"text": read(f"{folder}/{name}"), "inputs": ""} for name in sorted(os.listdir(folder)) if name.endswith(".tw")}
+examples = {name: {"text": read(f"{folder}/{name}"), "inputs": ""} for name in sorted(os.listdir(folder)) if name.endswith((".tw", ".twn"))}
 seen = set()
 for line in read(f"{folder}/sessions.txt").splitlines():
     if not line.startswith("$ ./tw run examples/"):
