@@ -58,8 +58,8 @@ def shown_words(name):
 def compare_example(name):
     with open(f"{folder}/{name}", "rb") as file:
         data = file.read()
-    text = ["--text"] if name.endswith(".tw") else []
-    for words in (["asm"], *([command, *text, *places] for command in ("check", "disasm") for places in ([], ["--places"]))):
+    text = ["--text"] if name.endswith((".tw", ".twn")) else []
+    for words in (["asm"], ["asm", "--names"], ["asm", "--names", "--plain"], *([command, *text, *places] for command in ("check", "disasm") for places in ([], ["--places"]))):
         compare(words, data)
     for words in [[], ["--engines", "2", "--servers", "2", "--workers", "4"], *shown_words(name)]:
         for more in ([], ["--trace"], ["--stats"], ["--picture"]):
@@ -75,12 +75,12 @@ def compare_example(name):
 def compare_calls():
     """The functions of the Python module, beside the program."""
     import yuglemit
-    for name in sorted(it for it in os.listdir(folder) if it.endswith(".tw")):
+    for name in sorted(it for it in os.listdir(folder) if it.endswith((".tw", ".twn"))):
         with open(f"{folder}/{name}", encoding="utf-8") as file:
             text = file.read()
         words = (shown_words(name) or [[]])[0]
         inputs = [word for word in words if ":" in word]
-        for call, order in ((lambda: yuglemit.assemble(text).hex() + "\n", ["asm"]), (lambda: yuglemit.check(text), ["check", "--text"]),
+        for call, order in ((lambda: yuglemit.assemble(text).hex() + "\n", ["asm", "--names"] if name.endswith(".twn") else ["asm"]), (lambda: yuglemit.check(text), ["check", "--text"]),
                             (lambda: yuglemit.run(text, *inputs, workers=2).text, ["run", "--text", "--in-turn", "--workers", "2", *inputs])):
             try:
                 got = call()
@@ -128,7 +128,7 @@ def tell_rates():
         print(f"calls a second, {words[0]} of fan_out.tw: {', '.join(rates)}")
 
 
-for name in sorted(it for it in os.listdir(folder) if it.endswith((".tw", ".hex", ".history"))):
+for name in sorted(it for it in os.listdir(folder) if it.endswith((".tw", ".twn", ".hex", ".history"))):
     compare_example(name)
 for words in (["--help"], ["--version"], ["run", "--help"], [], ["fly"], ["run", "--workers", "17"], ["run", "int:x"], ["explain"],
               *(["explain", f"{letter}{number:02}"] for letter in "AFHOVEX" for number in range(20)), *(["explain", f"C{number}"] for number in range(17))):

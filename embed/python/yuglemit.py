@@ -83,8 +83,8 @@ def verify(program):
     return Needs(told.engines, told.workers)
 
 def assemble(text):
-    """The bytes of the program that an assembly text spells."""
-    return bytes.fromhex(_ask("asm", [], text))
+    """The bytes of the program that an assembly text, or a text with names, spells."""
+    return bytes.fromhex(_ask("asm", ["--names"], text))
 
 def check(program, places=False):
     """What tw check tells of an accepted program: each procedure's budget; with its listing by places before it."""
