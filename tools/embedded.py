@@ -94,7 +94,10 @@ def compare_calls():
             told = why.text.splitlines()[0]
         wanted = started(tw, ["check", "--text"], text.encode())[1].decode().splitlines()
         say(told in wanted, "python", name, "verify", told, wanted[:1])
+    os.chdir(root)
     failed, tried = doctest.testfile(f"{root}/embed/python/README.md", module_relative=False)
+    if os.path.exists("run.svg"):
+        os.remove("run.svg")  # its example writes it
     say(failed == 0, "embed/python/README.md", failed, "of", tried)
 
 
