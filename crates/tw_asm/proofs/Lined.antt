@@ -1,5 +1,5 @@
 -- The readings of lines, whatever the instruction.
-use Rattle.std.proofs.Common.{◌≡◌, ℕ, ◌≤◌, List, [], ◌∷◌, ◌++◌, length, map, codes, Option, Some, None, inl, inr, refl, sym, ap, subst, ◌∙◌, arith}
+use Rattle.std.proofs.Common.{◌≡◌, ℕ, ◌≤◌, List, [], ◌∷◌, ◌++◌, length, map, codes, Option, Some, None, inl, inr, refl, sym, ap, subst, ◌∙◌, arith, append-nil}
 use Rattle.tw_asm.proofs.AsmNames.{AllByRecursion, Bare, Goals, HasType, IsList, IsName, IsRegister, IsSkip, IsTypeOf, Natural, NoName, OnlyName, Part, Skip, SpellParts, SpellsPart, SpellsWith, Two, TypeOf, Word, at_label, further, natural_in}
 use Rattle.tw_asm.proofs.Names.{HasGoal, MayGoal, goal_read, no_letter}
 use Rattle.tw_asm.proofs.OperandWords.{Has, IsFine, May, natural_read, operand_read, part_of}
@@ -105,10 +105,6 @@ word_alone literal c G ws h = (_, h)
 word_alone target None G ws h = (_, h)
 word_alone target (Some n) G ws h = (_, h.2)
 
-append_nil : (ws : List Word) → ws ≡ ws ++ []
-append_nil [] = refl
-append_nil (w ∷ ws) = ap (λ (vs : List Word). w ∷ vs) (append_nil ws)
-
 args_up : (G : Goals) (ws : List Word) (ns : List ℕ) → HaveEach IsArg ws ns → SpellParts G (map Natural ns) ws
 args_up G [] [] h = refl
 args_up G [] (n ∷ ns) h = absurd h
@@ -126,7 +122,7 @@ spelled nothing (w ∷ ws) x h = absurd h
 spelled goal [] x h = absurd h
 spelled goal (w ∷ []) x h = goal_up w x.skip x.label h
 spelled goal (w ∷ v ∷ ws) x h = absurd h
-spelled (type version) ws x h = (ws, [], append_nil ws, h.0, refl)
+spelled (type version) ws x h = (ws, [], sym (append-nil ws), h.0, refl)
 spelled args ws x h = args_up NoName ws x h
 spelled (more o l) [] x h = absurd h
 spelled (more o l) (w ∷ ws) x h = (w ∷ [], ws, refl, plain o x.0 NoName (goals_by (label_in l x.1)) (w ∷ []) h.0, spelled l ws x.1 h.1)
@@ -181,7 +177,7 @@ module _ (G : Goals) (names : (skip : ℕ) (name : List ℕ) → G skip name →
       some e = cc
   found goal ws x had (first, others, cut, h, none) = goal_down ws x.skip first others cut h none x.label
   found (type version) ws x had (first, others, cut, h, none) =
-      let whole : ws ≡ first = cut ∙ (ap (λ (vs : List Word). first ++ vs) none ∙ sym (append_nil first)) in
+      let whole : ws ≡ first = cut ∙ (ap (λ (vs : List Word). first ++ vs) none ∙ append-nil first) in
       (x, (whole ∙ h, had.0), λ _ m. m.0.0)
   found args ws x had h = (x, args_down ws x h, λ _ m. m.0)
   found (more o l) ws x had (first, others, cut, h, rest) =

@@ -4,7 +4,7 @@ use Rattle.tw_asm.proofs.AsmNames.{AllByRecursion, Bare, Closed, Flaw, Form, Has
 use Rattle.tw_asm.proofs.OperandWords.{Free, IsContainerOf, container_read, mode_read, scalar_read}
 use Rattle.tw_asm.proofs.Readings.{Reads, both_read, carried}
 use Rattle.tw_asm.proofs.Sequences.{IsShallow}
-use Rattle.tw_asm.proofs.TypeWords.{mode_no_container, mode_no_scalar, one_mode, one_type, words_of}
+use Rattle.tw_asm.proofs.TypeWords.{first_is, mode_no_container, mode_no_scalar, one_mode, one_type, rest_is, words_of}
 use Rattle.tw_asm.specs.reading.Lines.{begins, contained, ended, ends, goes_on, param_of, params_from, put_first, taken, under}
 
 abbrev pub param_words : Param → List Word
@@ -16,12 +16,6 @@ AreParams version ws ps = (ws ≡ flat_map param_words ps) × AllByRecursion (Ha
 
 abbrev pub IsShallowParam : Param → Type 0
 IsShallowParam p = IsShallow p.ty
-
-first_is : {A : Type 0} (v w : A) (x y : List A) → v ∷ x ≡ w ∷ y → v ≡ w
-first_is v w x y e = cc
-
-rest_is : {A : Type 0} (v w : A) (x y : List A) → v ∷ x ≡ w ∷ y → x ≡ y
-rest_is v w x y e = cc
 
 no_first : {A : Type 0} (v : A) (x : List A) → v ∷ x ≡ [] → ⊥
 no_first v x e = cc

@@ -1,5 +1,5 @@
 -- The readings of items one after the other, and of types.
-use Rattle.std.proofs.Common.{◌≡◌, ℕ, suc, ◌≤◌, Bool, true, false, cond, List, [], ◌∷◌, ◌++◌, length, Result, Ok, Err, refl, sym, ap, subst, ◌∙◌, arith, append_assoc}
+use Rattle.std.proofs.Common.{◌≡◌, ℕ, suc, ◌≤◌, Bool, true, false, cond, List, [], ◌∷◌, ◌++◌, length, Result, Ok, Err, refl, sym, ap, subst, ◌∙◌, arith, append_assoc, append-nil}
 use Rattle.tw_asm.proofs.AsmNames.{AllByRecursion, Bare, Flaw, Form, HasType, IsList, Limit, NestedScalar, Scalar, Version, Word, around, as_is, both, contained, container_in, container_of, container_word, depth_of, each, each_from, few, joined, ltb-true, nat_lt, nat_tests, put_first, scalar_in, scalar_type, scalar_word, type_in}
 use Rattle.tw_asm.proofs.OperandWords.{Free, IsContainerOf, container_read, scalar_read}
 use Rattle.tw_asm.proofs.Readings.{Reads, both_read, carried, likewise}
@@ -28,11 +28,7 @@ regroup (Ok s) (Err Limit) (Err Limit) = refl
 regroup (Err e) (Err Limit) (Err Limit) = refl
 
 pub nothing_after : {A : Type 0} (s : Result (List A) Flaw) → s ≡ together s (Ok [])
-nothing_after (Ok s) = ap (λ (xs : List _). Ok xs) (sym (append_nil s))
-  where
-    append_nil : {B : Type 0} (xs : List B) → xs ++ [] ≡ xs
-    append_nil [] = refl
-    append_nil (x ∷ xs) = ap (λ (ys : List _). x ∷ ys) (append_nil xs)
+nothing_after (Ok s) = ap (λ (xs : List _). Ok xs) (sym (append-nil s))
 nothing_after (Err e) = refl
 
 pub nothing_before : {A : Type 0} (r : Result (List A) Flaw) → together (Ok []) r ≡ r

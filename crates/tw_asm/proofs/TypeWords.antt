@@ -78,10 +78,10 @@ one_mode Write Write e = refl
 abbrev pub words_of : List Scalar → Scalar → List Word
 words_of containers scalar = map Bare (map container_word containers ++ (scalar_word scalar ∷ []))
 
-first_is : {A : Type 0} (v w : A) (x y : List A) → v ∷ x ≡ w ∷ y → v ≡ w
+pub first_is : {A : Type 0} (v w : A) (x y : List A) → v ∷ x ≡ w ∷ y → v ≡ w
 first_is v w x y e = cc
 
-rest_is : {A : Type 0} (v w : A) (x y : List A) → v ∷ x ≡ w ∷ y → x ≡ y
+pub rest_is : {A : Type 0} (v w : A) (x y : List A) → v ∷ x ≡ w ∷ y → x ≡ y
 rest_is v w x y e = cc
 
 same_lists : (cs ds : List Scalar) (s t : Scalar) (x y : List Word) → words_of cs s ++ x ≡ words_of ds t ++ y → (cs ≡ ds) × (s ≡ t) × (x ≡ y)

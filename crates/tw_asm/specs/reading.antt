@@ -4,4 +4,5 @@ pub mod Progress
 pub mod Goals
 pub mod Operands
 pub mod Lines
+pub mod Forms
 pub mod Heads

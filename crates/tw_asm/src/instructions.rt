@@ -5,6 +5,10 @@ ghost use Rattle.tw_words.specs.Seen.{seen as seen_word};
 ghost use Rattle.tw_code.specs.declared.instr.Instr.TheVariants as instr;
 ghost use Rattle.tw_code.specs.declared.instr.LocalInstr.TheVariants as local;
 ghost use Rattle.tw_code.specs.declared.instr.Priority.TheVariants.{Computed, Constant};
+ghost use Rattle.tw_code.specs.declared.version.Version.{Version};
+ghost use Rattle.tw_code.specs.format.Table.{forms_of};
+ghost use Rattle.tw_asm.specs.Seen.{bytes_of};
+ghost use Rattle.tw_asm.specs.reading.Forms.{EndsInSkip, TakesNoMemory};
 ghost use Rattle.tw_asm.specs.reading.Lines.{Gives, args, draft_in, drafted, goal, line_in, literal, more, natural, nothing, number, target, value};
 ghost use Rattle.tw_asm.specs.reading.Operands.{as_is};
 
@@ -26,13 +30,10 @@ fn straight<'a>(instr: Instr) -> Unlinked<'a>
 }
 
 /// An instruction that goes on there.
-fn going<'a>(instr: Instr, goal: Goal<'a>) -> Unlinked<'a>
-    ensures { drafted result ≡ (instr, goal.entry.label) }
+fn going<'a>(instr: Instr, label: Option<&'a [u8]>) -> Unlinked<'a>
+    ensures { drafted result ≡ (instr, bytes_of label.entry) }
 {
-    Unlinked {
-        instr,
-        goal: goal.label,
-    }
+    Unlinked { instr, goal: label }
 }
 
 /// A value register and a text.
@@ -114,63 +115,99 @@ fn computed(parts: (u8, (u8, (Option<u8>, Items<u8>)))) -> Action
     }
 }
 
+/// A text in a register.
+fn text(parts: (u8, (Text, ()))) -> Instr
+    ensures { result ≡ instr.Local (local.Text parts.0 parts.1.0) }
+{
+    let (to, (text, ())) = parts;
+    Instr::Local(LocalInstr::Text { to, text })
+}
+
 /// The operands of ADD to REM.
 fn compute<'a>(operation: Arithmetic, words: &[Word<'a>]) -> Result<Unlinked<'a>, Flaw>
     ensures { as_is drafted result
         ≡ as_is (λ x. (instr.Local (local.Compute operation x.0 x.1.0 x.1.1.0 x.1.1.1.skip), x.1.1.1.label)) (line_in (more value (more value (more value goal))) (map seen_word words.now)) }
 {
-    let (to, (left, (right, goal))) = three_values_and_goal(words)?;
+    let (to, (left, (right, Goal { skip, label }))) = three_values_and_goal(words)?;
     let compute = LocalInstr::Compute {
         operation,
         to,
         left,
         right,
-        skip: goal.skip,
+        skip,
     };
-    Ok(going(Instr::Local(compute), goal))
+    Ok(going(Instr::Local(compute), label))
 }
 
-/// An instruction, by its opcode and the words behind its name, a row each. Only a text and a list of arguments take memory.
+/// An instruction whose last operand is a goal, a row each.
 #[rattlefmt::skip]
-pub fn draft_of<'a>(alloc: Global, version: Version, opcode: Opcode, words: &[Word<'a>]) -> Result<Unlinked<'a>, Refusal>
-    ensures { Gives drafted result (draft_in version opcode (map seen_word words.now)) }
+fn going_of<'a>(opcode: Opcode, words: &[Word<'a>]) -> Result<Unlinked<'a>, Flaw>
+    requires { EndsInSkip (forms_of opcode) }
+    ensures { (version : Version) → as_is drafted result ≡ draft_in version opcode (map seen_word words.now) }
+{
+    match opcode {
+        Opcode::Add => compute(Arithmetic::Add, words),
+        Opcode::Subtract => compute(Arithmetic::Subtract, words),
+        Opcode::Multiply => compute(Arithmetic::Multiply, words),
+        Opcode::Divide => compute(Arithmetic::Divide, words),
+        Opcode::Remainder => compute(Arithmetic::Remainder, words),
+        Opcode::Concatenate => { let (to, (left, (right, Goal { skip, label }))) = three_values_and_goal(words)?; Ok(going(Instr::Local(LocalInstr::Concatenate { to, left, right, skip }), label)) }
+        Opcode::ReadInt => { let (to, (from, Goal { skip, label })) = two_values_and_goal(words)?; Ok(going(Instr::Local(LocalInstr::ReadInt { to, from, skip }), label)) }
+        Opcode::Jump => { let Goal { skip, label } = only_goal(words)?; Ok(going(Instr::Local(LocalInstr::Jump { skip }), label)) }
+        Opcode::JumpEqual => { let (left, (right, Goal { skip, label })) = two_values_and_goal(words)?; Ok(going(Instr::Local(LocalInstr::JumpEqual { left, right, skip }), label)) }
+        Opcode::JumpLess => { let (left, (right, Goal { skip, label })) = two_values_and_goal(words)?; Ok(going(Instr::Local(LocalInstr::JumpLess { left, right, skip }), label)) }
+        Opcode::Insert => { let (container, (subscript, (member, Goal { skip, label }))) = right_value_right_and_goal(words)?; Ok(going(Instr::Data(DataInstr::Insert { by: Scalar::Int, container, subscript, member, skip }), label)) }
+        Opcode::Look => { let (member, (container, (subscript, Goal { skip, label }))) = right_right_value_and_goal(words)?; Ok(going(Instr::Data(DataInstr::Look { by: Scalar::Int, member, container, subscript, skip }), label)) }
+        Opcode::SubscriptAt => { let (to, (container, (index, Goal { skip, label }))) = value_right_value_and_goal(words)?; Ok(going(Instr::Data(DataInstr::SubscriptAt { by: Scalar::Int, to, container, index, skip }), label)) }
+        Opcode::InsertByText => { let (container, (subscript, (member, Goal { skip, label }))) = right_value_right_and_goal(words)?; Ok(going(Instr::Data(DataInstr::Insert { by: Scalar::Text, container, subscript, member, skip }), label)) }
+        Opcode::LookByText => { let (member, (container, (subscript, Goal { skip, label }))) = right_right_value_and_goal(words)?; Ok(going(Instr::Data(DataInstr::Look { by: Scalar::Text, member, container, subscript, skip }), label)) }
+        Opcode::SubscriptAtByText => { let (to, (container, (index, Goal { skip, label }))) = value_right_value_and_goal(words)?; Ok(going(Instr::Data(DataInstr::SubscriptAt { by: Scalar::Text, to, container, index, skip }), label)) }
+        _ => unreachable!(),
+    }
+}
+
+/// An instruction whose operands take no memory, a row each.
+#[rattlefmt::skip]
+fn plain_of<'a>(version: Version, opcode: Opcode, words: &[Word<'a>]) -> Result<Unlinked<'a>, Flaw>
+    requires { TakesNoMemory (forms_of opcode) }
+    ensures { as_is drafted result ≡ draft_in version opcode (map seen_word words.now) }
 {
     match opcode {
         Opcode::Int => { let (to, (value, ())) = value_and_number(words)?; Ok(straight(Instr::Local(LocalInstr::Int { to, value }))) }
-        Opcode::Text => { let (to, (text, ())) = value_and_literal(alloc, words)?; Ok(straight(Instr::Local(LocalInstr::Text { to, text }))) }
         Opcode::Copy => { let (to, (from, ())) = two_values(words)?; Ok(straight(Instr::Local(LocalInstr::Copy { to, from }))) }
-        Opcode::Add => Ok(compute(Arithmetic::Add, words)?),
-        Opcode::Subtract => Ok(compute(Arithmetic::Subtract, words)?),
-        Opcode::Multiply => Ok(compute(Arithmetic::Multiply, words)?),
-        Opcode::Divide => Ok(compute(Arithmetic::Divide, words)?),
-        Opcode::Remainder => Ok(compute(Arithmetic::Remainder, words)?),
-        Opcode::Concatenate => { let (to, (left, (right, goal))) = three_values_and_goal(words)?; Ok(going(Instr::Local(LocalInstr::Concatenate { to, left, right, skip: goal.skip }), goal)) }
         Opcode::Length => { let (to, (from, ())) = two_values(words)?; Ok(straight(Instr::Local(LocalInstr::Length { to, from }))) }
         Opcode::Show => { let (to, (from, ())) = two_values(words)?; Ok(straight(Instr::Local(LocalInstr::Show { to, from }))) }
-        Opcode::ReadInt => { let (to, (from, goal)) = two_values_and_goal(words)?; Ok(going(Instr::Local(LocalInstr::ReadInt { to, from, skip: goal.skip }), goal)) }
-        Opcode::Jump => { let goal = only_goal(words)?; Ok(going(Instr::Local(LocalInstr::Jump { skip: goal.skip }), goal)) }
-        Opcode::JumpEqual => { let (left, (right, goal)) = two_values_and_goal(words)?; Ok(going(Instr::Local(LocalInstr::JumpEqual { left, right, skip: goal.skip }), goal)) }
-        Opcode::JumpLess => { let (left, (right, goal)) = two_values_and_goal(words)?; Ok(going(Instr::Local(LocalInstr::JumpLess { left, right, skip: goal.skip }), goal)) }
         Opcode::Repeat => { let (turns, ()) = only_turns(words)?; Ok(straight(Instr::Local(LocalInstr::Repeat { turns }))) }
         Opcode::End => { nothing_of(words)?; Ok(straight(Instr::Local(LocalInstr::End))) }
         Opcode::New => { let (write, (read, ty)) = two_rights_and_type(version, words)?; Ok(straight(Instr::Data(DataInstr::New { write, read, ty }))) }
         Opcode::Store => { let (datum, (from, ())) = right_and_value(words)?; Ok(straight(Instr::Data(DataInstr::Store { datum, from }))) }
         Opcode::Get => { let (to, (datum, ())) = value_and_right(words)?; Ok(straight(Instr::Data(DataInstr::Get { to, datum }))) }
-        Opcode::Insert => { let (container, (subscript, (member, goal))) = right_value_right_and_goal(words)?; Ok(going(Instr::Data(DataInstr::Insert { by: Scalar::Int, container, subscript, member, skip: goal.skip }), goal)) }
-        Opcode::Look => { let (member, (container, (subscript, goal))) = right_right_value_and_goal(words)?; Ok(going(Instr::Data(DataInstr::Look { by: Scalar::Int, member, container, subscript, skip: goal.skip }), goal)) }
         Opcode::Size => { let (to, (container, ())) = value_and_right(words)?; Ok(straight(Instr::Data(DataInstr::Size { to, container }))) }
-        Opcode::SubscriptAt => { let (to, (container, (index, goal))) = value_right_value_and_goal(words)?; Ok(going(Instr::Data(DataInstr::SubscriptAt { by: Scalar::Int, to, container, index, skip: goal.skip }), goal)) }
         Opcode::CopyRead => { let (to, (from, ())) = two_rights(words)?; Ok(straight(Instr::Data(DataInstr::CopyRead { to, from }))) }
         Opcode::CopyWrite => { let (to, (from, ())) = two_rights(words)?; Ok(straight(Instr::Data(DataInstr::CopyWrite { to, from }))) }
         Opcode::DropRead => { let (right, ()) = only_right(words)?; Ok(straight(Instr::Data(DataInstr::DropRead { right }))) }
         Opcode::DropWrite => { let (right, ()) = only_right(words)?; Ok(straight(Instr::Data(DataInstr::DropWrite { right }))) }
-        Opcode::Rule => { let parts = action_parts(alloc, words)?; Ok(straight(Instr::Rule(constant(parts)))) }
-        Opcode::Put => { let parts = action_parts(alloc, words)?; Ok(straight(Instr::Put(constant(parts)))) }
         Opcode::Ret => { nothing_of(words)?; Ok(straight(Instr::Ret)) }
-        Opcode::InsertByText => { let (container, (subscript, (member, goal))) = right_value_right_and_goal(words)?; Ok(going(Instr::Data(DataInstr::Insert { by: Scalar::Text, container, subscript, member, skip: goal.skip }), goal)) }
-        Opcode::LookByText => { let (member, (container, (subscript, goal))) = right_right_value_and_goal(words)?; Ok(going(Instr::Data(DataInstr::Look { by: Scalar::Text, member, container, subscript, skip: goal.skip }), goal)) }
-        Opcode::SubscriptAtByText => { let (to, (container, (index, goal))) = value_right_value_and_goal(words)?; Ok(going(Instr::Data(DataInstr::SubscriptAt { by: Scalar::Text, to, container, index, skip: goal.skip }), goal)) }
-        Opcode::RuleComputed => { let parts = computed_parts(alloc, words)?; Ok(straight(Instr::Rule(computed(parts)))) }
-        Opcode::PutComputed => { let parts = computed_parts(alloc, words)?; Ok(straight(Instr::Put(computed(parts)))) }
+        _ => going_of(opcode, words),
     }
+}
+
+/// An instruction, by its opcode and the words behind its name. Only a text and a list of arguments take memory.
+pub fn draft_of<'a>(
+    alloc: Global,
+    version: Version,
+    opcode: Opcode,
+    words: &[Word<'a>],
+) -> Result<Unlinked<'a>, Refusal>
+    ensures { Gives drafted result (draft_in version opcode (map seen_word words.now)) }
+{
+    let instr = match opcode {
+        Opcode::Text => text(value_and_literal(alloc, words)?),
+        Opcode::Rule => Instr::Rule(constant(action_parts(alloc, words)?)),
+        Opcode::Put => Instr::Put(constant(action_parts(alloc, words)?)),
+        Opcode::RuleComputed => Instr::Rule(computed(computed_parts(alloc, words)?)),
+        Opcode::PutComputed => Instr::Put(computed(computed_parts(alloc, words)?)),
+        _ => return Ok(plain_of(version, opcode, words)?),
+    };
+    Ok(straight(instr))
 }

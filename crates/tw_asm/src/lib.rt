@@ -6,6 +6,7 @@
 #![tactic(auto)]
 
 mod assembler;
+mod bodies;
 mod disassembler;
 mod fault;
 mod first;

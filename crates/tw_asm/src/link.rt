@@ -2,7 +2,7 @@
 
 ghost use Rattle.std.specs.Prelude.{◌⊎◌, MatchResult, map};
 ghost use Rattle.std.specs.List.{AllByRecursion, flat_map};
-ghost use Rattle.tw_asm.specs.reading.Goals.{AreLinkedProcedures, AreWithin, FirstUnlinked, HasLabelsWithin, section_goals, IsLinkedInstr, IsLinkedSection, IsSkipTo};
+ghost use Rattle.tw_asm.specs.reading.Goals.{AreLinkedCode, AreLinkedProcedures, AreWithin, FirstUnlinked, HasLabelsWithin, goals_in, section_goals, IsLinkedInstr, IsLinkedSection, IsSkipTo};
 ghost use Rattle.tw_asm.specs.reading.Progress.{IsMemory, seen_draft, seen_label, seen_section};
 
 use crate::fault::{AsmFault, FaultNo};
@@ -48,6 +48,24 @@ fn link_instr(
     }
 }
 
+fn link_code(
+    alloc: Global,
+    labels: &IndexMap<&[u8], usize>,
+    drafts: Vec<UnlinkedLine<'_>>,
+) -> Result<Vec<Instr>, AsmFault>
+    requires { AreWithin (map seen_label labels.now.entries) }
+    ensures { MatchResult result
+        (λ code. AreLinkedCode (goals_in (map seen_label labels.now.entries) 0 (map seen_draft drafts.entry.items)) code.items)
+        (λ f. IsMemory f ⊎ FirstUnlinked (goals_in (map seen_label labels.now.entries) 0 (map seen_draft drafts.entry.items)) f) }
+{
+    let mut code = Vec::new(alloc);
+    for line in drafts {
+        let instr = link_instr(labels, code.len(), line)?;
+        code.push(instr)?;
+    }
+    Ok(code)
+}
+
 fn link_section(alloc: Global, section: Section<'_>) -> Result<Procedure, AsmFault>
     requires { AreWithin (map seen_label section.labels.entries) }
     ensures { IsLinkedSection (seen_section section.entry) result }
@@ -59,11 +77,7 @@ fn link_section(alloc: Global, section: Section<'_>) -> Result<Procedure, AsmFau
         labels,
         drafts,
     } = section;
-    let mut code = Vec::new(alloc);
-    for line in drafts {
-        let instr = link_instr(&labels, code.len(), line)?;
-        code.push(instr)?;
-    }
+    let code = link_code(alloc, &labels, drafts)?;
     Ok(Procedure {
         kind,
         params,

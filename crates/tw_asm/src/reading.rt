@@ -1,16 +1,16 @@
 //! The lines of a text, one by one. Goals aren't looked for yet.
 
-ghost use Rattle.std.specs.Prelude.{◌≡◌, ◌⊎◌, ◌↔◌, ℕ, List, IsTrue, MatchOption, MatchResult, map};
-ghost use Rattle.std.specs.Prelude.{None};
+ghost use Rattle.std.specs.Prelude.{◌≡◌, ◌↔◌, IsTrue, MatchOption, MatchResult, None, map};
 ghost use Rattle.tw_asm.specs.Fault.{MayBegin};
-ghost use Rattle.tw_asm.specs.reading.Progress.{AreClosed, AreFinished, AreNotRead, BehindVersion, HasSections, IsEmptyAt, IsNotClosed, IsNotFinished, LabelAdded, LinesAreRead, TakenLine, TakenStatement, WithDraft, WithLabel, WordsRead, IsLimitLine, seen_draft, seen_label, seen_reading, seen_section, seen_stage, stage_of};
+ghost use Rattle.tw_asm.specs.reading.Progress.{AreClosed, AreFinished, AreNotRead, BehindVersion, HasSections, IsEmptyAt, IsNotClosed, IsNotFinished, LinesAreRead, TakenLine, TakenStatement, WordsRead, IsLimitLine, seen_reading, seen_section, seen_stage, stage_of};
 ghost use Rattle.tw_asm.specs.reading.Expected.{IsExpectedBy, expectation};
 ghost use Rattle.tw_words.specs.Seen.{seen as seen_word};
-ghost use Rattle.tw_asm.specs.Seen.{bytes_of, seen as seen_statement};
-ghost use Rattle.tw_asm.specs.Statement.{Code, Head, Label, Registers};
+ghost use Rattle.tw_asm.specs.Seen.{seen as seen_statement};
+ghost use Rattle.tw_asm.specs.Statement.{Head, Registers};
 ghost use Rattle.tw_asm.specs.declared.statement.First.TheVariants as expected;
 ghost use Rattle.tw_asm.specs.declared.statement.First.{First};
 
+use crate::bodies::{take_draft, take_label};
 use crate::fault::{AsmFault, FaultNo};
 use crate::first::first_of;
 use crate::read::statement_of;
@@ -18,7 +18,7 @@ use crate::refusal::{Flaw, Refusal};
 use crate::statement::{First, Statement, Unlinked};
 use indexmap::IndexMap;
 use std::alloc::Global;
-use tw_code::{Procedure, Program, Version};
+use tw_code::{Program, Version};
 use tw_types::{Items, Kind, Param, Scalar};
 use tw_words::{Word, words_of};
 
@@ -166,16 +166,10 @@ fn close<'a>(
 fn take_version<'a>(reading: Reading<'a>, version: Version) -> Reading<'a>
     ensures { seen_reading result ≡ record (seen_reading reading.entry) { version = version; place = BehindVersion } }
 {
-    let Reading {
-        sections,
-        head_line,
-        ..
-    } = reading;
     Reading {
         version,
-        sections,
-        head_line,
         stage: Stage::AfterVersion,
+        ..reading
     }
 }
 
@@ -235,66 +229,6 @@ fn take_registers<'a>(
         head_line,
         stage: Stage::InBody(section),
     })
-}
-
-fn add_label<'a>(
-    labels: &mut IndexMap<&'a [u8], usize>,
-    name: &'a [u8],
-    place: usize,
-    number: usize,
-) -> Result<(), AsmFault>
-    ensures { LabelAdded (map seen_label labels.old.entries) (map seen_label labels.new.entries) name.now place result number }
-{
-    if labels.contains_key(name) {
-        return Err(AsmFault::new(FaultNo::LabelTwice, number));
-    }
-    labels.insert(name, place)?;
-    Ok(())
-}
-
-fn with_label<'a>(section: &mut Section<'a>, number: usize, name: &'a [u8]) -> Result<(), AsmFault>
-    ensures { WithLabel (seen_section section.old) (seen_section section.new) number name.now result }
-{
-    let place = section.drafts.len();
-    add_label(&mut section.labels, name, place, number)
-}
-
-fn with_draft<'a>(section: &mut Section<'a>, line: UnlinkedLine<'a>) -> Result<(), AsmFault>
-    ensures { WithDraft (seen_section section.old) (seen_section section.new) (seen_draft line.entry) result }
-{
-    if section.drafts.len() >= usize::from(Procedure::MAX_CODE) {
-        return Err(AsmFault::new(FaultNo::Limit, line.number));
-    }
-    section.drafts.push(line)?;
-    Ok(())
-}
-
-fn take_label<'a>(
-    mut reading: Reading<'a>,
-    number: usize,
-    name: &'a [u8],
-) -> Result<Reading<'a>, AsmFault>
-    ensures { MayBegin (stage_of (seen_stage reading.entry.stage)) expected.Body → TakenStatement (seen_reading reading.entry) number (record { statement = Label name.now; goal = None }) result }
-{
-    let Stage::InBody(section) = &mut reading.stage else {
-        return Err(AsmFault::new(FaultNo::Word, number));
-    };
-    with_label(section, number, name)?;
-    Ok(reading)
-}
-
-fn take_draft<'a>(
-    mut reading: Reading<'a>,
-    number: usize,
-    draft: Unlinked<'a>,
-) -> Result<Reading<'a>, AsmFault>
-    ensures { MayBegin (stage_of (seen_stage reading.entry.stage)) expected.Body → TakenStatement (seen_reading reading.entry) number (record { statement = Code draft.entry.instr; goal = bytes_of draft.entry.goal }) result }
-{
-    let Stage::InBody(section) = &mut reading.stage else {
-        return Err(AsmFault::new(FaultNo::Word, number));
-    };
-    with_draft(section, UnlinkedLine { draft, number })?;
-    Ok(reading)
 }
 
 fn take_statement<'a>(

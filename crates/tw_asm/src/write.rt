@@ -3,8 +3,7 @@
 ghost use Rattle.std.specs.Prelude.{◌≡◌, ◌++◌, [], ◌∷◌, None, OnOk, codes, decimal, map, if◌then◌else◌};
 ghost use Rattle.std.specs.Fmt.{signed_decimal};
 ghost use Rattle.std.specs.List.{flat_map};
-ghost use Rattle.tw_asm.specs.Parts.{container_word, kind_word, mode_word, scalar_word};
-ghost use Rattle.tw_asm.specs.Parts.{Target as target_part, TypeOf as type_part, param_parts};
+ghost use Rattle.tw_asm.specs.Parts.{container_word, kind_word, mode_word, scalar_word, Target as target_part, TypeOf as type_part, param_parts};
 ghost use Rattle.tw_asm.specs.Statement.{Code, Head, Label, Registers};
 ghost use Rattle.tw_asm.specs.Disassembly.{version_line};
 ghost use Rattle.tw_asm.specs.Written.{goal_word, line_of, part_words};

@@ -1,7 +1,7 @@
 use Rattle.std.proofs.Common.{map}
 use Rattle.tw_asm.proofs.AsmNames.{err_from_is_err_and, seen_section}
 use Rattle.tw_asm.proofs.Taking.{label_stopped}
-use Rattle.tw_asm.proofs.reading.take_label.Goals as goal
+use Rattle.tw_asm.proofs.bodies.take_label.Goals as goal
 
 pub returns-in_err-with_label : goal.returns-in_err-with_label
 returns-in_err-with_label c = λ m.

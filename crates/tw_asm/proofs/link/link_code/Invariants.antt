@@ -1,11 +1,11 @@
 use Rattle.std.proofs.Common.{map}
 use Rattle.tw_asm.specs.reading.Goals.{AreLinkedCode, goals_in}
 use Rattle.tw_asm.specs.reading.Progress.{seen_draft, seen_label}
-use Rattle.tw_asm.proofs.link.link_section.Given as goal
+use Rattle.tw_asm.proofs.link.link_code.Given as goal
 
 abbrev pub invariant-loop-line : goal.invariant-loop-line
 invariant-loop-line l = record {
   next : (goal.iterator-loop-line).can_next l.line-iterator;
   finite : (goal.iterator-loop-line).is_finite l.line-iterator;
-  linked : AreLinkedCode (goals_in (map seen_label l.fn.section.labels.entries) 0 (map seen_draft l.yielded)) l.code.items;
+  linked : AreLinkedCode (goals_in (map seen_label l.fn.labels.entries) 0 (map seen_draft l.yielded)) l.code.items;
 }

@@ -1,7 +1,7 @@
 use Rattle.std.proofs.Common.{map}
 use Rattle.tw_asm.proofs.AsmNames.{bytes_of, err_from_is_err_and, seen_section}
 use Rattle.tw_asm.proofs.Taking.{draft_stopped}
-use Rattle.tw_asm.proofs.reading.take_draft.Goals as goal
+use Rattle.tw_asm.proofs.bodies.take_draft.Goals as goal
 
 pub returns-in_err-with_draft : goal.returns-in_err-with_draft
 returns-in_err-with_draft c = λ m.

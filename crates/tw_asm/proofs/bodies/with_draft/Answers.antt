@@ -1,6 +1,6 @@
 use Rattle.std.proofs.Common.{◌∷◌, [], inr, refl, arith}
 use Rattle.tw_asm.proofs.AsmNames.{length-map, map-append, seen_draft}
-use Rattle.tw_asm.proofs.reading.with_draft.Goals as goal
+use Rattle.tw_asm.proofs.bodies.with_draft.Goals as goal
 
 pub returns-then-len-from : goal.returns-then-len-from
 returns-then-len-from c =

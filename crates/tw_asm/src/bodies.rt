@@ -1,0 +1,74 @@
+//! What stands in a procedure's body: labels, and instructions whose goals aren't looked for yet.
+
+ghost use Rattle.std.specs.Prelude.{map, None};
+ghost use Rattle.tw_asm.specs.Fault.{MayBegin};
+ghost use Rattle.tw_asm.specs.Seen.{bytes_of};
+ghost use Rattle.tw_asm.specs.Statement.{Code, Label};
+ghost use Rattle.tw_asm.specs.declared.statement.First.TheVariants as expected;
+ghost use Rattle.tw_asm.specs.reading.Progress.{LabelAdded, TakenStatement, WithDraft, WithLabel, seen_draft, seen_label, seen_reading, seen_section, seen_stage, stage_of};
+
+use crate::fault::{AsmFault, FaultNo};
+use crate::reading::{Reading, Section, Stage, UnlinkedLine};
+use crate::statement::Unlinked;
+use indexmap::IndexMap;
+use tw_code::Procedure;
+
+fn add_label<'a>(
+    labels: &mut IndexMap<&'a [u8], usize>,
+    name: &'a [u8],
+    place: usize,
+    number: usize,
+) -> Result<(), AsmFault>
+    ensures { LabelAdded (map seen_label labels.old.entries) (map seen_label labels.new.entries) name.now place result number }
+{
+    if labels.contains_key(name) {
+        return Err(AsmFault::new(FaultNo::LabelTwice, number));
+    }
+    labels.insert(name, place)?;
+    Ok(())
+}
+
+fn with_label<'a>(section: &mut Section<'a>, number: usize, name: &'a [u8]) -> Result<(), AsmFault>
+    ensures { WithLabel (seen_section section.old) (seen_section section.new) number name.now result }
+{
+    let place = section.drafts.len();
+    add_label(&mut section.labels, name, place, number)
+}
+
+fn with_draft<'a>(section: &mut Section<'a>, line: UnlinkedLine<'a>) -> Result<(), AsmFault>
+    ensures { WithDraft (seen_section section.old) (seen_section section.new) (seen_draft line.entry) result }
+{
+    if section.drafts.len() >= usize::from(Procedure::MAX_CODE) {
+        return Err(AsmFault::new(FaultNo::Limit, line.number));
+    }
+    section.drafts.push(line)?;
+    Ok(())
+}
+
+pub(crate) fn take_label<'a>(
+    mut reading: Reading<'a>,
+    number: usize,
+    name: &'a [u8],
+) -> Result<Reading<'a>, AsmFault>
+    ensures { MayBegin (stage_of (seen_stage reading.entry.stage)) expected.Body → TakenStatement (seen_reading reading.entry) number (record { statement = Label name.now; goal = None }) result }
+{
+    let Stage::InBody(section) = &mut reading.stage else {
+        return Err(AsmFault::new(FaultNo::Word, number));
+    };
+    with_label(section, number, name)?;
+    Ok(reading)
+}
+
+pub(crate) fn take_draft<'a>(
+    mut reading: Reading<'a>,
+    number: usize,
+    draft: Unlinked<'a>,
+) -> Result<Reading<'a>, AsmFault>
+    ensures { MayBegin (stage_of (seen_stage reading.entry.stage)) expected.Body → TakenStatement (seen_reading reading.entry) number (record { statement = Code draft.entry.instr; goal = bytes_of draft.entry.goal }) result }
+{
+    let Stage::InBody(section) = &mut reading.stage else {
+        return Err(AsmFault::new(FaultNo::Word, number));
+    };
+    with_draft(section, UnlinkedLine { draft, number })?;
+    Ok(reading)
+}
