@@ -1,11 +1,11 @@
 -- What texts keep that are made of texts of a line: that no line feed is in them, and that they are in UTF-8.
-use Rattle.std.proofs.Common.{[], ◌≡◌, ◌==◌, ◌<◌, ◌≤◌, ◌+◌, ◌-◌, ◌/◌, ◌%◌, ℕ, zero, suc, Bool, true, false, cond, List, ◌∷◌, ◌++◌, refl, sym, subst, append_assoc, arith}
+use Rattle.std.proofs.Common.{[], ◌≡◌, ◌==◌, ◌<◌, ◌≤◌, ◌+◌, ◌/◌, ◌%◌, ℕ, zero, suc, Bool, true, false, cond, List, ◌∷◌, ◌++◌, refl, sym, subst, append_assoc, arith}
 use Rattle.tw_names.proofs.TextNames.{AllByRecursion, IsUtf8, StandsFirst, append-nil, decimal, is_sign, nat_lt, pieces, pieces_behind, some_piece}
 use Rattle.std.specs.Fmt.{digit_glyph, digits, digits_onto}
 use Rattle.std.proofs.lemmas.Bool.Decides.{nat_tests}
 use Rattle.std.proofs.lemmas.Str.{IsUtf8-append, IsUtf8-nil}
 use Rattle.tw_words.proofs.Breaks.{HasNoLineFeed}
-use Rattle.tw_words.proofs.Texts.{parting_small, rest_utf8}
+use Rattle.tw_words.proofs.Texts.{edge_small, parting_small, rest_utf8}
 use Rattle.tw_words.proofs.Utf8.{cut_front, cut_rest, one_ascii}
 use Rattle.tw_words.specs.Words.{IsAtEdge, IsGap, is_edge}
 
@@ -100,9 +100,6 @@ pieces_utf8 front (b ∷ word) u = by (is_sign b) refl (λ (f : List ℕ) (v : I
         let small = sign_small b e in
         all_kept IsUtf8 (some_piece front) (pieces_behind [] word) (some_utf8 front (cut_front front b word small u)) (rest [] (cut_rest front b word small u))
     by false e rest = rest (front ++ b ∷ []) (subst IsUtf8 (sym (append_assoc front (b ∷ []) word)) u)
-
-edge_small : (b : ℕ) → is_edge b ≡ true → b < 128
-edge_small b e = grind (arith, nat_tests)
 
 behind_gap : (gap rest : List ℕ) → IsGap gap → IsUtf8 (gap ++ rest) → IsUtf8 rest
 behind_gap [] rest h u = u

@@ -1,5 +1,5 @@
 -- What a line stands for keeps what its words keep.
-use Rattle.std.proofs.Common.{[], ◌≡◌, ◌<◌, ◌≤◌, ◌+◌, ℕ, ℤ, pos, negsuc, zero, suc, cond, List, ◌∷◌, ◌++◌, length, take, drop, filter, Option, Some, None, Result, Ok, Err, refl, sym, ap, subst, ◌∙◌, append_assoc, append-nil, codes, decimal, is_some, slice_get, arith}
+use Rattle.std.proofs.Common.{[], ◌≡◌, ◌<◌, ◌≤◌, ℕ, ℤ, pos, negsuc, zero, suc, cond, List, ◌∷◌, ◌++◌, length, take, drop, filter, Option, Some, None, Result, Ok, Err, refl, sym, ap, subst, ◌∙◌, append_assoc, append-nil, codes, decimal, is_some, slice_get, arith}
 use Rattle.tw_names.proofs.TextNames.{Flaw, Names, Procedures, and_then, flat_map, is_name, known, may_name, name_register, nat_lt, pieces, unwrap_or, with_constant, with_register}
 use Rattle.std.specs.Fmt.{signed_decimal}
 use Rattle.std.specs.Result.{result_ok}

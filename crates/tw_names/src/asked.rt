@@ -28,32 +28,25 @@ pub enum Standing {
 fn standing_of(asked: Asked, thing: Thing) -> Option<Standing>
     ensures { option_map standing_text result ≡ stands asked thing }
 {
-    match asked {
-        Asked::Value => match thing {
-            Thing::Register(Bank::Value, number) => Some(Standing::Numbered("v", number)),
+    match thing {
+        Thing::Constant(number) => match asked {
+            Asked::Number => Some(Standing::Number(number)),
             _ => None,
         },
-        Asked::Right => match thing {
-            Thing::Register(Bank::Right, number) => Some(Standing::Numbered("d", number)),
+        Thing::Register(Bank::Value, number) => match asked {
+            Asked::Value => Some(Standing::Numbered("v", number)),
+            Asked::ValueArgument => Some(Standing::Numbered("", number)),
             _ => None,
         },
-        Asked::ValueArgument => match thing {
-            Thing::Register(Bank::Value, number) => Some(Standing::Numbered("", number)),
+        Thing::Register(Bank::Right, number) => match asked {
+            Asked::Right => Some(Standing::Numbered("d", number)),
+            Asked::RightArgument => Some(Standing::Numbered("", number)),
             _ => None,
         },
-        Asked::RightArgument => match thing {
-            Thing::Register(Bank::Right, number) => Some(Standing::Numbered("", number)),
+        Thing::Procedure(number) => match asked {
+            Asked::Procedure => Some(Standing::Numbered("", number)),
             _ => None,
         },
-        Asked::Number => match thing {
-            Thing::Constant(number) => Some(Standing::Number(number)),
-            _ => None,
-        },
-        Asked::Procedure => match thing {
-            Thing::Procedure(number) => Some(Standing::Numbered("", number)),
-            _ => None,
-        },
-        Asked::Nothing => None,
     }
 }
 
