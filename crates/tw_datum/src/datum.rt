@@ -1,23 +1,20 @@
 //! One datum.
 
-ghost use Rattle.std.specs.Prelude.{◌≡◌, ◌-◌, ◌<◌, ◌^◌, IfSome, OnOk, OnErr, Some, slice_get, true, false, if◌then◌else◌, [], option_map};
+ghost use Rattle.std.specs.Prelude.{◌≡◌, ◌-◌, ◌<◌, ◌^◌, IfSome, OnOk, OnErr, true, false, if◌then◌else◌, []};
 ghost use Rattle.std.specs.FinMap as map;
-ghost use Rattle.std.specs.Option.{option_and_then, option_copied};
+ghost use Rattle.std.specs.Option.{option_copied};
 ghost use Rattle.tw_types.specs.Store.{empty_content, is_closed, is_unheld, members_of, subscribers_cleared};
-ghost use Rattle.tw_types.specs.DataType.{is_container_by, is_scalar};
-ghost use Rattle.tw_types.specs.StoreCalls.{value_in, members_in, set_to, one_read_more, one_write_more, one_write_less, with_subscriber, subscript_after};
+ghost use Rattle.tw_types.specs.DataType.{is_scalar};
+ghost use Rattle.tw_types.specs.StoreCalls.{value_in, set_to, one_read_more, one_write_more, one_write_less, with_subscriber};
 ghost use Rattle.tw_types.specs.StoreChecks.{is_unset};
-ghost use Rattle.tw_types.specs.TypedStore.{AreSubscriptsFor};
-ghost use Rattle.tw_types.specs.Value.{scalar_of};
-ghost use Rattle.tw_types.specs.ValueOrder.{named};
-ghost use Rattle.tw_datum.specs.Kept.{AreMembers, FitsType, bare, by_int, closed_datum, content_of, ids_if, lent, members_kept, new_kept, with_kept_member};
+ghost use Rattle.tw_datum.specs.Kept.{FitsType, closed_datum, content_of, ids_if, members_kept, new_kept};
 
 use crate::member::Member;
 use crate::ranked_map::RankedMap;
 use smallvec::SmallVec;
 use std::alloc::{AllocError, Global};
 use std::marker::Model;
-use tw_types::{DataType, DatumId, Subscriber, Value, ValueRef};
+use tw_types::{DataType, Subscriber, Value};
 
 /// What is in a datum.
 #[derive(Drop)]
@@ -33,8 +30,8 @@ pub enum Content<M> {
 /// A datum, with how many rights are held on it and who waits for it.
 #[derive(Drop)]
 pub struct Datum<M: Member> {
-    ty: DataType,
-    content: Content<M>,
+    pub(crate) ty: DataType,
+    pub(crate) content: Content<M>,
     reads: u64,
     writes: u64,
     subscribers: SmallVec<Subscriber, 2>,
@@ -67,16 +64,6 @@ fn empty_content<M: Member>(alloc: Global, ty: DataType) -> Content<M>
         Content::Unset
     } else {
         Content::Contains(RankedMap::new(alloc))
-    }
-}
-
-/// The id of a member, with its subscript.
-fn lent<M: Member>(entry: Option<&(Value, M)>) -> Option<(&Value, DatumId)>
-    ensures { option_map lent result ≡ option_map (bare M.id) (option_copied entry.entry) }
-{
-    match entry {
-        Some((subscript, member)) => Some((subscript, member.id())),
-        None => None,
     }
 }
 
@@ -125,16 +112,6 @@ impl<M: Member> Datum<M> {
         }
     }
 
-    /// The members of a container.
-    fn members(&self) -> Option<&RankedMap<M>>
-        ensures { AreMembers M.id self.now (option_copied result) }
-    {
-        match &self.content {
-            Content::Contains(members) => Some(members),
-            Content::Unset | Content::Set(_) => None,
-        }
-    }
-
     /// Whether it will never change again: a scalar that is set, or a container that nobody may write.
     pub fn closed(&self) -> bool
         ensures { result ≡ is_closed self.now.datum }
@@ -143,87 +120,6 @@ impl<M: Member> Datum<M> {
             Content::Unset => false,
             Content::Set(_) => true,
             Content::Contains(_) => self.writes == 0,
-        }
-    }
-
-    /// The number of members; a scalar has none.
-    pub fn len(&self) -> usize
-        ensures { result ≡ map.len (members_in self.now.datum.content) }
-    {
-        match self.members() {
-            Some(members) => members.len(),
-            None => 0,
-        }
-    }
-
-    /// The member with so many smaller subscripts, by its subscript, an integer. A container by texts has none.
-    pub fn member(&self, index: usize) -> Option<(i64, DatumId)>
-        ensures { result ≡ option_and_then by_int (slice_get (map.entries (members_in self.now.datum.content)) index) }
-    {
-        match self.entry(index) {
-            Some((Value::Int(subscript), id)) => Some((*subscript, id)),
-            Some((Value::Text(_), _)) | None => None,
-        }
-    }
-
-    /// The member with so many smaller subscripts, by its subscript, whatever that is.
-    pub fn entry(&self, index: usize) -> Option<(&Value, DatumId)>
-        ensures { option_map lent result ≡ slice_get (map.entries (members_in self.now.datum.content)) index }
-    {
-        match self.members() {
-            Some(members) => lent(members.nth(index)),
-            None => None,
-        }
-    }
-
-    /// The same member, as it is kept.
-    pub fn nth_kept(&self, index: usize) -> Option<&(Value, M)>
-        ensures member { option_map (bare M.id) (option_copied result) ≡ slice_get (map.entries (members_in self.now.datum.content)) index }
-        ensures kept { IfSome (option_copied result) (λ e. map.get self.now.members e.0 ≡ Some e.1) }
-    {
-        match self.members() {
-            Some(members) => members.nth(index),
-            None => None,
-        }
-    }
-
-    /// The subscript with exactly so many smaller ones.
-    pub fn subscript(&self, index: i64) -> Option<&Value>
-        ensures found { option_copied result ≡ subscript_after index (map.keys (members_in self.now.datum.content)) }
-        ensures kinds { AreSubscriptsFor self.now.datum.ty (members_in self.now.datum.content) }
-    {
-        let _ty = &self.ty;
-        self.nth_subscript(index)
-    }
-
-    fn nth_subscript(&self, index: i64) -> Option<&Value>
-        ensures { option_copied result ≡ subscript_after index (map.keys (members_in self.now.datum.content)) }
-    {
-        let Ok(index) = usize::try_from(index) else {
-            return None;
-        };
-        let (subscript, _) = self.nth_kept(index)?;
-        Some(subscript)
-    }
-
-    /// The member at a subscript, as it is kept.
-    pub fn kept_member(&self, subscript: ValueRef<'_>) -> Option<M>
-        ensures member { option_map M.id result ≡ map.get (members_in self.now.datum.content) (named subscript.entry) }
-        ensures kept { result ≡ map.get self.now.members (named subscript.entry) }
-    {
-        match self.members() {
-            Some(members) => members.get(subscript),
-            None => None,
-        }
-    }
-
-    /// The member at a subscript.
-    pub fn member_at(&self, subscript: ValueRef<'_>) -> Option<DatumId>
-        ensures { result ≡ map.get (members_in self.now.datum.content) (named subscript.entry) }
-    {
-        match self.kept_member(subscript) {
-            Some(member) => Some(member.id()),
-            None => None,
         }
     }
 
@@ -319,18 +215,6 @@ impl<M: Member> Datum<M> {
         ensures { self.new ≡ record self.old { datum = one_write_more self.old.datum } }
     {
         self.writes += 1;
-    }
-
-    /// Puts a member into a container.
-    pub fn add_member(&mut self, subscript: Value, member: M) -> Result<(), AllocError>
-        requires { is_container_by (scalar_of subscript) self.old.datum.ty ≡ true }
-        ensures added { OnOk result (self.new ≡ with_kept_member M.id subscript member self.old) }
-        ensures refused { OnErr result (self.new ≡ self.old) }
-    {
-        match &mut self.content {
-            Content::Contains(members) => members.insert(subscript, member),
-            Content::Unset | Content::Set(_) => unreachable!(),
-        }
     }
 
     /// Adds one who waits, after the others.

@@ -6,6 +6,7 @@
 #![tactic(auto)]
 
 pub mod checks;
+mod container;
 mod datum;
 mod member;
 mod ranked_map;

@@ -1,0 +1,132 @@
+//! The members of a datum that is a container.
+
+ghost use Rattle.std.specs.Prelude.{◌≡◌, IfSome, OnOk, OnErr, Some, slice_get, true, option_map};
+ghost use Rattle.std.specs.FinMap as map;
+ghost use Rattle.std.specs.Option.{option_and_then, option_copied};
+ghost use Rattle.tw_types.specs.DataType.{is_container_by};
+ghost use Rattle.tw_types.specs.StoreCalls.{members_in, subscript_after};
+ghost use Rattle.tw_types.specs.TypedStore.{AreSubscriptsFor};
+ghost use Rattle.tw_types.specs.Value.{scalar_of};
+ghost use Rattle.tw_types.specs.ValueOrder.{named};
+ghost use Rattle.tw_datum.specs.Kept.{AreMembers, bare, by_int, lent, with_kept_member};
+
+use crate::datum::{Content, Datum};
+use crate::member::Member;
+use crate::ranked_map::RankedMap;
+use std::alloc::AllocError;
+use tw_types::{DatumId, Value, ValueRef};
+
+/// The id of a member, with its subscript.
+fn lent<M: Member>(entry: Option<&(Value, M)>) -> Option<(&Value, DatumId)>
+    ensures { option_map lent result ≡ option_map (bare M.id) (option_copied entry.entry) }
+{
+    match entry {
+        Some((subscript, member)) => Some((subscript, member.id())),
+        None => None,
+    }
+}
+
+impl<M: Member> Datum<M> {
+    /// The members of a container.
+    fn members(&self) -> Option<&RankedMap<M>>
+        ensures { AreMembers M.id self.now (option_copied result) }
+    {
+        match &self.content {
+            Content::Contains(members) => Some(members),
+            Content::Unset | Content::Set(_) => None,
+        }
+    }
+
+    /// The number of members; a scalar has none.
+    pub fn len(&self) -> usize
+        ensures { result ≡ map.len (members_in self.now.datum.content) }
+    {
+        match self.members() {
+            Some(members) => members.len(),
+            None => 0,
+        }
+    }
+
+    /// The member with so many smaller subscripts, by its subscript, an integer. A container by texts has none.
+    pub fn member(&self, index: usize) -> Option<(i64, DatumId)>
+        ensures { result ≡ option_and_then by_int (slice_get (map.entries (members_in self.now.datum.content)) index) }
+    {
+        match self.entry(index) {
+            Some((Value::Int(subscript), id)) => Some((*subscript, id)),
+            Some((Value::Text(_), _)) | None => None,
+        }
+    }
+
+    /// The member with so many smaller subscripts, by its subscript, whatever that is.
+    pub fn entry(&self, index: usize) -> Option<(&Value, DatumId)>
+        ensures { option_map lent result ≡ slice_get (map.entries (members_in self.now.datum.content)) index }
+    {
+        match self.members() {
+            Some(members) => lent(members.nth(index)),
+            None => None,
+        }
+    }
+
+    /// The same member, as it is kept.
+    pub fn nth_kept(&self, index: usize) -> Option<&(Value, M)>
+        ensures member { option_map (bare M.id) (option_copied result) ≡ slice_get (map.entries (members_in self.now.datum.content)) index }
+        ensures kept { IfSome (option_copied result) (λ e. map.get self.now.members e.0 ≡ Some e.1) }
+    {
+        match self.members() {
+            Some(members) => members.nth(index),
+            None => None,
+        }
+    }
+
+    /// The subscript with exactly so many smaller ones.
+    pub fn subscript(&self, index: i64) -> Option<&Value>
+        ensures found { option_copied result ≡ subscript_after index (map.keys (members_in self.now.datum.content)) }
+        ensures kinds { AreSubscriptsFor self.now.datum.ty (members_in self.now.datum.content) }
+    {
+        let _ty = &self.ty;
+        self.nth_subscript(index)
+    }
+
+    fn nth_subscript(&self, index: i64) -> Option<&Value>
+        ensures { option_copied result ≡ subscript_after index (map.keys (members_in self.now.datum.content)) }
+    {
+        let Ok(index) = usize::try_from(index) else {
+            return None;
+        };
+        let (subscript, _) = self.nth_kept(index)?;
+        Some(subscript)
+    }
+
+    /// The member at a subscript, as it is kept.
+    pub fn kept_member(&self, subscript: ValueRef<'_>) -> Option<M>
+        ensures member { option_map M.id result ≡ map.get (members_in self.now.datum.content) (named subscript.entry) }
+        ensures kept { result ≡ map.get self.now.members (named subscript.entry) }
+    {
+        match self.members() {
+            Some(members) => members.get(subscript),
+            None => None,
+        }
+    }
+
+    /// The member at a subscript.
+    pub fn member_at(&self, subscript: ValueRef<'_>) -> Option<DatumId>
+        ensures { result ≡ map.get (members_in self.now.datum.content) (named subscript.entry) }
+    {
+        match self.kept_member(subscript) {
+            Some(member) => Some(member.id()),
+            None => None,
+        }
+    }
+
+    /// Puts a member into a container.
+    pub fn add_member(&mut self, subscript: Value, member: M) -> Result<(), AllocError>
+        requires { is_container_by (scalar_of subscript) self.old.datum.ty ≡ true }
+        ensures added { OnOk result (self.new ≡ with_kept_member M.id subscript member self.old) }
+        ensures refused { OnErr result (self.new ≡ self.old) }
+    {
+        match &mut self.content {
+            Content::Contains(members) => members.insert(subscript, member),
+            Content::Unset | Content::Set(_) => unreachable!(),
+        }
+    }
+}
