@@ -3,7 +3,9 @@
 ghost use Rattle.std.specs.Prelude.{◌≡◌, slice_set};
 ghost use Rattle.tw_frame.specs.Drafts.{MaySet};
 
-use crate::errand::Errand;
+use crate::errand::{Did, Errand, NoErrand};
+use crate::job::Lent;
+use crate::rooms::Ahead;
 use std::marker::Model;
 use tw_types::Value;
 
@@ -25,6 +27,22 @@ impl<'a> Model for Draft<'a> {
 }
 
 impl<'a> Draft<'a> {
+    /// For the first job of a task, as it is lent, with what goes with a job.
+    pub(crate) fn first(lent: Lent<'a>, ahead: Ahead<'a>, place: NoErrand<'a>) -> Draft<'a>
+        ensures { result ≡ record { program = lent.entry.program; procedure = lent.entry.procedure; values = lent.entry.position.values } }
+    {
+        let Ahead { after, again } = ahead;
+        let errand = Errand {
+            lent,
+            after,
+            again,
+            did: Did::nothing(),
+        };
+        Draft {
+            errand: place.hold(errand),
+        }
+    }
+
     /// One value replaced by another of its type, which an instruction gives to the register.
     pub fn set(&mut self, register: u8, value: Value)
         requires { MaySet self.old.values register value }

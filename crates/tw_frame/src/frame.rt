@@ -1,28 +1,24 @@
 //! Frames: where a task stands, as the pool keeps it.
 
-ghost use Rattle.std.specs.Prelude.{◌≡◌, ◌<◌, ◌≤◌, ◌+◌, ◌^◌, IsTrue, ◌↔◌, IfErr, IfOk, IsSome, OnErr, OnOk, Some, None, Ok, true, false, [], length, slice_get, slice_set, slice_index_or};
+ghost use Rattle.std.specs.Prelude.{◌≡◌, ◌<◌, ◌+◌, ◌^◌, IsTrue, ◌↔◌, IfErr, IfOk, OnErr, OnOk, Some, Ok, [], length, slice_get};
 ghost use Rattle.tw_types.specs.Value.{IsProper};
 ghost use Rattle.tw_types.specs.ValueOrder.{named};
 ghost use Rattle.tw_code.specs.machine.Position.{at_goal, at_next_place, with_value};
-ghost use Rattle.tw_rights.specs.Bundled.{bundled};
 ghost use Rattle.tw_rights.specs.Filed.{filed, rights_in};
-ghost use Rattle.tw_rights.specs.Kinds.{kind_at};
-ghost use Rattle.tw_rights.specs.Roomy.{IsRoom};
-ghost use Rattle.tw_rights.specs.declared.held.Held.TheVariants.{Read as ReadOf, Write as WriteOf};
 ghost use Rattle.tw_frame.specs.Drafts.{MaySet, StartsAsMachine};
-ghost use Rattle.tw_frame.specs.Jobs.{MayStand, bare_frame, draft_of, job_of};
+ghost use Rattle.tw_frame.specs.Jobs.{AreOf, MayStand, bare_frame, draft_of, job_of, position_of};
 
 use crate::context::Context;
 use crate::draft::Draft;
-use crate::errand::{Did, Errand, NoErrand};
+use crate::errand::{Errand, NoErrand};
 use crate::job::{Done, Job, Lent};
 use crate::loops::Loops;
 use crate::rooms::{Ahead, EmptyFile, Rooms};
 use crate::start::Start;
 use std::alloc::Global;
 use std::marker::Model;
-use tw_rights::{Arg, Bundle, Held, ReadRight, RightFile, Task, WriteRight};
-use tw_types::{Actor, Param, TaskNo, Value, ValueRef};
+use tw_rights::{RightFile, Task};
+use tw_types::{Actor, TaskNo, Value, ValueRef};
 use tw_verify::Verified;
 
 /// A task that runs: where it stands, its rights, and how many instructions it has done. Its job is lent while it stands.
@@ -33,7 +29,7 @@ pub struct Frame<'a> {
     spent: u64,
     own: Box<Context<'a>>,
     /// Its right registers.
-    rights: Box<RightFile>,
+    pub(crate) rights: Box<RightFile>,
     procedure: u8,
     actor: Actor,
 }
@@ -87,7 +83,6 @@ impl<'a> Frame<'a> {
             rights,
         } = start;
         own.stand_at(0, Loops::new());
-        let Ahead { after, again } = ahead;
         let lent = Lent {
             verified,
             task: no,
@@ -96,25 +91,34 @@ impl<'a> Frame<'a> {
             event_no: 0,
             at: lent,
         };
-        let draft = Draft {
-            errand: errand.hold(Errand {
-                lent,
-                after,
-                again,
-                did: Did::nothing(),
-            }),
-        };
-        let frame = Frame {
-            verified,
-            task: no,
-            procedure,
-            actor,
-            event_no: 0,
+        let frame = Frame::of(&lent, own, rights.fill(args));
+        (frame, Draft::first(lent, ahead, errand))
+    }
+
+    /// A task that is lent, with its own context and its rights.
+    fn of(lent: &Lent<'a>, own: Box<Context<'a>>, rights: Box<RightFile>) -> Frame<'a>
+        requires { AreOf lent.now.program.program lent.now.procedure own.value.registers.types }
+        ensures { result ≡ record {
+          program = lent.now.program;
+          task = lent.now.task;
+          procedure = lent.now.procedure;
+          actor = lent.now.actor;
+          event_no = lent.now.event_no;
+          position = position_of own.entry.value;
+          held = rights.value;
+          spent = 0;
+        } }
+    {
+        Frame {
+            verified: lent.verified,
+            task: lent.task,
+            procedure: lent.procedure,
+            actor: lent.actor,
+            event_no: lent.event_no,
             spent: 0,
             own,
-            rights: rights.fill(args),
-        };
-        (frame, draft)
+            rights,
+        }
     }
 
     /// Whether this is the job that was lent last. Numbers and place are compared first, then loops, then values.
@@ -262,71 +266,6 @@ impl<'a> Frame<'a> {
     {
         let place = self.own.place;
         self.go(place + 1 + usize::from(skip));
-    }
-
-    /// The read right of a register, which stays there.
-    pub fn peek_read(&self, register: u8) -> &ReadRight
-        requires { kind_at self.now.held register ≡ Some false }
-        ensures { slice_index_or self.now.held register None ≡ Some (ReadOf result.now) }
-    {
-        self.rights.peek_read(register)
-    }
-
-    /// The write right of a register, which stays there.
-    pub fn peek_write(&self, register: u8) -> &WriteRight
-        requires { kind_at self.now.held register ≡ Some true }
-        ensures { slice_index_or self.now.held register None ≡ Some (WriteOf result.now) }
-    {
-        self.rights.peek_write(register)
-    }
-
-    /// Takes the read right out of a register.
-    pub fn take_read(&mut self, register: u8) -> ReadRight
-        requires { kind_at self.old.held register ≡ Some false }
-        ensures taken { slice_index_or self.old.held register None ≡ Some (ReadOf result) }
-        ensures rest { self.new ≡ record self.old { held = slice_set self.old.held register None } }
-    {
-        self.rights.take_read(register)
-    }
-
-    /// Takes the write right out of a register.
-    pub fn take_write(&mut self, register: u8) -> WriteRight
-        requires { kind_at self.old.held register ≡ Some true }
-        ensures taken { slice_index_or self.old.held register None ≡ Some (WriteOf result) }
-        ensures rest { self.new ≡ record self.old { held = slice_set self.old.held register None } }
-    {
-        self.rights.take_write(register)
-    }
-
-    /// Fills an empty register.
-    pub fn fill(&mut self, register: u8, right: Held)
-        requires in_file { register < 16 }
-        requires empty { slice_index_or self.old.held register None ≡ None }
-        ensures { self.new ≡ record self.old { held = slice_set self.old.held register (Some right) } }
-    {
-        self.rights.place(register, right);
-    }
-
-    /// Hands over arguments, in memory that has room for them, and goes on to the next place.
-    #[inline(always)]
-    pub fn hand_over(
-        &mut self,
-        params: &[Param],
-        args: &[u8],
-        vals: Vec<Value>,
-        room: Vec<Arg>,
-    ) -> Bundle
-        requires few { length params.now ≤ 8 }
-        requires room { IsRoom (length params.now) room }
-        requires fit { IsSome (bundled self.old.held params.now args.now vals.items) }
-        requires place { self.old.position.place < 2 ^ 63 }
-        requires spent { self.old.spent < 2 ^ 63 }
-        ensures handed { bundled self.old.held params.now args.now vals.items ≡ Some (record { args = result; file = self.new.held }) }
-        ensures rest { self.new ≡ record self.old { held = self.new.held; position = at_next_place self.old.position; spent = self.old.spent + 1 } }
-    {
-        let bundle = self.rights.bundle(params, args, vals, room);
-        self.go_on();
-        bundle
     }
 
     /// Spends every right.

@@ -12,7 +12,7 @@ ghost use Rattle.tw_frame.specs.Jobs.{AreOf, IsDone, IsJob, MayStand, position_o
 use crate::context::Context;
 use crate::errand::Errand;
 use crate::loops::Loops;
-use crate::run::run_from;
+use crate::run::{procedure_of, run_from};
 use std::alloc::{AllocError, Global};
 use std::marker::Model;
 use tw_types::{Actor, TaskNo, Value, ValueRef};
@@ -192,9 +192,8 @@ fn run_in<'a>(
     requires { IsJob verified.now.program procedure at.now.registers.types (position_of at.now) }
     ensures { IsRun verified.now.program procedure (position_of at.now) after.new again.new result }
 {
+    let p = procedure_of(verified, procedure);
     let procedure = usize::from(procedure);
-    let procedures = verified.program().procedures();
-    let p = &procedures[procedure];
     if !p.code.as_slice()[at.place].is_local() {
         return Went::Nowhere { short: false };
     }

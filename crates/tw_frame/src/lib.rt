@@ -10,6 +10,7 @@ mod frame;
 mod job;
 mod loops;
 mod registers;
+mod rights;
 mod rooms;
 mod run;
 mod start;

@@ -1,7 +1,6 @@
 //! The loops that a task has begun.
 
 ghost use Rattle.std.specs.Prelude.{◌≡◌, ◌<◌, ◌^◌, ◌∷◌, ◌+◌, [], length, Some, None, IsTrue, ◌↔◌};
-ghost use Rattle.std.specs.Option.{option_map};
 ghost use Rattle.tw_code.specs.machine.Position.{after_end};
 
 use std::marker::Model;

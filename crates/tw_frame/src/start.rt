@@ -12,6 +12,7 @@ use crate::context::Context;
 use crate::errand::NoErrand;
 use crate::registers::Registers;
 use crate::rooms::{Ahead, EmptyFile, Rooms};
+use crate::run::procedure_of;
 use std::alloc::{AllocError, Global};
 use std::marker::Model;
 use tw_rights::{Arg, Bundle, Task};
@@ -83,29 +84,28 @@ fn begin<'a>(
         → started task.now.args p.registers ≡ Ok registers.new.values) }
     ensures texts { OnErr result (HasTexts verified.now.program task.now.procedure) }
 {
-    let procedures = verified.program().procedures();
-    let p = &procedures[usize::from(task.procedure)];
+    let p = procedure_of(verified, task.procedure);
     registers.begin(alloc, p.registers.as_slice())?;
     fill(alloc, registers, &task.args)
 }
 
-/// These values twice: in registers for the frame, and in others for its job.
+/// These values twice: in the frame's registers, and in its job's.
 fn begin_both<'a>(
     alloc: Global,
-    own: &mut Registers<'a>,
-    lent: &mut Registers<'a>,
+    own: &mut Context<'a>,
+    lent: &mut Context<'a>,
     task: &Task,
     verified: &'a Verified,
 ) -> Result<(), AllocError>
     requires { MayStart verified.now.program task.now.procedure task.now.args }
-    ensures same { OnOk result (lent.new ≡ own.new) }
-    ensures types { OnOk result ((p : Procedure) → slice_get verified.now.program task.now.procedure ≡ Some p → own.new.types ≡ p.registers) }
+    ensures same { OnOk result (lent.new.registers ≡ own.new.registers) }
+    ensures types { OnOk result ((p : Procedure) → slice_get verified.now.program task.now.procedure ≡ Some p → own.new.registers.types ≡ p.registers) }
     ensures started { OnOk result ((p : Procedure) → slice_get verified.now.program task.now.procedure ≡ Some p
-        → started task.now.args p.registers ≡ Ok own.new.values) }
+        → started task.now.args p.registers ≡ Ok own.new.registers.values) }
     ensures texts { OnErr result (HasTexts verified.now.program task.now.procedure) }
 {
-    begin(alloc, own, task, verified)?;
-    lent.copy_from(alloc, own)
+    begin(alloc, &mut own.registers, task, verified)?;
+    lent.registers.copy_from(alloc, &own.registers)
 }
 
 impl<'a> Rooms<'a> {
@@ -131,14 +131,7 @@ impl<'a> Rooms<'a> {
             errand,
             rights,
         } = self;
-        let began = begin_both(
-            alloc,
-            &mut own.registers,
-            &mut lent.registers,
-            task,
-            verified,
-        );
-        match began {
+        match begin_both(alloc, &mut own, &mut lent, task, verified) {
             Ok(()) => Ok(Start {
                 verified,
                 procedure: task.procedure,

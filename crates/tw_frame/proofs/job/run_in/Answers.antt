@@ -13,71 +13,71 @@ use Rattle.tw_frame.proofs.job.run_in.Goals as goal
 
 pub offset_bounds-as_slice-at : goal.offset_bounds-as_slice-at
 offset_bounds-as_slice-at c =
-    let k = known c.args.verified.now c.from-procedure.result c.args.procedure c.from-procedure.ensures c.args.at.now.registers.types (position_of c.args.at.now) c.requires c.program.result.now.procedures c.procedures-procedures.result.now c.index-procedures-procedure.result c.program.ensures.is c.procedures-procedures.ensures.is c.procedures-procedures.ensures.within c.program.ensures.right c.index-procedures-procedure.is in
+    let k = known c.args.verified.now c.args.procedure c.args.at.now.registers.types (position_of c.args.at.now) c.requires c.procedure_of-p.result.now c.procedure_of-p.ensures.is c.procedure_of-p.ensures.accepted in
     omega (arith, k.place_in, k.few_places)
 
 pub bounds-as_slice-at : goal.bounds-as_slice-at
 bounds-as_slice-at c =
-    let k = known c.args.verified.now c.from-procedure.result c.args.procedure c.from-procedure.ensures c.args.at.now.registers.types (position_of c.args.at.now) c.requires c.program.result.now.procedures c.procedures-procedures.result.now c.index-procedures-procedure.result c.program.ensures.is c.procedures-procedures.ensures.is c.procedures-procedures.ensures.within c.program.ensures.right c.index-procedures-procedure.is in
+    let k = known c.args.verified.now c.args.procedure c.args.at.now.registers.types (position_of c.args.at.now) c.requires c.procedure_of-p.result.now c.procedure_of-p.ensures.is c.procedure_of-p.ensures.accepted in
     subst (λ (code : List Instr). c.args.at.now.place < length code) (sym c.as_slice.ensures) k.place_in
 
 pub returns-then-not-is_local : goal.returns-then-not-is_local
 returns-then-not-is_local c =
-    let k = known c.args.verified.now c.from-procedure.result c.args.procedure c.from-procedure.ensures c.args.at.now.registers.types (position_of c.args.at.now) c.requires c.program.result.now.procedures c.procedures-procedures.result.now c.index-procedures-procedure.result c.program.ensures.is c.procedures-procedures.ensures.is c.procedures-procedures.ensures.within c.program.ensures.right c.index-procedures-procedure.is in
-    done_before c.args.verified.now c.args.procedure c.args.at.now.registers.types (position_of c.args.at.now) c.index-procedures-procedure.result k c.index-as_slice-at.result (there c.args.verified.now c.args.procedure c.args.at.now.registers.types (position_of c.args.at.now) c.index-procedures-procedure.result k c.as_slice.result.now c.index-as_slice-at.result c.as_slice.ensures c.index-as_slice-at.is) (sym c.is_local.ensures ∙ c.if-not-is_local.true)
+    let k = known c.args.verified.now c.args.procedure c.args.at.now.registers.types (position_of c.args.at.now) c.requires c.procedure_of-p.result.now c.procedure_of-p.ensures.is c.procedure_of-p.ensures.accepted in
+    done_before c.args.verified.now c.args.procedure c.args.at.now.registers.types (position_of c.args.at.now) c.procedure_of-p.result.now k c.index-as_slice-at.result (there c.args.verified.now c.args.procedure c.args.at.now.registers.types (position_of c.args.at.now) c.procedure_of-p.result.now k c.as_slice.result.now c.index-as_slice-at.result c.as_slice.ensures c.index-as_slice-at.is) (sym c.is_local.ensures ∙ c.if-not-is_local.true)
 
 pub returns-in_default : goal.returns-in_default
 returns-in_default c =
-    let k = known c.args.verified.now c.from-procedure.result c.args.procedure c.from-procedure.ensures c.args.at.now.registers.types (position_of c.args.at.now) c.requires c.program.result.now.procedures c.procedures-procedures.result.now c.index-procedures-procedure.result c.program.ensures.is c.procedures-procedures.ensures.is c.procedures-procedures.ensures.within c.program.ensures.right c.index-procedures-procedure.is in
-    short_before c.args.verified.now c.args.procedure c.args.at.now.registers.types (position_of c.args.at.now) c.index-procedures-procedure.result k c.index-as_slice-at.result (there c.args.verified.now c.args.procedure c.args.at.now.registers.types (position_of c.args.at.now) c.index-procedures-procedure.result k c.as_slice.result.now c.index-as_slice-at.result c.as_slice.ensures c.index-as_slice-at.is) (sym c.is_local.ensures ∙ c.if-not-is_local.false) c.in_default.ensures.texts
+    let k = known c.args.verified.now c.args.procedure c.args.at.now.registers.types (position_of c.args.at.now) c.requires c.procedure_of-p.result.now c.procedure_of-p.ensures.is c.procedure_of-p.ensures.accepted in
+    short_before c.args.verified.now c.args.procedure c.args.at.now.registers.types (position_of c.args.at.now) c.procedure_of-p.result.now k c.index-as_slice-at.result (there c.args.verified.now c.args.procedure c.args.at.now.registers.types (position_of c.args.at.now) c.procedure_of-p.result.now k c.as_slice.result.now c.index-as_slice-at.result c.as_slice.ensures c.index-as_slice-at.is) (sym c.is_local.ensures ∙ c.if-not-is_local.false) c.in_default.ensures.texts
 
 pub quick-requires : goal.quick-requires
 quick-requires c =
-    let k = known c.args.verified.now c.from-procedure.result c.args.procedure c.from-procedure.ensures c.args.at.now.registers.types (position_of c.args.at.now) c.requires c.program.result.now.procedures c.procedures-procedures.result.now c.index-procedures-procedure.result c.program.ensures.is c.procedures-procedures.ensures.is c.procedures-procedures.ensures.within c.program.ensures.right c.index-procedures-procedure.is in
+    let k = known c.args.verified.now c.args.procedure c.args.at.now.registers.types (position_of c.args.at.now) c.requires c.procedure_of-p.result.now c.procedure_of-p.ensures.is c.procedure_of-p.ensures.accepted in
     omega (arith, c.from-procedure.ensures, k.in_program)
 
 pub budget-requires : goal.budget-requires
 budget-requires c =
-    let k = known c.args.verified.now c.from-procedure.result c.args.procedure c.from-procedure.ensures c.args.at.now.registers.types (position_of c.args.at.now) c.requires c.program.result.now.procedures c.procedures-procedures.result.now c.index-procedures-procedure.result c.program.ensures.is c.procedures-procedures.ensures.is c.procedures-procedures.ensures.within c.program.ensures.right c.index-procedures-procedure.is in
+    let k = known c.args.verified.now c.args.procedure c.args.at.now.registers.types (position_of c.args.at.now) c.requires c.procedure_of-p.result.now c.procedure_of-p.ensures.is c.procedure_of-p.ensures.accepted in
     omega (arith, c.from-procedure.ensures, k.in_program)
 
 pub run_from-ran-requires-clause-ready : goal.run_from-ran-requires-clause-ready
 run_from-ran-requires-clause-ready c =
-    let k = known c.args.verified.now c.from-procedure.result c.args.procedure c.from-procedure.ensures c.args.at.now.registers.types (position_of c.args.at.now) c.requires c.program.result.now.procedures c.procedures-procedures.result.now c.index-procedures-procedure.result c.program.ensures.is c.procedures-procedures.ensures.is c.procedures-procedures.ensures.within c.program.ensures.right c.index-procedures-procedure.is in
-    ready c.args.verified.now c.args.procedure c.args.at.now.registers.types (position_of c.args.at.now) c.index-procedures-procedure.result k c.from-procedure.result c.from-procedure.ensures c.quick.result.now c.budget.result c.quick.ensures c.budget.ensures.is
+    let k = known c.args.verified.now c.args.procedure c.args.at.now.registers.types (position_of c.args.at.now) c.requires c.procedure_of-p.result.now c.procedure_of-p.ensures.is c.procedure_of-p.ensures.accepted in
+    ready c.args.verified.now c.args.procedure c.args.at.now.registers.types (position_of c.args.at.now) c.procedure_of-p.result.now k c.from-procedure.result c.from-procedure.ensures c.quick.result.now c.budget.result c.quick.ensures c.budget.ensures.is
 
 pub run_from-ran-requires-clause-typed : goal.run_from-ran-requires-clause-typed
 run_from-ran-requires-clause-typed c =
-    let k = known c.args.verified.now c.from-procedure.result c.args.procedure c.from-procedure.ensures c.args.at.now.registers.types (position_of c.args.at.now) c.requires c.program.result.now.procedures c.procedures-procedures.result.now c.index-procedures-procedure.result c.program.ensures.is c.procedures-procedures.ensures.is c.procedures-procedures.ensures.within c.program.ensures.right c.index-procedures-procedure.is in
+    let k = known c.args.verified.now c.args.procedure c.args.at.now.registers.types (position_of c.args.at.now) c.requires c.procedure_of-p.result.now c.procedure_of-p.ensures.is c.procedure_of-p.ensures.accepted in
     ap (λ (x : Context). x.registers.types) c.in-Ok.ensures.copy ∙ k.typed
 
 pub run_from-ran-requires-clause-stands : goal.run_from-ran-requires-clause-stands
 run_from-ran-requires-clause-stands c =
-    let k = known c.args.verified.now c.from-procedure.result c.args.procedure c.from-procedure.ensures c.args.at.now.registers.types (position_of c.args.at.now) c.requires c.program.result.now.procedures c.procedures-procedures.result.now c.index-procedures-procedure.result c.program.ensures.is c.procedures-procedures.ensures.is c.procedures-procedures.ensures.within c.program.ensures.right c.index-procedures-procedure.is in
+    let k = known c.args.verified.now c.args.procedure c.args.at.now.registers.types (position_of c.args.at.now) c.requires c.procedure_of-p.result.now c.procedure_of-p.ensures.is c.procedure_of-p.ensures.accepted in
     rw c.in-Ok.ensures.copy k.stands
 
 pub returns-in_default-copy_from : goal.returns-in_default-copy_from
 returns-in_default-copy_from c =
-    let k = known c.args.verified.now c.from-procedure.result c.args.procedure c.from-procedure.ensures c.args.at.now.registers.types (position_of c.args.at.now) c.requires c.program.result.now.procedures c.procedures-procedures.result.now c.index-procedures-procedure.result c.program.ensures.is c.procedures-procedures.ensures.is c.procedures-procedures.ensures.within c.program.ensures.right c.index-procedures-procedure.is in
-    short_before c.args.verified.now c.args.procedure c.args.at.now.registers.types (position_of c.args.at.now) c.index-procedures-procedure.result k c.index-as_slice-at.result (there c.args.verified.now c.args.procedure c.args.at.now.registers.types (position_of c.args.at.now) c.index-procedures-procedure.result k c.as_slice.result.now c.index-as_slice-at.result c.as_slice.ensures c.index-as_slice-at.is) (sym c.is_local.ensures ∙ c.if-not-is_local.false)
+    let k = known c.args.verified.now c.args.procedure c.args.at.now.registers.types (position_of c.args.at.now) c.requires c.procedure_of-p.result.now c.procedure_of-p.ensures.is c.procedure_of-p.ensures.accepted in
+    short_before c.args.verified.now c.args.procedure c.args.at.now.registers.types (position_of c.args.at.now) c.procedure_of-p.result.now k c.index-as_slice-at.result (there c.args.verified.now c.args.procedure c.args.at.now.registers.types (position_of c.args.at.now) c.procedure_of-p.result.now k c.as_slice.result.now c.index-as_slice-at.result c.as_slice.ensures c.index-as_slice-at.is) (sym c.is_local.ensures ∙ c.if-not-is_local.false)
     (subst (λ (ts : List Scalar). HasText ts) (c.run_from-ran.ensures.typed ∙ sym k.typed) c.in_default-copy_from.ensures.texts)
 
 pub returns : goal.returns
 returns c =
-    let k = known c.args.verified.now c.from-procedure.result c.args.procedure c.from-procedure.ensures c.args.at.now.registers.types (position_of c.args.at.now) c.requires c.program.result.now.procedures c.procedures-procedures.result.now c.index-procedures-procedure.result c.program.ensures.is c.procedures-procedures.ensures.is c.procedures-procedures.ensures.within c.program.ensures.right c.index-procedures-procedure.is in
+    let k = known c.args.verified.now c.args.procedure c.args.at.now.registers.types (position_of c.args.at.now) c.requires c.procedure_of-p.result.now c.procedure_of-p.ensures.is c.procedure_of-p.ensures.accepted in
     let came : Position = standing c.run_from-ran.result.place c.run_from-ran.new.registers c.run_from-ran.new.loops in
-    let reached : IsReached c.index-procedures-procedure.result (position_of c.args.at.now) c.run_from-ran.result.steps came =
-    subst (λ (x : Context). IsReached c.index-procedures-procedure.result (standing c.args.at.now.place x.registers x.loops) c.run_from-ran.result.steps came) c.in-Ok.ensures.copy c.run_from-ran.ensures.reached in
-    let below = is_below c.index-procedures-procedure.result c.quick.result.now c.budget.result (ready c.args.verified.now c.args.procedure c.args.at.now.registers.types (position_of c.args.at.now) c.index-procedures-procedure.result k c.from-procedure.result c.from-procedure.ensures c.quick.result.now c.budget.result c.quick.ensures c.budget.ensures.is) (position_of c.args.at.now) c.run_from-ran.result.steps came reached in (
+    let reached : IsReached c.procedure_of-p.result.now (position_of c.args.at.now) c.run_from-ran.result.steps came =
+    subst (λ (x : Context). IsReached c.procedure_of-p.result.now (standing c.args.at.now.place x.registers x.loops) c.run_from-ran.result.steps came) c.in-Ok.ensures.copy c.run_from-ran.ensures.reached in
+    let below = is_below c.procedure_of-p.result.now c.quick.result.now c.budget.result (ready c.args.verified.now c.args.procedure c.args.at.now.registers.types (position_of c.args.at.now) c.procedure_of-p.result.now k c.from-procedure.result c.from-procedure.ensures c.quick.result.now c.budget.result c.quick.ensures c.budget.ensures.is) (position_of c.args.at.now) c.run_from-ran.result.steps came reached in (
       record {
-        p = c.index-procedures-procedure.result;
+        p = c.procedure_of-p.result.now;
         here = k.here;
         reached = reached;
         stops = c.run_from-ran.ensures.stops;
         few = omega (arith, below, c.budget.ensures.within);
       },
       λ q there. record {
-        typed = c.run_from-ran.ensures.typed ∙ done_run c.args.verified.now c.args.procedure c.args.at.now.registers.types (position_of c.args.at.now) c.index-procedures-procedure.result k q there;
+        typed = c.run_from-ran.ensures.typed ∙ done_run c.args.verified.now c.args.procedure c.args.at.now.registers.types (position_of c.args.at.now) c.procedure_of-p.result.now k q there;
         same = ap (λ (x : Context). x.registers) c.in-Ok-copy_from.ensures.copy;
       },
     )

@@ -1,7 +1,6 @@
-use Rattle.std.proofs.Common.{Some, ap, sym, ◌∙◌}
+use Rattle.std.proofs.Common.{ap, sym, ◌∙◌, List}
 use Rattle.tw_frame.specs.declared.context.Context.{Context}
 use Rattle.tw_code.specs.machine.Position.{Loop}
-use Rattle.std.proofs.Common.{List}
 use Rattle.tw_frame.specs.Errands.{draft_in}
 use Rattle.tw_frame.specs.Jobs.{FrameView, JobView, position_of}
 use Rattle.tw_frame.proofs.Lending.{sent}

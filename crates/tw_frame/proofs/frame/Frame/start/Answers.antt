@@ -2,12 +2,13 @@ use Rattle.std.proofs.Common.{◌≡◌, ◌∙◌, Ok, ap, subst, sym}
 use Rattle.tw_code.specs.machine.State.{frame_of}
 use Rattle.tw_rights.specs.Bare.{bare_file}
 use Rattle.tw_frame.specs.declared.context.Context.{Context}
-use Rattle.tw_frame.specs.Jobs.{DraftView, position_of}
+use Rattle.tw_frame.specs.Jobs.{DraftView, FrameView, bare_frame, position_of}
 use Rattle.tw_frame.proofs.Frames.{frame_made}
 use Rattle.tw_frame.proofs.frame.Frame.start.Goals as goal
 
 pub returns-clause-machine : goal.returns-clause-machine
 returns-clause-machine c task p same are here starts =
-    subst (λ (x : Context). frame_of c.args.verified.now.program c.args.task.no task ≡ Ok (record { task = c.args.task.no; procedure = c.args.task.procedure; position = position_of x; rights = bare_file c.fill.result.value; spent = 0 })) (sym c.stand_at.ensures)
+    subst (λ (f : FrameView). frame_of c.args.verified.now.program c.args.task.no task ≡ Ok (bare_frame f)) (sym c.of-frame.ensures)
+    (subst (λ (x : Context). frame_of c.args.verified.now.program c.args.task.no task ≡ Ok (record { task = c.args.task.no; procedure = c.args.task.procedure; position = position_of x; rights = bare_file c.fill.result.value; spent = 0 })) (sym c.stand_at.ensures)
     (frame_made c.args.verified.now.program c.args.task.no c.args.task.procedure task p c.args.start.values c.deref_mut.result.now.registers.values c.args.task.args c.fill.result.value c.new.result same are here starts
-    (ap (λ (x : Context). x.registers.values) c.deref_mut.ensures.value ∙ ap (λ (d : DraftView). d.values) c.start.view_is) c.fill.ensures c.new.ensures)
+    (ap (λ (x : Context). x.registers.values) c.deref_mut.ensures.value ∙ ap (λ (d : DraftView). d.values) c.start.view_is) c.fill.ensures c.new.ensures))
