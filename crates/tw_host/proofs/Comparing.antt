@@ -1,6 +1,6 @@
 -- The seats of a layout beside a history of which each event is looked at once.
 use Rattle.std.proofs.Common.{◌≡◌, ◌≢◌, ◌==◌, ◌≤◌, ◌<◌, ◌+◌, ◌-◌, ℕ, Bool, true, false, Option, Some, None, ◌⊎◌, inl, inr, drop, set, option_map, List, [], ◌∷◌, length, map, nat_lt, refl, sym, ap, subst, ◌∙◌, arith, get_or}
-use Rattle.std.specs.Prelude.{◌↔◌, MatchOption, slice_get}
+use Rattle.std.specs.Prelude.{◌↔◌, IfSome, MatchOption, slice_get}
 use Rattle.std.specs.List.{All, range_with_len}
 use Rattle.std.proofs.lemmas.Bool.{eqb-true, eqb-false, ltb-true}
 use Rattle.std.proofs.lemmas.Bool.Decides.{nat_tests}
@@ -76,11 +76,13 @@ pub match_by : {A B : Type 0} {P Q : ℕ → Type 0} (o : Option ℕ) → (A →
 match_by None f g is = f is
 match_by (Some j) f g is = g j is
 
-pub match_none : {Y : Type 0} (A : Type 0) (P : Y → Type 0) (o : Option Y) → o ≡ None → MatchOption o A P → A
-match_none A P o is m = subst (λ x. MatchOption x A P) is m
+pub some_if : (A : Type 0) {P Q : ℕ → Type 0} (o : Option ℕ) → MatchOption o A P → ((k : ℕ) → P k → Q k) → IfSome o Q
+some_if A None m f = tt
+some_if A (Some k) m f = f k m
 
-pub match_some : {Y : Type 0} (A : Type 0) (P : Y → Type 0) (o : Option Y) (y : Y) → o ≡ Some y → MatchOption o A P → P y
-match_some A P o y is m = subst (λ x. MatchOption x A P) is m
+pub either_way : {A B : Type 0} {P Q : ℕ → Type 0} (C : Type 0) (o : Option ℕ) → MatchOption o A P → MatchOption o B Q → (A → B → C) → ((k : ℕ) → P k → Q k → C) → C
+either_way C None m n f g = f m n
+either_way C (Some k) m n f g = g k m n
 
 module _ (layout : ActorCounts) (history : List Event) (lists : List (List Event)) where
   abbrev Of : ℕ → ℕ → ℕ → Type 0

@@ -1,6 +1,7 @@
 -- What turns under one hold of the lock say to a seat.
 use Rattle.std.proofs.Common.{◌≡◌, ◌+◌, ◌*◌, ◌<◌, ◌≤◌, ℕ, zero, suc, Bool, true, false, not, refl, sym, ap, subst, ◌∙◌, arith, List, [], ◌∷◌, ◌++◌, append_assoc, length, length-append, slice_get, Option, Some, None, Result, Ok, Err, drop, ◌⊎◌, inl, inr}
 use Rattle.std.specs.Prelude.{is_some}
+use Rattle.std.proofs.lemmas.List.{drop_at}
 use Rattle.std.proofs.lemmas.List.Elements.{filter-append}
 use Rattle.std.proofs.lemmas.Option.{same_Some}
 use Rattle.tw_types.specs.declared.actor.Actor.{Actor}
@@ -105,7 +106,7 @@ module _ (old new : PoolView) (actor : Actor) (answer : Turn) (count : ℕ) (a :
   grown = ap (λ (p : PoolView). p.history) a.appended
 
   news_are : drop (length old.history) new.history ≡ a.es
-  news_are = rw grown (turning.behind old.history a.es)
+  news_are = rw grown (drop_at old.history a.es _ refl)
 
   pub longer : length new.history ≡ length old.history + length a.es
   longer = ap length grown ∙ length-append old.history a.es

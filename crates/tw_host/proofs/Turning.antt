@@ -11,10 +11,6 @@ use Rattle.tw_host.proofs.Fitting.{fits}
 use Rattle.tw_host.proofs.Owning.{is_answer_of}
 
 -- the events behind the old ones are those that were appended
-pub behind : {X : Type 0} (xs ys : List X) → drop (length xs) (xs ++ ys) ≡ ys
-behind [] ys = refl
-behind (x ∷ xs) ys = behind xs ys
-
 module _ (old new : PoolView) (actor : Actor) (given : Option DoneView) (answer : Turn) (turn : IsTurn old actor given answer new) where
   pub own : AreOwn actor turn.events
   own = own_events old turn.state actor answer turn.events (closing_at old turn.state) given turn.is

@@ -1,6 +1,6 @@
 //! The end of a run.
 
-ghost use Rattle.std.specs.Prelude.{◌≡◌, ◌≢◌, ◌↔◌, ◌+◌, ◌<◌, ◌≤◌, [], ℕ, IsTrue, MatchOption, get_or, length, map, slice_get, slice_index_or, sum_by, vec_len, vec_capacity};
+ghost use Rattle.std.specs.Prelude.{◌≡◌, ◌≢◌, ◌↔◌, ◌+◌, ◌<◌, ◌≤◌, [], ℕ, IfSome, IsTrue, MatchOption, get_or, length, map, slice_get, slice_index_or, sum_by, vec_len, vec_capacity};
 ghost use Rattle.std.specs.List.{All};
 ghost use Rattle.std.specs.List.Sorted.{IsPermutation};
 ghost use Rattle.tw_types.specs.declared.actor.Actor.{Actor as AnActor};
@@ -166,6 +166,17 @@ fn settle<N: Named>(
     by_seat
 }
 
+/// What the seat at a place was told; nothing, where there is no place.
+fn told_at(mut by_seat: Vec<Events>, place: Option<usize>) -> Events
+    requires { IfSome place (λ k. k < vec_len by_seat) }
+    ensures { MatchOption place (result.items ≡ []) (λ k. result ≡ slice_index_or by_seat.items k result) }
+{
+    match place {
+        Some(seat) => by_seat.swap_remove(seat),
+        None => Events::new(*by_seat.allocator()),
+    }
+}
+
 impl<'a, N: Named> Locked<'a, N> {
     fn close(self, mut seats: Vec<Seat<N>>, by_seat: Vec<Events>) -> Closed
         requires all { vec_len seats ≡ actor_count N.run.layout }
@@ -179,8 +190,7 @@ impl<'a, N: Named> Locked<'a, N> {
             mut spare,
         } = self;
         let other = first_other(seats.as_mut_slice(), pool.layout(), pool.history());
-        let nothing = Events::new(*by_seat.allocator());
-        let mut by_seat = settle(seats, by_seat, &mut spare);
+        let by_seat = settle(seats, by_seat, &mut spare);
         book.audit(&mut spare);
         let (outcome, history) = pool.shut();
         match other {
@@ -189,17 +199,10 @@ impl<'a, N: Named> Locked<'a, N> {
                 outcome,
                 by_seat,
             },
-            Some((actor, seat)) => match seat {
-                None => Closed::Differs {
-                    actor,
-                    told: nothing,
-                    history,
-                },
-                Some(seat) => Closed::Differs {
-                    actor,
-                    told: by_seat.swap_remove(seat),
-                    history,
-                },
+            Some((actor, seat)) => Closed::Differs {
+                actor,
+                told: told_at(by_seat, seat),
+                history,
             },
         }
     }

@@ -1,6 +1,6 @@
 -- RULE and PUT: what is asked of their parts, where a task stands at one behind a Done.
-use Rattle.std.proofs.Common.{map as each, ◌≡◌, ◌≤◌, ◌<◌, ◌+◌, ◌^◌, ◌∙◌, ℕ, List, Option, Some, None, IsSome, true, sym, ap, subst, length, slice_get, arith}
-use Rattle.tw_parts.proofs.PartNames.{Action, Actor, DoneView, FrameView, HasSeat, Held, IsInstr, IsOwed, IsProcedure, IsProgram, Param, Parts, Procedure, StandsAt, Value, bare_frame, come, context_of, get, job_of, named_values, same_Some, state_of, values_suit, with_done}
+use Rattle.std.proofs.Common.{map as each, ◌≡◌, ◌≤◌, ◌<◌, ◌+◌, ◌^◌, ◌∙◌, ℕ, List, Option, Some, None, IsSome, sym, ap, subst, length, slice_get, arith}
+use Rattle.tw_parts.proofs.PartNames.{Action, Actor, DoneView, FrameView, HasSeat, Held, IsInstr, IsOwed, IsProcedure, IsProgram, Param, Parts, Procedure, StandsAt, Value, bare_frame, come, context_of, get, job_of, named_values, same_Some, state_of, with_done}
 use Rattle.tw_rights.specs.Bundled.{Bundled, bundled}
 use Rattle.tw_queue.specs.Queues as queues
 use Rattle.tw_code.specs.declared.instr.Instr.{Instr}
@@ -11,6 +11,9 @@ use Rattle.tw_parts.proofs.Handovers.{few_params, low_place, may_bundle}
 use Rattle.tw_parts.proofs.Law.{runner_has_seat}
 use Rattle.tw_parts.proofs.Naming.{IsNamed}
 use Rattle.tw_parts.proofs.Seating.{get_own}
+
+pub so_valued : (values : List Value) (params wanted : List Param) → params ≡ wanted → (named : List ℕ) (vals : List Value) → each Some vals ≡ named_values values params named → each Some vals ≡ named_values values wanted named
+so_valued values params wanted p named vals is = is ∙ ap (λ ps. named_values values ps named) p
 
 module _ (old : Parts) (actor : Actor) (done : DoneView) (instr : Instr) (s : StandsAt old actor done instr) where
   abbrev pub there : Parts
@@ -30,19 +33,10 @@ module _ (old : Parts) (actor : Actor) (done : DoneView) (instr : Instr) (s : St
 
   module _ (action : Action) (u : IsNamed done.before.program.program s.q.kind (context_of (state_of there s.notices) (bare_frame (come s.f done))) action s.f.held)
       (params : List Param) (params_is : params ≡ u.procedure.params) (registers : List ℕ) (registers_is : registers ≡ action.args) where
-    pub long : length registers ≡ length params
-    long = ap length registers_is ∙ u.long ∙ ap length (sym params_is)
-
-    pub suit : values_suit done.after.values params registers ≡ true
-    suit = ap (λ ps. values_suit done.after.values ps registers) params_is ∙ ap (values_suit done.after.values u.procedure.params) registers_is ∙ u.values
-
     pub few : length params ≤ 8
     few = let low = few_params done.before.program.program s.parts.runnable.is action.procedure u.procedure u.is in omega (arith, low, ap length params_is)
 
-    pub so_named : (vals : List Value) → each Some vals ≡ named_values done.after.values params registers → each Some vals ≡ named_values done.after.values u.procedure.params action.args
-    so_named vals are = are ∙ ap (λ ps. named_values done.after.values ps registers) params_is ∙ ap (named_values done.after.values u.procedure.params) registers_is
-
-    pub sits_ready : (vals : List Value) → each Some vals ≡ named_values done.after.values params registers
+    pub sits_ready : (vals : List Value) → each Some vals ≡ named_values done.after.values params action.args
         → (x : FrameView) × (get old.seats actor ≡ Some x) × (done.before ≡ job_of x) × (x.spent + done.steps < 2 ^ 63) × (done.after.place < 2 ^ 63) × IsSome (bundled x.held params registers vals)
     sits_ready vals are = (
       s.f,
@@ -51,7 +45,7 @@ module _ (old : Parts) (actor : Actor) (done : DoneView) (instr : Instr) (s : St
       spent_there,
       place_there,
       subst (λ ps. IsSome (bundled s.f.held ps registers vals)) (sym params_is) (subst (λ rs. IsSome (bundled s.f.held u.procedure.params rs vals)) (sym registers_is)
-          (may_bundle done.before.program s.layout there s.notices s.parts actor (come s.f done) s.q action runs_there u vals (so_named vals are))),
+          (may_bundle done.before.program s.layout there s.notices s.parts actor (come s.f done) s.q action runs_there u vals (so_valued done.after.values params u.procedure.params params_is action.args vals are))),
     )
 
 -- ---- when it was done
@@ -67,13 +61,12 @@ module _ (old : Parts) (actor : Actor) (done : DoneView) (instr : Instr) (s : St
   pub runs_too : get (with_done old actor f done).seats actor ≡ Some (come f done)
   runs_too = get_own old.seats actor (come f done)
 
-module _ (program : List Procedure) (procedures : List Procedure) (procedures_are : procedures ≡ program) (number : ℕ) (callee : Procedure) (found : slice_get procedures number ≡ Some callee)
-    (procedure : Procedure) (is : slice_get program number ≡ Some procedure) where
-  pub same_callee : callee ≡ procedure
-  same_callee = same_Some callee procedure (sym found ∙ ap (λ ps. slice_get ps number) procedures_are ∙ is)
+module _ (program : List Procedure) (number : ℕ) (callee : Procedure) (found : slice_get program number ≡ Some callee) (procedure : Procedure) (is : slice_get program number ≡ Some procedure) where
+  same_callee : callee ≡ procedure
+  same_callee = same_Some callee procedure (sym found ∙ is)
 
-  pub params_of_callee : (params : List Param) → params ≡ callee.params → params ≡ procedure.params
-  params_of_callee params are = are ∙ ap (λ (p : Procedure). p.params) same_callee
+  pub params_of_callee : callee.params ≡ procedure.params
+  params_of_callee = ap (λ (p : Procedure). p.params) same_callee
 
   pub kind_of_callee : callee.kind ≡ procedure.kind
   kind_of_callee = ap (λ (p : Procedure). p.kind) same_callee
@@ -81,9 +74,6 @@ module _ (program : List Procedure) (procedures : List Procedure) (procedures_ar
 -- the words of the registers are those of the action
 pub so_bundled : (held : List (Option Held)) (params wanted : List Param) → params ≡ wanted → (registers named : List ℕ) → registers ≡ named → (vals : List Value) (o : Option Bundled) → bundled held params registers vals ≡ o → bundled held wanted named vals ≡ o
 so_bundled held params wanted p registers named r vals o is = ap (λ ps. bundled held ps named vals) (sym p) ∙ ap (λ rs. bundled held params rs vals) (sym r) ∙ is
-
-pub so_valued : (values : List Value) (params wanted : List Param) → params ≡ wanted → (registers named : List ℕ) → registers ≡ named → (vals : List Value) → each Some vals ≡ named_values values params registers → each Some vals ≡ named_values values wanted named
-so_valued values params wanted p registers named r vals is = is ∙ ap (λ ps. named_values values ps registers) p ∙ ap (named_values values wanted) r
 
 -- the target of an action is one that the queues have
 pub in_queue : (o : Option ℕ) → format.IsTarget o → queues.IsTarget o

@@ -10,7 +10,6 @@ use Rattle.tw_no_trap.proofs.Asked.{Noted, noted}
 use Rattle.tw_parts.proofs.Law.{goes_to, held}
 use Rattle.tw_parts.proofs.Fitting.{Behind, behind, stand_staged}
 use Rattle.tw_parts.proofs.Notes as notes
-use Rattle.tw_parts.proofs.Notes.{IsFirst}
 
 -- ---- rules at a stage
 

@@ -1,7 +1,7 @@
 -- What an instruction leaves, by what became of the right registers: one was emptied, one was filled, or none changed.
 use Rattle.tw_parts.proofs.PartNames.{AllYes, Cause, Completed, Context, Datum, FrameView, Held, IsAt, IsDone, IsLeft, IsLive, IsTold, Notice, Notices, Ok, Position, Result, Scalar, Served, Typing, after_data, asks_data, at_next_place, bare_file, data_instr, get, id_of, is_closed, kinds_in, map-set, notice_to, notices_after, notices_of, queued, right_in, same_Some, sees, with_notices, writes as typed_writes}
 use Rattle.tw_parts.proofs.Registers.{set_own}
-use Rattle.std.proofs.Common.{map as each, ◌≡◌, ◌⊎◌, ◌+◌, ◌∙◌, ℕ, zero, suc, Bool, true, false, if◌then◌else◌, List, [], ◌∷◌, ◌++◌, Some, None, refl, sym, ap, subst, slice_index_or, slice_set, set, option_map, inl, inr}
+use Rattle.std.proofs.Common.{map as each, ◌≡◌, ◌⊎◌, ◌+◌, ◌∙◌, ℕ, zero, suc, Bool, true, false, if◌then◌else◌, List, [], ◌∷◌, ◌++◌, Some, None, refl, sym, ap, subst, slice_index_or, slice_set, set, option_map, inl, inr, append-nil}
 use Rattle.tw_rights.specs.Kinds.{kinds_of, writes}
 use Rattle.tw_code.specs.declared.flow.Way.{Way}
 use Rattle.tw_code.specs.declared.instr.DataInstr.{DataInstr}
@@ -89,13 +89,9 @@ module _ (d : DataInstr) (old new : Served) (f : FrameView) (more : List Notice)
 
 -- ---- what is told
 
-no_more : (xs : List Notice) → xs ++ [] ≡ xs
-no_more [] = refl
-no_more (x ∷ xs) = ap (λ ys. x ∷ ys) (no_more xs)
-
 queued_none : (queues : List (List Notice)) (k : ℕ) → slice_set queues k (slice_index_or queues k [] ++ []) ≡ queues
 queued_none [] k = refl
-queued_none (q ∷ queues) zero = ap (λ p. p ∷ queues) (no_more q)
+queued_none (q ∷ queues) zero = ap (λ p. p ∷ queues) (append-nil q)
 queued_none (q ∷ queues) (suc k) = ap (λ qs. q ∷ qs) (queued_none queues k)
 
 module _ (old new : Served) (id : ℕ) (change : Datum → Datum) (left : IsLeft old new id change) (x : Datum) (live : get old.store.live id ≡ Some x) (same : (change x).subscribers ≡ x.subscribers) where

@@ -1,14 +1,24 @@
 //! What RULE and PUT have in common.
 
-ghost use Rattle.std.specs.Prelude.{◌≡◌, ℤ, IfOk, Ok, Some, true, length, map as each};
+ghost use Rattle.std.specs.Prelude.{◌≡◌, ℤ, IfOk, Ok, Some, true, length, map as each, slice_get};
+ghost use Rattle.tw_code.specs.declared.procedure.Procedure.{Procedure as Callee};
 ghost use Rattle.tw_code.specs.machine.Arguments.{priority_at, values_suit};
 ghost use Rattle.tw_parts.specs.Copies.{named_values};
 
 use crate::data::give::number_at;
+use crate::release::procedure_at;
 use std::alloc::{AllocError, Global};
-use tw_code::Priority;
+use tw_code::{Action, Priority, Procedure};
 use tw_frame::Done;
 use tw_types::{Param, Value};
+
+/// What an action asks for, as far as the Done came: the procedure that it names, its priority, and copies of the values.
+#[derive(Drop)]
+pub(crate) struct Asked<'a> {
+    pub(crate) callee: &'a Procedure,
+    pub(crate) priority: i64,
+    pub(crate) vals: Vec<Value>,
+}
 
 /// The constant, or the number in its register, as far as the Done came.
 pub(crate) fn priority_of(done: &Done<'_>, priority: Priority) -> i64
@@ -41,4 +51,30 @@ pub(crate) fn values_of(
         vals.push(done.value(alloc, args[index])?)?;
     }
     Ok(vals)
+}
+
+/// What the action at which a task stands behind the Done asks for.
+#[inline(always)]
+pub(crate) fn asked_by<'a>(
+    alloc: Global,
+    done: &Done<'a>,
+    action: &Action,
+) -> Result<Asked<'a>, AllocError>
+    requires suits { (p : Callee) × (slice_get done.now.before.program.program action.now.procedure ≡ Some p) × (length action.now.args ≡ length p.params)
+        × (values_suit done.now.after.values p.params action.now.args ≡ true) }
+    requires priority { (n : ℤ) × (priority_at done.now.after action.now.priority ≡ Ok n) }
+    ensures callee { IfOk result (λ asked. slice_get done.now.before.program.program action.now.procedure ≡ Some asked.callee.now) }
+    ensures priority { IfOk result (λ asked. priority_at done.now.after action.now.priority ≡ Ok asked.priority) }
+    ensures values { IfOk result (λ asked. each Some asked.vals.items ≡ named_values done.now.after.values asked.callee.now.params action.now.args) }
+{
+    let program = done.before().program().program();
+    let callee = procedure_at(program.procedures(), action.procedure);
+    let params = callee.params.as_slice();
+    let priority = priority_of(done, action.priority);
+    let vals = values_of(alloc, done, params, action.args.as_slice())?;
+    Ok(Asked {
+        callee,
+        priority,
+        vals,
+    })
 }

@@ -5,9 +5,8 @@ ghost use Rattle.tw_types.specs.declared.event.Event.TheVariants as event;
 ghost use Rattle.tw_code.specs.declared.instr.Instr.TheVariants as instr;
 ghost use Rattle.tw_parts.specs.Events.{IsDrafted, MakesBehind, StandsAt, Untouched};
 
-use crate::copying::{priority_of, values_of};
+use crate::copying::asked_by;
 use crate::parts::Parts;
-use crate::release::procedure_at;
 use std::alloc::Global;
 use tw_code::Action;
 use tw_frame::{Done, Draft};
@@ -30,25 +29,19 @@ impl<'a> Parts<'a> {
         ensures refused { OnErr result (Untouched self.old self.new) }
         ensures back { IfErr result (λ back. back ≡ done.entry) }
     {
-        let program = done.before().program().program();
-        let callee = procedure_at(program.procedures(), action.procedure);
-        let params = callee.params.as_slice();
-        let registers = action.args.as_slice();
-        let engine = actor.number();
-        let priority = priority_of(&done, action.priority);
-        let Ok(vals) = values_of(alloc, &done, params, registers) else {
+        let Ok(asked) = asked_by(alloc, &done, action) else {
             return Err(done);
         };
+        let (callee, priority) = (asked.callee, asked.priority);
+        let engine = actor.number();
         let Ok(()) = self.rules.reserve(engine) else {
             return Err(done);
         };
+        let (params, registers) = (callee.params.as_slice(), action.args.as_slice());
         let Ok(room) = Vec::with_capacity(alloc, params.len()) else {
             return Err(done);
         };
-        let over = self
-            .seats
-            .hand_over(actor, done, params, registers, vals, room);
-        let (args, draft) = over;
+        let (args, draft) = self.seats.hand_over(actor, done, registers, asked, room);
         let planned = PlannedTask {
             procedure: action.procedure,
             priority,

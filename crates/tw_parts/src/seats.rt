@@ -16,6 +16,7 @@ ghost use Rattle.tw_parts.specs.Coming.{IsBegun, MayLend, come, gone_on};
 ghost use Rattle.tw_parts.specs.Data.{IsAnswer, MayDo};
 ghost use Rattle.tw_parts.specs.Memory.{TakesTexts};
 
+use crate::copying::Asked;
 use crate::sitters::Sitters;
 use std::alloc::{AllocError, Global};
 use std::marker::Model;
@@ -24,7 +25,7 @@ use tw_frame::{Done, Draft, Frame, Job, Rooms};
 use tw_queue::TaskQueues;
 use tw_rights::{Arg, Bundle};
 use tw_store::Store;
-use tw_types::{Actor, Param, Value};
+use tw_types::Actor;
 use tw_verify::Verified;
 
 /// A seat for each actor of the greatest layout: engines, servers, workers.
@@ -209,20 +210,25 @@ impl<'a> Seats<'a> {
         &mut self,
         actor: Actor,
         done: Done<'a>,
-        params: &[Param],
         args: &[u8],
-        vals: Vec<Value>,
+        asked: Asked<'_>,
         room: Vec<Arg>,
     ) -> (Bundle, Draft<'a>)
         requires seat { HasSeat actor }
-        requires few { length params.now ≤ 8 }
-        requires room { IsRoom (length params.now) room }
+        requires few { length asked.callee.now.params ≤ 8 }
+        requires room { IsRoom (length asked.callee.now.params) room }
         requires sits { (f : FrameView) × (get self.old actor ≡ Some f) × (done.before ≡ job_of f) × (f.spent + done.steps < 2 ^ 63)
-            × (done.after.place < 2 ^ 63) × IsSome (bundled f.held params.now args.now vals.items) }
+            × (done.after.place < 2 ^ 63) × IsSome (bundled f.held asked.callee.now.params args.now asked.vals.items) }
         ensures { (f : FrameView) → get self.old actor ≡ Some f → (file : List (Option Held))
-            × (bundled f.held params.now args.now vals.items ≡ Some (record { args = result.0; file = file }))
+            × (bundled f.held asked.entry.callee.now.params args.now asked.entry.vals.items ≡ Some (record { args = result.0; file = file }))
             × (self.new ≡ insert self.old actor (gone_on (come f done.entry) file)) × (result.1 ≡ draft_of (come f done.entry)) }
     {
+        let Asked {
+            callee,
+            priority: _,
+            vals,
+        } = asked;
+        let params = callee.params.as_slice();
         self.sitters
             .hand_over(actor.place(), done, params, args, vals, room)
     }

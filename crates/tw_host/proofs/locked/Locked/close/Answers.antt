@@ -5,7 +5,8 @@ use Rattle.tw_no_trap.specs.EndsWell.{EndsWell}
 use Rattle.tw_host.specs.Run.{Run}
 use Rattle.tw_host.specs.Seats.{actors_of, told_by}
 use Rattle.tw_pool.specs.Actors.{events_of}
-use Rattle.tw_host.proofs.Comparing.{match_none, match_some}
+use Rattle.tw_host.specs.Ends.{IsOther}
+use Rattle.tw_host.proofs.Comparing.{either_way, some_if}
 use Rattle.tw_host.proofs.Lists.{at_same}
 use Rattle.tw_host.proofs.Ordering.{all_at, by_seat, held, lacking, lent_back, list_at, moved_from, one_each, sums}
 use Rattle.tw_host.proofs.locked.Locked.close.Goals as goal
@@ -35,31 +36,15 @@ returns-in-None g c =
       together = omega (arith, c.settle-by_seat.ensures.amount, whole, inv.counted, inv.no_amount, ap length shut.events, same_sum);
     }
 
-pub returns-in-None-seat : goal.returns-in-None-seat
-returns-in-None-seat g c =
-    let shut = c.shut-outcome.ensures.left in
-    let inv = c.self.invariant in
+pub told_at-requires : goal.told_at-requires
+told_at-requires g c =
     let items = c.args.seats.items in
     let seats = c.first_other-other.new.seats in
     let moved = moved_from c.as_mut_slice.result.now items seats c.as_mut_slice.ensures.value c.first_other-other.ensures.moved in
     let back = lent_back c.args.seats.len seats items c.args.seats.ok.0 (length_permutation items seats moved) in
-    let whole = c.audit.ensures.whole (omega (arith, c.settle-by_seat.ensures.parts, inv.no_part, c.requires.all, inv.seats)) in
-    let same_sum = sums (λ s. told_by s.actor s.told.items) items seats moved _ back in
-    let none = match_none _ _ c.in-Some.seat c.in-None-seat.is c.in-Some.ensures.found in
-    record {
-      other = inr (lacking (λ s. s.actor) (λ s. s.told.items) items seats moved c.in-Some.actor none, c.new-nothing.ensures);
-      together = omega (arith, c.settle-by_seat.ensures.amount, whole, inv.counted, inv.no_amount, ap length shut.events, same_sum);
-    }
-
-pub swap_remove-requires : goal.swap_remove-requires
-swap_remove-requires g c =
-    let items = c.args.seats.items in
-    let seats = c.first_other-other.new.seats in
-    let moved = moved_from c.as_mut_slice.result.now items seats c.as_mut_slice.ensures.value c.first_other-other.ensures.moved in
-    let back = lent_back c.args.seats.len seats items c.args.seats.ok.0 (length_permutation items seats moved) in
-    let low = (match_some _ _ c.in-Some.seat c.in-Some-seat.seat c.in-Some-seat.is c.in-Some.ensures.found).0 in
     let as_long = ap length (c.settle-by_seat.ensures.lists ∙ ap (map (λ s. s.told.items)) back) in
-    omega (arith, low, as_long, c.settle-by_seat.result.ok.0, length-map c.settle-by_seat.result.items (λ v. v.items), length-map seats (λ s. s.told.items), length-map seats (λ s. told_by s.actor s.told.items))
+    some_if _ c.in-Some.seat c.in-Some.ensures.found
+    (λ k found. omega (arith, found.0, as_long, c.settle-by_seat.result.ok.0, length-map c.settle-by_seat.result.items (λ v. v.items), length-map seats (λ s. s.told.items), length-map seats (λ s. told_by s.actor s.told.items)))
 
 pub returns : goal.returns
 returns g c =
@@ -71,17 +56,19 @@ returns g c =
     let back = lent_back c.args.seats.len seats items c.args.seats.ok.0 (length_permutation items seats moved) in
     let whole = c.audit.ensures.whole (omega (arith, c.settle-by_seat.ensures.parts, inv.no_part, c.requires.all, inv.seats)) in
     let same_sum = sums (λ s. told_by s.actor s.told.items) items seats moved _ back in
-    let k = c.in-Some-seat.seat in
-    let found = match_some _ _ c.in-Some.seat k c.in-Some-seat.is c.in-Some.ensures.found in
-    let told = c.swap_remove.result.items in
+    let actor = c.in-Some.actor in
+    let told = c.told_at.result.items in
     let lists = c.settle-by_seat.ensures.lists ∙ ap (map (λ s. s.told.items)) back in
-    let under : k < length (map (λ s. s.told.items) seats) = omega (arith, found.0, length-map seats (λ s. s.told.items), length-map seats (λ s. told_by s.actor s.told.items)) in
-    let is = at_same c.settle-by_seat.result.items (map (λ s. s.told.items) seats) k c.swap_remove.result under lists c.swap_remove.ensures.value in
-    let at = list_at (λ s. s.actor) (λ s. s.told.items) items seats moved seats refl k c.in-Some.actor told found.0 is in
     record {
-      other = inl (
-        held (λ s. s.actor) (λ s. s.told.items) items seats moved seats refl k c.in-Some.actor told found.0 is found.1,
-        (λ e. found.2 (told_by c.in-Some.actor told) (at (told_by c.in-Some.actor told) ∙ (e ∙ ap (events_of c.in-Some.actor) (shut.events ∙ sym c.history.ensures.events)))),
-      );
+      other = either_way (IsOther (map (λ s. told_by s.actor s.told.items) items) actor told c.shut-outcome.result.1.events) c.in-Some.seat c.in-Some.ensures.found c.told_at.ensures
+          (λ none empty. inr (lacking (λ s. s.actor) (λ s. s.told.items) items seats moved actor none, empty))
+          (λ k found value.
+          let under : k < length (map (λ s. s.told.items) seats) = omega (arith, found.0, length-map seats (λ s. s.told.items), length-map seats (λ s. told_by s.actor s.told.items)) in
+          let is = at_same c.settle-by_seat.result.items (map (λ s. s.told.items) seats) k c.told_at.result under lists value in
+          let at = list_at (λ s. s.actor) (λ s. s.told.items) items seats moved seats refl k actor told found.0 is in
+          inl (
+            held (λ s. s.actor) (λ s. s.told.items) items seats moved seats refl k actor told found.0 is found.1,
+            (λ e. found.2 (told_by actor told) (at (told_by actor told) ∙ (e ∙ ap (events_of actor) (shut.events ∙ sym c.history.ensures.events)))),
+          ));
       together = omega (arith, c.settle-by_seat.ensures.amount, whole, inv.counted, inv.no_amount, ap length shut.events, same_sum);
     }

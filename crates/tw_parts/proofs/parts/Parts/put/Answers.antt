@@ -1,66 +1,47 @@
-use Rattle.std.proofs.Common.{◌≡◌, ◌∙◌, Some, IsSome, refl, sym, ap, subst, slice_get, arith, to_z, of_z, w64}
+use Rattle.std.proofs.Common.{◌≡◌, ◌∙◌, Some, refl, sym, ap, arith, to_z, of_z, w64}
 use Rattle.std.proofs.lemmas.Int.{to_z-of_z}
-use Rattle.tw_parts.proofs.PartNames.{JobView, TypedProgram, come, get, gone_on, insert, with_done}
+use Rattle.tw_parts.proofs.PartNames.{come, get, gone_on, insert, with_done}
 use Rattle.tw_code.specs.declared.instr.Instr.TheVariants as instr
-use Rattle.tw_parts.proofs.Behind.{few, here_too, in_queue, kind_of_callee, long, operands, params_of_callee, runs_there, runs_too, seat_there, sits_ready, so_bundled, so_valued, suit, there}
+use Rattle.tw_parts.proofs.Behind.{few, here_too, in_queue, kind_of_callee, operands, params_of_callee, runs_there, runs_too, seat_there, sits_ready, so_bundled, so_valued, there}
 use Rattle.tw_parts.proofs.Puts.{put_goes, put_named}
 use Rattle.tw_parts.proofs.Releases.{fresh}
 use Rattle.tw_parts.proofs.Seating.{again, get_own}
 use Rattle.tw_parts.proofs.ValueRegisters.{ok_ints}
 use Rattle.tw_parts.proofs.parts.Parts.put.Goals as goal
 
-pub procedure_at-callee-requires : goal.procedure_at-callee-requires
-procedure_at-callee-requires c =
+pub asked_by-requires-clause-suits : goal.asked_by-requires-clause-suits
+asked_by-requires-clause-suits c =
     let s = c.requires.stands in
     let u = put_named c.args.done.before.program s.layout (there c.args.self.now c.args.actor c.args.done (instr.Put c.args.action.now) c.requires.stands) s.notices s.parts c.args.actor (come s.f c.args.done) s.q c.args.action.now (runs_there c.args.self.now c.args.actor c.args.done (instr.Put c.args.action.now) c.requires.stands) s.here s.behind in
-    let procedures : c.procedures.result.now ≡ c.args.done.before.program.program = c.procedures.ensures.is ∙ c.program-program.ensures.is ∙ ap (λ (v : TypedProgram). v.program) (c.program.ensures ∙ ap (λ (j : JobView). j.program) c.before-2.ensures) in
-    subst IsSome (sym (ap (λ ps. slice_get ps c.args.action.now.procedure) procedures ∙ u.is)) refl
+    (u.procedure, u.is, u.long, u.values)
 
-pub priority_of-priority-requires : goal.priority_of-priority-requires
-priority_of-priority-requires c =
+pub asked_by-requires-clause-priority : goal.asked_by-requires-clause-priority
+asked_by-requires-clause-priority c =
     let s = c.requires.stands in
     let u = put_named c.args.done.before.program s.layout (there c.args.self.now c.args.actor c.args.done (instr.Put c.args.action.now) c.requires.stands) s.notices s.parts c.args.actor (come s.f c.args.done) s.q c.args.action.now (runs_there c.args.self.now c.args.actor c.args.done (instr.Put c.args.action.now) c.requires.stands) s.here s.behind in
     (u.priority, u.priority_is)
-
-pub values_of-requires-clause-long : goal.values_of-requires-clause-long
-values_of-requires-clause-long c =
-    let s = c.requires.stands in
-    let u = put_named c.args.done.before.program s.layout (there c.args.self.now c.args.actor c.args.done (instr.Put c.args.action.now) c.requires.stands) s.notices s.parts c.args.actor (come s.f c.args.done) s.q c.args.action.now (runs_there c.args.self.now c.args.actor c.args.done (instr.Put c.args.action.now) c.requires.stands) s.here s.behind in
-    let procedures : c.procedures.result.now ≡ c.args.done.before.program.program = c.procedures.ensures.is ∙ c.program-program.ensures.is ∙ ap (λ (v : TypedProgram). v.program) (c.program.ensures ∙ ap (λ (j : JobView). j.program) c.before-2.ensures) in
-    let params = params_of_callee c.args.done.before.program.program c.procedures.result.now procedures c.args.action.now.procedure c.procedure_at-callee.result.now c.procedure_at-callee.ensures u.procedure u.is c.as_slice-params.result.now c.as_slice-params.ensures in
-    long c.args.self.now c.args.actor c.args.done (instr.Put c.args.action.now) c.requires.stands c.args.action.now u c.as_slice-params.result.now params c.as_slice-registers.result.now c.as_slice-registers.ensures
-
-pub values_of-requires-clause-suit : goal.values_of-requires-clause-suit
-values_of-requires-clause-suit c =
-    let s = c.requires.stands in
-    let u = put_named c.args.done.before.program s.layout (there c.args.self.now c.args.actor c.args.done (instr.Put c.args.action.now) c.requires.stands) s.notices s.parts c.args.actor (come s.f c.args.done) s.q c.args.action.now (runs_there c.args.self.now c.args.actor c.args.done (instr.Put c.args.action.now) c.requires.stands) s.here s.behind in
-    let procedures : c.procedures.result.now ≡ c.args.done.before.program.program = c.procedures.ensures.is ∙ c.program-program.ensures.is ∙ ap (λ (v : TypedProgram). v.program) (c.program.ensures ∙ ap (λ (j : JobView). j.program) c.before-2.ensures) in
-    let params = params_of_callee c.args.done.before.program.program c.procedures.result.now procedures c.args.action.now.procedure c.procedure_at-callee.result.now c.procedure_at-callee.ensures u.procedure u.is c.as_slice-params.result.now c.as_slice-params.ensures in
-    suit c.args.self.now c.args.actor c.args.done (instr.Put c.args.action.now) c.requires.stands c.args.action.now u c.as_slice-params.result.now params c.as_slice-registers.result.now c.as_slice-registers.ensures
 
 pub reserve-requires : goal.reserve-requires
 reserve-requires c =
     let s = c.requires.stands in
     in_queue c.args.action.now.target (operands c.args.done.before.program.program s.parts.runnable.is s.f.procedure s.q s.here c.args.done.after.place (instr.Put c.args.action.now) s.behind).1.1.1.0
 
-pub hand_over-over-requires-clause-seat : goal.hand_over-over-requires-clause-seat
-hand_over-over-requires-clause-seat c = seat_there c.args.self.now c.args.actor c.args.done (instr.Put c.args.action.now) c.requires.stands
+pub hand_over-args-requires-clause-seat : goal.hand_over-args-requires-clause-seat
+hand_over-args-requires-clause-seat c = seat_there c.args.self.now c.args.actor c.args.done (instr.Put c.args.action.now) c.requires.stands
 
-pub hand_over-over-requires-clause-few : goal.hand_over-over-requires-clause-few
-hand_over-over-requires-clause-few c =
+pub hand_over-args-requires-clause-few : goal.hand_over-args-requires-clause-few
+hand_over-args-requires-clause-few c =
     let s = c.requires.stands in
     let u = put_named c.args.done.before.program s.layout (there c.args.self.now c.args.actor c.args.done (instr.Put c.args.action.now) c.requires.stands) s.notices s.parts c.args.actor (come s.f c.args.done) s.q c.args.action.now (runs_there c.args.self.now c.args.actor c.args.done (instr.Put c.args.action.now) c.requires.stands) s.here s.behind in
-    let procedures : c.procedures.result.now ≡ c.args.done.before.program.program = c.procedures.ensures.is ∙ c.program-program.ensures.is ∙ ap (λ (v : TypedProgram). v.program) (c.program.ensures ∙ ap (λ (j : JobView). j.program) c.before-2.ensures) in
-    let params = params_of_callee c.args.done.before.program.program c.procedures.result.now procedures c.args.action.now.procedure c.procedure_at-callee.result.now c.procedure_at-callee.ensures u.procedure u.is c.as_slice-params.result.now c.as_slice-params.ensures in
-    few c.args.self.now c.args.actor c.args.done (instr.Put c.args.action.now) c.requires.stands c.args.action.now u c.as_slice-params.result.now params c.as_slice-registers.result.now c.as_slice-registers.ensures
+    let params = params_of_callee c.args.done.before.program.program c.args.action.now.procedure c.in-Ok.asked.callee.now c.in-Ok.ensures.callee u.procedure u.is in
+    few c.args.self.now c.args.actor c.args.done (instr.Put c.args.action.now) c.requires.stands c.args.action.now u c.in-Ok.asked.callee.now.params params c.as_slice-registers.result.now c.as_slice-registers.ensures
 
-pub hand_over-over-requires-clause-sits : goal.hand_over-over-requires-clause-sits
-hand_over-over-requires-clause-sits c =
+pub hand_over-args-requires-clause-sits : goal.hand_over-args-requires-clause-sits
+hand_over-args-requires-clause-sits c =
     let s = c.requires.stands in
     let u = put_named c.args.done.before.program s.layout (there c.args.self.now c.args.actor c.args.done (instr.Put c.args.action.now) c.requires.stands) s.notices s.parts c.args.actor (come s.f c.args.done) s.q c.args.action.now (runs_there c.args.self.now c.args.actor c.args.done (instr.Put c.args.action.now) c.requires.stands) s.here s.behind in
-    let procedures : c.procedures.result.now ≡ c.args.done.before.program.program = c.procedures.ensures.is ∙ c.program-program.ensures.is ∙ ap (λ (v : TypedProgram). v.program) (c.program.ensures ∙ ap (λ (j : JobView). j.program) c.before-2.ensures) in
-    let params = params_of_callee c.args.done.before.program.program c.procedures.result.now procedures c.args.action.now.procedure c.procedure_at-callee.result.now c.procedure_at-callee.ensures u.procedure u.is c.as_slice-params.result.now c.as_slice-params.ensures in
-    sits_ready c.args.self.now c.args.actor c.args.done (instr.Put c.args.action.now) c.requires.stands c.args.action.now u c.as_slice-params.result.now params c.as_slice-registers.result.now c.as_slice-registers.ensures c.in-Ok.vals.items c.in-Ok.ensures
+    let params = params_of_callee c.args.done.before.program.program c.args.action.now.procedure c.in-Ok.asked.callee.now c.in-Ok.ensures.callee u.procedure u.is in
+    sits_ready c.args.self.now c.args.actor c.args.done (instr.Put c.args.action.now) c.requires.stands c.args.action.now u c.in-Ok.asked.callee.now.params params c.as_slice-registers.result.now c.as_slice-registers.ensures c.in-Ok.asked.vals.items c.in-Ok.ensures.values
 
 pub put-requires-clause-new : goal.put-requires-clause-new
 put-requires-clause-new c =
@@ -81,25 +62,24 @@ returns-clause-put c = λ layout f owed notices h.
     let here = here_too c.args.self.now c.args.actor c.args.done (instr.Put c.args.action.now) c.requires.stands f owed in
     let runs = runs_too c.args.self.now c.args.actor c.args.done (instr.Put c.args.action.now) c.requires.stands f owed in
     let u = put_named program layout (with_done old c.args.actor f c.args.done) notices h c.args.actor (come f c.args.done) s.q action runs here s.behind in
-    let procedures : c.procedures.result.now ≡ c.args.done.before.program.program = c.procedures.ensures.is ∙ c.program-program.ensures.is ∙ ap (λ (v : TypedProgram). v.program) (c.program.ensures ∙ ap (λ (j : JobView). j.program) c.before-2.ensures) in
-    let params = params_of_callee c.args.done.before.program.program c.procedures.result.now procedures c.args.action.now.procedure c.procedure_at-callee.result.now c.procedure_at-callee.ensures u.procedure u.is c.as_slice-params.result.now c.as_slice-params.ensures in
-    let over = c.hand_over-over.ensures f owed.sits in
-    let vals = so_valued c.args.done.after.values c.as_slice-params.result.now u.procedure.params params c.as_slice-registers.result.now action.args c.as_slice-registers.ensures c.in-Ok.vals.items c.in-Ok.ensures in
-    let bundle = so_bundled f.held c.as_slice-params.result.now u.procedure.params params c.as_slice-registers.result.now action.args c.as_slice-registers.ensures c.in-Ok.vals.items (Some (record { args = c.hand_over-over.result.0; file = over.0 })) over.1 in
+    let params = params_of_callee c.args.done.before.program.program c.args.action.now.procedure c.in-Ok.asked.callee.now c.in-Ok.ensures.callee u.procedure u.is in
+    let over = c.hand_over-args.ensures f owed.sits in
+    let vals = so_valued c.args.done.after.values c.in-Ok.asked.callee.now.params u.procedure.params params action.args c.in-Ok.asked.vals.items c.in-Ok.ensures.values in
+    let bundle = so_bundled f.held c.in-Ok.asked.callee.now.params u.procedure.params params c.as_slice-registers.result.now action.args c.as_slice-registers.ensures c.in-Ok.asked.vals.items (Some (record { args = c.hand_over-args.result.0; file = over.0 })) over.1 in
     let seats = over.2 ∙ sym (again old.seats c.args.actor (come f c.args.done) (gone_on (come f c.args.done) over.0)) in
-    let bits : to_z w64 (of_z w64 c.priority_of-priority.result) ≡ c.priority_of-priority.result = grind (arith, to_z-of_z) in
-    let key : to_z w64 (of_z w64 c.priority_of-priority.result) ≡ u.priority = bits ∙ ok_ints c.priority_of-priority.result u.priority (sym c.priority_of-priority.ensures ∙ u.priority_is) in
-    let kind = kind_of_callee c.args.done.before.program.program c.procedures.result.now procedures c.args.action.now.procedure c.procedure_at-callee.result.now c.procedure_at-callee.ensures u.procedure u.is in
-    put_goes program layout (with_done old c.args.actor f c.args.done) notices h c.args.actor (come f c.args.done) s.q action runs here s.behind c.in-Ok.vals.items vals c.hand_over-over.result.0 over.0 bundle _
+    let bits : to_z w64 (of_z w64 c.in-Ok.asked.priority) ≡ c.in-Ok.asked.priority = grind (arith, to_z-of_z) in
+    let key : to_z w64 (of_z w64 c.in-Ok.asked.priority) ≡ u.priority = bits ∙ ok_ints c.in-Ok.asked.priority u.priority (sym c.in-Ok.ensures.priority ∙ u.priority_is) in
+    let kind = kind_of_callee c.args.done.before.program.program c.args.action.now.procedure c.in-Ok.asked.callee.now c.in-Ok.ensures.callee u.procedure u.is in
+    put_goes program layout (with_done old c.args.actor f c.args.done) notices h c.args.actor (come f c.args.done) s.q action runs here s.behind c.in-Ok.asked.vals.items vals c.hand_over-args.result.0 over.0 bundle _
     (c.in-Ok-put.ensures.put
-    ∙ ap (λ z. insert c.reserve.new.self.tasks c.new.result (record { kind = c.procedure_at-callee.result.now.kind; procedure = action.procedure; priority = z; target = action.target; args = c.hand_over-over.result.0 })) key
-    ∙ ap (λ k. insert c.reserve.new.self.tasks c.new.result (record { kind = k; procedure = action.procedure; priority = u.priority; target = action.target; args = c.hand_over-over.result.0 })) kind
-    ∙ ap (λ ts. insert ts c.new.result (record { kind = u.procedure.kind; procedure = action.procedure; priority = u.priority; target = action.target; args = c.hand_over-over.result.0 })) c.in-Ok-reserve.ensures.same
-    ∙ ap (λ n. insert old.tasks.tasks n (record { kind = u.procedure.kind; procedure = action.procedure; priority = u.priority; target = action.target; args = c.hand_over-over.result.0 })) c.new.ensures)
+    ∙ ap (λ z. insert c.reserve.new.self.tasks c.new.result (record { kind = c.in-Ok.asked.callee.now.kind; procedure = action.procedure; priority = z; target = action.target; args = c.hand_over-args.result.0 })) key
+    ∙ ap (λ k. insert c.reserve.new.self.tasks c.new.result (record { kind = k; procedure = action.procedure; priority = u.priority; target = action.target; args = c.hand_over-args.result.0 })) kind
+    ∙ ap (λ ts. insert ts c.new.result (record { kind = u.procedure.kind; procedure = action.procedure; priority = u.priority; target = action.target; args = c.hand_over-args.result.0 })) c.in-Ok-reserve.ensures.same
+    ∙ ap (λ n. insert old.tasks.tasks n (record { kind = u.procedure.kind; procedure = action.procedure; priority = u.priority; target = action.target; args = c.hand_over-args.result.0 })) c.new.ensures)
     refl seats refl refl refl
 
 pub returns-clause-drafted : goal.returns-clause-drafted
 returns-clause-drafted c =
     let s = c.requires.stands in
-    let over = c.hand_over-over.ensures s.f s.owed.sits in
+    let over = c.hand_over-args.ensures s.f s.owed.sits in
     record { f = gone_on (come s.f c.args.done) over.0; sits = ap (λ m. get m c.args.actor) over.2 ∙ get_own c.args.self.now.seats c.args.actor (gone_on (come s.f c.args.done) over.0); is = over.3 }

@@ -1,63 +1,45 @@
-use Rattle.std.proofs.Common.{◌≡◌, ◌∙◌, ◌+◌, Some, IsSome, refl, sym, ap, subst, slice_get, arith, to_z, of_z, w64}
+use Rattle.std.proofs.Common.{◌≡◌, ◌∙◌, ◌+◌, Some, refl, sym, ap, arith, to_z, of_z, w64}
 use Rattle.std.proofs.lemmas.Int.{to_z-of_z}
-use Rattle.tw_parts.proofs.PartNames.{JobView, TypedProgram, come, get, gone_on, insert, number_in_kind, with_done}
+use Rattle.tw_parts.proofs.PartNames.{come, get, gone_on, insert, number_in_kind, with_done}
 use Rattle.tw_code.specs.declared.instr.Instr.TheVariants as instr
+use Rattle.tw_rights.specs.Bundled.{bundled}
 use Rattle.tw_rules.specs.Table.{new_rule}
 use Rattle.tw_rules.proofs.Fitting.{bundled_suit}
-use Rattle.tw_parts.proofs.Behind.{few, here_too, long, params_of_callee, runs_there, runs_too, seat_there, sits_ready, so_bundled, so_valued, suit, there}
+use Rattle.tw_parts.proofs.Behind.{few, here_too, params_of_callee, runs_there, runs_too, seat_there, sits_ready, so_bundled, so_valued, there}
 use Rattle.tw_parts.proofs.Law.{engine_low}
 use Rattle.tw_parts.proofs.NewRules.{rule, rule_goes, rule_named}
 use Rattle.tw_parts.proofs.Seating.{again, get_own}
 use Rattle.tw_parts.proofs.ValueRegisters.{ok_ints}
 use Rattle.tw_parts.proofs.parts.Parts.rule.Goals as goal
 
-pub procedure_at-callee-requires : goal.procedure_at-callee-requires
-procedure_at-callee-requires c =
+pub asked_by-requires-clause-suits : goal.asked_by-requires-clause-suits
+asked_by-requires-clause-suits c =
     let s = c.requires.stands in
     let u = rule_named c.args.done.before.program s.layout (there c.args.self.now c.args.actor c.args.done (instr.Rule c.args.action.now) c.requires.stands) s.notices s.parts c.args.actor (come s.f c.args.done) s.q c.args.action.now (runs_there c.args.self.now c.args.actor c.args.done (instr.Rule c.args.action.now) c.requires.stands) s.here s.behind in
-    let procedures : c.procedures.result.now ≡ c.args.done.before.program.program = c.procedures.ensures.is ∙ c.program-program.ensures.is ∙ ap (λ (v : TypedProgram). v.program) (c.program.ensures ∙ ap (λ (j : JobView). j.program) c.before-2.ensures) in
-    subst IsSome (sym (ap (λ ps. slice_get ps c.args.action.now.procedure) procedures ∙ u.is)) refl
+    (u.procedure, u.is, u.long, u.values)
 
-pub priority_of-priority-requires : goal.priority_of-priority-requires
-priority_of-priority-requires c =
+pub asked_by-requires-clause-priority : goal.asked_by-requires-clause-priority
+asked_by-requires-clause-priority c =
     let s = c.requires.stands in
     let u = rule_named c.args.done.before.program s.layout (there c.args.self.now c.args.actor c.args.done (instr.Rule c.args.action.now) c.requires.stands) s.notices s.parts c.args.actor (come s.f c.args.done) s.q c.args.action.now (runs_there c.args.self.now c.args.actor c.args.done (instr.Rule c.args.action.now) c.requires.stands) s.here s.behind in
     (u.priority, u.priority_is)
 
-pub values_of-requires-clause-long : goal.values_of-requires-clause-long
-values_of-requires-clause-long c =
+pub hand_over-args-requires-clause-seat : goal.hand_over-args-requires-clause-seat
+hand_over-args-requires-clause-seat c = seat_there c.args.self.now c.args.actor c.args.done (instr.Rule c.args.action.now) c.requires.stands
+
+pub hand_over-args-requires-clause-few : goal.hand_over-args-requires-clause-few
+hand_over-args-requires-clause-few c =
     let s = c.requires.stands in
     let u = rule_named c.args.done.before.program s.layout (there c.args.self.now c.args.actor c.args.done (instr.Rule c.args.action.now) c.requires.stands) s.notices s.parts c.args.actor (come s.f c.args.done) s.q c.args.action.now (runs_there c.args.self.now c.args.actor c.args.done (instr.Rule c.args.action.now) c.requires.stands) s.here s.behind in
-    let procedures : c.procedures.result.now ≡ c.args.done.before.program.program = c.procedures.ensures.is ∙ c.program-program.ensures.is ∙ ap (λ (v : TypedProgram). v.program) (c.program.ensures ∙ ap (λ (j : JobView). j.program) c.before-2.ensures) in
-    let params = params_of_callee c.args.done.before.program.program c.procedures.result.now procedures c.args.action.now.procedure c.procedure_at-callee.result.now c.procedure_at-callee.ensures u.procedure u.is c.as_slice-params.result.now c.as_slice-params.ensures in
-    long c.args.self.now c.args.actor c.args.done (instr.Rule c.args.action.now) c.requires.stands c.args.action.now u c.as_slice-params.result.now params c.as_slice-registers.result.now c.as_slice-registers.ensures
+    let params = params_of_callee c.args.done.before.program.program c.args.action.now.procedure c.in-Ok.asked.callee.now c.in-Ok.ensures.callee u.procedure u.is in
+    few c.args.self.now c.args.actor c.args.done (instr.Rule c.args.action.now) c.requires.stands c.args.action.now u c.in-Ok.asked.callee.now.params params c.as_slice-registers.result.now c.as_slice-registers.ensures
 
-pub values_of-requires-clause-suit : goal.values_of-requires-clause-suit
-values_of-requires-clause-suit c =
+pub hand_over-args-requires-clause-sits : goal.hand_over-args-requires-clause-sits
+hand_over-args-requires-clause-sits c =
     let s = c.requires.stands in
     let u = rule_named c.args.done.before.program s.layout (there c.args.self.now c.args.actor c.args.done (instr.Rule c.args.action.now) c.requires.stands) s.notices s.parts c.args.actor (come s.f c.args.done) s.q c.args.action.now (runs_there c.args.self.now c.args.actor c.args.done (instr.Rule c.args.action.now) c.requires.stands) s.here s.behind in
-    let procedures : c.procedures.result.now ≡ c.args.done.before.program.program = c.procedures.ensures.is ∙ c.program-program.ensures.is ∙ ap (λ (v : TypedProgram). v.program) (c.program.ensures ∙ ap (λ (j : JobView). j.program) c.before-2.ensures) in
-    let params = params_of_callee c.args.done.before.program.program c.procedures.result.now procedures c.args.action.now.procedure c.procedure_at-callee.result.now c.procedure_at-callee.ensures u.procedure u.is c.as_slice-params.result.now c.as_slice-params.ensures in
-    suit c.args.self.now c.args.actor c.args.done (instr.Rule c.args.action.now) c.requires.stands c.args.action.now u c.as_slice-params.result.now params c.as_slice-registers.result.now c.as_slice-registers.ensures
-
-pub hand_over-over-requires-clause-seat : goal.hand_over-over-requires-clause-seat
-hand_over-over-requires-clause-seat c = seat_there c.args.self.now c.args.actor c.args.done (instr.Rule c.args.action.now) c.requires.stands
-
-pub hand_over-over-requires-clause-few : goal.hand_over-over-requires-clause-few
-hand_over-over-requires-clause-few c =
-    let s = c.requires.stands in
-    let u = rule_named c.args.done.before.program s.layout (there c.args.self.now c.args.actor c.args.done (instr.Rule c.args.action.now) c.requires.stands) s.notices s.parts c.args.actor (come s.f c.args.done) s.q c.args.action.now (runs_there c.args.self.now c.args.actor c.args.done (instr.Rule c.args.action.now) c.requires.stands) s.here s.behind in
-    let procedures : c.procedures.result.now ≡ c.args.done.before.program.program = c.procedures.ensures.is ∙ c.program-program.ensures.is ∙ ap (λ (v : TypedProgram). v.program) (c.program.ensures ∙ ap (λ (j : JobView). j.program) c.before-2.ensures) in
-    let params = params_of_callee c.args.done.before.program.program c.procedures.result.now procedures c.args.action.now.procedure c.procedure_at-callee.result.now c.procedure_at-callee.ensures u.procedure u.is c.as_slice-params.result.now c.as_slice-params.ensures in
-    few c.args.self.now c.args.actor c.args.done (instr.Rule c.args.action.now) c.requires.stands c.args.action.now u c.as_slice-params.result.now params c.as_slice-registers.result.now c.as_slice-registers.ensures
-
-pub hand_over-over-requires-clause-sits : goal.hand_over-over-requires-clause-sits
-hand_over-over-requires-clause-sits c =
-    let s = c.requires.stands in
-    let u = rule_named c.args.done.before.program s.layout (there c.args.self.now c.args.actor c.args.done (instr.Rule c.args.action.now) c.requires.stands) s.notices s.parts c.args.actor (come s.f c.args.done) s.q c.args.action.now (runs_there c.args.self.now c.args.actor c.args.done (instr.Rule c.args.action.now) c.requires.stands) s.here s.behind in
-    let procedures : c.procedures.result.now ≡ c.args.done.before.program.program = c.procedures.ensures.is ∙ c.program-program.ensures.is ∙ ap (λ (v : TypedProgram). v.program) (c.program.ensures ∙ ap (λ (j : JobView). j.program) c.before-2.ensures) in
-    let params = params_of_callee c.args.done.before.program.program c.procedures.result.now procedures c.args.action.now.procedure c.procedure_at-callee.result.now c.procedure_at-callee.ensures u.procedure u.is c.as_slice-params.result.now c.as_slice-params.ensures in
-    sits_ready c.args.self.now c.args.actor c.args.done (instr.Rule c.args.action.now) c.requires.stands c.args.action.now u c.as_slice-params.result.now params c.as_slice-registers.result.now c.as_slice-registers.ensures c.in-Ok.vals.items c.in-Ok.ensures
+    let params = params_of_callee c.args.done.before.program.program c.args.action.now.procedure c.in-Ok.asked.callee.now c.in-Ok.ensures.callee u.procedure u.is in
+    sits_ready c.args.self.now c.args.actor c.args.done (instr.Rule c.args.action.now) c.requires.stands c.args.action.now u c.in-Ok.asked.callee.now.params params c.as_slice-registers.result.now c.as_slice-registers.ensures c.in-Ok.asked.vals.items c.in-Ok.ensures.values
 
 pub reserve-requires : goal.reserve-requires
 reserve-requires c =
@@ -75,15 +57,14 @@ pub add-requires-clause-few : goal.add-requires-clause-few
 add-requires-clause-few c =
     let s = c.requires.stands in
     let u = rule_named c.args.done.before.program s.layout (there c.args.self.now c.args.actor c.args.done (instr.Rule c.args.action.now) c.requires.stands) s.notices s.parts c.args.actor (come s.f c.args.done) s.q c.args.action.now (runs_there c.args.self.now c.args.actor c.args.done (instr.Rule c.args.action.now) c.requires.stands) s.here s.behind in
-    let procedures : c.procedures.result.now ≡ c.args.done.before.program.program = c.procedures.ensures.is ∙ c.program-program.ensures.is ∙ ap (λ (v : TypedProgram). v.program) (c.program.ensures ∙ ap (λ (j : JobView). j.program) c.before-2.ensures) in
-    let params = params_of_callee c.args.done.before.program.program c.procedures.result.now procedures c.args.action.now.procedure c.procedure_at-callee.result.now c.procedure_at-callee.ensures u.procedure u.is c.as_slice-params.result.now c.as_slice-params.ensures in
-    few c.args.self.now c.args.actor c.args.done (instr.Rule c.args.action.now) c.requires.stands c.args.action.now u c.as_slice-params.result.now params c.as_slice-registers.result.now c.as_slice-registers.ensures
+    let params = params_of_callee c.args.done.before.program.program c.args.action.now.procedure c.in-Ok.asked.callee.now c.in-Ok.ensures.callee u.procedure u.is in
+    few c.args.self.now c.args.actor c.args.done (instr.Rule c.args.action.now) c.requires.stands c.args.action.now u c.as_slice-params.result.now (c.as_slice-params.ensures ∙ params) c.as_slice-registers.result.now c.as_slice-registers.ensures
 
 pub add-requires-clause-args : goal.add-requires-clause-args
 add-requires-clause-args c =
     let s = c.requires.stands in
-    let over = c.hand_over-over.ensures s.f s.owed.sits in
-    bundled_suit s.f.held c.as_slice-params.result.now c.as_slice-registers.result.now c.in-Ok.vals.items _ over.1
+    let over = c.hand_over-args.ensures s.f s.owed.sits in
+    bundled_suit s.f.held c.as_slice-params.result.now c.as_slice-registers.result.now c.in-Ok.asked.vals.items _ (ap (λ ps. bundled s.f.held ps c.as_slice-registers.result.now c.in-Ok.asked.vals.items) c.as_slice-params.ensures ∙ over.1)
 
 pub returns-clause-rule : goal.returns-clause-rule
 returns-clause-rule c = λ layout f owed notices h.
@@ -94,26 +75,25 @@ returns-clause-rule c = λ layout f owed notices h.
     let here = here_too c.args.self.now c.args.actor c.args.done (instr.Rule c.args.action.now) c.requires.stands f owed in
     let runs = runs_too c.args.self.now c.args.actor c.args.done (instr.Rule c.args.action.now) c.requires.stands f owed in
     let u = rule_named program layout (with_done old c.args.actor f c.args.done) notices h c.args.actor (come f c.args.done) s.q action runs here s.behind in
-    let procedures : c.procedures.result.now ≡ c.args.done.before.program.program = c.procedures.ensures.is ∙ c.program-program.ensures.is ∙ ap (λ (v : TypedProgram). v.program) (c.program.ensures ∙ ap (λ (j : JobView). j.program) c.before-2.ensures) in
-    let params = params_of_callee c.args.done.before.program.program c.procedures.result.now procedures c.args.action.now.procedure c.procedure_at-callee.result.now c.procedure_at-callee.ensures u.procedure u.is c.as_slice-params.result.now c.as_slice-params.ensures in
-    let over = c.hand_over-over.ensures f owed.sits in
-    let vals = so_valued c.args.done.after.values c.as_slice-params.result.now u.procedure.params params c.as_slice-registers.result.now action.args c.as_slice-registers.ensures c.in-Ok.vals.items c.in-Ok.ensures in
-    let bundle = so_bundled f.held c.as_slice-params.result.now u.procedure.params params c.as_slice-registers.result.now action.args c.as_slice-registers.ensures c.in-Ok.vals.items (Some (record { args = c.hand_over-over.result.0; file = over.0 })) over.1 in
+    let params = params_of_callee c.args.done.before.program.program c.args.action.now.procedure c.in-Ok.asked.callee.now c.in-Ok.ensures.callee u.procedure u.is in
+    let over = c.hand_over-args.ensures f owed.sits in
+    let vals = so_valued c.args.done.after.values c.in-Ok.asked.callee.now.params u.procedure.params params action.args c.in-Ok.asked.vals.items c.in-Ok.ensures.values in
+    let bundle = so_bundled f.held c.in-Ok.asked.callee.now.params u.procedure.params params c.as_slice-registers.result.now action.args c.as_slice-registers.ensures c.in-Ok.asked.vals.items (Some (record { args = c.hand_over-args.result.0; file = over.0 })) over.1 in
     let seats = over.2 ∙ sym (again old.seats c.args.actor (come f c.args.done) (gone_on (come f c.args.done) over.0)) in
-    let bits : to_z w64 (of_z w64 c.priority_of-priority.result) ≡ c.priority_of-priority.result = grind (arith, to_z-of_z) in
-    let key : to_z w64 (of_z w64 c.priority_of-priority.result) ≡ u.priority = bits ∙ ok_ints c.priority_of-priority.result u.priority (sym c.priority_of-priority.ensures ∙ u.priority_is) in
-    let made : c.add.new.self.rules ≡ insert old.rules.rules old.rules.next (rule program layout (with_done old c.args.actor f c.args.done) notices h c.args.actor (come f c.args.done) s.q action runs here s.behind c.in-Ok.vals.items vals c.hand_over-over.result.0 over.0 bundle) =
+    let bits : to_z w64 (of_z w64 c.in-Ok.asked.priority) ≡ c.in-Ok.asked.priority = grind (arith, to_z-of_z) in
+    let key : to_z w64 (of_z w64 c.in-Ok.asked.priority) ≡ u.priority = bits ∙ ok_ints c.in-Ok.asked.priority u.priority (sym c.in-Ok.ensures.priority ∙ u.priority_is) in
+    let made : c.add.new.self.rules ≡ insert old.rules.rules old.rules.next (rule program layout (with_done old c.args.actor f c.args.done) notices h c.args.actor (come f c.args.done) s.q action runs here s.behind c.in-Ok.asked.vals.items vals c.hand_over-args.result.0 over.0 bundle) =
     c.in-Ok-add.ensures.added
-    ∙ ap (λ z. insert c.reserve.new.self.rules c.reserve.new.self.next (new_rule c.number-engine.result c.as_slice-params.result.now (record { procedure = action.procedure; priority = z; target = action.target }) c.hand_over-over.result.0)) key
-    ∙ ap (λ e. insert c.reserve.new.self.rules c.reserve.new.self.next (new_rule e c.as_slice-params.result.now (record { procedure = action.procedure; priority = u.priority; target = action.target }) c.hand_over-over.result.0)) c.number-engine.ensures
-    ∙ ap (λ ps. insert c.reserve.new.self.rules c.reserve.new.self.next (new_rule (number_in_kind c.args.actor) ps (record { procedure = action.procedure; priority = u.priority; target = action.target }) c.hand_over-over.result.0)) params
-    ∙ ap (λ rs. insert rs c.reserve.new.self.next (new_rule (number_in_kind c.args.actor) u.procedure.params (record { procedure = action.procedure; priority = u.priority; target = action.target }) c.hand_over-over.result.0)) c.in-Ok-reserve.ensures.rules
-    ∙ ap (λ n. insert old.rules.rules n (new_rule (number_in_kind c.args.actor) u.procedure.params (record { procedure = action.procedure; priority = u.priority; target = action.target }) c.hand_over-over.result.0)) c.in-Ok-reserve.ensures.next in
-    rule_goes program layout (with_done old c.args.actor f c.args.done) notices h c.args.actor (come f c.args.done) s.q action runs here s.behind c.in-Ok.vals.items vals c.hand_over-over.result.0 over.0 bundle _
+    ∙ ap (λ z. insert c.reserve.new.self.rules c.reserve.new.self.next (new_rule c.number-engine.result c.as_slice-params.result.now (record { procedure = action.procedure; priority = z; target = action.target }) c.hand_over-args.result.0)) key
+    ∙ ap (λ e. insert c.reserve.new.self.rules c.reserve.new.self.next (new_rule e c.as_slice-params.result.now (record { procedure = action.procedure; priority = u.priority; target = action.target }) c.hand_over-args.result.0)) c.number-engine.ensures
+    ∙ ap (λ ps. insert c.reserve.new.self.rules c.reserve.new.self.next (new_rule (number_in_kind c.args.actor) ps (record { procedure = action.procedure; priority = u.priority; target = action.target }) c.hand_over-args.result.0)) (c.as_slice-params.ensures ∙ params)
+    ∙ ap (λ rs. insert rs c.reserve.new.self.next (new_rule (number_in_kind c.args.actor) u.procedure.params (record { procedure = action.procedure; priority = u.priority; target = action.target }) c.hand_over-args.result.0)) c.in-Ok-reserve.ensures.rules
+    ∙ ap (λ n. insert old.rules.rules n (new_rule (number_in_kind c.args.actor) u.procedure.params (record { procedure = action.procedure; priority = u.priority; target = action.target }) c.hand_over-args.result.0)) c.in-Ok-reserve.ensures.next in
+    rule_goes program layout (with_done old c.args.actor f c.args.done) notices h c.args.actor (come f c.args.done) s.q action runs here s.behind c.in-Ok.asked.vals.items vals c.hand_over-args.result.0 over.0 bundle _
     made (c.in-Ok-add.ensures.next ∙ ap (λ n. n + 1) c.in-Ok-reserve.ensures.next) seats refl refl refl refl
 
 pub returns-clause-drafted : goal.returns-clause-drafted
 returns-clause-drafted c =
     let s = c.requires.stands in
-    let over = c.hand_over-over.ensures s.f s.owed.sits in
+    let over = c.hand_over-args.ensures s.f s.owed.sits in
     record { f = gone_on (come s.f c.args.done) over.0; sits = ap (λ m. get m c.args.actor) over.2 ∙ get_own c.args.self.now.seats c.args.actor (gone_on (come s.f c.args.done) over.0); is = over.3 }
