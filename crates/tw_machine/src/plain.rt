@@ -27,7 +27,6 @@ pub struct Plain {
 }
 
 impl Model for Plain {
-    ghost use Rattle.tw_types.specs.declared.actor.Actor.{Actor as AnActor};
     ghost use Rattle.tw_types.specs.Actor.{actor_cmp};
     ghost use Rattle.tw_types.specs.Store.{Datum as DatumMeaning};
     ghost use Rattle.tw_types.specs.Rule.{Rule as RuleMeaning};

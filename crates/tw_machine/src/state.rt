@@ -11,9 +11,8 @@ ghost use Rattle.tw_code.specs.machine.Machine.{step};
 ghost use Rattle.tw_code.specs.machine.Inputs.{are_inputs_of, input_params};
 ghost use Rattle.tw_code.specs.machine.Opening.{nothing_opened, opened, opening_of};
 ghost use Rattle.tw_instr.specs.Attempts.{Changes};
-ghost use Rattle.tw_machine.specs.Parts.{rules_of, tasks_of};
+ghost use Rattle.tw_machine.specs.Parts.{rules_of, tasks_of, frames_of};
 ghost use Rattle.tw_machine.specs.Memory.{TakesMemory};
-ghost use Rattle.tw_machine.specs.Parts.{frames_of};
 
 use crate::events::{calls, rules, tasks};
 use crate::opened::Opened;
@@ -181,6 +180,7 @@ impl State {
     }
 
     /// Makes one event, or says why not; then all is as it was.
+    #[rattlefmt::skip]
     pub(crate) fn step(
         &mut self,
         alloc: Global,
@@ -195,45 +195,16 @@ impl State {
         ensures memory { result ≡ Err Stopped.NoMemory → TakesMemory program.now layout event self.old }
     {
         match event {
-            Event::Take(actor) => {
-                tasks::take(
-                    alloc,
-                    program,
-                    layout,
-                    &mut self.tables.tasks,
-                    &mut self.frames,
-                    actor,
-                )
-            }
-            Event::Local(actor, steps) => tasks::local(
-                alloc,
-                program,
-                &mut self.frames,
-                actor,
-                steps,
-            ),
-            Event::Call(actor) => calls::call(
-                alloc,
-                program,
-                &mut self.tables,
-                &mut self.frames,
-                actor,
-            ),
+            Event::Take(actor) => tasks::take(alloc, program, layout, &mut self.tables.tasks, &mut self.frames, actor),
+            Event::Local(actor, steps) => tasks::local(alloc, program, &mut self.frames, actor, steps),
+            Event::Call(actor) => calls::call(alloc, program, &mut self.tables, &mut self.frames, actor),
             Event::End(actor) => Ok(tasks::end(program, &mut self.frames, actor)?),
-            Event::Ask(engine, rule, parameter) => {
-                rules::ask(&mut self.tables, &self.frames, engine, rule, parameter)
-            }
+            Event::Ask(engine, rule, parameter) => rules::ask(&mut self.tables, &self.frames, engine, rule, parameter),
             Event::Deliver(server, datum, rule, parameter) => {
-                let notice = Notice {
-                    datum,
-                    rule,
-                    parameter,
-                };
+                let notice = Notice { datum, rule, parameter };
                 Ok(rules::deliver(layout, &mut self.tables, server, &notice)?)
             }
-            Event::Release(engine, rule) => {
-                rules::release(alloc, program, &mut self.tables, &self.frames, engine, rule)
-            }
+            Event::Release(engine, rule) => rules::release(alloc, program, &mut self.tables, &self.frames, engine, rule),
         }
     }
 }

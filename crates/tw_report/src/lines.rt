@@ -1,43 +1,12 @@
 //! The lines that are written, added to the end of a text.
 
 ghost use Rattle.std.specs.Prelude.{◌≡◌, ◌++◌, ◌<◌, ◌+◌, ◌^◌, ◌∷◌, [], OnOk, codes, decimal, length, take};
-ghost use Rattle.std.specs.Fmt.{signed_decimal};
-ghost use Rattle.tw_report.specs.Lines.{asm_line, fault_line, history_line, input_word_line, not_enabled_line, opening_line, place_text};
-ghost use Rattle.tw_report.specs.Lines.{trap_line, two_digits, value_text, verify_line};
+ghost use Rattle.tw_report.specs.Lines.{asm_line, fault_line, history_line, input_word_line, not_enabled_line, opening_line, place_text, trap_line, two_digits, value_text, verify_line};
 
 use std::alloc::{AllocError, Global};
 use tw_types::Value;
-pub use tw_words::put;
-use tw_words::put_quoted;
-
-/// Adds a number in decimal digits.
-pub fn put_decimal(alloc: Global, out: &mut Vec<u8>, n: usize) -> Result<(), AllocError>
-    ensures { OnOk result (out.new.items ≡ out.old.items ++ decimal n) }
-{
-    let text = format!(in alloc; "{n}")?;
-    put(out, &text)
-}
-
-/// Adds words, and a number after them.
-pub fn put_numbered(
-    alloc: Global,
-    out: &mut Vec<u8>,
-    words: &str,
-    n: usize,
-) -> Result<(), AllocError>
-    ensures { OnOk result (out.new.items ≡ out.old.items ++ (words.now ++ decimal n)) }
-{
-    put(out, words)?;
-    put_decimal(alloc, out, n)
-}
-
-/// Adds an integer as it is shown.
-pub fn put_signed(alloc: Global, out: &mut Vec<u8>, n: i64) -> Result<(), AllocError>
-    ensures { OnOk result (out.new.items ≡ out.old.items ++ signed_decimal n) }
-{
-    let text = format!(in alloc; "{n}")?;
-    put(out, &text)
-}
+use tw_words::{put_quoted, put_signed};
+pub use tw_words::{put, put_numbered};
 
 fn put_two_digits(out: &mut Vec<u8>, n: u8) -> Result<(), AllocError>
     requires { n < 100 }

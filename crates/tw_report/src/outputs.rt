@@ -4,15 +4,14 @@ ghost use Rattle.std.specs.Prelude.{◌≡◌, ◌++◌, OnOk, option_map};
 ghost use Rattle.std.specs.Option.{option_copied};
 ghost use Rattle.std.specs.FinMap.{entries, get};
 ghost use Rattle.tw_types.specs.StoreCalls.{members_in};
-ghost use Rattle.tw_report.specs.Report.{closed_text, container_head, container_text, datum_text, member_line, member_lines};
-ghost use Rattle.tw_report.specs.Report.{output_line, output_text, report, scalar_text, subscript_text};
+ghost use Rattle.tw_report.specs.Report.{closed_text, container_head, container_text, datum_text, member_line, member_lines, output_line, output_text, report, scalar_text, subscript_text};
 
-use crate::lines::{put, put_decimal, put_numbered, put_signed, put_value};
+use crate::lines::{put, put_numbered, put_value};
 use crate::told::Told;
 use std::alloc::{AllocError, Global};
 use tw_datum::{Datum, Member};
 use tw_types::{DataType, DatumId, Scalar, Value};
-use tw_words::put_quoted;
+use tw_words::{put_decimal, put_quoted, put_signed};
 
 fn scalar_text(scalar: Scalar) -> &'static str
     ensures { result.now ≡ scalar_text scalar }
