@@ -58,8 +58,12 @@ flags_line line flags = fold with_rule line (map flag_rule flags)
 abbrev pub reading_line : App → App
 reading_line line = with_rule (flags_line line (text ∷ inputs ∷ [])) input_rule
 
+-- `run` with its numbers, and with what may be written of it
+abbrev pub written_line : App
+written_line = flags_line (numbers_line (codes "run") number_options) (trace ∷ stats ∷ picture ∷ [])
+
 abbrev pub run_line : App
-run_line = reading_line (flags_line (numbers_line (codes "run") number_options) (trace ∷ in_turn ∷ stats ∷ picture ∷ quiet ∷ []))
+run_line = reading_line (flags_line written_line (in_turn ∷ quiet ∷ []))
 
 -- the commands that are given a history
 abbrev pub replay_line : App

@@ -3,7 +3,7 @@
 ghost use Rattle.std.specs.Prelude.{◌≡◌, false, codes, IfOk};
 ghost use Rattle.clap.specs.Words.{App, app_of, with_subcommand};
 ghost use Rattle.clap.specs.declared.Command.TheViews.{out-Command};
-ghost use Rattle.tw_command.specs.CommandLine.{bare_line, command_line, numbers_line, picture_line, reading_line, replay_line, replay_with, run_line, run_with};
+ghost use Rattle.tw_command.specs.CommandLine.{bare_line, command_line, numbers_line, picture_line, reading_line, replay_line, replay_with, run_line, run_with, written_line};
 ghost use Rattle.tw_command.specs.Options.{actor_options, number_options};
 ghost use Rattle.tw_command.specs.declared.command.NoOrder.TheVariants.{NoMemory};
 
@@ -248,16 +248,25 @@ fn numbered_run<'a>(alloc: Global) -> Result<Command<'a>, AllocError>
     Ok(whole)
 }
 
-fn run_command<'a>(alloc: Global) -> Result<Command<'a>, AllocError>
-    ensures app { IfOk result (λ c. app_of c ≡ run_line) }
+/// The same with the flags that say what is written of it.
+fn written_run<'a>(alloc: Global) -> Result<Command<'a>, AllocError>
+    ensures app { IfOk result (λ c. app_of c ≡ written_line) }
     ensures local { IfOk result (λ c. (out-Command c).has_globals ≡ false) }
 {
     let numbered = numbered_run(alloc)?;
     let trace = numbered.arg(flag_arg(alloc, "trace", TRACE_HELP))?;
-    let in_turn = trace.arg(flag_arg(alloc, "in-turn", IN_TURN_HELP))?;
-    let stats = in_turn.arg(flag_arg(alloc, "stats", STATS_HELP))?;
-    let picture = stats.arg(flag_arg(alloc, "picture", PICTURE_HELP))?;
-    let quiet = picture.arg(flag_arg(alloc, "quiet", QUIET_HELP))?;
+    let stats = trace.arg(flag_arg(alloc, "stats", STATS_HELP))?;
+    let whole = stats.arg(flag_arg(alloc, "picture", PICTURE_HELP))?;
+    Ok(whole)
+}
+
+fn run_command<'a>(alloc: Global) -> Result<Command<'a>, AllocError>
+    ensures app { IfOk result (λ c. app_of c ≡ run_line) }
+    ensures local { IfOk result (λ c. (out-Command c).has_globals ≡ false) }
+{
+    let written = written_run(alloc)?;
+    let in_turn = written.arg(flag_arg(alloc, "in-turn", IN_TURN_HELP))?;
+    let quiet = in_turn.arg(flag_arg(alloc, "quiet", QUIET_HELP))?;
     let whole = reading_command(alloc, quiet)?;
     Ok(whole)
 }

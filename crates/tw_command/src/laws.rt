@@ -1,8 +1,7 @@
 //! What the reading of words says at some words.
 
 ghost use Rattle.std.specs.Prelude.{◌≡◌, ℕ, true, false, List, [], ◌∷◌, Some, None, codes};
-ghost use Rattle.clap.specs.declared.error.ErrorKind.TheVariants.{ArgumentConflict, DisplayHelp, DisplayVersion, InvalidSubcommand};
-ghost use Rattle.clap.specs.declared.error.ErrorKind.TheVariants.{InvalidValue, MissingRequiredArgument, TooManyValues, UnknownArgument, ValueValidation};
+ghost use Rattle.clap.specs.declared.error.ErrorKind.TheVariants.{ArgumentConflict, DisplayHelp, DisplayVersion, InvalidSubcommand, InvalidValue, MissingRequiredArgument, TooManyValues, UnknownArgument, ValueValidation};
 ghost use Rattle.tw_command.specs.CommandLine.{Assembles, Checks, Disassembles, Explains, Replays, Runs, asked_by_words, word_faults};
 ghost use Rattle.tw_command.specs.declared.command.Answer.TheVariants.{Numbers, Picture, Report};
 ghost use Rattle.tw_command.specs.declared.command.Assembling.TheVariants.{Names, Plain, Text};

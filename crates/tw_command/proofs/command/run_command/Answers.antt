@@ -5,9 +5,6 @@ use Rattle.tw_command.proofs.command.run_command.Goals as goal
 
 pub returns-clause-app : goal.returns-clause-app
 returns-clause-app c =
-    let trace = c.in_ok-trace.ensures.shape c.flag_arg.ensures.local ∙ ap₂ with_rule c.in_ok-numbered.ensures.app c.flag_arg.ensures.rule in
-    let in_turn = c.in_ok-in_turn.ensures.shape c.flag_arg-2.ensures.local ∙ ap₂ with_rule trace c.flag_arg-2.ensures.rule in
-    let stats = c.in_ok-stats.ensures.shape c.flag_arg-3.ensures.local ∙ ap₂ with_rule in_turn c.flag_arg-3.ensures.rule in
-    let picture = c.in_ok-picture.ensures.shape c.flag_arg-4.ensures.local ∙ ap₂ with_rule stats c.flag_arg-4.ensures.rule in
-    let quiet = c.in_ok-quiet.ensures.shape c.flag_arg-5.ensures.local ∙ ap₂ with_rule picture c.flag_arg-5.ensures.rule in
+    let in_turn = c.in_ok-in_turn.ensures.shape c.flag_arg.ensures.local ∙ ap₂ with_rule c.in_ok-written.ensures.app c.flag_arg.ensures.rule in
+    let quiet = c.in_ok-quiet.ensures.shape c.flag_arg-2.ensures.local ∙ ap₂ with_rule in_turn c.flag_arg-2.ensures.rule in
     c.in_ok-whole.ensures.app ∙ ap reading_line quiet
