@@ -1,13 +1,13 @@
 -- The whole picture: one element, in which each thing of the drawing stands.
 use Rattle.std.specs.Prelude.{◌+◌, ◌*◌, ℕ, List, [], ◌∷◌, ◌++◌, codes, decimal, max, if◌then◌else◌, ◌==◌}
-use Rattle.tw_types.specs.declared.actor.Actor.{Actor}
 use Rattle.tw_types.specs.declared.actor.Actor.TheVariants.{Engine, Server, Worker}
 use Rattle.tw_types.specs.Layout.{ActorCounts}
 use Rattle.tw_picture.specs.declared.attributes.Attribute.{Attribute}
 use Rattle.tw_picture.specs.declared.attributes.Key.TheVariants as key
+use Rattle.tw_picture.specs.declared.attributes.Kind.{Kind}
+use Rattle.tw_picture.specs.declared.attributes.Kind.TheVariants as of_kind
 use Rattle.tw_picture.specs.declared.attributes.Name.TheVariants as name
 use Rattle.tw_picture.specs.declared.attributes.Value.TheVariants as value
-use Rattle.tw_picture.specs.declared.attributes.Word.{Word as AWord}
 use Rattle.tw_picture.specs.declared.attributes.Word.TheVariants as word
 use Rattle.tw_picture.specs.declared.drawing.Drawing.{Drawing}
 use Rattle.tw_picture.specs.declared.drawing.Mark.{Mark}
@@ -15,7 +15,7 @@ use Rattle.tw_picture.specs.declared.places.Settings.{Settings}
 use Rattle.tw_picture.specs.declared.places.View.{View}
 use Rattle.tw_picture.specs.Places.{across, bottom, column_count, is_coarse, lane_count, shows_none, view_of}
 use Rattle.tw_picture.specs.Shapes.{bar_shape, column, fixed, labelled, lane, mark_shape, number, rectangle, thread_shape, tick_of, wait_shape}
-use Rattle.tw_picture.specs.Xml.{Forest, Nothing, Element, all, below, joined, plain, with_words, word_text}
+use Rattle.tw_picture.specs.Xml.{Forest, Nothing, Element, all, below, joined, kind_text, plain, with_words}
 
 -- ---- what stands above the lanes
 
@@ -23,7 +23,7 @@ abbrev pub tip_row : List Attribute
 tip_row = fixed key.Identity word.Tip ∷ number key.TipX 8 ∷ number key.TipY 4 ∷ number key.TipWidth 8 ∷ number key.TipHeight 8 ∷ fixed key.TipTurns word.Auto ∷ []
 
 abbrev pub head_row : List Attribute
-head_row = fixed key.Class word.Release ∷ fixed key.Route word.Arrowhead ∷ []
+head_row = fixed key.Class (word.Event of_kind.Release) ∷ fixed key.Route word.Arrowhead ∷ []
 
 abbrev pub marker : Forest
 marker = Element name.Marker tip_row (plain name.Path head_row) Nothing
@@ -33,14 +33,14 @@ abbrev pub tip : Forest
 tip = Element name.Definitions [] marker Nothing
 
 -- a kind of event, with its colour
-abbrev pub kind : AWord → ℕ → Forest
-kind k x = joined (plain name.Rectangle (rectangle k x 12 12 12)) (with_words name.Text (labelled word.Label (x + 18) 22) (word_text k))
+abbrev pub kind : Kind → ℕ → Forest
+kind k x = joined (plain name.Rectangle (rectangle (word.Event k) x 12 12 12)) (with_words name.Text (labelled word.Label (x + 18) 22) (kind_text k))
 
 abbrev pub first_kinds : Forest
-first_kinds = joined (kind word.Take 240) (joined (kind word.Local 320) (joined (kind word.Call 410) (kind word.End 490)))
+first_kinds = joined (kind of_kind.Take 240) (joined (kind of_kind.Local 320) (joined (kind of_kind.Call 410) (kind of_kind.End 490)))
 
 abbrev pub kinds : Forest
-kinds = joined first_kinds (joined (kind word.Ask 560) (joined (kind word.Deliver 630) (kind word.Release 730)))
+kinds = joined first_kinds (joined (kind of_kind.Ask 560) (joined (kind of_kind.Deliver 630) (kind of_kind.Release 730)))
 
 abbrev pub looks : List ℕ
 looks = codes "svg{background:white;font:12px monospace}.lane{fill:#f3f5f8}.actor{fill:#222;font-weight:bold}.again{fill:#8a94a0;font-size:9px}.tick{stroke:#d5dae0}.number{fill:#667;font-size:10px}.thread{fill:none;stroke:#7a9;stroke-width:1.5}.thin{fill:none;stroke:#7a9;stroke-width:.6;opacity:.6}.bar{fill:#cfe0f5;stroke:#4a78b0}.open{fill:#e4edf8;stroke:#4a78b0;stroke-dasharray:4 3}.label{fill:#124;font-size:11px}.column{fill:#2f5d94;opacity:.75}.take{fill:#4a78b0}.local{fill:#98a2ae}.call{fill:#e08a1e}.end{fill:#1d3557}.ask{fill:#8e44ad}.deliver{fill:#16a085}.release{fill:#c0392b}.closing{fill:#222;font-size:14px;font-weight:bold}.rule{fill:#fbe3e0;stroke:#c0392b}.wait{fill:none;stroke:#c0392b;stroke-width:1.5;marker-end:url(#tip)}"

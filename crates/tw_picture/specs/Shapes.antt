@@ -10,6 +10,8 @@ use Rattle.tw_report.specs.Events.{event_line}
 use Rattle.tw_picture.specs.declared.attributes.Attribute.{Attribute}
 use Rattle.tw_picture.specs.declared.attributes.Key.{Key}
 use Rattle.tw_picture.specs.declared.attributes.Key.TheVariants as key
+use Rattle.tw_picture.specs.declared.attributes.Kind.{Kind}
+use Rattle.tw_picture.specs.declared.attributes.Kind.TheVariants as kind
 use Rattle.tw_picture.specs.declared.attributes.Name.TheVariants as name
 use Rattle.tw_picture.specs.declared.attributes.Point.{Point}
 use Rattle.tw_picture.specs.declared.attributes.Value.{Value}
@@ -48,14 +50,14 @@ way_row class way = fixed key.Class class ∷ route way ∷ []
 
 -- ---- events
 
-abbrev pub class_of : Event → Word
-class_of (event.Take actor) = word.Take
-class_of (event.Local actor n) = word.Local
-class_of (event.Call actor) = word.Call
-class_of (event.End actor) = word.End
-class_of (event.Ask engine rule parameter) = word.Ask
-class_of (event.Deliver server datum rule parameter) = word.Deliver
-class_of (event.Release engine rule) = word.Release
+abbrev pub kind_of : Event → Kind
+kind_of (event.Take actor) = kind.Take
+kind_of (event.Local actor n) = kind.Local
+kind_of (event.Call actor) = kind.Call
+kind_of (event.End actor) = kind.End
+kind_of (event.Ask engine rule parameter) = kind.Ask
+kind_of (event.Deliver server datum rule parameter) = kind.Deliver
+kind_of (event.Release engine rule) = kind.Release
 
 -- the number of an event, and its line
 abbrev pub mark_title : Mark → List ℕ
@@ -63,7 +65,7 @@ mark_title m = codes "event " ++ (decimal m.number ++ (codes ": " ++ event_line 
 
 -- in the lane of its actor
 abbrev pub mark_box : ActorCounts → View → Mark → Forest
-mark_box layout v m = titled name.Rectangle (rectangle (class_of m.event) (across v m.number + mark_inset v) (lane_top layout (actor_of m.event) + 19) (mark_width v) 12) (mark_title m)
+mark_box layout v m = titled name.Rectangle (rectangle (word.Event (kind_of m.event)) (across v m.number + mark_inset v) (lane_top layout (actor_of m.event) + 19) (mark_width v) 12) (mark_title m)
 
 -- where it is shown
 abbrev pub mark_shape : ActorCounts → View → Mark → Forest

@@ -4,6 +4,8 @@ use Rattle.std.specs.List.{flat_map}
 use Rattle.tw_picture.specs.declared.attributes.Attribute.{Attribute}
 use Rattle.tw_picture.specs.declared.attributes.Key.{Key}
 use Rattle.tw_picture.specs.declared.attributes.Key.TheVariants as key
+use Rattle.tw_picture.specs.declared.attributes.Kind.{Kind}
+use Rattle.tw_picture.specs.declared.attributes.Kind.TheVariants as kind
 use Rattle.tw_picture.specs.declared.attributes.Name.{Name}
 use Rattle.tw_picture.specs.declared.attributes.Name.TheVariants as name
 use Rattle.tw_picture.specs.declared.attributes.Point.{Point}
@@ -63,6 +65,15 @@ key_text key.TipWidth = codes "markerWidth"
 key_text key.TipHeight = codes "markerHeight"
 key_text key.TipTurns = codes "orient"
 
+abbrev pub kind_text : Kind → List ℕ
+kind_text kind.Take = codes "take"
+kind_text kind.Local = codes "local"
+kind_text kind.Call = codes "call"
+kind_text kind.End = codes "end"
+kind_text kind.Ask = codes "ask"
+kind_text kind.Deliver = codes "deliver"
+kind_text kind.Release = codes "release"
+
 abbrev pub word_text : AWord → List ℕ
 word_text word.Svg = codes "http://www.w3.org/2000/svg"
 word_text word.Auto = codes "auto"
@@ -79,13 +90,7 @@ word_text word.Bar = codes "bar"
 word_text word.Open = codes "open"
 word_text word.Column = codes "column"
 word_text word.Label = codes "label"
-word_text word.Take = codes "take"
-word_text word.Local = codes "local"
-word_text word.Call = codes "call"
-word_text word.End = codes "end"
-word_text word.Ask = codes "ask"
-word_text word.Deliver = codes "deliver"
-word_text word.Release = codes "release"
+word_text (word.Event kind) = kind_text kind
 word_text word.Closing = codes "closing"
 word_text word.Rule = codes "rule"
 word_text word.RuleName = codes "rule-name"

@@ -2,7 +2,7 @@
 
 ghost use Rattle.std.specs.Prelude.{◌≡◌};
 ghost use Rattle.tw_picture.specs.Shapes.{fixed, number, route};
-ghost use Rattle.tw_picture.specs.Xml.{key_text, name_text, word_text};
+ghost use Rattle.tw_picture.specs.Xml.{key_text, kind_text, name_text, word_text};
 
 /// What an element is.
 #[derive(Clone, Copy)]
@@ -86,6 +86,34 @@ impl Key {
     }
 }
 
+/// What an event does.
+#[derive(Clone, Copy)]
+pub enum Kind {
+    Take,
+    Local,
+    Call,
+    End,
+    Ask,
+    Deliver,
+    Release,
+}
+
+impl Kind {
+    pub fn text(self) -> &'static str
+        ensures { result.now ≡ kind_text self }
+    {
+        match self {
+            Kind::Take => "take",
+            Kind::Local => "local",
+            Kind::Call => "call",
+            Kind::End => "end",
+            Kind::Ask => "ask",
+            Kind::Deliver => "deliver",
+            Kind::Release => "release",
+        }
+    }
+}
+
 /// A value that is always the same.
 #[derive(Clone, Copy)]
 pub enum Word {
@@ -104,13 +132,7 @@ pub enum Word {
     Open,
     Column,
     Label,
-    Take,
-    Local,
-    Call,
-    End,
-    Ask,
-    Deliver,
-    Release,
+    Event(Kind),
     Closing,
     Rule,
     RuleName,
@@ -137,13 +159,7 @@ impl Word {
             Word::Open => "open",
             Word::Column => "column",
             Word::Label => "label",
-            Word::Take => "take",
-            Word::Local => "local",
-            Word::Call => "call",
-            Word::End => "end",
-            Word::Ask => "ask",
-            Word::Deliver => "deliver",
-            Word::Release => "release",
+            Word::Event(kind) => kind.text(),
             Word::Closing => "closing",
             Word::Rule => "rule",
             Word::RuleName => "rule-name",

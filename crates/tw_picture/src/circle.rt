@@ -1,7 +1,6 @@
 //! The circle in which a history is stuck, gathered for its drawing.
 
 ghost use Rattle.std.specs.Prelude.{◌≡◌, ◌<◌, ◌≤◌, IfOk, length, map, take};
-ghost use Rattle.tw_types.specs.declared.pending.Link.{Link as ALink};
 ghost use Rattle.tw_code.specs.machine.Pending.{circle};
 ghost use Rattle.tw_picture.specs.History.{AreArrows, IsRound, links_in, place_behind};
 

@@ -4,7 +4,7 @@ ghost use Rattle.std.specs.Prelude.{◌≡◌, ◌++◌, ◌<◌, IfOk, OnOk};
 ghost use Rattle.tw_picture.specs.Picture.{first_kinds, head_row, heading, key_of, kind, kinds, lines, looks, marker, meaning, none_text, shown_line, shown_text, some_text, tip, tip_row};
 ghost use Rattle.tw_picture.specs.Xml.{xml_text};
 
-use crate::attributes::{Attribute, Key, Name, Word, fixed, number};
+use crate::attributes::{Attribute, Key, Kind, Name, Word, fixed, number};
 use crate::bars::labelled;
 use crate::drawing::Drawing;
 use crate::elements::{numbered, put_close, put_open, put_plain, put_words};
@@ -36,7 +36,7 @@ fn head_row() -> [Attribute; 2]
     ensures { result ≡ head_row }
 {
     [
-        fixed(Key::Class, Word::Release),
+        fixed(Key::Class, Word::Event(Kind::Release)),
         fixed(Key::Route, Word::Arrowhead),
     ]
 }
@@ -59,41 +59,41 @@ fn put_tip(alloc: Global, out: &mut Vec<u8>) -> Result<(), AllocError>
 }
 
 /// Adds a kind of event with its colour.
-fn put_kind(alloc: Global, out: &mut Vec<u8>, class: Word, x: usize) -> Result<(), AllocError>
+fn put_kind(alloc: Global, out: &mut Vec<u8>, event: Kind, x: usize) -> Result<(), AllocError>
     requires { x < 1000 }
-    ensures { OnOk result (out.new.items ≡ out.old.items ++ xml_text (kind class x)) }
+    ensures { OnOk result (out.new.items ≡ out.old.items ++ xml_text (kind event x)) }
 {
     put_plain(
         alloc,
         out,
         Name::Rectangle,
-        &rectangle(class, x, 12, 12, 12),
+        &rectangle(Word::Event(event), x, 12, 12, 12),
     )?;
     put_words(
         alloc,
         out,
         Name::Text,
         &labelled(Word::Label, x + 18, 22),
-        class.text().as_bytes(),
+        event.text().as_bytes(),
     )
 }
 
 fn put_first_kinds(alloc: Global, out: &mut Vec<u8>) -> Result<(), AllocError>
     ensures { OnOk result (out.new.items ≡ out.old.items ++ xml_text first_kinds) }
 {
-    put_kind(alloc, out, Word::Take, 240)?;
-    put_kind(alloc, out, Word::Local, 320)?;
-    put_kind(alloc, out, Word::Call, 410)?;
-    put_kind(alloc, out, Word::End, 490)
+    put_kind(alloc, out, Kind::Take, 240)?;
+    put_kind(alloc, out, Kind::Local, 320)?;
+    put_kind(alloc, out, Kind::Call, 410)?;
+    put_kind(alloc, out, Kind::End, 490)
 }
 
 fn put_kinds(alloc: Global, out: &mut Vec<u8>) -> Result<(), AllocError>
     ensures { OnOk result (out.new.items ≡ out.old.items ++ xml_text kinds) }
 {
     put_first_kinds(alloc, out)?;
-    put_kind(alloc, out, Word::Ask, 560)?;
-    put_kind(alloc, out, Word::Deliver, 630)?;
-    put_kind(alloc, out, Word::Release, 730)
+    put_kind(alloc, out, Kind::Ask, 560)?;
+    put_kind(alloc, out, Kind::Deliver, 630)?;
+    put_kind(alloc, out, Kind::Release, 730)
 }
 
 /// Adds what a column means.

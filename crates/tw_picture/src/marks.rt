@@ -2,10 +2,10 @@
 
 ghost use Rattle.std.specs.Prelude.{◌≡◌, ◌++◌, IfOk, OnOk};
 ghost use Rattle.tw_code.specs.machine.History.{actor_of};
-ghost use Rattle.tw_picture.specs.Shapes.{class_of, mark_box, mark_shape, mark_title, rectangle, way_row};
+ghost use Rattle.tw_picture.specs.Shapes.{kind_of, mark_box, mark_shape, mark_title, rectangle, way_row};
 ghost use Rattle.tw_picture.specs.Xml.{all, xml_text};
 
-use crate::attributes::{Attribute, Key, Name, Value, Word, fixed, number, route};
+use crate::attributes::{Attribute, Key, Kind, Name, Value, Word, fixed, number, route};
 use crate::drawing::Mark;
 use crate::elements::put_titled;
 use crate::places::{View, lane_top};
@@ -46,17 +46,17 @@ pub fn actor_of(event: &Event) -> Actor
     }
 }
 
-fn class_of(event: &Event) -> Word
-    ensures { result ≡ class_of event.now }
+fn kind_of(event: &Event) -> Kind
+    ensures { result ≡ kind_of event.now }
 {
     match event {
-        Event::Take(_) => Word::Take,
-        Event::Local(_, _) => Word::Local,
-        Event::Call(_) => Word::Call,
-        Event::End(_) => Word::End,
-        Event::Ask(_, _, _) => Word::Ask,
-        Event::Deliver(_, _, _, _) => Word::Deliver,
-        Event::Release(_, _) => Word::Release,
+        Event::Take(_) => Kind::Take,
+        Event::Local(_, _) => Kind::Local,
+        Event::Call(_) => Kind::Call,
+        Event::End(_) => Kind::End,
+        Event::Ask(_, _, _) => Kind::Ask,
+        Event::Deliver(_, _, _, _) => Kind::Deliver,
+        Event::Release(_, _) => Kind::Release,
     }
 }
 
@@ -84,7 +84,8 @@ fn put_box(
     let title = mark_title(alloc, mark)?;
     let x = view.across(mark.number as usize) + view.mark_inset();
     let y = lane_top(layout, actor_of(&mark.event)) + 19;
-    let row = rectangle(class_of(&mark.event), x, y, view.mark_width(), 12);
+    let class = Word::Event(kind_of(&mark.event));
+    let row = rectangle(class, x, y, view.mark_width(), 12);
     put_titled(alloc, out, Name::Rectangle, &row, &title)
 }
 

@@ -7,7 +7,6 @@ ghost use Rattle.tw_types.specs.declared.event.Event.{Event as AnEvent};
 ghost use Rattle.tw_types.specs.Outcome.{Went};
 ghost use Rattle.tw_code.specs.machine.History.{actor_of};
 ghost use Rattle.tw_code.specs.machine.Machine.{step};
-ghost use Rattle.tw_code.specs.machine.Pending.{circle};
 ghost use Rattle.tw_code.specs.machine.State.{State as AState};
 ghost use Rattle.tw_machine.specs.PlainView.{PlainView};
 ghost use Rattle.tw_picture.specs.History.{AreArrows, HasFew, IsDrawing, IsOpening, IsTrail, begun_at, ended, first_end, in_order, is_end_of, led, links_in, maker};

@@ -1,4 +1,3 @@
-use Rattle.std.proofs.Common.{refl}
 use Rattle.tw_picture.proofs.Forests.{behind}
 use Rattle.tw_picture.proofs.heading.put_lines.Goals as goal
 
