@@ -11,14 +11,12 @@ use Rattle.tw_picture.specs.History.{Moment, history, moments}
 use Rattle.tw_stats.specs.declared.coming.Coming.{Coming}
 use Rattle.tw_stats.specs.declared.tally.Tally.{Tally}
 use Rattle.tw_stats.specs.Waits.{steps_in}
+use Rattle.tw_replies.proofs.Making.{one_taken}
 
 -- ---- one event more
 
-one_more : (events : List Event) (i : ℕ) (event : Event) → i < length events → event ≡ get_or events i event → take (i + 1) events ≡ take i events ++ event ∷ []
-one_more events i event inside is = take_more events i event inside ∙ ap (λ (e : Event). take i events ++ e ∷ []) (sym is)
-
 pub tally_on : (first : PlainView) (events : List Event) (i : ℕ) (event : Event) (s : State) (t : Tally) → i < length events → event ≡ get_or events i event → IsTally first (take i events ++ event ∷ []) s t → IsTally first (take (i + 1) events) s t
-tally_on first events i event s t inside is h = subst (λ (es : List Event). IsTally first es s t) (sym (one_more events i event inside is)) h
+tally_on first events i event s t inside is h = subst (λ (es : List Event). IsTally first es s t) (sym (one_taken events i event inside is)) h
 
 -- no more moments than events, and no more steps than these may do
 record AreFew (events : List Event) (ms : List Moment) : Type 0 where
@@ -55,7 +53,7 @@ small_taken first events n all short =
     omega (arith, length-take n events)
 
 pub small_on : (first : PlainView) (events : List Event) (i : ℕ) (event : Event) → i < length events → event ≡ get_or events i event → AreShort events → length events ≤ 16777217 → IsSmall (history first (take i events ++ event ∷ []))
-small_on first events i event inside is all short = subst (λ (es : List Event). IsSmall (history first es)) (one_more events i event inside is) (small_taken first events (i + 1) all short)
+small_on first events i event inside is all short = subst (λ (es : List Event). IsSmall (history first es)) (one_taken events i event inside is) (small_taken first events (i + 1) all short)
 
 -- what is seen of an event where the machine stands is seen from where it began
 pub came : (first at : PlainView) (event : Event) (c : Coming) → at ≡ record first { state = at.state } → IsComing at.program event at.state c → IsComing first.program event at.state c

@@ -1,13 +1,12 @@
 -- Which events made rules, and the numbers of these.
 use Rattle.std.proofs.Common.{◌≡◌, ◌↔◌, ◌+◌, ◌<◌, ◌≤◌, ◌⊎◌, inl, inr, Bool, true, false, ℕ, zero, suc, List, [], ◌∷◌, ◌++◌, length, get_or, take, Option, Some, None, refl, sym, ap, subst, ◌∙◌, append_assoc, arith}
 use Rattle.std.proofs.lemmas.Option.{same_Some}
-use Rattle.tw_replies.proofs.ReplyNames.{AreMade, ComesFrom, DoesRule, Event, Frame, Input, IsLineOf, IsMade, IsMadeSo, IsOpened, IsSpelled, IsStartOf, IsTrue, IsUnmade, NotEnabled, Outcome, PlainView, Procedure, StandsFor, Start, State, TellRules, TellsRule, Trap, Versioned, Went, append-nil, instr_at, length-append, option_map, option_to_list, reached_from, refusal_of, rule_by, rule_done, rule_in, rule_line, rules_in, slice_get, take_more}
+use Rattle.tw_replies.proofs.ReplyNames.{AreMade, ComesFrom, DoesRule, Event, Frame, Input, IsLineOf, IsMade, IsMadeSo, IsOpened, IsSpelled, IsStartOf, IsTrue, IsUnmade, Outcome, PlainView, Procedure, StandsFor, Start, State, TellRules, TellsRule, Versioned, Went, append-nil, instr_at, length-append, option_map, option_to_list, reached_from, refusal_of, rule_by, rule_done, rule_in, rule_line, rules_in, slice_get, take_more}
 use Rattle.std.specs.FinMap.{get}
 use Rattle.tw_types.specs.declared.actor.Actor.{Actor}
 use Rattle.tw_types.specs.declared.event.Event.TheVariants.{Take, Local, Call, End, Ask, Deliver, Release}
 use Rattle.tw_types.specs.declared.pending.Link.{Link}
 use Rattle.tw_types.specs.Layout.{ActorCounts}
-use Rattle.tw_types.specs.declared.cause.Cause.{Cause}
 use Rattle.tw_asm.specs.Spelling.{SpellsProgram}
 use Rattle.tw_asm.proofs.Unique.{spells_once}
 use Rattle.tw_code.specs.declared.instr.Action.{Action}
@@ -20,6 +19,7 @@ use Rattle.tw_stats.specs.declared.thing.Thing.TheVariants.{Datum}
 use Rattle.tw_stats.specs.Waits.{made_at, made_by, made_in}
 use Rattle.tw_stats.proofs.Nexts.{step_more}
 use Rattle.tw_replies.specs.declared.stuck.Made.{Made}
+use Rattle.tw_report.proofs.HistoryReading.{never}
 
 none_some : {A : Type 0} {Z : Type 0} (x : A) → None ≡ Some x → Z
 none_some x e = absurd cc
@@ -274,21 +274,8 @@ same_program text program sections spells (version, spelled) = ap (λ (p : Versi
 pub opens_so : (start : Start) (program : Versioned) (inputs : List Input) (layout : ActorCounts) → IsStartOf start inputs layout → start.program ≡ program.procedures → refusal_of start.program start.inputs ≡ None → refusal_of program.procedures inputs ≡ None
 opens_so start program inputs layout (given, at) same none = sym (ap (λ (ps : List Procedure). refusal_of ps inputs) same) ∙ sym (ap (refusal_of start.program) given) ∙ none
 
--- events that go neither stop nor trap
-pub not_went : {Z : Type 0} (o : Outcome State) (s : State) → o ≡ Went s → o ≡ NotEnabled → Z
-not_went o s goes stops = absurd (untrue (sym stops ∙ goes))
-  where
-    untrue : NotEnabled ≡ Went s → ⊥
-    untrue e = cc
-
-pub trapped_not : {Z : Type 0} (o : Outcome State) (s : State) (cause : Cause) → o ≡ Went s → o ≡ Trap cause → Z
-trapped_not o s cause goes stops = absurd (untrue (sym stops ∙ goes))
-  where
-    untrue : Trap cause ≡ Went s → ⊥
-    untrue e = cc
-
-pub one_taken : (events : List Event) (i : ℕ) (event : Event) → i < length events → event ≡ get_or events i event → take (i + 1) events ≡ take i events ++ event ∷ []
-one_taken events i event inside is = take_more events i event inside ∙ ap (λ (e : Event). take i events ++ e ∷ []) (sym is)
+pub one_taken : {X : Type 0} (xs : List X) (i : ℕ) (x : X) → i < length xs → x ≡ get_or xs i x → take (i + 1) xs ≡ take i xs ++ x ∷ []
+one_taken xs i x inside is = take_more xs i x inside ∙ ap (λ y. take i xs ++ y ∷ []) (sym is)
 
 -- the same event from where the machine was opened
 pub steps_there : (start : Start) (first : PlainView) (event : Event) (s t : State) → IsOpened start first → step first.program first.layout event s ≡ Went t → step start.program start.layout event s ≡ Went t
@@ -303,17 +290,8 @@ unfolding run
 run_none program layout s = refl
 
 pub not_within : {P : Type 0} (b : Bool) → (IsTrue b ↔ P) → b ≡ false → P → ⊥
-not_within true h e p = untrue e
-  where
-    untrue : true ≡ false → ⊥
-    untrue f = cc
-not_within false h e p = untrue (h.1 p)
-  where
-    untrue : false ≡ true → ⊥
-    untrue f = cc
+not_within true h e p = never (sym e)
+not_within false h e p = never (h.1 p)
 
 pub same_state : (o : Outcome State) (s t : State) → o ≡ Went s → o ≡ Went t → s ≡ t
 same_state o s t e f = went_is s t (sym e ∙ f)
-
-pub link_taken : (links : List Link) (i : ℕ) (l : Link) → i < length links → l ≡ get_or links i l → take (i + 1) links ≡ take i links ++ l ∷ []
-link_taken links i l inside is = take_more links i l inside ∙ ap (λ (k : Link). take i links ++ k ∷ []) (sym is)

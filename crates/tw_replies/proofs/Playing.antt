@@ -1,5 +1,5 @@
 -- Events, one after the other, in a replay and in a picture.
-use Rattle.std.proofs.Common.{◌≡◌, ◌+◌, ◌<◌, ◌≤◌, ℕ, zero, suc, List, [], ◌∷◌, ◌++◌, length, length-take, get_or, drop, take, Option, Some, None, sym, ap, subst, ◌∙◌, add-one, drop-cons, arith}
+use Rattle.std.proofs.Common.{◌≡◌, ◌+◌, ◌<◌, ◌≤◌, ℕ, zero, suc, List, [], ◌∷◌, ◌++◌, length, length-take, get_or, drop, take, Option, Some, None, refl, sym, ap, subst, ◌∙◌, add-one, drop-cons, arith}
 use Rattle.tw_replies.proofs.ReplyNames.{◌>>=◌, AllByRecursion, AreShort, Event, Input, IsShort, IsTold, NotEnabled, Outcome, PlainView, Procedure, Refused, Spoken as Reply, State, Trap, Trapped, Versioned, Went, drop_all, not_enabled_line, refusal_of, reply, size_of, take_all, take_more, trap_line}
 use Rattle.tw_types.specs.declared.cause.Cause.{Cause}
 use Rattle.tw_types.specs.declared.event.Event.TheVariants.{Take, Local, Call, End, Ask, Deliver, Release}
@@ -10,13 +10,15 @@ use Rattle.tw_code.specs.machine.Machine.{run, step}
 use Rattle.tw_code.specs.machine.Opening.{opening}
 use Rattle.tw_command.specs.declared.command.ReplayOrder.{ReplayOrder}
 use Rattle.tw_command.specs.declared.shown.Stretch.{Stretch}
+use Rattle.tw_instr.specs.Attempts.{IsStopped}
+use Rattle.tw_instr.specs.declared.stopped.Stopped.{Stopped}
 use Rattle.tw_machine.specs.declared.refusal.OpenRefusal.{OpenRefusal}
 use Rattle.tw_machine.specs.declared.refusal.OpenRefusal.TheVariants.{NoMemory}
 use Rattle.tw_picture.specs.declared.trail.Trail.{Trail}
 use Rattle.tw_picture.specs.History.{HasFew, IsTrail}
 use Rattle.tw_picture.proofs.History.{trail_length}
 use Rattle.tw_report.specs.Events.{IsEvent}
-use Rattle.tw_replies.specs.Replay.{ByOutcome, IsAnswered, IsPicture, IsReplayed, OpensOr, after_event, opened, played, state_reply}
+use Rattle.tw_replies.specs.Replay.{ByOutcome, IsAnswered, IsPicture, IsReplayed, OpensOr, after_event, opened, played, played_from, state_reply}
 use Rattle.tw_replies.proofs.Behinds.{IsUnopened}
 
 -- ---- one event
@@ -39,12 +41,12 @@ went_on program program' layout layout' events i event s t r p l inside is went 
     ap (λ (ps : List Procedure). played ps layout' (i + 1 + 1) (drop (i + 1) events) t) p ∙ ap (λ (a : ActorCounts). played program a (i + 1 + 1) (drop (i + 1) events) t) l
     ∙ sym (here program layout events i event s inside is ∙ by_outcome (i + 1) (step program layout event s) (Went t) (λ next. played program layout (i + 1 + 1) (drop (i + 1) events) next) went) ∙ before
 
-pub not_enabled : (program : List Procedure) (layout : ActorCounts) (events : List Event) (i : ℕ) (event : Event) (s : State) (r : Reply) → i < length events → event ≡ get_or events i event → step program layout event s ≡ NotEnabled
+not_enabled : (program : List Procedure) (layout : ActorCounts) (events : List Event) (i : ℕ) (event : Event) (s : State) (r : Reply) → i < length events → event ≡ get_or events i event → step program layout event s ≡ NotEnabled
     → played program layout (i + 1) (drop i events) s ≡ r → reply (not_enabled_line (i + 1)) Refused ≡ r
 not_enabled program layout events i event s r inside is stopped before =
     sym (here program layout events i event s inside is ∙ by_outcome (i + 1) (step program layout event s) NotEnabled (λ next. played program layout (i + 1 + 1) (drop (i + 1) events) next) stopped) ∙ before
 
-pub trapped : (program : List Procedure) (layout : ActorCounts) (events : List Event) (i : ℕ) (event : Event) (s : State) (cause : Cause) (r : Reply) → i < length events → event ≡ get_or events i event → step program layout event s ≡ Trap cause
+trapped : (program : List Procedure) (layout : ActorCounts) (events : List Event) (i : ℕ) (event : Event) (s : State) (cause : Cause) (r : Reply) → i < length events → event ≡ get_or events i event → step program layout event s ≡ Trap cause
     → played program layout (i + 1) (drop i events) s ≡ r → reply (trap_line (cause_number cause) (i + 1)) Trapped ≡ r
 trapped program layout events i event s cause r inside is stopped before =
     sym (here program layout events i event s inside is ∙ by_outcome (i + 1) (step program layout event s) (Trap cause) (λ next. played program layout (i + 1 + 1) (drop (i + 1) events) next) stopped) ∙ before
@@ -97,26 +99,45 @@ pub run_on : (program : List Procedure) (layout : ActorCounts) (events : List Ev
     → step program layout event s ≡ Went t → run program layout (drop i events) s ≡ whole → run program layout (drop (i + 1) events) t ≡ whole
 run_on program layout events i event s t whole inside is went before = sym (run_by program layout events i event s (Went t) inside is went) ∙ before
 
-pub run_not_enabled : (program : List Procedure) (layout : ActorCounts) (events : List Event) (i : ℕ) (event : Event) (s : State) (whole : Outcome State) → i < length events → event ≡ get_or events i event
-    → step program layout event s ≡ NotEnabled → run program layout (drop i events) s ≡ whole → whole ≡ NotEnabled
-run_not_enabled program layout events i event s whole inside is stopped before = sym before ∙ run_by program layout events i event s NotEnabled inside is stopped
-
-pub run_trapped : (program : List Procedure) (layout : ActorCounts) (events : List Event) (i : ℕ) (event : Event) (s : State) (cause : Cause) (whole : Outcome State) → i < length events → event ≡ get_or events i event
-    → step program layout event s ≡ Trap cause → run program layout (drop i events) s ≡ whole → whole ≡ Trap cause
-run_trapped program layout events i event s cause whole inside is stopped before = sym before ∙ run_by program layout events i event s (Trap cause) inside is stopped
-
 pub all_run : (program : List Procedure) (layout : ActorCounts) (events : List Event) (i : ℕ) (s : State) (whole : Outcome State) → length events ≤ i → run program layout (drop i events) s ≡ whole → whole ≡ Went s
 unfolding run
 all_run program layout events i s whole all before = sym before ∙ ap (λ (es : List Event). run program layout es s) (drop_all i events all)
 
-pub by_not_enabled : (o : Outcome State) (goes : State → Type 0) (stops : Type 0) → o ≡ NotEnabled → stops → ByOutcome o goes stops
-by_not_enabled o goes stops is h = subst (λ (p : Outcome State). ByOutcome p goes stops) (sym is) h
-
-pub by_trap : (o : Outcome State) (cause : Cause) (goes : State → Type 0) (stops : Type 0) → o ≡ Trap cause → stops → ByOutcome o goes stops
-by_trap o cause goes stops is h = subst (λ (p : Outcome State). ByOutcome p goes stops) (sym is) h
-
 pub by_went : (o : Outcome State) (s : State) (goes : State → Type 0) (stops : Type 0) → o ≡ Went s → goes s → ByOutcome o goes stops
 by_went o s goes stops is h = subst (λ (p : Outcome State). ByOutcome p goes stops) (sym is) h
+
+-- ---- an event that is stopped
+
+-- the reply to it is that to all
+pub stopped_so : (program : List Procedure) (layout : ActorCounts) (events : List Event) (i : ℕ) (event : Event) (s : State) (o : Outcome State) (r whole : Reply) → i < length events → event ≡ get_or events i event → step program layout event s ≡ o
+    → ByOutcome o (λ t. ⊥) (r ≡ after_event (i + 1) o (state_reply program)) → played program layout (i + 1) (drop i events) s ≡ whole → r ≡ whole
+stopped_so program layout events i event s (Went t) r whole inside is comes told before = absurd told
+stopped_so program layout events i event s NotEnabled r whole inside is comes told before = told ∙ not_enabled program layout events i event s whole inside is comes before
+stopped_so program layout events i event s (Trap cause) r whole inside is comes told before = told ∙ trapped program layout events i event s cause whole inside is comes before
+
+-- and all come to no state
+pub run_stopped : {stops : Type 0} (T : Type 0) (program : List Procedure) (layout : ActorCounts) (events : List Event) (i : ℕ) (event : Event) (s : State) (o whole : Outcome State) (goes : State → Type 0) → i < length events → event ≡ get_or events i event
+    → step program layout event s ≡ o → ByOutcome o (λ t. ⊥) T → run program layout (drop i events) s ≡ whole → stops → ByOutcome whole goes stops
+run_stopped T program layout events i event s (Went t) whole goes inside is comes told before h = absurd told
+run_stopped {stops} T program layout events i event s NotEnabled whole goes inside is comes told before h =
+    subst (λ (p : Outcome State). ByOutcome p goes stops) (sym (run_by program layout events i event s NotEnabled inside is comes) ∙ before) h
+run_stopped {stops} T program layout events i event s (Trap cause) whole goes inside is comes told before h =
+    subst (λ (p : Outcome State). ByOutcome p goes stops) (sym (run_by program layout events i event s (Trap cause) inside is comes) ∙ before) h
+
+pub stepped : (first at : PlainView) (event : Event) (o : Outcome State) → at ≡ record first { state = at.state } → step at.program at.layout event at.state ≡ o → step first.program first.layout event at.state ≡ o
+stepped first at event o stays comes = sym (ap (λ (v : PlainView). step v.program v.layout event at.state) stays) ∙ comes
+
+-- both, where the program and the layout are those of the first
+pub not_made : (first at : PlainView) (events : List Event) (i : ℕ) (event : Event) (why : Stopped) (r : Reply) (goes : State → Type 0) → at ≡ record first { state = at.state } → i < length events → event ≡ get_or events i event
+    → IsStopped (step at.program at.layout event at.state) why → ((o : Outcome State) (next : State → Reply) → IsStopped o why → ByOutcome o (λ s. ⊥) (r ≡ after_event (i + 1) o next))
+    → played first.program first.layout (i + 1) (drop i events) at.state ≡ played_from first events → run first.program first.layout (drop i events) at.state ≡ run first.program first.layout events first.state
+    → ByOutcome (run first.program first.layout events first.state) goes (r ≡ played_from first events)
+not_made first at events i event why r goes stays inside is stopped told same runs =
+    let o = step at.program at.layout event at.state in
+    let comes : step first.program first.layout event at.state ≡ o = stepped first at event o stays refl in
+    let here = told o (state_reply first.program) stopped in
+    run_stopped (r ≡ after_event (i + 1) o (state_reply first.program)) first.program first.layout events i event at.state o (run first.program first.layout events first.state) goes inside is comes here runs
+    (stopped_so first.program first.layout events i event at.state o r (played_from first events) inside is comes here same)
 
 -- ---- pictures
 
@@ -126,9 +147,6 @@ stays_so first at next stays w p l =
     ap (λ (v : Version). record next { version = v }) (w ∙ ap (λ (v : PlainView). v.version) stays)
     ∙ ap (λ (ps : List Procedure). record { version = first.version; program = ps; layout = next.layout; state = next.state }) (p ∙ ap (λ (v : PlainView). v.program) stays)
     ∙ ap (λ (a : ActorCounts). record { version = first.version; program = first.program; layout = a; state = next.state }) (l ∙ ap (λ (v : PlainView). v.layout) stays)
-
-pub stepped : (first at : PlainView) (event : Event) (o : Outcome State) → at ≡ record first { state = at.state } → step at.program at.layout event at.state ≡ o → step first.program first.layout event at.state ≡ o
-stepped first at event o stays comes = sym (ap (λ (v : PlainView). step v.program v.layout event at.state) stays) ∙ comes
 
 pub trail_on : (first : PlainView) (events : List Event) (i : ℕ) (event : Event) (s : State) (t : Trail) → i < length events → event ≡ get_or events i event → IsTrail first (take i events ++ event ∷ []) s t → IsTrail first (take (i + 1) events) s t
 trail_on first events i event s t inside is h =

@@ -9,11 +9,11 @@ ghost use Rattle.tw_replies.specs.Counted.{AreShort};
 ghost use Rattle.tw_replies.specs.Replay.{IsDrawn, IsPicture};
 ghost use Rattle.tw_replies.specs.Reply.{reply};
 
-use crate::replay::{close_of, not_enabled_reply, trap_reply};
+use crate::replay::{close_of, stopped_reply};
 use crate::reply::Reply;
 use std::alloc::{AllocError, Global};
 use tw_command::Stretch;
-use tw_machine::{Plain, Stopped};
+use tw_machine::Plain;
 use tw_picture::{Settings, Trail, picture};
 use tw_types::Event;
 
@@ -51,9 +51,7 @@ pub fn draw(
     for (index, event) in events.iter().enumerate() {
         match plain.step(alloc, *event) {
             Ok(()) => trail.keep(&plain, *event)?,
-            Err(Stopped::NotEnabled) => return not_enabled_reply(alloc, index + 1),
-            Err(Stopped::Trap(cause)) => return trap_reply(alloc, cause, index + 1),
-            Err(Stopped::NoMemory) => return Err(AllocError),
+            Err(stopped) => return stopped_reply(alloc, stopped, index + 1),
         }
     }
     picture_reply(alloc, shown, &plain, trail)

@@ -1,15 +1,11 @@
 //! What `--places` lists of a program.
 
-ghost use Rattle.std.specs.Prelude.{◌≡◌, ◌<◌, ◌++◌, ◌^◌, IfOk, None, OnOk, length, replicate};
+ghost use Rattle.std.specs.Prelude.{◌≡◌, ◌<◌, ◌++◌, ◌^◌, IfOk, None, OnOk, length, replicate, slice_get, Option};
 ghost use Rattle.std.specs.List.{AllByRecursion};
-ghost use Rattle.tw_asm.specs.Disassembly.{label_places};
 ghost use Rattle.tw_code.specs.format.Program.{IsInstr, IsProcedure};
 ghost use Rattle.tw_code.specs.machine.Rights.{right_at};
-ghost use Rattle.tw_replies.specs.Listing.{IsListing, IsRefusedListing, beside, listing_from, no_typings, place_column, place_line, place_lines, procedure_listing};
-ghost use Rattle.tw_replies.specs.Listing.{right_column, rights_below, rights_text};
+ghost use Rattle.tw_replies.specs.Listing.{IsListing, IsRefusedListing, beside, listing_from, no_typings, place_column, place_line, place_lines, procedure_listing, right_column, rights_below, rights_text};
 ghost use Rattle.tw_verify.specs.Refusal.{verify_refusal_number};
-ghost use Rattle.tw_verify.specs.Typed.{typings_of};
-ghost use Rattle.std.specs.Prelude.{slice_get, Option};
 
 use std::alloc::{AllocError, Global};
 use tw_asm::{LabelPlaces, put_head_lines, put_right};

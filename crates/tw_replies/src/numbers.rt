@@ -2,14 +2,18 @@
 
 ghost use Rattle.std.specs.Prelude.{◌≡◌, ◌≤◌, ◌++◌, List, IfOk, OnOk, length};
 ghost use Rattle.tw_types.specs.declared.event.Event.{Event as AnEvent};
+ghost use Rattle.tw_types.specs.Outcome.{Outcome};
 ghost use Rattle.tw_code.specs.machine.Bounds.{AreBelow, opening_bound};
+ghost use Rattle.tw_code.specs.machine.State.{State};
+ghost use Rattle.tw_instr.specs.Attempts.{IsStopped};
 ghost use Rattle.tw_machine.specs.PlainView.{PlainView};
 ghost use Rattle.tw_stats.specs.Kept.{IsFirst, IsTally};
 ghost use Rattle.tw_replies.specs.Counted.{AreShort, IsCounting};
-ghost use Rattle.tw_replies.specs.Replay.{AreBudgets, AreKnownBudgets, IsCounted, IsNumbered};
-ghost use Rattle.tw_replies.specs.Reply.{reply};
+ghost use Rattle.tw_replies.specs.Replay.{AreBudgets, AreKnownBudgets, ByOutcome, IsCounted, IsNumbered, after_event};
+ghost use Rattle.tw_replies.specs.Reply.{Reply as AReply, reply};
+ghost use Rattle.tw_replies.specs.declared.reply.Reply.{Reply as Told};
 
-use crate::replay::{close_of, not_enabled_reply, trap_reply};
+use crate::replay::{close_of, stopped_reply};
 use crate::reply::Reply;
 use std::alloc::{AllocError, Global};
 use tw_code::Program;
@@ -97,6 +101,15 @@ fn numbers_reply(
     Ok(Reply { text, close })
 }
 
+/// What comes of events of which the one of this number is stopped so.
+fn stopped_counting(alloc: Global, stopped: Stopped, event: usize) -> Result<Counting, AllocError>
+    ensures { IfOk result (λ c. (r : Told) × (c ≡ Counting.Stopped r)
+        × ((o : Outcome State) (next : State → AReply) → IsStopped o stopped → ByOutcome o (λ s. ⊥) (reply r.text.items r.close ≡ after_event event o next))) }
+{
+    let reply = stopped_reply(alloc, stopped, event)?;
+    Ok(Counting::Stopped(reply))
+}
+
 /// Makes the events and counts them, up to the first that doesn't go.
 pub fn count(alloc: Global, first: Plain, events: &[Event]) -> Result<Counting, AllocError>
     requires opening { IsFirst first.state }
@@ -111,15 +124,7 @@ pub fn count(alloc: Global, first: Plain, events: &[Event]) -> Result<Counting, 
         let coming = tally.coming(&plain, event);
         match plain.step(alloc, *event) {
             Ok(()) => tally.keep(&plain, event, &coming)?,
-            Err(Stopped::NotEnabled) => {
-                let reply = not_enabled_reply(alloc, index + 1)?;
-                return Ok(Counting::Stopped(reply));
-            }
-            Err(Stopped::Trap(cause)) => {
-                let reply = trap_reply(alloc, cause, index + 1)?;
-                return Ok(Counting::Stopped(reply));
-            }
-            Err(Stopped::NoMemory) => return Err(AllocError),
+            Err(stopped) => return stopped_counting(alloc, stopped, index + 1),
         }
     }
     Ok(Counting::Made(Counted { plain, tally }))

@@ -1,11 +1,14 @@
 //! What `replay` and `picture` answer.
 
-ghost use Rattle.std.specs.Prelude.{◌≡◌, ◌≤◌, ℕ, List, IfOk, length};
+ghost use Rattle.std.specs.Prelude.{◌≡◌, ◌≤◌, IfOk, length};
 ghost use Rattle.tw_code.specs.machine.Bounds.{AreBelow, opening_bound};
+ghost use Rattle.tw_code.specs.machine.State.{State};
+ghost use Rattle.tw_instr.specs.Attempts.{IsStopped};
 ghost use Rattle.tw_picture.specs.History.{IsOpening};
 ghost use Rattle.tw_report.specs.History.{lines_in};
 ghost use Rattle.tw_report.specs.Lines.{history_line, not_enabled_line, trap_line};
 ghost use Rattle.tw_types.specs.Cause.{cause_number};
+ghost use Rattle.tw_types.specs.Outcome.{Outcome};
 ghost use Rattle.std.specs.Str.Lines.{lines};
 ghost use Rattle.tw_command.specs.CommandLine.{replay_with};
 ghost use Rattle.tw_replies.specs.Counted.{AreShort};
@@ -14,8 +17,8 @@ ghost use Rattle.tw_replies.specs.Program.{RepliesBySource, text_told};
 ghost use Rattle.tw_replies.specs.Source.{MayBeSource, text_of};
 ghost use Rattle.tw_stats.specs.Kept.{IsFirst};
 ghost use Rattle.tw_command.specs.declared.command.Answer.TheVariants.{Numbers};
-ghost use Rattle.tw_replies.specs.Replay.{AreKnownBudgets, IsAnswer, IsReplayed, RepliesByHistory, RepliesByLines, close_of, played_from, state_reply};
-ghost use Rattle.tw_replies.specs.Reply.{reply};
+ghost use Rattle.tw_replies.specs.Replay.{AreKnownBudgets, ByOutcome, IsAnswer, IsReplayed, RepliesByHistory, RepliesByLines, after_event, close_of, played_from, state_reply};
+ghost use Rattle.tw_replies.specs.Reply.{Reply as AReply, reply};
 
 use crate::close::Close;
 use crate::drawn::draw;
@@ -54,7 +57,7 @@ fn state_reply(alloc: Global, plain: &Plain) -> Result<Reply, AllocError>
 }
 
 /// The reply where the event of this number isn't enabled.
-pub fn not_enabled_reply(alloc: Global, event: usize) -> Result<Reply, AllocError>
+fn not_enabled_reply(alloc: Global, event: usize) -> Result<Reply, AllocError>
     ensures { IfOk result (λ r. reply r.text.items r.close ≡ reply (not_enabled_line event) Close.Refused) }
 {
     let mut text = Vec::new(alloc);
@@ -63,7 +66,7 @@ pub fn not_enabled_reply(alloc: Global, event: usize) -> Result<Reply, AllocErro
 }
 
 /// The reply where the event of this number traps.
-pub fn trap_reply(alloc: Global, cause: Cause, event: usize) -> Result<Reply, AllocError>
+fn trap_reply(alloc: Global, cause: Cause, event: usize) -> Result<Reply, AllocError>
     ensures { IfOk result (λ r. reply r.text.items r.close ≡ reply (trap_line (cause_number cause) event) Close.Trapped) }
 {
     let mut text = Vec::new(alloc);
@@ -72,6 +75,17 @@ pub fn trap_reply(alloc: Global, cause: Cause, event: usize) -> Result<Reply, Al
         text,
         close: Close::Trapped,
     })
+}
+
+/// The reply where the event of this number is stopped so.
+pub fn stopped_reply(alloc: Global, stopped: Stopped, event: usize) -> Result<Reply, AllocError>
+    ensures { IfOk result (λ r. (o : Outcome State) (next : State → AReply) → IsStopped o stopped → ByOutcome o (λ s. ⊥) (reply r.text.items r.close ≡ after_event event o next)) }
+{
+    match stopped {
+        Stopped::NotEnabled => not_enabled_reply(alloc, event),
+        Stopped::Trap(cause) => trap_reply(alloc, cause, event),
+        Stopped::NoMemory => Err(AllocError),
+    }
 }
 
 /// Makes the events, up to the first that doesn't go.
@@ -85,9 +99,7 @@ fn play(alloc: Global, first: Plain, events: &[Event]) -> Result<Reply, AllocErr
     for (index, event) in events.iter().enumerate() {
         match plain.step(alloc, *event) {
             Ok(()) => {}
-            Err(Stopped::NotEnabled) => return not_enabled_reply(alloc, index + 1),
-            Err(Stopped::Trap(cause)) => return trap_reply(alloc, cause, index + 1),
-            Err(Stopped::NoMemory) => return Err(AllocError),
+            Err(stopped) => return stopped_reply(alloc, stopped, index + 1),
         }
     }
     state_reply(alloc, &plain)

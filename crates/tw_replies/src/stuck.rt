@@ -3,11 +3,13 @@
 ghost use Rattle.std.specs.Prelude.{◌≡◌, ◌<◌, ◌≤◌, ◌++◌, ◌↔◌, ℕ, List, Some, IsTrue, MatchOption, OnOk, nat_le, option_to_list};
 ghost use Rattle.tw_types.specs.declared.event.Event.{Event as AnEvent};
 ghost use Rattle.std.specs.FinMap.{get};
-ghost use Rattle.tw_types.specs.Outcome.{Went};
+ghost use Rattle.tw_types.specs.Outcome.{Outcome, Went};
 ghost use Rattle.tw_code.specs.machine.Bounds.{AreBelow, opening_bound, size_of};
 ghost use Rattle.tw_code.specs.machine.Pending.{circle};
 ghost use Rattle.tw_code.specs.machine.State.{State};
+ghost use Rattle.tw_instr.specs.Attempts.{IsStopped};
 ghost use Rattle.tw_replies.specs.Circle.{Start, TellRules, TellsCircle, TellsRule, reached_from, rule_line, rule_text};
+ghost use Rattle.tw_replies.specs.Replay.{ByOutcome};
 ghost use Rattle.tw_replies.specs.Source.{IsSource};
 ghost use Rattle.tw_replies.specs.Stuck.{AreMade, CanTell, IsMadeSo, IsOpened, IsStartOf, IsUnmade, rule_by, rule_done, rule_in};
 
@@ -192,6 +194,17 @@ fn put_circle(
     }
 }
 
+/// Nothing is added where an event is stopped so, unless memory is refused.
+fn unmade(stopped: Stopped) -> Result<(), AllocError>
+    ensures { OnOk result ((o : Outcome State) → IsStopped o stopped → ByOutcome o (λ s. ⊥) (Unit {0})) }
+{
+    match stopped {
+        Stopped::NotEnabled => Ok(()),
+        Stopped::Trap(_) => Ok(()),
+        Stopped::NoMemory => Err(AllocError),
+    }
+}
+
 /// Makes the events, and adds the lines of the circle in which they leave the machine.
 fn put_played(
     alloc: Global,
@@ -213,9 +226,7 @@ fn put_played(
         keep(&mut made, rule_done(&plain, event))?;
         match plain.step(alloc, *event) {
             Ok(()) => {}
-            Err(Stopped::NotEnabled) => return Ok(()),
-            Err(Stopped::Trap(_)) => return Ok(()),
-            Err(Stopped::NoMemory) => return Err(AllocError),
+            Err(stopped) => return unmade(stopped),
         }
     }
     put_circle(alloc, out, source, &made, &plain)

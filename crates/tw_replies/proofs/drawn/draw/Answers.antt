@@ -1,19 +1,16 @@
-use Rattle.std.proofs.Common.{◌≡◌, ◌+◌, ◌*◌, ◌≤◌, arith, ◌∙◌, refl, take, List}
+use Rattle.std.proofs.Common.{◌≡◌, ◌+◌, ◌*◌, ◌≤◌, arith, refl, take, List}
 use Rattle.std.proofs.lemmas.Result.{IfOk-weaker}
 use Rattle.tw_types.specs.declared.event.Event.{Event}
-use Rattle.tw_types.specs.Outcome.{Went, NotEnabled, Trap}
-use Rattle.tw_types.specs.Cause.{cause_number}
+use Rattle.tw_types.specs.Outcome.{Went}
 use Rattle.tw_code.specs.machine.Bounds.{opening_bound, size_of}
 use Rattle.tw_code.specs.machine.Machine.{run, step}
 use Rattle.tw_code.proofs.Growth.{below_more}
-use Rattle.tw_report.specs.Lines.{not_enabled_line, trap_line}
 use Rattle.tw_machine.specs.PlainView.{PlainView}
 use Rattle.tw_picture.specs.History.{IsTrail}
 use Rattle.tw_replies.specs.Replay.{IsDrawn, IsPicture, played_from}
 use Rattle.tw_replies.specs.Reply.{reply}
 use Rattle.tw_replies.specs.declared.reply.Reply.{Reply}
-use Rattle.tw_replies.specs.declared.close.Close.TheVariants.{Refused, Trapped}
-use Rattle.tw_replies.proofs.Playing.{all_run, by_not_enabled, by_trap, by_went, event_small, few_taken, not_enabled, picture_of_all, run_not_enabled, run_on, run_trapped, stays_so, stepped, trail_on, trapped, went_on}
+use Rattle.tw_replies.proofs.Playing.{all_run, by_went, event_small, few_taken, not_made, picture_of_all, run_on, stays_so, stepped, trail_on, went_on}
 use Rattle.tw_replies.proofs.drawn.draw.Goals as goal
 
 pub step-requires-clause-small : goal.step-requires-clause-small
@@ -22,35 +19,15 @@ step-requires-clause-small c = below_more (opening_bound + 1000000000 * c.loop-i
 pub keep-requires : goal.keep-requires
 keep-requires c = few_taken c.args.first c.args.events.now c.loop-index.index c.loop-index.plain.state c.loop-index.trail c.loop-index.invariant.trail c.requires.few
 
-pub returns-in-Err-NotEnabled : goal.returns-in-Err-NotEnabled
-returns-in-Err-NotEnabled c =
+pub returns-in-Err : goal.returns-in-Err
+returns-in-Err c =
     let first = c.args.first in
-    let at = c.loop-index.plain in
-    let kept = c.loop-index.invariant in
     let events = c.args.events.now in
-    let event = c.index-events-index.result in
-    let whole = run first.program first.layout events first.state in
-    let stopped : step first.program first.layout event at.state ≡ NotEnabled = stepped first at event NotEnabled kept.stays (rw c.in-Err-NotEnabled.field-0-is at c.in-Err-NotEnabled.ensures.steps.0) in
-    let comes : whole ≡ NotEnabled = run_not_enabled first.program first.layout events c.loop-index.index event at.state whole c.loop-index-test.true c.index-events-index.is stopped kept.runs in
-    IfOk-weaker c.not_enabled_reply.result (λ (r : Reply). reply r.text.items r.close ≡ reply (not_enabled_line (c.loop-index.index + 1)) Refused) (λ (r : Reply). IsDrawn c.args.shown first events (reply r.text.items r.close))
-    (λ (r : Reply) h. by_not_enabled whole (λ s. IsPicture c.args.shown first events s (reply r.text.items r.close)) (reply r.text.items r.close ≡ played_from first events) comes
-    (h ∙ not_enabled first.program first.layout events c.loop-index.index event at.state (played_from first events) c.loop-index-test.true c.index-events-index.is stopped kept.same)) c.not_enabled_reply.ensures
-
-pub returns-in-Err-Trap : goal.returns-in-Err-Trap
-returns-in-Err-Trap c =
-    let first = c.args.first in
-    let at = c.loop-index.plain in
     let kept = c.loop-index.invariant in
-    let events = c.args.events.now in
-    let event = c.index-events-index.result in
-    let cause = c.in-Err-Trap.cause in
-    let whole = run first.program first.layout events first.state in
-    let stopped : step first.program first.layout event at.state ≡ Trap cause = stepped first at event (Trap cause) kept.stays (rw c.in-Err-Trap.field-0-is at c.in-Err-Trap.ensures.steps.0) in
-    let comes : whole ≡ Trap cause = run_trapped first.program first.layout events c.loop-index.index event at.state cause whole c.loop-index-test.true c.index-events-index.is stopped kept.runs in
-    IfOk-weaker c.trap_reply.result (λ (r : Reply). reply r.text.items r.close ≡ reply (trap_line (cause_number cause) (c.loop-index.index + 1)) Trapped) (λ (r : Reply). IsDrawn c.args.shown first events (reply r.text.items r.close))
-    (λ (r : Reply) h. by_trap whole cause (λ s. IsPicture c.args.shown first events s (reply r.text.items r.close)) (reply r.text.items r.close ≡ played_from first events) comes
-    (h ∙ trapped first.program first.layout events c.loop-index.index event at.state cause (played_from first events) c.loop-index-test.true c.index-events-index.is stopped kept.same))
-    (rw c.in-Err-Trap.field-0-is at c.trap_reply.ensures)
+    IfOk-weaker c.stopped_reply.result _ (λ (r : Reply). IsDrawn c.args.shown first events (reply r.text.items r.close))
+    (λ (r : Reply) told.
+    not_made first c.loop-index.plain events c.loop-index.index c.index-events-index.result c.in-Err.stopped (reply r.text.items r.close) (λ s. IsPicture c.args.shown first events s (reply r.text.items r.close)) kept.stays c.loop-index-test.true c.index-events-index.is
+    c.in-Err.ensures.steps.0 told kept.same kept.runs) c.stopped_reply.ensures
 
 pub loop-index-init : goal.loop-index-init
 loop-index-init c = record { stays = refl; same = refl; runs = refl; below = c.requires.below; trail = c.new-trail.ensures c.args.first c.requires.opening }

@@ -1,43 +1,23 @@
-use Rattle.std.proofs.Common.{◌≡◌, ◌+◌, ◌*◌, ◌≤◌, ◌^◌, arith, ◌∙◌, refl, take}
-use Rattle.tw_replies.proofs.ReplyNames.{AreBelow, NotEnabled, Trap, Trapped, Went, opening_bound, played_from, reply, run, size_of, step, trap_line}
-use Rattle.tw_types.specs.Cause.{cause_number}
+use Rattle.std.proofs.Common.{◌≡◌, ◌+◌, ◌*◌, ◌≤◌, ◌^◌, arith, refl, subst, sym, take}
+use Rattle.tw_replies.proofs.ReplyNames.{AreBelow, IfOk-weaker, IsCounting, Went, opening_bound, played_from, reply, run, size_of, step}
 use Rattle.tw_code.proofs.Growth.{below_more}
-use Rattle.tw_replies.proofs.Playing.{by_not_enabled, by_trap, event_small, not_enabled, run_not_enabled, run_on, run_trapped, stays_so, stepped, trapped, went_on}
+use Rattle.tw_replies.proofs.Playing.{event_small, not_made, run_on, stays_so, stepped, went_on}
 use Rattle.tw_replies.proofs.CountedEvents.{came, small_on, tally_of_all, tally_on}
 use Rattle.tw_replies.proofs.numbers.count.Goals as goal
 
 pub step-requires-clause-small : goal.step-requires-clause-small
 step-requires-clause-small c = below_more (opening_bound + 1000000000 * c.loop-index.index) _ _ (omega (arith, c.requires.few, c.loop-index-test.true)) c.loop-index.invariant.below
 
-pub returns-in-Err-NotEnabled : goal.returns-in-Err-NotEnabled
-returns-in-Err-NotEnabled c =
+pub returns-in-Err : goal.returns-in-Err
+returns-in-Err c =
     let first = c.args.first in
-    let at = c.loop-index.plain in
-    let kept = c.loop-index.invariant in
     let events = c.args.events.now in
-    let event = c.index-events-index.result in
-    let told = c.in_ok-reply-in-Err-NotEnabled.reply in
-    let whole = run first.program first.layout events first.state in
-    let stopped : step first.program first.layout event at.state ≡ NotEnabled = stepped first at event NotEnabled kept.stays (rw c.in-Err-NotEnabled.field-0-is at c.in-Err-NotEnabled.ensures.steps.0) in
-    let comes : whole ≡ NotEnabled = run_not_enabled first.program first.layout events c.loop-index.index event at.state whole c.loop-index-test.true c.index-events-index.is stopped kept.runs in
-    by_not_enabled whole (λ s. ⊥) (reply told.text.items told.close ≡ played_from first events) comes
-    (c.in_ok-reply-in-Err-NotEnabled.ensures ∙ not_enabled first.program first.layout events c.loop-index.index event at.state (played_from first events) c.loop-index-test.true c.index-events-index.is stopped kept.same)
-
-pub returns-in-Err-Trap : goal.returns-in-Err-Trap
-returns-in-Err-Trap c =
-    let first = c.args.first in
-    let at = c.loop-index.plain in
     let kept = c.loop-index.invariant in
-    let events = c.args.events.now in
-    let event = c.index-events-index.result in
-    let cause = c.in-Err-Trap.cause in
-    let told = c.in_ok-reply-in-Err-Trap.reply in
-    let whole = run first.program first.layout events first.state in
-    let stopped : step first.program first.layout event at.state ≡ Trap cause = stepped first at event (Trap cause) kept.stays (rw c.in-Err-Trap.field-0-is at c.in-Err-Trap.ensures.steps.0) in
-    let comes : whole ≡ Trap cause = run_trapped first.program first.layout events c.loop-index.index event at.state cause whole c.loop-index-test.true c.index-events-index.is stopped kept.runs in
-    let here : reply told.text.items told.close ≡ reply (trap_line (cause_number cause) (c.loop-index.index + 1)) Trapped = rw c.in-Err-Trap.field-0-is at c.in_ok-reply-in-Err-Trap.ensures in
-    by_trap whole cause (λ s. ⊥) (reply told.text.items told.close ≡ played_from first events) comes
-    (here ∙ trapped first.program first.layout events c.loop-index.index event at.state cause (played_from first events) c.loop-index-test.true c.index-events-index.is stopped kept.same)
+    IfOk-weaker c.stopped_counting.result _ (IsCounting first events)
+    (λ counting (r, is, told).
+    subst (IsCounting first events) (sym is)
+    (not_made first c.loop-index.plain events c.loop-index.index c.index-events-index.result c.in-Err.stopped (reply r.text.items r.close) (λ s. ⊥) kept.stays c.loop-index-test.true c.index-events-index.is c.in-Err.ensures.steps.0 told kept.same kept.runs))
+    c.stopped_counting.ensures
 
 pub loop-index-init : goal.loop-index-init
 loop-index-init c = record { stays = refl; same = refl; runs = refl; below = c.requires.below; tally = c.new-tally.ensures c.args.first c.requires.opening }

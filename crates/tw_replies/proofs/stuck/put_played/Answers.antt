@@ -1,11 +1,12 @@
 use Rattle.std.proofs.Common.{◌≡◌, ◌+◌, ◌*◌, ◌≤◌, ◌++◌, ◌∙◌, List, Option, take, arith, refl, sym, ap, subst}
-use Rattle.tw_replies.proofs.ReplyNames.{AreMade, Event, IsOpened, NotEnabled, PlainView, Procedure, Start, State, TellsCircle, Trap, Went, on_ok_weaker, opening_bound, option_to_list, rule_done, run, size_of, step, take_all}
+use Rattle.tw_replies.proofs.ReplyNames.{AreMade, Event, IsOpened, Outcome, PlainView, Procedure, Start, State, TellsCircle, Went, on_ok_weaker, opening_bound, option_to_list, rule_done, run, size_of, step, take_all}
 use Rattle.tw_code.specs.machine.Pending.{circle}
 use Rattle.tw_code.proofs.Growth.{below_more}
 use Rattle.tw_code.proofs.Runs.{run_more}
+use Rattle.tw_replies.specs.Replay.{ByOutcome}
 use Rattle.tw_replies.specs.declared.stuck.Made.{Made}
-use Rattle.tw_replies.proofs.Making.{AddsTold, all_more, first_next, from_there, made_first, next_on, not_went, not_within, one_taken, run_none, same_state, steps_there, trapped_not}
-use Rattle.tw_replies.proofs.Playing.{all_run, event_small, run_not_enabled, run_on, run_trapped, stays_so, stepped}
+use Rattle.tw_replies.proofs.Making.{AddsTold, all_more, first_next, from_there, made_first, next_on, not_within, one_taken, run_none, same_state, steps_there}
+use Rattle.tw_replies.proofs.Playing.{all_run, event_small, run_on, run_stopped, stays_so, stepped}
 use Rattle.tw_replies.proofs.stuck.put_played.Goals as goal
 
 pub loop-index-init : goal.loop-index-init
@@ -57,28 +58,19 @@ returns-then-not-is_within c = λ start s opened can leads.
     let short : size_of event ≤ 1000000000 = event_small events i event can.short c.loop-index-test.true c.index-events-index.is in
     absurd (not_within c.is_within.result c.is_within.ensures c.if-not-is_within.true (omega (arith, can.few, c.loop-index-test.true), short))
 
-pub returns-in-Err-NotEnabled : goal.returns-in-Err-NotEnabled
-returns-in-Err-NotEnabled c = λ start s opened can leads.
+pub returns-in-Err : goal.returns-in-Err
+returns-in-Err c =
     let first = c.args.first in
     let at = c.loop-index.plain in
     let kept = c.loop-index.invariant in
     let events = c.args.events.now in
     let event = c.index-events-index.result in
     let whole = run first.program first.layout events first.state in
-    let stopped : step first.program first.layout event at.state ≡ NotEnabled = stepped first at event NotEnabled kept.stays (rw c.in-Err-NotEnabled.field-0-is at c.in-Err-NotEnabled.ensures.steps.0) in
-    not_went whole s (from_there start first events opened ∙ leads) (run_not_enabled first.program first.layout events c.loop-index.index event at.state whole c.loop-index-test.true c.index-events-index.is stopped kept.runs)
-
-pub returns-in-Err-Trap : goal.returns-in-Err-Trap
-returns-in-Err-Trap c = λ start s opened can leads.
-    let first = c.args.first in
-    let at = c.loop-index.plain in
-    let kept = c.loop-index.invariant in
-    let events = c.args.events.now in
-    let event = c.index-events-index.result in
-    let cause = c.in-Err-Trap.field-0-0 in
-    let whole = run first.program first.layout events first.state in
-    let stopped : step first.program first.layout event at.state ≡ Trap cause = stepped first at event (Trap cause) kept.stays (rw c.in-Err-Trap.field-0-is at c.in-Err-Trap.ensures.steps.0) in
-    trapped_not whole s cause (from_there start first events opened ∙ leads) (run_trapped first.program first.layout events c.loop-index.index event at.state cause whole c.loop-index-test.true c.index-events-index.is stopped kept.runs)
+    let o = step at.program at.layout event at.state in
+    on_ok_weaker c.unmade.result
+    (λ told start s opened can leads.
+    absurd (subst (λ (p : Outcome State). ByOutcome p (λ t. ⊥) (Unit {0})) (from_there start first events opened ∙ leads)
+    (run_stopped (Unit {0}) first.program first.layout events c.loop-index.index event at.state o whole (λ t. ⊥) c.loop-index-test.true c.index-events-index.is (stepped first at event o kept.stays refl) (told o c.in-Err.ensures.steps.0) kept.runs tt))) c.unmade.ensures
 
 pub returns : goal.returns
 returns c =
