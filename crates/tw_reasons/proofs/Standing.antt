@@ -1,18 +1,15 @@
 -- Where a word stands in a line.
 use Rattle.std.proofs.Common.{◌≡◌, ℕ, ◌+◌, ◌-◌, ◌<◌, ◌≤◌, List, [], ◌∷◌, ◌++◌, length, take, refl, sym, ap, ◌∙◌, append_assoc, arith}
+use Rattle.std.proofs.lemmas.List.{take_at}
 use Rattle.tw_reasons.proofs.ReasonNames.{AreFirstWords, IsFirstWord, IsWord, Stands, Word, first_words_more, length-append, word_here}
 use Rattle.tw_words.specs.reading.Next.{IsAfterGap}
-
-take_front : (front back : List ℕ) → take (length front) (front ++ back) ≡ front
-take_front [] back = refl
-take_front (b ∷ front) back = ap (λ (xs : List ℕ). b ∷ xs) (take_front front back)
 
 -- what stands before a back
 pub front_cut : (xs front back : List ℕ) → xs ≡ front ++ back → xs ≡ take (length xs - length back) xs ++ back
 front_cut xs front back e =
     let long : length xs ≡ length front + length back = ap length e ∙ length-append front back in
     let n : length xs - length back ≡ length front = omega arith in
-    e ∙ ap (λ (ys : List ℕ). ys ++ back) (sym (ap (λ (k : ℕ). take k xs) n ∙ ap (take (length front)) e ∙ take_front front back))
+    e ∙ ap (λ (ys : List ℕ). ys ++ back) (sym (ap (λ (k : ℕ). take k xs) n ∙ ap (take (length front)) e ∙ take_at front back _ refl))
 
 -- words that stand first stand in front of what follows
 pub words_front : (words : List Word) (line after : List ℕ) → AreFirstWords words line after → (front : List ℕ) × (line ≡ front ++ after)

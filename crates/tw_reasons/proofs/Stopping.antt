@@ -1,6 +1,7 @@
 -- Where a line stops, its words so far begin a statement, and with what stands there they begin none.
 use Rattle.std.proofs.Common.{◌≡◌, ◌+◌, ℕ, true, false, List, [], ◌∷◌, ◌++◌, length, Option, None, Some, refl, sym, ap, subst, ◌∙◌, append_assoc}
 use Rattle.std.specs.Borrow.{Bor}
+use Rattle.std.specs.Prelude.{MatchOption}
 use Rattle.tw_reasons.proofs.ReasonNames.{AllByRecursion, AreFirstWords, Bare, Begin, Ends, HasWords, HaveForm, IsBlank, IsExpected, IsFirstWord, IsFound, IsText, Quoted, Version, Word, append-nil, blank_no_word, first_word_once, first_words_more, length-append, statement_in}
 use Rattle.tw_asm.specs.declared.statement.First.{First}
 use Rattle.tw_asm.proofs.OperandWords.{IsFine}
@@ -8,6 +9,7 @@ use Rattle.tw_reasons.specs.Going.{after, first_read, go_on, goes, has_form, may
 use Rattle.tw_reasons.specs.declared.step.Read.{Read}
 use Rattle.tw_reasons.specs.declared.stop.Found.{Found}
 use Rattle.tw_reasons.specs.declared.stop.Found.TheVariants as found
+use Rattle.tw_reasons.specs.declared.stop.Stop.{Stop}
 use Rattle.tw_reasons.proofs.Judging.{formed, unformed}
 use Rattle.tw_reasons.proofs.Starting.{can_end, starts}
 
@@ -53,6 +55,11 @@ follows_on version first line rest behind count now next w f is fine e = record 
   goes_on = λ more.
       ap (goes version (first_read f.word)) (append_assoc f.others (w ∷ []) more) ∙ f.goes_on (w ∷ more) ∙ ap (λ (o : Option Read). go_on o (λ r. goes version r more)) e;
 }
+
+-- what there is where nothing is told, of another thing
+pub ended : (P Q : Type 0) (R : Stop → Type 0) (o : Option Stop) → (P → Q) → MatchOption o P R → MatchOption o Q R
+ended P Q R None f h = f h
+ended P Q R (Some stop) f h = h
 
 module _ (version : Version) (expected : First) (first line rest : List ℕ) (count : ℕ) (now : Read) (is : IsExpected version expected first) (f : Follows version first line rest count now) where
   form_is : (more : List Word) → has_form (statement_in version (Bare f.word.now ∷ (f.others ++ more))) ≡ goes version now more

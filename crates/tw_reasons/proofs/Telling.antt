@@ -2,9 +2,11 @@
 use Rattle.std.proofs.Common.{◌≡◌, ℕ, zero, suc, ◌+◌, ◌-◌, ◌≢◌, Bool, true, false, cond, List, [], ◌∷◌, ◌++◌, None, Some, refl, sym, ap, subst, ◌∙◌, arith, length, take, drop, get_or, ◌≤◌}
 use Rattle.std.proofs.lemmas.Option.{none-some}
 use Rattle.tw_reasons.proofs.ReasonNames.{Scalar, Typing, asked_args, asked_left, asked_right, asked_value, asked_values, is_left, is_vain, slice_set, take_all, told, value_types, without_args}
+use Rattle.tw_words.proofs.Texts.{slice_tail}
 use Rattle.tw_types.specs.declared.param.Param.{Param}
 use Rattle.tw_types.specs.Mode.{is_val}
 use Rattle.tw_reasons.specs.declared.asked.Asked.{Asked}
+use Rattle.tw_reasons.proofs.GoingOn.{untrue}
 
 module _ (number : ℕ) where
   pub told_first : (xs ys : List Asked) (a : Asked) → told number xs ≡ Some a → told number (xs ++ ys) ≡ Some a
@@ -42,20 +44,12 @@ left_more (suc count) register typing some =
 
 -- ---- items behind a first one
 
-untrue : false ≡ true → ⊥
-untrue e = cc
-
-tail_of : {A : Type 0} (x : A) (xs : List A) → take (length (x ∷ xs) - 1) (drop 1 (x ∷ xs)) ≡ xs
-tail_of x xs =
-    let e : suc (length xs) - 1 ≡ length xs = omega arith in
-    ap (λ (n : ℕ). take n xs) e ∙ take_all (length xs) xs (omega arith)
-
 pub params_more : (registers : List Scalar) (given : ℕ) (ps : List Param) (p : Param) → 1 ≤ length ps → p ≡ get_or ps 0 p → is_val p.mode ≡ true
     → asked_values registers given (value_types ps) ≡ asked_value registers given p.ty.scalar ++ asked_values registers (given + 1) (value_types (take (length ps - 1) (drop 1 ps)))
 params_more registers given [] p l e v = absurd (omega (arith, l))
 params_more registers given (q ∷ qs) p l e v =
     subst (λ (x : Param). is_val x.mode ≡ true → asked_values registers given (value_types (q ∷ qs)) ≡ asked_value registers given x.ty.scalar ++ asked_values registers (given + 1) (value_types (take (length (q ∷ qs) - 1) (drop 1 (q ∷ qs))))) (sym e)
-    (λ u. by (is_val q.mode) u ∙ ap (λ (rest : List Param). asked_value registers given q.ty.scalar ++ asked_values registers (given + 1) (value_types rest)) (sym (tail_of q qs))) v
+    (λ u. by (is_val q.mode) u ∙ ap (λ (rest : List Param). asked_value registers given q.ty.scalar ++ asked_values registers (given + 1) (value_types rest)) (sym (slice_tail q qs))) v
   where
     by : (b : Bool) → b ≡ true → asked_values registers given (cond b (q.ty.scalar ∷ value_types qs) (value_types qs)) ≡ asked_value registers given q.ty.scalar ++ asked_values registers (given + 1) (value_types qs)
     by true u = refl
@@ -70,5 +64,5 @@ args_more waits registers typing (q ∷ qs) p (a ∷ rest') left l e k =
     subst (λ (x : Param). asked_args waits registers (q ∷ qs) (a ∷ rest') typing left
     ≡ asked_args waits registers (x ∷ []) (a ∷ []) typing left ++ asked_args waits registers (take (length (q ∷ qs) - 1) (drop 1 (q ∷ qs))) (take (length (a ∷ rest') - 1) (drop 1 (a ∷ rest'))) typing (without_args (x ∷ []) (a ∷ []) left)) (sym e)
     (asked_more waits registers typing q qs a rest' left
-    ∙ ap (λ (rest : List Param). asked_args waits registers (q ∷ []) (a ∷ []) typing left ++ asked_args waits registers rest rest' typing (without_args (q ∷ []) (a ∷ []) left)) (sym (tail_of q qs))
-    ∙ ap (λ (rest : List ℕ). asked_args waits registers (q ∷ []) (a ∷ []) typing left ++ asked_args waits registers (take (length (q ∷ qs) - 1) (drop 1 (q ∷ qs))) rest typing (without_args (q ∷ []) (a ∷ []) left)) (sym (tail_of a rest')))
+    ∙ ap (λ (rest : List Param). asked_args waits registers (q ∷ []) (a ∷ []) typing left ++ asked_args waits registers rest rest' typing (without_args (q ∷ []) (a ∷ []) left)) (sym (slice_tail q qs))
+    ∙ ap (λ (rest : List ℕ). asked_args waits registers (q ∷ []) (a ∷ []) typing left ++ asked_args waits registers (take (length (q ∷ qs) - 1) (drop 1 (q ∷ qs))) rest typing (without_args (q ∷ []) (a ∷ []) left)) (sym (slice_tail a rest')))

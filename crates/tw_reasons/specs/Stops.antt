@@ -1,6 +1,5 @@
 -- Where a line of a text is told to stop: at which word, at which column, and what stands there.
-use Rattle.std.specs.Prelude.{◌≡◌, ℕ, ◌+◌, ◌||◌, Bool, List, ◌∷◌, ◌++◌, length, count_by, nat_lt}
-use Rattle.std.specs.Prelude.{IsUtf8}
+use Rattle.std.specs.Prelude.{◌≡◌, ℕ, ◌+◌, ◌||◌, Bool, List, ◌∷◌, ◌++◌, length, count_by, nat_lt, IsUtf8}
 use Rattle.std.specs.List.{AllByRecursion}
 use Rattle.tw_asm.specs.Statement.{HaveForm}
 use Rattle.tw_code.specs.declared.version.Version.{Version}

@@ -1,11 +1,8 @@
 //! Why a program isn't accepted.
 
 ghost use Rattle.std.specs.Prelude.{◌≡◌, ◌⊎◌, ◌<◌, ◌+◌, ◌-◌, ◌++◌, [], ℕ, List, Some, length, nat_lt, OnOk, slice_get};
-ghost use Rattle.tw_asm.specs.Origins.{at_place};
 ghost use Rattle.tw_code.specs.format.Program.{IsInstr, IsProcedure};
 ghost use Rattle.tw_code.specs.machine.Arguments.{params_of};
-ghost use Rattle.tw_verify.specs.Refusal.{verify_refusal_number};
-ghost use Rattle.tw_reasons.specs.Meetings.{IsMeeting};
 ghost use Rattle.tw_reasons.specs.Reasons.{AddsReason, AddsTold, TellsMeeting, arguments_text, count_line, goal_line, misplaced_line, named_by, outside_text, skip_of, told_line, unknown_line, unmatched_line, vain_line};
 
 use crate::asked::{Asked, put_asked};

@@ -1,13 +1,15 @@
 //! Where a line stops being a statement.
 
-ghost use Rattle.std.specs.Prelude.{◌≡◌, ◌+◌, ◌≤◌, ℕ, List, IfOk, IfSome, IsUtf8, MatchOption, length};
-ghost use Rattle.tw_words.specs.Words.{AreFirstWords, Bare, IsFirstWord, Word as AWord};
+ghost use Rattle.std.specs.Prelude.{◌≡◌, ◌+◌, ◌≤◌, ℕ, List, false, true, IfOk, IfSome, IsUtf8, MatchOption, length};
+ghost use Rattle.tw_words.specs.Words.{AreFirstWords, Bare, IsBlank, IsFirstWord, Word as AWord};
 ghost use Rattle.tw_asm.specs.Fault.{HasWords};
 ghost use Rattle.tw_asm.specs.Statement.{IsExpected};
 ghost use Rattle.tw_asm.specs.declared.statement.First.{First};
 ghost use Rattle.tw_code.specs.declared.version.Version.{Version as AVersion};
 ghost use Rattle.tw_words.specs.Seen.{seen};
 ghost use Rattle.tw_words.specs.reading.Next.{IsAfterGap};
+ghost use Rattle.tw_reasons.specs.Going.{may_end};
+ghost use Rattle.tw_reasons.specs.declared.stop.Found.TheVariants as found;
 ghost use Rattle.tw_reasons.specs.Stops.{Begin, Ends, IsFirstStop, IsFound, IsStop, begins_character, column_behind};
 
 use crate::breaks::{Break, break_of};
@@ -93,6 +95,28 @@ fn word_found<'a>(here: &'a [u8], after: &[u8]) -> Found<'a>
     Found::Word(&here[..here.len().saturating_sub(after.len())])
 }
 
+/// The stop at the line's end behind so many words, where it may not end there.
+fn end_stop<'a>(
+    version: Version,
+    line: &'a [u8],
+    here: &'a [u8],
+    before: usize,
+    ahead: Ahead<'_>,
+) -> Option<Stop<'a>>
+    requires { before ≤ length line.now }
+    ensures stands { (words : List AWord) (after : List ℕ) → AreFirstWords words line.entry.now after → IsAfterGap after here.entry.now
+        → before ≡ length words → IsBlank here.entry.now → IfSome result (IsStop line.entry.now) }
+    ensures first { (words : List AWord) (after : List ℕ) → AreFirstWords words line.entry.now after → IsAfterGap after here.entry.now
+        → before ≡ length words → IsBlank here.entry.now → Begin version words → (may_end version ahead.entry.read ≡ false → Ends version words here.entry.now found.End)
+        → MatchOption result (may_end version ahead.entry.read ≡ true) (IsFirstStop version line.entry.now) }
+{
+    if ahead.may_end(version) {
+        return None;
+    }
+    let due = ahead.due(version);
+    Some(stop_with(line, here, before, Found::End, due))
+}
+
 /// Where a line stops behind its first word, if it does.
 fn stop_behind<'a>(
     alloc: Global,
@@ -126,12 +150,7 @@ fn stop_behind<'a>(
                     return Ok(Some(stop_with(line, here, before, found, due)));
                 }
             },
-            Next::End => {
-                if ahead.may_end(version) {
-                    return Ok(None);
-                }
-                return Ok(Some(stop_with(line, here, before, Found::End, due)));
-            }
+            Next::End => return Ok(end_stop(version, line, here, before, ahead)),
             Next::Broken => {
                 let found = Found::Broken(break_of(alloc, here)?);
                 return Ok(Some(stop_with(line, here, before, found, due)));

@@ -1,6 +1,6 @@
 //! What a session answers to an order and the bytes that it reads.
 
-ghost use Rattle.std.specs.Prelude.{◌≡◌, IfOk, true};
+ghost use Rattle.std.specs.Prelude.{◌≡◌, ◌≤◌, IfOk, length, true};
 ghost use Rattle.std.specs.Str.Lines.{lines};
 ghost use Rattle.tw_command.specs.CommandLine.{run_with};
 ghost use Rattle.tw_command.specs.InTurn.{IsInTurn, IsProgramInTurn};
@@ -13,7 +13,7 @@ ghost use Rattle.tw_replies.specs.Program.{RepliesBySource, RepliesByText, text_
 ghost use Rattle.tw_replies.specs.Reply.{reply};
 ghost use Rattle.tw_session.specs.Run.{RepliesByOpening};
 ghost use Rattle.tw_replies.specs.Source.{MayBeSource, text_of};
-ghost use Rattle.tw_session.specs.Session.{IsWritten, MayReply, RepliesByAssembling, RepliesByProgram, RepliesWithInputs};
+ghost use Rattle.tw_session.specs.Session.{IsWritten, MayReply, RepliesByAssembling, RepliesByInput, RepliesByProgram, RepliesWithInputs};
 ghost use Rattle.tw_replies.specs.declared.close.Close.TheVariants.{Refused};
 ghost use Rattle.tw_asm.specs.Fault.{fault_number};
 ghost use Rattle.tw_report.specs.Lines.{asm_line};
@@ -167,14 +167,11 @@ fn run_inputs_step(
     }
 }
 
-/// What an order and the bytes that were read come to; refused where memory is.
-fn step_of(alloc: Global, order: Order, input: Vec<u8>) -> Result<Step, AllocError>
-    ensures { IfOk result (Comes (IsInTurn order) (MayReply order input.items)) }
+/// What an order and bytes that aren't too many come to.
+fn ordered_step(alloc: Global, order: Order, input: Vec<u8>) -> Result<Step, AllocError>
+    requires { length input.items ≤ 16777216 }
+    ensures { IfOk result (Comes (IsInTurn order) (RepliesByInput order input.items)) }
 {
-    if input.len() > MOST_BYTES {
-        let reply = fixed_reply(alloc, "refused H02\n", Close::Refused)?;
-        return Ok(Step::Told(reply));
-    }
     match order {
         Order::Assemble(what) => {
             let reply = assembled_reply(alloc, what, &input)?;
@@ -196,6 +193,18 @@ fn step_of(alloc: Global, order: Order, input: Vec<u8>) -> Result<Step, AllocErr
             let reply = replay_inputs_reply(alloc, source, options, &input)?;
             Ok(Step::Told(reply))
         }
+    }
+}
+
+/// What an order and the bytes that were read come to; refused where memory is.
+fn step_of(alloc: Global, order: Order, input: Vec<u8>) -> Result<Step, AllocError>
+    ensures { IfOk result (Comes (IsInTurn order) (MayReply order input.items)) }
+{
+    if input.len() > MOST_BYTES {
+        let reply = fixed_reply(alloc, "refused H02\n", Close::Refused)?;
+        Ok(Step::Told(reply))
+    } else {
+        ordered_step(alloc, order, input)
     }
 }
 

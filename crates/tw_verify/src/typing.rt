@@ -1,10 +1,12 @@
 //! What the right registers hold.
 
-ghost use Rattle.std.specs.Prelude.{◌≡◌, ◌≤◌, ◌<◌, ◌∷◌, [], length, Some, is_none, slice_set};
+ghost use Rattle.std.specs.Prelude.{◌≡◌, ◌≤◌, ◌<◌, ◌∷◌, [], ℕ, length, Some, is_none, slice_set};
 ghost use Rattle.std.specs.List.{list_all, AllByRecursion};
 ghost use Rattle.std.specs.Option.{option_and_then};
 ghost use Rattle.tw_types.specs.DataType.{element_of};
+ghost use Rattle.tw_types.specs.declared.data_type.Scalar.{Scalar as ByScalar};
 ghost use Rattle.tw_code.specs.format.Program.{IsAction, IsDataInstr, IsInstr, IsRegister};
+ghost use Rattle.tw_code.specs.declared.instr.DataInstr.TheVariants as on_data;
 ghost use Rattle.tw_code.specs.machine.Arguments.{params_of};
 ghost use Rattle.tw_code.specs.machine.Rights.{right_at};
 ghost use Rattle.tw_code.specs.accepting.Typing.{start_typing, is_free, writes, writes_scalar, writes_container_by, reads, reads_closed_scalar, reads_closed_container, reads_closed_container_by, reads_member_of, a_write, a_read, may_stand_for, after_data, without_args, after};
@@ -212,6 +214,18 @@ impl Typing {
         self
     }
 
+    /// The typing after LOOK: a completed one gives a right to read the member.
+    fn after_look(self, way: Way, member: u8, container: u8) -> Typing
+        requires { (member < 16) × (container < 16) }
+        ensures { (by : ByScalar) (subscript skip : ℕ) → result ≡ after_data way (on_data.Look by member container subscript skip) self }
+    {
+        let read = self.right_at(container).and_then(RightType::member_read);
+        match way {
+            Way::Completed => self.with(member, read),
+            Way::Skipped => self,
+        }
+    }
+
     /// The typing after an instruction on data that goes on by this outcome, a case an instruction.
     fn after_data(self, way: Way, instr: DataInstr) -> Typing
         requires { IsDataInstr instr }
@@ -230,13 +244,7 @@ impl Typing {
                 member,
                 container,
                 ..
-            } => match way {
-                Way::Completed => self.with(
-                    member,
-                    self.right_at(container).and_then(RightType::member_read),
-                ),
-                Way::Skipped => self,
-            },
+            } => self.after_look(way, member, container),
             DataInstr::CopyRead { to, from } | DataInstr::CopyWrite { to, from } => {
                 self.with(to, self.right_at(from))
             }

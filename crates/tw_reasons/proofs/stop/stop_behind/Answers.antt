@@ -1,11 +1,11 @@
-use Rattle.std.proofs.Common.{◌∙◌, [], ◌∷◌, sym}
+use Rattle.std.proofs.Common.{[], ◌∷◌, sym}
 use Rattle.tw_words.specs.declared.word.Next.TheVariants as next
 use Rattle.tw_reasons.proofs.ReasonNames.{Bare, IsBlank, IsBroken, IsFirstWord, seen}
 use Rattle.tw_words.proofs.FirstWords.{behind_gap}
 use Rattle.tw_words.proofs.Texts.{rest_utf8}
 use Rattle.tw_asm.proofs.Whole.{all_fine}
 use Rattle.tw_reasons.proofs.Standing.{first_passed, first_room, one_passed, one_room}
-use Rattle.tw_reasons.proofs.Stopping.{begins, follows_first, follows_on, vain_end, vain_found, whole}
+use Rattle.tw_reasons.proofs.Stopping.{begins, ended, follows_first, follows_on, vain_end, vain_found, whole}
 use Rattle.tw_reasons.proofs.stop.stop_behind.Goals as goal
 
 pub words-init : goal.words-init
@@ -52,19 +52,15 @@ returns-in-None-clause-first c = λ form expected ex.
     (vain_found c.args.version expected c.args.first.now c.args.line.now c.words.rest.now c.words.before c.words.ahead.read ex f c.word_found-found.result c.without_gap-here.result.now c.in-Found.after.now (seen c.in-Found.word) there word (all_fine (c.in-Found.word ∷ [])).0
     (sym (c.in-None.ensures form)))
 
-pub returns-then-may_end-clause-first : goal.returns-then-may_end-clause-first
-returns-then-may_end-clause-first c = λ form expected ex.
-    let nothing : IsBlank c.without_gap-here.result.now = rw c.in-End.is at c.in_ok-word.ensures in
-    whole c.args.version expected c.args.first.now c.args.line.now c.words.rest.now c.words.before c.words.ahead.read ex (c.words.invariant.follows form)
-    (behind_gap next.End c.words.rest.now c.without_gap-here.result.now c.without_gap-here.ensures.after nothing) (sym c.may_end.ensures ∙ c.if-may_end.true)
-
 pub returns-in-End-clause-first : goal.returns-in-End-clause-first
 returns-in-End-clause-first c = λ form expected ex.
     let f = c.words.invariant.follows form in
     let nothing : IsBlank c.without_gap-here.result.now = rw c.in-End.is at c.in_ok-word.ensures in
-    c.stop_with-in-End.ensures.first c.args.version (Bare f.word.now ∷ f.others) c.words.rest.now f.are c.without_gap-here.ensures.after f.many nothing
+    ended _ _ _ c.end_stop.result
+    (λ may. whole c.args.version expected c.args.first.now c.args.line.now c.words.rest.now c.words.before c.words.ahead.read ex f (behind_gap next.End c.words.rest.now c.without_gap-here.result.now c.without_gap-here.ensures.after nothing) may)
+    (c.end_stop.ensures.first (Bare f.word.now ∷ f.others) c.words.rest.now f.are c.without_gap-here.ensures.after f.many nothing
     (begins c.args.version expected c.args.first.now c.args.line.now c.words.rest.now c.words.before c.words.ahead.read ex f)
-    (vain_end c.args.version expected c.args.first.now c.args.line.now c.words.rest.now c.words.before c.words.ahead.read ex f c.without_gap-here.result.now (sym c.may_end.ensures ∙ c.if-may_end.false))
+    (vain_end c.args.version expected c.args.first.now c.args.line.now c.words.rest.now c.words.before c.words.ahead.read ex f c.without_gap-here.result.now))
 
 pub returns-in-Broken-clause-first : goal.returns-in-Broken-clause-first
 returns-in-Broken-clause-first c = λ form expected ex.

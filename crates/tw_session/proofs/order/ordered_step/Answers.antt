@@ -1,0 +1,41 @@
+use Rattle.std.proofs.Common.{◌≡◌, ◌∙◌, List, ap, subst, sym, true, ℕ}
+use Rattle.std.proofs.lemmas.Result.{IfOk-weaker}
+use Rattle.tw_command.specs.InTurn.{IsInTurn}
+use Rattle.tw_command.specs.declared.command.InputsOrder.{InputsOrder}
+use Rattle.tw_command.specs.declared.command.InputsOrder.TheVariants.{ToReplay, ToRun}
+use Rattle.tw_command.specs.declared.command.Order.{Order}
+use Rattle.tw_command.specs.declared.command.Order.TheVariants.{Inputs, Replay}
+use Rattle.tw_replies.specs.Reply.{reply}
+use Rattle.tw_session.specs.Session.{RepliesByInput, RepliesWithInputs}
+use Rattle.tw_session.proofs.Leading.{comes_on}
+use Rattle.tw_session.proofs.order.ordered_step.Goals as goal
+
+pub returns-in-Program : goal.returns-in-Program
+returns-in-Program c = (
+  (λ turns. subst IsInTurn c.in-Program.is turns),
+  (λ r h. subst (λ (o : Order). RepliesByInput o c.args.input.items r) (sym c.in-Program.is) h),
+)
+
+pub returns-in-Inputs-default-ToRun : goal.returns-in-Inputs-default-ToRun
+returns-in-Inputs-default-ToRun c =
+    let input = c.args.input.items in
+    let source = c.in-Inputs-default-ToRun.source in
+    let options = c.in-Inputs-default-ToRun.options in
+    let is : c.args.order ≡ Inputs source (ToRun options) = c.in-Inputs-default-ToRun.is ∙ ap (λ (o : InputsOrder). Inputs source o) c.in-Inputs-default-ToRun.field-1-is in
+    let bytes = c.deref-in-Inputs-default-ToRun.result.now in
+    IfOk-weaker _ _ _
+    (λ s h. comes_on (options.in_turn ≡ true) (IsInTurn c.args.order) (RepliesWithInputs source (ToRun options) bytes) (RepliesByInput c.args.order input) (λ turns. subst IsInTurn is turns)
+    (λ r told. subst (λ (o : Order). RepliesByInput o input r) (sym is) (subst (λ (i : List ℕ). RepliesWithInputs source (ToRun options) i r) c.deref-in-Inputs-default-ToRun.ensures.value told)) s h) c.run_inputs_step.ensures
+
+pub returns-in-Replay : goal.returns-in-Replay
+returns-in-Replay c =
+    let order = Replay c.in-Replay.source c.in-Replay.order in
+    let r = reply c.in_ok-reply-in-Replay.reply.text.items c.in_ok-reply-in-Replay.reply.close in
+    subst (λ (o : Order). RepliesByInput o c.args.input.items r) (sym c.in-Replay.is) (subst (λ (i : List ℕ). RepliesByInput order i r) c.deref-in-Replay.ensures.value c.in_ok-reply-in-Replay.ensures)
+
+pub returns : goal.returns
+returns c =
+    let order = Inputs c.in-Inputs-default-ToReplay.source (ToReplay c.in-Inputs-default-ToReplay.options) in
+    let is : c.args.order ≡ order = c.in-Inputs-default-ToReplay.is ∙ ap (λ (o : InputsOrder). Inputs c.in-Inputs-default-ToReplay.source o) c.in-Inputs-default-ToReplay.field-1-is in
+    let r = reply c.in_ok-reply-in-Inputs-default-ToReplay.reply.text.items c.in_ok-reply-in-Inputs-default-ToReplay.reply.close in
+    subst (λ (o : Order). RepliesByInput o c.args.input.items r) (sym is) (subst (λ (i : List ℕ). RepliesByInput order i r) c.deref-in-Inputs-default-ToReplay.ensures.value c.in_ok-reply-in-Inputs-default-ToReplay.ensures)
