@@ -1,66 +1,23 @@
 //! The calls of the store by ids, and what it answers to each.
 
-ghost use Rattle.std.specs.Prelude.{◌≡◌, ◌<◌, ◌^◌, IfSome, IsTrue, option_map, true};
-ghost use Rattle.std.specs.FinMap.{contains_key, get};
-ghost use Rattle.std.specs.Option.{option_copied};
+ghost use Rattle.std.specs.Prelude.{◌≡◌, IfSome};
+ghost use Rattle.std.specs.FinMap.{get};
 ghost use Rattle.std.specs.declared.result.Result.TheVariants.{Ok};
-ghost use Rattle.tw_types.specs.DataType.{is_element_of};
-ghost use Rattle.tw_types.specs.StoreCalls.{member_at};
-ghost use Rattle.tw_types.specs.StoreChecks.{may_copy_write, may_drop_read, may_drop_write, may_insert, may_look, may_read_members, may_read_members_by, may_retrieve, may_store};
+ghost use Rattle.tw_types.specs.StoreChecks.{may_insert};
 ghost use Rattle.tw_types.specs.Text.{IsText};
-ghost use Rattle.tw_types.specs.Value.{scalar_of};
-ghost use Rattle.tw_types.specs.ValueOrder.{named};
-ghost use Rattle.tw_types.specs.Room.{HasReadRoom, HasWriteRoom};
-ghost use Rattle.tw_store.specs.Calls.{HasMemberRoom};
 ghost use Rattle.tw_store.specs.Served.{IsHere};
 
-use std::alloc::{AllocError, Global};
+use crate::answers::{
+    Answer, Plain, Word, answer_of, done_or_refused, id_of, if_back, insertion, value_of,
+};
+use crate::store_checks::{
+    FAR, has_read_room, may_copy_write, may_drop_read, may_drop_write, may_insert, may_look,
+    may_read_by, may_read_members, may_retrieve, may_store, read_of, write_of,
+};
+use std::alloc::Global;
 use tw_rights::{ReadRight, WriteRight};
-use tw_store::{Asked, Datum, Inserted, Store};
-use tw_types::{DataType, DatumId, RuleNo, Scalar, Text, Value, ValueRef};
-
-/// No count comes near this one.
-const FAR: u64 = 1 << 40;
-
-/// A text of the calls. They rise in this order.
-#[derive(Clone, Copy, PartialEq, Eq)]
-pub enum Word {
-    Empty,
-    A,
-    Ab,
-    B,
-}
-
-impl Word {
-    fn as_str(self) -> &'static str
-        ensures { IsText result.now }
-    {
-        match self {
-            Word::Empty => "",
-            Word::A => "a",
-            Word::Ab => "ab",
-            Word::B => "b",
-        }
-    }
-
-    /// The word that is this text.
-    fn of(text: &Text) -> Option<Word> {
-        match text.as_str() {
-            "" => Some(Word::Empty),
-            "a" => Some(Word::A),
-            "ab" => Some(Word::Ab),
-            "b" => Some(Word::B),
-            _ => None,
-        }
-    }
-}
-
-/// The value of a scalar.
-#[derive(Clone, Copy, PartialEq, Eq)]
-pub enum Plain {
-    Number(i64),
-    Word(Word),
-}
+use tw_store::{Asked, Store};
+use tw_types::{DataType, RuleNo, Scalar, Text, Value, ValueRef};
 
 /// What is to be called: the first number is the id of the datum.
 #[derive(Clone, Copy)]
@@ -88,193 +45,6 @@ pub enum Call {
     ReserveNotices(u64),
 }
 
-/// What a call answers.
-#[derive(Clone, Copy, PartialEq, Eq)]
-pub enum Answer {
-    Done,
-    Present,
-    Nothing,
-    Id(u64),
-    Number(i64),
-    Word(Word),
-    Closed,
-    Noted,
-    Notice(u64, u64, u8),
-    /// What the call asks isn't so, and it wasn't made.
-    Barred,
-    /// Memory was refused, and what was moved in came back.
-    Refused,
-    /// Something else came back, or a number is too large.
-    Strange,
-}
-
-// ---- what the calls ask
-
-/// A read right on the datum of an id, if it is live.
-fn read_of(store: &Store, id: u64) -> Option<ReadRight>
-    ensures here { IfSome result (λ right. IsHere store.now right) }
-{
-    let datum = DatumId::new(id);
-    let place = store.place_of(datum)?;
-    Some(ReadRight::of(datum, place))
-}
-
-/// A write right on the datum of an id, if it is live.
-fn write_of(store: &Store, id: u64) -> Option<WriteRight>
-    ensures here { IfSome result (λ right. IsHere store.now right) }
-{
-    let datum = DatumId::new(id);
-    let place = store.place_of(datum)?;
-    Some(WriteRight::of(datum, place))
-}
-
-fn may_store(value: &Value, datum: Option<&Datum>) -> bool
-    ensures { IsTrue result → may_store value.now (option_map (λ d. d.datum) (option_copied datum.entry)) ≡ Ok tt }
-{
-    match datum {
-        Some(datum) => {
-            let ty = datum.ty();
-            let is_of = ty.is_scalar() && value.scalar() == ty.scalar();
-            is_of && datum.is_unset() && datum.writes() != 0
-        }
-        None => false,
-    }
-}
-
-fn may_retrieve(datum: Option<&Datum>) -> bool
-    ensures { IsTrue result → may_retrieve (option_map (λ d. d.datum) (option_copied datum.entry)) ≡ Ok tt }
-{
-    match datum {
-        Some(datum) => datum.ty().is_scalar() && datum.value().is_some(),
-        None => false,
-    }
-}
-
-fn is_element_of(element: DataType, ty: DataType) -> bool
-    ensures { result ≡ is_element_of element ty }
-{
-    ty.element() == Some(element)
-}
-
-fn may_insert(by: Scalar, container: Option<&Datum>, member: Option<&Datum>) -> bool
-    ensures { IsTrue result → may_insert by (option_map (λ d. d.datum) (option_copied container.entry)) (option_map (λ d. d.datum) (option_copied member.entry)) ≡ Ok tt }
-{
-    match (container, member) {
-        (Some(container), Some(member)) => {
-            let ty = container.ty();
-            let is_element = is_element_of(member.ty(), ty);
-            ty.is_container_by(by) && is_element && !container.closed()
-        }
-        _ => false,
-    }
-}
-
-fn may_read_members(datum: Option<&Datum>) -> bool
-    ensures { IsTrue result → may_read_members (option_map (λ d. d.datum) (option_copied datum.entry)) ≡ Ok tt }
-{
-    match datum {
-        Some(datum) => !datum.ty().is_scalar() && datum.closed(),
-        None => false,
-    }
-}
-
-/// The same, by subscripts of this type.
-fn may_read_by(by: Scalar, datum: Option<&Datum>) -> bool
-    ensures { IsTrue result → may_read_members_by by (option_map (λ d. d.datum) (option_copied datum.entry)) ≡ Ok tt }
-{
-    match datum {
-        Some(datum) => datum.ty().is_container_by(by) && datum.closed(),
-        None => false,
-    }
-}
-
-fn may_copy_write(datum: Option<&Datum>) -> bool
-    ensures allowed { IsTrue result → may_copy_write (option_map (λ d. d.datum) (option_copied datum.entry)) ≡ Ok tt }
-    ensures room { IsTrue result → HasWriteRoom (option_map (λ d. d.datum) (option_copied datum.entry)) }
-{
-    match datum {
-        Some(datum) => !datum.ty().is_scalar() && datum.writes() < FAR,
-        None => false,
-    }
-}
-
-fn may_drop_read(datum: Option<&Datum>) -> bool
-    ensures { IsTrue result → may_drop_read (option_map (λ d. d.datum) (option_copied datum.entry)) ≡ Ok tt }
-{
-    match datum {
-        Some(datum) => datum.reads() != 0,
-        None => false,
-    }
-}
-
-fn may_drop_write(datum: Option<&Datum>) -> bool
-    ensures { IsTrue result → may_drop_write (option_map (λ d. d.datum) (option_copied datum.entry)) ≡ Ok tt }
-{
-    match datum {
-        Some(datum) => !datum.ty().is_scalar() && datum.writes() != 0,
-        None => false,
-    }
-}
-
-/// It is live, and may have one read more.
-fn has_read_room(store: &Store, id: DatumId) -> bool
-    ensures live { IsTrue result → contains_key store.now.store.live id ≡ true }
-    ensures room { IsTrue result → HasReadRoom (get store.now.store.live id) }
-{
-    match store.view(id) {
-        Some(datum) => datum.reads() < FAR,
-        None => false,
-    }
-}
-
-fn member_of(store: &Store, container: DatumId, subscript: ValueRef<'_>) -> Option<DatumId>
-    ensures { result ≡ member_at store.now.store container (named subscript.entry) }
-{
-    match store.view(container) {
-        Some(datum) => datum.member_at(subscript),
-        None => None,
-    }
-}
-
-fn scalar_of(subscript: ValueRef<'_>) -> Scalar
-    ensures { result ≡ scalar_of (named subscript.entry) }
-{
-    match subscript {
-        ValueRef::Int(_) => Scalar::Int,
-        ValueRef::Text(_) => Scalar::Text,
-    }
-}
-
-/// A member that is there is live, and may have one read more.
-fn may_look(store: &Store, container: DatumId, subscript: ValueRef<'_>) -> bool
-    ensures allowed { IsTrue result → may_look store.now.store container (named subscript.entry) ≡ Ok tt }
-    ensures room { IsTrue result → HasMemberRoom store.now.store container (named subscript.entry) }
-{
-    may_read_by(scalar_of(subscript), store.view(container))
-        && match member_of(store, container, subscript) {
-            Some(member) => has_read_room(store, member),
-            None => true,
-        }
-}
-
-// ---- the calls
-
-/// The answer, where the right that came back is on this datum.
-fn if_back(id: u64, back: DatumId, answer: Answer) -> Answer {
-    if back.number() == id {
-        answer
-    } else {
-        Answer::Strange
-    }
-}
-
-fn done_or_refused(done: Result<(), AllocError>) -> Answer {
-    match done {
-        Ok(()) => Answer::Done,
-        Err(_) => Answer::Refused,
-    }
-}
-
 fn type_of(depth: u8, of_text: bool) -> DataType {
     let mut ty = if of_text {
         DataType::text()
@@ -300,28 +70,6 @@ fn create(store: &mut Store, alloc: Global, ty: DataType) -> Answer {
     }
 }
 
-/// The value, where memory isn't refused.
-fn value_of(alloc: Global, plain: Plain) -> Option<Value> {
-    match plain {
-        Plain::Number(number) => Some(Value::Int(number)),
-        Plain::Word(word) => {
-            let string = word.as_str().to_string(alloc).ok()?;
-            Some(Value::Text(Text::new(string).ok()?))
-        }
-    }
-}
-
-fn answer_of_text(text: &Text) -> Answer {
-    Word::of(text).map_or(Answer::Strange, Answer::Word)
-}
-
-fn answer_of(value: &Value) -> Answer {
-    match value {
-        Value::Int(number) => Answer::Number(*number),
-        Value::Text(text) => answer_of_text(text),
-    }
-}
-
 fn retrieve(store: &Store, alloc: Global, right: &ReadRight) -> Answer
     requires { IsHere store.now right.now }
 {
@@ -331,14 +79,6 @@ fn retrieve(store: &Store, alloc: Global, right: &ReadRight) -> Answer
     match store.retrieve(alloc, right) {
         Ok(value) => answer_of(&value),
         Err(_) => Answer::Refused,
-    }
-}
-
-/// The id of a member that was looked up.
-fn id_of(found: Option<ReadRight>) -> Answer {
-    match found {
-        Some(member) => Answer::Id(member.spend().number()),
-        None => Answer::Nothing,
     }
 }
 
@@ -432,14 +172,6 @@ fn member_given(store: &Store, right: &WriteRight, by: Scalar, member: u64) -> O
     }
     let _id = given.spend();
     None
-}
-
-fn insertion(member: u64, done: Result<Inserted, ReadRight>) -> Answer {
-    match done {
-        Ok(Inserted::Done) => Answer::Done,
-        Ok(Inserted::Present(back)) => if_back(member, back.spend(), Answer::Present),
-        Err(back) => if_back(member, back.spend(), Answer::Refused),
-    }
 }
 
 fn insert(

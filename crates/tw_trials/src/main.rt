@@ -4,6 +4,7 @@
 #![tactic(auto)]
 
 mod alone;
+mod answers;
 mod calls;
 mod case;
 mod code;
@@ -12,6 +13,7 @@ mod draw;
 mod inputs;
 mod jobs;
 mod letters;
+mod listed;
 mod local;
 mod long;
 mod members;
@@ -26,6 +28,7 @@ mod rounds;
 mod rules;
 mod search;
 mod signature;
+mod store_checks;
 mod stores;
 mod stretches;
 mod threads;

@@ -2,7 +2,8 @@
 
 ghost use Rattle.tw_store.specs.Served.{KnowsPlaces};
 
-use crate::calls::{Answer, Call, Plain, answered};
+use crate::answers::{Answer, Plain};
+use crate::calls::{Call, answered};
 use std::alloc::Global;
 use tw_store::{Datum, Store};
 use tw_types::{DatumId, Value, ValueRef};

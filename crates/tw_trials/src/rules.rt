@@ -1,157 +1,16 @@
 //! Rules: worked calls of their table, and calls by chance compared with a plain list that is searched whole. Where memory
 //! is refused the arguments come back, nothing has changed, and the call goes when it is made again.
 
-ghost use Rattle.std.specs.Prelude.{[], ◌∷◌};
-ghost use Rattle.std.specs.List.{AllZip};
-ghost use Rattle.tw_rights.specs.Roomy.{IsRoom};
-ghost use Rattle.tw_rules.specs.Table.{SuitsMode};
-
 use crate::draw::draw;
+use crate::listed::{
+    Listed, action_of, args_of, least_ask, least_release, mode_of, plain_args, plain_of, restage,
+    stage_of,
+};
 use crate::numbered::{Put, room};
 use std::alloc::{AllocError, Global};
-use tw_rights::{Arg, Bundle, ReadRight, WriteRight};
-use tw_rules::{PlainArg, PlainRule, PlannedTask, RuleTable};
-use tw_types::{DataType, DatumId, Mode, Param, RuleNo, Stage, Value};
-
-/// A rule in the plain list. All rules have three parameters.
-#[derive(Clone, Copy)]
-struct Listed {
-    number: u64,
-    engine: u8,
-    modes: [Mode; 3],
-    stages: [Stage; 3],
-}
-
-impl Listed {
-    fn first_unasked(&self) -> Option<u8> {
-        let mut stages = self.stages.iter();
-        let place = stages.position(|stage| *stage == Stage::Unasked)?;
-        u8::try_from(place).ok()
-    }
-
-    fn is_releasable(&self) -> bool {
-        let mut stages = self.stages.iter();
-        stages.all(|stage| *stage == Stage::Free || *stage == Stage::Ready)
-    }
-}
-
-fn least_ask(list: &[Listed], engine: u8) -> Option<(u64, u8)> {
-    let mut least: Option<(u64, u8)> = None;
-    for rule in list {
-        if rule.engine == engine && least.is_none_or(|(number, _)| rule.number < number) {
-            if let Some(parameter) = rule.first_unasked() {
-                least = Some((rule.number, parameter));
-            }
-        }
-    }
-    least
-}
-
-fn least_release(list: &[Listed], engine: u8) -> Option<u64> {
-    let mut least: Option<u64> = None;
-    for rule in list {
-        if rule.engine == engine
-            && rule.is_releasable()
-            && least.is_none_or(|number| rule.number < number)
-        {
-            least = Some(rule.number);
-        }
-    }
-    least
-}
-
-/// Puts a parameter of a rule of the list at a stage, where it may come to it; whether it does.
-fn restage(list: &mut [Listed], number: u64, parameter: u8, stage: Stage) -> bool {
-    let mut may = false;
-    for rule in list {
-        if rule.number == number {
-            if let Some(old) = rule.stages.get_mut(usize::from(parameter)) {
-                may = *old == Stage::Unasked || *old == Stage::Waiting && stage == Stage::Ready;
-                if may {
-                    *old = stage;
-                }
-            }
-        }
-    }
-    may
-}
-
-/// A mode, twice as often `Closed` as another.
-fn mode_of(seed: &mut u64) -> Mode {
-    match draw(seed, 5) {
-        0 | 1 => Mode::Closed,
-        2 => Mode::Ref,
-        3 => Mode::Write,
-        _ => Mode::Val,
-    }
-}
-
-fn stage_of(mode: Mode) -> Stage {
-    match mode {
-        Mode::Closed => Stage::Unasked,
-        Mode::Ref | Mode::Write | Mode::Val => Stage::Free,
-    }
-}
-
-/// The datum of a parameter of a rule.
-fn datum_of(number: u64, parameter: u64) -> DatumId {
-    DatumId::new(number.wrapping_mul(3).wrapping_add(parameter))
-}
-
-fn arg_of(mode: Mode, id: DatumId) -> Arg
-    ensures { SuitsMode mode result }
-{
-    match mode {
-        Mode::Val => Arg::Val(Value::Int(7)),
-        Mode::Closed | Mode::Ref => Arg::Read(ReadRight::of(id, 0)),
-        Mode::Write => Arg::Write(WriteRight::of(id, 0)),
-    }
-}
-
-/// Three arguments of these modes.
-fn args_of(mut room: Vec<Arg>, number: u64, first: Mode, second: Mode, third: Mode) -> Bundle
-    requires { IsRoom 3 room }
-    ensures { AllZip SuitsMode (first ∷ second ∷ third ∷ []) result }
-{
-    room.push_reserved(arg_of(first, datum_of(number, 0)));
-    room.push_reserved(arg_of(second, datum_of(number, 1)));
-    room.push_reserved(arg_of(third, datum_of(number, 2)));
-    Bundle::of(room)
-}
-
-fn action_of(number: u64) -> PlannedTask {
-    PlannedTask {
-        procedure: u8::try_from(number % 64).unwrap_or(0),
-        priority: 9,
-        target: u8::try_from(number % 4).ok(),
-    }
-}
-
-fn plain_of(arg: Option<&Arg>) -> Option<PlainArg> {
-    Some(match arg? {
-        Arg::Val(_) => PlainArg::Val,
-        Arg::Read(right) => PlainArg::Read(right.id()),
-        Arg::Write(right) => PlainArg::Write(right.id()),
-    })
-}
-
-/// The argument of a parameter of a rule.
-fn plain_arg(number: u64, parameter: u64, mode: Mode) -> PlainArg {
-    let id = datum_of(number, parameter);
-    match mode {
-        Mode::Val => PlainArg::Val,
-        Mode::Closed | Mode::Ref => PlainArg::Read(id),
-        Mode::Write => PlainArg::Write(id),
-    }
-}
-
-fn plain_args(number: u64, modes: [Mode; 3]) -> [PlainArg; 3] {
-    [
-        plain_arg(number, 0, modes[0]),
-        plain_arg(number, 1, modes[1]),
-        plain_arg(number, 2, modes[2]),
-    ]
-}
+use tw_rights::Bundle;
+use tw_rules::{PlainRule, RuleTable};
+use tw_types::{DataType, Mode, Param, RuleNo, Stage};
 
 // ---- the calls of the table
 

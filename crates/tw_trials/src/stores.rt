@@ -1,15 +1,16 @@
 //! Worked calls of the store, with memory refused once at whatever call: what was moved in comes back, nothing has changed,
 //! and made again the call goes. The answers are the same whether an allocation fails or none does.
 
-use crate::calls::Answer::{
+use crate::answers::Answer::{
     Barred, Closed, Done, Id, Noted, Nothing, Notice, Number, Present, Refused, Word,
 };
+use crate::answers::Word::{A, Ab, B, Empty};
+use crate::answers::{Answer, Plain};
 use crate::calls::Call::{
     Ask, CopyRead, CopyWrite, Create, CreateByText, DropRead, DropWrite, Insert, InsertText, Look,
     LookText, ReserveDatum, ReserveNotices, Retrieve, Set, Size, SubscriptAt, TakeNote, TextAt,
 };
-use crate::calls::Word::{A, Ab, B, Empty};
-use crate::calls::{Answer, Call, Plain, answered};
+use crate::calls::{Call, answered};
 use std::alloc::Global;
 use tw_store::{Datum, Store};
 use tw_types::{DatumId, Value};
