@@ -2,7 +2,6 @@
 
 ghost use Rattle.std.specs.Prelude.{◌≡◌, ◌+◌, ◌<◌, ◌≤◌, length, min, slice_get};
 ghost use Rattle.tw_code.specs.accepting.Flow.{flows};
-ghost use Rattle.tw_code.specs.machine.Position.{goal_of};
 ghost use Rattle.tw_budget.specs.Rows.{IsRow, RowsFrom, most_told};
 ghost use Rattle.tw_budget.specs.Sound.{IsSound};
 

@@ -1,6 +1,5 @@
 //! The parts of a procedure from bytes.
 
-ghost use Rattle.std.specs.Prelude.{◌≡◌};
 ghost use Rattle.tw_bytes.specs.Reading.{Gives, param_at, instr_at, scalar_at, type_under, counted, byte_at, wide_at};
 
 use crate::fault::Stop;

@@ -1,7 +1,6 @@
 //! Verdicts.
 
 ghost use Rattle.std.specs.Prelude.{◌≡◌, ◌≢◌, ◌⊎◌};
-ghost use Rattle.tw_code.specs.accepting.WellTyped.{IsAccepted, IsFirstRefusal};
 ghost use Rattle.tw_verify.specs.Refusal.{verify_refusal_number};
 ghost use Rattle.tw_embed.specs.Verdict.{IsProgramVerdict, IsVerdict, accepted as accepted_is, fault as fault_is, no_memory as no_memory_is, refusal as refusal_is};
 

@@ -1,7 +1,6 @@
 -- What events leave of the tasks that run: those of other actors are as they were.
-use Rattle.std.proofs.Common.{◌≡◌, ◌≢◌, ℕ, Bool, true, false, cond, List, [], ◌∷◌, ◌++◌, length, length-append, Some, None, refl, sym, ap, subst, ◌∙◌, arith}
+use Rattle.std.proofs.Common.{◌≡◌, ◌≢◌, ℕ, Bool, true, false, cond, List, [], ◌∷◌, ◌++◌, length, Some, None, refl, sym, ap, subst, ◌∙◌, arith}
 use Rattle.tw_types.proofs.Orders.{other_key}
-use Rattle.std.proofs.lemmas.List.Elements.{filter-append}
 use Rattle.std.specs.Cmp.{tied_itself}
 use Rattle.std.specs.FinMap.{get, get-insert, get-remove, insert, remove}
 use Rattle.std.specs.Ordering.{is_eq}
@@ -18,7 +17,7 @@ use Rattle.tw_code.specs.machine.Machine.{ask_event, call_event, deliver_event, 
 use Rattle.tw_code.specs.machine.State.{Frame, Frames, State}
 use Rattle.tw_code.proofs.Leaving.{ask_leaves, call_leaves, deliver_leaves, end_leaves, local_leaves, release_leaves, take_leaves}
 use Rattle.tw_pool.specs.Actors.{events_of, same_actor}
-use Rattle.tw_pool.proofs.Counting.{few, the_same}
+use Rattle.tw_pool.proofs.Counting.{AreBy, few, the_same}
 
 -- ---- maps by actors
 
@@ -93,10 +92,6 @@ module _ (program : List Procedure) (layout : ActorCounts) where
 
 -- ---- events of one actor
 
-abbrev pub AreBy : Actor → List Event → Type 0
-AreBy actor [] = Unit {0}
-AreBy actor (e ∷ es) = (actor_of e ≡ actor) × AreBy actor es
-
 tail_is : (e : Event) (xs ys : List Event) → e ∷ xs ≡ e ∷ ys → xs ≡ ys
 tail_is e xs ys is = cc
 
@@ -114,20 +109,3 @@ module _ (program : List Procedure) (layout : ActorCounts) (own other : Actor) (
   others_all (e ∷ es) s t by f =
       let one = first_of program layout e es s t f in
       others_all es one.0 t by.1 one.2 ∙ others program layout s one.0 other e (λ is. apart (is ∙ by.0)) one.1
-
-  not_by : (e : Event) → actor_of e ≡ own → same_actor (actor_of e) other ≡ false
-  not_by e is = by (same_actor (actor_of e) other) refl
-    where
-      by : (b : Bool) → same_actor (actor_of e) other ≡ b → b ≡ false
-      by true same = absurd (apart (sym (the_same (actor_of e) other same) ∙ is))
-      by false same = refl
-
-  none_of : (es : List Event) → AreBy own es → events_of other es ≡ []
-  none_of [] by = refl
-  none_of (e ∷ es) by = rw (not_by e by.0) (none_of es by.1)
-
-  pub others_count : (history es : List Event) → AreBy own es → length (events_of other (history ++ es)) ≡ length (events_of other history)
-  others_count history es by =
-      let split = ap (λ xs. length xs) (filter-append (λ (x : Event). same_actor (actor_of x) other) history es ∙ ap (λ xs. events_of other history ++ xs) (none_of es by)) in
-      let long = length-append (events_of other history) [] in
-      omega (arith, split, long)

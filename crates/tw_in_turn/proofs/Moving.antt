@@ -1,5 +1,5 @@
 -- What comes of a turn in which an actor hands in what it has.
-use Rattle.std.proofs.Common.{◌≡◌, ◌≢◌, ◌==◌, ◌+◌, ◌≤◌, ◌⊎◌, ℕ, zero, suc, Bool, true, false, not, if◌then◌else◌, List, [], ◌∷◌, ◌++◌, length, length-append, Option, Some, None, refl, sym, ap, subst, ◌∙◌, arith, inl, inr, option_map}
+use Rattle.std.proofs.Common.{◌≡◌, ◌≢◌, ◌==◌, ◌+◌, ◌≤◌, ◌⊎◌, ℕ, zero, suc, Bool, true, false, not, if◌then◌else◌, List, [], ◌∷◌, ◌++◌, length, length-append, Option, Some, None, refl, sym, ap, subst, ◌∙◌, arith, inl, inr, option_map, append-nil}
 use Rattle.std.proofs.lemmas.Bool.{and_parts, eq-eqb, eqb-true}
 use Rattle.std.specs.FinMap.{get}
 use Rattle.std.specs.Option.{option_or}
@@ -25,6 +25,7 @@ use Rattle.tw_pool.specs.declared.answer.Turn.TheVariants.{Over, Foreign, Owed, 
 use Rattle.tw_pool.specs.Actors.{events_of}
 use Rattle.tw_pool.specs.PoolView.{PoolView, HasState, with_events}
 use Rattle.tw_pool.specs.Turns.{GoesFree, IsTurn, Lends, Makes, TakesBack, Turns, TurnsUnless, closing_at, closing_of, instr_behind, is_last, lent_to, steps_of}
+use Rattle.tw_pool.proofs.Counting.{AreBy, others_same}
 use Rattle.tw_pool.proofs.Lines.{whose_due}
 use Rattle.tw_host.specs.Tells.{IsAnswerOf, IsDoneOf}
 use Rattle.tw_host.proofs.Owning.{is_answer_of}
@@ -33,7 +34,6 @@ use Rattle.tw_in_turn.specs.InTurn.{ComesTo, GoesOn, Has, HasDone, HasEnded, IsA
 use Rattle.tw_in_turn.specs.declared.rounds.End.{End as Stop}
 use Rattle.tw_in_turn.specs.Rounds.{Comes, IsGrown, IsIdle, IsTurned, Keeps}
 use Rattle.tw_in_turn.proofs.Frames as frames
-use Rattle.tw_in_turn.proofs.Frames.{AreBy}
 
 -- an event of rules or notices
 abbrev pub IsOfRules : Event → Type 0
@@ -158,10 +158,6 @@ without_frame p s actor none = no_frame p (length (events_of actor p.history)) a
 pub lent_none : (p : PoolView) (s : State) (actor : Actor) → get s.frames actor ≡ None → lent_to p s actor ≡ None
 lent_none p s actor none = ap (option_map (job_by p (length (events_of actor p.history)) actor)) none
 
-no_more : (es : List Event) → es ++ [] ≡ es
-no_more [] = refl
-no_more (e ∷ es) = ap (λ xs. e ∷ xs) (no_more es)
-
 -- answers that lend no job
 abbrev pub Rests : Turn → Type 0
 Rests (Over closing) = ⊥
@@ -231,7 +227,7 @@ module _ (old new : PoolView) (actor : Actor) (given : Option DoneView) (answer 
       same : (t : State) → HasState new t → lent_to new t other ≡ lent_to old s other
       same t has =
           let frame = frames.others_all old.program.program old.layout actor other apart turn.events s t own (leads t has) in
-          let count = frames.others_count old.program.program old.layout actor other apart old.history turn.events own in
+          let count = others_same other actor apart old.history turn.events own in
           ap (λ (p : PoolView). lent_to p t other) turn.appended ∙ (ap (λ n. option_map (job_by old n other) (get t.frames other)) count ∙ ap (option_map (job_by old (length (events_of other old.history)) other)) frame)
 
   -- ---- behind a job
@@ -330,7 +326,7 @@ module _ (old new : PoolView) (actor : Actor) (given : Option DoneView) (answer 
       by (ended before a e) = let n = ap (λ x. length x) e ∙ length-append before (End actor ∷ []) in inl (omega (arith, n, new_length))
       by (went e rules a es none) = let n = ap (λ x. length x) es in inl (omega (arith, n, new_length))
       by (idle a e none nothing runs_on) = inr (
-        turn.appended ∙ (ap (with_events old) e ∙ ap (λ (h : List Event). record old { history = h }) (no_more old.history)),
+        turn.appended ∙ (ap (with_events old) e ∙ ap (λ (h : List Event). record old { history = h }) (append-nil old.history)),
         record { state = s; has_state = turn.has_state; free = without_frame old s actor none; none_due = nothing; runs_on = runs_on },
       )
       by (refused a e) = absurd (subst GoesOn a on)
@@ -355,7 +351,7 @@ module _ (old new : PoolView) (actor : Actor) (given : Option DoneView) (answer 
 
       by : CameTo old s actor given answer turn.events → HasEnded (closing_at new t)
       by (over c at a e) =
-          let same_pool : new ≡ old = turn.appended ∙ (ap (with_events old) e ∙ ap (λ (h : List Event). record old { history = h }) (no_more old.history)) in
+          let same_pool : new ≡ old = turn.appended ∙ (ap (with_events old) e ∙ ap (λ (h : List Event). record old { history = h }) (append-nil old.history)) in
           let same_state : s ≡ t = same_went s t (sym turn.has_state ∙ subst (λ (p : PoolView). HasState p t) same_pool has) in
           let now : closing_at new t ≡ Some c = ap (λ (p : PoolView). closing_at p t) same_pool ∙ (ap (closing_at old) (sym same_state) ∙ at) in
           ends_if new t still (λ none. let no_one : Some c ≡ None = sym now ∙ none in cc)

@@ -1,5 +1,5 @@
 -- Two runs in turn of one opening are the same, but for which of its notices a server delivers.
-use Rattle.std.proofs.Common.{◌≡◌, ◌≢◌, ◌⊎◌, ℕ, zero, suc, Bool, true, false, List, [], ◌∷◌, ◌++◌, append_assoc, Option, Some, None, refl, sym, ap, subst, ◌∙◌, inl, inr}
+use Rattle.std.proofs.Common.{◌≡◌, ◌≢◌, ◌⊎◌, ℕ, zero, suc, Bool, true, false, List, [], ◌∷◌, ◌++◌, append_assoc, Option, Some, None, refl, sym, ap, subst, ◌∙◌, inl, inr, append-nil}
 use Rattle.std.proofs.lemmas.Bool.{cases_eq}
 use Rattle.std.proofs.lemmas.Option.{same_Some}
 use Rattle.tw_types.specs.declared.actor.Actor.{Actor}
@@ -262,17 +262,13 @@ record GoesBy (first : PoolView) (turns : ℕ) (q : PoolView) : Type 0 where
   more : List Event
   grown : q.history ≡ next.history ++ more
 
-no_more : (es : List Event) → es ++ [] ≡ es
-no_more [] = refl
-no_more (e ∷ es) = ap (λ xs. e ∷ xs) (no_more es)
-
 -- so many turns later
 abbrev later_on : ℕ → ℕ → ℕ
 later_on zero turns = turns
 later_on (suc later) turns = suc (later_on later turns)
 
 goes_by : (first : PoolView) (turns later : ℕ) (q : PoolView) → IsAfter first (suc (later_on later turns)) q → GoesBy first turns q
-goes_by first turns zero q (x, a, h, m, on) = record { before = x; next = q; answer = a; after = h; move = m; on = on; more = []; grown = sym (no_more q.history) }
+goes_by first turns zero q (x, a, h, m, on) = record { before = x; next = q; answer = a; after = h; move = m; on = on; more = []; grown = sym (append-nil q.history) }
 goes_by first turns (suc later) q (x, a, h, m, on) =
     let g = goes_by first turns later x h in
     record {

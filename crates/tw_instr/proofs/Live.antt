@@ -11,8 +11,7 @@ use Rattle.tw_types.proofs.Settled.{same}
 use Rattle.tw_datum.specs.declared.datum.Content.{Content}
 use Rattle.tw_datum.specs.declared.datum.Content.TheVariants as content
 use Rattle.tw_types.specs.Mapped.{mapped}
-use Rattle.tw_datum.specs.Kept.{KeptDatum, datum_if}
-use Rattle.tw_datum.specs.Kept.{content_of as kept_content}
+use Rattle.tw_datum.specs.Kept.{KeptDatum, datum_if, content_of as kept_content}
 use Rattle.tw_types.proofs.Mapped.{empty_mapped, get_mapped, insert_mapped, mapped_same, remove_mapped}
 use Rattle.tw_instr.specs.Content.{content_of}
 use Rattle.tw_instr.specs.Parts.{bare, data_of}

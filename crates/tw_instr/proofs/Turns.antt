@@ -1,6 +1,6 @@
 -- The innermost loop, which is the last that was begun.
 use Rattle.std.proofs.Common.{◌≡◌, ◌<◌, ◌≤◌, ◌+◌, ◌-◌, ℕ, zero, suc, List, [], ◌∷◌, ◌++◌, length, reverse, take, set, get_or, Some, refl, sym, ap, ◌∙◌, arith, length-append}
-use Rattle.std.proofs.lemmas.List.{reverse-append}
+use Rattle.std.proofs.lemmas.List.{reverse-append, take_at}
 use Rattle.tw_code.specs.machine.Position.{Loop, after_end, turned}
 
 -- a list that ends with this
@@ -15,10 +15,6 @@ split {A} (y ∷ z ∷ zs) x some is =
 set_last : {A : Type 0} (front : List A) (x y : A) → set (front ++ x ∷ []) (length front) y ≡ front ++ y ∷ []
 set_last [] x y = refl
 set_last {A} (z ∷ front) x y = ap (λ (ys : List A). z ∷ ys) (set_last front x y)
-
-take_front : {A : Type 0} (front : List A) (x : A) → take (length front) (front ++ x ∷ []) ≡ front
-take_front [] x = refl
-take_front {A} (z ∷ front) x = ap (λ (ys : List A). z ∷ ys) (take_front front x)
 
 more : (place first left : ℕ) (outer : List Loop) → 1 < left → turned place first left outer ≡ record { place = first; loops = record { first = first; left = left - 1 } ∷ outer }
 more place first zero outer h = absurd (omega arith)
@@ -52,7 +48,7 @@ module _ (place n : ℕ) (loops : List Loop) (l : Loop) (some : 0 < length loops
   pub turn_over : (now : Loop) (rest : List Loop) → rest ≡ take (n - 1) (set loops (n - 1) now) → l.left ≤ 1 → Some (record { place = place + 1; loops = reverse rest }) ≡ after_end place (reverse loops)
   turn_over now rest left h =
       let same : set loops (n - 1) now ≡ parts.0 ++ now ∷ [] = ap (λ (ls : List Loop). set ls (n - 1) now) parts.1 ∙ ap (λ (k : ℕ). set (parts.0 ++ l ∷ []) k now) at_last ∙ set_last parts.0 l now in
-      let front : rest ≡ parts.0 = left ∙ ap (λ (ls : List Loop). take (n - 1) ls) same ∙ ap (λ (k : ℕ). take k (parts.0 ++ now ∷ [])) at_last ∙ take_front parts.0 now in
+      let front : rest ≡ parts.0 = left ∙ ap (λ (ls : List Loop). take (n - 1) ls) same ∙ ap (λ (k : ℕ). take k (parts.0 ++ now ∷ [])) at_last ∙ take_at parts.0 (now ∷ []) _ refl in
       ap (λ (ls : List Loop). Some (record { place = place + 1; loops = reverse ls })) front
       ∙ sym (ap Some (last place l.first l.left (reverse parts.0) h))
       ∙ sym inner_is

@@ -5,8 +5,7 @@ ghost use Rattle.tw_types.specs.Outcome.{Went};
 ghost use Rattle.tw_code.specs.declared.instr.LocalInstr.TheVariants.{Int as INT, Text as TEXT, Copy as COPY, Compute as COMPUTE, Concatenate as CAT, Length as LEN, Show as SHOW, ReadInt as READI, JumpEqual as JEQ, JumpLess as JLT, End as END};
 ghost use Rattle.tw_code.specs.machine.Local.{local_instr, same_value};
 ghost use Rattle.tw_code.specs.machine.Machine.{local_step, local_steps};
-ghost use Rattle.tw_code.specs.machine.Position.{at_goal, at_next_place};
-ghost use Rattle.tw_code.specs.machine.Position.{Position as Where};
+ghost use Rattle.tw_code.specs.machine.Position.{at_goal, at_next_place, Position as Where};
 ghost use Rattle.tw_instr.specs.Attempts.{Changes, IsStopped, Leaves, failing};
 
 use crate::code::instr_at;

@@ -2,8 +2,7 @@
 
 ghost use Rattle.std.specs.Prelude.{◌≡◌, ◌<◌, ◌^◌, ◌∷◌, ◌+◌, [], length, reverse, slice_get, slice_set, IfOk, OnOk, None, Some, true, false, OnErr};
 ghost use Rattle.std.specs.Option.{option_copied, option_map};
-ghost use Rattle.tw_code.specs.machine.Position.{at_next_place, at_goal, with_value};
-ghost use Rattle.tw_code.specs.machine.Position.{after_end};
+ghost use Rattle.tw_code.specs.machine.Position.{at_next_place, at_goal, with_value, after_end};
 
 use std::alloc::{AllocError, Global};
 use std::marker::Model;

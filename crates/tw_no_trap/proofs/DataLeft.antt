@@ -3,10 +3,9 @@ use Rattle.std.proofs.Common.{◌≡◌, ℕ, ◌+◌, ◌-◌, ◌<◌, ◌==�
 use Rattle.tw_no_trap.proofs.MachineNames.{Closed, Completed, Contains, Content, Context, DataInstr, Datum, EmptyRegister, HasWriters, IsOfType, Mode, NestedScalar, Procedure, Ref, RightType, Scalar, Set, Typing, Unset, Val, Value, ValuesFit, Write, WrongRegister, after_data, and_parts, asks_data, data_flow, data_instr, datum_at, datum_of, eq-eqb, eqb-true, get, held, hits, hits_other, hits_same, is_closed, is_read, is_scalar, is_unset, is_write, may_drop_read, may_drop_write, may_store, members_of, ne_eqb, not-true, ok_or, one_write_less, option_and_then, option_flatten, over, passes, read_by, read_dropped, reads, right_at, same_scalar, scalar_itself, scalar_of, set_to, settled, store_after, subscribers_cleared, suits, write_by, writes, writes_scalar}
 use Rattle.tw_code.specs.declared.instr.DataInstr.TheVariants as on_data
 use Rattle.tw_no_trap.proofs.Aging.{Aged}
-use Rattle.tw_no_trap.proofs.Values.{AllYes, passed}
+use Rattle.tw_no_trap.proofs.Values.{AllYes, passed, Moves, declared_as, value_found}
 use Rattle.tw_no_trap.proofs.Registers.{Fits, Settles, At, at_right, aged_context, emptied, rights_set}
 use Rattle.tw_no_trap.proofs.Steps.{Goes, goes, goes_must, goes_then}
-use Rattle.tw_no_trap.proofs.Values.{Moves, declared_as, value_found}
 
 -- what an instruction on data leaves
 pub record Leaves (registers : List Scalar) (i : DataInstr) (typing : Typing) (old : Context) (r w : ℕ → ℕ) (new : Context) : Type 0 where

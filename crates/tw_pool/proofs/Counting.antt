@@ -51,6 +51,23 @@ not_same a b other = by (same_actor a b) refl
     by true e = absurd (other (the_same a b e))
     by false e = refl
 
+-- events that are all of one actor
+abbrev pub AreBy : Actor → List Event → Type 0
+AreBy actor [] = Unit {0}
+AreBy actor (e ∷ es) = (actor_of e ≡ actor) × AreBy actor es
+
+none_of : (a actor : Actor) → a ≢ actor → (es : List Event) → AreBy actor es → events_of a es ≡ []
+none_of a actor h [] by = refl
+none_of a actor h (e ∷ es) by =
+    let other : same_actor (actor_of e) a ≡ false = not_same (actor_of e) a (λ is. h (sym is ∙ by.0)) in
+    rw other (none_of a actor h es by.1)
+
+pub others_same : (a actor : Actor) → a ≢ actor → (history es : List Event) → AreBy actor es → length (events_of a (history ++ es)) ≡ length (events_of a history)
+others_same a actor h history es by =
+    let split = ap (λ xs. length xs) (filter-append (λ (x : Event). same_actor (actor_of x) a) history es ∙ ap (λ xs. events_of a history ++ xs) (none_of a actor h es by)) in
+    let long = length-append (events_of a history) [] in
+    omega (arith, split, long)
+
 one_place : (a b : Actor) → HasPlace a → HasPlace b → place_of a ≡ place_of b → same_actor a b ≡ true
 one_place (Engine a) (Engine b) f g e = eq-eqb a b e
 one_place (Engine a) (Server b) f g e = absurd (omega (arith, f, g, e))

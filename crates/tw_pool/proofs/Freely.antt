@@ -1,5 +1,5 @@
 -- What an actor without a task does: the lines of the table, from the events of the parts.
-use Rattle.std.proofs.Common.{IsSome, ◌≡◌, ◌<◌, ◌+◌, ◌^◌, ◌==◌, nat_lt, ◌&&◌, ℕ, Bool, true, false, List, [], ◌∷◌, ◌++◌, length, Option, Some, None, refl, sym, ap, subst, ◌∙◌, arith, inl, inr, option_map}
+use Rattle.std.proofs.Common.{IsSome, ◌≡◌, ◌<◌, ◌+◌, ◌^◌, ◌==◌, nat_lt, ◌&&◌, ℕ, Bool, true, false, List, [], ◌∷◌, ◌++◌, length, Option, Some, None, refl, sym, ap, subst, ◌∙◌, arith, inl, inr, option_map, append-nil}
 use Rattle.std.proofs.lemmas.Bool.{and_parts, eqb-true}
 use Rattle.std.proofs.lemmas.Option.{same_Some}
 use Rattle.std.specs.declared.alloc.AllocError.{AllocError}
@@ -108,19 +108,15 @@ module _ (verified : TypedProgram) (inputs : List Input) (layout : ActorCounts) 
   pub line_told : (line : State → Line) (answer : Turn) (es : List Event) (now : HistoryView) → now ≡ record { events = told.events ++ es; limit = told.limit } → line state answer es → IsTurnBy line w answer (viewed verified inputs layout stopped now)
   line_told line answer es now pushed is = record { state = state; has_state = has_state; events = es; is = is; appended = appended es now pushed }
 
-  no_more : (es : List Event) → es ++ [] ≡ es
-  no_more [] = refl
-  no_more (e ∷ es) = ap (λ xs. e ∷ xs) (no_more es)
-
   -- nothing is told
   pub line_still : (line : State → Line) (answer : Turn) → line state answer [] → IsTurnBy line w answer (viewed verified inputs layout stopped told)
-  line_still line answer is = record { state = state; has_state = has_state; events = []; is = is; appended = seen ∙ ap (λ es. record w { history = es }) (sym (no_more w.history)) }
+  line_still line answer is = record { state = state; has_state = has_state; events = []; is = is; appended = seen ∙ ap (λ es. record w { history = es }) (sym (append-nil w.history)) }
 
   -- where memory is taken at once
   wanted : (event : Event) → EventTakes verified.program state event → TakesMemory w [] event
   wanted event takes = record {
     state = state;
-    has_state = subst (λ es. HasState (record w { history = es }) state) (sym (no_more w.history)) has_state;
+    has_state = subst (λ es. HasState (record w { history = es }) state) (sym (append-nil w.history)) has_state;
     takes = subst (λ (x : PoolView). EventTakes x.program.program state event) seen takes;
   }
 

@@ -1,10 +1,9 @@
 -- What comes of a Done: the lines of the table, from the events of the parts.
-use Rattle.std.proofs.Common.{◌≡◌, ◌≢◌, ◌<◌, ◌≤◌, ◌+◌, ◌*◌, ◌^◌, ◌==◌, not, ◌&&◌, ℕ, Bool, true, false, cond, List, [], ◌∷◌, ◌++◌, length, length-append, Option, Some, None, refl, sym, ap, subst, ◌∙◌, arith, inl, option_map, slice_get}
+use Rattle.std.proofs.Common.{◌≡◌, ◌≢◌, ◌<◌, ◌≤◌, ◌+◌, ◌*◌, ◌^◌, ◌==◌, not, ◌&&◌, ℕ, Bool, true, false, cond, List, [], ◌∷◌, ◌++◌, length, length-append, Option, Some, None, refl, sym, ap, subst, ◌∙◌, arith, inl, option_map, slice_get, append_assoc, append-nil}
 use Rattle.tw_types.proofs.Orders.{other_key, own_key}
 use Rattle.std.specs.Prelude.{IfSome, MatchOption, option_to_list}
 use Rattle.std.proofs.lemmas.Bool.{and_parts, eqb-true}
 use Rattle.std.proofs.lemmas.Bool.Decides.{nat_tests}
-use Rattle.std.proofs.lemmas.List.Elements.{filter-append}
 use Rattle.std.proofs.lemmas.Option.{same_Some}
 use Rattle.std.specs.FinMap.{get, get-insert, get-remove, insert}
 use Rattle.std.specs.Option.{option_and_then}
@@ -49,27 +48,11 @@ use Rattle.tw_pool.specs.Kept.{AreLent, IsKept, IsOwedBy}
 use Rattle.tw_pool.specs.PoolView.{HasState, PoolView, with_events}
 use Rattle.tw_pool.specs.Turns.{IsTurnBy, Lends, Line, OrNoMemory, TakesMemory, is_last, instr_behind, lent_to, steps_of}
 use Rattle.tw_pool.specs.Words.{FitsWord}
-use Rattle.tw_pool.proofs.Counting.{has_place, itself, not_same, the_same}
+use Rattle.tw_pool.proofs.Counting.{AreBy, has_place, itself, others_same, the_same}
 use Rattle.tw_pool.proofs.Freely.{has_state, lends, line_told, room_here, state, viewed}
 use Rattle.tw_pool.proofs.Keeping.{no_task}
 
 -- ---- lists of one actor's events
-
-abbrev pub AreBy : Actor → List Event → Type 0
-AreBy actor [] = Unit {0}
-AreBy actor (e ∷ es) = (actor_of e ≡ actor) × AreBy actor es
-
-none_of : (a actor : Actor) → a ≢ actor → (es : List Event) → AreBy actor es → events_of a es ≡ []
-none_of a actor h [] by = refl
-none_of a actor h (e ∷ es) by =
-    let other : same_actor (actor_of e) a ≡ false = not_same (actor_of e) a (λ is. h (sym is ∙ by.0)) in
-    rw other (none_of a actor h es by.1)
-
-others_same : (a actor : Actor) → a ≢ actor → (history es : List Event) → AreBy actor es → length (events_of a (history ++ es)) ≡ length (events_of a history)
-others_same a actor h history es by =
-    let split = ap (λ xs. length xs) (filter-append (λ (x : Event). same_actor (actor_of x) a) history es ∙ ap (λ xs. events_of a history ++ xs) (none_of a actor h es by)) in
-    let long = length-append (events_of a history) [] in
-    omega (arith, split, long)
 
 pub steps_by : (actor : Actor) (done : DoneView) → AreBy actor (steps_of actor done)
 steps_by actor done = by (done.steps == 0) refl
@@ -81,14 +64,6 @@ steps_by actor done = by (done.steps == 0) refl
 then_by : (actor : Actor) (es : List Event) (e : Event) → AreBy actor es → actor_of e ≡ actor → AreBy actor (es ++ e ∷ [])
 then_by actor [] e all is = (is, tt)
 then_by actor (d ∷ es) e all is = (all.0, then_by actor es e all.1 is)
-
-pub assoc : (xs ys zs : List Event) → (xs ++ ys) ++ zs ≡ xs ++ (ys ++ zs)
-assoc [] ys zs = refl
-assoc (x ∷ xs) ys zs = ap (λ es. x ∷ es) (assoc xs ys zs)
-
-no_more : (es : List Event) → es ++ [] ≡ es
-no_more [] = refl
-no_more (e ∷ es) = ap (λ xs. e ∷ xs) (no_more es)
 
 -- ---- seats
 
@@ -185,7 +160,7 @@ module _ (verified : TypedProgram) (inputs : List Input) (layout : ActorCounts) 
       let none : (done.steps == 0) ≡ true = grind (arith, nat_tests, l.0) in
       record {
         is = rw none refl;
-        at = subst (λ p. AreAt verified inputs layout (told.events ++ []) p) (sym (l.1 its.0 owed_now)) (subst (λ es. AreAt verified inputs layout es old) (sym (no_more told.events)) at_old);
+        at = subst (λ p. AreAt verified inputs layout (told.events ++ []) p) (sym (l.1 its.0 owed_now)) (subst (λ es. AreAt verified inputs layout es old) (sym (append-nil told.events)) at_old);
         fits = tt;
       }
   has_come few (Some e) l =
@@ -321,7 +296,7 @@ module _ (verified : TypedProgram) (inputs : List Input) (layout : ActorCounts) 
     goes = subst (λ (v : TypedProgram). Makes v layout e came new) its.1.program (makes layout its.0 owed_now) c.at.notices c.at.parts
 
     both_are : (told.events ++ option_to_list o) ++ e ∷ [] ≡ told.events ++ (steps_of actor done ++ e ∷ [])
-    both_are = assoc told.events (option_to_list o) (e ∷ []) ∙ ap (λ es. told.events ++ (es ++ e ∷ [])) c.is
+    both_are = append_assoc told.events (option_to_list o) (e ∷ []) ∙ ap (λ es. told.events ++ (es ++ e ∷ [])) c.is
 
     pub told_two : (t p : HistoryView) → t ≡ record told { events = told.events ++ option_to_list o } → p ≡ record t { events = t.events ++ e ∷ [] } → p ≡ record { events = told.events ++ (steps_of actor done ++ e ∷ []); limit = told.limit }
     told_two t p one two = two ∙ ap (λ (x : HistoryView). record { events = x.events ++ e ∷ []; limit = x.limit }) one ∙ ap (λ es. record { events = es; limit = told.limit }) both_are

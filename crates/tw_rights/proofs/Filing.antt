@@ -1,5 +1,5 @@
 -- How the rights of a bundle come into the first registers of a file.
-use Rattle.std.proofs.Common.{[], ◌≡◌, ◌<◌, ◌≤◌, ◌-◌, ◌∙◌, ℕ, suc, List, ◌∷◌, ◌++◌, Option, Some, None, refl, sym, ap, arith, map as each, set, length, length-append, replicate}
+use Rattle.std.proofs.Common.{[], ◌≡◌, ◌<◌, ◌≤◌, ◌-◌, ◌∙◌, ℕ, suc, List, ◌∷◌, ◌++◌, Option, Some, None, refl, sym, ap, arith, map as each, set, length, length-append, replicate, append-nil}
 use Rattle.tw_types.specs.declared.value.Value.{Value}
 use Rattle.tw_rights.specs.declared.arg.Arg.{Arg}
 use Rattle.tw_rights.specs.declared.arg.Arg.TheVariants as arg
@@ -36,11 +36,7 @@ module _ (old new : List Arg) (last : Arg) (popped : old ≡ new ++ last ∷ [])
   few_left few = omega (arith, few, rights_few new, ap length popped, length-append new (last ∷ []))
 
   pub value_last : (value : Value) → last ≡ arg.Val value → rights_in new ≡ rights_in old
-  value_last value is = sym (ap rights_in (popped ∙ ap (λ (a : Arg). new ++ a ∷ []) is) ∙ rights_more new (arg.Val value ∷ []) ∙ none (rights_in new))
-    where
-      none : (rs : List Held) → rs ++ [] ≡ rs
-      none [] = refl
-      none (r ∷ rs) = ap (λ xs. r ∷ xs) (none rs)
+  value_last value is = sym (ap rights_in (popped ∙ ap (λ (a : Arg). new ++ a ∷ []) is) ∙ rights_more new (arg.Val value ∷ []) ∙ append-nil (rights_in new))
 
   pub read_last : (right : Right) → last ≡ arg.Read right → rights_in old ≡ rights_in new ++ held.Read right ∷ []
   read_last right is = ap rights_in (popped ∙ ap (λ (a : Arg). new ++ a ∷ []) is) ∙ rights_more new (arg.Read right ∷ [])

@@ -1,8 +1,6 @@
 //! What one engine has to do with its rules.
 
 ghost use Rattle.std.specs.Prelude.{◌≡◌, ◌<◌, ◌+◌, ◌∷◌, ◌++◌, [], IsOk, OnOk, true, false, if◌then◌else◌};
-ghost use Rattle.std.specs.List.Sorted.{IsPermutation};
-ghost use Rattle.std.specs.FinMap.{get};
 ghost use Rattle.tw_rules.specs.Numbers.{from_first};
 ghost use Rattle.tw_rules.specs.Entries.{rules_in};
 ghost use Rattle.tw_rules.specs.Indexed.{IsTrimmed, agenda_room, is_wanting};

@@ -31,7 +31,6 @@ pub struct RuleTable {
 }
 
 impl Model for RuleTable {
-    ghost use Rattle.std.specs.Prelude.{◌&&◌, nat_lt};
     ghost use Rattle.std.specs.HashMap.{hash_map_len, spare};
     ghost use Rattle.std.specs.Vec.{vec_capacity};
     ghost use Rattle.std.specs.Coded.{codes, coded_ℕ};

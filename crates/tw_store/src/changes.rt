@@ -6,7 +6,6 @@ ghost use Rattle.tw_types.specs.DataType.{is_container_by, is_scalar};
 ghost use Rattle.tw_types.specs.StoreCalls.{set_to, one_read_more, one_write_more, one_write_less, with_member, with_subscriber};
 ghost use Rattle.tw_types.specs.Value.{IsProper, scalar_of};
 ghost use Rattle.tw_types.specs.ValueOrder.{named};
-ghost use Rattle.tw_store.specs.declared.slot.Slot.{Slot as Meaning};
 ghost use Rattle.tw_store.specs.Parts.{data_room_of};
 ghost use Rattle.tw_store.specs.Slots.{slot_at, places_of, AreSeated, IsChanged, IsChangedAt, IsSettled};
 

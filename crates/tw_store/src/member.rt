@@ -1,7 +1,5 @@
 //! A member of a container.
 
-ghost use Rattle.std.specs.Prelude.{◌≡◌};
-
 use tw_types::{DatumId, Value};
 
 /// The id of a member, and the place where its datum stands.

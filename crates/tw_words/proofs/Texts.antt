@@ -7,7 +7,7 @@ use Rattle.std.proofs.lemmas.Str.{IsUtf8-append, IsUtf8-nil}
 use Rattle.tw_words.proofs.Utf8.{cut_rest, one_ascii}
 use Rattle.tw_words.specs.Words.{IsAtEdge, IsFirstWord, Word, is_edge, is_parting}
 
-edge_small : (b : ℕ) → is_edge b ≡ true → b < 128
+pub edge_small : (b : ℕ) → is_edge b ≡ true → b < 128
 edge_small b e = grind (arith, nat_tests)
 
 pub parting_small : (b : ℕ) → is_parting b ≡ true → b < 128
@@ -21,8 +21,8 @@ pub rest_utf8 : (word : Word) (bytes rest : List ℕ) → IsFirstWord word bytes
 rest_utf8 word bytes rest f u = at_edge_utf8 (f.gap ++ f.text) rest f.edge (subst IsUtf8 (f.parts ∙ sym (append_assoc f.gap f.text rest)) u)
 
 -- what follows the first byte, as a slice pattern gives it
-pub slice_tail : (b : ℕ) (rest : List ℕ) → take (length (b ∷ rest) - 1) (drop 1 (b ∷ rest)) ≡ rest
-slice_tail b rest =
+pub slice_tail : {A : Type 0} (x : A) (rest : List A) → take (length (x ∷ rest) - 1) (drop 1 (x ∷ rest)) ≡ rest
+slice_tail x rest =
     let e : suc (length rest) - 1 ≡ length rest = omega arith in
     ap (λ (n : ℕ). take n rest) e ∙ take_all (length rest) rest (omega arith)
 

@@ -1,4 +1,4 @@
-use Rattle.std.proofs.Common.{◌≡◌, ◌<◌, ◌+◌, true, length, get_or, sym, ap, subst, ◌∙◌, option_map, arith}
+use Rattle.std.proofs.Common.{◌≡◌, ◌<◌, ◌+◌, true, length, get_or, sym, ap, subst, ◌∙◌, option_map, arith, slice_set}
 use Rattle.std.specs.declared.option.Option.TheVariants.{Some}
 use Rattle.std.specs.FinMap.{get}
 use Rattle.std.specs.HashMap.{hash_map_len, spare}
@@ -11,7 +11,6 @@ use Rattle.tw_rules.specs.Table.{room_for}
 use Rattle.tw_rules.proofs.Rooms.{place_kept, room_kept}
 use Rattle.tw_rules.proofs.Fitting.{fitting_gone}
 use Rattle.tw_rules.proofs.Tables.{can_be_released, gone_at, gone_engine}
-use Rattle.std.proofs.Common.{slice_set}
 use Rattle.tw_rules.proofs.table.RuleTable.release.Goals as goal
 
 pub invariant_of-self : goal.invariant_of-self
