@@ -1,7 +1,7 @@
 #!/usr/bin/env python3
 """Checks the crate in whose folder it is called, with the crates below taken from their sources, as they stand and unproved: for the first minutes in
-a fresh clone, where `rt check` would prove all of those first. It takes the words of `rt check`, as --only FUNCTION; without one it proves all
-functions of those crates too."""
+a fresh clone, where `rt check` would prove all of those first. It takes the words of `rt check`, as --only FUNCTION, which checks that function and
+what it calls, in the crates below too; without one it checks all functions of those as well."""
 import os
 import shutil
 import sys
