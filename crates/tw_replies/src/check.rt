@@ -4,9 +4,9 @@ ghost use Rattle.std.specs.Prelude.{◌≡◌, ◌++◌, ℕ, List, IfOk, OnOk, 
 ghost use Rattle.tw_replies.specs.Check.{AreProcedureLines, IsCheckText, kind_text, needs_line, procedure_line};
 
 use std::alloc::{AllocError, Global};
-use tw_report::{put, put_numbered};
 use tw_types::Kind;
 use tw_verify::Verified;
+use tw_words::{put, put_numbered};
 
 fn put_kind(out: &mut Vec<u8>, kind: Kind) -> Result<(), AllocError>
     ensures { OnOk result (out.new.items ≡ out.old.items ++ kind_text kind) }

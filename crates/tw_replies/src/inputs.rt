@@ -11,10 +11,11 @@ ghost use Rattle.tw_replies.specs.Reply.{reply};
 ghost use Rattle.tw_replies.specs.declared.inputs.Section.TheVariants as section;
 
 use crate::close::Close;
+use crate::lines::put_input_word_line;
 use crate::reply::Reply;
 use std::alloc::{AllocError, Global};
 use tw_command::NoOrder;
-use tw_report::{put, put_input_word_line};
+use tw_words::put;
 
 /// Where a line stands.
 #[derive(Clone, Copy)]

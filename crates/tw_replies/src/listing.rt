@@ -10,9 +10,9 @@ ghost use Rattle.tw_verify.specs.Refusal.{verify_refusal_number};
 use std::alloc::{AllocError, Global};
 use tw_asm::{LabelPlaces, put_head_lines, put_right};
 use tw_code::{Instr, Procedure, Program};
-use tw_report::{put, put_numbered};
 use tw_types::Param;
 use tw_verify::{Refused, RightType, Typing, Verified};
+use tw_words::{put, put_numbered};
 
 /// How many columns a place has.
 const PLACE_COLUMNS: usize = 5;

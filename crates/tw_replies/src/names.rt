@@ -14,7 +14,7 @@ use std::alloc::{AllocError, Global};
 use tw_asm::AsmFault;
 use tw_names::{NameNo, NameRefusal, plain_text};
 use tw_reasons::put_text_reason;
-use tw_report::{put, put_numbered};
+use tw_words::{put, put_numbered};
 
 /// The line of this number, counted from 1.
 fn line_at<'a>(text: &'a str, number: usize) -> Option<&'a str>

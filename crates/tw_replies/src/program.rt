@@ -19,6 +19,7 @@ ghost use Rattle.tw_replies.specs.declared.program.NoProgram.TheVariants.{Bytes,
 ghost use Rattle.tw_replies.specs.declared.close.Close.TheVariants.{Refused};
 
 use crate::digits::digits;
+use crate::lines::{put_asm_line, put_fault_line};
 use crate::names::{put_fault_behind, put_name_behind, put_name_line};
 use crate::reply::{Reply, refused_by};
 use crate::source::SourceText;
@@ -29,7 +30,7 @@ use tw_bytes::{Fault, FaultNo, decode};
 use tw_code::Program;
 use tw_command::Source;
 use tw_names::{NameNo, NameRefusal, plain_text};
-use tw_report::{put, put_asm_line, put_fault_line};
+use tw_words::put;
 
 /// A program, and the text from which it was read, if from one.
 #[derive(Drop)]

@@ -1,18 +1,11 @@
 //! Replies.
 
-ghost use Rattle.std.specs.Prelude.{◌≡◌, ◌<◌, ◌++◌, ℕ, List, IfOk, codes};
-ghost use Rattle.tw_replies.specs.Opening.{IsOpeningBehind};
+ghost use Rattle.std.specs.Prelude.{◌≡◌, IfOk, codes};
 ghost use Rattle.tw_replies.specs.Reply.{reply};
-ghost use Rattle.tw_replies.specs.Source.{text_of};
-ghost use Rattle.tw_report.specs.Lines.{opening_line};
 
 use crate::close::Close;
-use crate::opening::put_opening_behind;
-use crate::source::SourceText;
 use std::alloc::{AllocError, Global};
-use tw_code::Procedure;
-use tw_report::{put, put_opening_line};
-use tw_types::Input;
+use tw_words::put;
 
 /// What a session writes, and how it ends.
 #[derive(Drop)]
@@ -44,32 +37,4 @@ pub fn not_utf8_reply(alloc: Global) -> Result<Reply, AllocError>
     ensures { IfOk result (λ r. reply r.text.items r.close ≡ reply (codes "refused H03\n") Close.Refused) }
 {
     fixed_reply(alloc, "refused H03\n", Close::Refused)
-}
-
-/// The reply where a program isn't opened, and nothing is said of its inputs.
-pub fn opening_reply(alloc: Global, number: u8) -> Result<Reply, AllocError>
-    requires { number < 100 }
-    ensures { IfOk result (λ r. reply r.text.items r.close ≡ reply (opening_line number) Close.Refused) }
-{
-    let mut text = Vec::new(alloc);
-    put_opening_line(&mut text, number)?;
-    Ok(refused_by(text))
-}
-
-/// The reply where a program isn't opened with these inputs.
-pub fn inputs_refused_reply(
-    alloc: Global,
-    source: &Option<SourceText<'_>>,
-    number: u8,
-    program: &[Procedure],
-    inputs: &[Input],
-) -> Result<Reply, AllocError>
-    requires { number < 100 }
-    ensures { IfOk result (λ r. (more : List ℕ) × IsOpeningBehind (text_of source.now) program.now inputs.now more
-        × (reply r.text.items r.close ≡ reply (opening_line number ++ more) Close.Refused)) }
-{
-    let mut text = Vec::new(alloc);
-    put_opening_line(&mut text, number)?;
-    put_opening_behind(alloc, &mut text, source, program, inputs)?;
-    Ok(refused_by(text))
 }

@@ -16,8 +16,8 @@ use tw_asm::LineNumbers;
 use tw_code::Procedure;
 use tw_names::put_with_name;
 use tw_reasons::{head_line, put_main_reason, put_program_reason};
-use tw_report::{put, put_numbered};
 use tw_verify::{Refused, VerifyRefusal};
+use tw_words::{put, put_numbered};
 
 /// A text, and the line of each instruction of its program.
 #[derive(Drop)]
@@ -66,6 +66,7 @@ pub fn line_at<'b>(
     Some((number, line))
 }
 
+/// Adds the line of this number, without the white space around it.
 pub fn put_text_line(
     alloc: Global,
     out: &mut Vec<u8>,

@@ -16,9 +16,9 @@ use crate::listing::{put_beside, put_place, rights_at};
 use crate::source::SourceText;
 use std::alloc::{AllocError, Global};
 use tw_reasons::{Says, line_says};
-use tw_report::{put, put_numbered};
 use tw_types::Items;
 use tw_verify::{Refused, Typing, Verified};
+use tw_words::{put, put_numbered};
 
 /// How many procedures have begun, and how many instructions the last of them has.
 #[derive(Clone, Copy)]

@@ -19,10 +19,7 @@ pub use endings::{ending_text, text_of};
 pub use event_line::put_event_line;
 pub use history::{HistoryFault, cut_history, read_history};
 pub use laws::{events_are_read_back, one_event, one_history};
-pub use lines::{
-    put, put_asm_line, put_fault_line, put_history_line, put_input_word_line, put_not_enabled_line,
-    put_numbered, put_opening_line, put_trap_line, put_verify_line,
-};
+pub use lines::{put, put_history_line, put_not_enabled_line, put_numbered, put_trap_line};
 pub use outputs::put_report;
 pub use read_event::event_of;
 pub use state_report::{circle_state, ending_line, report_state};

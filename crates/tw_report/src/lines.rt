@@ -1,19 +1,12 @@
 //! The lines that are written, added to the end of a text.
 
-ghost use Rattle.std.specs.Prelude.{◌≡◌, ◌++◌, ◌<◌, ◌+◌, ◌^◌, ◌∷◌, [], OnOk, codes, decimal, length, take};
-ghost use Rattle.tw_report.specs.Lines.{asm_line, fault_line, history_line, input_word_line, not_enabled_line, opening_line, place_text, trap_line, two_digits, value_text, verify_line};
+ghost use Rattle.std.specs.Prelude.{◌≡◌, ◌++◌, OnOk};
+ghost use Rattle.tw_report.specs.Lines.{history_line, not_enabled_line, trap_line, value_text};
 
 use std::alloc::{AllocError, Global};
 use tw_types::Value;
 use tw_words::{put_quoted, put_signed};
 pub use tw_words::{put, put_numbered};
-
-fn put_two_digits(out: &mut Vec<u8>, n: u8) -> Result<(), AllocError>
-    requires { n < 100 }
-    ensures { OnOk result (out.new.items ≡ out.old.items ++ two_digits n) }
-{
-    out.extend_from_slice(&[b'0' + n / 10, b'0' + n % 10])
-}
 
 /// Adds a value with its type.
 pub fn put_value(alloc: Global, out: &mut Vec<u8>, value: &Value) -> Result<(), AllocError>
@@ -29,89 +22,6 @@ pub fn put_value(alloc: Global, out: &mut Vec<u8>, value: &Value) -> Result<(), 
             put_quoted(out, text.as_str())
         }
     }
-}
-
-/// Adds the line of a refusal: its number in two digits, and where it was met.
-fn put_refused(
-    alloc: Global,
-    out: &mut Vec<u8>,
-    head: &str,
-    number: u8,
-    at: &str,
-    count: usize,
-) -> Result<(), AllocError>
-    requires { number < 100 }
-    ensures { OnOk result (out.new.items ≡ out.old.items ++ (head.now ++ (two_digits number ++ (at.now ++ (decimal count ++ codes "\n"))))) }
-{
-    put(out, head)?;
-    put_two_digits(out, number)?;
-    put_numbered(alloc, out, at, count)?;
-    put(out, "\n")
-}
-
-/// Adds the line of bytes that are no program.
-pub fn put_fault_line(
-    alloc: Global,
-    out: &mut Vec<u8>,
-    number: u8,
-    offset: usize,
-) -> Result<(), AllocError>
-    requires { number < 100 }
-    ensures { OnOk result (out.new.items ≡ out.old.items ++ fault_line number offset) }
-{
-    put_refused(alloc, out, "refused F", number, " at byte ", offset)
-}
-
-/// Adds the line of an assembly text that spells no program.
-pub fn put_asm_line(
-    alloc: Global,
-    out: &mut Vec<u8>,
-    number: u8,
-    line: usize,
-) -> Result<(), AllocError>
-    requires { number < 100 }
-    ensures { OnOk result (out.new.items ≡ out.old.items ++ asm_line number line) }
-{
-    put_refused(alloc, out, "refused A", number, " at line ", line)
-}
-
-fn put_place(
-    alloc: Global,
-    out: &mut Vec<u8>,
-    procedure: usize,
-    place: usize,
-) -> Result<(), AllocError>
-    ensures { OnOk result (out.new.items ≡ out.old.items ++ place_text procedure place) }
-{
-    put_numbered(alloc, out, " in procedure ", procedure)?;
-    put_numbered(alloc, out, " at place ", place)?;
-    put(out, "\n")
-}
-
-/// Adds the line of a program that isn't accepted.
-pub fn put_verify_line(
-    alloc: Global,
-    out: &mut Vec<u8>,
-    number: u8,
-    procedure: usize,
-    place: usize,
-) -> Result<(), AllocError>
-    requires { number < 100 }
-    ensures { OnOk result (out.new.items ≡ out.old.items ++ verify_line number procedure place) }
-{
-    put(out, "refused V")?;
-    put_two_digits(out, number)?;
-    put_place(alloc, out, procedure, place)
-}
-
-/// Adds the line of a program that isn't opened.
-pub fn put_opening_line(out: &mut Vec<u8>, number: u8) -> Result<(), AllocError>
-    requires { number < 100 }
-    ensures { OnOk result (out.new.items ≡ out.old.items ++ opening_line number) }
-{
-    put(out, "refused O")?;
-    put_two_digits(out, number)?;
-    put(out, "\n")
 }
 
 /// Adds the line of a run that met a trap at an event, counted from 1.
@@ -146,16 +56,4 @@ pub fn put_not_enabled_line(
 {
     put_numbered(alloc, out, "not enabled at event ", event)?;
     put(out, "\n")
-}
-
-/// Adds the line of an input word that spells no input; the words count from 1.
-pub fn put_input_word_line(
-    alloc: Global,
-    out: &mut Vec<u8>,
-    number: usize,
-) -> Result<(), AllocError>
-    ensures { OnOk result (out.new.items ≡ out.old.items ++ input_word_line number) }
-{
-    put_numbered(alloc, out, "input word ", number)?;
-    put(out, " refused\n")
 }

@@ -10,11 +10,11 @@ use Rattle.tw_command.specs.declared.command.RunOrder.{RunOrder}
 use Rattle.tw_command.specs.declared.shown.Stretch.{Stretch}
 use Rattle.tw_pool.specs.declared.answer.Closing.{Closing}
 use Rattle.tw_pool.specs.declared.answer.Closing.TheVariants as closing
-use Rattle.tw_replies.specs.Circle.{TellsCircle}
-use Rattle.tw_replies.proofs.Behinds.{Adds, nothing_added}
+use Rattle.tw_replay.specs.Circle.{TellsCircle}
+use Rattle.tw_replay.proofs.Behinds.{Adds, nothing_added}
 use Rattle.tw_session.specs.Run.{IsClosingBehind, IsRunBehind}
 use Rattle.tw_session.specs.Run as run
-use Rattle.tw_replies.specs.Stuck.{IsUndrawn}
+use Rattle.tw_replay.specs.Stuck.{IsUndrawn}
 
 pub closing_stuck : (text : List ℕ) (program : List Procedure) (order : RunOrder) (events : List Event) (s : State) (c : Closing) (rules : ℕ) (old new : List ℕ) → c ≡ closing.Stuck rules
     → Adds (TellsCircle text (run.start_of program order) events (circle program s)) old new → Adds (IsClosingBehind text program order events s c) old new

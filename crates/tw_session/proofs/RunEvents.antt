@@ -27,8 +27,8 @@ use Rattle.tw_picture.specs.History.{history}
 use Rattle.tw_stats.specs.declared.tally.Tally.{Tally}
 use Rattle.tw_stats.specs.Kept.{IsTally}
 use Rattle.tw_stats.specs.Text.{AreNumbers}
-use Rattle.tw_replies.specs.Counted.{AreShort}
-use Rattle.tw_replies.specs.Replay.{ByOutcome}
+use Rattle.tw_replay.specs.Counted.{AreShort}
+use Rattle.tw_replay.specs.Replay.{ByOutcome}
 use Rattle.tw_session.specs.Run.{begins}
 
 -- ---- the events of a history

@@ -19,7 +19,8 @@ use std::alloc::{AllocError, Global};
 use tw_command::{RunOrder, read_order};
 use tw_in_turn::{Left, run_in_turn};
 use tw_pool::OpenRefusal;
-use tw_replies::{Reply, SourceText, inputs_refused_reply};
+use tw_replay::inputs_refused_reply;
+use tw_replies::{Reply, SourceText};
 use tw_verify::Verified;
 
 /// The reply to what is left of a run.

@@ -16,7 +16,7 @@ ghost use Rattle.tw_replies.specs.Source.{MayBeSource, text_of};
 ghost use Rattle.tw_session.specs.Session.{IsWritten, MayReply, RepliesByAssembling, RepliesByInput, RepliesByProgram, RepliesWithInputs};
 ghost use Rattle.tw_replies.specs.declared.close.Close.TheVariants.{Refused};
 ghost use Rattle.tw_asm.specs.Fault.{fault_number};
-ghost use Rattle.tw_report.specs.Lines.{asm_line};
+ghost use Rattle.tw_replies.specs.Lines.{asm_line};
 ghost use Rattle.tw_command.specs.declared.command.Source.TheVariants.{Assembly};
 
 use crate::in_turn::turned_reply;
@@ -33,12 +33,12 @@ use tw_code::Program;
 use tw_command::{
     Assembling, InputsOrder, Order, ProgramOrder, RunOptions, Source, VerifiedOrder, inputs_of,
 };
+use tw_replay::{replay_inputs_reply, replay_reply};
 use tw_replies::{
     Close, ReadProgram, Reply, SourceText, fixed_reply, input_parts, not_utf8_reply, plain_reply,
-    read_program, reasoned_reply, refused_by, refused_words_reply, replay_inputs_reply,
-    replay_reply,
+    put_asm_line, read_program, reasoned_reply, refused_by, refused_words_reply,
 };
-use tw_report::{put, put_asm_line};
+use tw_report::put;
 use tw_workers::Gate;
 
 /// A program that is to be read, and what is asked for of it.

@@ -16,10 +16,9 @@ use tw_asm::disassemble;
 use tw_code::Program;
 use tw_command::{Places, ProgramOrder, RunOrder, VerifiedOrder};
 use tw_replies::{
-    Close, Reply, SourceText, accepted_lines, check_text, places_text, put_behind, refused_by,
-    refused_lines, refused_text, typed_text,
+    Close, Reply, SourceText, accepted_lines, check_text, places_text, put_behind, put_verify_line,
+    refused_by, refused_lines, refused_text, typed_text,
 };
-use tw_report::put_verify_line;
 use tw_verify::{Refused, Verified, VerifyRefusal, verify};
 
 /// The listing of an accepted program: of its text's lines, where it was read from a text.

@@ -5,16 +5,17 @@ ghost use Rattle.tw_types.specs.Outcome.{Went};
 ghost use Rattle.tw_code.specs.declared.procedure.Procedure.{Procedure as Section};
 ghost use Rattle.tw_code.specs.machine.Pending.{circle};
 ghost use Rattle.tw_code.specs.machine.State.{State};
-ghost use Rattle.tw_replies.specs.Circle.{TellsCircle, reached_from};
+ghost use Rattle.tw_replay.specs.Circle.{TellsCircle, reached_from};
 ghost use Rattle.tw_session.specs.Run.{IsClosingBehind, IsRunBehind, start_of};
 ghost use Rattle.tw_replies.specs.Source.{text_of};
-ghost use Rattle.tw_replies.specs.Stuck.{CanTell, MayTell};
+ghost use Rattle.tw_replay.specs.Stuck.{CanTell, MayTell};
 
 use crate::ended::events_of;
 use std::alloc::{AllocError, Global};
 use tw_command::{Answer, RunOrder};
 use tw_pool::{Closing, History};
-use tw_replies::{SourceText, put_stuck};
+use tw_replay::put_stuck;
+use tw_replies::SourceText;
 
 /// Adds the lines of the circle of rules in which a run is stuck.
 fn put_circle_behind(

@@ -4,7 +4,7 @@ use Rattle.tw_replies.specs.Reply.{reply}
 use Rattle.tw_session.specs.Run.{start_of, trace_text}
 use Rattle.tw_replies.specs.declared.close.Close.{Close}
 use Rattle.tw_verify.specs.Typed.{typings_of}
-use Rattle.tw_replies.proofs.Behinds.{may_tell}
+use Rattle.tw_replay.proofs.Behinds.{may_tell}
 use Rattle.tw_session.proofs.RunEvents.{opens, run_short}
 use Rattle.tw_session.proofs.ended.ended_reply.Goals as goal
 

@@ -13,9 +13,9 @@ use Rattle.tw_stats.specs.Kept.{IsFirst, IsTally}
 use Rattle.tw_stats.specs.Text.{AreNumbers}
 use Rattle.tw_stats.proofs.Openings.{first_is}
 use Rattle.tw_verify.specs.Typed.{typings_of}
-use Rattle.tw_replies.specs.Counted.{AreShort, IsCounting}
+use Rattle.tw_replay.specs.Counted.{AreShort, IsCounting}
 use Rattle.tw_session.specs.Run.{begins}
-use Rattle.tw_replies.specs.declared.numbers.Counting.{Counting}
+use Rattle.tw_replay.specs.declared.numbers.Counting.{Counting}
 use Rattle.tw_session.proofs.RunEvents.{begun, goes_by, numbers_there, opens, run_short}
 use Rattle.tw_session.proofs.ended.put_run_numbers.Goals as goal
 

@@ -12,8 +12,8 @@ use Rattle.tw_picture.specs.History.{IsDrawing, IsOpening}
 use Rattle.tw_picture.specs.declared.drawing.Drawing.{Drawing}
 use Rattle.tw_picture.proofs.History.{opening_is}
 use Rattle.tw_verify.specs.Typed.{typings_of}
-use Rattle.tw_replies.specs.Counted.{AreShort}
-use Rattle.tw_replies.specs.Replay.{IsPicture, played_from}
+use Rattle.tw_replay.specs.Counted.{AreShort}
+use Rattle.tw_replay.specs.Replay.{IsPicture, played_from}
 use Rattle.tw_replies.specs.Reply.{Reply, reply}
 use Rattle.tw_session.proofs.RunEvents.{begun, goes_by, opens, run_short}
 use Rattle.tw_session.proofs.ended.put_run_picture.Goals as goal

@@ -1,5 +1,5 @@
 use Rattle.std.proofs.Common.{◌∙◌, ◌++◌, ℕ, List, ap, append_assoc}
-use Rattle.tw_report.specs.Lines.{verify_line}
+use Rattle.tw_replies.specs.Lines.{verify_line}
 use Rattle.tw_verify.specs.Refusal.{verify_refusal_number}
 use Rattle.tw_replies.specs.Reply.{reply}
 use Rattle.tw_replies.specs.declared.close.Close.TheVariants.{Refused}

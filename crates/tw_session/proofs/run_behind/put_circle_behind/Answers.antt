@@ -3,9 +3,9 @@ use Rattle.std.proofs.lemmas.Result.{on_ok_weaker}
 use Rattle.tw_types.specs.declared.event.Event.{Event}
 use Rattle.tw_types.specs.Outcome.{Went}
 use Rattle.tw_code.specs.machine.Pending.{circle}
-use Rattle.tw_replies.specs.Circle.{TellsCircle, reached_from}
+use Rattle.tw_replay.specs.Circle.{TellsCircle, reached_from}
 use Rattle.tw_session.specs.Run.{start_of}
-use Rattle.tw_replies.specs.Stuck.{CanTell}
+use Rattle.tw_replay.specs.Stuck.{CanTell}
 use Rattle.tw_session.proofs.run_behind.put_circle_behind.Goals as goal
 
 pub returns : goal.returns

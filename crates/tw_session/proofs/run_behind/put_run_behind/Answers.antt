@@ -2,9 +2,9 @@ use Rattle.std.proofs.Common.{Option, subst, sym}
 use Rattle.std.proofs.lemmas.Result.{on_ok_weaker}
 use Rattle.tw_session.specs.Run.{IsRunBehind, start_of}
 use Rattle.tw_replies.specs.Source.{text_of}
-use Rattle.tw_replies.specs.Stuck.{MayTell}
+use Rattle.tw_replay.specs.Stuck.{MayTell}
 use Rattle.tw_replies.specs.declared.source.SourceText.{SourceText}
-use Rattle.tw_replies.proofs.Behinds.{Adds, undrawn}
+use Rattle.tw_replay.proofs.Behinds.{Adds, undrawn}
 use Rattle.tw_session.proofs.Closings.{run_drawn, run_told}
 use Rattle.tw_session.proofs.run_behind.put_run_behind.Goals as goal
 

@@ -1,0 +1,6 @@
+pub mod Playing
+pub mod CountedEvents
+pub mod Making
+pub mod Behinds
+pub mod Unfits
+mod ReplayNames

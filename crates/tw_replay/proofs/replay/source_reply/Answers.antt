@@ -1,0 +1,19 @@
+use Rattle.std.proofs.Common.{List, Option, inl, subst, ℕ}
+use Rattle.tw_replay.proofs.ReplayNames.{IfOk-weaker, RepliesByLines, RepliesBySource, Reply, reply, text_told}
+use Rattle.tw_report.specs.History.{lines_in}
+use Rattle.tw_replies.proofs.Nones.{Tells, none_told}
+use Rattle.tw_replay.proofs.replay.source_reply.Goals as goal
+
+pub returns-in-Ok : goal.returns-in-Ok
+returns-in-Ok c =
+    let told = lines_in c.args.history.now in
+    IfOk-weaker _ _ _
+    (λ (r : Reply) h. inl (c.in-Ok.read.program, c.in-Ok.ensures.spells, subst (λ (t : Option (List ℕ)). RepliesByLines t c.args.order.now told c.in-Ok.read.program (reply r.text.items r.close)) c.in-Ok.ensures.text h)) c.history_reply.ensures
+
+pub returns-in-Err : goal.returns-in-Err
+returns-in-Err c =
+    let input = c.args.program.now in
+    let told = lines_in c.args.history.now in
+    IfOk-weaker c.reasoned_reply.result (λ (r : Reply). Tells input c.in-Err.why (reply r.text.items r.close))
+    (λ (r : Reply). RepliesBySource c.args.source input (RepliesByLines (text_told c.args.source input) c.args.order.now told) (reply r.text.items r.close))
+    (λ (r : Reply) h. none_told c.args.source input c.in-Err.why (RepliesByLines (text_told c.args.source input) c.args.order.now told) (reply r.text.items r.close) c.in-Err.ensures.none h) c.reasoned_reply.ensures

@@ -1,0 +1,15 @@
+//! What is told of histories: replays, their numbers and pictures, and what stands behind them.
+#![tactic(auto)]
+
+mod drawn;
+mod numbers;
+mod opening;
+mod replay;
+mod replay_behind;
+mod stuck;
+
+pub use drawn::draw;
+pub use numbers::{Counting, budgets_of, count, put_bytes};
+pub use opening::inputs_refused_reply;
+pub use replay::{replay_inputs_reply, replay_reply};
+pub use stuck::put_stuck;
