@@ -20,7 +20,7 @@ in_line() {
 
 # The names of instructions.
 instructions() {
-    sed -n 's/^ *Opcode::[A-Za-z]* => "\([A-Z]*\)",$/\1/p' "$assembler/opcode.rt" | in_line
+    sed -n 's/^ *Opcode::[A-Za-z]* => "\([A-Z]*\)",$/\1/p' "$root/crates/tw_code/src/opcode.rt" | in_line
 }
 
 # The words with which other lines begin, and the others that the assembler reads.

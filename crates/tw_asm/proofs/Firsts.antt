@@ -4,7 +4,8 @@ use Rattle.tw_asm.proofs.AsmNames.{◌↔◌, Int, IsInstrWord, IsLabelWord, IsN
 use Rattle.tw_asm.proofs.Lined.{Had, parts_of}
 use Rattle.tw_asm.proofs.Names.{name_decide}
 use Rattle.tw_asm.proofs.Table.{found_back, instr_of, is_sayable, line_of, made_had, named_in, parts_are, sayable, unsayable}
-use Rattle.tw_asm.specs.reading.Lines.{Content, Line, LineContent, Operand, args, goal, literal, more, natural, never, nothing, number, opcode_in, right, target, type, value}
+use Rattle.tw_asm.specs.reading.Lines.{Content, Line, LineContent, Operand, args, goal, literal, more, natural, never, nothing, number, right, target, type, value}
+use Rattle.tw_code.specs.format.Table.{opcode_in}
 
 pub label_by : (word name : List ℕ) (r : Bool) → word ≡ name ++ codes ":" → r ≡ is_name name → IsTrue r ↔ IsLabelWord word
 label_by word name r is test = (

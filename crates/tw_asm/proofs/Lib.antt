@@ -30,12 +30,10 @@ pub mod Skips
 pub mod Spelled
 pub mod Written
 pub mod Answered
-pub mod Colons
 pub mod Firsts
 pub mod HeadWords
 pub mod Lined
 pub mod Names
-pub mod Numbers
 pub mod OperandWords
 pub mod ParamWords
 pub mod Readings

@@ -1,9 +1,8 @@
 -- One line more.
-use Rattle.std.proofs.Common.{◌≡◌, ◌⊎◌, ℕ, zero, suc, ◌+◌, ◌<◌, List, [], ◌∷◌, ◌++◌, length, map, get_or, take, drop, Option, Some, None, Result, Ok, Err, MatchResult, inl, inr, refl, sym, subst, ap, ◌∙◌, arith}
-use Rattle.tw_asm.proofs.AsmNames.{AfterHead, AnyShortName, AreNotRead, AreTextRead, AsmFault, AtStart, BehindHead, BehindVersion, Code, FaultNo, Head, InBody, IsLineFault, IsMemory, IsNotFinished, IsRead, IsShortName, IsUnfinished, Label, LineFault, LineRead, LineSays, LinesRead, LinesSay, MayStand, NoName, OfVersion, OnlyName, Place, Placed, Progress, Read, Registers, Say, Section, Situation, Stage, Statement, Version, Within, Word, after, after_line, enumerate_from, length-append, length-map, line_step, lines, map-append, outset, progress_from, situation_from, situation_of, step}
+use Rattle.std.proofs.Common.{◌≡◌, ◌⊎◌, ℕ, suc, ◌+◌, List, [], ◌∷◌, ◌++◌, length, map, Option, Some, None, Result, Ok, Err, MatchResult, inl, inr, refl, sym, subst, ap, ◌∙◌, arith}
+use Rattle.tw_asm.proofs.AsmNames.{AfterHead, AnyShortName, AreNotRead, AreTextRead, AsmFault, AtStart, BehindHead, BehindVersion, Code, FaultNo, Head, InBody, IsLineFault, IsMemory, IsNotFinished, IsRead, IsShortName, IsUnfinished, Label, LineFault, LineRead, LineSays, LinesRead, LinesSay, MayStand, NoName, OfVersion, OnlyName, Place, Placed, Progress, Read, Registers, Say, Section, Situation, Stage, Statement, Version, Within, Word, after, after_line, enumerate_from, length-append, line_step, lines, map-append, outset, progress_from, situation_from, situation_of, step}
 use denote.Ref.{Bor}
-use Rattle.std.proofs.Math.Seq.{split_at}
-use Rattle.std.proofs.lemmas.List.FromFn.{get_or-enumerate_from, length-enumerate_from}
+use Rattle.tw_words.proofs.LineLoops.{StandsAtLine, all_lines}
 use Rattle.tw_asm.proofs.Once.{spells_more}
 use Rattle.tw_asm.proofs.Stages.{body_head, body_start, head_body, head_start, progress, start_body, start_head, version_body, version_head, version_start}
 
@@ -149,39 +148,6 @@ pub match_more : {A E : Type 0} {P Q : A → Type 0} {R S : E → Type 0} (r : R
 match_more (Ok a) good bad m = good a m
 match_more (Err e) good bad m = bad e m
 
--- ---- lines with their indices
-
-seconds : (k n : ℕ) (ls : List (List ℕ)) → map (λ (p : ℕ × List ℕ). p.1) (take n (enumerate_from k ls)) ≡ take n ls
-seconds k zero ls = refl
-seconds k (suc n) [] = refl
-seconds k (suc n) (l ∷ ls) = ap (λ (x : List (List ℕ)). l ∷ x) (seconds (k + 1) n ls)
-
-lines_of : (items : List (ℕ × Bor (List ℕ))) → map (λ (p : ℕ × List ℕ). p.1) (map (λ (item : ℕ × Bor (List ℕ)). (item.0, item.1.now)) items) ≡ map (λ (item : ℕ × Bor (List ℕ)). item.1.now) items
-lines_of [] = refl
-lines_of (i ∷ items) = ap (λ (x : List (List ℕ)). i.1.now ∷ x) (lines_of items)
-
--- where the loop over a text's lines stands
-pub record StandsAtLine (ls before : List (List ℕ)) (index : ℕ) (line : List ℕ) : Type 0 where
-  pub others : List (List ℕ)
-  pub parts : ls ≡ before ++ (line ∷ others)
-  pub index_is : index ≡ length before
-
-first_is : (a b : ℕ) (x y : List ℕ) → ◌≡◌ {A = ℕ × List ℕ} (a, x) (b, y) → (a ≡ b) × (x ≡ y)
-first_is a b x y e = (ap (λ (p : ℕ × List ℕ). p.0) e, ap (λ (p : ℕ × List ℕ). p.1) e)
-
-pub line_turn : (ls : List (List ℕ)) (items : List (ℕ × Bor (List ℕ))) (index : ℕ) (line : List ℕ) → map (λ (item : ℕ × Bor (List ℕ)). (item.0, item.1.now)) items ≡ take (length items) (enumerate_from 0 ls)
-    → length items < length (enumerate_from 0 ls) → ◌≡◌ {A = ℕ × List ℕ} (index, line) (get_or (enumerate_from 0 ls) (length items) (index, line)) → StandsAtLine ls (map (λ item. item.1.now) items) index line
-line_turn ls items index line e low at =
-    let few : length items < length ls = omega (arith, low, length-enumerate_from 0 ls) in
-    let here = first_is index (0 + length items) line (get_or ls (length items) line) (at ∙ get_or-enumerate_from 0 ls (length items) (index, line) few) in
-    let before : take (length items) ls ≡ map (λ (item : ℕ × Bor (List ℕ)). item.1.now) items = sym (seconds 0 (length items) ls) ∙ ap (map (λ (p : ℕ × List ℕ). p.1)) (sym e) ∙ lines_of items in
-    record {
-      others = drop (suc (length items)) ls;
-      parts = split_at ls (length items) line few ∙ ap (λ (x : List (List ℕ)). x ++ (get_or ls (length items) line ∷ drop (suc (length items)) ls)) before
-          ∙ ap (λ (x : List ℕ). map (λ (item : ℕ × Bor (List ℕ)). item.1.now) items ++ (x ∷ drop (suc (length items)) ls)) (sym here.1);
-      index_is = here.0 ∙ omega (arith, length-map items (λ (item : ℕ × Bor (List ℕ)). item.1.now));
-    }
-
 taken_more : (ls : List (List ℕ)) (line : List ℕ) (index : ℕ) (p q : Progress) → index ≡ length ls → AreTextRead ls p → ((read : Option Read) × LineRead (situation_of p) line read × (q ≡ line_step (index + 1) read p)) → AreTextRead (ls ++ (line ∷ [])) q
 taken_more ls line index p q e a t = one_more ls line p q t.0 a t.1 (t.2 ∙ ap (λ (k : ℕ). line_step (k + 1) t.0 p) e)
 
@@ -195,14 +161,6 @@ pub line_stopped : (text : List ℕ) (before : List (List ℕ)) (line : List ℕ
 line_stopped text before line index p f s a (inl m) = inl m
 line_stopped text before line index p f s a (inr x) =
     inr (fault_there text before line s.others p f.no f.line s.parts a (subst (λ (k : ℕ). LineFault (k + 1) (situation_of p) line f.no f.line) s.index_is x))
-
--- at the end of such a loop all lines are yielded
-pub all_lines : (ls : List (List ℕ)) (items : List (ℕ × Bor (List ℕ))) → map (λ (item : ℕ × Bor (List ℕ)). (item.0, item.1.now)) items ≡ enumerate_from 0 ls → map (λ (item : ℕ × Bor (List ℕ)). item.1.now) items ≡ ls
-all_lines ls items e = sym (lines_of items) ∙ ap (map (λ (x : ℕ × List ℕ). x.1)) e ∙ all_seconds 0 ls
-  where
-    all_seconds : (k : ℕ) (ls : List (List ℕ)) → map (λ (x : ℕ × List ℕ). x.1) (enumerate_from k ls) ≡ ls
-    all_seconds k [] = refl
-    all_seconds k (l ∷ ls) = ap (λ (x : List (List ℕ)). l ∷ x) (all_seconds (k + 1) ls)
 
 pub lines_end : (ls : List (List ℕ)) (items : List (ℕ × Bor (List ℕ))) (p : Progress) → map (λ (item : ℕ × Bor (List ℕ)). (item.0, item.1.now)) items ≡ enumerate_from 0 ls → AreTextRead (map (λ item. item.1.now) items) p → AreTextRead ls p
 lines_end ls items p e a = subst (λ (x : List (List ℕ)). AreTextRead x p) (all_lines ls items e) a

@@ -15,8 +15,9 @@ use Rattle.tw_code.specs.format.Table as table
 use Rattle.tw_asm.proofs.Lined.{Had, MayParts, parts_of}
 use Rattle.tw_code.specs.declared.opcode.Opcode.TheVariants as op
 use Rattle.tw_code.specs.declared.opcode.TheConstants.{OPCODES}
-use Rattle.tw_asm.specs.Names.{opcode_of, word_of}
-use Rattle.tw_asm.specs.reading.Lines.{Content, Line, LineContent, Operand, Row, args, before_colon, draft_by, draft_in, goal, label_in, line_in, literal, more, natural, never, nothing, number, opcode_in, right, row, row_of, target, type, value}
+use Rattle.tw_code.specs.format.Table.{opcode_of, word_of, opcode_in}
+use Rattle.tw_asm.specs.reading.Lines.{Content, Line, LineContent, Operand, Row, args, draft_by, draft_in, goal, label_in, line_in, literal, more, natural, never, nothing, number, right, row, row_of, target, type, value}
+use Rattle.tw_words.specs.Names.{before_colon}
 
 -- ---- a row's parts
 

@@ -14,7 +14,8 @@ use Rattle.tw_asm.specs.LineAnswers.{Answers}
 use Rattle.tw_asm.specs.declared.refusal.Refusal.{Refusal}
 use Rattle.tw_asm.specs.declared.refusal.Refusal.TheVariants as refusal
 use Rattle.tw_asm.specs.declared.statement.Statement as statements
-use Rattle.tw_asm.specs.reading.Lines.{Gives, body_in, head_in, opcode_in, registers_in, statement_in, version_in}
+use Rattle.tw_asm.specs.reading.Lines.{Gives, body_in, head_in, registers_in, statement_in, version_in}
+use Rattle.tw_code.specs.format.Table.{opcode_in}
 
 -- each statement begins with a word that stands as it is
 begins : (statement : Statement) → (name : List ℕ) × (rest : List Part) × (statement_parts statement ≡ Name name ∷ rest)

@@ -10,11 +10,9 @@ pub mod Origins
 pub mod Disassembly
 pub mod Listing
 pub mod Laws
--- How the code's results and statements are seen: Answers, LineAnswers, Seen. Names is for the parser alone: the names of
--- Parts once more, by opcode. What the readers keep is in reading and words.
+-- How the code's results and statements are seen: Answers, LineAnswers, Seen. What the readers keep is in reading and words.
 pub mod Answers
 pub mod LineAnswers
 pub mod Seen
-pub mod Names
 pub mod reading
 pub mod words

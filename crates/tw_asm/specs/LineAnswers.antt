@@ -5,8 +5,8 @@ use Rattle.tw_words.specs.Words.{Word}
 use Rattle.tw_asm.specs.declared.statement.Statement as statements
 use Rattle.tw_asm.specs.Seen.{IsRead, seen}
 use Rattle.tw_asm.specs.Statement.{Statement, HaveForm, Say}
-use Rattle.tw_asm.specs.declared.refusal.Flaw.{Flaw}
-use Rattle.tw_asm.specs.declared.refusal.Flaw.TheVariants as flaw
+use Rattle.tw_words.specs.declared.numbers.Flaw.{Flaw}
+use Rattle.tw_words.specs.declared.numbers.Flaw.TheVariants as flaw
 use Rattle.tw_asm.specs.declared.refusal.Refusal.{Refusal}
 use Rattle.tw_asm.specs.declared.refusal.Refusal.TheVariants as refusal
 

@@ -4,10 +4,9 @@ ghost use Rattle.std.specs.Prelude.{◌⊎◌, ◌↔◌, MatchOption, IsTrue};
 ghost use Rattle.tw_asm.specs.declared.statement.First.{First};
 ghost use Rattle.tw_asm.specs.Statement.{IsInstrWord, IsLabelWord, IsExpected};
 
-use crate::label_names::{before, is_name};
-use crate::opcode::opcode_in;
 use crate::statement::First;
-use tw_code::Version;
+use tw_code::{Version, opcode_in};
+use tw_words::{before, is_name};
 
 #[tactic(auto, using(crate::proofs::Firsts::no_label))]
 fn is_label(word: &[u8]) -> bool

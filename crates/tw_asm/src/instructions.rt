@@ -10,17 +10,17 @@ ghost use Rattle.tw_code.specs.format.Table.{forms_of};
 ghost use Rattle.tw_asm.specs.Seen.{bytes_of};
 ghost use Rattle.tw_asm.specs.reading.Forms.{EndsInSkip, TakesNoMemory};
 ghost use Rattle.tw_asm.specs.reading.Lines.{Gives, args, draft_in, drafted, goal, line_in, literal, more, natural, nothing, number, target, value};
-ghost use Rattle.tw_asm.specs.reading.Operands.{as_is};
+ghost use Rattle.tw_words.specs.Digits.{as_is};
 
 use crate::gathering::args_of;
 use crate::operands::*;
-use crate::refusal::{Flaw, Refusal};
+use crate::refusal::Refusal;
 use crate::shapes::*;
 use crate::statement::Unlinked;
 use std::alloc::Global;
 use tw_code::{Action, Arithmetic, DataInstr, Instr, LocalInstr, Opcode, Priority, Version};
 use tw_types::{Items, Scalar, Text};
-use tw_words::Word;
+use tw_words::{Flaw, Word};
 
 /// An instruction that names no label.
 fn straight<'a>(instr: Instr) -> Unlinked<'a>

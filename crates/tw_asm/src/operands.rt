@@ -3,15 +3,17 @@
 ghost use Rattle.std.specs.Prelude.{◌≡◌, ◌≤◌, IfOk};
 ghost use Rattle.tw_words.specs.Words.{Bare};
 ghost use Rattle.tw_words.specs.Seen.{seen as seen_word};
-ghost use Rattle.tw_asm.specs.reading.Operands.{as_is, both, digits_in, signed_in, natural_in, register_in, number_in, literal_in, own, target_in, goal_in, scalar_in, text_container, container_in, mode_in};
+ghost use Rattle.tw_words.specs.Digits.{as_is, digits_in, signed_in};
+ghost use Rattle.tw_asm.specs.reading.Operands.{both, natural_in, register_in, number_in, literal_in, name_in, target_in, goal_in, scalar_in, text_container, container_in, mode_in};
 
-use crate::label_names::name_of;
-use crate::refusal::Flaw;
 use std::alloc::{AllocError, Global};
 use std::marker::Model;
 use tw_code::{LocalInstr, Procedure, Version};
 use tw_types::{Layout, Mode, Scalar, Text};
-use tw_words::Word;
+use tw_words::{Flaw, Word, digits, is_name, number};
+
+/// The most bytes of a label's name.
+const MAX_NAME: usize = 64;
 
 /// Where an instruction goes on: so many instructions further, or at a label, and `skip` is 0 then.
 #[derive(Drop)]
@@ -49,30 +51,19 @@ pub fn both_of<A: Drop, B: Drop>(
     }
 }
 
-/// What a reader of numbers answers, with this crate's word for what is wrong.
-fn own_of<A: Drop>(read: Result<A, tw_words::Flaw>) -> Result<A, Flaw>
-    ensures { result ≡ own read }
-{
-    match read {
-        Ok(number) => Ok(number),
-        Err(tw_words::Flaw::Form) => Err(Flaw::Form),
-        Err(tw_words::Flaw::Limit) => Err(Flaw::Limit),
-    }
-}
-
 /// The number between these limits that digits spell.
 pub fn digits_of(text: &[u8], low: u64, high: u64) -> Result<u64, Flaw>
     ensures is { result ≡ digits_in low high text.now }
     ensures within { IfOk result (λ n. n ≤ high) }
 {
-    own_of(tw_words::digits(text, low, high))
+    digits(text, low, high)
 }
 
 /// The number of 64 bits that a text spells.
 fn signed_of(text: &[u8]) -> Result<i64, Flaw>
     ensures { result ≡ signed_in text.now }
 {
-    own_of(tw_words::number(text))
+    number(text)
 }
 
 fn byte_in(low: u8, high: u8, text: &[u8]) -> Result<u8, Flaw>
@@ -183,6 +174,20 @@ pub fn target_of(word: &Word<'_>) -> Result<Option<u8>, Flaw>
             }
         }
         Word::Quoted(_) => Err(Flaw::Form),
+    }
+}
+
+/// A label's name, of at most 64 bytes.
+#[tactic(auto, unfolding(crate::specs::reading::Operands::name_in))]
+pub fn name_of(text: &[u8]) -> Result<&[u8], Flaw>
+    ensures { as_is (λ name. name.now) result ≡ name_in text.now }
+{
+    if !is_name(text) {
+        Err(Flaw::Form)
+    } else if text.len() > MAX_NAME {
+        Err(Flaw::Limit)
+    } else {
+        Ok(text)
     }
 }
 

@@ -6,19 +6,18 @@ ghost use Rattle.tw_words.specs.Words.{Bare};
 ghost use Rattle.tw_asm.specs.Seen.{seen};
 ghost use Rattle.tw_asm.specs.LineAnswers.{Answers};
 ghost use Rattle.tw_asm.specs.Statement.{version_by};
-ghost use Rattle.tw_asm.specs.reading.Lines.{Gives, body_in, head_in, label_line, opcode_in, registers_in, statement_in, version_in};
+ghost use Rattle.tw_asm.specs.reading.Lines.{Gives, body_in, head_in, label_line, registers_in, statement_in, version_in};
+ghost use Rattle.tw_code.specs.format.Table.{opcode_in};
 
 use crate::gathering::scalars_of;
 use crate::heads::{kind_of, params_of};
 use crate::instructions::draft_of;
-use crate::label_names::{before_colon, name_of};
-use crate::opcode::opcode_in;
-use crate::operands::{both_of, byte_of};
-use crate::refusal::{Flaw, Refusal};
+use crate::operands::{both_of, byte_of, name_of};
+use crate::refusal::Refusal;
 use crate::statement::Statement;
 use std::alloc::Global;
-use tw_code::Version;
-use tw_words::Word;
+use tw_code::{Version, opcode_in};
+use tw_words::{Flaw, Word, before_colon};
 
 /// The version of this number, 1 or 2.
 fn version_by(number: u8) -> Version

@@ -14,13 +14,13 @@ use crate::bodies::{take_draft, take_label};
 use crate::fault::{AsmFault, FaultNo};
 use crate::first::first_of;
 use crate::read::statement_of;
-use crate::refusal::{Flaw, Refusal};
+use crate::refusal::Refusal;
 use crate::statement::{First, Statement, Unlinked};
 use indexmap::IndexMap;
 use std::alloc::Global;
 use tw_code::{Program, Version};
 use tw_types::{Items, Kind, Param, Scalar};
-use tw_words::{Word, words_of};
+use tw_words::{Flaw, Word, words_of};
 
 /// An instruction whose goal isn't looked for yet, and the number of its line.
 #[derive(Drop)]

@@ -4,15 +4,7 @@ ghost use Rattle.std.specs.Prelude.{◌≡◌};
 ghost use Rattle.tw_asm.specs.declared.refusal.Refusal.TheVariants.{NoMemory, Flawed};
 
 use std::alloc::{AllocError, AllocFailed};
-
-/// Why words are no statement.
-#[derive(Clone, Copy, Debug, PartialEq, Eq)]
-pub enum Flaw {
-    /// An operand has another form, or there are too few or too many.
-    Form,
-    /// A number, a count, a nesting of containers, a name or a text is past its limit.
-    Limit,
-}
+use tw_words::Flaw;
 
 /// Why no statement is read from words.
 #[derive(Clone, Copy, Debug, PartialEq, Eq)]

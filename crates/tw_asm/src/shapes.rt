@@ -6,10 +6,9 @@ ghost use Rattle.tw_asm.specs.reading.Lines.{goal, line_in, more, natural, nothi
 
 use crate::gathering::type_of;
 use crate::operands::*;
-use crate::refusal::Flaw;
 use tw_code::Version;
 use tw_types::DataType;
-use tw_words::Word;
+use tw_words::{Flaw, Word};
 
 /// No operands.
 pub fn nothing_of(words: &[Word<'_>]) -> Result<(), Flaw>

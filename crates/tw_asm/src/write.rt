@@ -9,15 +9,14 @@ ghost use Rattle.tw_asm.specs.Disassembly.{version_line};
 ghost use Rattle.tw_asm.specs.Written.{goal_word, line_of, part_words};
 ghost use Rattle.tw_types.specs.DataType.{is_container_by};
 ghost use Rattle.tw_types.specs.declared.data_type.Scalar.TheVariants.{Int, Text};
-ghost use Rattle.tw_asm.specs.Names.{word_of};
+ghost use Rattle.tw_code.specs.format.Table.{word_of};
 ghost use Rattle.tw_asm.specs.words.Lines.{behind, operand_words, row_line};
 ghost use Rattle.tw_code.specs.format.Program.{IsInstr};
 ghost use Rattle.tw_code.specs.format.Sink.{seen};
 ghost use Rattle.tw_words.specs.Quoted.{quoted};
 
-use crate::opcode::word_of;
 use std::alloc::{AllocError, Global};
-use tw_code::{Instr, Opcode, Operand, Sink, Version};
+use tw_code::{Instr, Opcode, Operand, Sink, Version, word_of};
 use tw_types::{DataType, Kind, Mode, Param, Scalar};
 use tw_words::{put, put_both, put_numbered, put_quoted};
 

@@ -1,6 +1,6 @@
 -- The table of instructions: what an opcode makes of operands has that opcode and those operands, and each instruction is made of
 -- its own. A line where an instruction has several opcodes; all others go by computing.
-use Rattle.std.proofs.Common.{◌≡◌, ◌==◌, ℕ, ℤ, pos, List, [], ◌∷◌, Option, Some, None, refl}
+use Rattle.std.proofs.Common.{◌≡◌, ◌==◌, ℕ, pos, List, [], ◌∷◌, Option, Some, None, refl}
 use Rattle.std.specs.List.{find}
 use Rattle.tw_code.specs.declared.form.Form.{Form}
 use Rattle.tw_code.specs.declared.form.Form.TheVariants.{Value, Right, Number, Turns, Literal, TypeOf, Skip, Callee, Target, Args}

@@ -6,11 +6,11 @@ use Rattle.tw_types.specs.declared.data_type.Scalar.TheVariants.{Int, Text}
 use Rattle.tw_types.specs.declared.param.Mode.{Mode}
 use Rattle.tw_types.specs.declared.param.Mode.TheVariants.{Val, Closed, Ref, Write}
 use Rattle.tw_types.specs.Nesting.{NestedScalar}
-use Rattle.tw_code.specs.declared.form.Form.TheVariants.{Value, Right, Number, Turns, Literal, TypeOf, Skip, Callee, Target, Args}
+use Rattle.tw_code.specs.declared.form.Form.TheVariants.{TypeOf}
 use Rattle.tw_code.specs.declared.instr.Instr.{Instr}
 use Rattle.tw_code.specs.declared.procedure.Procedure.{Procedure}
 use Rattle.tw_code.specs.declared.version.Version.{Version}
-use Rattle.tw_code.specs.declared.version.Version.TheVariants.{One, Two}
+use Rattle.tw_code.specs.declared.version.Version.TheVariants.{Two}
 use Rattle.tw_code.specs.format.Program.{IsInstr, IsInstrOf, IsOperand, IsOperandOf, IsParam, IsParamOf, IsProcedure, IsProcedureOf, IsProgram, IsProgramOf, IsSubscriptOf, IsTypeOf, IsTypeUnder, IsTypeUnderOf}
 use Rattle.tw_code.specs.format.Table.{Operand, holds, row}
 

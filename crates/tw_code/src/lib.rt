@@ -22,7 +22,7 @@ pub use instr::{Action, Arithmetic, DataInstr, Instr, LocalInstr, Priority};
 pub use laws::{numbers_grow, shown_and_read, some_enabled, takes_once};
 pub use main_shape::{has_main_shape, main_params};
 pub use memory::NoMemory;
-pub use opcode::{OPCODES, Opcode, opcode_at};
+pub use opcode::{OPCODES, Opcode, form_at, opcode_at, opcode_in, word_of};
 pub use procedure::Procedure;
 pub use program::Program;
 pub use sink::{Operand, Sink, put_instr};

@@ -1,8 +1,9 @@
-//! The instruction set: of each instruction its code, the versions that have it, and the forms of its operands.
+//! The instruction set: of each instruction its code, the versions that have it, the forms of its operands, and its name in a text.
 
-ghost use Rattle.std.specs.Prelude.{◌≡◌, ◌==◌};
+ghost use Rattle.std.specs.Prelude.{◌≡◌, ◌==◌, slice_get};
 ghost use Rattle.std.specs.List.{find};
-ghost use Rattle.tw_code.specs.format.Table.{code_of, forms_of, has_opcode, opcode_at};
+ghost use Rattle.std.specs.Option.{option_and_then};
+ghost use Rattle.tw_code.specs.format.Table.{code_of, forms_of, has_opcode, opcode_at, opcode_in, opcode_of, word_of};
 
 use crate::form::Form;
 use crate::version::Version;
@@ -121,5 +122,81 @@ pub fn opcode_at(version: Version, code: u8) -> Option<Opcode>
     match opcode_of_code(code) {
         Some(opcode) if opcode.is_in(version) => Some(opcode),
         _ => None,
+    }
+}
+
+/// Its name in a text.
+pub fn word_of(opcode: Opcode) -> &'static str
+    ensures { result.now ≡ word_of opcode }
+{
+    match opcode {
+        Opcode::Int => "INT",
+        Opcode::Text => "TEXT",
+        Opcode::Copy => "COPY",
+        Opcode::Add => "ADD",
+        Opcode::Subtract => "SUB",
+        Opcode::Multiply => "MUL",
+        Opcode::Divide => "DIV",
+        Opcode::Remainder => "REM",
+        Opcode::Concatenate => "CAT",
+        Opcode::Length => "LEN",
+        Opcode::Show => "SHOW",
+        Opcode::ReadInt => "READI",
+        Opcode::Jump => "JMP",
+        Opcode::JumpEqual => "JEQ",
+        Opcode::JumpLess => "JLT",
+        Opcode::Repeat => "REPEAT",
+        Opcode::End => "END",
+        Opcode::New => "NEW",
+        Opcode::Store => "STORE",
+        Opcode::Get => "GET",
+        Opcode::Insert => "INS",
+        Opcode::Look => "LOOK",
+        Opcode::Size => "SIZE",
+        Opcode::SubscriptAt => "SUBAT",
+        Opcode::CopyRead => "DUPR",
+        Opcode::CopyWrite => "DUPW",
+        Opcode::DropRead => "DROPR",
+        Opcode::DropWrite => "DROPW",
+        Opcode::Rule => "RULE",
+        Opcode::Put => "PUT",
+        Opcode::Ret => "RET",
+        Opcode::InsertByText => "TINS",
+        Opcode::LookByText => "TLOOK",
+        Opcode::SubscriptAtByText => "TSUBAT",
+        Opcode::RuleComputed => "RULEV",
+        Opcode::PutComputed => "PUTV",
+    }
+}
+
+/// The one of this name, whatever the version.
+#[tactic(auto, unfolding(crate::specs::format::Table::opcode_of))]
+fn opcode_named(name: &[u8]) -> Option<Opcode>
+    ensures { result ≡ opcode_of name.now }
+{
+    OPCODES
+        .iter()
+        .copied()
+        .find(|opcode| word_of(*opcode).as_bytes() == name)
+}
+
+/// The one of this name, if the version has one.
+pub fn opcode_in(version: Version, name: &[u8]) -> Option<Opcode>
+    ensures { result ≡ opcode_in version name.now }
+{
+    match opcode_named(name) {
+        Some(opcode) if opcode.is_in(version) => Some(opcode),
+        _ => None,
+    }
+}
+
+/// The form of the operand at this place, from 0, in a line of this name, if the version has such an instruction and it has so many
+/// operands. A type and arguments have all words that are left.
+pub fn form_at(version: Version, name: &[u8], place: usize) -> Option<Form>
+    ensures { result ≡ option_and_then (λ o. slice_get (forms_of o) place) (opcode_in version name.now) }
+{
+    match opcode_in(version, name) {
+        Some(opcode) => opcode.forms().get(place).copied(),
+        None => None,
     }
 }

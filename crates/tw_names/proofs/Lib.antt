@@ -7,7 +7,6 @@ pub mod NamesLine
 pub mod FirstNamed
 pub mod Cutting
 pub mod Naming
-pub mod Reading
 pub mod Then
 pub mod RegisterNames
 pub mod KeptTexts

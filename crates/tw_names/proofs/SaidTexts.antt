@@ -4,11 +4,11 @@ use Rattle.tw_names.proofs.TextNames.{Flaw, Names, Procedures, and_then, flat_ma
 use Rattle.std.specs.Fmt.{signed_decimal}
 use Rattle.std.specs.Result.{result_ok}
 use Rattle.std.specs.Str.{bytes_eq}
-use Rattle.tw_asm.specs.reading.Lines.{before_colon, opcode_in}
-use Rattle.tw_asm.specs.reading.Operands.{signed_in}
+use Rattle.tw_words.specs.Names.{before_colon}
+use Rattle.tw_code.specs.format.Table.{opcode_in, forms_of}
+use Rattle.tw_words.specs.Digits.{signed_in}
 use Rattle.tw_code.specs.declared.opcode.Opcode.{Opcode}
 use Rattle.tw_code.specs.declared.version.Version.TheVariants.{Two}
-use Rattle.tw_code.specs.format.Table.{forms_of}
 use Rattle.tw_names.specs.Saying.{Said, asked_by, assigned, at_head, banks_of, begins, begins_first, behind, body_says, constant_says, counted, fitting, head_says, instruction_says, is_names_line, is_unnamed, let_says, line_says, list_name, list_says, made, made_one, makes, name_before, name_says, named, number_in, only_names, parameters, procedure_name, register_of, registers_say, stands, value_types, with_word, word_says, words_say}
 use Rattle.tw_names.specs.declared.meaning.Asked.{Asked}
 use Rattle.tw_names.specs.declared.meaning.Asked.TheVariants as asked

@@ -5,14 +5,14 @@ use Rattle.std.specs.List.{flat_map}
 use Rattle.std.specs.Option.{option_map_or}
 use Rattle.std.specs.Result.{result_ok}
 use Rattle.std.specs.Str.{bytes_eq}
-use Rattle.tw_asm.specs.reading.Lines.{before_colon, opcode_in}
-use Rattle.tw_asm.specs.reading.Operands.{digits_in, signed_in}
+use Rattle.tw_words.specs.Names.{before_colon}
+use Rattle.tw_code.specs.format.Table.{opcode_in, forms_of}
+use Rattle.tw_words.specs.Digits.{digits_in, signed_in}
 use Rattle.tw_code.specs.declared.form.Form.{Form}
 use Rattle.tw_code.specs.declared.form.Form.TheVariants as form
 use Rattle.tw_code.specs.declared.opcode.Opcode.{Opcode}
 use Rattle.tw_code.specs.declared.opcode.Opcode.TheVariants as opcode
 use Rattle.tw_code.specs.declared.version.Version.TheVariants.{Two}
-use Rattle.tw_code.specs.format.Table.{forms_of}
 use Rattle.tw_names.specs.Lines.{pieces}
 use Rattle.tw_names.specs.Meanings.{Flaw, Head, Names, Procedures, and_then, is_name, known, meaning, refused, with_constant, with_register}
 use Rattle.tw_names.specs.declared.meaning.Asked.{Asked}

@@ -1,7 +1,7 @@
 //! The names that are known at a line.
 
 ghost use Rattle.std.specs.Prelude.{◌≡◌, ◌==◌, ◌||◌, ◌∷◌, [], ◌++◌, ◌<◌, None, OnOk, nat_lt};
-ghost use Rattle.tw_words.specs.reading.Digits.{all_digits, are_digits};
+ghost use Rattle.tw_words.specs.Digits.{all_digits, are_digits};
 ghost use Rattle.std.specs.Char.{digit_value};
 ghost use Rattle.tw_names.specs.Answers.{Gives};
 ghost use Rattle.tw_names.specs.Meanings.{above, is_name, is_register_word, known, may_name, meaning, no_names, with_constant, with_register};
@@ -98,7 +98,7 @@ fn is_register_word(word: &[u8]) -> bool
 pub fn is_name(word: &[u8]) -> bool
     ensures { result ≡ is_name word.now }
 {
-    if !tw_asm::is_name(word) {
+    if !tw_words::is_name(word) {
         false
     } else if word.len() > MAX_NAME {
         false

@@ -2,7 +2,7 @@
 
 ghost use Rattle.std.specs.Prelude.{◌≡◌};
 ghost use Rattle.std.specs.Result.{result_ok};
-ghost use Rattle.tw_asm.specs.reading.Operands.{digits_in, signed_in};
+ghost use Rattle.tw_words.specs.Digits.{digits_in, signed_in};
 
 use tw_words::{digits, number};
 

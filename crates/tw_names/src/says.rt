@@ -1,7 +1,7 @@
 //! What a line says.
 
 ghost use Rattle.std.specs.Prelude.{◌≡◌, ◌++◌};
-ghost use Rattle.tw_asm.specs.reading.Lines.{opcode_in};
+ghost use Rattle.tw_code.specs.format.Table.{opcode_in};
 ghost use Rattle.tw_code.specs.declared.version.Version.TheVariants.{Two};
 ghost use Rattle.tw_names.specs.Answers.{SaysBehind};
 ghost use Rattle.std.specs.List.{flat_map};
@@ -18,8 +18,7 @@ use crate::pieces::pieces_of;
 use crate::procedures::Procedures;
 use crate::refusal::Refusal;
 use std::alloc::{AllocError, Global};
-use tw_asm::opcode_in;
-use tw_code::Version;
+use tw_code::{Version, opcode_in};
 
 /// Whether a line has just the word `names`.
 pub fn is_names_line(first: &[u8], words: &[&[u8]]) -> bool

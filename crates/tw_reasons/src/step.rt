@@ -8,8 +8,7 @@ ghost use Rattle.tw_reasons.specs.declared.step.Read.TheVariants as read;
 
 use crate::due::Due;
 use crate::words::*;
-use tw_asm::form_at;
-use tw_code::{Form, Version};
+use tw_code::{Form, Version, form_at};
 use tw_types::Mode;
 use tw_words::Word;
 

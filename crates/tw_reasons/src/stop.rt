@@ -17,9 +17,8 @@ use crate::due::Due;
 use crate::step::Ahead;
 use crate::words::Ask;
 use std::alloc::{AllocError, Global};
-use tw_asm::is_name;
 use tw_code::Version;
-use tw_words::{Next, Word, next_word, without_gap};
+use tw_words::{Next, Word, is_name, next_word, without_gap};
 
 /// What stands where a line stops.
 #[derive(Clone, Copy)]

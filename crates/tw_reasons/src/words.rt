@@ -4,13 +4,14 @@ ghost use Rattle.std.specs.Prelude.{◌≡◌, ◌||◌, Bool, true};
 ghost use Rattle.tw_words.specs.Words.{Bare};
 ghost use Rattle.tw_words.specs.Seen.{seen};
 ghost use Rattle.tw_asm.specs.reading.Lines.{kind_in};
-ghost use Rattle.tw_asm.specs.reading.Operands.{container_in, digits_in, is_name, mode_in, natural_in, number_in, own, register_in, scalar_in, signed_in, text_container};
+ghost use Rattle.tw_asm.specs.reading.Operands.{container_in, mode_in, natural_in, number_in, register_in, scalar_in, text_container};
+ghost use Rattle.tw_words.specs.Digits.{digits_in, signed_in};
+ghost use Rattle.tw_words.specs.Names.{is_name};
 ghost use Rattle.tw_reasons.specs.Going.{found, has_form, is_any, is_goal, is_operand, is_quoted};
 
-use tw_asm::is_name;
 use tw_code::{Form, Version};
 use tw_types::Mode;
-use tw_words::{Flaw, Word, digits, number};
+use tw_words::{Flaw, Word, digits, is_name, number};
 
 /// Whether limits are asked for too, or the form alone.
 #[derive(Clone, Copy)]
@@ -32,7 +33,7 @@ impl Ask {
 
     /// Whether a number passes.
     fn takes<N: Drop>(self, read: Result<N, Flaw>) -> bool
-        ensures { self ≡ Ask.Form → result ≡ has_form (own read) }
+        ensures { self ≡ Ask.Form → result ≡ has_form read }
     {
         match read {
             Ok(_) => true,

@@ -5,7 +5,7 @@ use Rattle.std.specs.Str.Parse.{digits_value}
 use Rattle.tw_words.specs.Number.{IsRead, SpellsDigits}
 use Rattle.tw_words.specs.declared.numbers.Flaw.{Flaw}
 use Rattle.tw_words.specs.declared.numbers.Flaw.TheVariants.{Form, Limit}
-use Rattle.tw_words.specs.reading.Digits.{are_digits, is_within}
+use Rattle.tw_words.specs.Digits.{are_digits, is_within}
 use Rattle.tw_words.proofs.Decided.{digits_decide, within_decide}
 use Rattle.tw_report.specs.reading.Event.{number_in}
 

@@ -5,7 +5,7 @@ use Rattle.std.specs.Char.{digit_value}
 use Rattle.std.specs.Int.{IsInRange}
 use Rattle.std.specs.Str.Parse.{AllDigits, IsNumeral}
 use Rattle.std.proofs.lemmas.Bool.Decides.{Decides-and, Decides-ltb, nat_tests}
-use Rattle.tw_words.specs.reading.Digits.{all_digits, are_digits, is_within}
+use Rattle.tw_words.specs.Digits.{all_digits, are_digits, is_within}
 
 all_decide : (text : List ℕ) → Decides (all_digits text) (AllDigits 10 text)
 all_decide [] = (λ _. tt, λ _. refl)

@@ -8,3 +8,6 @@ pub mod FirstWords
 pub mod Breaks
 pub mod Writing
 pub mod Decided
+pub mod Readings
+pub mod Colons
+pub mod LineLoops

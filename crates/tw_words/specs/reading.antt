@@ -1,4 +1,3 @@
 -- What the readers keep to themselves: no public clause reaches this folder.
 pub mod Inside
 pub mod Next
-pub mod Digits

@@ -8,12 +8,12 @@ ghost use Rattle.tw_words.specs.Number.{IsIn64, IsRead, SpellsDigits, SpellsNumb
 
 use crate::first::after;
 
-/// Why a text is no number that may stand there.
+/// Why a text is no number that may stand there, or words are no statement.
 #[derive(Clone, Copy, Debug, PartialEq, Eq)]
 pub enum Flaw {
-    /// It has another form.
+    /// It has another form, or there are too few words or too many.
     Form,
-    /// The number is out of its limits.
+    /// A number, a count, a nesting of containers, a name or a text is out of its limits.
     Limit,
 }
 

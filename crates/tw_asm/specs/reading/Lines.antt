@@ -1,5 +1,5 @@
 -- What the words behind a name say.
-use Rattle.std.specs.Prelude.{◌≡◌, ℕ, ℤ, List, [], ◌∷◌, ◌++◌, length, codes, Option, Some, None, Result, Ok, Err, nat_lt, ◌==◌, if◌then◌else◌}
+use Rattle.std.specs.Prelude.{◌≡◌, ℕ, ℤ, List, [], ◌∷◌, ◌++◌, length, codes, Option, Some, None, Result, Ok, Err, nat_lt, if◌then◌else◌}
 use Rattle.std.specs.Str.{bytes_eq}
 use Rattle.tw_code.specs.declared.form.Form.{Form as OperandForm}
 use Rattle.tw_code.specs.declared.form.Form.TheVariants as form
@@ -7,18 +7,19 @@ use Rattle.tw_code.specs.declared.instr.Instr.{Instr}
 use Rattle.tw_code.specs.declared.opcode.Opcode.{Opcode}
 use Rattle.tw_code.specs.declared.version.Version.{Version}
 use Rattle.tw_code.specs.format.Table as table
-use Rattle.tw_code.specs.format.Table.{Contents, a_row, if_had}
+use Rattle.tw_code.specs.format.Table.{Contents, a_row, opcode_in}
 use Rattle.tw_words.specs.Words.{Word, Bare, Quoted}
-use Rattle.tw_asm.specs.Names.{opcode_of}
 use Rattle.tw_asm.specs.Parts.{kind_word}
 use Rattle.tw_asm.specs.Seen.{Read, bytes_of}
 use Rattle.tw_asm.specs.Statement as said
 use Rattle.tw_asm.specs.declared.statement.Unlinked.{Unlinked}
-use Rattle.tw_asm.specs.declared.refusal.Flaw.{Flaw}
-use Rattle.tw_asm.specs.declared.refusal.Flaw.TheVariants.{Form, Limit}
+use Rattle.tw_words.specs.declared.numbers.Flaw.{Flaw}
+use Rattle.tw_words.specs.declared.numbers.Flaw.TheVariants.{Form, Limit}
 use Rattle.tw_asm.specs.declared.refusal.Refusal.{Refusal}
 use Rattle.tw_asm.specs.declared.refusal.Refusal.TheVariants as refusal
-use Rattle.tw_asm.specs.reading.Operands.{both, as_is, natural_in, register_in, number_in, literal_in, target_in, name_in, Goal, goal_in, scalar_in, container_in, mode_in}
+use Rattle.tw_asm.specs.reading.Operands.{both, natural_in, register_in, number_in, literal_in, target_in, name_in, Goal, goal_in, scalar_in, container_in, mode_in}
+use Rattle.tw_words.specs.Digits.{as_is}
+use Rattle.tw_words.specs.Names.{before_colon}
 use Rattle.tw_types.specs.DataType.{container_of, depth_of, is_scalar, scalar_type}
 use Rattle.tw_types.specs.Nesting.{NestedScalar}
 use Rattle.tw_types.specs.declared.actor.Kind.{Kind}
@@ -242,10 +243,6 @@ draft_by (row l make) ws = as_is (λ x. (make x, label_in l x)) (line_in l ws)
 abbrev pub draft_in : Version → Opcode → List Word → Result (Instr × Option (List ℕ)) Flaw
 draft_in version o ws = draft_by (row_of version o) ws
 
--- the instruction of this name, if the version has it
-abbrev pub opcode_in : Version → List ℕ → Option Opcode
-opcode_in version name = if_had version (opcode_of name)
-
 -- ---- statements
 
 abbrev pub version_read : ℕ → Read
@@ -272,16 +269,6 @@ registers_read registers = record { statement = said.Registers registers; goal =
 
 abbrev pub registers_in : List Word → Result Read Flaw
 registers_in ws = as_is registers_read (few 16 (each scalar_in ws))
-
--- without a `:` at its end
-abbrev pub before_colon : List ℕ → Option (List ℕ)
-before_colon [] = None
-before_colon (b ∷ []) = if b == 58 then Some [] else None
-before_colon (b ∷ c ∷ rest) = more_before b (before_colon (c ∷ rest))
-  where
-    more_before : ℕ → Option (List ℕ) → Option (List ℕ)
-    more_before b None = None
-    more_before b (Some name) = Some (b ∷ name)
 
 abbrev pub label_read : List ℕ → Read
 label_read name = record { statement = said.Label name; goal = None }

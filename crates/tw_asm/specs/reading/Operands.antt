@@ -1,16 +1,14 @@
 -- What one word says, or what is wrong with it.
-use Rattle.std.specs.Prelude.{ℕ, ℤ, pos, neg_ℤ, Bool, true, false, ◌&&◌, ◌||◌, List, [], ◌∷◌, length, codes, Option, Some, None, Result, Ok, Err, nat_lt, ◌==◌, if◌then◌else◌}
+use Rattle.std.specs.Prelude.{ℕ, ℤ, List, [], ◌∷◌, length, codes, Option, Some, None, Result, Ok, Err, nat_lt, ◌==◌, if◌then◌else◌}
 use Rattle.std.specs.Str.{bytes_eq}
-use Rattle.std.specs.Str.Parse.{digits_value}
 use Rattle.tw_code.specs.declared.version.Version.{Version}
 use Rattle.tw_code.specs.declared.version.Version.TheVariants.{One, Two}
 use Rattle.tw_words.specs.Words.{Word, Bare, Quoted}
-use Rattle.tw_words.specs.reading.Digits.{are_digits, is_within}
+use Rattle.tw_words.specs.Digits.{as_is, digits_in, signed_in}
+use Rattle.tw_words.specs.Names.{is_name}
 use Rattle.tw_asm.specs.Parts.{container_word, mode_word, scalar_word}
-use Rattle.tw_asm.specs.declared.refusal.Flaw.{Flaw}
-use Rattle.tw_asm.specs.declared.refusal.Flaw.TheVariants.{Form, Limit}
-use Rattle.tw_words.specs.declared.numbers.Flaw as words
-use Rattle.tw_words.specs.declared.numbers.Flaw.TheVariants as word
+use Rattle.tw_words.specs.declared.numbers.Flaw.{Flaw}
+use Rattle.tw_words.specs.declared.numbers.Flaw.TheVariants.{Form, Limit}
 use Rattle.tw_types.specs.declared.data_type.Scalar.{Scalar}
 use Rattle.tw_types.specs.declared.data_type.Scalar.TheVariants as scalar
 use Rattle.tw_types.specs.declared.param.Mode.{Mode}
@@ -23,30 +21,6 @@ both (Ok a) (Ok b) = Ok (a, b)
 both (Err e) (Ok b) = Err e
 both (Ok a) (Err Limit) = Err Limit
 both (Err e) (Err Limit) = Err e
-
-abbrev pub as_is : {A B : Type 0} → (A → B) → Result A Flaw → Result B Flaw
-as_is make (Ok a) = Ok (make a)
-as_is make (Err e) = Err e
-
--- what a number's reader of texts in general answers
-abbrev pub own : {A : Type 0} → Result A words.Flaw → Result A Flaw
-own (Ok a) = Ok a
-own (Err word.Form) = Err Form
-own (Err word.Limit) = Err Limit
-
--- ---- numbers
-
--- the number between these limits
-unfoldable pub digits_in : ℕ → ℕ → List ℕ → Result ℕ Flaw
-digits_in low high text = if are_digits text then (if is_within low high (digits_value 10 text) then Ok (digits_value 10 text) else Err Limit) else Err Form
-
-abbrev pub negative : ℕ → ℤ
-negative n = neg_ℤ (pos n)
-
--- the number of 64 bits
-unfoldable pub signed_in : List ℕ → Result ℤ Flaw
-signed_in [] = Err Form
-signed_in (b ∷ rest) = if b == 45 then as_is negative (digits_in 0 0x8000000000000000 rest) else as_is pos (digits_in 0 0x7FFFFFFFFFFFFFFF (b ∷ rest))
 
 -- ---- one word
 
@@ -73,20 +47,6 @@ target_in (Bare text) = if bytes_eq text (codes "any") then Ok None else as_is (
 target_in (Quoted text) = Err Form
 
 -- ---- names of labels
-
-abbrev pub is_letter : ℕ → Bool
-is_letter b = is_within 65 90 b || is_within 97 122 b
-
-abbrev pub is_in_name : ℕ → Bool
-is_in_name b = is_letter b || (is_within 48 57 b || (b == 95))
-
-abbrev pub all_in_name : List ℕ → Bool
-all_in_name [] = true
-all_in_name (b ∷ others) = is_in_name b && all_in_name others
-
-abbrev pub is_name : List ℕ → Bool
-is_name [] = false
-is_name (b ∷ others) = is_letter b && all_in_name others
 
 unfoldable pub name_in : List ℕ → Result (List ℕ) Flaw
 name_in text = if is_name text then (if nat_lt 64 (length text) then Err Limit else Ok text) else Err Form

@@ -2,8 +2,7 @@
 use Rattle.std.specs.Prelude.{ℕ, List, ◌∷◌, ◌++◌, codes}
 use Rattle.std.specs.List.{flat_map, join_with_byte}
 use Rattle.tw_code.specs.declared.opcode.Opcode.{Opcode}
-use Rattle.tw_code.specs.format.Table.{Operand}
-use Rattle.tw_asm.specs.Names.{word_of}
+use Rattle.tw_code.specs.format.Table.{Operand, word_of}
 use Rattle.tw_asm.specs.Parts.{Part, Name, operand_parts}
 use Rattle.tw_asm.specs.Written.{part_words}
 

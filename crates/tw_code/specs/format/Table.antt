@@ -1,8 +1,9 @@
 -- The table of instructions: of each opcode its code, the forms of its operands, in the order of the bytes and of the text, and the
--- instruction that they make, and the first version that has it; and of each instruction its opcode and its operands. How an operand
--- is spelled in bytes says Spelling, and in text the assembler's Parts.
-use Rattle.std.specs.Prelude.{ℕ, ℤ, Bool, true, false, List, [], ◌∷◌, Option, Some, None, ◌==◌, if◌then◌else◌}
+-- instruction that they make, the first version that has it, and its name in a text; and of each instruction its opcode and its operands.
+-- How an operand is spelled in bytes says Spelling, and in text the assembler's Parts.
+use Rattle.std.specs.Prelude.{ℕ, ℤ, Bool, true, false, List, [], ◌∷◌, Option, Some, None, codes, ◌==◌, if◌then◌else◌}
 use Rattle.std.specs.List.{find}
+use Rattle.std.specs.Str.{bytes_eq}
 use Rattle.tw_code.specs.declared.form.Form.{Form}
 use Rattle.tw_code.specs.declared.form.Form.TheVariants.{Value, Right, Number, Turns, Literal, TypeOf, Skip, Callee, Target, Args}
 use Rattle.tw_code.specs.declared.instr.Action.{Action}
@@ -133,6 +134,53 @@ if_had version (Some o) = if has_opcode version o then Some o else None
 -- the opcode of this code, if the version has one
 abbrev pub opcode_at : Version → ℕ → Option Opcode
 opcode_at version code = if_had version (find (λ o. code_of o == code) OPCODES)
+
+-- ---- its name in a text
+
+abbrev pub word_of : Opcode → List ℕ
+word_of opcode.Int = codes "INT"
+word_of opcode.Text = codes "TEXT"
+word_of opcode.Copy = codes "COPY"
+word_of opcode.Add = codes "ADD"
+word_of opcode.Subtract = codes "SUB"
+word_of opcode.Multiply = codes "MUL"
+word_of opcode.Divide = codes "DIV"
+word_of opcode.Remainder = codes "REM"
+word_of opcode.Concatenate = codes "CAT"
+word_of opcode.Length = codes "LEN"
+word_of opcode.Show = codes "SHOW"
+word_of opcode.ReadInt = codes "READI"
+word_of opcode.Jump = codes "JMP"
+word_of opcode.JumpEqual = codes "JEQ"
+word_of opcode.JumpLess = codes "JLT"
+word_of opcode.Repeat = codes "REPEAT"
+word_of opcode.End = codes "END"
+word_of opcode.New = codes "NEW"
+word_of opcode.Store = codes "STORE"
+word_of opcode.Get = codes "GET"
+word_of opcode.Insert = codes "INS"
+word_of opcode.Look = codes "LOOK"
+word_of opcode.Size = codes "SIZE"
+word_of opcode.SubscriptAt = codes "SUBAT"
+word_of opcode.CopyRead = codes "DUPR"
+word_of opcode.CopyWrite = codes "DUPW"
+word_of opcode.DropRead = codes "DROPR"
+word_of opcode.DropWrite = codes "DROPW"
+word_of opcode.Rule = codes "RULE"
+word_of opcode.Put = codes "PUT"
+word_of opcode.Ret = codes "RET"
+word_of opcode.InsertByText = codes "TINS"
+word_of opcode.LookByText = codes "TLOOK"
+word_of opcode.SubscriptAtByText = codes "TSUBAT"
+word_of opcode.RuleComputed = codes "RULEV"
+word_of opcode.PutComputed = codes "PUTV"
+
+unfoldable pub opcode_of : List ℕ → Option Opcode
+opcode_of name = find (λ o. bytes_eq (word_of o) name) OPCODES
+
+-- the opcode of this name, if the version has it
+abbrev pub opcode_in : Version → List ℕ → Option Opcode
+opcode_in version name = if_had version (opcode_of name)
 
 -- ---- a line an instruction
 

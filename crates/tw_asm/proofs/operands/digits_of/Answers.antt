@@ -1,6 +1,5 @@
-use Rattle.std.proofs.Common.{◌∙◌}
-use Rattle.tw_asm.proofs.Numbers.{digits_same}
+use Rattle.tw_words.proofs.Readings.{digits_same}
 use Rattle.tw_asm.proofs.operands.digits_of.Goals as goal
 
 pub returns-clause-is : goal.returns-clause-is
-returns-clause-is c = c.own_of.ensures ∙ digits_same c.args.low c.args.high c.args.text.now c.digits.result c.digits.ensures
+returns-clause-is c = digits_same c.args.low c.args.high c.args.text.now c.digits.result c.digits.ensures

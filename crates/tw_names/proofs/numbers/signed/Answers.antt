@@ -1,6 +1,7 @@
-use Rattle.std.proofs.Common.{◌∙◌}
-use Rattle.tw_names.proofs.Reading.{signed_read}
+use Rattle.std.proofs.Common.{ap, ◌∙◌}
+use Rattle.std.specs.Result.{result_ok}
+use Rattle.tw_words.proofs.Readings.{signed_same}
 use Rattle.tw_names.proofs.numbers.signed.Goals as goal
 
 pub returns : goal.returns
-returns c = c.ok.ensures.value ∙ signed_read c.args.text.now c.number.result c.number.ensures
+returns c = c.ok.ensures.value ∙ ap result_ok (signed_same c.args.text.now c.number.result c.number.ensures)

@@ -1,7 +1,10 @@
 -- What stands before a `:`.
 use Rattle.std.proofs.Common.{◌≡◌, ◌≢◌, ◌==◌, ℕ, Bool, true, false, cond, List, [], ◌∷◌, ◌++◌, Option, Some, None, refl, sym, ap, ◌∙◌}
+use Rattle.std.proofs.lemmas.Bool.{eqb-true}
 use Rattle.std.specs.Borrow.{Bor}
-use Rattle.tw_asm.proofs.AsmNames.{MatchOption, before_colon, eqb-true, option_map}
+use Rattle.std.specs.Option.{option_map}
+use Rattle.std.specs.Prelude.{MatchOption}
+use Rattle.tw_words.specs.Names.{before_colon}
 
 pub before : (name : List ℕ) → before_colon (name ++ 58 ∷ []) ≡ Some name
 before [] = refl

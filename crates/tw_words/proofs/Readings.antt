@@ -1,15 +1,45 @@
--- The readings of numbers.
+-- Readings that answer what spells a value and what may stand there, how they go together, and those of numbers.
 use Rattle.std.proofs.Common.{◌≡◌, ◌==◌, ℕ, zero, suc, ◌≤◌, ◌^◌, ℤ, pos, neg_ℤ, Bool, true, false, cond, List, [], ◌∷◌, Result, Ok, Err, inl, inr, refl, sym, ap, subst, ◌∙◌, arith}
-use Rattle.tw_asm.proofs.AsmNames.{Form, IsInRange, Limit, eqb-true, nat_tests}
+use Rattle.std.proofs.lemmas.Bool.{eqb-true}
+use Rattle.std.proofs.lemmas.Bool.Decides.{nat_tests}
+use Rattle.std.specs.Int.{IsInRange}
 use Rattle.std.specs.Str.Parse.{digits_value}
-use Rattle.tw_asm.proofs.Readings.{Reads, carried, same}
-use Rattle.tw_asm.specs.reading.Operands.{as_is, digits_in, negative, own, signed_in}
+use Rattle.tw_words.specs.Digits.{are_digits, as_is, digits_in, is_within, negative, signed_in}
 use Rattle.tw_words.specs.Number.{IsIn64, IsRead, SpellsDigits, SpellsNumber}
-use Rattle.tw_words.specs.declared.numbers.Flaw as words
-use Rattle.tw_words.specs.reading.Digits.{are_digits, is_within}
+use Rattle.tw_words.specs.declared.numbers.Flaw.{Flaw}
+use Rattle.tw_words.specs.declared.numbers.Flaw.TheVariants.{Form, Limit}
 use Rattle.tw_words.proofs.Decided.{digits_decide, within_decide}
 use Rattle.tw_words.proofs.Insides.{head_is, tail_is}
 use Rattle.tw_words.proofs.Numerals.{no_sign, one_number, one_size, size_fits}
+
+-- A value that is spelled and may stand here; or none is spelled; or one is, and none that may stand here.
+abbrev pub Reads : {A : Type 0} → (A → Type 0) → (A → Type 0) → Result A Flaw → Type 0
+Reads Has May (Ok a) = Has a × May a
+Reads {A} Has May (Err Form) = (a : A) → Has a → ⊥
+Reads {A} Has May (Err Limit) = ((a : A) × Has a) × ((a : A) → Has a → May a → ⊥)
+
+-- two readings of what is spelled once are one
+pub same : {A : Type 0} (Has May : A → Type 0) → ((a b : A) → Has a → Has b → a ≡ b) → (r s : Result A Flaw) → IsRead Has May r → Reads Has May s → r ≡ s
+same Has May one (Ok a) (Ok b) h k = ap (λ c. Ok c) (one a b h.0 k.0)
+same Has May one (Ok a) (Err Form) h k = absurd (k a h.0)
+same Has May one (Ok a) (Err Limit) h k = absurd (k.1 a h.0 h.1)
+same Has May one (Err Form) (Ok b) h k = absurd (h b k.0)
+same Has May one (Err Form) (Err Form) h k = refl
+same Has May one (Err Form) (Err Limit) h k = absurd (h k.0.0 k.0.1)
+same Has May one (Err Limit) (Ok b) h k = absurd (h.2 (subst May (one b h.0 k.0 h.1) k.1))
+same Has May one (Err Limit) (Err Form) h k = absurd (k h.0 h.1)
+same Has May one (Err Limit) (Err Limit) h k = refl
+
+-- what is read, as another value
+module _ {A B : Type 0} (make : A → B) (Has May : A → Type 0) (Has' May' : B → Type 0)
+    (to : (a : A) → Has a → Has' (make a)) (back : (b : B) → Has' b → (a : A) × Has a × (b ≡ make a))
+    (may : (a : A) → Has a → May a → May' (make a)) (may_back : (a : A) → Has a → May' (make a) → May a) where
+  pub carried : (r : Result A Flaw) → Reads Has May r → Reads Has' May' (as_is make r)
+  carried (Ok a) h = (to a h.0, may a h.0 h.1)
+  carried (Err Form) h = λ b k. let x = back b k in h x.0 x.1
+  carried (Err Limit) h = ((make h.0.0, to h.0.0 h.0.1), λ b k m. let x = back b k in h.1 x.0 x.1 (may_back x.0 x.1 (subst May' x.2 m)))
+
+-- ---- numbers
 
 pub digits_read : (low high : ℕ) (text : List ℕ) → Reads (λ n. SpellsDigits n text) (IsInRange low high) (digits_in low high text)
 unfolding digits_in
@@ -27,7 +57,7 @@ digits_read low high text = by (are_digits text) (is_within low high (digits_val
         no : false ≡ true → ⊥
         no e = cc
 
-pub digits_same : (low high : ℕ) (text : List ℕ) (r : Result ℕ words.Flaw) → IsRead (λ n. SpellsDigits n text) (IsInRange low high) r → own r ≡ digits_in low high text
+pub digits_same : (low high : ℕ) (text : List ℕ) (r : Result ℕ Flaw) → IsRead (λ n. SpellsDigits n text) (IsInRange low high) r → r ≡ digits_in low high text
 digits_same low high text r h = same (λ n. SpellsDigits n text) (IsInRange low high) (λ a b. one_size a b text) r (digits_in low high text) h (digits_read low high text)
 
 -- ---- with a sign
@@ -75,5 +105,5 @@ signed_read (b ∷ rest) = by (b == 45) refl
         (λ k h. inl (k, h, refl)) (no_minus (apart is))
         (λ k h m. plain_fits k m) (λ k h m. plain_back k m) (digits_in 0 0x7FFFFFFFFFFFFFFF (b ∷ rest)) (digits_read 0 0x7FFFFFFFFFFFFFFF (b ∷ rest))
 
-pub signed_same : (text : List ℕ) (r : Result ℤ words.Flaw) → IsRead (λ n. SpellsNumber n text) IsIn64 r → own r ≡ signed_in text
+pub signed_same : (text : List ℕ) (r : Result ℤ Flaw) → IsRead (λ n. SpellsNumber n text) IsIn64 r → r ≡ signed_in text
 signed_same text r h = same (λ n. SpellsNumber n text) IsIn64 (λ a b. one_number a b text) r (signed_in text) h (signed_read text)

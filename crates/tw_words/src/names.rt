@@ -1,15 +1,9 @@
-//! Names of labels.
+//! Names, and what stands before a `:`.
 
 ghost use Rattle.std.specs.Prelude.{◌≡◌, ◌≢◌, ◌++◌, ℕ, List, MatchOption};
 ghost use Rattle.std.specs.Option.{option_map};
-ghost use Rattle.tw_words.specs.reading.Digits.{is_within};
-ghost use Rattle.tw_asm.specs.reading.Lines.{before_colon};
-ghost use Rattle.tw_asm.specs.reading.Operands.{as_is, is_letter, is_in_name, all_in_name, is_name, name_in};
-
-use crate::refusal::Flaw;
-
-/// The most bytes of a label's name.
-const MAX_NAME: usize = 64;
+ghost use Rattle.tw_words.specs.Digits.{is_within};
+ghost use Rattle.tw_words.specs.Names.{all_in_name, before_colon, is_in_name, is_letter, is_name};
 
 fn is_within(low: u8, high: u8, byte: u8) -> bool
     ensures { result ≡ is_within low high byte }
@@ -47,20 +41,6 @@ pub fn is_name(text: &[u8]) -> bool
     match text {
         [] => false,
         [first, others @ ..] => is_letter(*first) && all_in_name(others),
-    }
-}
-
-/// A label's name, of at most 64 bytes.
-#[tactic(auto, unfolding(crate::specs::reading::Operands::name_in))]
-pub fn name_of(text: &[u8]) -> Result<&[u8], Flaw>
-    ensures { as_is (λ name. name.now) result ≡ name_in text.now }
-{
-    if !is_name(text) {
-        Err(Flaw::Form)
-    } else if text.len() > MAX_NAME {
-        Err(Flaw::Limit)
-    } else {
-        Ok(text)
     }
 }
 

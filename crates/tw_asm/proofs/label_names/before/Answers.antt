@@ -1,5 +1,0 @@
-use Rattle.tw_asm.proofs.AsmNames.{Decides-eqb, strip_suffix_is}
-use Rattle.tw_asm.proofs.label_names.before.Goals as goal
-
-pub returns : goal.returns
-returns c = strip_suffix_is Decides-eqb c.args.bytes.now c.args.back.now c.strip_suffix.result c.strip_suffix.ensures.cases
