@@ -1,6 +1,6 @@
 -- RULE and PUT: what is asked of their parts, where a task stands at one behind a Done.
 use Rattle.std.proofs.Common.{map as each, ◌≡◌, ◌≤◌, ◌<◌, ◌+◌, ◌^◌, ◌∙◌, ℕ, List, Option, Some, None, IsSome, sym, ap, subst, length, slice_get, arith}
-use Rattle.tw_parts.proofs.PartNames.{Action, Actor, DoneView, FrameView, HasSeat, Held, IsInstr, IsOwed, IsProcedure, IsProgram, Param, Parts, Procedure, StandsAt, Value, bare_frame, come, context_of, get, job_of, named_values, same_Some, state_of, with_done}
+use Rattle.tw_parts.proofs.PartNames.{Action, Actor, DoneView, FrameView, HasSeat, Held, IsInstr, IsOwed, IsProcedure, IsProgram, MayStand, Param, Parts, Procedure, StandsAt, Value, at_next_place, bare_frame, come, context_of, get, job_of, named_values, same_Some, state_of, with_done}
 use Rattle.tw_rights.specs.Bundled.{Bundled, bundled}
 use Rattle.tw_queue.specs.Queues as queues
 use Rattle.tw_code.specs.declared.instr.Instr.{Instr}
@@ -36,9 +36,10 @@ module _ (old : Parts) (actor : Actor) (done : DoneView) (instr : Instr) (s : St
     pub few : length params ≤ 8
     few = let low = few_params done.before.program.program s.parts.runnable.is action.procedure u.procedure u.is in omega (arith, low, ap length params_is)
 
-    pub sits_ready : (vals : List Value) → each Some vals ≡ named_values done.after.values params action.args
+    pub sits_ready : (vals : List Value) → each Some vals ≡ named_values done.after.values params action.args → MayStand s.f.program.program s.f.procedure (at_next_place done.after)
         → (x : FrameView) × (get old.seats actor ≡ Some x) × (done.before ≡ job_of x) × (x.spent + done.steps < 2 ^ 63) × (done.after.place < 2 ^ 63) × IsSome (bundled x.held params registers vals)
-    sits_ready vals are = (
+        × MayStand x.program.program x.procedure (at_next_place done.after)
+    sits_ready vals are stands = (
       s.f,
       s.owed.sits,
       s.owed.own,
@@ -46,6 +47,7 @@ module _ (old : Parts) (actor : Actor) (done : DoneView) (instr : Instr) (s : St
       place_there,
       subst (λ ps. IsSome (bundled s.f.held ps registers vals)) (sym params_is) (subst (λ rs. IsSome (bundled s.f.held u.procedure.params rs vals)) (sym registers_is)
           (may_bundle done.before.program s.layout there s.notices s.parts actor (come s.f done) s.q action runs_there u vals (so_valued done.after.values params u.procedure.params params_is action.args vals are))),
+      stands,
     )
 
 -- ---- when it was done

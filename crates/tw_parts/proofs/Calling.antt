@@ -12,6 +12,7 @@ use Rattle.tw_no_trap.proofs.Live.{output_is_live, register_is_live, rule_is_liv
 use Rattle.tw_no_trap.proofs.Safe.{kept_by}
 use Rattle.tw_no_trap.proofs.Turning.{data_goes}
 use Rattle.tw_parts.proofs.Fitting.{seen}
+use Rattle.tw_parts.proofs.Goings.{may_stand}
 use Rattle.tw_parts.proofs.Keeping.{all_kept, args_kept, file_kept}
 use Rattle.tw_parts.proofs.Law.{goes_to, held}
 use Rattle.tw_parts.proofs.Registers.{id_at, placed_at, placed_each, right_id}
@@ -31,30 +32,6 @@ module _ (verified : TypedProgram) (layout : ActorCounts) (old : Parts) (notices
 
   own_code : IsProcedure p
   own_code = all_found IsProcedure verified.program f.procedure p h.runnable.is.1 here
-
-  pub may_do : IsSmall (state_of old notices) → MayDo d old.store f
-  may_do small = record {
-    ns = notices;
-    left = can.0;
-    goes = can.1;
-    instr = all_found IsInstr p.code f.position.place (instr.Data d) own_code.code.1 at;
-    placed = (h.stand.frames actor f runs).placed;
-    typed = record {
-      registers = p.registers;
-      typing = typing_at (typings_of verified) f.procedure f.position.place;
-      kinds = (h.stand.frames actor f runs).kinds;
-      asked = asked_at verified.program (typings_of verified) h.runnable.is h.runnable.right f.procedure p here f.position.place (instr.Data d) at;
-    };
-    store = law.types.store;
-    room = record {
-      next = small.numbers.datum;
-      reads = small.reads;
-      writes = small.writes;
-      members = small.members;
-      place = let inside = slice_get_within p.code f.position.place (instr.Data d) at in let few = own_code.code.0.1 in omega (arith, inside, few);
-      spent = small.spent actor (bare_frame f) there;
-    };
-  }
 
   module _ (new : Parts) (g : FrameView) (o : IsDone d old.store new.store f g) (seats : new.seats ≡ insert old.seats actor g)
       (rules : new.rules ≡ old.rules) (tasks : new.tasks ≡ old.tasks) (next_task : new.next_task ≡ old.next_task) (outputs : new.outputs ≡ old.outputs) where
@@ -174,3 +151,31 @@ module _ (verified : TypedProgram) (layout : ActorCounts) (old : Parts) (notices
     pub called : Goes verified layout (Call actor) old notices new
     called = goes_to verified layout old notices h (Call actor) new left _ goes same_state queues_are.0 (queues_are.1 ∙ h.servers) stand_is
         (λ other apart. ap (λ m. get m other) seats ∙ get_other old.seats actor g other apart)
+
+  pub may_do : IsSmall (state_of old notices) → MayDo d old.store f
+  may_do small = record {
+    ns = notices;
+    left = can.0;
+    goes = can.1;
+    instr = all_found IsInstr p.code f.position.place (instr.Data d) own_code.code.1 at;
+    placed = (h.stand.frames actor f runs).placed;
+    typed = record {
+      registers = p.registers;
+      typing = typing_at (typings_of verified) f.procedure f.position.place;
+      kinds = (h.stand.frames actor f runs).kinds;
+      asked = asked_at verified.program (typings_of verified) h.runnable.is h.runnable.right f.procedure p here f.position.place (instr.Data d) at;
+    };
+    store = law.types.store;
+    room = record {
+      next = small.numbers.datum;
+      reads = small.reads;
+      writes = small.writes;
+      members = small.members;
+      place = let inside = slice_get_within p.code f.position.place (instr.Data d) at in let few = own_code.code.0.1 in omega (arith, inside, few);
+      spent = small.spent actor (bare_frame f) there;
+    };
+    stands = λ store g o.
+        let new : Parts = record old { store = store; seats = insert old.seats actor g } in
+        let c = called new g o refl refl refl refl refl in
+        may_stand verified layout new c.left c.parts actor g (get_own old.seats actor g);
+  }

@@ -1,13 +1,17 @@
 -- A task goes on by local steps, and is lent: on the parts.
-use Rattle.std.proofs.Common.{◌≡◌, ◌<◌, ◌+◌, ◌∙◌, ℕ, false, List, Some, refl, sym, ap, slice_get, arith, nat_eq}
-use Rattle.tw_parts.proofs.PartNames.{Actor, ActorCounts, AreParts, FrameFits, Goes, IsOwed, Local, Notices, Parts, Procedure, TypedProgram, Went, actor_cmp-IsAntisymmetric, actor_cmp_total, come, get, insert, insert_mapped, kinds_in, mapped, nat_tests, stands_there, state_of, steps_leave, typings_of, with_done, with_frame}
+use Rattle.std.proofs.Common.{◌≡◌, ◌<◌, ◌+◌, ◌∙◌, ℕ, false, List, Some, refl, sym, ap, subst, slice_get, arith, nat_eq}
+use Rattle.tw_parts.proofs.PartNames.{Actor, ActorCounts, AreParts, FrameFits, Goes, IsLent, IsOwed, IsReached, Local, Notices, Parts, Procedure, Seated, Stand, State, TypedProgram, Went, actor_cmp-IsAntisymmetric, actor_cmp_total, come, get, insert, insert_mapped, kinds_in, lent_as, mapped, nat_tests, stands_there, state_of, steps_leave, typings_of, with_done, with_frame}
+use Rattle.tw_types.specs.declared.event.Event.{Event}
 use Rattle.tw_types.proofs.Outcomes.{same_went}
+use Rattle.tw_code.specs.machine.History.{actor_of}
 use Rattle.tw_code.specs.machine.Machine.{step, local_steps}
-use Rattle.tw_frame.specs.Jobs.{DoneView, FrameView, IsDone, JobView, MayStand, bare_frame}
+use Rattle.tw_code.specs.machine.State.{Frame}
+use Rattle.tw_no_trap.proofs.Safe.{kept_by}
+use Rattle.tw_frame.specs.Jobs.{DoneView, FrameView, IsDone, JobView, MayStand, bare_frame, job_of}
 use Rattle.tw_frame.proofs.Lending.{stands_fresh}
 use Rattle.tw_parts.proofs.Fitting.{seen, stand_seated}
 use Rattle.tw_parts.proofs.Law.{goes_to, held}
-use Rattle.tw_parts.proofs.Seating.{get_other, same_seat}
+use Rattle.tw_parts.proofs.Seating.{again, get_other, get_own, same_seat}
 
 -- where a Done of the frame's job leads
 pub record Leads (program : List Procedure) (f : FrameView) (done : DoneView) : Type 0 where
@@ -74,25 +78,42 @@ module _ (verified : TypedProgram) (layout : ActorCounts) (old : Parts) (notices
       (stands_there verified.program (typings_of verified) h.runnable.is h.runnable.right (state_of old notices) (held verified layout old notices h) actor (bare_frame f) in_frames p
       (ap (λ (v : TypedProgram). slice_get v.program f.procedure) (sym fits.program) ∙ here))
 
--- the number under which it was lent isn't the machine's
-module _ (old : Parts) (actor : Actor) (f : FrameView) (runs : get old.seats actor ≡ Some f) (event_no : ℕ) where
-  abbrev pub lent : Parts
-  lent = record old { seats = insert old.seats actor (record f { event_no = event_no }) }
+  -- and where an event leads it
+  pub stands_then : (event : Event) (t : State) → step verified.program layout event (state_of old notices) ≡ Went t → (g : Frame) → get t.frames actor ≡ Some g → MayStand verified.program g.procedure g.position
+  stands_then event t goes g now p here = stands_fresh p g.spent g.position (stands_there verified.program (typings_of verified) h.runnable.is h.runnable.right t
+      (kept_by verified.program (typings_of verified) layout event (state_of old notices) t h.runnable.is h.runnable.right (held verified layout old notices h) goes) actor g now p here)
 
-  pub lent_state : (notices : Notices) → state_of lent notices ≡ state_of old notices
-  lent_state notices = ap (λ m. record (state_of old notices) { frames = m })
-      (insert_mapped bare_frame actor_cmp_total actor_cmp-IsAntisymmetric old.seats actor (record f { event_no = event_no })
-      ∙ sym (insert_mapped bare_frame actor_cmp_total actor_cmp-IsAntisymmetric old.seats actor f)
-      ∙ ap (mapped bare_frame) (same_seat old.seats actor f runs))
+-- the number under which it is lent isn't the machine's
+module _ (new : Parts) (seats : Seated) (actor : Actor) (f : FrameView) (event_no : ℕ) (sits : new.seats ≡ insert seats actor (lent_as event_no f)) where
+  abbrev unlent : Parts
+  unlent = record new { seats = insert seats actor f }
 
-  pub lent_parts : (verified : TypedProgram) (layout : ActorCounts) (notices : Notices) → AreParts verified layout old notices → AreParts verified layout lent notices
-  lent_parts verified layout notices h = record {
-    runnable = h.runnable;
-    law = rw (lent_state notices) h.law;
-    queued = h.queued;
-    servers = h.servers;
-    stand = stand_seated verified old.store.places old.seats old.tasks.tasks old.rules.rules old.outputs h.stand actor (record f { event_no = event_no }) (record { program = before.program; own = before.own; placed = before.placed; kinds = before.kinds });
+  pub lent_state : (notices : Notices) → state_of new notices ≡ state_of unlent notices
+  lent_state notices = ap (λ m. record (state_of new notices) { frames = m })
+      (ap (mapped bare_frame) sits ∙ insert_mapped bare_frame actor_cmp_total actor_cmp-IsAntisymmetric seats actor (lent_as event_no f)
+      ∙ sym (insert_mapped bare_frame actor_cmp_total actor_cmp-IsAntisymmetric seats actor f))
+
+  module _ (verified : TypedProgram) (layout : ActorCounts) (notices : Notices) (h : AreParts verified layout unlent notices) where
+    before : FrameFits verified new.store.places actor f
+    before = h.stand.frames actor f (get_own seats actor f)
+
+    pub lent_parts : AreParts verified layout new notices
+    lent_parts = record {
+      runnable = h.runnable;
+      law = subst (IsReached verified.program layout) (sym (lent_state notices)) h.law;
+      queued = h.queued;
+      servers = h.servers;
+      stand = subst (λ m. Stand verified new.store.places m new.tasks.tasks new.rules.rules new.outputs) (again seats actor f (lent_as event_no f) ∙ sym sits)
+          (stand_seated verified new.store.places (insert seats actor f) new.tasks.tasks new.rules.rules new.outputs h.stand actor (lent_as event_no f) (record { program = before.program; own = before.own; placed = before.placed; kinds = before.kinds }));
+    }
+
+  pub lent_goes : (verified : TypedProgram) (layout : ActorCounts) (event : Event) → actor_of event ≡ actor → (old : Parts) (notices : Notices) → Goes verified layout event old notices unlent → Goes verified layout event old notices new
+  lent_goes verified layout event own old notices goes = record {
+    left = goes.left;
+    step_is = goes.step_is ∙ ap Went (sym (lent_state goes.left));
+    parts = lent_parts verified layout goes.left goes.parts;
+    others = λ other apart. ap (λ m. get m other) sits ∙ get_other seats actor (lent_as event_no f) other (λ e. apart (e ∙ sym own)) ∙ sym (get_other seats actor f other (λ e. apart (e ∙ sym own))) ∙ goes.others other apart;
   }
-    where
-      before : FrameFits verified old.store.places actor f
-      before = h.stand.frames actor f runs
+
+  pub is_lent : (job : JobView) → job ≡ job_of (lent_as event_no f) → IsLent new actor event_no job
+  is_lent job is = record { f = lent_as event_no f; sits = ap (λ m. get m actor) sits ∙ get_own seats actor (lent_as event_no f); number = refl; job_is = is }

@@ -7,7 +7,7 @@ mod Delivers
 mod Staging
 mod Releases
 mod Ends
-mod Goings
+pub mod Goings
 mod Takes
 mod Copied
 mod Handing

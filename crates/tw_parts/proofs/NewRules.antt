@@ -1,21 +1,34 @@
 -- RULE: on the parts.
-use Rattle.std.proofs.Common.{map as each, ◌≡◌, ◌+◌, ◌∙◌, List, Option, Some, refl, sym, ap, slice_get}
-use Rattle.tw_parts.proofs.PartNames.{Action, Actor, ActorCounts, AreParts, Arg, Call, Completed, FrameFits, FrameView, Goes, Held, Notices, Parts, Procedure, Right, RuleOf, Stand, TypedProgram, Value, Went, actor_cmp-IsAntisymmetric, actor_cmp_total, bare_frame, bare_rule, bare_task, context_of, get, gone_behind, gone_on, insert, insert_mapped, mapped, named_values, nat_cmp-IsAntisymmetric, nat_cmp_total, new_rule, number_in_kind, state_of, typed_after, typings_of, with_frame, with_rule}
+use Rattle.std.proofs.Common.{map as each, ◌≡◌, ◌+◌, ◌∙◌, List, Option, Some, refl, sym, ap, subst, slice_get}
+use Rattle.tw_parts.proofs.PartNames.{Action, Actor, ActorCounts, AreParts, Arg, Call, Completed, FrameFits, FrameView, Goes, Held, MayStand, Notices, Parts, Procedure, Right, RuleOf, Stand, TypedProgram, Value, Went, actor_cmp-IsAntisymmetric, actor_cmp_total, at_next_place, bare_frame, bare_rule, bare_task, context_of, get, gone_behind, gone_on, insert, insert_mapped, mapped, named_values, nat_cmp-IsAntisymmetric, nat_cmp_total, new_rule, number_in_kind, state_of, typed_after, typings_of, with_frame, with_rule}
 use Rattle.tw_rights.specs.Bundled.{bundled}
 use Rattle.tw_code.specs.declared.instr.Instr.TheVariants as instr
 use Rattle.tw_code.specs.machine.Machine.{step}
 use Rattle.tw_rules.specs.Table as table
 use Rattle.tw_parts.proofs.Fitting.{seen, stand_ruled, stand_seated}
+use Rattle.tw_parts.proofs.Goings.{stands_then}
 use Rattle.tw_parts.proofs.Handovers.{args_stand, bare_args, fits_behind, frame_is}
 use Rattle.tw_parts.proofs.Law.{goes_to}
 use Rattle.tw_parts.proofs.Naming.{IsNamed, rules}
-use Rattle.tw_parts.proofs.Seating.{get_other}
+use Rattle.tw_parts.proofs.Seating.{get_other, get_own}
 
 module _ (verified : TypedProgram) (layout : ActorCounts) (old : Parts) (notices : Notices) (h : AreParts verified layout old notices)
     (actor : Actor) (f : FrameView) (p : Procedure) (action : Action) (runs : get old.seats actor ≡ Some f) (here : slice_get verified.program f.procedure ≡ Some p)
     (at : slice_get p.code f.position.place ≡ Some (instr.Rule action)) where
   pub rule_named : IsNamed verified.program p.kind (context_of (state_of old notices) (bare_frame f)) action f.held
   rule_named = rules verified layout old notices h actor f p action runs here at
+
+  rule_steps : step verified.program layout (Call actor) (state_of old notices) ≡ Went (with_frame (with_rule (state_of old notices) (new_rule (number_in_kind actor) rule_named.procedure.params (record { kind = rule_named.procedure.kind; procedure = action.procedure; priority = rule_named.priority; target = action.target; args = rule_named.given.args }))) actor (gone_behind (bare_frame f) rule_named.given.rights))
+  unfolding step
+  rule_steps =
+      let t = seen bare_frame old.seats actor (Some f) runs in
+      let g = rule_named.goes in
+      rw (t, here, at, g) refl
+
+  -- it may stand behind it
+  pub rule_stands : MayStand f.program.program f.procedure (at_next_place f.position)
+  rule_stands = subst (λ (v : TypedProgram). MayStand v.program f.procedure (at_next_place f.position)) (sym (h.stand.frames actor f runs).program)
+      (stands_then verified layout old notices h actor f runs (Call actor) _ rule_steps (gone_behind (bare_frame f) rule_named.given.rights) (get_own (mapped bare_frame old.seats) actor (gone_behind (bare_frame f) rule_named.given.rights)))
 
   module _ (vals : List Value) (are : each Some vals ≡ named_values f.position.values rule_named.procedure.params action.args)
       (args : List Arg) (file : List (Option Held)) (over : bundled f.held rule_named.procedure.params action.args vals ≡ Some (record { args = args; file = file })) where
@@ -27,12 +40,8 @@ module _ (verified : TypedProgram) (layout : ActorCounts) (old : Parts) (notices
         (bare_args verified layout old notices h actor f p action runs rule_named vals are args file over)
 
     goes : step verified.program layout (Call actor) (state_of old notices) ≡ Went (with_frame (with_rule (state_of old notices) (bare_rule rule)) actor (bare_frame (gone_on f file)))
-    unfolding step
-    goes =
-        let t = seen bare_frame old.seats actor (Some f) runs in
-        let g = rule_named.goes in
-        rw (t, here, at, g) (ap (λ k. Went (with_frame (with_rule (state_of old notices) k) actor (gone_behind (bare_frame f) rule_named.given.rights))) (sym bare_is)
-        ∙ ap (λ k. Went (with_frame (with_rule (state_of old notices) (bare_rule rule)) actor k)) (sym (frame_is verified layout old notices h actor f p action runs rule_named vals are args file over)))
+    goes = rule_steps ∙ ap (λ k. Went (with_frame (with_rule (state_of old notices) k) actor (gone_behind (bare_frame f) rule_named.given.rights))) (sym bare_is)
+        ∙ ap (λ k. Went (with_frame (with_rule (state_of old notices) (bare_rule rule)) actor k)) (sym (frame_is verified layout old notices h actor f p action runs rule_named vals are args file over))
 
     fits : FrameFits verified old.store.places actor (gone_on f file)
     fits = fits_behind verified layout old notices h actor f p action runs rule_named vals are args file over

@@ -57,10 +57,10 @@ pub use Rattle.tw_frame.specs.Jobs.{DoneView, DraftView, FrameView, JobView, May
 pub use Rattle.tw_no_trap.proofs.Conditions.{copy_read_asks, copy_write_asks, drop_read_asks, drop_write_asks, get_asks, insert_asks, look_asks, new_asks, size_asks, store_asks, subscript_asks}
 pub use Rattle.tw_no_trap.proofs.Running.{asked_at, stands_there, steps_leave, typed_after, typed_at_start}
 pub use Rattle.tw_no_trap.proofs.Values.{AllYes, passed, yes_behind}
-pub use Rattle.tw_parts.specs.Coming.{Begins, BeginsOrNone, begun, come, gone_on}
+pub use Rattle.tw_parts.specs.Coming.{Begins, BeginsOrNone, begun, come, gone_on, lent_as}
 pub use Rattle.tw_parts.specs.Copies.{named_values}
-pub use Rattle.tw_parts.specs.Data.{HasRoom, IsAnswer, IsDone, IsLive, IsRefused, IsTold, MayDo, sees}
-pub use Rattle.tw_parts.specs.Events.{Goes, IsDrafted, IsOwed, IsSmall, Makes, MakesBehind, StandsAt, Untouched, with_done}
+pub use Rattle.tw_parts.specs.Data.{HasRoom, IsAnswer, IsDone, IsLentAnswer, IsLentBehind, IsLive, IsRefused, IsTold, MayDo, sees}
+pub use Rattle.tw_parts.specs.Events.{Goes, IsLent, IsOwed, IsSmall, Makes, MakesBehind, StandsAt, Untouched, with_done}
 pub use Rattle.tw_parts.specs.Fits.{AreAt, AreParts, ArePlaced, ArgStands, ArgsStand, FrameFits, IsAt, IsPlaced, IsReached, Stand, kinds_in, right_in}
 pub use Rattle.tw_parts.specs.Memory.{AsksOpen, HasThatMany, IsAbsent, IsTextAt, TakesMemory}
 pub use Rattle.tw_parts.specs.Notes.{AreApart, AreQueued, is_among, is_queued, queue_at}

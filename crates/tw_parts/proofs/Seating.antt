@@ -1,6 +1,6 @@
 -- The seats, seen as a finite map by actors.
 use Rattle.std.proofs.Common.{◌≡◌, ◌≢◌, ◌<◌, ◌≤◌, ◌+◌, ◌-◌, ℕ, zero, suc, Bool, true, false, cond, nat_lt, if◌then◌else◌, List, [], ◌∷◌, length, Option, Some, None, is_some, count_by, length-set, refl, sym, ap, subst, ◌∙◌, get_or, set, arith}
-use Rattle.tw_parts.proofs.PartNames.{Actor, AreSeats, Equal-is, FrameView, HasSeat, Seated, actor_cmp, actor_cmp-IsAntisymmetric, actor_cmp_total, actor_of, eq_by_cmp, find, from_entries, get, get-from_entries, get-insert, get-remove, get_or-set_other, get_or-set_same, insert, len, len-empty, len-insert, nat_tests, remove, same_map, seat_of, seated, who_sit}
+use Rattle.tw_parts.proofs.PartNames.{Actor, AreSeats, Equal-is, FinMap, FrameView, HasSeat, Seated, actor_cmp, actor_cmp-IsAntisymmetric, actor_cmp_total, actor_of, eq_by_cmp, find, from_entries, get, get-from_entries, get-insert, get-remove, get_or-set_other, get_or-set_same, insert, len, len-empty, len-insert, nat_tests, remove, same_map, seat_of, seated, who_sit}
 use Rattle.std.proofs.lemmas.List.Sums.{sum_by-cons}
 use Rattle.tw_types.specs.declared.actor.Actor.TheVariants.{Engine, Server, Worker}
 use Rattle.tw_types.proofs.Orders.{other_key, own_key}
@@ -163,7 +163,7 @@ get_other m a f q apart = get-insert actor_cmp_total m a f q ∙ ap (λ t. cond 
 pub get_other_left : (m : Seated) (a q : Actor) → q ≢ a → get (remove m a) q ≡ get m q
 get_other_left m a q apart = get-remove actor_cmp_total m a q ∙ ap (λ t. cond t None (get m q)) (other_key actor_cmp-IsAntisymmetric q a apart)
 
-pub get_own : (m : Seated) (a : Actor) (f : FrameView) → get (insert m a f) a ≡ Some f
+pub get_own : {X : Type 0} (m : FinMap actor_cmp X) (a : Actor) (f : X) → get (insert m a f) a ≡ Some f
 get_own m a f = get-insert actor_cmp_total m a f a ∙ ap (λ t. cond t (Some f) (get m a)) (own_key actor_cmp_total a)
 
 -- who sits there again

@@ -1,12 +1,14 @@
 -- An actor takes a task: on the parts.
 use Rattle.std.proofs.Common.{map as each, ◌≡◌, ◌-◌, ℕ, zero, suc, true, List, [], ◌∷◌, ◌++◌, Option, Some, None, Result, Ok, Err, refl, sym, ap, subst, ◌∙◌, slice_get, option_map, length, replicate, option_to_list}
-use Rattle.tw_parts.proofs.PartNames.{Actor, ActorCounts, AreParts, ArePlaced, Arg, ArgStands, ArgsStand, Begins, BeginsOrNone, Cause, DraftView, FrameFits, FrameView, Goes, MayStand, MayStart, Notices, Param, Parts, Places, Procedure, Read, Right, RightType, Seated, Stand, StartsAsMachine, Take, TaskOf, TasksOf, Trap, TypedProgram, Val, Value, Went, Write, actor_cmp-IsAntisymmetric, actor_cmp_total, bare_arg, bare_file, bare_frame, bare_rule, bare_task, best, entry_by, first_rights, frame_of, get, insert, insert_mapped, is_in, is_write, kinds_in, mapped, nat_cmp-IsAntisymmetric, nat_cmp_total, params_in, remove, remove_mapped, right_of, rights_given, started, state_of, typed_at_start, typings_of, with_frame}
+use Rattle.tw_parts.proofs.PartNames.{Actor, ActorCounts, AreParts, ArePlaced, Arg, ArgStands, ArgsStand, Begins, Cause, FrameFits, FrameView, Goes, JobView, MayStand, MayStart, Notices, Param, Parts, Places, Procedure, Read, Right, RightType, Seated, Stand, StartsAsMachine, Take, TaskOf, TasksOf, Trap, TypedProgram, Val, Value, Went, Write, actor_cmp-IsAntisymmetric, actor_cmp_total, bare_arg, bare_file, bare_frame, bare_rule, bare_task, best, entry_by, first_rights, frame_of, get, insert, insert_mapped, is_in, is_write, kinds_in, mapped, nat_cmp-IsAntisymmetric, nat_cmp_total, params_in, remove, remove_mapped, right_of, rights_given, started, state_of, typed_at_start, typings_of, with_frame}
 use Rattle.tw_types.proofs.Best.{best_waits}
 use Rattle.tw_code.specs.machine.Machine.{step}
 use Rattle.tw_no_trap.proofs.Safe.{safe}
 use Rattle.tw_frame.proofs.Frames.{first_each}
 use Rattle.tw_rights.specs.Filed.{filed, rights_in}
 use Rattle.tw_rights.specs.Kinds.{writes}
+use Rattle.tw_parts.specs.Coming.{IsBegun}
+use Rattle.tw_parts.specs.Events.{IsTaken}
 use Rattle.tw_parts.proofs.Fitting.{seen, stand_seated, stand_without}
 use Rattle.tw_types.proofs.Chosen.{best_mapped}
 use Rattle.tw_parts.proofs.Law.{goes_to, held}
@@ -49,10 +51,13 @@ placed_given places (p ∷ params) (arg ∷ args) n h = by (right_of p) arg h.0 
     by (Some t) (Read right) s rest = (s.1, rest)
     by (Some t) (Write right) s rest = (s.1, rest)
 
--- one that has begun
-pub has_begun : (verified : TypedProgram) (actor : Actor) (old : Seated) (waiting : TasksOf Arg) (new : Seated) (left : TasksOf Arg) (o : Option DraftView) (draft : DraftView)
-    → o ≡ Some draft → BeginsOrNone verified actor old waiting new left o → Begins verified actor old waiting new left draft
-has_begun verified actor old waiting new left o draft some begun = subst (λ (x : Option DraftView). BeginsOrNone verified actor old waiting new left x) some begun
+-- what is answered, where one has begun or none has
+pub taken : {E : Type 0} (verified : TypedProgram) (actor : Actor) (event_no : ℕ) (old : Seated) (waiting : TasksOf Arg) (new : Seated) (left : TasksOf Arg) (Made : ℕ × TaskOf Arg → JobView → Type 0) (Same : Type 0)
+    (r : Result (Option JobView) E) → IsBegun verified actor event_no old waiting new left r → ((job : JobView) (b : Begins verified actor event_no old waiting new left job) → Made b.e job) → (new ≡ old → left ≡ waiting → Same)
+    → IsTaken (best actor waiting) Made Same r
+taken verified actor event_no old waiting new left Made Same (Ok None) b made same = (b.0, same b.1 b.2)
+taken verified actor event_no old waiting new left Made Same (Ok (Some job)) b made same = (b.e, b.due, made job b)
+taken verified actor event_no old waiting new left Made Same (Err e) b made same = (b.0, same b.1 b.2)
 
 -- ---- the task that is taken
 

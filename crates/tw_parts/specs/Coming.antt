@@ -12,44 +12,49 @@ use Rattle.tw_code.specs.declared.procedure.Procedure.{Procedure}
 use Rattle.tw_code.specs.machine.Position.{at_next_place}
 use Rattle.tw_verify.specs.Typed.{TypedProgram}
 use Rattle.tw_frame.specs.Drafts.{StartsAsMachine, started}
-use Rattle.tw_frame.specs.Jobs.{DoneView, DraftView, FrameView, MayStand, bare_frame, draft_of}
+use Rattle.tw_frame.specs.Jobs.{DoneView, FrameView, JobView, MayStand, bare_frame, job_of}
 use Rattle.tw_parts.specs.Seats.{Seated}
 
 -- ---- it begins
 
--- with these values
-abbrev pub begun : TypedProgram → Actor → ℕ × TaskOf Arg → List Value → FrameView
-begun verified actor e values = record {
+-- with these values, lent under this number
+abbrev pub begun : TypedProgram → Actor → ℕ → ℕ × TaskOf Arg → List Value → FrameView
+begun verified actor event_no e values = record {
   program = verified;
   task = e.0;
   procedure = e.1.procedure;
   actor = actor;
-  event_no = 0;
+  event_no = event_no;
   position = record { place = 0; values = values; loops = [] };
   held = filed (rights_in e.1.args);
   spent = 0;
 }
 
--- the actor's best task begins as the machine's, with the values with which it starts, which the draft has
-pub record Begins (verified : TypedProgram) (actor : Actor) (old : Seated) (waiting : TasksOf Arg) (new : Seated) (left : TasksOf Arg) (draft : DraftView) : Type 0 where
+-- the actor's best task may stand where it begins
+abbrev pub MayBegin : TypedProgram → Actor → TasksOf Arg → Type 0
+MayBegin verified actor waiting = (e : ℕ × TaskOf Arg) (values : List Value) → best actor waiting ≡ Some e → ((p : Procedure) → slice_get verified.program e.1.procedure ≡ Some p → started e.1.args p.registers ≡ Ok values)
+    → StartsAsMachine verified.program e.0 e.1.procedure e.1.args values (bare_frame (begun verified actor 0 e values)) → MayStand verified.program e.1.procedure (begun verified actor 0 e values).position
+
+-- it begins as the machine's, with the values with which it starts, and is lent under this number
+pub record Begins (verified : TypedProgram) (actor : Actor) (event_no : ℕ) (old : Seated) (waiting : TasksOf Arg) (new : Seated) (left : TasksOf Arg) (job : JobView) : Type 0 where
   pub e : ℕ × TaskOf Arg
   pub due : best actor waiting ≡ Some e
   pub values : List Value
   pub starts : (p : Procedure) → slice_get verified.program e.1.procedure ≡ Some p → started e.1.args p.registers ≡ Ok values
-  pub machine : StartsAsMachine verified.program e.0 e.1.procedure e.1.args values (bare_frame (begun verified actor e values))
-  pub sits : new ≡ insert old actor (begun verified actor e values)
+  pub machine : StartsAsMachine verified.program e.0 e.1.procedure e.1.args values (bare_frame (begun verified actor event_no e values))
+  pub sits : new ≡ insert old actor (begun verified actor event_no e values)
   pub rest : left ≡ remove waiting e.0
-  pub drafted : draft ≡ draft_of (begun verified actor e values)
+  pub lent : job ≡ job_of (begun verified actor event_no e values)
 
 -- where none waits for the actor nothing changes
-abbrev pub BeginsOrNone : TypedProgram → Actor → Seated → TasksOf Arg → Seated → TasksOf Arg → Option DraftView → Type 0
-BeginsOrNone verified actor old waiting new left None = (best actor waiting ≡ None) × (new ≡ old) × (left ≡ waiting)
-BeginsOrNone verified actor old waiting new left (Some draft) = Begins verified actor old waiting new left draft
+abbrev pub BeginsOrNone : TypedProgram → Actor → ℕ → Seated → TasksOf Arg → Seated → TasksOf Arg → Option JobView → Type 0
+BeginsOrNone verified actor event_no old waiting new left None = (best actor waiting ≡ None) × (new ≡ old) × (left ≡ waiting)
+BeginsOrNone verified actor event_no old waiting new left (Some job) = Begins verified actor event_no old waiting new left job
 
 -- nor where memory is refused
-abbrev pub IsBegun : {E : Type 0} → TypedProgram → Actor → Seated → TasksOf Arg → Seated → TasksOf Arg → Result (Option DraftView) E → Type 0
-IsBegun verified actor old waiting new left (Ok o) = BeginsOrNone verified actor old waiting new left o
-IsBegun verified actor old waiting new left (Err e) = IsSome (best actor waiting) × (new ≡ old) × (left ≡ waiting)
+abbrev pub IsBegun : {E : Type 0} → TypedProgram → Actor → ℕ → Seated → TasksOf Arg → Seated → TasksOf Arg → Result (Option JobView) E → Type 0
+IsBegun verified actor event_no old waiting new left (Ok o) = BeginsOrNone verified actor event_no old waiting new left o
+IsBegun verified actor event_no old waiting new left (Err e) = IsSome (best actor waiting) × (new ≡ old) × (left ≡ waiting)
 
 -- ---- it goes on
 
@@ -61,9 +66,6 @@ come f done = record f { position = done.after; spent = f.spent + done.steps }
 abbrev pub gone_on : FrameView → List (Option Held) → FrameView
 gone_on f file = record f { held = file; position = at_next_place f.position; spent = f.spent + 1 }
 
--- it may be lent with the values of the draft, which are its own
-pub record MayLend (f : FrameView) (draft : DraftView) : Type 0 where
-  pub program : draft.program ≡ f.program
-  pub procedure : draft.procedure ≡ f.procedure
-  pub values : draft.values ≡ f.position.values
-  pub stands : MayStand f.program.program f.procedure f.position
+-- it is lent under this number
+abbrev pub lent_as : ℕ → FrameView → FrameView
+lent_as event_no f = record f { event_no = event_no }

@@ -23,8 +23,8 @@ use Rattle.tw_code.specs.format.Program.{IsDataInstr}
 use Rattle.tw_code.specs.machine.Data.{Context, data_instr}
 use Rattle.tw_code.specs.machine.Rights.{Typing}
 use Rattle.tw_no_trap.proofs.Values.{AllYes}
-use Rattle.tw_frame.specs.Jobs.{DoneView, DraftView, FrameView, draft_of}
-use Rattle.tw_parts.specs.Coming.{come}
+use Rattle.tw_frame.specs.Jobs.{DoneView, DraftView, FrameView, JobView, MayStand, draft_of, job_of}
+use Rattle.tw_parts.specs.Coming.{come, lent_as}
 use Rattle.tw_parts.specs.Fits.{ArePlaced, IsAt, kinds_in, right_in}
 use Rattle.tw_parts.specs.Memory.{TakesMemory}
 
@@ -53,17 +53,6 @@ pub record IsTypedFor (d : DataInstr) (f : FrameView) : Type 0 where
   pub kinds : kinds_of f.held ≡ kinds_in typing
   pub asked : AllYes (asks_data registers d typing)
 
--- the task may do it: by the definition it goes, where some notices wait
-pub record MayDo (d : DataInstr) (s : Served) (f : FrameView) : Type 0 where
-  pub ns : Notices
-  pub left : Context
-  pub goes : data_instr d (sees s ns f) ≡ Ok left
-  pub instr : IsDataInstr d
-  pub placed : ArePlaced s.places f.held
-  pub typed : IsTypedFor d f
-  pub store : IsTypedStore s.store
-  pub room : HasRoom s f
-
 -- ---- after it
 
 -- nothing is told; or all that wait for one live datum are, by its server
@@ -86,6 +75,20 @@ pub record IsDone (d : DataInstr) (old new : Served) (f g : FrameView) : Type 0 
   pub kinds : (registers : List Scalar) (typing : Typing) → kinds_of f.held ≡ kinds_in typing → AllYes (asks_data registers d typing) → kinds_of g.held ≡ kinds_in (after_data way d typing)
   -- and one instruction more is spent
   pub rest : g ≡ record f { position = g.position; held = g.held; spent = f.spent + 1 }
+
+-- ---- before and after it
+
+-- the task may do it: by the definition it goes, where some notices wait, and the task may stand wherever that leads it
+pub record MayDo (d : DataInstr) (s : Served) (f : FrameView) : Type 0 where
+  pub ns : Notices
+  pub left : Context
+  pub goes : data_instr d (sees s ns f) ≡ Ok left
+  pub instr : IsDataInstr d
+  pub placed : ArePlaced s.places f.held
+  pub typed : IsTypedFor d f
+  pub store : IsTypedStore s.store
+  pub room : HasRoom s f
+  pub stands : (new : Served) (g : FrameView) → IsDone d s new f g → MayStand g.program.program g.procedure g.position
 
 -- ---- without memory
 
@@ -120,3 +123,16 @@ pub record IsRefused (d : DataInstr) (old new : Served) (f g : FrameView) (done 
 abbrev pub IsAnswer : DataInstr → Served → Served → FrameView → FrameView → DoneView → Result DraftView DoneView → Type 0
 IsAnswer d old new f g done (Ok draft) = IsDoneBehind d old new f g done draft
 IsAnswer d old new f g done (Err back) = IsRefused d old new f g done back
+
+-- ---- and lent then
+
+-- it was done behind the Done, and the job is the task, which is lent under this number
+pub record IsLentBehind (d : DataInstr) (old new : Served) (f g : FrameView) (event_no : ℕ) (done : DoneView) (job : JobView) : Type 0 where
+  pub at : FrameView
+  pub is_done : IsDone d old new (come f done) at
+  pub is_lent : g ≡ lent_as event_no at
+  pub is_job : job ≡ job_of g
+
+abbrev pub IsLentAnswer : DataInstr → Served → Served → FrameView → FrameView → ℕ → DoneView → Result JobView DoneView → Type 0
+IsLentAnswer d old new f g event_no done (Ok job) = IsLentBehind d old new f g event_no done job
+IsLentAnswer d old new f g event_no done (Err back) = IsRefused d old new f g done back

@@ -16,7 +16,7 @@ use Rattle.tw_code.specs.machine.History.{actor_of}
 use Rattle.tw_code.specs.machine.Machine.{step}
 use Rattle.tw_code.specs.machine.State.{State}
 use Rattle.tw_verify.specs.Typed.{TypedProgram}
-use Rattle.tw_frame.specs.Jobs.{DoneView, DraftView, FrameView, JobView, draft_of, job_of}
+use Rattle.tw_frame.specs.Jobs.{DoneView, FrameView, JobView, job_of}
 use Rattle.tw_parts.specs.Coming.{come}
 use Rattle.tw_parts.specs.Fits.{AreParts}
 use Rattle.tw_parts.specs.Parts.{state_of}
@@ -82,20 +82,14 @@ pub record StandsAt (p : Parts) (actor : Actor) (done : DoneView) (instr : Instr
 abbrev pub MakesBehind : Event → Parts → Actor → DoneView → Parts → Type 0
 MakesBehind event old actor done new = (layout : ActorCounts) (f : FrameView) → IsOwed old actor f done → Makes done.before.program layout event (with_done old actor f done) new
 
--- the draft has the values with which the actor's task runs
-pub record IsDrafted (p : Parts) (actor : Actor) (draft : DraftView) : Type 0 where
-  pub f : FrameView
-  pub sits : get p.seats actor ≡ Some f
-  pub is : draft ≡ draft_of f
-
 -- ---- jobs
 
--- the actor's task is lent under this number, and nothing else has changed
-pub record IsLent (old : Parts) (actor : Actor) (event_no : ℕ) (job : JobView) (new : Parts) : Type 0 where
+-- the job is the actor's task, which is lent under this number
+pub record IsLent (p : Parts) (actor : Actor) (event_no : ℕ) (job : JobView) : Type 0 where
   pub f : FrameView
-  pub sits : get old.seats actor ≡ Some f
-  pub job_is : job ≡ job_of (record f { event_no = event_no })
-  pub new_is : new ≡ record old { seats = insert old.seats actor (record f { event_no = event_no }) }
+  pub sits : get p.seats actor ≡ Some f
+  pub number : f.event_no ≡ event_no
+  pub job_is : job ≡ job_of f
 
 -- what a Take answers: where a task waits for the actor, the best one starts, and is lent
 abbrev pub IsTaken : {A E : Type 0} → Option A → (A → JobView → Type 0) → Type 0 → Result (Option JobView) E → Type 0

@@ -5,12 +5,13 @@ ghost use Rattle.tw_types.specs.declared.event.Event.TheVariants as event;
 ghost use Rattle.tw_types.specs.Layout.{ActorCounts};
 ghost use Rattle.tw_types.specs.Notices.{Notices};
 ghost use Rattle.tw_frame.specs.Jobs.{FrameView};
-ghost use Rattle.tw_parts.specs.Events.{IsDrafted, IsOwed, IsSmall, Makes, with_done};
+ghost use Rattle.tw_parts.specs.Coming.{lent_as};
+ghost use Rattle.tw_parts.specs.Events.{IsLent, IsOwed, IsSmall, Makes, with_done};
 ghost use Rattle.tw_parts.specs.Fits.{AreParts};
 ghost use Rattle.tw_parts.specs.Parts.{state_of};
 
 use crate::parts::Parts;
-use tw_frame::{Done, Draft};
+use tw_frame::{Done, Job};
 use tw_types::{Actor, Event};
 
 impl<'a> Parts<'a> {
@@ -30,13 +31,13 @@ impl<'a> Parts<'a> {
         }
     }
 
-    /// The actor's task comes as far as the Done says; a draft of its values.
-    pub fn advance(&mut self, actor: Actor, done: Done<'a>) -> Draft<'a>
+    /// The actor's task comes as far as the Done says, and is lent again, by the number of its actor's events.
+    pub fn advance(&mut self, actor: Actor, event_no: u64, done: Done<'a>) -> Job<'a>
         requires stands { (layout : ActorCounts) × (notices : Notices) × (f : FrameView) × AreParts done.before.program layout self.old notices
             × IsSmall (state_of self.old notices) × IsOwed self.old actor f done }
-        ensures came { (f : FrameView) → IsOwed self.old actor f done.entry → self.new ≡ with_done self.old actor f done.entry }
-        ensures drafted { IsDrafted self.new actor result }
+        ensures came { (f : FrameView) → IsOwed self.old actor f done.entry → self.new ≡ with_done self.old actor (lent_as event_no f) done.entry }
+        ensures lent { IsLent self.new actor event_no result }
     {
-        self.seats.advance(actor, done)
+        self.seats.advance(actor, event_no, done)
     }
 }

@@ -5,9 +5,9 @@ ghost use Rattle.tw_types.specs.declared.event.Event.TheVariants as event;
 ghost use Rattle.tw_code.specs.declared.instr.Instr.TheVariants as instr_is;
 ghost use Rattle.tw_frame.specs.Jobs.{FrameView, draft_of, job_of};
 ghost use Rattle.tw_parts.specs.Coming.{come};
-ghost use Rattle.tw_parts.specs.Data.{IsAnswer, IsDone, MayDo, TakesNone};
+ghost use Rattle.tw_parts.specs.Data.{IsAnswer, IsDone, IsLentAnswer, MayDo, TakesNone};
 ghost use Rattle.tw_parts.specs.Memory.{TakesMemory};
-ghost use Rattle.tw_parts.specs.Events.{IsDrafted, IsOwed, MakesBehind, StandsAt, Untouched};
+ghost use Rattle.tw_parts.specs.Events.{IsLent, IsOwed, MakesBehind, StandsAt, Untouched};
 
 mod containers;
 pub(crate) mod give;
@@ -20,7 +20,7 @@ use crate::data::scalars::{get_value, store_value};
 use crate::parts::Parts;
 use std::alloc::Global;
 use tw_code::DataInstr;
-use tw_frame::{Done, Draft, Frame};
+use tw_frame::{Done, Draft, Frame, Job};
 use tw_store::Store;
 use tw_types::Actor;
 
@@ -57,7 +57,7 @@ fn run_at_once<'a>(
 
 /// A task does an instruction behind the Done of its job, and the draft is of its values then; or the Done comes back, where
 /// memory is refused.
-pub(crate) fn run_data<'a>(
+fn run_data<'a>(
     store: &mut Store,
     frame: &mut Frame<'a>,
     alloc: Global,
@@ -101,23 +101,44 @@ pub(crate) fn run_data<'a>(
     }
 }
 
+/// Then its job is lent again.
+pub(crate) fn run_and_lend<'a>(
+    store: &mut Store,
+    frame: &mut Frame<'a>,
+    alloc: Global,
+    event_no: u64,
+    done: Done<'a>,
+    instr: &DataInstr,
+) -> Result<Job<'a>, Done<'a>>
+    requires own { done.before ≡ job_of frame.old }
+    requires may { MayDo instr.now store.old (come frame.old done) }
+    ensures { IsLentAnswer instr.now store.old store.new frame.old frame.new event_no done.entry result }
+{
+    match run_data(store, frame, alloc, done, instr) {
+        Ok(draft) => Ok(frame.lend(event_no, draft)),
+        Err(done) => Err(done),
+    }
+}
+
 impl<'a> Parts<'a> {
-    /// The actor's task, which stands at this instruction on data behind the Done, comes there and does it; a draft of its
-    /// values. Where memory is refused the Done comes back.
+    /// The actor's task, which stands at this instruction on data behind the Done, comes there, does it, and is lent
+    /// again, by the number of its actor's events. Where memory is refused the Done comes back.
     pub fn call_data(
         &mut self,
         alloc: Global,
         actor: Actor,
+        event_no: u64,
         instr: &DataInstr,
         done: Done<'a>,
-    ) -> Result<Draft<'a>, Done<'a>>
+    ) -> Result<Job<'a>, Done<'a>>
         requires stands { StandsAt self.old actor done (instr_is.Data instr.now) }
         ensures called { OnOk result (MakesBehind (event.Call actor) self.old actor done.entry self.new) }
-        ensures drafted { IfOk result (λ draft. IsDrafted self.new actor draft) }
+        ensures lent { IfOk result (λ job. IsLent self.new actor event_no job) }
         ensures refused { OnErr result (Untouched self.old self.new) }
         ensures back { IfErr result (λ back. back ≡ done.entry) }
         ensures memory { OnErr result ((f : FrameView) → IsOwed self.old actor f done.entry → TakesMemory instr.now self.old.store (come f done.entry)) }
     {
-        self.seats.data(actor, &mut self.store, alloc, done, instr)
+        self.seats
+            .data(actor, &mut self.store, alloc, event_no, done, instr)
     }
 }

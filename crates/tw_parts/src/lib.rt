@@ -9,7 +9,6 @@ mod data;
 mod deliver;
 mod end;
 mod givens;
-mod lend;
 mod open;
 mod outputs;
 mod parts;

@@ -3,29 +3,30 @@
 ghost use Rattle.std.specs.Prelude.{◌≡◌, IfErr, IfOk, OnOk, OnErr};
 ghost use Rattle.tw_types.specs.declared.event.Event.TheVariants as event;
 ghost use Rattle.tw_code.specs.declared.instr.Instr.TheVariants as instr;
-ghost use Rattle.tw_parts.specs.Events.{IsDrafted, MakesBehind, StandsAt, Untouched};
+ghost use Rattle.tw_parts.specs.Events.{IsLent, MakesBehind, StandsAt, Untouched};
 
 use crate::copying::asked_by;
 use crate::parts::Parts;
 use std::alloc::Global;
 use tw_code::Action;
-use tw_frame::{Done, Draft};
+use tw_frame::{Done, Job};
 use tw_queue::Task;
 use tw_types::{Actor, TaskNo};
 
 impl<'a> Parts<'a> {
-    /// The actor's task, which stands at this PUT behind the Done, comes there and puts the task; a draft of its values.
-    /// Where memory is refused the Done comes back.
+    /// The actor's task, which stands at this PUT behind the Done, comes there, puts the task, and is lent again, by the
+    /// number of its actor's events. Where memory is refused the Done comes back.
     pub fn put(
         &mut self,
         alloc: Global,
         actor: Actor,
+        event_no: u64,
         action: &Action,
         done: Done<'a>,
-    ) -> Result<Draft<'a>, Done<'a>>
+    ) -> Result<Job<'a>, Done<'a>>
         requires stands { StandsAt self.old actor done (instr.Put action.now) }
         ensures put { OnOk result (MakesBehind (event.Call actor) self.old actor done.entry self.new) }
-        ensures drafted { IfOk result (λ draft. IsDrafted self.new actor draft) }
+        ensures lent { IfOk result (λ job. IsLent self.new actor event_no job) }
         ensures refused { OnErr result (Untouched self.old self.new) }
         ensures back { IfErr result (λ back. back ≡ done.entry) }
     {
@@ -40,10 +41,11 @@ impl<'a> Parts<'a> {
         let Ok(room) = Vec::with_capacity(alloc, params.len()) else {
             return Err(done);
         };
-        let (args, draft) = self.seats.hand_over(actor, done, registers, asked, room);
-        let number = self.next_task;
+        let (args, job) = self
+            .seats
+            .hand_over(actor, event_no, done, registers, asked, room);
         let task = Task {
-            no: TaskNo::new(number),
+            no: TaskNo::new(self.next_task),
             procedure: action.procedure,
             args,
         };
@@ -51,7 +53,7 @@ impl<'a> Parts<'a> {
             Ok(()) => {}
             Err(_task) => unreachable!(),
         }
-        self.next_task = number + 1;
-        Ok(draft)
+        self.next_task += 1;
+        Ok(job)
     }
 }

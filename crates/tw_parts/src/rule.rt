@@ -3,29 +3,30 @@
 ghost use Rattle.std.specs.Prelude.{◌≡◌, IfErr, IfOk, OnOk, OnErr};
 ghost use Rattle.tw_types.specs.declared.event.Event.TheVariants as event;
 ghost use Rattle.tw_code.specs.declared.instr.Instr.TheVariants as instr;
-ghost use Rattle.tw_parts.specs.Events.{IsDrafted, MakesBehind, StandsAt, Untouched};
+ghost use Rattle.tw_parts.specs.Events.{IsLent, MakesBehind, StandsAt, Untouched};
 
 use crate::copying::asked_by;
 use crate::parts::Parts;
 use std::alloc::Global;
 use tw_code::Action;
-use tw_frame::{Done, Draft};
+use tw_frame::{Done, Job};
 use tw_rules::PlannedTask;
 use tw_types::Actor;
 
 impl<'a> Parts<'a> {
-    /// The actor's task, which stands at this RULE behind the Done, comes there and makes the rule; a draft of its
-    /// values. Where memory is refused the Done comes back.
+    /// The actor's task, which stands at this RULE behind the Done, comes there, makes the rule, and is lent again, by
+    /// the number of its actor's events. Where memory is refused the Done comes back.
     pub fn rule(
         &mut self,
         alloc: Global,
         actor: Actor,
+        event_no: u64,
         action: &Action,
         done: Done<'a>,
-    ) -> Result<Draft<'a>, Done<'a>>
+    ) -> Result<Job<'a>, Done<'a>>
         requires stands { StandsAt self.old actor done (instr.Rule action.now) }
         ensures rule { OnOk result (MakesBehind (event.Call actor) self.old actor done.entry self.new) }
-        ensures drafted { IfOk result (λ draft. IsDrafted self.new actor draft) }
+        ensures lent { IfOk result (λ job. IsLent self.new actor event_no job) }
         ensures refused { OnErr result (Untouched self.old self.new) }
         ensures back { IfErr result (λ back. back ≡ done.entry) }
     {
@@ -41,14 +42,16 @@ impl<'a> Parts<'a> {
         let Ok(room) = Vec::with_capacity(alloc, params.len()) else {
             return Err(done);
         };
-        let (args, draft) = self.seats.hand_over(actor, done, registers, asked, room);
+        let (args, job) = self
+            .seats
+            .hand_over(actor, event_no, done, registers, asked, room);
         let planned = PlannedTask {
             procedure: action.procedure,
             priority,
             target: action.target,
         };
         match self.rules.add(engine, params, planned, args) {
-            Ok(_number) => Ok(draft),
+            Ok(_number) => Ok(job),
             Err(_args) => unreachable!(),
         }
     }

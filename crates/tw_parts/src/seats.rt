@@ -10,10 +10,11 @@ ghost use Rattle.tw_rights.specs.Roomy.{IsRoom};
 ghost use Rattle.tw_types.specs.Task.{TaskOf, best};
 ghost use Rattle.tw_rights.specs.declared.arg.Arg.{Arg};
 ghost use Rattle.tw_frame.specs.Drafts.{MayStart};
-ghost use Rattle.tw_frame.specs.Jobs.{FrameView, draft_of, job_of};
+ghost use Rattle.tw_code.specs.machine.Position.{at_next_place};
+ghost use Rattle.tw_frame.specs.Jobs.{FrameView, MayStand, job_of};
 ghost use Rattle.tw_parts.specs.Seats.{HasSeat};
-ghost use Rattle.tw_parts.specs.Coming.{IsBegun, MayLend, come, gone_on};
-ghost use Rattle.tw_parts.specs.Data.{IsAnswer, MayDo};
+ghost use Rattle.tw_parts.specs.Coming.{IsBegun, MayBegin, come, gone_on, lent_as};
+ghost use Rattle.tw_parts.specs.Data.{IsLentAnswer, MayDo};
 ghost use Rattle.tw_parts.specs.Memory.{TakesTexts};
 
 use crate::copying::Asked;
@@ -21,7 +22,7 @@ use crate::sitters::Sitters;
 use std::alloc::{AllocError, Global};
 use std::marker::Model;
 use tw_code::DataInstr;
-use tw_frame::{Done, Draft, Frame, Job, Rooms};
+use tw_frame::{Done, Frame, Job, Rooms};
 use tw_queue::TaskQueues;
 use tw_rights::{Arg, Bundle};
 use tw_store::Store;
@@ -147,18 +148,20 @@ impl<'a> Seats<'a> {
         self.sitters.sitting(actor.place())
     }
 
-    /// The best task of an actor without one begins, if there is one; a draft for its first job.
+    /// The best task of an actor without one begins, if there is one, and is lent.
     pub(crate) fn start(
         &mut self,
         alloc: Global,
         actor: Actor,
         verified: &'a Verified,
+        event_no: u64,
         tasks: &mut TaskQueues,
-    ) -> Result<Option<Draft<'a>>, AllocError>
+    ) -> Result<Option<Job<'a>>, AllocError>
         requires seat { HasSeat actor }
         requires empty { get self.old actor ≡ None }
         requires may { (e : ℕ × TaskOf Arg) → best actor tasks.old.tasks ≡ Some e → MayStart verified.now.program e.1.procedure e.1.args }
-        ensures begun { IsBegun verified.now actor self.old tasks.old.tasks self.new tasks.new.tasks result }
+        requires stands { MayBegin verified.now actor tasks.old.tasks }
+        ensures begun { IsBegun verified.now actor event_no self.old tasks.old.tasks self.new tasks.new.tasks result }
         ensures memory { OnErr result (TakesTexts verified.now.program (best actor tasks.old.tasks)) }
     {
         let Some(best) = tasks.best(actor) else {
@@ -175,10 +178,11 @@ impl<'a> Seats<'a> {
         let Some(task) = tasks.take(actor) else {
             unreachable!();
         };
-        let (frame, draft) = Frame::start(task, actor, verified, start);
+        let (mut frame, draft) = Frame::start(task, actor, verified, start);
+        let job = frame.lend(event_no, draft);
         self.sitters.seat(number, frame);
         self.taken += 1;
-        Ok(Some(draft))
+        Ok(Some(job))
     }
 
     /// The actor's task ends, and its memory and that of its last Done is for the next one.
@@ -195,33 +199,36 @@ impl<'a> Seats<'a> {
         lay(&mut self.rooms, number, frame.end(alloc, done));
     }
 
-    /// The actor's task comes as far as the Done says, which is of the job that was lent last; a draft of its values.
-    pub(crate) fn advance(&mut self, actor: Actor, done: Done<'a>) -> Draft<'a>
+    /// The actor's task comes as far as the Done says, which is of the job that was lent last, and is lent again.
+    pub(crate) fn advance(&mut self, actor: Actor, event_no: u64, done: Done<'a>) -> Job<'a>
         requires seat { HasSeat actor }
         requires sits { (f : FrameView) × (get self.old actor ≡ Some f) × (done.before ≡ job_of f) × (f.spent < 2 ^ 63) }
-        ensures { (f : FrameView) → get self.old actor ≡ Some f → (self.new ≡ insert self.old actor (come f done.entry)) × (result ≡ draft_of (come f done.entry)) }
+        ensures { (f : FrameView) → get self.old actor ≡ Some f
+            → (self.new ≡ insert self.old actor (lent_as event_no (come f done.entry))) × (result ≡ job_of (lent_as event_no (come f done.entry))) }
     {
-        self.sitters.advance(actor.place(), done)
+        self.sitters.advance(actor.place(), event_no, done)
     }
 
-    /// Then hands over arguments, and goes on to the next place.
+    /// Then hands over arguments, goes on to the next place, and is lent there.
     #[inline(always)]
     pub(crate) fn hand_over(
         &mut self,
         actor: Actor,
+        event_no: u64,
         done: Done<'a>,
         args: &[u8],
         asked: Asked<'_>,
         room: Vec<Arg>,
-    ) -> (Bundle, Draft<'a>)
+    ) -> (Bundle, Job<'a>)
         requires seat { HasSeat actor }
         requires few { length asked.callee.now.params ≤ 8 }
         requires room { IsRoom (length asked.callee.now.params) room }
         requires sits { (f : FrameView) × (get self.old actor ≡ Some f) × (done.before ≡ job_of f) × (f.spent + done.steps < 2 ^ 63)
-            × (done.after.place < 2 ^ 63) × IsSome (bundled f.held asked.callee.now.params args.now asked.vals.items) }
+            × (done.after.place < 2 ^ 63) × IsSome (bundled f.held asked.callee.now.params args.now asked.vals.items)
+            × MayStand f.program.program f.procedure (at_next_place done.after) }
         ensures { (f : FrameView) → get self.old actor ≡ Some f → (file : List (Option Held))
             × (bundled f.held asked.entry.callee.now.params args.now asked.entry.vals.items ≡ Some (record { args = result.0; file = file }))
-            × (self.new ≡ insert self.old actor (gone_on (come f done.entry) file)) × (result.1 ≡ draft_of (come f done.entry)) }
+            × (self.new ≡ insert self.old actor (lent_as event_no (gone_on (come f done.entry) file))) × (result.1 ≡ job_of (lent_as event_no (gone_on (come f done.entry) file))) }
     {
         let Asked {
             callee,
@@ -230,33 +237,25 @@ impl<'a> Seats<'a> {
         } = asked;
         let params = callee.params.as_slice();
         self.sitters
-            .hand_over(actor.place(), done, params, args, vals, room)
+            .hand_over(actor.place(), event_no, done, params, args, vals, room)
     }
 
-    /// Lends the actor's task by the number of its events. The draft has the task's values.
-    pub(crate) fn lend(&mut self, actor: Actor, event_no: u64, draft: Draft<'a>) -> Job<'a>
-        requires seat { HasSeat actor }
-        requires sits { (f : FrameView) × (get self.old actor ≡ Some f) × MayLend f draft }
-        ensures { (f : FrameView) → get self.old actor ≡ Some f
-            → (result ≡ job_of (record f { event_no = event_no })) × (self.new ≡ insert self.old actor (record f { event_no = event_no })) }
-    {
-        self.sitters.lend(actor.place(), event_no, draft)
-    }
-
-    /// The actor's task does an instruction on data behind the Done; a draft of its values, or the Done again.
+    /// The actor's task does an instruction on data behind the Done, and is lent again; or the Done comes back.
     pub(crate) fn data(
         &mut self,
         actor: Actor,
         store: &mut Store,
         alloc: Global,
+        event_no: u64,
         done: Done<'a>,
         instr: &DataInstr,
-    ) -> Result<Draft<'a>, Done<'a>>
+    ) -> Result<Job<'a>, Done<'a>>
         requires seat { HasSeat actor }
         requires sits { (f : FrameView) × (get self.old actor ≡ Some f) × (done.before ≡ job_of f) × MayDo instr.now store.old (come f done) }
         ensures { (f : FrameView) → get self.old actor ≡ Some f → (g : FrameView) × (self.new ≡ insert self.old actor g)
-            × IsAnswer instr.now store.old store.new f g done.entry result }
+            × IsLentAnswer instr.now store.old store.new f g event_no done.entry result }
     {
-        self.sitters.data(actor.place(), store, alloc, done, instr)
+        self.sitters
+            .data(actor.place(), store, alloc, event_no, done, instr)
     }
 }

@@ -2,17 +2,18 @@
 
 ghost use Rattle.std.specs.Prelude.{◌≡◌, ◌<◌, ◌≤◌, ◌+◌, ◌^◌, IfOk, List, Option, IsSome, None, Some, length, replicate, slice_index_or, slice_set};
 ghost use Rattle.std.specs.Option.{option_copied};
+ghost use Rattle.tw_code.specs.machine.Position.{at_next_place};
 ghost use Rattle.tw_rights.specs.declared.held.Held.{Held};
 ghost use Rattle.tw_rights.specs.Bundled.{bundled};
 ghost use Rattle.tw_rights.specs.Roomy.{IsRoom};
-ghost use Rattle.tw_frame.specs.Jobs.{FrameView, draft_of, job_of};
-ghost use Rattle.tw_parts.specs.Coming.{MayLend, come, gone_on};
-ghost use Rattle.tw_parts.specs.Data.{IsAnswer, MayDo};
+ghost use Rattle.tw_frame.specs.Jobs.{FrameView, MayStand, job_of};
+ghost use Rattle.tw_parts.specs.Coming.{come, gone_on, lent_as};
+ghost use Rattle.tw_parts.specs.Data.{IsLentAnswer, MayDo};
 
-use crate::data::run_data;
+use crate::data::run_and_lend;
 use std::alloc::{AllocError, Global};
 use tw_code::DataInstr;
-use tw_frame::{Done, Draft, Frame, Job};
+use tw_frame::{Done, Frame, Job};
 use tw_rights::{Arg, Bundle};
 use tw_store::Store;
 use tw_types::{Param, Value};
@@ -68,81 +69,75 @@ impl<'a> Sitters<'a> {
         }
     }
 
-    /// The task there comes as far as the Done says, which is of the job that was lent last; a draft of its values.
-    pub(crate) fn advance(&mut self, seat: usize, done: Done<'a>) -> Draft<'a>
+    /// The task there comes as far as the Done says, which is of the job that was lent last, and is lent again.
+    pub(crate) fn advance(&mut self, seat: usize, event_no: u64, done: Done<'a>) -> Job<'a>
         requires inside { seat < length self.old.frames.items }
         requires sits { (f : FrameView) × (slice_index_or self.old.frames.items seat None ≡ Some f) × (done.before ≡ job_of f) × (f.spent < 2 ^ 63) }
         ensures { (f : FrameView) → slice_index_or self.old.frames.items seat None ≡ Some f
-            → (self.new.frames.items ≡ slice_set self.old.frames.items seat (Some (come f done.entry))) × (result ≡ draft_of (come f done.entry)) }
+            → (self.new.frames.items ≡ slice_set self.old.frames.items seat (Some (lent_as event_no (come f done.entry)))) × (result ≡ job_of (lent_as event_no (come f done.entry))) }
     {
-        let place = &mut self.frames[seat];
-        match place {
-            Some(frame) => frame.take_back(done),
-            None => unreachable!(),
-        }
-    }
-
-    /// Then it hands over arguments, and goes on to the next place.
-    #[inline(always)]
-    pub(crate) fn hand_over(
-        &mut self,
-        seat: usize,
-        done: Done<'a>,
-        params: &[Param],
-        args: &[u8],
-        vals: Vec<Value>,
-        room: Vec<Arg>,
-    ) -> (Bundle, Draft<'a>)
-        requires inside { seat < length self.old.frames.items }
-        requires few { length params.now ≤ 8 }
-        requires room { IsRoom (length params.now) room }
-        requires sits { (f : FrameView) × (slice_index_or self.old.frames.items seat None ≡ Some f) × (done.before ≡ job_of f) × (f.spent + done.steps < 2 ^ 63)
-            × (done.after.place < 2 ^ 63) × IsSome (bundled f.held params.now args.now vals.items) }
-        ensures { (f : FrameView) → slice_index_or self.old.frames.items seat None ≡ Some f → (file : List (Option Held))
-            × (bundled f.held params.now args.now vals.items ≡ Some (record { args = result.0; file = file }))
-            × (self.new.frames.items ≡ slice_set self.old.frames.items seat (Some (gone_on (come f done.entry) file))) × (result.1 ≡ draft_of (come f done.entry)) }
-    {
+        let _steps = done.steps();
         let place = &mut self.frames[seat];
         match place {
             Some(frame) => {
                 let draft = frame.take_back(done);
-                (frame.hand_over(params, args, vals, room), draft)
+                frame.lend(event_no, draft)
             }
             None => unreachable!(),
         }
     }
 
-    /// Lends the task there.
-    pub(crate) fn lend(&mut self, seat: usize, event_no: u64, draft: Draft<'a>) -> Job<'a>
+    /// Then it hands over arguments, goes on to the next place, and is lent there.
+    #[inline(always)]
+    pub(crate) fn hand_over(
+        &mut self,
+        seat: usize,
+        event_no: u64,
+        done: Done<'a>,
+        params: &[Param],
+        args: &[u8],
+        vals: Vec<Value>,
+        room: Vec<Arg>,
+    ) -> (Bundle, Job<'a>)
         requires inside { seat < length self.old.frames.items }
-        requires sits { (f : FrameView) × (slice_index_or self.old.frames.items seat None ≡ Some f) × MayLend f draft }
-        ensures { (f : FrameView) → slice_index_or self.old.frames.items seat None ≡ Some f
-            → (result ≡ job_of (record f { event_no = event_no })) × (self.new.frames.items ≡ slice_set self.old.frames.items seat (Some (record f { event_no = event_no }))) }
+        requires few { length params.now ≤ 8 }
+        requires room { IsRoom (length params.now) room }
+        requires sits { (f : FrameView) × (slice_index_or self.old.frames.items seat None ≡ Some f) × (done.before ≡ job_of f) × (f.spent + done.steps < 2 ^ 63)
+            × (done.after.place < 2 ^ 63) × IsSome (bundled f.held params.now args.now vals.items) × MayStand f.program.program f.procedure (at_next_place done.after) }
+        ensures { (f : FrameView) → slice_index_or self.old.frames.items seat None ≡ Some f → (file : List (Option Held))
+            × (bundled f.held params.now args.now vals.items ≡ Some (record { args = result.0; file = file }))
+            × (self.new.frames.items ≡ slice_set self.old.frames.items seat (Some (lent_as event_no (gone_on (come f done.entry) file))))
+            × (result.1 ≡ job_of (lent_as event_no (gone_on (come f done.entry) file))) }
     {
         let place = &mut self.frames[seat];
         match place {
-            Some(frame) => frame.lend(event_no, draft),
+            Some(frame) => {
+                let draft = frame.take_back(done);
+                let bundle = frame.hand_over(params, args, vals, room);
+                (bundle, frame.lend(event_no, draft))
+            }
             None => unreachable!(),
         }
     }
 
-    /// The task there does an instruction on data behind the Done; a draft of its values, or the Done again.
+    /// The task there does an instruction on data behind the Done, and is lent again; or the Done comes back.
     pub(crate) fn data(
         &mut self,
         seat: usize,
         store: &mut Store,
         alloc: Global,
+        event_no: u64,
         done: Done<'a>,
         instr: &DataInstr,
-    ) -> Result<Draft<'a>, Done<'a>>
+    ) -> Result<Job<'a>, Done<'a>>
         requires inside { seat < length self.old.frames.items }
         requires sits { (f : FrameView) × (slice_index_or self.old.frames.items seat None ≡ Some f) × (done.before ≡ job_of f) × MayDo instr.now store.old (come f done) }
         ensures { (f : FrameView) → slice_index_or self.old.frames.items seat None ≡ Some f → (g : FrameView) × (self.new.frames.items ≡ slice_set self.old.frames.items seat (Some g))
-            × IsAnswer instr.now store.old store.new f g done.entry result }
+            × IsLentAnswer instr.now store.old store.new f g event_no done.entry result }
     {
         let place = &mut self.frames[seat];
         match place {
-            Some(frame) => run_data(store, frame, alloc, done, instr),
+            Some(frame) => run_and_lend(store, frame, alloc, event_no, done, instr),
             None => unreachable!(),
         }
     }

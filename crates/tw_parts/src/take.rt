@@ -1,6 +1,6 @@
 //! An actor takes a task.
 
-ghost use Rattle.std.specs.Prelude.{◌≡◌, ℕ, None, OnErr, Some, true};
+ghost use Rattle.std.specs.Prelude.{◌≡◌, ℕ, None, OnErr, true};
 ghost use Rattle.std.specs.FinMap.{get};
 ghost use Rattle.tw_types.specs.Actor.{is_in};
 ghost use Rattle.tw_types.specs.declared.event.Event.TheVariants as event;
@@ -8,8 +8,8 @@ ghost use Rattle.tw_types.specs.Layout.{ActorCounts};
 ghost use Rattle.tw_types.specs.Notices.{Notices};
 ghost use Rattle.tw_types.specs.Task.{TaskOf, best};
 ghost use Rattle.tw_rights.specs.declared.arg.Arg.{Arg};
-ghost use Rattle.tw_frame.specs.Jobs.{FrameView, JobView, job_of};
-ghost use Rattle.tw_parts.specs.Events.{IsTaken, Makes, Untouched};
+ghost use Rattle.tw_frame.specs.Jobs.{JobView};
+ghost use Rattle.tw_parts.specs.Events.{IsLent, IsTaken, Makes, Untouched};
 ghost use Rattle.tw_parts.specs.Fits.{AreParts};
 ghost use Rattle.tw_parts.specs.Memory.{TakesTexts};
 
@@ -32,14 +32,12 @@ impl<'a> Parts<'a> {
         requires free { get self.old.seats actor ≡ None }
         requires parts { (layout : ActorCounts) × (notices : Notices) × AreParts verified.now layout self.old notices × (is_in layout actor ≡ true) }
         ensures taken { IsTaken (best actor self.old.tasks.tasks)
-            (λ (e : ℕ × TaskOf Arg) (job : JobView). ((f : FrameView) × (get self.new.seats actor ≡ Some f) × (f.event_no ≡ event_no) × (job ≡ job_of f))
+            (λ (e : ℕ × TaskOf Arg) (job : JobView). IsLent self.new actor event_no job
             × ((layout : ActorCounts) → is_in layout actor ≡ true → Makes verified.now layout (event.Take actor) self.old self.new))
             (Untouched self.old self.new) result }
         ensures memory { OnErr result (TakesTexts verified.now.program (best actor self.old.tasks.tasks)) }
     {
-        match self.seats.start(alloc, actor, verified, &mut self.tasks)? {
-            Some(draft) => Ok(Some(self.seats.lend(actor, event_no, draft))),
-            None => Ok(None),
-        }
+        self.seats
+            .start(alloc, actor, verified, event_no, &mut self.tasks)
     }
 }

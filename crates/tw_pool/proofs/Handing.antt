@@ -2,7 +2,6 @@
 use Rattle.std.proofs.Common.{◌≡◌, ◌≢◌, ◌<◌, ◌≤◌, ◌+◌, ◌*◌, ◌^◌, ◌==◌, not, ◌&&◌, ℕ, Bool, true, false, cond, List, [], ◌∷◌, ◌++◌, length, length-append, Option, Some, None, refl, sym, ap, subst, ◌∙◌, arith, inl, option_map, slice_get, append_assoc, append-nil}
 use Rattle.tw_types.proofs.Orders.{other_key, own_key}
 use Rattle.std.specs.Prelude.{IfSome, MatchOption, option_to_list}
-use Rattle.std.proofs.lemmas.Bool.{and_parts, eqb-true}
 use Rattle.std.proofs.lemmas.Bool.Decides.{nat_tests}
 use Rattle.std.proofs.lemmas.Option.{same_Some}
 use Rattle.std.specs.FinMap.{get, get-insert, get-remove, insert}
@@ -33,20 +32,22 @@ use Rattle.tw_code.proofs.Runs.{run_more}
 use Rattle.tw_no_trap.proofs.Along.{small_along}
 use Rattle.tw_no_trap.proofs.Safe.{opened_held}
 use Rattle.tw_verify.specs.Typed.{TypedProgram, typings_of}
-use Rattle.tw_frame.specs.Jobs.{DoneView, DraftView, FrameView, JobView, bare_frame, job_of}
-use Rattle.tw_parts.specs.Coming.{come}
-use Rattle.tw_parts.specs.Events.{Goes, IsDrafted, IsLent, IsOwed, IsSmall, Makes, MakesBehind, StandsAt, with_done}
+use Rattle.tw_frame.specs.Jobs.{DoneView, FrameView, JobView, bare_frame, job_of}
+use Rattle.tw_parts.specs.Coming.{come, lent_as}
+use Rattle.tw_parts.specs.Events.{Goes, IsLent, IsOwed, IsSmall, Makes, MakesBehind, StandsAt, with_done}
 use Rattle.tw_parts.specs.Fits.{AreParts}
 use Rattle.tw_parts.specs.Memory.{EventTakes, InstrTakes, StandsAtTaker}
 use Rattle.tw_parts.specs.Parts.{state_of}
 use Rattle.tw_parts.specs.declared.parts.Parts.{Parts}
+use Rattle.tw_parts.proofs.Goings.{lent_parts, lent_state}
+use Rattle.tw_pool.specs.declared.answer.Closing.TheVariants.{Limit}
 use Rattle.tw_pool.specs.declared.answer.Turn.{Turn}
-use Rattle.tw_pool.specs.declared.answer.Turn.TheVariants.{Run}
+use Rattle.tw_pool.specs.declared.answer.Turn.TheVariants.{Over, Run}
 use Rattle.tw_pool.specs.Actors.{HasPlace, events_of, same_actor}
 use Rattle.tw_pool.specs.History.{HistoryView}
 use Rattle.tw_pool.specs.Kept.{AreLent, IsKept, IsOwedBy}
 use Rattle.tw_pool.specs.PoolView.{HasState, PoolView, with_events}
-use Rattle.tw_pool.specs.Turns.{IsTurnBy, Lends, Line, OrNoMemory, TakesMemory, is_last, instr_behind, lent_to, steps_of}
+use Rattle.tw_pool.specs.Turns.{Answers, IsTurnBy, Lends, Line, OrNoMemory, TakesMemory, is_last, instr_behind, lent_to, steps_of}
 use Rattle.tw_pool.specs.Words.{FitsWord}
 use Rattle.tw_pool.proofs.Counting.{AreBy, has_place, itself, others_same, the_same}
 use Rattle.tw_pool.proofs.Freely.{has_state, lends, line_told, room_here, state, viewed}
@@ -125,7 +126,7 @@ module _ (verified : TypedProgram) (inputs : List Input) (layout : ActorCounts) 
       by (Some f) e =
           let same : job_by (bare_frame f) ≡ done.before = same_Some _ _ (sym (ap (option_map job_by) (get_mapped bare_frame old.seats actor ∙ ap (option_map bare_frame) e)) ∙ lent_now) in
           let fits = h.parts.stand.frames actor f e in
-          let number = h.lent room_now actor f e in
+          let number = h.lent actor f e in
           let job_is : job_by (bare_frame f) ≡ job_of f = λ i. record { program = sym fits.program i; task = f.task; procedure = f.procedure; actor = sym fits.own i; event_no = sym number i; position = f.position } in
           (f, record { sits = e; own = sym same ∙ job_is; program = ap (λ (j : JobView). j.program) (sym same) })
 
@@ -248,9 +249,6 @@ module _ (verified : TypedProgram) (inputs : List Input) (layout : ActorCounts) 
         takes = subst (λ (x : PoolView). EventTakes x.program.program (state_of came at.notices) (Call actor)) seen stands;
       }
 
-  pub others_come : (a : Actor) → a ≢ actor → get came.seats a ≡ get old.seats a
-  others_come a h = get_other (come its.0 done) old.seats actor a h
-
   -- ---- with the steps alone
 
   pub told_one : (o : Option Event) (c : HasCome o) (t : HistoryView) → t ≡ record told { events = told.events ++ option_to_list o } → t ≡ record { events = told.events ++ steps_of actor done; limit = told.limit }
@@ -261,33 +259,6 @@ module _ (verified : TypedProgram) (inputs : List Input) (layout : ActorCounts) 
 
   pub within_steps : (o : Option Event) (c : HasCome o) → length (told.events ++ steps_of actor done) ≤ told.limit
   within_steps o c = subst (λ es. length (told.events ++ es) ≤ told.limit) c.is (within_one o)
-
-  -- the history is full
-  pub kept_full : (last : is_last w done ≡ true) (o : Option Event) (c : HasCome o) (new : Parts) → new ≡ came → IsKept verified inputs layout told.limit (told.events ++ steps_of actor done) new
-  kept_full last o c new is = record {
-    given = h.given;
-    few = h.few;
-    within = within_steps o c;
-    notices = (at_steps o c).notices;
-    replays = (at_steps o c).replays ∙ ap (λ p. Went (state_of p (at_steps o c).notices)) (sym is);
-    parts = subst (λ p. AreParts verified layout p (at_steps o c).notices) (sym is) (at_steps o c).parts;
-    lent = λ less. absurd (not_full less);
-  }
-    where
-      both : (not (done.steps == 0) ≡ true) × ((length told.events + 1 == told.limit) ≡ true)
-      both = and_parts (not (done.steps == 0)) (length told.events + 1 == told.limit) (subst (λ (x : PoolView). (not (done.steps == 0) && (length x.history + 1 == x.limit)) ≡ true) (sym seen) last)
-
-      not_full : length (told.events ++ steps_of actor done) < told.limit → ⊥
-      not_full less =
-          let some : (done.steps == 0) ≡ false = flip (done.steps == 0) both.0 in
-          let one : length (steps_of actor done) ≡ 1 = rw some refl in
-          let long = length-append told.events (steps_of actor done) in
-          let full = eqb-true (length told.events + 1) told.limit both.1 in
-          omega (arith, long, one, full, less)
-        where
-          flip : (b : Bool) → not b ≡ true → b ≡ false
-          flip true e = cc
-          flip false e = refl
 
   -- ---- with one event more behind them
 
@@ -323,7 +294,7 @@ module _ (verified : TypedProgram) (inputs : List Input) (layout : ActorCounts) 
     notices = (at_two (End actor) refl o c new makes).notices;
     replays = (at_two (End actor) refl o c new makes).replays;
     parts = (at_two (End actor) refl o c new makes).parts;
-    lent = λ _. lent_others;
+    lent = lent_others;
   }
     where
       gone : get new.seats actor ≡ None
@@ -336,73 +307,77 @@ module _ (verified : TypedProgram) (inputs : List Input) (layout : ActorCounts) 
           by true is = let no : None ≡ Some f = sym gone ∙ ap (get new.seats) (sym (the_same a actor is)) ∙ sits in cc
           by false is =
               let other : a ≢ actor = λ e. let yes : true ≡ false = sym (itself actor) ∙ ap (λ x. same_actor x actor) (sym e) ∙ is in cc in
-              h.lent room_now a f (sym (others_two (End actor) refl o c new makes a other) ∙ sits) ∙ sym (others_same a actor other told.events (steps_of actor done ++ End actor ∷ []) (by_two (End actor) refl o c new makes))
+              h.lent a f (sym (others_two (End actor) refl o c new makes a other) ∙ sits) ∙ sym (others_same a actor other told.events (steps_of actor done ++ End actor ∷ []) (by_two (End actor) refl o c new makes))
 
   -- ---- lending again
 
-  module _ (es : List Event) (by : AreBy actor es) (p : Parts) (at : AreAt verified inputs layout (told.events ++ es) p) (others : (a : Actor) → a ≢ actor → get p.seats a ≡ get old.seats a) (within : length (told.events ++ es) ≤ told.limit) where
-    module _ (draft : DraftView) (drafted : IsDrafted p actor draft) where
-      pub may_lend : (l : ActorCounts) × (notices : Notices) × AreParts draft.program l p notices
-      may_lend =
-          let of : draft.program ≡ verified = ap (λ (d : DraftView). d.program) drafted.is ∙ (at.parts.stand.frames actor drafted.f drafted.sits).program in
-          (layout, at.notices, subst (λ (v : TypedProgram). AreParts v layout p at.notices) (sym of) at.parts)
+  module _ (es : List Event) (by : AreBy actor es) (new : Parts) (at : AreAt verified inputs layout (told.events ++ es) new) (others : (a : Actor) → a ≢ actor → get new.seats a ≡ get old.seats a) (within : length (told.events ++ es) ≤ told.limit)
+      (event_no : ℕ) (number : event_no ≡ length (events_of actor (told.events ++ es))) (job : JobView) (lent : IsLent new actor event_no job) where
+    lent_all : AreLent (told.events ++ es) new.seats
+    lent_all a f sits = by_key (same_actor a actor) refl
+      where
+        by_key : (b : Bool) → same_actor a actor ≡ b → f.event_no ≡ length (events_of a (told.events ++ es))
+        by_key true is =
+            let who = the_same a actor is in
+            let one : f ≡ lent.f = same_Some f lent.f (sym sits ∙ ap (λ x. get new.seats x) who ∙ lent.sits) in
+            ap (λ (x : FrameView). x.event_no) one ∙ lent.number ∙ number ∙ ap (λ x. length (events_of x (told.events ++ es))) (sym who)
+        by_key false is =
+            let other : a ≢ actor = λ e. let yes : true ≡ false = sym (itself actor) ∙ ap (λ x. same_actor x actor) (sym e) ∙ is in cc in
+            h.lent a f (sym (others a other) ∙ sits) ∙ sym (others_same a actor other told.events es by)
 
-    module _ (event_no : ℕ) (number : event_no ≡ length (events_of actor (told.events ++ es))) (job : JobView) (new : Parts) (lent : IsLent p actor event_no job new)
-        (same : (notices : Notices) → state_of new notices ≡ state_of p notices) (still : (v : TypedProgram) (l : ActorCounts) (notices : Notices) → AreParts v l p notices → AreParts v l new notices) where
-      abbrev g : FrameView
-      g = record lent.f { event_no = event_no }
+    kept_lent : IsKept verified inputs layout told.limit (told.events ++ es) new
+    kept_lent = record { given = h.given; few = h.few; within = within; notices = at.notices; replays = at.replays; parts = at.parts; lent = lent_all }
 
-      sits_new : get new.seats actor ≡ Some g
-      sits_new = ap (λ (x : Parts). get x.seats actor) lent.new_is ∙ get_own g p.seats actor
+    line_lent : Lends w actor es (Run job) es
+    line_lent = subst (λ j. Lends w actor es (Run j) es) (sym lent.job_is) (lends verified inputs layout stopped told old h w seen actor es new kept_lent lent.f lent.sits (lent.number ∙ number))
 
-      lent_all : AreLent (told.events ++ es) new.seats
-      lent_all a f sits = by_key (same_actor a actor) refl
-        where
-          by_key : (b : Bool) → same_actor a actor ≡ b → f.event_no ≡ length (events_of a (told.events ++ es))
-          by_key true is =
-              let who = the_same a actor is in
-              let one : f ≡ g = same_Some f g (sym sits ∙ ap (λ x. get new.seats x) who ∙ sits_new) in
-              ap (λ (x : FrameView). x.event_no) one ∙ number ∙ ap (λ x. length (events_of x (told.events ++ es))) (sym who)
-          by_key false is =
-              let other : a ≢ actor = λ e. let yes : true ≡ false = sym (itself actor) ∙ ap (λ x. same_actor x actor) (sym e) ∙ is in cc in
-              let was : get old.seats a ≡ Some f = sym (others a other) ∙ sym (get_other g p.seats actor a other) ∙ ap (λ (x : Parts). get x.seats a) (sym lent.new_is) ∙ sits in
-              h.lent room_now a f was ∙ sym (others_same a actor other told.events es by)
+    module _ (t : HistoryView) (t_is : t ≡ record { events = told.events ++ es; limit = told.limit }) where
+      kept_again : IsKept verified inputs layout t.limit t.events new
+      kept_again = subst (λ (x : HistoryView). IsKept verified inputs layout x.limit x.events new) (sym t_is) kept_lent
 
-      pub kept_lent : IsKept verified inputs layout told.limit (told.events ++ es) new
-      kept_lent = record {
-        given = h.given;
-        few = h.few;
-        within = within;
-        notices = at.notices;
-        replays = at.replays ∙ ap Went (sym (same at.notices));
-        parts = still verified layout at.notices at.parts;
-        lent = λ _. lent_all;
-      }
+      line_again : IsTurnBy (λ s. Lends w actor es) w (Run job) (viewed verified inputs layout stopped t)
+      line_again = line_told verified inputs layout stopped told old h w seen (λ s. Lends w actor es) (Run job) es t t_is line_lent
 
-      pub line_lent : Lends w actor es (Run job) es
-      line_lent = subst (λ j. Lends w actor es (Run j) es) (sym lent.job_is) (lends verified inputs layout stopped told old h w seen actor es new kept_lent g sits_new number)
+  -- behind the steps
+  module _ (o : Option Event) (c : HasCome o) (t : HistoryView) (t_is : t ≡ record told { events = told.events ++ option_to_list o }) (event_no : ℕ) (counted : event_no ≡ length (events_of actor t.events))
+      (new : Parts) (is : (f : FrameView) → IsOwed old actor f done → new ≡ with_done old actor (lent_as event_no f) done) (job : JobView) (lent : IsLent new actor event_no job) where
+    abbrev came_lent : Parts
+    came_lent = with_done old actor (lent_as event_no its.0) done
 
-    module _ (t : HistoryView) (t_is : t ≡ record { events = told.events ++ es; limit = told.limit }) (event_no : ℕ) (counted : event_no ≡ length (events_of actor t.events)) (job : JobView) (new : Parts) (lent : IsLent p actor event_no job new)
-        (same : (notices : Notices) → state_of new notices ≡ state_of p notices) (still : (v : TypedProgram) (l : ActorCounts) (notices : Notices) → AreParts v l p notices → AreParts v l new notices) where
-      number_is : event_no ≡ length (events_of actor (told.events ++ es))
-      number_is = counted ∙ ap (λ (x : HistoryView). length (events_of actor x.events)) t_is
+    at_come : AreAt verified inputs layout (told.events ++ steps_of actor done) new
+    at_come = let at = at_steps o c in subst (AreAt verified inputs layout (told.events ++ steps_of actor done)) (sym (is its.0 owed_now)) (record {
+      notices = at.notices;
+      replays = at.replays ∙ ap Went (sym (lent_state came_lent old.seats actor (come its.0 done) event_no refl at.notices));
+      parts = lent_parts came_lent old.seats actor (come its.0 done) event_no refl verified layout at.notices at.parts;
+    })
 
-      pub kept_again : IsKept verified inputs layout t.limit t.events new
-      kept_again = subst (λ (x : HistoryView). IsKept verified inputs layout x.limit x.events new) (sym t_is) (kept_lent event_no number_is job new lent same still)
+    others_at : (a : Actor) → a ≢ actor → get new.seats a ≡ get old.seats a
+    others_at a h = ap (λ (p : Parts). get p.seats a) (is its.0 owed_now) ∙ get_other (come (lent_as event_no its.0) done) old.seats actor a h
 
-      pub line_again : IsTurnBy (λ s. Lends w actor es) w (Run job) (viewed verified inputs layout stopped t)
-      line_again = line_told verified inputs layout stopped told old h w seen (λ s. Lends w actor es) (Run job) es t t_is (line_lent event_no number_is job new lent same still)
+    number_is : event_no ≡ length (events_of actor (told.events ++ steps_of actor done))
+    number_is = counted ∙ ap (λ (x : HistoryView). length (events_of actor x.events)) (told_one o c t t_is)
 
-  -- the parts to which a task has come
-  module _ (o : Option Event) (c : HasCome o) (new : Parts) (is : (f : FrameView) → IsOwed old actor f done → new ≡ with_done old actor f done) where
-    pub at_come : AreAt verified inputs layout (told.events ++ steps_of actor done) new
-    at_come = subst (AreAt verified inputs layout (told.events ++ steps_of actor done)) (sym (is its.0 owed_now)) (at_steps o c)
+    pub kept_on : IsKept verified inputs layout t.limit t.events new
+    kept_on = kept_again (steps_of actor done) (steps_by actor done) new at_come others_at (within_steps o c) event_no number_is job lent t (told_one o c t t_is)
 
-    pub others_at : (a : Actor) → a ≢ actor → get new.seats a ≡ get old.seats a
-    others_at a h = ap (λ (p : Parts). get p.seats a) (is its.0 owed_now) ∙ others_come a h
+    pub line_on : IsTurnBy (λ s. Lends w actor (steps_of actor done)) w (Run job) (viewed verified inputs layout stopped t)
+    line_on = line_again (steps_of actor done) (steps_by actor done) new at_come others_at (within_steps o c) event_no number_is job lent t (told_one o c t t_is)
 
-    pub full_at : is_last w done ≡ true → (t : HistoryView) → t ≡ record { events = told.events ++ steps_of actor done; limit = told.limit } → IsKept verified inputs layout t.limit t.events new
-    full_at last t t_is = subst (λ (x : HistoryView). IsKept verified inputs layout x.limit x.events new) (sym t_is) (kept_full last o c new (is its.0 owed_now))
+  -- behind the steps and a call
+  module _ (o : Option Event) (c : HasCome o) (less : length (told.events ++ option_to_list o) < told.limit) (t p : HistoryView) (one : t ≡ record told { events = told.events ++ option_to_list o }) (two : p ≡ record t { events = t.events ++ Call actor ∷ [] })
+      (event_no : ℕ) (number : event_no ≡ length (events_of actor (told.events ++ (steps_of actor done ++ Call actor ∷ [])))) (new : Parts) (makes : MakesBehind (Call actor) old actor done new) (job : JobView) (lent : IsLent new actor event_no job) where
+    abbrev es : List Event
+    es = steps_of actor done ++ Call actor ∷ []
+
+    pub kept_called : IsKept verified inputs layout p.limit p.events new
+    kept_called = kept_again es (by_two (Call actor) refl o c new makes) new (at_two (Call actor) refl o c new makes) (others_two (Call actor) refl o c new makes) (within_two (Call actor) refl o c new makes less) event_no number job lent p (told_two (Call actor) refl o c new makes t p one two)
+
+    pub line_called : IsTurnBy (λ s. Lends w actor es) w (Run job) (viewed verified inputs layout stopped p)
+    line_called = line_again es (by_two (Call actor) refl o c new makes) new (at_two (Call actor) refl o c new makes) (others_two (Call actor) refl o c new makes) (within_two (Call actor) refl o c new makes less) event_no number job lent p (told_two (Call actor) refl o c new makes t p one two)
+
+-- what goes on to the last event
+pub filled : (w v : PoolView) (actor : Actor) (es : List Event) (a : Turn) → IsTurnBy (λ s. Lends w actor es) w a v → IsTurnBy (λ s. Answers (Over Limit) es) w (Over Limit) v
+filled w v actor es a l = record { state = l.state; has_state = l.has_state; events = l.events; is = (refl, l.is.4.1); appended = l.appended }
 
 -- a line, or want of memory
 pub or_memory : (p : PoolView) (line : Line) (given : Option DoneView) (before : List Event) (event : Event) (w v : PoolView) (a : Turn) → IsTurnBy (λ s. line) w a v → IsTurnBy (λ s. OrNoMemory p given before event line) w a v

@@ -84,13 +84,13 @@ module _ (verified : TypedProgram) (inputs : List Input) (layout : ActorCounts) 
         notices = goes.left;
         replays = run_more verified.program layout history event (opening verified.program inputs) (state_of old h.notices) (state_of new goes.left) h.replays goes.step_is;
         parts = goes.parts;
-        lent = λ _. lent;
+        lent = lent;
       }
 
   -- the others' tasks were lent before
-  others_lent : (event : Event) (new : Parts) → Goes verified layout event old h.notices new → length history < limit
+  others_lent : (event : Event) (new : Parts) → Goes verified layout event old h.notices new
       → ((f : FrameView) → get new.seats (actor_of event) ≡ Some f → f.event_no ≡ length (events_of (actor_of event) (history ++ event ∷ []))) → AreLent (history ++ event ∷ []) new.seats
-  others_lent event new goes room own actor f at = by (same_actor (actor_of event) actor) refl
+  others_lent event new goes own actor f at = by (same_actor (actor_of event) actor) refl
     where
       by : (b : Bool) → same_actor (actor_of event) actor ≡ b → f.event_no ≡ length (events_of actor (history ++ event ∷ []))
       by true same =
@@ -98,19 +98,19 @@ module _ (verified : TypedProgram) (inputs : List Input) (layout : ActorCounts) 
           own f (ap (get new.seats) who ∙ at) ∙ ap (λ a. length (events_of a (history ++ event ∷ []))) who
       by false other =
           let apart : actor ≢ actor_of event = λ e. let yes : true ≡ false = sym (itself actor) ∙ ap (λ a. same_actor a actor) e ∙ other in cc in
-          h.lent room actor f (sym (goes.others actor apart) ∙ at) ∙ sym (others_count actor history event other)
+          h.lent actor f (sym (goes.others actor apart) ∙ at) ∙ sym (others_count actor history event other)
 
   -- an event of an actor that has no task, before and after
   pub made_free : (event : Event) (new : Parts) (goes : Goes verified layout event old h.notices new) → length history < limit
       → get (state_of old h.notices).frames (actor_of event) ≡ None → (state_of new goes.left).frames ≡ (state_of old h.notices).frames → IsKept verified inputs layout limit (history ++ event ∷ []) new
   made_free event new goes room free same =
       let none : get new.seats (actor_of event) ≡ None = no_task new goes.left (actor_of event) (ap (λ m. get m (actor_of event)) same ∙ free) in
-      one_more event new goes room (others_lent event new goes room (λ f at. let no : None ≡ Some f = sym none ∙ at in cc))
+      one_more event new goes room (others_lent event new goes (λ f at. let no : None ≡ Some f = sym none ∙ at in cc))
 
   -- an event whose actor's task is lent by its number
   pub made_lent : (event : Event) (new : Parts) (goes : Goes verified layout event old h.notices new) → length history < limit
       → ((f : FrameView) → get new.seats (actor_of event) ≡ Some f → f.event_no ≡ length (events_of (actor_of event) (history ++ event ∷ []))) → IsKept verified inputs layout limit (history ++ event ∷ []) new
-  made_lent event new goes room own = one_more event new goes room (others_lent event new goes room own)
+  made_lent event new goes room own = one_more event new goes room (others_lent event new goes own)
 
   module _ (new : Parts) (u : Untouched old new) where
     pub same_state : state_of new h.notices ≡ state_of old h.notices
@@ -143,5 +143,5 @@ module _ (verified : TypedProgram) (inputs : List Input) (layout : ActorCounts) 
       notices = h.notices;
       replays = h.replays ∙ ap Went (sym same_state);
       parts = still_parts;
-      lent = λ room. subst (AreLent history) (sym u.seats) (h.lent room);
+      lent = subst (AreLent history) (sym u.seats) h.lent;
     }

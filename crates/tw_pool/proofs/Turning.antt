@@ -156,10 +156,7 @@ module _ (verified : TypedProgram) (inputs : List Input) (layout : ActorCounts) 
     pub is_free : get old.seats actor ≡ None → IsFree w actor
     is_free none s at = ap (λ (t : State). get t.frames actor) (only_here s at) ∙ get_mapped bare_frame old.seats actor ∙ ap (option_map bare_frame) none
 
-    module _ (room : length w.history < w.limit) (f : FrameView) (sits : get old.seats actor ≡ Some f) where
-      room_told : length told.events < told.limit
-      room_told = subst (λ (x : PoolView). length x.history < x.limit) (sym seen) room
-
+    module _ (f : FrameView) (sits : get old.seats actor ≡ Some f) where
       abbrev job_by : Frame → JobView
       job_by g = record { program = verified; task = g.task; procedure = g.procedure; actor = actor; event_no = length (events_of actor told.events); position = g.position }
 
@@ -167,7 +164,7 @@ module _ (verified : TypedProgram) (inputs : List Input) (layout : ActorCounts) 
       pub lent_is : lent_to w here actor ≡ Some (job_of f)
       lent_is =
           let fits = h.parts.stand.frames actor f sits in
-          let number = h.lent room_told actor f sits in
+          let number = h.lent actor f sits in
           subst (λ (x : PoolView). lent_to x here actor ≡ Some (job_of f)) seen
           (ap (option_map job_by) (get_mapped bare_frame old.seats actor ∙ ap (option_map bare_frame) sits)
           ∙ ap Some (λ i. record { program = sym fits.program i; task = f.task; procedure = f.procedure; actor = sym fits.own i; event_no = sym number i; position = f.position }))
@@ -186,12 +183,12 @@ module _ (verified : TypedProgram) (inputs : List Input) (layout : ActorCounts) 
       foreign_line done other = unchanged (λ s. Turns w s actor (lent_to w s actor) (Some done)) (Foreign done)
           (subst (λ j. Turns w here actor j (Some done) (Foreign done) []) (sym lent_is) (inr (other, (refl, refl))))
 
-    pub owed_if : length w.history < w.limit → IsSome (get old.seats actor) → IsTurnBy (λ s. Turns w s actor (lent_to w s actor) None) w Owed w
-    owed_if room some = by (get old.seats actor) refl some
+    pub owed_if : IsSome (get old.seats actor) → IsTurnBy (λ s. Turns w s actor (lent_to w s actor) None) w Owed w
+    owed_if some = by (get old.seats actor) refl some
       where
         by : (o : Option FrameView) → get old.seats actor ≡ o → IsSome o → IsTurnBy (λ s. Turns w s actor (lent_to w s actor) None) w Owed w
         by None none is = cc
-        by (Some f) sits is = owed_line room f sits
+        by (Some f) sits is = owed_line f sits
 
     -- a Done, and no task
     pub stray_line : (done : DoneView) → IsFree w actor → IsTurnBy (λ s. Turns w s actor (lent_to w s actor) (Some done)) w (Foreign done) w

@@ -1,5 +1,5 @@
 -- What is true of the parts of every pool, with its history.
-use Rattle.std.specs.Prelude.{◌≡◌, ◌≤◌, ◌<◌, ℕ, List, Some, None, length}
+use Rattle.std.specs.Prelude.{◌≡◌, ◌≤◌, ℕ, List, Some, None, length}
 use Rattle.std.specs.FinMap.{get}
 use Rattle.tw_types.specs.declared.actor.Actor.{Actor}
 use Rattle.tw_types.specs.declared.actor.Actor.TheVariants.{Engine, Server, Worker}
@@ -34,8 +34,7 @@ pub record IsKept (verified : TypedProgram) (inputs : List Input) (layout : Acto
   pub notices : Notices
   pub replays : reached verified.program inputs layout history ≡ Went (state_of p notices)
   pub parts : AreParts verified layout p notices
-  -- a task that has gone on to the last event isn't lent again
-  pub lent : length history < limit → AreLent history p.seats
+  pub lent : AreLent history p.seats
 
 -- what is so in the pool's state
 abbrev pub InState : PoolView → (State → Type 0) → Type 0

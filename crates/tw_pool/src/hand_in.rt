@@ -1,6 +1,6 @@
 //! What comes of a Done.
 
-ghost use Rattle.std.specs.Prelude.{◌≡◌, ◌<◌, ◌++◌, ◌∷◌, [], IfErr, IfOk, IfSome, OnErr, OnOk, None, Some, true, false, length, option_to_list, slice_get};
+ghost use Rattle.std.specs.Prelude.{◌≡◌, ◌<◌, ◌≤◌, ◌++◌, ◌∷◌, [], IfErr, IfOk, IfSome, OnErr, OnOk, None, Some, true, false, length, option_to_list, slice_get};
 ghost use Rattle.tw_types.specs.Actor.{is_in};
 ghost use Rattle.tw_types.specs.declared.event.Event.TheVariants.{Call as CallBy, End as EndBy};
 ghost use Rattle.tw_code.specs.declared.instr.Instr.TheVariants as instr_is;
@@ -8,10 +8,11 @@ ghost use Rattle.tw_code.specs.machine.Due.{event_of};
 ghost use Rattle.tw_code.specs.machine.Machine.{is_ret, local_of};
 ghost use Rattle.tw_frame.specs.Jobs.{FrameView, bare_frame};
 ghost use Rattle.tw_parts.specs.Coming.{come};
-ghost use Rattle.tw_parts.specs.Events.{IsDrafted, IsOwed, MakesBehind, StandsAt, Untouched};
+ghost use Rattle.tw_parts.specs.Events.{IsLent, IsOwed, MakesBehind, StandsAt, Untouched};
 ghost use Rattle.tw_parts.specs.Memory.{InstrTakes};
 ghost use Rattle.tw_pool.specs.declared.answer.Closing.TheVariants.{Limit};
 ghost use Rattle.tw_pool.specs.declared.answer.Turn.TheVariants as answer;
+ghost use Rattle.tw_pool.specs.Actors.{HasPlace, events_of};
 ghost use Rattle.tw_pool.specs.Kept.{IsOwedBy};
 ghost use Rattle.tw_pool.specs.Turns.{Answers, IsTurnBy, Lends, OrNoMemory, instr_behind, is_last, steps_of, Makes, TakesBack, Turns, lent_to};
 ghost use Rattle.tw_pool.specs.Words.{FitsWord};
@@ -24,32 +25,33 @@ use crate::history::History;
 use crate::pool::Pool;
 use std::alloc::Global;
 use tw_code::Instr;
-use tw_frame::{Done, Draft};
+use tw_frame::{Done, Job};
 use tw_parts::Parts;
 use tw_types::{Actor, Event};
 use tw_verify::Verified;
 
-/// Does the instruction at which the actor's task stands behind the Done, which is neither local nor RET.
+/// Does the instruction at which the actor's task stands behind the Done, which is neither local nor RET, and lends it again.
 fn call_by<'a>(
     parts: &mut Parts<'a>,
     alloc: Global,
     actor: Actor,
+    event_no: u64,
     instr: &Instr,
     done: Done<'a>,
-) -> Result<Draft<'a>, Done<'a>>
+) -> Result<Job<'a>, Done<'a>>
     requires stands { StandsAt parts.old actor done instr.now }
     requires not_local { local_of instr.now ≡ None }
     requires not_last { is_ret instr.now ≡ false }
     ensures called { OnOk result (MakesBehind (CallBy actor) parts.old actor done.entry parts.new) }
-    ensures drafted { IfOk result (λ draft. IsDrafted parts.new actor draft) }
+    ensures lent { IfOk result (λ job. IsLent parts.new actor event_no job) }
     ensures refused { OnErr result (Untouched parts.old parts.new) }
     ensures back { IfErr result (λ back. back ≡ done.entry) }
     ensures memory { OnErr result ((f : FrameView) → IsOwed parts.old actor f done.entry → InstrTakes instr.now parts.old.store.store (bare_frame (come f done.entry))) }
 {
     match instr {
-        Instr::Data(instr) => parts.call_data(alloc, actor, instr, done),
-        Instr::Rule(action) => parts.rule(alloc, actor, action, done),
-        Instr::Put(action) => parts.put(alloc, actor, action, done),
+        Instr::Data(instr) => parts.call_data(alloc, actor, event_no, instr, done),
+        Instr::Rule(action) => parts.rule(alloc, actor, event_no, action, done),
+        Instr::Put(action) => parts.put(alloc, actor, event_no, action, done),
         Instr::Local(_) => unreachable!(),
         Instr::Ret => unreachable!(),
     }
@@ -63,6 +65,20 @@ fn tell(history: &mut History, event: Option<Event>)
 {
     if let Some(event) = event {
         history.push(event);
+    }
+}
+
+/// How many events of the actor there are with the steps of its Done, and a Call behind them.
+fn count_behind(history: &History, actor: Actor, done: &Done<'_>) -> u64
+    requires place { HasPlace actor }
+    requires few { length history.now.events ≤ 1000000 }
+    ensures { result ≡ length (events_of actor (history.now.events ++ (steps_of actor done.now ++ CallBy actor ∷ []))) }
+{
+    let count = history.count(actor);
+    if done.steps() == 0 {
+        count + 1
+    } else {
+        count + 2
     }
 }
 
@@ -94,24 +110,19 @@ impl<'a> Pool<'a> {
     {
         let _steps = done.steps();
         let event = self.parts.event_of(actor, &done);
-        let draft = self.parts.advance(actor, done);
         tell(&mut self.history, event);
         let event_no = self.history.count(actor);
-        Turn::Run(self.parts.lend(actor, event_no, draft))
+        Turn::Run(self.parts.advance(actor, event_no, done))
     }
 
-    /// The actor's task goes on by its steps, which are the last event that there may be.
+    /// The actor's task goes on by its steps, which are the last event that there may be, and its job is let go.
     fn fill_up(&mut self, actor: Actor, done: Done<'a>) -> Turn<'a>
         requires actor { is_in self.old.layout actor ≡ true }
         requires room { length self.old.history < self.old.limit }
         requires owed { IsOwedBy self.old actor done }
-        requires last { is_last self.old done ≡ true }
         ensures { IsTurnBy (λ s. Answers (answer.Over Limit) (steps_of actor done.entry)) self.old result self.new }
     {
-        let _steps = done.steps();
-        let event = self.parts.event_of(actor, &done);
-        let _draft = self.parts.advance(actor, done);
-        tell(&mut self.history, event);
+        let _run = self.go_on(actor, done);
         Turn::Over(Closing::Limit)
     }
 
@@ -128,14 +139,14 @@ impl<'a> Pool<'a> {
     {
         let _steps = done.steps();
         let event = self.parts.event_of(actor, &done);
-        let draft = match call_by(&mut self.parts, alloc, actor, instr, done) {
-            Ok(draft) => draft,
+        let event_no = count_behind(&self.history, actor, &done);
+        let job = match call_by(&mut self.parts, alloc, actor, event_no, instr, done) {
+            Ok(job) => job,
             Err(done) => return Turn::NoMemory(Some(done)),
         };
         tell(&mut self.history, event);
         self.history.push(Event::Call(actor));
-        let event_no = self.history.count(actor);
-        Turn::Run(self.parts.lend(actor, event_no, draft))
+        Turn::Run(job)
     }
 
     /// The actor's task goes on by its steps, and ends.

@@ -1,7 +1,7 @@
-use Rattle.std.proofs.Common.{◌∙◌, ap, Some, arith}
-use Rattle.tw_parts.proofs.PartNames.{bare_frame, come, get}
-use Rattle.tw_parts.proofs.Seating.{get_own}
+use Rattle.std.proofs.Common.{Some, arith}
+use Rattle.tw_parts.proofs.PartNames.{bare_frame, come}
 use Rattle.tw_parts.proofs.Fitting.{seen}
+use Rattle.tw_parts.proofs.Goings.{is_lent}
 use Rattle.tw_parts.proofs.Law.{runner_has_seat}
 use Rattle.tw_parts.proofs.parts.Parts.advance.Goals as goal
 
@@ -14,8 +14,8 @@ advance-requires-clause-sits c =
     let few = s.4.spent c.args.actor (bare_frame s.2) (seen bare_frame c.args.self.now.seats c.args.actor (Some s.2) s.5.sits) in
     (s.2, s.5.sits, s.5.own, omega (arith, few))
 
-pub returns-clause-drafted : goal.returns-clause-drafted
-returns-clause-drafted c =
+pub returns-clause-lent : goal.returns-clause-lent
+returns-clause-lent c =
     let s = c.requires.stands in
     let came = c.advance.ensures s.2 s.5.sits in
-    record { f = come s.2 c.args.done; sits = ap (λ m. get m c.args.actor) came.0 ∙ get_own c.args.self.now.seats c.args.actor (come s.2 c.args.done); is = came.1 }
+    is_lent _ c.args.self.now.seats c.args.actor (come s.2 c.args.done) c.args.event_no came.0 _ came.1

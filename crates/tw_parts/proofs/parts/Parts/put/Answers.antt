@@ -1,11 +1,12 @@
 use Rattle.std.proofs.Common.{◌≡◌, ◌∙◌, Some, refl, sym, ap, arith, to_z, of_z, w64}
 use Rattle.std.proofs.lemmas.Int.{to_z-of_z}
-use Rattle.tw_parts.proofs.PartNames.{come, get, gone_on, insert, with_done}
+use Rattle.tw_parts.proofs.PartNames.{Call, come, get, gone_on, insert, with_done}
 use Rattle.tw_code.specs.declared.instr.Instr.TheVariants as instr
 use Rattle.tw_parts.proofs.Behind.{few, here_too, in_queue, kind_of_callee, operands, params_of_callee, runs_there, runs_too, seat_there, sits_ready, so_bundled, so_valued, there}
-use Rattle.tw_parts.proofs.Puts.{put_goes, put_named}
+use Rattle.tw_parts.proofs.Goings.{is_lent, lent_goes}
+use Rattle.tw_parts.proofs.Puts.{put_goes, put_named, put_stands}
 use Rattle.tw_parts.proofs.Releases.{fresh}
-use Rattle.tw_parts.proofs.Seating.{again, get_own}
+use Rattle.tw_parts.proofs.Seating.{again}
 use Rattle.tw_parts.proofs.ValueRegisters.{ok_ints}
 use Rattle.tw_parts.proofs.parts.Parts.put.Goals as goal
 
@@ -42,6 +43,7 @@ hand_over-args-requires-clause-sits c =
     let u = put_named c.args.done.before.program s.layout (there c.args.self.now c.args.actor c.args.done (instr.Put c.args.action.now) c.requires.stands) s.notices s.parts c.args.actor (come s.f c.args.done) s.q c.args.action.now (runs_there c.args.self.now c.args.actor c.args.done (instr.Put c.args.action.now) c.requires.stands) s.here s.behind in
     let params = params_of_callee c.args.done.before.program.program c.args.action.now.procedure c.in-Ok.asked.callee.now c.in-Ok.ensures.callee u.procedure u.is in
     sits_ready c.args.self.now c.args.actor c.args.done (instr.Put c.args.action.now) c.requires.stands c.args.action.now u c.in-Ok.asked.callee.now.params params c.as_slice-registers.result.now c.as_slice-registers.ensures c.in-Ok.asked.vals.items c.in-Ok.ensures.values
+    (put_stands c.args.done.before.program s.layout (there c.args.self.now c.args.actor c.args.done (instr.Put c.args.action.now) c.requires.stands) s.notices s.parts c.args.actor (come s.f c.args.done) s.q c.args.action.now (runs_there c.args.self.now c.args.actor c.args.done (instr.Put c.args.action.now) c.requires.stands) s.here s.behind)
 
 pub put-requires-clause-new : goal.put-requires-clause-new
 put-requires-clause-new c =
@@ -66,20 +68,21 @@ returns-clause-put c = λ layout f owed notices h.
     let over = c.hand_over-args.ensures f owed.sits in
     let vals = so_valued c.args.done.after.values c.in-Ok.asked.callee.now.params u.procedure.params params action.args c.in-Ok.asked.vals.items c.in-Ok.ensures.values in
     let bundle = so_bundled f.held c.in-Ok.asked.callee.now.params u.procedure.params params c.as_slice-registers.result.now action.args c.as_slice-registers.ensures c.in-Ok.asked.vals.items (Some (record { args = c.hand_over-args.result.0; file = over.0 })) over.1 in
-    let seats = over.2 ∙ sym (again old.seats c.args.actor (come f c.args.done) (gone_on (come f c.args.done) over.0)) in
+    let seats = sym (again old.seats c.args.actor (come f c.args.done) (gone_on (come f c.args.done) over.0)) in
     let bits : to_z w64 (of_z w64 c.in-Ok.asked.priority) ≡ c.in-Ok.asked.priority = grind (arith, to_z-of_z) in
     let key : to_z w64 (of_z w64 c.in-Ok.asked.priority) ≡ u.priority = bits ∙ ok_ints c.in-Ok.asked.priority u.priority (sym c.in-Ok.ensures.priority ∙ u.priority_is) in
     let kind = kind_of_callee c.args.done.before.program.program c.args.action.now.procedure c.in-Ok.asked.callee.now c.in-Ok.ensures.callee u.procedure u.is in
-    put_goes program layout (with_done old c.args.actor f c.args.done) notices h c.args.actor (come f c.args.done) s.q action runs here s.behind c.in-Ok.asked.vals.items vals c.hand_over-args.result.0 over.0 bundle _
+    lent_goes _ old.seats c.args.actor (gone_on (come f c.args.done) over.0) c.args.event_no over.2 program layout (Call c.args.actor) refl (with_done old c.args.actor f c.args.done) notices
+    (put_goes program layout (with_done old c.args.actor f c.args.done) notices h c.args.actor (come f c.args.done) s.q action runs here s.behind c.in-Ok.asked.vals.items vals c.hand_over-args.result.0 over.0 bundle _
     (c.in-Ok-put.ensures.put
     ∙ ap (λ z. insert c.reserve.new.self.tasks c.new.result (record { kind = c.in-Ok.asked.callee.now.kind; procedure = action.procedure; priority = z; target = action.target; args = c.hand_over-args.result.0 })) key
     ∙ ap (λ k. insert c.reserve.new.self.tasks c.new.result (record { kind = k; procedure = action.procedure; priority = u.priority; target = action.target; args = c.hand_over-args.result.0 })) kind
     ∙ ap (λ ts. insert ts c.new.result (record { kind = u.procedure.kind; procedure = action.procedure; priority = u.priority; target = action.target; args = c.hand_over-args.result.0 })) c.in-Ok-reserve.ensures.same
     ∙ ap (λ n. insert old.tasks.tasks n (record { kind = u.procedure.kind; procedure = action.procedure; priority = u.priority; target = action.target; args = c.hand_over-args.result.0 })) c.new.ensures)
-    refl seats refl refl refl
+    refl seats refl refl refl)
 
-pub returns-clause-drafted : goal.returns-clause-drafted
-returns-clause-drafted c =
+pub returns-clause-lent : goal.returns-clause-lent
+returns-clause-lent c =
     let s = c.requires.stands in
     let over = c.hand_over-args.ensures s.f s.owed.sits in
-    record { f = gone_on (come s.f c.args.done) over.0; sits = ap (λ m. get m c.args.actor) over.2 ∙ get_own c.args.self.now.seats c.args.actor (gone_on (come s.f c.args.done) over.0); is = over.3 }
+    is_lent _ c.args.self.now.seats c.args.actor (gone_on (come s.f c.args.done) over.0) c.args.event_no over.2 _ over.3

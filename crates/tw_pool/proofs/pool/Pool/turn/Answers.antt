@@ -25,7 +25,7 @@ go_free-requires-clause-free c = turning.is_free _ _ _ c.self.inside.stopped c.s
 pub returns-then-has_task : goal.returns-then-has_task
 returns-then-has_task c =
     subst (λ (g : Option DoneView). IsTurn c.args.self.now c.args.actor g Owed c.args.self.now) (sym c.in-None.is)
-    (turning.unless c.args.self.now c.args.self.now c.args.actor None Owed (λ s at. sym c.in_default.is ∙ c.closing.ensures s at) (turning.owed_if _ _ _ c.self.inside.stopped c.self.inside.history c.self.inside.parts c.self.invariant c.args.self.now c.self.view_is c.args.actor (turning.room_if _ _ _ c.self.inside.stopped c.self.inside.history c.self.inside.parts c.self.invariant c.args.self.now c.self.view_is (λ s at. sym c.in_default.is ∙ c.closing.ensures s at)) c.if-has_task.ensures))
+    (turning.unless c.args.self.now c.args.self.now c.args.actor None Owed (λ s at. sym c.in_default.is ∙ c.closing.ensures s at) (turning.owed_if _ _ _ c.self.inside.stopped c.self.inside.history c.self.inside.parts c.self.invariant c.args.self.now c.self.view_is c.args.actor c.if-has_task.ensures))
 
 pub returns-else-has_task : goal.returns-else-has_task
 returns-else-has_task c =
