@@ -8,3 +8,4 @@ pub mod Pending
 pub mod Growth
 pub mod Bests
 pub mod Numbered
+pub mod Moments

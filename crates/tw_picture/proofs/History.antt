@@ -1,35 +1,37 @@
--- A history, one event more: the moments, and the tasks that were made.
-use Rattle.std.proofs.Common.{arith, ◌≡◌, ◌+◌, ◌-◌, ◌<◌, ◌≤◌, ◌==◌, ◌⊎◌, inl, inr, ℕ, Bool, true, false, if◌then◌else◌, is_some, nat_lt, min, take, length-take, zero, suc, List, [], ◌∷◌, ◌++◌, length, length-append, map, slice_get, refl, sym, ap, subst, ◌∙◌, Option, Some, None}
+-- A history, one event more: the tasks that were made.
+use Rattle.std.proofs.Common.{arith, ◌≡◌, ◌+◌, ◌-◌, ◌<◌, ◌≤◌, ◌==◌, inl, inr, ℕ, Bool, true, false, if◌then◌else◌, is_some, nat_lt, min, take, length-take, zero, suc, List, [], ◌∷◌, ◌++◌, length, length-append, map, slice_get, refl, sym, ap, ◌∙◌, Option, Some, None}
 use Rattle.std.proofs.lemmas.Bool.{cases_lt, eq-eqb, eqb-true, eqb-false, ne_eqb}
 use Rattle.std.proofs.lemmas.Bool.Decides.{nat_tests}
 use Rattle.std.proofs.lemmas.List.{append-nil, flat_map_more, take_all}
 use Rattle.std.specs.Cmp.{nat_cmp_total}
-use Rattle.std.specs.FinMap.{get, insert, remove, empty, get-empty, nat_cmp-IsAntisymmetric}
+use Rattle.std.specs.FinMap.{get, insert, empty, get-empty, nat_cmp-IsAntisymmetric}
 use Rattle.std.specs.List.{flat_map}
 use Rattle.std.specs.Ordering.{nat_cmp}
 use Rattle.tw_types.specs.declared.event.Event.{Event}
 use Rattle.tw_types.specs.declared.event.Event.TheVariants.{Take, Local, Call, End, Ask, Deliver, Release}
 use Rattle.tw_types.specs.declared.input.Input.{Input}
 use Rattle.tw_types.specs.Layout.{ActorCounts}
-use Rattle.tw_types.specs.Outcome.{Outcome, Went}
+use Rattle.tw_types.specs.Outcome.{Went}
 use Rattle.tw_types.specs.Rule.{task_from}
 use Rattle.tw_types.specs.Task.{Task, Tasks}
 use Rattle.tw_types.proofs.Maps.{get_here}
-use Rattle.tw_types.proofs.Outcomes.{IfWent, same_went, went_first, went_of}
+use Rattle.tw_types.proofs.Outcomes.{IfWent, went_of}
 use Rattle.tw_types.proofs.Parts.{before_removal, put_or_before}
 use Rattle.tw_code.specs.declared.procedure.Procedure.{Procedure}
-use Rattle.tw_code.specs.machine.History.{actor_of, if_went, put_between}
+use Rattle.tw_code.specs.machine.History.{actor_of, put_between}
 use Rattle.tw_code.specs.machine.Machine.{run, step}
 use Rattle.tw_code.specs.machine.Opening.{opening}
 use Rattle.tw_code.specs.machine.State.{State}
 use Rattle.tw_code.proofs.Leaving.{take_leaves, local_leaves, call_leaves, end_leaves, ask_leaves, deliver_leaves, release_leaves}
 use Rattle.tw_code.proofs.Runs.{run_more}
+use Rattle.tw_machine.specs.Moments.{Moment, history}
 use Rattle.tw_machine.specs.PlainView.{PlainView}
+use Rattle.tw_machine.proofs.Moments.{moments_more}
 use Rattle.tw_picture.specs.declared.drawing.Bar.{Bar}
 use Rattle.tw_picture.specs.declared.drawing.Mark.{Mark}
 use Rattle.tw_picture.specs.declared.drawing.Place.{Place}
 use Rattle.tw_picture.specs.declared.trail.Trail.{Trail}
-use Rattle.tw_picture.specs.History.{HasEarlier, IsOpening, IsTrail, Moment, begun, begun_at, history, in_order, made, maker, moments, numbered}
+use Rattle.tw_picture.specs.History.{HasEarlier, IsOpening, IsTrail, begun, begun_at, in_order, made, maker, numbered}
 
 pub numbered_more : (number : ℕ) (events : List Event) (event : Event) → numbered number (events ++ event ∷ []) ≡ numbered number events ++ record { number = number + length events; event = event } ∷ []
 numbered_more number [] event =
@@ -46,26 +48,6 @@ length-numbered number (e ∷ events) = ap suc (length-numbered (suc number) eve
 -- how many events there are
 pub trail_length : (first : PlainView) (events : List Event) (s : State) (t : Trail) → IsTrail first events s t → length t.marks.items ≡ length events
 trail_length first events s t h = ap length h.marks ∙ length-numbered 1 events
-
--- the moment of one event more
-pub moments_more : (program : List Procedure) (layout : ActorCounts) (number : ℕ) (events : List Event) (event : Event) (s t u : State) → run program layout events s ≡ Went t → step program layout event t ≡ Went u
-    → moments program layout number (events ++ event ∷ []) s ≡ moments program layout number events s ++ record { number = number + length events; event = event; before = t; behind = u } ∷ []
-unfolding run
-moments_more program layout number [] event s t u e h =
-    let same : s ≡ t = same_went s t e in
-    let here : number ≡ number + 0 = omega arith in
-    ap (λ (o : Outcome State). if_went o (λ next. record { number = number; event = event; before = s; behind = next } ∷ [])) (ap (step program layout event) same ∙ h)
-    ∙ ap (λ (x : State). record { number = number; event = event; before = x; behind = u } ∷ []) same
-    ∙ ap (λ (n : ℕ). record { number = n; event = event; before = t; behind = u } ∷ []) here
-moments_more program layout number (first ∷ events) event s t u e h =
-    let one = went_first (step program layout first s) (run program layout events) t e in
-    let now : State → Moment = λ next. record { number = number; event = first; before = s; behind = next } in
-    let last : ℕ → Moment = λ n. record { number = n; event = event; before = t; behind = u } in
-    let here : suc number + length events ≡ number + length (first ∷ events) = omega arith in
-    ap (λ (o : Outcome State). if_went o (λ next. now next ∷ moments program layout (suc number) (events ++ event ∷ []) next)) one.1
-    ∙ ap (λ (ms : List Moment). now one.0 ∷ ms) (moments_more program layout (suc number) events event one.0 t u one.2 h)
-    ∙ ap (λ (n : ℕ). now one.0 ∷ (moments program layout (suc number) events one.0 ++ last n ∷ [])) here
-    ∙ ap (λ (ms : List Moment). ms ++ last (number + length (first ∷ events)) ∷ []) (sym (ap (λ (o : Outcome State). if_went o (λ next. now next ∷ moments program layout (suc number) events next)) one.1))
 
 -- ---- circles
 

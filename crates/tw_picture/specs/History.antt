@@ -9,15 +9,14 @@ use Rattle.tw_types.specs.declared.event.Event.TheVariants.{Take, Local, Call, E
 use Rattle.tw_types.specs.declared.pending.Link.{Link}
 use Rattle.tw_types.specs.Actor.{actor_cmp}
 use Rattle.tw_types.specs.Circle.{rules_of}
-use Rattle.tw_types.specs.Layout.{ActorCounts}
 use Rattle.tw_types.specs.Outcome.{Went}
 use Rattle.tw_types.specs.Task.{Task}
-use Rattle.tw_code.specs.declared.procedure.Procedure.{Procedure}
 use Rattle.tw_code.specs.machine.Ending.{ending}
-use Rattle.tw_code.specs.machine.History.{actor_of, if_went, put_between}
-use Rattle.tw_code.specs.machine.Machine.{run, step}
+use Rattle.tw_code.specs.machine.History.{actor_of, put_between}
+use Rattle.tw_code.specs.machine.Machine.{run}
 use Rattle.tw_code.specs.machine.Pending.{circle}
 use Rattle.tw_code.specs.machine.State.{State}
+use Rattle.tw_machine.specs.Moments.{Moment, history}
 use Rattle.tw_machine.specs.PlainView.{PlainView}
 use Rattle.tw_report.specs.Report.{ending_lines}
 use Rattle.tw_picture.specs.declared.drawing.Bar.{Bar}
@@ -34,22 +33,6 @@ use Rattle.tw_picture.specs.declared.trail.Trail.{Trail}
 abbrev pub numbered : ℕ → List Event → List Mark
 numbered number [] = []
 numbered number (event ∷ events) = record { number = number; event = event } ∷ numbered (suc number) events
-
--- an event with its number, and the machine's state before it and behind it
-pub record Moment : Type 0 where
-  pub number : ℕ
-  pub event : Event
-  pub before : State
-  pub behind : State
-
--- those of the events that go from a state, numbered from this one on
-abbrev pub moments : List Procedure → ActorCounts → ℕ → List Event → State → List Moment
-moments program layout number [] s = []
-moments program layout number (event ∷ events) s =
-    if_went (step program layout event s) (λ next. record { number = number; event = event; before = s; behind = next } ∷ moments program layout (suc number) events next)
-
-abbrev pub history : PlainView → List Event → List Moment
-history first events = moments first.program first.layout 1 events first.state
 
 -- ---- tasks
 

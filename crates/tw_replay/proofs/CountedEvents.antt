@@ -7,7 +7,7 @@ use Rattle.tw_types.specs.Layout.{ActorCounts}
 use Rattle.tw_code.specs.accepting.Flow.{flows}
 use Rattle.tw_code.specs.accepting.Walk.{IsBudget}
 use Rattle.tw_code.specs.machine.History.{if_went}
-use Rattle.tw_picture.specs.History.{Moment, history, moments}
+use Rattle.tw_machine.specs.Moments.{Moment, history, moments}
 use Rattle.tw_stats.specs.declared.coming.Coming.{Coming}
 use Rattle.tw_stats.specs.declared.tally.Tally.{Tally}
 use Rattle.tw_stats.specs.Waits.{steps_in}

@@ -15,8 +15,8 @@ use Rattle.tw_code.specs.machine.Machine.{run, step}
 use Rattle.tw_code.specs.machine.State.{Frame, State}
 use Rattle.tw_code.proofs.Runs.{run_more}
 use Rattle.tw_machine.specs.PlainView.{PlainView}
-use Rattle.tw_picture.specs.History.{Moment, history, moments}
-use Rattle.tw_picture.proofs.History.{moments_more}
+use Rattle.tw_machine.specs.Moments.{Moment, history, moments}
+use Rattle.tw_machine.proofs.Moments.{moments_more}
 use Rattle.tw_stats.specs.declared.coming.Coming.{Coming}
 use Rattle.tw_stats.specs.declared.doer.Doer.{Doer}
 use Rattle.tw_stats.specs.declared.tally.Tally.{Tally}

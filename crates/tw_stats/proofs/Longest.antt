@@ -9,7 +9,7 @@ use Rattle.std.specs.List.{Contains, list_any}
 use Rattle.tw_types.specs.declared.event.Event.{Event}
 use Rattle.tw_code.specs.declared.procedure.Procedure.{Procedure}
 use Rattle.tw_code.specs.machine.Bounds.{size_of}
-use Rattle.tw_picture.specs.History.{Moment}
+use Rattle.tw_machine.specs.Moments.{Moment}
 use Rattle.tw_stats.specs.declared.chains.Chains.{Chains}
 use Rattle.tw_stats.specs.declared.depths.Depths.{Depths}
 use Rattle.tw_stats.specs.declared.thing.Thing.{Thing}

@@ -8,7 +8,7 @@ use Rattle.tw_types.specs.declared.event.Event.{Event}
 use Rattle.tw_types.specs.declared.event.Event.TheVariants.{Take, Local, Call, End, Ask, Deliver, Release}
 use Rattle.tw_code.specs.machine.Bounds.{size_of}
 use Rattle.tw_code.specs.machine.History.{actor_of}
-use Rattle.tw_picture.specs.History.{Moment}
+use Rattle.tw_machine.specs.Moments.{Moment}
 use Rattle.tw_stats.specs.declared.counts.Counts.{Counts}
 use Rattle.tw_stats.specs.declared.doer.Doer.{Doer}
 use Rattle.tw_stats.specs.declared.procedures.Procedures.{Procedures}

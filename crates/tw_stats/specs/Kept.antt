@@ -10,7 +10,7 @@ use Rattle.tw_code.specs.declared.procedure.Procedure.{Procedure}
 use Rattle.tw_code.specs.machine.Machine.{run}
 use Rattle.tw_code.specs.machine.State.{State}
 use Rattle.tw_machine.specs.PlainView.{PlainView}
-use Rattle.tw_picture.specs.History.{Moment, history}
+use Rattle.tw_machine.specs.Moments.{Moment, history}
 use Rattle.tw_stats.specs.declared.actors.Actors.{Actors}
 use Rattle.tw_stats.specs.declared.chains.Chains.{Chains}
 use Rattle.tw_stats.specs.declared.coming.Coming.{Coming}

@@ -6,7 +6,7 @@ use Rattle.tw_types.specs.declared.actor.Actor.TheVariants.{Engine, Server, Work
 use Rattle.tw_types.specs.declared.event.Event.{Event}
 use Rattle.tw_types.specs.declared.event.Event.TheVariants.{Take, Local, Call, End, Ask, Deliver, Release}
 use Rattle.tw_code.specs.machine.History.{actor_of}
-use Rattle.tw_picture.specs.History.{Moment}
+use Rattle.tw_machine.specs.Moments.{Moment}
 use Rattle.tw_stats.specs.declared.doer.Doer.{Doer}
 use Rattle.tw_stats.specs.Waits.{done_by}
 

@@ -17,7 +17,7 @@ use Rattle.tw_code.specs.machine.Due.{instr_here}
 use Rattle.tw_code.specs.machine.Rights.{right_at}
 use Rattle.tw_code.specs.machine.State.{Frame, State}
 use Rattle.tw_machine.specs.Waiting.{unasked_id}
-use Rattle.tw_picture.specs.History.{Moment}
+use Rattle.tw_machine.specs.Moments.{Moment}
 use Rattle.tw_stats.specs.declared.doer.Doer.{Doer}
 use Rattle.tw_stats.specs.declared.thing.Thing.{Thing}
 use Rattle.tw_stats.specs.declared.thing.Thing.TheVariants.{Task, Rule, Answer, Datum}

@@ -2,7 +2,7 @@
 
 ghost use Rattle.std.specs.Prelude.{◌≡◌, ◌∷◌, ◌++◌, [], List, OnOk};
 ghost use Rattle.tw_code.specs.declared.procedure.Procedure.{Procedure};
-ghost use Rattle.tw_picture.specs.History.{Moment};
+ghost use Rattle.tw_machine.specs.Moments.{Moment};
 ghost use Rattle.tw_stats.specs.Kept.{AreChains, IsLater, IsSmall, things_in};
 ghost use Rattle.tw_stats.specs.Waits.{brings, needs};
 

@@ -3,7 +3,7 @@
 ghost use Rattle.std.specs.Prelude.{◌≡◌, ◌∷◌, ◌++◌, [], List, OnOk};
 ghost use Rattle.tw_code.specs.machine.Bounds.{size_of};
 ghost use Rattle.tw_code.specs.machine.History.{actor_of};
-ghost use Rattle.tw_picture.specs.History.{Moment};
+ghost use Rattle.tw_machine.specs.Moments.{Moment};
 ghost use Rattle.tw_stats.specs.Kept.{AreCounts, IsSmall};
 ghost use Rattle.tw_stats.specs.Numbers.{kind_of};
 

@@ -1,7 +1,7 @@
 //! How many tasks and instructions there are of each procedure.
 
 ghost use Rattle.std.specs.Prelude.{◌≡◌, ◌<◌, ◌^◌, ◌∷◌, ◌++◌, [], List, OnOk};
-ghost use Rattle.tw_picture.specs.History.{Moment};
+ghost use Rattle.tw_machine.specs.Moments.{Moment};
 ghost use Rattle.tw_stats.specs.Kept.{AreOfProcedures, HasSpentFew, IsSmall};
 ghost use Rattle.tw_stats.specs.Numbers.{instructions_by, tasks_by};
 ghost use Rattle.tw_stats.specs.Waits.{done_by};

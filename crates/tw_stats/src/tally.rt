@@ -7,7 +7,7 @@ ghost use Rattle.tw_code.specs.machine.Bounds.{AreBelow};
 ghost use Rattle.tw_code.specs.machine.Machine.{step};
 ghost use Rattle.tw_code.specs.machine.State.{State};
 ghost use Rattle.tw_machine.specs.PlainView.{PlainView};
-ghost use Rattle.tw_picture.specs.History.{history};
+ghost use Rattle.tw_machine.specs.Moments.{history};
 ghost use Rattle.tw_stats.specs.Kept.{doer_before, IsComing, IsFirst, IsNext, IsSmall, IsTally};
 ghost use Rattle.tw_stats.specs.Waits.{doer_at};
 

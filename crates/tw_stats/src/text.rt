@@ -5,7 +5,7 @@ ghost use Rattle.tw_types.specs.declared.event.Event.{Event as AnEvent};
 ghost use Rattle.tw_types.specs.Actor.{actor_count};
 ghost use Rattle.tw_machine.specs.PlainView.{PlainView};
 ghost use Rattle.tw_report.specs.Events.{actor_part, part_text};
-ghost use Rattle.tw_picture.specs.History.{Moment, history};
+ghost use Rattle.tw_machine.specs.Moments.{Moment, history};
 ghost use Rattle.tw_stats.specs.Kept.{AreCounts, AreOfProcedures, IsTally, line_by};
 ghost use Rattle.tw_stats.specs.Text.{AreNumbers, actor_line_of, budget_text, chain_line, done_part, kind_lines, lines_below, number_line, procedure_line_of, tasks_part};
 

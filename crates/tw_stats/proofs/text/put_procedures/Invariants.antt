@@ -1,5 +1,5 @@
 use Rattle.std.proofs.Common.{◌≡◌, ◌++◌, List}
-use Rattle.tw_picture.specs.History.{Moment}
+use Rattle.tw_machine.specs.Moments.{Moment}
 use Rattle.tw_stats.specs.Kept.{AreOfProcedures}
 use Rattle.tw_stats.specs.Text.{procedure_line_of, lines_below}
 use Rattle.tw_stats.proofs.text.put_procedures.Given as goal

@@ -1,0 +1,25 @@
+-- The moments of a history, one for each of its events.
+use Rattle.std.specs.Prelude.{ℕ, suc, List, [], ◌∷◌}
+use Rattle.tw_types.specs.declared.event.Event.{Event}
+use Rattle.tw_types.specs.Layout.{ActorCounts}
+use Rattle.tw_code.specs.declared.procedure.Procedure.{Procedure}
+use Rattle.tw_code.specs.machine.History.{if_went}
+use Rattle.tw_code.specs.machine.Machine.{step}
+use Rattle.tw_code.specs.machine.State.{State}
+use Rattle.tw_machine.specs.PlainView.{PlainView}
+
+-- an event with its number, and the machine's state before it and behind it
+pub record Moment : Type 0 where
+  pub number : ℕ
+  pub event : Event
+  pub before : State
+  pub behind : State
+
+-- those of the events that go from a state, numbered from this one on
+abbrev pub moments : List Procedure → ActorCounts → ℕ → List Event → State → List Moment
+moments program layout number [] s = []
+moments program layout number (event ∷ events) s =
+    if_went (step program layout event s) (λ next. record { number = number; event = event; before = s; behind = next } ∷ moments program layout (suc number) events next)
+
+abbrev pub history : PlainView → List Event → List Moment
+history first events = moments first.program first.layout 1 events first.state
