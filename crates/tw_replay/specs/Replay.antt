@@ -25,7 +25,8 @@ use Rattle.tw_machine.specs.declared.refusal.OpenRefusal.{OpenRefusal}
 use Rattle.tw_machine.specs.declared.refusal.OpenRefusal.TheVariants.{MainShape}
 use Rattle.tw_machine.specs.Opening.{open_refusal_number, refusal_of}
 use Rattle.tw_picture.specs.declared.drawing.Drawing.{Drawing}
-use Rattle.tw_picture.specs.History.{IsDrawing, history}
+use Rattle.tw_machine.specs.Moments.{history}
+use Rattle.tw_picture.specs.History.{IsDrawing}
 use Rattle.tw_picture.specs.Picture.{picture_of}
 use Rattle.tw_picture.specs.Places.{between}
 use Rattle.tw_picture.specs.Xml.{xml_text}

@@ -1,5 +1,5 @@
--- What is told of programs: a reply is Reply; the lines of refusals Lines; the program that is read Program, text Text, a text with names Names,
--- inputs that are read Inputs; a check is Check, a program with its places Listing.
+-- What is told of programs: a reply is Reply; the lines of refusals Lines; the program that is read and what is assembled Program, text Text, a text
+-- with names Names, inputs that are read Inputs; a check and its refusal are Check, a program with its places Listing.
 pub mod Input
 pub mod Reply
 pub mod Lines

@@ -1,13 +1,16 @@
--- The program that is read: hex text of its bytes, or assembly text, with names or without.
+-- The program that is read: hex text of its bytes, or assembly text, with names or without; and what is assembled.
 use Rattle.std.specs.Prelude.{◌≡◌, ◌⊎◌, ◌++◌, ℕ, List, [], codes, IsUtf8, Option, Some, None, Ok, Err}
 use Rattle.std.specs.Result.{IsErr}
-use Rattle.hex.specs.Hex.{decode_of}
+use Rattle.hex.specs.Hex.{decode_of, encode_lower}
 use Rattle.tw_asm.specs.Answers.{HasFault}
 use Rattle.tw_asm.specs.Fault as asm
 use Rattle.tw_asm.specs.Spelling.{SpellsProgram}
 use Rattle.tw_bytes.specs.Fault as fault
 use Rattle.tw_code.specs.format.Program.{Versioned}
 use Rattle.tw_bytes.specs.Reading.{program_of}
+use Rattle.tw_bytes.specs.Spelling.{spelling}
+use Rattle.tw_command.specs.declared.command.Assembling.{Assembling}
+use Rattle.tw_command.specs.declared.command.Assembling.TheVariants as assembling
 use Rattle.tw_command.specs.declared.command.Source.{Source}
 use Rattle.tw_command.specs.declared.command.Source.TheVariants.{Hex, Assembly}
 use Rattle.tw_asm.specs.declared.fault.FaultNo.{FaultNo}
@@ -15,12 +18,12 @@ use Rattle.tw_names.specs.Answers.{told}
 use Rattle.tw_names.specs.Standing.{IsFirstRefusal, StandsFor}
 use Rattle.tw_replies.specs.Lines.{asm_line, fault_line}
 use Rattle.tw_replies.specs.Input.{digits_in}
-use Rattle.tw_replies.specs.Names.{IsFaultBehind, name_behind, name_line}
+use Rattle.tw_replies.specs.Names.{IsFaultBehind, RepliesByPlain, name_behind, name_line}
 use Rattle.tw_replies.specs.Reply.{Reply, reply}
 use Rattle.tw_replies.specs.Text.{RepliesByUtf8}
 use Rattle.tw_replies.specs.declared.program.NoProgram.{NoProgram}
 use Rattle.tw_replies.specs.declared.program.NoProgram.TheVariants.{NotHex, NotUtf8, Bytes, Text, Named, NoMemory}
-use Rattle.tw_replies.specs.declared.close.Close.TheVariants.{Refused}
+use Rattle.tw_replies.specs.declared.close.Close.TheVariants.{Refused, Success}
 
 -- the assembly text for which a text stands spells it
 abbrev pub SpellsText : List ℕ → Versioned → Type 0
@@ -82,3 +85,13 @@ RepliesByText input Answers r =
 abbrev pub text_told : Source → List ℕ → Option (List ℕ)
 text_told Hex input = None
 text_told Assembly input = Some input
+
+-- a program's bytes, in hex digits
+abbrev pub IsWritten : Versioned → Reply → Type 0
+IsWritten program r = r ≡ reply (encode_lower (spelling program) ++ codes "\n") Success
+
+-- what is assembled: the bytes of an assembly text, or of one that may have names, or the assembly text for which such a text stands
+abbrev pub RepliesByAssembling : Assembling → List ℕ → Reply → Type 0
+RepliesByAssembling assembling.Text input r = RepliesByText input IsWritten r
+RepliesByAssembling assembling.Names input r = RepliesBySource Assembly input IsWritten r
+RepliesByAssembling assembling.Plain input r = RepliesByPlain input r

@@ -1,11 +1,22 @@
-//! What `check` says of an accepted program.
+//! What `check` says of a program.
 
 ghost use Rattle.std.specs.Prelude.{◌≡◌, ◌++◌, ℕ, List, IfOk, OnOk, decimal};
-ghost use Rattle.tw_replies.specs.Check.{AreProcedureLines, IsCheckText, kind_text, needs_line, procedure_line};
+ghost use Rattle.tw_code.specs.accepting.WellTyped.{IsFirstRefusal};
+ghost use Rattle.tw_replies.specs.Check.{AreProcedureLines, IsCheckText, IsChecked, IsRefused, StandsBefore, kind_text, needs_line, procedure_line};
+ghost use Rattle.tw_replies.specs.Listing.{IsListing, IsRefusedListing};
+ghost use Rattle.tw_replies.specs.Reply.{reply};
+ghost use Rattle.tw_replies.specs.Source.{MayBeSource, text_of};
+ghost use Rattle.tw_verify.specs.Refusal.{verify_refusal_number};
 
+use crate::lines::put_verify_line;
+use crate::listing::{refused_text, typed_text};
+use crate::reply::{Reply, refused_by};
+use crate::source::{SourceText, put_behind};
+use crate::text_listing::{accepted_lines, refused_lines};
 use std::alloc::{AllocError, Global};
+use tw_command::Places;
 use tw_types::Kind;
-use tw_verify::Verified;
+use tw_verify::{Refused, Verified};
 use tw_words::{put, put_numbered};
 
 fn put_kind(out: &mut Vec<u8>, kind: Kind) -> Result<(), AllocError>
@@ -58,7 +69,7 @@ fn put_needs(alloc: Global, out: &mut Vec<u8>, engines: u8, workers: u8) -> Resu
 }
 
 /// The whole text of the check of an accepted program.
-pub fn check_text(alloc: Global, verified: &Verified) -> Result<Vec<u8>, AllocError>
+fn check_text(alloc: Global, verified: &Verified) -> Result<Vec<u8>, AllocError>
     ensures { IfOk result (λ text. IsCheckText verified.now.program text.items) }
 {
     let mut text = Vec::new(alloc);
@@ -67,4 +78,94 @@ pub fn check_text(alloc: Global, verified: &Verified) -> Result<Vec<u8>, AllocEr
     let (engines, workers) = verified.needs();
     put_needs(alloc, &mut text, engines, workers)?;
     Ok(text)
+}
+
+/// The listing of an accepted program: of its text's lines, where it was read from a text.
+fn accepted_listing(
+    alloc: Global,
+    source: &Option<SourceText<'_>>,
+    verified: &Verified,
+) -> Result<Vec<u8>, AllocError>
+    requires { MayBeSource source.now verified.now.program }
+    ensures { IfOk result (λ text. IsListing (text_of source.now) verified.now.program text.items) }
+{
+    match source {
+        Some(source) => accepted_lines(alloc, source, verified),
+        None => typed_text(alloc, verified),
+    }
+}
+
+/// The same of a refused program.
+fn refused_listing(
+    alloc: Global,
+    source: &Option<SourceText<'_>>,
+    refused: &Refused,
+) -> Result<Vec<u8>, AllocError>
+    requires { MayBeSource source.now refused.now.program.procedures }
+    ensures { IfOk result (λ text. IsRefusedListing (text_of source.now) refused.now.program.procedures (verify_refusal_number refused.now.no) refused.now.procedure text.items) }
+{
+    match source {
+        Some(source) => refused_lines(alloc, source, refused),
+        None => refused_text(alloc, refused),
+    }
+}
+
+/// What a check tells of an accepted program, behind its listing where that is asked for.
+pub fn checked_text(
+    alloc: Global,
+    source: &Option<SourceText<'_>>,
+    places: Places,
+    verified: &Verified,
+) -> Result<Vec<u8>, AllocError>
+    requires { MayBeSource source.now verified.now.program }
+    ensures { IfOk result (λ text. IsChecked places (text_of source.now) verified.now.program text.items) }
+{
+    match places {
+        Places::Hidden => check_text(alloc, verified),
+        Places::Shown => {
+            let mut text = accepted_listing(alloc, source, verified)?;
+            let told = check_text(alloc, verified)?;
+            text.extend_from_slice(&told)?;
+            Ok(text)
+        }
+    }
+}
+
+/// What stands before a refusal.
+fn text_before(
+    alloc: Global,
+    source: &Option<SourceText<'_>>,
+    places: Places,
+    refused: &Refused,
+) -> Result<Vec<u8>, AllocError>
+    requires { MayBeSource source.now refused.now.program.procedures }
+    ensures { IfOk result (λ text. StandsBefore places (text_of source.now) refused.now.program.procedures (verify_refusal_number refused.now.no) refused.now.procedure text.items) }
+{
+    match places {
+        Places::Hidden => Ok(Vec::new(alloc)),
+        Places::Shown => refused_listing(alloc, source, refused),
+    }
+}
+
+/// The reply where a program isn't accepted.
+pub fn refusal_reply(
+    alloc: Global,
+    source: &Option<SourceText<'_>>,
+    places: Places,
+    refused: &Refused,
+) -> Result<Reply, AllocError>
+    requires source { MayBeSource source.now refused.now.program.procedures }
+    requires first { IsFirstRefusal refused.now.program.procedures (verify_refusal_number refused.now.no) refused.now.procedure refused.now.place }
+    ensures { IfOk result (λ r. IsRefused places (text_of source.now) refused.now.program.procedures (reply r.text.items r.close)) }
+{
+    let mut text = text_before(alloc, source, places, refused)?;
+    put_verify_line(
+        alloc,
+        &mut text,
+        refused.no.number(),
+        refused.procedure,
+        refused.place,
+    )?;
+    put_behind(alloc, &mut text, source, refused)?;
+    Ok(refused_by(text))
 }

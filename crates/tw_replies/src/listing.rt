@@ -1,15 +1,16 @@
-//! What `--places` lists of a program.
+//! What is disassembled, and what `--places` lists of a program.
 
 ghost use Rattle.std.specs.Prelude.{◌≡◌, ◌<◌, ◌++◌, ◌^◌, IfOk, None, OnOk, length, replicate, slice_get, Option};
 ghost use Rattle.std.specs.List.{AllByRecursion};
 ghost use Rattle.tw_code.specs.format.Program.{IsInstr, IsProcedure};
 ghost use Rattle.tw_code.specs.machine.Rights.{right_at};
-ghost use Rattle.tw_replies.specs.Listing.{IsListing, IsRefusedListing, beside, listing_from, no_typings, place_column, place_line, place_lines, procedure_listing, right_column, rights_below, rights_text};
+ghost use Rattle.tw_replies.specs.Listing.{IsListing, IsRefusedListing, beside, disassembled, listing_from, no_typings, place_column, place_line, place_lines, procedure_listing, right_column, rights_below, rights_text};
 ghost use Rattle.tw_verify.specs.Refusal.{verify_refusal_number};
 
 use std::alloc::{AllocError, Global};
-use tw_asm::{LabelPlaces, put_head_lines, put_right};
+use tw_asm::{LabelPlaces, disassemble, put_head_lines, put_right};
 use tw_code::{Instr, Procedure, Program};
+use tw_command::Places;
 use tw_types::Param;
 use tw_verify::{Refused, RightType, Typing, Verified};
 use tw_words::{put, put_numbered};
@@ -149,7 +150,7 @@ fn put_procedure(
 }
 
 /// The listing of a program of which nothing is known.
-pub fn places_text(alloc: Global, program: &Program) -> Result<Vec<u8>, AllocError>
+fn places_text(alloc: Global, program: &Program) -> Result<Vec<u8>, AllocError>
     ensures { IfOk result (λ text. text.items ≡ listing_from no_typings 0 program.now.procedures) }
 {
     let mut text = Vec::new(alloc);
@@ -157,6 +158,19 @@ pub fn places_text(alloc: Global, program: &Program) -> Result<Vec<u8>, AllocErr
         put_procedure(alloc, &mut text, number, procedure, &[])?;
     }
     Ok(text)
+}
+
+/// A program's assembly text, or its listing where that is asked for.
+pub fn disassembled(alloc: Global, places: Places, program: &Program) -> Result<Vec<u8>, AllocError>
+    ensures { IfOk result (λ text. text.items ≡ disassembled places program.now) }
+{
+    match places {
+        Places::Hidden => match disassemble(alloc, program) {
+            Ok(text) => Ok(text.into_bytes()),
+            Err(_) => Err(AllocError),
+        },
+        Places::Shown => places_text(alloc, program),
+    }
 }
 
 /// The listing of an accepted program.

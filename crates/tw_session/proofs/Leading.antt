@@ -1,12 +1,8 @@
 -- What leads to a reply leads to one that may be answered in another's place.
 use Rattle.std.proofs.Common.{Option}
-use Rattle.tw_command.specs.declared.command.RunOrder.{RunOrder}
-use Rattle.tw_session.specs.Answered.{Comes, Leads}
-use Rattle.tw_replies.specs.Reply.{Reply, reply}
-use Rattle.tw_session.specs.declared.order.Step.{Step}
+use Rattle.tw_session.proofs.SessionNames.{Answered, Comes, Leads, Reply, RunOrder, Step, reply}
 use Rattle.tw_session.specs.declared.order.Step.TheVariants as step
 use Rattle.tw_replies.specs.declared.source.SourceText.{SourceText}
-use Rattle.tw_session.specs.declared.programs.Answered.{Answered}
 use Rattle.tw_session.specs.declared.programs.Answered.TheVariants as answered
 
 pub leads_on : (A B : RunOrder → Type 0) (source : Option SourceText) (P Q : Reply → Type 0) → ((run : RunOrder) → A run → B run) → ((r : Reply) → P r → Q r) → (a : Answered) → Leads A source P a → Leads B source Q a

@@ -5,3 +5,4 @@ pub mod Tracing
 pub mod Replies
 pub mod RunEvents
 pub mod Closings
+mod SessionNames

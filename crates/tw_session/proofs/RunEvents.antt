@@ -23,7 +23,7 @@ use Rattle.tw_no_trap.specs.Invariant.{IsHeld}
 use Rattle.tw_no_trap.specs.NoTrap.{AreRight}
 use Rattle.tw_no_trap.proofs.Along.{event_small}
 use Rattle.tw_no_trap.proofs.Safe.{kept_by, opened_held}
-use Rattle.tw_picture.specs.History.{history}
+use Rattle.tw_machine.specs.Moments.{history}
 use Rattle.tw_stats.specs.declared.tally.Tally.{Tally}
 use Rattle.tw_stats.specs.Kept.{IsTally}
 use Rattle.tw_stats.specs.Text.{AreNumbers}

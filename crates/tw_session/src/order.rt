@@ -9,15 +9,11 @@ ghost use Rattle.tw_command.specs.declared.command.ProgramOrder.TheVariants as o
 ghost use Rattle.tw_command.specs.declared.command.VerifiedOrder.TheVariants.{Run};
 ghost use Rattle.tw_session.specs.Answered.{Comes};
 ghost use Rattle.tw_replies.specs.Inputs.{RepliesByWords, before_inputs, behind_inputs, words_in};
-ghost use Rattle.tw_replies.specs.Program.{RepliesBySource, RepliesByText, text_told};
+ghost use Rattle.tw_replies.specs.Program.{RepliesBySource, text_told};
 ghost use Rattle.tw_replies.specs.Reply.{reply};
 ghost use Rattle.tw_session.specs.Run.{RepliesByOpening};
 ghost use Rattle.tw_replies.specs.Source.{MayBeSource, text_of};
-ghost use Rattle.tw_session.specs.Session.{IsWritten, MayReply, RepliesByAssembling, RepliesByInput, RepliesByProgram, RepliesWithInputs};
-ghost use Rattle.tw_replies.specs.declared.close.Close.TheVariants.{Refused};
-ghost use Rattle.tw_asm.specs.Fault.{fault_number};
-ghost use Rattle.tw_replies.specs.Lines.{asm_line};
-ghost use Rattle.tw_command.specs.declared.command.Source.TheVariants.{Assembly};
+ghost use Rattle.tw_session.specs.Session.{MayReply, RepliesByInput, RepliesByProgram, RepliesWithInputs};
 
 use crate::in_turn::turned_reply;
 use crate::input::MOST_BYTES;
@@ -27,18 +23,12 @@ use std::alloc::{AllocError, Global};
 use std::sync::Wait;
 use std::thread::Threads;
 use std::time::Clock;
-use tw_asm::{AsmFault, assemble};
-use tw_bytes::encode;
-use tw_code::Program;
-use tw_command::{
-    Assembling, InputsOrder, Order, ProgramOrder, RunOptions, Source, VerifiedOrder, inputs_of,
-};
+use tw_command::{InputsOrder, Order, ProgramOrder, RunOptions, Source, VerifiedOrder, inputs_of};
 use tw_replay::{replay_inputs_reply, replay_reply};
 use tw_replies::{
-    Close, ReadProgram, Reply, SourceText, fixed_reply, input_parts, not_utf8_reply, plain_reply,
-    put_asm_line, read_program, reasoned_reply, refused_by, refused_words_reply,
+    Close, ReadProgram, Reply, SourceText, assembled_reply, fixed_reply, input_parts,
+    not_utf8_reply, read_program, reasoned_reply, refused_words_reply,
 };
-use tw_report::put;
 use tw_workers::Gate;
 
 /// A program that is to be read, and what is asked for of it.
@@ -54,74 +44,6 @@ pub struct Asking {
 pub enum Step {
     Told(Reply),
     Asks(Asking),
-}
-
-/// A program as hex digits, in one line.
-fn hex_reply(alloc: Global, program: &Program) -> Result<Reply, AllocError>
-    ensures { IfOk result (λ r. IsWritten program.now (reply r.text.items r.close)) }
-{
-    let Ok(bytes) = encode(alloc, program) else {
-        return Err(AllocError);
-    };
-    let mut text = hex::encode(alloc, bytes)?.into_bytes();
-    put(&mut text, "\n")?;
-    Ok(Reply {
-        text,
-        close: Close::Success,
-    })
-}
-
-/// The line of a text's first fault.
-fn fault_reply(alloc: Global, fault: AsmFault) -> Result<Reply, AllocError>
-    ensures { IfOk result (λ r. reply r.text.items r.close ≡ reply (asm_line (fault_number fault.no) fault.line) Refused) }
-{
-    let mut text = Vec::new(alloc);
-    put_asm_line(alloc, &mut text, fault.no.number(), fault.line)?;
-    Ok(refused_by(text))
-}
-
-/// The program of an assembly text as hex digits, or the text's first fault.
-fn text_reply(alloc: Global, text: &str) -> Result<Reply, AllocError>
-    ensures { IfOk result (λ r. RepliesByText text.now IsWritten (reply r.text.items r.close)) }
-{
-    match assemble(alloc, text) {
-        Ok(program) => hex_reply(alloc, &program),
-        Err(fault) => match fault.no {
-            tw_asm::FaultNo::NoMemory => Err(AllocError),
-            _ => fault_reply(alloc, fault),
-        },
-    }
-}
-
-/// The same of what is to be text.
-fn written_reply(alloc: Global, input: &[u8]) -> Result<Reply, AllocError>
-    ensures { IfOk result (λ r. RepliesByText input.now IsWritten (reply r.text.items r.close)) }
-{
-    match str::from_utf8(input) {
-        Ok(text) => text_reply(alloc, text),
-        Err(_) => not_utf8_reply(alloc),
-    }
-}
-
-/// The program of a text that may have names as hex digits, or why there is none.
-fn named_reply(alloc: Global, input: &[u8]) -> Result<Reply, AllocError>
-    ensures { IfOk result (λ r. RepliesBySource Assembly input.now IsWritten (reply r.text.items r.close)) }
-{
-    match read_program(alloc, Source::Assembly, input) {
-        Ok(read) => hex_reply(alloc, &read.program),
-        Err(why) => reasoned_reply(alloc, input, why),
-    }
-}
-
-/// What is assembled, or why that can't be.
-fn assembled_reply(alloc: Global, what: Assembling, input: &[u8]) -> Result<Reply, AllocError>
-    ensures { IfOk result (λ r. RepliesByAssembling what input.now (reply r.text.items r.close)) }
-{
-    match what {
-        Assembling::Text => written_reply(alloc, input),
-        Assembling::Names => named_reply(alloc, input),
-        Assembling::Plain => plain_reply(alloc, input),
-    }
 }
 
 /// A program that is to be run with the inputs that stand behind it.

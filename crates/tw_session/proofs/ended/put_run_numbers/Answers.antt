@@ -8,7 +8,7 @@ use Rattle.tw_code.specs.machine.Machine.{run}
 use Rattle.tw_code.specs.machine.Opening.{reached}
 use Rattle.tw_machine.specs.Opening.{refusal_of}
 use Rattle.tw_machine.specs.PlainView.{PlainView}
-use Rattle.tw_picture.specs.History.{history}
+use Rattle.tw_machine.specs.Moments.{history}
 use Rattle.tw_stats.specs.Kept.{IsFirst, IsTally}
 use Rattle.tw_stats.specs.Text.{AreNumbers}
 use Rattle.tw_stats.proofs.Openings.{first_is}

@@ -1,13 +1,10 @@
 use Rattle.std.proofs.Common.{inl, map, string_bytes, subst, sym}
+use Rattle.tw_session.proofs.SessionNames.{AnswersWords, IfOk-weaker, IsInTurn, MayReply, Order, reply}
 use Rattle.clap.specs.Words.{Kinds}
-use Rattle.tw_command.specs.declared.command.Order.{Order}
-use Rattle.tw_replies.specs.Reply.{reply}
-use Rattle.tw_session.specs.Session.{AnswersWords, MayReply}
 use Rattle.tw_replies.specs.declared.reply.Reply.{Reply as MadeReply}
-use Rattle.std.proofs.lemmas.Result.{IfOk-weaker}
 use Rattle.tw_command.specs.CommandLine.{asked_by_words, word_faults}
 use Rattle.tw_command.proofs.Turned.{asked_in_turn, is_in_turn, reason_in_turn}
-use Rattle.tw_command.specs.InTurn.{IsInTurn, order_in_turn, turned}
+use Rattle.tw_command.specs.InTurn.{order_in_turn, turned}
 use Rattle.tw_session.proofs.in_turn.answer_in_turn.Goals as goal
 
 pub reply_in_turn-requires : goal.reply_in_turn-requires

@@ -1,15 +1,11 @@
 use Rattle.std.proofs.Common.{◌≡◌, ◌∙◌, List, Bor, ℕ, ap, inl, inr, map, subst, sym, true}
+use Rattle.tw_session.proofs.SessionNames.{RepliesByProgram, RepliesBySource, Run, RunOrder, Verified, text_told}
 use Rattle.std.specs.Str.Lines.{lines}
 use Rattle.clap.specs.Words.{Text}
 use Rattle.tw_command.specs.CommandLine.{run_with}
 use Rattle.tw_command.specs.InputWords.{AreSpelled}
 use Rattle.tw_command.specs.Order.{IsInputReason}
-use Rattle.tw_command.specs.declared.command.ProgramOrder.TheVariants.{Verified}
-use Rattle.tw_command.specs.declared.command.RunOrder.{RunOrder}
-use Rattle.tw_command.specs.declared.command.VerifiedOrder.TheVariants.{Run}
 use Rattle.tw_replies.specs.Inputs.{before_inputs, behind_inputs, words_in}
-use Rattle.tw_replies.specs.Program.{RepliesBySource, text_told}
-use Rattle.tw_session.specs.Session.{RepliesByProgram}
 use Rattle.tw_session.proofs.order.inputs_step.Goals as goal
 
 pub returns-in-Ok : goal.returns-in-Ok

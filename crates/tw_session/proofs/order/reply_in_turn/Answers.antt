@@ -1,11 +1,5 @@
 use Rattle.std.proofs.Common.{List, ℕ, subst}
-use Rattle.std.proofs.lemmas.Result.{IfOk-weaker}
-use Rattle.tw_command.specs.InTurn.{IsInTurn}
-use Rattle.tw_session.specs.Answered.{Comes}
-use Rattle.tw_replies.specs.Program.{RepliesBySource, text_told}
-use Rattle.tw_replies.specs.Reply.{reply}
-use Rattle.tw_session.specs.Session.{MayReply, RepliesByProgram}
-use Rattle.tw_session.specs.declared.order.Step.{Step}
+use Rattle.tw_session.proofs.SessionNames.{Comes, IfOk-weaker, IsInTurn, MayReply, RepliesByProgram, RepliesBySource, Step, reply, text_told}
 use Rattle.tw_replies.specs.declared.reply.Reply.{Reply}
 use Rattle.tw_session.proofs.order.reply_in_turn.Goals as goal
 

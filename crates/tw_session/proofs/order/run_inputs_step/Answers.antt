@@ -1,14 +1,10 @@
 use Rattle.std.proofs.Common.{◌≡◌, List, ℕ, inl, subst, true}
-use Rattle.std.proofs.lemmas.Result.{IfOk-weaker}
+use Rattle.tw_session.proofs.SessionNames.{IfOk-weaker, RepliesByProgram, RepliesBySource, Reply, Run, Verified, text_told}
 use Rattle.std.specs.Str.Lines.{lines}
 use Rattle.tw_command.specs.CommandLine.{run_with}
 use Rattle.tw_command.specs.declared.command.InputsOrder.TheVariants.{ToRun}
-use Rattle.tw_command.specs.declared.command.ProgramOrder.TheVariants.{Verified}
-use Rattle.tw_command.specs.declared.command.VerifiedOrder.TheVariants.{Run}
 use Rattle.tw_replies.specs.Inputs.{RepliesByWords, before_inputs, behind_inputs, words_in}
-use Rattle.tw_replies.specs.Program.{RepliesBySource, text_told}
-use Rattle.tw_replies.specs.Reply.{Reply}
-use Rattle.tw_session.specs.Session.{RepliesByProgram, RepliesWithInputs}
+use Rattle.tw_session.specs.Session.{RepliesWithInputs}
 use Rattle.tw_session.proofs.Leading.{comes_on}
 use Rattle.tw_session.proofs.order.run_inputs_step.Goals as goal
 

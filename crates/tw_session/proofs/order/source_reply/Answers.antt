@@ -1,14 +1,5 @@
 use Rattle.std.proofs.Common.{◌≡◌, List, ℕ, Option, inl, rules, subst}
-use Rattle.std.proofs.lemmas.Result.{IfOk-weaker}
-use Rattle.tw_command.specs.declared.command.ProgramOrder.TheVariants.{Verified}
-use Rattle.tw_command.specs.declared.command.RunOrder.{RunOrder}
-use Rattle.tw_command.specs.declared.command.VerifiedOrder.TheVariants.{Run}
-use Rattle.tw_session.specs.Answered.{Leads}
-use Rattle.tw_replies.specs.Program.{RepliesBySource, text_told}
-use Rattle.tw_replies.specs.Reply.{reply}
-use Rattle.tw_session.specs.Session.{RepliesByProgram}
-use Rattle.tw_replies.specs.Source.{text_of}
-use Rattle.tw_session.specs.declared.programs.Answered.{Answered}
+use Rattle.tw_session.proofs.SessionNames.{Answered, IfOk-weaker, Leads, RepliesByProgram, RepliesBySource, Run, RunOrder, Verified, reply, text_of, text_told}
 use Rattle.tw_replies.specs.declared.reply.Reply.{Reply}
 use Rattle.tw_replies.proofs.Nones.{Tells, none_told}
 use Rattle.tw_session.proofs.order.source_reply.Goals as goal

@@ -1,11 +1,7 @@
 use Rattle.std.proofs.Common.{◌≡◌, ◌∙◌, ap, subst, sym}
-use Rattle.std.proofs.lemmas.Result.{IfOk-weaker}
+use Rattle.tw_session.proofs.SessionNames.{IfOk-weaker, RepliesByProgram, Run, RunOrder, Verified, text_of}
 use Rattle.tw_command.specs.declared.command.ProgramOrder.{ProgramOrder}
-use Rattle.tw_command.specs.declared.command.ProgramOrder.TheVariants.{Verified}
-use Rattle.tw_command.specs.declared.command.RunOrder.{RunOrder}
-use Rattle.tw_command.specs.declared.command.VerifiedOrder.TheVariants.{Run}
-use Rattle.tw_session.specs.Session.{RepliesByProgram, RepliesByVerified}
-use Rattle.tw_replies.specs.Source.{text_of}
+use Rattle.tw_session.specs.Session.{RepliesByVerified}
 use Rattle.tw_session.proofs.Leading.{leads_on}
 use Rattle.tw_session.proofs.programs.program_reply.Goals as goal
 

@@ -1,15 +1,13 @@
 use Rattle.std.proofs.Common.{◌≡◌, List, inl, inr, subst, sym}
-use Rattle.std.proofs.lemmas.Result.{IfOk-weaker}
+use Rattle.tw_session.proofs.SessionNames.{IfOk-weaker, Run, RunOrder, reply, text_of}
 use Rattle.tw_code.specs.accepting.WellTyped.{IsAccepted, IsFirstRefusal}
 use Rattle.tw_code.specs.declared.procedure.Procedure.{Procedure}
 use Rattle.tw_code.specs.format.Program.{Versioned}
 use Rattle.tw_command.specs.declared.command.Places.{Places}
-use Rattle.tw_command.specs.declared.command.RunOrder.{RunOrder}
-use Rattle.tw_command.specs.declared.command.VerifiedOrder.TheVariants.{Run}
 use Rattle.tw_verify.specs.Refusal.{verify_refusal_number}
-use Rattle.tw_session.specs.Session.{IsRefused, RepliesByAccepted, RepliesByVerified}
-use Rattle.tw_replies.specs.Source.{MayBeSource, text_of}
-use Rattle.tw_replies.specs.Reply.{reply}
+use Rattle.tw_replies.specs.Check.{IsRefused}
+use Rattle.tw_session.specs.Session.{RepliesByAccepted, RepliesByVerified}
+use Rattle.tw_replies.specs.Source.{MayBeSource}
 use Rattle.tw_session.proofs.Leading.{leads_on}
 use Rattle.tw_session.proofs.programs.verified_reply.Goals as goal
 

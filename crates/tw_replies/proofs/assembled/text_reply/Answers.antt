@@ -1,8 +1,7 @@
 use Rattle.std.proofs.Common.{inl, inr}
-use Rattle.std.proofs.lemmas.Result.{IfOk-weaker}
-use Rattle.tw_replies.specs.declared.reply.Reply.{Reply}
+use Rattle.tw_replies.proofs.ReplyNames.{IfOk-weaker, Reply}
 use Rattle.tw_replies.proofs.Faults.{fault_has}
-use Rattle.tw_session.proofs.order.text_reply.Goals as goal
+use Rattle.tw_replies.proofs.assembled.text_reply.Goals as goal
 
 pub returns-in-Ok : goal.returns-in-Ok
 returns-in-Ok c = IfOk-weaker _ _ _ (λ (r : Reply) h. inl (c.utf8.text, inl (c.in-Ok.program, c.in-Ok.ensures, h))) c.hex_reply.ensures

@@ -1,12 +1,8 @@
 use Rattle.std.proofs.Common.{inl}
-use Rattle.std.proofs.lemmas.Result.{IfOk-weaker}
-use Rattle.tw_command.specs.declared.command.Source.TheVariants.{Assembly}
-use Rattle.tw_replies.specs.Program.{RepliesBySource}
-use Rattle.tw_replies.specs.Reply.{reply}
-use Rattle.tw_session.specs.Session.{IsWritten}
-use Rattle.tw_replies.specs.declared.reply.Reply.{Reply}
+use Rattle.tw_replies.specs.Program.{IsWritten}
+use Rattle.tw_replies.proofs.ReplyNames.{Assembly, IfOk-weaker, RepliesBySource, Reply, reply}
 use Rattle.tw_replies.proofs.Nones.{Tells, none_told}
-use Rattle.tw_session.proofs.order.named_reply.Goals as goal
+use Rattle.tw_replies.proofs.assembled.named_reply.Goals as goal
 
 pub returns-in-Ok : goal.returns-in-Ok
 returns-in-Ok c = IfOk-weaker _ _ _ (λ (r : Reply) h. inl (c.in-Ok.read.program, c.in-Ok.ensures.spells, h)) c.hex_reply.ensures

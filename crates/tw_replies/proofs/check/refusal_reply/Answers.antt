@@ -1,10 +1,8 @@
 use Rattle.std.proofs.Common.{◌∙◌, ◌++◌, ℕ, List, ap, append_assoc}
 use Rattle.tw_replies.specs.Lines.{verify_line}
-use Rattle.tw_verify.specs.Refusal.{verify_refusal_number}
-use Rattle.tw_replies.specs.Reply.{reply}
-use Rattle.tw_replies.specs.declared.close.Close.TheVariants.{Refused}
+use Rattle.tw_replies.proofs.ReplyNames.{Refused, reply, verify_refusal_number}
 use Rattle.tw_replies.proofs.Places.{placed}
-use Rattle.tw_session.proofs.programs.refusal_reply.Goals as goal
+use Rattle.tw_replies.proofs.check.refusal_reply.Goals as goal
 
 pub returns : goal.returns
 returns c =

@@ -1,10 +1,7 @@
 use Rattle.std.proofs.Common.{List, ℕ, inr, subst}
-use Rattle.std.proofs.lemmas.Result.{IfOk-weaker}
-use Rattle.tw_replies.specs.Program.{RepliesByText}
-use Rattle.tw_replies.specs.Reply.{reply}
-use Rattle.tw_session.specs.Session.{IsWritten}
-use Rattle.tw_replies.specs.declared.reply.Reply.{Reply}
-use Rattle.tw_session.proofs.order.written_reply.Goals as goal
+use Rattle.tw_replies.specs.Program.{IsWritten, RepliesByText}
+use Rattle.tw_replies.proofs.ReplyNames.{IfOk-weaker, Reply, reply}
+use Rattle.tw_replies.proofs.assembled.written_reply.Goals as goal
 
 pub returns-in-Ok : goal.returns-in-Ok
 returns-in-Ok c =

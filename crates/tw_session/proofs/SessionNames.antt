@@ -1,0 +1,16 @@
+-- Names of sessions, of replies and of runs, for the files here.
+pub use Rattle.std.proofs.lemmas.Result.{IfOk-weaker}
+pub use Rattle.tw_command.specs.CommandLine.{Asked}
+pub use Rattle.tw_command.specs.InTurn.{IsInTurn}
+pub use Rattle.tw_command.specs.declared.command.Order.{Order}
+pub use Rattle.tw_command.specs.declared.command.ProgramOrder.TheVariants.{Verified}
+pub use Rattle.tw_command.specs.declared.command.RunOrder.{RunOrder}
+pub use Rattle.tw_command.specs.declared.command.VerifiedOrder.TheVariants.{Run}
+pub use Rattle.tw_replies.specs.Program.{RepliesBySource, text_told}
+pub use Rattle.tw_replies.specs.Reply.{Reply, reply}
+pub use Rattle.tw_replies.specs.Source.{text_of}
+pub use Rattle.tw_session.specs.Answered.{Comes, Leads}
+pub use Rattle.tw_session.specs.Session.{AnswersWords, MayAnswer, MayReply, RepliesByInput, RepliesByProgram}
+pub use Rattle.tw_session.specs.declared.order.Step.{Step}
+pub use Rattle.tw_session.specs.declared.programs.Answered.{Answered}
+pub use Rattle.tw_session.specs.declared.status.Status.TheVariants.{NoMemory, WriteFailed}
