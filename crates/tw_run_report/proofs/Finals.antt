@@ -1,13 +1,12 @@
 -- A run has ended by itself exactly where its state is quiet.
 use Rattle.std.proofs.Common.{◌≡◌, ◌==◌, ℕ, Bool, true, false, cond, List, length, Some, None, refl, sym, ap, ◌∙◌}
+use Rattle.tw_run_report.proofs.RunNames.{Procedure, State, circle}
 use Rattle.std.specs.FinMap.{len}
 use Rattle.std.specs.Option.{option_map, option_or}
 use Rattle.tw_types.specs.declared.ending.Ending.TheVariants as ending
 use Rattle.tw_types.specs.Circle.{circle_of}
-use Rattle.tw_code.specs.declared.procedure.Procedure.{Procedure}
 use Rattle.tw_code.specs.machine.Ending.{is_quiet}
-use Rattle.tw_code.specs.machine.Pending.{circle, pending_rules}
-use Rattle.tw_code.specs.machine.State.{State}
+use Rattle.tw_code.specs.machine.Pending.{pending_rules}
 use Rattle.tw_pool.specs.declared.answer.Closing.TheVariants as closing
 use Rattle.tw_pool.specs.PoolView.{PoolView}
 use Rattle.tw_pool.specs.Turns.{closing_at, closing_of}

@@ -1,8 +1,11 @@
-//! The report of the end of a run on the pool, and the circle where it is stuck.
+//! What is told of a run on the pool that is over: its report and the circle where it is stuck, its events, numbers and picture.
 #![tactic(auto)]
 
 mod closing_text;
 mod end_report;
+mod ended;
 mod left;
+mod run_behind;
 
 pub use end_report::{circle, report};
+pub use ended::ended_reply;

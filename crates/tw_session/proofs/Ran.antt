@@ -1,5 +1,5 @@
 -- What closes a run is what the definition of its end says.
-use Rattle.std.proofs.Common.{◌≡◌, ◌≢◌, ◌≤◌, ◌==◌, ◌∙◌, Bool, true, false, refl, sym, ap, subst, List, length, Option, Some, None}
+use Rattle.std.proofs.Common.{◌≡◌, ◌≢◌, ◌≤◌, ◌==◌, ◌∙◌, ◌++◌, Bool, true, false, ℕ, refl, sym, ap, subst, inl, List, length, Option, Some, None, IfOk, Result, Ok, Err}
 use Rattle.std.proofs.lemmas.Bool.{eqb-true}
 use Rattle.std.specs.Prelude.{if◌then◌else◌}
 use Rattle.std.specs.Option.{option_map, option_or}
@@ -22,9 +22,12 @@ use Rattle.tw_pool.specs.PoolView.{PoolView}
 use Rattle.tw_host.specs.Run.{Run, run_of}
 use Rattle.tw_in_turn.specs.InTurn.{ComesTo, IsOver}
 use Rattle.tw_command.specs.declared.command.RunOrder.{RunOrder}
-use Rattle.tw_run_report.specs.Ends.{end_report}
-use Rattle.tw_session.specs.Over.{IsRunOver}
-use Rattle.tw_session.specs.Run.{EndsSo, IsOrdered, run_as}
+use Rattle.tw_run_report.specs.Ends.{IsEndReport, end_report}
+use Rattle.tw_run_report.specs.Over.{IsRunOver}
+use Rattle.tw_run_report.specs.Run.{IsRunBehind, IsRunText, close_of, trace_text}
+use Rattle.tw_replies.specs.Reply.{reply}
+use Rattle.tw_replies.specs.declared.reply.Reply.{Reply as MadeReply}
+use Rattle.tw_session.specs.Run.{EndsSo, IsOrdered, IsRun, RepliesByRun, run_as}
 
 -- by how the run has ended by itself, whether it was stopped, and whether there is room for no event
 abbrev closing_by : Option Ending → (stopped full : Bool) → Option Closing
@@ -47,23 +50,28 @@ ends_so order history s None false false closing is at told other = absurd (none
 -- of a run that wasn't stopped
 pub over : (verified : TypedProgram) (order : RunOrder) (p : PoolView) (final : FinalView) (history : HistoryView) (closing : Closing)
     → run_of p ≡ run_as verified order → length p.history ≤ order.limit → IsShut p final history → IsOrdered order.in_turn verified.program order p.history → final.closing ≡ Some closing → closing ≢ Stopped
-    → IsRunOver verified.program order final history.events closing
+    → (o : IsRunOver verified.program order final history.events closing) × IsRun verified.program order history.events o.state closing
 over verified order p final history closing of_run few shut turns ended other =
     let s = shut.state in
     let here : EndsSo order history.events s closing =
     ends_so order history.events s (ending s) p.stopped (length p.history == p.limit) closing refl (λ full. ap (λ (es : List Event). length es) shut.events ∙ (eqb-true (length p.history) p.limit full ∙ ap (λ (r : Run). r.limit) of_run)) (sym shut.closing ∙ ended) other in
     let leads : reached verified.program order.inputs order.layout p.history ≡ Went s =
     subst (λ (r : Run). reached r.program.program r.inputs r.layout p.history ≡ Went s) of_run shut.has_state in
-    record {
-      state = s;
-      is = record {
-        few = subst (λ (es : List Event). length es ≤ order.limit) (sym shut.events) few;
-        reaches = subst (λ (es : List Event). reached verified.program order.inputs order.layout es ≡ Went s) (sym shut.events) leads;
-        ends = here;
-        turns = subst (λ (es : List Event). IsOrdered order.in_turn verified.program order es) (sym shut.events) turns;
-      };
-      reports = λ told is_report. is_report p history shut ∙ ap (λ (r : Run). end_report r.program.program s final.closing) of_run ∙ ap (λ (o : Option Closing). end_report verified.program s o) ended;
-    }
+    let short = subst (λ (es : List Event). length es ≤ order.limit) (sym shut.events) few in
+    let there : reached verified.program order.inputs order.layout history.events ≡ Went s = subst (λ (es : List Event). reached verified.program order.inputs order.layout es ≡ Went s) (sym shut.events) leads in
+    let reports : (told : List ℕ) → IsEndReport final told → told ≡ end_report verified.program s (Some closing) = λ told is_report. is_report p history shut ∙ ap (λ (r : Run). end_report r.program.program s final.closing) of_run ∙ ap (λ (o : Option Closing). end_report verified.program s o) ended in (
+      record { state = s; few = short; reaches = there; reports = reports },
+      record { few = short; reaches = there; ends = here; turns = subst (λ (es : List Event). IsOrdered order.in_turn verified.program order es) (sym shut.events) turns },
+    )
+
+-- what is told of a run is a reply by it
+pub replied : {E : Type 0} (made : Result MadeReply E) (text : Option (List ℕ)) (program : List Procedure) (order : RunOrder) (final : FinalView) (events : List Event) (closing : Closing)
+    → ((o : IsRunOver program order final events closing) × IsRun program order events o.state closing)
+    → IfOk made (λ r. (o : IsRunOver program order final events closing) → (told : List ℕ) × (more : List ℕ) × IsRunText order.answer text program order events o.state closing told
+    × IsRunBehind order.answer text program order events o.state closing more × (reply r.text.items r.close ≡ reply (trace_text order.trace events ++ (told ++ more)) (close_of closing)))
+    → IfOk made (λ r. RepliesByRun text program order (reply r.text.items r.close))
+replied (Ok r) text program order final events closing (o, is) h = let t = h o in inl (events, o.state, closing, t.0, t.1, is, t.2, t.3, t.4)
+replied (Err e) text program order final events closing over h = tt
 
 -- in threads nobody says more
 pub in_threads : (program : List Procedure) (order : RunOrder) (history : List Event) → order.in_turn ≡ false → IsOrdered order.in_turn program order history

@@ -11,7 +11,6 @@ ghost use Rattle.tw_session.specs.Run.{RepliesByOpening, RepliesByRun};
 ghost use Rattle.tw_session.specs.Session.{AnswersWords};
 ghost use Rattle.tw_replies.specs.Source.{MayBeSource, text_of};
 
-use crate::ended::ended_reply;
 use crate::order::reply_in_turn;
 use crate::run::end_of;
 use crate::shell::unordered_reply;
@@ -21,6 +20,7 @@ use tw_in_turn::{Left, run_in_turn};
 use tw_pool::OpenRefusal;
 use tw_replay::inputs_refused_reply;
 use tw_replies::{Reply, SourceText};
+use tw_run_report::ended_reply;
 use tw_verify::Verified;
 
 /// The reply to what is left of a run.

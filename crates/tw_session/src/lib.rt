@@ -4,13 +4,11 @@
 //! without streams, and `answer_in_turn` the same without threads.
 #![tactic(auto)]
 
-mod ended;
 mod in_turn;
 mod input;
 mod order;
 mod programs;
 mod run;
-mod run_behind;
 mod shell;
 mod status;
 mod streams;

@@ -1,39 +1,26 @@
 //! What `run` answers.
 
-ghost use Rattle.std.specs.Prelude.{◌≡◌, ◌≢◌, ◌++◌, ℕ, IfOk, IfSome, List, None, OnOk, Some, codes, decimal, false};
+ghost use Rattle.std.specs.Prelude.{◌≡◌, ◌≢◌, IfOk, IfSome, List, None, Some, false};
 ghost use Rattle.tw_host.specs.Ends.{Closes};
 ghost use Rattle.tw_host.specs.Seats.{Told};
 ghost use Rattle.tw_in_turn.specs.InTurn.{HasEnded};
 ghost use Rattle.tw_code.specs.machine.Inputs.{AreInputsOf};
 ghost use Rattle.tw_replies.specs.Reply.{reply};
-ghost use Rattle.tw_session.specs.Run.{RepliesByOpening, RepliesByRun, close_of, limit_told, run_as, threads_refused, trace_text};
+ghost use Rattle.tw_session.specs.Run.{RepliesByOpening, RepliesByRun, run_as, threads_refused};
 ghost use Rattle.tw_replies.specs.Source.{MayBeSource, text_of};
 
-use crate::ended::ended_reply;
 use std::alloc::{AllocError, Global};
 use std::sync::Wait;
 use std::thread::Threads;
 use std::time::Clock;
 use tw_command::RunOrder;
 use tw_host::Closed;
-use tw_pool::{Closing, Final, History, OpenRefusal};
+use tw_pool::{Closing, OpenRefusal};
 use tw_replay::inputs_refused_reply;
 use tw_replies::{Close, Reply, SourceText, fixed_reply};
-use tw_report::{put, put_event_line, put_numbered};
+use tw_run_report::ended_reply;
 use tw_verify::Verified;
 use tw_workers::{Gate, run};
-
-/// How a session ends whose run has ended so.
-pub fn close_of(closing: Closing) -> Close
-    ensures { result ≡ close_of closing }
-{
-    match closing {
-        Closing::Quiet => Close::Success,
-        Closing::Stuck(_) => Close::Stuck,
-        Closing::Limit => Close::Limit,
-        Closing::Stopped => Close::Refused,
-    }
-}
 
 /// Why a run is over that wasn't stopped.
 pub fn end_of(closing: Option<Closing>) -> Option<Closing>
@@ -46,51 +33,6 @@ pub fn end_of(closing: Option<Closing>) -> Option<Closing>
         Some(Closing::Stuck(rules)) => Some(Closing::Stuck(rules)),
         Some(Closing::Limit) => Some(Closing::Limit),
         Some(Closing::Stopped) | None => None,
-    }
-}
-
-/// Adds the lines of the events, where they are asked for.
-pub fn put_trace(
-    alloc: Global,
-    out: &mut Vec<u8>,
-    asked: bool,
-    history: &History,
-) -> Result<(), AllocError>
-    ensures { OnOk result (out.new.items ≡ out.old.items ++ trace_text asked history.now.events) }
-{
-    if !asked {
-        return Ok(());
-    }
-    put(out, "events\n")?;
-    for index in 0..history.len() {
-        put_event_line(alloc, out, &history.event(index))?;
-    }
-    put(out, "end\n")
-}
-
-fn put_limit_line(alloc: Global, out: &mut Vec<u8>, events: usize) -> Result<(), AllocError>
-    ensures { OnOk result (out.new.items ≡ out.old.items ++ (codes "events " ++ (decimal events ++ codes "; --limit takes up to 1000000\n"))) }
-{
-    put_numbered(alloc, out, "events ", events)?;
-    put(out, "; --limit takes up to 1000000\n")
-}
-
-/// Adds what stands behind `limit`, where the program was read from a text.
-pub fn put_limit(
-    alloc: Global,
-    out: &mut Vec<u8>,
-    source: &Option<SourceText<'_>>,
-    order: &RunOrder,
-    closing: Closing,
-) -> Result<(), AllocError>
-    ensures { OnOk result (out.new.items ≡ out.old.items ++ limit_told (text_of source.now) order.now closing) }
-{
-    match source {
-        Some(_) => match closing {
-            Closing::Limit => put_limit_line(alloc, out, order.limit.events()),
-            Closing::Quiet | Closing::Stuck(_) | Closing::Stopped => Ok(()),
-        },
-        None => Ok(()),
     }
 }
 

@@ -1,0 +1,230 @@
+//! What is written of a run that is over.
+
+ghost use Rattle.std.specs.Prelude.{◌≡◌, ◌++◌, ℕ, List, None, IfOk, OnOk, codes, decimal};
+ghost use Rattle.tw_types.specs.Outcome.{Went};
+ghost use Rattle.tw_code.specs.machine.Bounds.{AreBelow, opening_bound};
+ghost use Rattle.tw_code.specs.machine.Inputs.{AreInputsOf};
+ghost use Rattle.tw_code.specs.machine.Opening.{reached};
+ghost use Rattle.tw_code.specs.machine.State.{State as MachineState};
+ghost use Rattle.tw_machine.specs.Opening.{refusal_of};
+ghost use Rattle.tw_run_report.specs.Ends.{IsEndReport};
+ghost use Rattle.tw_run_report.specs.Over.{Goes, IsRunOver};
+ghost use Rattle.tw_replies.specs.Reply.{reply};
+ghost use Rattle.tw_run_report.specs.Run.{AreRunNumbers, IsRunBehind, IsRunPicture, IsRunText, begins, close_of, limit_told, trace_text};
+ghost use Rattle.tw_replies.specs.Source.{MayBeSource, text_of};
+
+use crate::end_report::report;
+use crate::run_behind::put_run_behind;
+use std::alloc::{AllocError, Global};
+use tw_code::Program;
+use tw_command::{Answer, RunOrder, Stretch};
+use tw_machine::Plain;
+use tw_pool::{Closing, Final, History};
+use tw_replay::{Counting, budgets_of, count, draw, put_bytes};
+use tw_replies::{Close, Reply, SourceText};
+use tw_report::{put, put_event_line, put_numbered};
+use tw_types::Event;
+use tw_verify::Verified;
+
+/// How a session ends whose run has ended so.
+fn close_of(closing: Closing) -> Close
+    ensures { result ≡ close_of closing }
+{
+    match closing {
+        Closing::Quiet => Close::Success,
+        Closing::Stuck(_) => Close::Stuck,
+        Closing::Limit => Close::Limit,
+        Closing::Stopped => Close::Refused,
+    }
+}
+
+/// The events of a history, in their order.
+pub fn events_of(alloc: Global, history: &History) -> Result<Vec<Event>, AllocError>
+    ensures { IfOk result (λ events. events.items ≡ history.now.events) }
+{
+    let mut events = Vec::new(alloc);
+    for index in 0..history.len() {
+        events.push(history.event(index))?;
+    }
+    Ok(events)
+}
+
+/// Adds the lines of the events, where they are asked for.
+fn put_trace(
+    alloc: Global,
+    out: &mut Vec<u8>,
+    asked: bool,
+    history: &History,
+) -> Result<(), AllocError>
+    ensures { OnOk result (out.new.items ≡ out.old.items ++ trace_text asked history.now.events) }
+{
+    if !asked {
+        return Ok(());
+    }
+    put(out, "events\n")?;
+    for index in 0..history.len() {
+        put_event_line(alloc, out, &history.event(index))?;
+    }
+    put(out, "end\n")
+}
+
+fn put_limit_line(alloc: Global, out: &mut Vec<u8>, events: usize) -> Result<(), AllocError>
+    ensures { OnOk result (out.new.items ≡ out.old.items ++ (codes "events " ++ (decimal events ++ codes "; --limit takes up to 1000000\n"))) }
+{
+    put_numbered(alloc, out, "events ", events)?;
+    put(out, "; --limit takes up to 1000000\n")
+}
+
+/// Adds what stands behind `limit`, where the program was read from a text.
+fn put_limit(
+    alloc: Global,
+    out: &mut Vec<u8>,
+    source: &Option<SourceText<'_>>,
+    order: &RunOrder,
+    closing: Closing,
+) -> Result<(), AllocError>
+    ensures { OnOk result (out.new.items ≡ out.old.items ++ limit_told (text_of source.now) order.now closing) }
+{
+    match source {
+        Some(_) => match closing {
+            Closing::Limit => put_limit_line(alloc, out, order.limit.events()),
+            Closing::Quiet | Closing::Stuck(_) | Closing::Stopped => Ok(()),
+        },
+        None => Ok(()),
+    }
+}
+
+/// The reference machine where a run begins.
+fn first_machine(alloc: Global, order: &RunOrder, program: Program) -> Result<Plain, AllocError>
+    requires { refusal_of program.procedures order.now.inputs ≡ None }
+    ensures first { IfOk result (λ plain. plain ≡ begins program.version program.procedures order.now) }
+    ensures below { IfOk result (λ plain. AreBelow opening_bound plain.state) }
+{
+    match Plain::open(alloc, program, order.inputs.as_slice(), order.layout) {
+        Ok(plain) => Ok(plain),
+        Err(_) => Err(AllocError),
+    }
+}
+
+/// Adds the numbers of the events.
+fn put_run_numbers(
+    alloc: Global,
+    out: &mut Vec<u8>,
+    order: &RunOrder,
+    verified: Verified,
+    history: &History,
+) -> Result<(), AllocError>
+    requires inputs { AreInputsOf verified.program order.now.inputs }
+    requires goes { Goes verified.program order.now history.now.events }
+    ensures { OnOk result ((numbers : List ℕ) × AreRunNumbers verified.program order.now history.now.events numbers × (out.new.items ≡ out.old.items ++ numbers)) }
+{
+    let _procedures = verified.program().procedures();
+    let _most = order.limit.events();
+    let budgets = budgets_of(alloc, &verified)?;
+    let events = events_of(alloc, history)?;
+    let first = first_machine(alloc, order, verified.into_program())?;
+    match count(alloc, first, &events)? {
+        Counting::Made(counted) => {
+            let numbers = counted.tally.text(alloc, &counted.plain, &budgets)?;
+            put_bytes(out, &numbers)
+        }
+        Counting::Stopped(_) => unreachable!(),
+    }
+}
+
+/// Adds the picture of these of the events.
+fn put_run_picture(
+    alloc: Global,
+    out: &mut Vec<u8>,
+    shown: Stretch,
+    order: &RunOrder,
+    verified: Verified,
+    history: &History,
+) -> Result<(), AllocError>
+    requires inputs { AreInputsOf verified.program order.now.inputs }
+    requires goes { Goes verified.program order.now history.now.events }
+    ensures { OnOk result ((s : MachineState) → reached verified.program order.now.inputs order.now.layout history.now.events ≡ Went s
+        → (picture : List ℕ) × IsRunPicture shown verified.program order.now history.now.events s picture × (out.new.items ≡ out.old.items ++ picture)) }
+{
+    let _procedures = verified.program().procedures();
+    let _most = order.limit.events();
+    let events = events_of(alloc, history)?;
+    let first = first_machine(alloc, order, verified.into_program())?;
+    let drawn = draw(alloc, shown, first, &events)?;
+    put_bytes(out, &drawn.text)
+}
+
+/// Adds the report.
+fn put_run_report(
+    alloc: Global,
+    out: &mut Vec<u8>,
+    source: &Option<SourceText<'_>>,
+    order: &RunOrder,
+    outcome: &Final,
+    closing: Closing,
+) -> Result<(), AllocError>
+    ensures { OnOk result ((told : List ℕ) × IsEndReport outcome.now told
+        × (out.new.items ≡ out.old.items ++ (told ++ limit_told (text_of source.now) order.now closing))) }
+{
+    let told = report(alloc, outcome)?;
+    put_bytes(out, &told)?;
+    put_limit(alloc, out, source, order, closing)
+}
+
+/// Adds what is asked for.
+fn put_told(
+    alloc: Global,
+    out: &mut Vec<u8>,
+    source: &Option<SourceText<'_>>,
+    order: &RunOrder,
+    verified: Verified,
+    outcome: &Final,
+    history: &History,
+    closing: Closing,
+) -> Result<(), AllocError>
+    requires inputs { AreInputsOf verified.program order.now.inputs }
+    requires over { IsRunOver verified.program order.now outcome.now history.now.events closing }
+    ensures { OnOk result ((over : IsRunOver verified.program order.now outcome.now history.now.events closing)
+        → (told : List ℕ) × IsRunText order.now.answer (text_of source.now) verified.program order.now history.now.events over.state closing told × (out.new.items ≡ out.old.items ++ told)) }
+{
+    match order.answer {
+        Answer::Report => put_run_report(alloc, out, source, order, outcome, closing),
+        Answer::Numbers => {
+            put_run_report(alloc, out, source, order, outcome, closing)?;
+            put_run_numbers(alloc, out, order, verified, history)
+        }
+        Answer::Picture(shown) => put_run_picture(alloc, out, shown, order, verified, history),
+    }
+}
+
+/// The reply where a run is over.
+pub fn ended_reply(
+    alloc: Global,
+    source: &Option<SourceText<'_>>,
+    order: &RunOrder,
+    verified: Verified,
+    outcome: &Final,
+    history: &History,
+    closing: Closing,
+) -> Result<Reply, AllocError>
+    requires inputs { AreInputsOf verified.program order.now.inputs }
+    requires over { IsRunOver verified.program order.now outcome.now history.now.events closing }
+    requires source { MayBeSource source.now verified.program }
+    ensures { IfOk result (λ r. (over : IsRunOver verified.program order.now outcome.now history.now.events closing) → (told : List ℕ) × (more : List ℕ)
+        × IsRunText order.now.answer (text_of source.now) verified.program order.now history.now.events over.state closing told
+        × IsRunBehind order.now.answer (text_of source.now) verified.program order.now history.now.events over.state closing more
+        × (reply r.text.items r.close ≡ reply (trace_text order.now.trace history.now.events ++ (told ++ more)) (close_of closing))) }
+{
+    let _procedures = verified.program().procedures();
+    let _most = order.limit.events();
+    let mut text = Vec::new(alloc);
+    put_trace(alloc, &mut text, order.trace, history)?;
+    put_told(
+        alloc, &mut text, source, order, verified, outcome, history, closing,
+    )?;
+    put_run_behind(alloc, &mut text, source, order, history, closing)?;
+    Ok(Reply {
+        text,
+        close: close_of(closing),
+    })
+}
