@@ -90,11 +90,12 @@ pub record IsCalled (program : List Procedure) (kind : Kind) (action : Action) (
   pub procedure : Procedure
   pub is : slice_get program action.procedure ≡ Some procedure
   pub number : call.task.procedure ≡ action.procedure
+  pub params : call.params ≡ procedure.params
   pub of_kind : call.task.kind ≡ procedure.kind
   pub target : call.task.target ≡ action.target
   pub asks : AsksRights (first_stages call.params) call.task.args
 
-called_is : (program : List Procedure) (kind : Kind) (c : Context) (action : Action) → WhereOk (called program kind c action) (IsCalled program kind action)
+pub called_is : (program : List Procedure) (kind : Kind) (c : Context) (action : Action) → WhereOk (called program kind c action) (IsCalled program kind action)
 called_is program kind c action =
     ok_there (slice_get program action.procedure) WrongCall (λ p is.
     ok_then (must (length action.args == length p.params) WrongCall) (λ few.
@@ -110,13 +111,14 @@ called_is program kind c action =
         procedure = p;
         is = is;
         number = refl;
+        params = refl;
         of_kind = refl;
         target = refl;
         asks = ok_of (handed_over c.position.values c.rights p.params action.args) _ given (handed_asks c.position.values c.rights p.params action.args (eqb-true (length action.args) (length p.params) (must_ok (length action.args == length p.params) WrongCall few))) e;
       };
     }))))))))
 
-put_called_is : (program : List Procedure) (kind : Kind) (c : Context) (action : Action) → WhereOk (put_called program kind c action) (IsCalled program kind action)
+pub put_called_is : (program : List Procedure) (kind : Kind) (c : Context) (action : Action) → WhereOk (put_called program kind c action) (IsCalled program kind action)
 put_called_is program kind c action =
     ok_both (called program kind c action) (λ call e. ok_then (must (all_pass is_closed_if_asked c.store.live call.params call.task.args) ArgumentNotClosed) (λ _. record { is = ok_of (called program kind c action) _ call (called_is program kind c action) e }))
 
