@@ -20,6 +20,7 @@ mod seats;
 mod shut;
 mod sitters;
 mod take;
+mod work;
 
 pub use outputs::Outputs;
 pub use parts::Parts;

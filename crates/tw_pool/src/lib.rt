@@ -12,6 +12,7 @@ mod pending;
 mod pool;
 mod turn;
 mod words;
+mod work;
 
 pub use answer::{Closing, Turn};
 pub use ends::Final;

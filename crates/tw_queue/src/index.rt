@@ -79,4 +79,21 @@ impl Index {
             Actor::Server(_) => None,
         }
     }
+
+    /// Returns whether there is a rank for this actor alone.
+    pub fn has_targeted(&self, actor: Actor) -> bool {
+        match actor {
+            Actor::Engine(number) => self.control.has_targeted(number),
+            Actor::Worker(number) => self.leaf.has_targeted(number),
+            Actor::Server(_) => false,
+        }
+    }
+
+    /// Returns whether there is a rank of this kind without a target.
+    pub fn has_untargeted(&self, kind: Kind) -> bool {
+        match kind {
+            Kind::Control => self.control.has_untargeted(),
+            Kind::Leaf => self.leaf.has_untargeted(),
+        }
+    }
 }

@@ -89,6 +89,16 @@ impl Lists {
         lane.pop()
     }
 
+    /// Returns whether there is a rank for this target alone.
+    pub fn has_targeted(&self, number: u8) -> bool {
+        self.first(usize::from(number)).is_some()
+    }
+
+    /// Returns whether there is a rank without a target.
+    pub fn has_untargeted(&self) -> bool {
+        self.first(Lists::ANY).is_some()
+    }
+
     /// The lane of that rank, with the rank.
     #[inline(always)]
     fn best_lane(&self, number: u8) -> Option<(usize, Rank)>

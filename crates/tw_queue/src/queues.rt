@@ -145,6 +145,16 @@ impl TaskQueues {
         Some(task)
     }
 
+    /// Returns whether a task waits that only this actor may take.
+    pub fn has_targeted(&self, actor: Actor) -> bool {
+        self.index.has_targeted(actor)
+    }
+
+    /// Returns whether a task of this kind waits that has no target.
+    pub fn has_untargeted(&self, kind: Kind) -> bool {
+        self.index.has_untargeted(kind)
+    }
+
     /// Spends every right of every task.
     pub fn shut(self) {
         let TaskQueues { tasks, index: _ } = self;

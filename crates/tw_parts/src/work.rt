@@ -1,0 +1,37 @@
+//! Which actor has work that waits.
+
+ghost use Rattle.std.specs.Prelude.{◌≡◌, ◌<◌, ℕ, length};
+ghost use Rattle.tw_types.specs.declared.actor.Actor.TheVariants.{Server};
+
+use crate::parts::Parts;
+use tw_types::{Actor, Kind};
+
+impl<'a> Parts<'a> {
+    /// Returns whether a notice waits for a server.
+    fn has_notice(&self, server: u8) -> bool
+        requires { server < length self.now.store.queues }
+    {
+        self.store.oldest_notice(server).is_some()
+    }
+
+    /// Returns whether an engine has a rule to release.
+    fn has_release(&self, engine: u8) -> bool {
+        self.rules.next_release(engine).is_some()
+    }
+
+    /// Returns whether work waits that others made for this actor alone. Data to ask for aren't counted: an engine makes its rules itself.
+    pub fn has_own_work(&self, actor: Actor) -> bool
+        requires { (server : ℕ) → actor ≡ Server server → server < length self.now.store.queues }
+    {
+        match actor {
+            Actor::Engine(engine) => self.has_release(engine) || self.tasks.has_targeted(actor),
+            Actor::Server(server) => self.has_notice(server),
+            Actor::Worker(_) => self.tasks.has_targeted(actor),
+        }
+    }
+
+    /// Returns whether a task of this kind waits that has no target.
+    pub fn has_untargeted(&self, kind: Kind) -> bool {
+        self.tasks.has_untargeted(kind)
+    }
+}
