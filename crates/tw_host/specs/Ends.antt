@@ -1,9 +1,11 @@
 -- What the close of a host answers.
-use Rattle.std.specs.Prelude.{◌≡◌, ◌≢◌, ◌≤◌, ◌⊎◌, List, [], length, map, sum_by}
+use Rattle.std.specs.Prelude.{◌≡◌, ◌≢◌, ◌≤◌, ◌⊎◌, true, List, [], length, map, sum_by}
 use Rattle.std.specs.List.{Contains}
 use Rattle.std.specs.List.Sorted.{IsPermutation}
 use Rattle.tw_types.specs.declared.actor.Actor.{Actor}
 use Rattle.tw_types.specs.declared.event.Event.{Event}
+use Rattle.tw_types.specs.Actor.{is_in}
+use Rattle.tw_types.specs.Layout.{ActorCounts}
 use Rattle.tw_no_trap.specs.EndsWell.{EndsWell}
 use Rattle.tw_pool.specs.Actors.{events_of}
 use Rattle.tw_pool.specs.Ends.{FinalView, IsShut}
@@ -39,11 +41,12 @@ abbrev pub IsOther : List Told → Actor → List Event → List Event → Type 
 IsOther seats actor list history =
     (Contains seats (told_by actor list) × (list ≢ events_of actor history)) ⊎ (NoneOf actor (map (λ s. s.actor) seats) × (list ≡ []))
 
-pub record IsDiffering (seats : List Told) (actor : Actor) (list : List Event) (history : HistoryView) : Type 0 where
+pub record IsDiffering (layout : ActorCounts) (seats : List Told) (actor : Actor) (list : List Event) (history : HistoryView) : Type 0 where
+  pub of_layout : is_in layout actor ≡ true
   pub other : IsOther seats actor list history.events
   pub together : Together seats history.events
 
 -- the end of a run with these seats
 abbrev pub Closes : Run → List Told → Closed → Type 0
 Closes run seats (Ended history final by_seat) = IsEnded run seats (map (λ v. v.items) by_seat.items) final history
-Closes run seats (Differs actor list history) = IsDiffering seats actor list.items history
+Closes run seats (Differs actor list history) = IsDiffering run.layout seats actor list.items history

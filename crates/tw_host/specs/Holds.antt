@@ -16,7 +16,7 @@ use Rattle.tw_host.specs.Tells.{Tells}
 
 -- how many turns there are at most
 abbrev pub most_turns : ℕ
-most_turns = 16
+most_turns = 64
 
 -- the next instruction of a job isn't local
 abbrev pub Waits : JobView → Type 0

@@ -1,9 +1,10 @@
 //! The end of a run.
 
-ghost use Rattle.std.specs.Prelude.{◌≡◌, ◌≢◌, ◌↔◌, ◌+◌, ◌<◌, ◌≤◌, [], ℕ, IfSome, IsTrue, MatchOption, get_or, length, map, slice_get, slice_index_or, sum_by, vec_len, vec_capacity};
+ghost use Rattle.std.specs.Prelude.{◌≡◌, ◌≢◌, ◌↔◌, ◌+◌, ◌<◌, ◌≤◌, [], ℕ, IfSome, IsTrue, MatchOption, get_or, length, map, slice_get, slice_index_or, sum_by, true, vec_len, vec_capacity};
 ghost use Rattle.std.specs.List.{All};
 ghost use Rattle.std.specs.List.Sorted.{IsPermutation};
 ghost use Rattle.tw_types.specs.declared.actor.Actor.{Actor as AnActor};
+ghost use Rattle.tw_types.specs.Actor.{is_in};
 ghost use Rattle.tw_pool.specs.Actors.{events_of};
 ghost use Rattle.tw_host.specs.Ends.{Closes};
 ghost use Rattle.tw_host.specs.Seats.{NoneOf, Told, actor_at, actors_of, actor_count, told_by};
@@ -68,6 +69,7 @@ fn put_in_order<N: Named>(seats: &mut [Seat<N>], layout: Layout) -> Option<Actor
     requires { length seats.old ≡ actor_count layout }
     ensures moved { IsPermutation seats.old seats.new }
     ensures placed { let actors = map (λ s. s.actor) seats.new in MatchOption result (actors ≡ actors_of layout) (λ actor. NoneOf actor actors) }
+    ensures layout { IfSome result (λ actor. is_in layout actor ≡ true) }
 {
     for k in 0..layout.actor_count() {
         let actor = layout.actor_at(k);
@@ -129,6 +131,7 @@ fn first_other<N: Named>(
         ((map (λ s. s.actor) seats.new ≡ actors_of layout) × All (λ s. s.events ≡ events_of s.actor history.now.events) told)
         (λ r. MatchOption r.1 (NoneOf r.0 (map (λ s. s.actor) seats.new))
         (λ k. (k < length told) × ((d : Told) → (slice_index_or told k d).actor ≡ r.0) × ((d : Told) → (slice_index_or told k d).events ≢ events_of r.0 history.now.events))) }
+    ensures layout { IfSome result (λ r. is_in layout r.0 ≡ true) }
 {
     if let Some(actor) = put_in_order(seats, layout) {
         return Some((actor, None));
@@ -188,6 +191,7 @@ impl<'a, N: Named> Locked<'a, N> {
             pool,
             mut book,
             mut spare,
+            sleepers: _,
         } = self;
         let other = first_other(seats.as_mut_slice(), pool.layout(), pool.history());
         let by_seat = settle(seats, by_seat, &mut spare);
@@ -218,8 +222,10 @@ impl<'a, N: Named> Host<'a, N> {
             verified: _,
             locked,
             by_seat,
-            news: _,
+            progress: _,
+            parkers: _,
+            layout: _,
         } = self;
-        locked.into_inner().close(seats, by_seat)
+        locked.into_inner().into_inner().close(seats, by_seat)
     }
 }

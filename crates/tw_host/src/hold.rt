@@ -14,7 +14,7 @@ use tw_pool::{Pool, Turn};
 use tw_types::Actor;
 
 /// How many turns of one seat are made under one hold of the lock at most.
-pub(crate) const MOST_TURNS: usize = 16;
+pub(crate) const MOST_TURNS: usize = 64;
 
 /// Whether an instruction that isn't local stands at a place.
 fn stops_at(code: &[Instr], place: usize) -> bool

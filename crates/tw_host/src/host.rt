@@ -9,15 +9,17 @@ ghost use Rattle.tw_host.specs.Tells.{IsAnswerOf, IsDoneOf, Tells};
 use crate::hold::MOST_TURNS;
 use crate::locked::{Locked, Strange};
 use crate::named::Named;
-use crate::news::News;
+use crate::parkers::Parkers;
+use crate::progress::RunProgress;
 use crate::seat::{Seat, rooms, seats_of};
-use crossbeam_utils::Backoff;
+use crate::sleepers::Sleepers;
+use crossbeam_utils::{Backoff, CachePadded};
 use std::alloc::Global;
 use std::sync::ledger::Blank;
 use std::sync::{Mutex, MutexGuard, Wait};
 use tw_frame::Done;
 use tw_pool::{Events, OpenRefusal, Pool, Turn};
-use tw_types::{Actor, Input, Layout};
+use tw_types::{Input, Layout};
 use tw_verify::Verified;
 
 /// How often the lock is asked for before the thread sleeps for it.
@@ -38,9 +40,12 @@ fn locked_soon<'b, T, R: Wait>(lock: &'b Mutex<T>, rt: &R) -> MutexGuard<'b, T> 
 /// The pool of a run under its one lock.
 pub struct Host<'a, N: Named> {
     pub(crate) verified: &'a Verified,
-    pub(crate) locked: Mutex<Locked<'a, N>>,
+    /// The padding keeps the lock's word on a cache line of its own: each attempt to take the lock moves that line between processors.
+    pub(crate) locked: Mutex<CachePadded<Locked<'a, N>>>,
     pub(crate) by_seat: Vec<Events>,
-    pub(crate) news: News,
+    pub(crate) progress: RunProgress,
+    pub(crate) parkers: Parkers,
+    pub(crate) layout: Layout,
     ghost program: { verified.now ≡ N.run.program },
     ghost empty: { by_seat.items ≡ [] },
     ghost room: { actor_count N.run.layout ≤ vec_capacity by_seat },
@@ -66,18 +71,29 @@ impl<'a, N: Named> Host<'a, N> {
         ensures refused { IfErr result (IsRefusal verified.now.program inputs.now layout limit) }
     {
         let pool = Pool::open(alloc, verified, inputs, layout, limit)?;
+        let Ok(parkers) = Parkers::new(alloc, layout) else {
+            let _ = pool.shut();
+            return Err(OpenRefusal::NoMemory);
+        };
         let Ok((seats, by_seat)) = rooms(alloc, layout.actor_count()) else {
             let _ = pool.shut();
             return Err(OpenRefusal::NoMemory);
         };
         let (book, mut spare) = blank.open::<N>();
         let seats = seats_of(alloc, layout, seats, &mut spare);
-        let locked = Mutex::new(Locked { pool, book, spare });
+        let locked = Mutex::new(CachePadded::new(Locked {
+            pool,
+            book,
+            spare,
+            sleepers: Sleepers::new(),
+        }));
         let host = Host {
             verified,
             locked,
             by_seat,
-            news: News::new(),
+            progress: RunProgress::new(),
+            parkers,
+            layout,
         };
         Ok((host, seats))
     }
@@ -100,7 +116,7 @@ impl<'a, N: Named> Host<'a, N> {
         most: usize,
     ) -> Result<Turn<'a>, Strange<'a>>
         requires some { 0 < most }
-        requires few { most ≤ 16 }
+        requires few { most ≤ 64 }
         requires program { IsDoneOf N.run.program done }
         ensures actor { seat.new.actor ≡ seat.old.actor }
         ensures told { TellsUpTo most N.run seat.old.actor seat.old.told.items seat.new.told.items done.entry result }
@@ -110,9 +126,18 @@ impl<'a, N: Named> Host<'a, N> {
             return Ok(Turn::NoMemory(done));
         }
         let told = seat.told.len();
-        let mut locked = locked_soon(&self.locked, rt);
+        let mut guard = locked_soon(&self.locked, rt);
+        let locked = &mut **guard;
+        locked.check_in(seat, self.progress.is_over());
         let answer = locked.turns(alloc, seat, done, most);
-        self.news.tell(seat.actor, seat.told.len() - told, &answer);
+        let events = seat.told.len() - told;
+        let due = locked.to_wake(seat, events, &answer);
+        self.progress.set_events(locked.len());
+        drop(guard);
+        if let Ok(Turn::Over(_)) = answer {
+            self.progress.end();
+        }
+        self.parkers.unpark(due);
         answer
     }
 
@@ -135,7 +160,7 @@ impl<'a, N: Named> Host<'a, N> {
     }
 
     /// Turns of the seat's actor, one behind another, under one hold of the lock: as long as a turn answers Went or Ended, or lends a
-    /// job whose next instruction isn't local, and at most sixteen. The seat is told the events that they append. Where memory for these
+    /// job whose next instruction isn't local, and at most 64. The seat is told the events that they append. Where memory for these
     /// is refused the pool isn't touched. Where the seat's list isn't the pool's nothing is changed either.
     #[inline(always)]
     pub fn turns(
@@ -153,21 +178,31 @@ impl<'a, N: Named> Host<'a, N> {
         self.hold(rt, alloc, seat, done, MOST_TURNS)
     }
 
-    /// A number that has changed since it was last looked at where something came that an idle actor of this kind may do, or the run
-    /// is over. It decides nothing, and is read without the lock.
-    pub fn news(&self, actor: Actor) -> u64 {
-        self.news.of(actor)
-    }
-
-    /// How many events there are by now, or were lately; None once a turn or a stop has said that the run is over. It decides nothing, and is
-    /// read without the lock.
+    /// Returns a recent number of events; None once a turn or a stop has said that the run is over. It decides nothing, and is read without the lock.
     pub fn events_so_far(&self) -> Option<u64> {
-        self.news.events_so_far()
+        self.progress.events()
     }
 
     /// From now on no turn makes an event.
     pub fn stop(&self, rt: &impl Wait) {
-        self.locked.lock(rt).stop();
-        self.news.end();
+        let mut guard = self.locked.lock(rt);
+        let locked = &mut **guard;
+        let due = locked.stop();
+        drop(guard);
+        self.progress.end();
+        self.parkers.unpark(due);
+    }
+
+    /// Parks the thread of a seat whose last turn was idle, until its actor has work or the run is over. It may also return for no reason, and does so
+    /// after 100 ms.
+    pub fn park(&self, rt: &impl Wait, seat: &Seat<N>) {
+        self.parkers.park(rt, self.layout.index_of(seat.actor));
+    }
+
+    /// Returns how many wakes got lost: how often a thread came back from `park` by itself although work was there for a parked one, and how many
+    /// wakes were not made. It is 0 unless the host has a fault. Call it when no other thread is in a turn.
+    pub fn late_wakes(&self, rt: &impl Wait) -> u64 {
+        let guard = self.locked.lock(rt);
+        guard.sleepers.late_wakes(self.parkers.unparks())
     }
 }

@@ -6,8 +6,10 @@ mod hold;
 mod host;
 mod locked;
 mod named;
-mod news;
+mod parkers;
+mod progress;
 mod seat;
+mod sleepers;
 
 pub use close::Closed;
 pub use host::Host;

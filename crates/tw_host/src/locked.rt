@@ -7,6 +7,7 @@ ghost use Rattle.tw_host.specs.Tells.{IsAnswerOf, IsDoneOf};
 use crate::hold::turns;
 use crate::named::Named;
 use crate::seat::{Seat, tell};
+use crate::sleepers::Sleepers;
 use std::alloc::Global;
 use std::marker::Model;
 use std::sync::ledger::{Book, Share};
@@ -20,11 +21,12 @@ pub struct Strange<'a> {
     pub done: Option<Done<'a>>,
 }
 
-/// The pool, the total of its events, and what is left of the ledger's parts.
+/// The pool, the total of its events, what is left of the ledger's parts, and which actors sleep.
 pub(crate) struct Locked<'a, N: Named> {
     pub(crate) pool: Pool<'a>,
     pub(crate) book: Book<N>,
     pub(crate) spare: Share<N>,
+    pub(crate) sleepers: Sleepers,
 }
 
 impl<'a, N: Named> Model for Locked<'a, N> {
@@ -40,10 +42,42 @@ impl<'a, N: Named> Model for Locked<'a, N> {
 }
 
 impl<'a, N: Named> Locked<'a, N> {
-    pub(crate) fn stop(&mut self)
+    /// Stops the run. Returns who is to be woken.
+    pub(crate) fn stop(&mut self) -> u64
         ensures { self.new ≡ record self.old { stopped = true } }
     {
         self.pool.stop();
+        self.sleepers.end()
+    }
+
+    /// Returns the number of events.
+    pub(crate) fn len(&self) -> usize {
+        self.pool.history().len()
+    }
+
+    /// Marks the seat's actor as awake.
+    pub(crate) fn check_in(&mut self, seat: &Seat<N>, is_over: bool)
+        ensures { self.new ≡ self.old }
+    {
+        self.sleepers
+            .check_in(self.pool.layout(), seat.actor, is_over);
+    }
+
+    /// Returns who is to be woken after turns of the seat's actor, with so many events and this answer.
+    pub(crate) fn to_wake(
+        &mut self,
+        seat: &Seat<N>,
+        events: usize,
+        answer: &Result<Turn<'_>, Strange<'_>>,
+    ) -> u64
+        ensures { self.new ≡ self.old }
+    {
+        match answer {
+            Ok(answer) => self
+                .sleepers
+                .to_wake(&self.pool, seat.actor, events, answer),
+            Err(_) => 0,
+        }
     }
 
     /// Turns of the seat's actor, one behind another, so many at most. The seat is told the events that they append.

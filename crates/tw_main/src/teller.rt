@@ -58,22 +58,18 @@ impl Look {
     }
 }
 
-/// Tells on standard error once a second how many events a run in threads has so far, if it takes more than two seconds.
+/// Tells on standard error once a second how many events a run in threads has so far, if it takes more than two seconds. It also reports
+/// there that wakes of idle threads got lost, which none does unless the host has a fault.
 #[derive(Drop)]
 pub struct Teller {
-    /// None where nothing is to be told.
-    terminal: Option<Stderr>,
+    stderr: Stderr,
+    is_quiet: bool,
 }
 
 impl Teller {
-    /// One that tells nothing where standard error is no terminal, or where it isn't to.
+    /// One that tells nothing if it is quiet, and no progress if standard error is no terminal.
     pub fn new(stderr: Stderr, is_quiet: bool) -> Teller {
-        if is_quiet || !stderr.is_terminal() {
-            return Teller { terminal: None };
-        }
-        Teller {
-            terminal: Some(stderr),
-        }
+        Teller { stderr, is_quiet }
     }
 }
 
@@ -105,8 +101,15 @@ impl Gate for Teller {
 
     /// Where the clock or the terminal fails nothing more is told.
     fn look_on<R: Wait + Clock, P: Progress>(&self, rt: &R, run: &P) {
-        if let Some(terminal) = &self.terminal {
-            let _told = tell(rt, terminal, run);
+        if !self.is_quiet && self.stderr.is_terminal() {
+            let _told = tell(rt, &self.stderr, run);
+        }
+    }
+
+    fn late_wakes(&self, late: u64) {
+        if late != 0 && !self.is_quiet {
+            let stderr = &self.stderr;
+            let _told = eprintln!(stderr; "tw: {late} late wakes of idle threads");
         }
     }
 }

@@ -34,7 +34,7 @@ use Rattle.tw_pool.specs.contracts.pool.Pool
 use Rattle.tw_host.specs.declared.named.Named as Named
 use Rattle.tw_host.specs.contracts.locked.Locked
 use Rattle.tw_host.specs.contracts.host.Host
-use Rattle.tw_host.proofs.news.News.TheSendSync as OfNews
+use Rattle.tw_host.proofs.progress.RunProgress.TheSendSync as OfProgress
 
 store : IsSend Store.the_row
 store = search (Crossing.crosses, TheKnot.crosses, sendable) depth 60 fits 20000
@@ -53,10 +53,10 @@ pool κ = search (parts, inputs, verified, OfLayout.the_send, OfHistory.the_send
 
 module _ (κ : NamedLft) (N : RattleType) (named : Named.Ghosts N.Denot) (ledger : Ledger.Ghosts N.Denot) where
   locked : IsSend (Locked.the_row κ N named ledger)
-  locked = search (pool, Book.the_send, Share.the_send, sendable) depth 60 fits 20000
+  locked = search (pool, Crossing.crosses, Book.the_send, Share.the_send, sendable) depth 60 fits 20000
 
   host : IsSync (Host.the_row κ N named ledger)
-  host = search (locked, OfNews.the_sync, OfVerified.the_sync, OfEvent.the_sync, Crossing.crosses, sendable) depth 60 fits 20000
+  host = search (locked, OfProgress.the_sync, OfVerified.the_sync, OfEvent.the_sync, Crossing.crosses, sendable) depth 60 fits 20000
 
   seat : IsSend N → IsSend (Seat.the_row N named ledger)
   seat s = search (OfSeat.the_send, sendable, Crossing.crosses) depth 60 fits 20000

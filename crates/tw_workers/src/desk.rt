@@ -48,8 +48,8 @@ pub trait Desk<'a> {
         ensures does { (several : Bool) × does seat.old (asked several done.entry result) seat.new }
         ensures program { IfOk result (IsAnswerOf program) };
 
-    /// A number that has changed since it was last looked at where something came that an idle seat may do.
-    fn news(&self, seat: &Self::Seat) -> u64;
+    /// Parks the thread of a seat whose last turn was idle, until there is work for it or the run is over. It may also return for no reason.
+    fn park<R: Wait>(&self, rt: &R, seat: &Self::Seat);
 
     fn stop<R: Wait>(&self, rt: &R, seat: &mut Self::Seat)
         ensures { does seat.old Stopped seat.new };
@@ -103,8 +103,8 @@ impl<'h, 'a, N: Named, G: Gate> Desk<'a> for Guarded<'h, 'a, N, G> {
         }
     }
 
-    fn news(&self, seat: &Seat<N>) -> u64 {
-        self.host.news(seat.actor())
+    fn park<R: Wait>(&self, rt: &R, seat: &Seat<N>) {
+        self.host.park(rt, seat);
     }
 
     fn stop<R: Wait>(&self, rt: &R, _seat: &mut Seat<N>) {

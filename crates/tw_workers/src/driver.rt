@@ -10,7 +10,6 @@ ghost use Rattle.tw_workers.specs.Driving.{Drives, Follows, GivesUp, Step, worki
 
 use crate::desk::{Desk, Guarded};
 use crate::gate::Gate;
-use crate::rest::Rest;
 use std::alloc::Global;
 use std::sync::Wait;
 use std::time::Clock;
@@ -94,7 +93,6 @@ fn go_on<'a, D: Desk<'a>, R: Wait + Clock>(
     alloc: Global,
     desk: &D,
     seat: &mut D::Seat,
-    rest: &mut Rest,
     answer: Result<Turn<'a>, Strange<'a>>,
 ) -> Result<Option<Done<'a>>, End>
     requires { IfOk answer (IsAnswerOf D.program) }
@@ -103,16 +101,10 @@ fn go_on<'a, D: Desk<'a>, R: Wait + Clock>(
 {
     match answer {
         Ok(Turn::Over(_)) => Err(End { memory: false }),
-        Ok(Turn::Run(job)) => {
-            rest.reset();
-            work(rt, alloc, desk, seat, job)
-        }
-        Ok(Turn::Ended) | Ok(Turn::Went) => {
-            rest.reset();
-            Ok(None)
-        }
+        Ok(Turn::Run(job)) => work(rt, alloc, desk, seat, job),
+        Ok(Turn::Ended) | Ok(Turn::Went) => Ok(None),
         Ok(Turn::Idle) => {
-            rest.wait(rt, desk, seat);
+            desk.park(rt, seat);
             Ok(None)
         }
         Ok(Turn::NoMemory(done)) => {
@@ -136,12 +128,10 @@ pub fn drive_at<'a, D: Desk<'a>, R: Wait + Clock>(
 ) -> bool
     ensures { (steps : List Step) × FoldsTo D.does seat.old steps seat.new × Drives None steps result }
 {
-    let mut rest = Rest::new();
     let mut done: Option<Done<'a>> = None;
     for _ in rt.forever() {
-        rest.look(desk, seat);
         let answer = desk.turns(rt, alloc, seat, done.take());
-        match go_on(rt, alloc, desk, seat, &mut rest, answer) {
+        match go_on(rt, alloc, desk, seat, answer) {
             Ok(next) => done = next,
             Err(End { memory }) => return memory,
         }

@@ -39,6 +39,10 @@ pub trait Gate {
     /// Is called once, in the thread that has begun the drivers and waits for them to end. It may look at the run until that is over; how
     /// often is its own.
     fn look_on<R: Wait + Clock, P: Progress>(&self, _rt: &R, _run: &P) {}
+
+    /// Receives how many wakes of idle threads got lost. It is called once, after the last driver has ended, and the number is 0 unless the host
+    /// has a fault.
+    fn late_wakes(&self, _late: u64) {}
 }
 
 /// Lets each job pass.

@@ -4,7 +4,6 @@
 mod desk;
 mod driver;
 mod gate;
-mod rest;
 mod threads;
 
 pub use desk::{Desk, Guarded};

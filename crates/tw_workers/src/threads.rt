@@ -127,6 +127,7 @@ pub fn run_all<'a, N: Named + Send + Sync, G: Gate + Sync, R: Threads + Wait + C
     ensures memory { AllDrove N.run G.unwatched (map (λ s. told_by s.actor s.told.items) seats.items) result.1 }
 {
     let memory = drive_all(rt, alloc, &host, seats.as_mut_slice(), gate);
+    gate.late_wakes(host.late_wakes(rt));
     (host.close(seats), memory)
 }
 

@@ -2,6 +2,7 @@ use Rattle.std.proofs.Common.{◌<◌, refl, sym, ap, ◌∙◌, arith, subst, i
 use Rattle.std.proofs.lemmas.List.{length-map}
 use Rattle.std.proofs.lemmas.List.Sorted.{length_permutation}
 use Rattle.tw_no_trap.specs.EndsWell.{EndsWell}
+use Rattle.tw_types.specs.Actor.{is_in}
 use Rattle.tw_host.specs.Run.{Run}
 use Rattle.tw_host.specs.Seats.{actors_of, told_by}
 use Rattle.tw_pool.specs.Actors.{events_of}
@@ -59,7 +60,9 @@ returns g c =
     let actor = c.in-Some.actor in
     let told = c.told_at.result.items in
     let lists = c.settle-by_seat.ensures.lists ∙ ap (map (λ s. s.told.items)) back in
+    let layout = c.layout.ensures ∙ ap (λ r. r.layout) inv.of_run in
     record {
+      of_layout = ap (λ l. is_in l actor) (sym layout) ∙ c.in-Some.ensures.layout;
       other = either_way (IsOther (map (λ s. told_by s.actor s.told.items) items) actor told c.shut-outcome.result.1.events) c.in-Some.seat c.in-Some.ensures.found c.told_at.ensures
           (λ none empty. inr (lacking (λ s. s.actor) (λ s. s.told.items) items seats moved actor none, empty))
           (λ k found value.

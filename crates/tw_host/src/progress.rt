@@ -1,0 +1,43 @@
+//! How far a run is, to be read without the lock.
+
+use crossbeam_utils::CachePadded;
+use std::sync::atomic::{AtomicBool, AtomicU64, Ordering};
+
+/// Publishes how many events there are and whether the run is over. It is written by who holds or held the lock, and decides nothing.
+#[derive(Drop)]
+pub(crate) struct RunProgress {
+    events: CachePadded<AtomicU64>,
+    is_over: CachePadded<AtomicBool>,
+}
+
+impl RunProgress {
+    pub(crate) fn new() -> RunProgress {
+        RunProgress {
+            events: CachePadded::new(AtomicU64::new(0)),
+            is_over: CachePadded::new(AtomicBool::new(false)),
+        }
+    }
+
+    /// Publishes the number of events.
+    pub(crate) fn set_events(&self, events: usize) {
+        self.events.store(events as u64, Ordering::SeqCst);
+    }
+
+    /// Publishes that the run is over.
+    pub(crate) fn end(&self) {
+        self.is_over.store(true, Ordering::SeqCst);
+    }
+
+    /// Returns whether it was published that the run is over.
+    pub(crate) fn is_over(&self) -> bool {
+        self.is_over.load(Ordering::SeqCst)
+    }
+
+    /// Returns a recent number of events; None once the run is over.
+    pub(crate) fn events(&self) -> Option<u64> {
+        if self.is_over() {
+            return None;
+        }
+        Some(self.events.load(Ordering::SeqCst))
+    }
+}
