@@ -17,7 +17,8 @@ table = []
 
 
 def hex_of(text):
-    made = subprocess.run([program, "asm"], input=text.encode(), stdout=subprocess.PIPE, check=True)
+    words = ["--names"] if text.startswith("names\n") else []
+    made = subprocess.run([program, "asm", *words], input=text.encode(), stdout=subprocess.PIPE, check=True)
     return made.stdout
 
 
@@ -112,7 +113,26 @@ def empty_leaf_tasks():
     own = [tasks / least[workers][0] / 1e6 for workers in WORKERS]
     print("   ".join(f"{rate:6.2f}" for rate in own), "tw")
     table.append(("empty tasks on 1, 2, 4 workers, against oneTBB", several(mine / its for mine, its in zip(own[:3], peer["tbb"])), "1, 1, 1"))
-    table.append(("the same on 4 and 16 workers against our own on 1", several((own[2] / own[0], own[3] / own[0])), "0.9, 0.9"))
+    table.append(("the same on 2, 4 and 16 workers against our own on 1", several(rate / own[0] for rate in own[1:]), "0.95, 0.95, 0.95"))
+
+
+def waiting_for_one_another():
+    """Tasks and rules that wait for one another: what threads take beside one thread."""
+    print("The squares of 1 to 100, added one after the other: milliseconds on the clock, median of 25, and of a run in turn")
+    text = read("squares.twn")
+    runs = {"in turn": tw_run(text, LIMIT, "--in-turn")}
+    for layout in ((1, 1, 1), (1, 1, 4), (4, 4, 16)):
+        words = (f"--{kind}={count}" for kind, count in zip(("engines", "servers", "workers"), layout))
+        runs["/".join(map(str, layout))] = tw_run(text, LIMIT, *words)
+    times = {name: [] for name in runs}
+    for _ in range(25):
+        for name, run in runs.items():
+            times[name].append(run()[0] * 1000)
+    medians = {name: sorted(of_run)[12] for name, of_run in times.items()}
+    for name, median in medians.items():
+        print(f"{median:8.2f}   {median / medians['in turn']:6.2f}  {name}, longest {max(times[name]):.2f}")
+    ratios = several(median / medians["in turn"] for name, median in medians.items() if name != "in turn")
+    table.append(("`squares.twn` in threads 1/1/1, 1/1/4, 4/4/16 of the time in turn", ratios, "2.5, 2.5, 2.5"))
 
 
 def seconds_of_jobs(thousands, threads):
@@ -167,6 +187,7 @@ def print_table():
 of_one_engine()
 beside_waiting()
 empty_leaf_tasks()
+waiting_for_one_another()
 long_jobs(50, "3.5")
 long_jobs(500, "3.5")
 memory()

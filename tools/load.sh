@@ -1,6 +1,7 @@
 #!/bin/sh
 # Runs bench/load.tw so many times with 4 engines, 4 servers and 16 workers, and prints how many runs ended with which status and
-# the checksum of what they wrote. All must have one and the same: the report doesn't depend on the order of events.
+# the checksum of what they wrote. All must have one and the same: the report doesn't depend on the order of events. What a run tells on
+# standard error, as `tw: 1 late wakes of idle threads`, is printed too: nothing is wanted there.
 #
 #   tools/load.sh [TIMES] [WORDS of tw run..]
 set -e
@@ -15,8 +16,8 @@ program=$root/crates/tw_main/out/tw_main
 done=0
 while [ "$done" -lt "$times" ]; do
     status=0
-    "$program" run --engines=4 --servers=4 --workers=16 --limit=1000000 "$@" <"$room/load.hex" >"$room/out" || status=$?
-    echo "status $status, last line $(tail -n 1 "$room/out"), checksum $(sha256sum <"$room/out" | cut -c1-16)" >>"$room/ends"
+    "$program" run --engines=4 --servers=4 --workers=16 --limit=1000000 "$@" <"$room/load.hex" >"$room/out" 2>"$room/told" || status=$?
+    echo "status $status, last line $(tail -n 1 "$room/out"), checksum $(sha256sum <"$room/out" | cut -c1-16), told '$(cat "$room/told")'" >>"$room/ends"
     done=$((done + 1))
     [ $((done % 10)) -eq 0 ] && echo "$done of $times" >&2
 done

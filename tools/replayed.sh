@@ -1,6 +1,7 @@
 #!/bin/sh
 # Runs each example so many times with changing layouts, its events before its report, and replays them on the reference machine: the
-# report and the status must be the same. Prints how many runs of each example were replayed alike, and stops at the first that isn't.
+# report and the status must be the same, and nothing may be told on standard error, as of late wakes. Prints how many runs of each example were
+# replayed alike, and stops at the first that isn't.
 #
 #   tools/replayed.sh [TIMES]
 set -e
@@ -36,11 +37,11 @@ replay_once() {
     [ "$workers" -lt "$3" ] && workers=$3
     layout="--engines=$1 --servers=$2 --workers=$workers"
     run_status=0 replay_status=0
-    "$program" run $layout --limit=1000000 --trace $words <"$room/hex" >"$room/run" || run_status=$?
+    "$program" run $layout --limit=1000000 --trace $words <"$room/hex" >"$room/run" 2>"$room/told" || run_status=$?
     sed '1,/^end$/d' "$room/run" >"$room/report"
     { cat "$room/hex"; sed '/^end$/,$d' "$room/run"; echo end; } >"$room/history"
     "$program" replay $layout $words <"$room/history" >"$room/replayed" || replay_status=$?
-    [ "$run_status" = "$replay_status" ] && cmp -s "$room/report" "$room/replayed"
+    [ "$run_status" = "$replay_status" ] && cmp -s "$room/report" "$room/replayed" && [ ! -s "$room/told" ]
 }
 
 for file in "$root"/examples/*.tw; do
@@ -51,7 +52,7 @@ for file in "$root"/examples/*.tw; do
     count=0
     while [ "$count" -lt "$times" ]; do
         replay_once $((count % 4 + 1)) $((count / 4 % 4 + 1)) $(((count * 5 + count / 16) % 16 + 1)) || {
-            echo "$name: $layout $words: run $run_status, replay $replay_status; $(diff "$room/report" "$room/replayed" | head -n 2 | tr '\n' ' ')"
+            echo "$name: $layout $words: run $run_status, replay $replay_status; $(diff "$room/report" "$room/replayed" | head -n 2 | tr '\n' ' ') $(head -n 1 "$room/told")"
             exit 1
         }
         count=$((count + 1))

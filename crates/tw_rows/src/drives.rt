@@ -33,7 +33,7 @@ fn drive_first<'a, N: Named, R: Wait + Clock>(
 }
 
 /// Drives the engine's seat to the end of the run, and then the others'; or stops the run first. Whether memory ran out, and how
-/// the host closes.
+/// the host closes; None where it isn't opened, doesn't publish that it is over, or lost a wake.
 fn driven_by<N: Named, R: Wait + Clock>(
     rt: &R,
     alloc: Global,
@@ -51,13 +51,22 @@ fn driven_by<N: Named, R: Wait + Clock>(
     let Ok((host, mut seats)) = opened else {
         return None;
     };
+    let mut is_well = true;
     if is_stopped {
         host.stop(rt);
+        is_well = host.events_so_far().is_none();
     }
     let engine = drive_first(rt, alloc, &host, &mut seats);
     let server = drive_first(rt, alloc, &host, &mut seats);
     let worker = drive_first(rt, alloc, &host, &mut seats);
-    Some((engine | server | worker, host.close(seats)))
+    is_well &= host.events_so_far().is_none();
+    is_well &= host.late_wakes(rt) == 0;
+    let closed = host.close(seats);
+    if is_well {
+        Some((engine | server | worker, closed))
+    } else {
+        None
+    }
 }
 
 /// How many events there are, which, and the report, where the seats of one engine, server and worker are driven.
@@ -75,7 +84,7 @@ pub fn drives_text<R: Wait + Clock>(
     let mut text = Text::new(alloc);
     match driven_by::<Brand, R>(rt, alloc, blank, verified, given, is_stopped) {
         Some((false, closed)) => put_end(&mut text, &closed, true),
-        _ => text.put("not opened, or memory ran out"),
+        _ => text.put("not opened, its end isn't published, a wake got lost, or memory ran out"),
     }
     text.into_line()
 }

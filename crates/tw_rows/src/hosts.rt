@@ -132,9 +132,18 @@ fn run_host<'a, N: Named, M: Named, R: Wait>(
     let (mut first, mut second) = open_hosts::<N, M>(alloc, blank, second, verified, given)?;
     let Talk { mut text, .. } = turned(rt, alloc, &mut first, &mut second, given.layout, course);
     let _end = second.close();
+    let late = first.late_wakes(rt);
     first.reorder(given.order);
     put_closed(&mut text, &first.close());
+    put_late(&mut text, late);
     Ok(text)
+}
+
+/// Adds how many wakes got lost, if there are such.
+fn put_late(text: &mut Text, late: u64) {
+    if late != 0 {
+        text.number("late wakes ", late);
+    }
 }
 
 /// Adds how a host closed, and behind it what each seat was told.

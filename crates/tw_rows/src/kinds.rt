@@ -19,6 +19,7 @@ use crate::shown::shown_text;
 use crate::stops::stops_text;
 use crate::streams::stream_text;
 use crate::threads::threads_text;
+use crate::woken::woken_text;
 use crate::words::read_words;
 use std::alloc::Global;
 use std::rt::Files;
@@ -82,7 +83,7 @@ fn program_kind<H: AllocGlobal + Threads + Wait + Clock + Sync>(
     rest: &str,
 ) -> Result<String, Complaint> {
     match kind {
-        "turns" | "rounds" | "stops" | "unthreaded" | "scarce_pool" => {
+        "turns" | "rounds" | "stops" | "woken" | "unthreaded" | "scarce_pool" => {
             run_kind(rt, kind, words, bytes, rest)
         }
         "threads" => match words.strip_prefix("held ") {
@@ -125,6 +126,7 @@ fn run_text<H: AllocGlobal + Threads + Wait + Clock + Sync>(
         "stops" => stops_text(rt, rt.alloc(), bytes, verified, given),
         "threads" => threads_text(rt, verified, given, false),
         "held" => threads_text(rt, verified, given, true),
+        "woken" => woken_text(rt, verified, given),
         "unthreaded" => unthreaded_text(rt, bytes, verified, given),
         "scarce_pool" => scarce_pool_text(rt, rt.alloc(), verified, given),
         "drives" => drives_text(rt, rt.alloc(), verified, given, false),

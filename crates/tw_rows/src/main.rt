@@ -31,6 +31,7 @@ mod tables;
 mod text;
 mod threads;
 mod waiting;
+mod woken;
 mod words;
 
 use crate::book::Book;

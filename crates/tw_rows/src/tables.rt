@@ -267,6 +267,11 @@ impl<'a, M: Named, N: Named> Seated<'a, M, N> {
         }
     }
 
+    /// Returns how many wakes got lost.
+    pub fn late_wakes<R: Wait>(&self, rt: &R) -> u64 {
+        self.host.late_wakes(rt)
+    }
+
     pub fn close(self) -> Closed {
         let Seated {
             host,

@@ -31,6 +31,8 @@ struct Watch {
     /// The place of the actor that was given a job first, and 1; 0 before there is one.
     first: AtomicU64,
     has_other: AtomicBool,
+    /// How many wakes of idle threads got lost.
+    late: AtomicU64,
 }
 
 impl Watch {
@@ -47,6 +49,7 @@ impl Watch {
             is_broken: AtomicBool::new(false),
             first: AtomicU64::new(0),
             has_other: AtomicBool::new(false),
+            late: AtomicU64::new(0),
         })
     }
 
@@ -108,6 +111,10 @@ impl Gate for Watch {
     fn after_job<R: Wait>(&self, _rt: &R, actor: Actor, task: u64) {
         self.change(actor, task, 0, &self.after);
     }
+
+    fn late_wakes(&self, late: u64) {
+        self.late.store(late, Ordering::SeqCst);
+    }
 }
 
 /// Adds what the gate saw.
@@ -119,6 +126,10 @@ fn put_seen(text: &mut Text, watch: &Watch) {
     }
     if watch.has_other.load(Ordering::SeqCst) {
         text.put(" two at once");
+    }
+    let late = watch.late.load(Ordering::SeqCst);
+    if late != 0 {
+        text.number(" late wakes ", late);
     }
     text.put("\n");
 }

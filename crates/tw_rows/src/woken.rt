@@ -1,0 +1,135 @@
+//! Cases of runs in threads whose actors wait for one another.
+
+ghost use Rattle.std.specs.Prelude.{◌≡◌, false};
+
+use crate::complaint::Complaint;
+use crate::given::Given;
+use crate::text::Text;
+use std::alloc::Global;
+use std::sync::Wait;
+use std::sync::atomic::{AtomicBool, AtomicU64, Ordering};
+use std::thread;
+use std::thread::Threads;
+use std::time::{Clock, Duration};
+use tw_host::Closed;
+use tw_types::Actor;
+use tw_verify::Verified;
+use tw_workers::{Gate, Progress, run};
+
+/// How often a run is looked at, a millisecond apart, before it takes too long.
+const MOST_LOOKS: u64 = 10_000;
+
+/// How often a program is run.
+const TIMES: u64 = 5;
+
+/// Looks at a run until it is over, and not at its jobs.
+#[derive(Drop)]
+struct Onlooker {
+    saw_end: AtomicBool,
+    late: AtomicU64,
+}
+
+impl Onlooker {
+    fn new() -> Onlooker {
+        Onlooker {
+            saw_end: AtomicBool::new(false),
+            late: AtomicU64::new(0),
+        }
+    }
+
+    /// Adds what is wrong with a run. True where nothing is.
+    fn put_faults(&self, text: &mut Text) -> bool {
+        let saw_end = self.saw_end.load(Ordering::SeqCst);
+        if !saw_end {
+            text.put("took too long\n");
+        }
+        let late = self.late.load(Ordering::SeqCst);
+        if late != 0 {
+            text.number("late wakes ", late);
+            text.put("\n");
+        }
+        saw_end && late == 0
+    }
+}
+
+impl Gate for Onlooker {
+    ghost unwatched = { Unit {0} };
+
+    fn watches(&self) -> bool {
+        false
+    }
+
+    fn before_job<R: Wait>(&self, _rt: &R, _actor: Actor, _task: u64) {}
+
+    fn after_job<R: Wait>(&self, _rt: &R, _actor: Actor, _task: u64) {}
+
+    fn look_on<R: Wait + Clock, P: Progress>(&self, rt: &R, run: &P) {
+        for _ in 0..MOST_LOOKS {
+            if run.events().is_none() {
+                self.saw_end.store(true, Ordering::SeqCst);
+                return;
+            }
+            thread::sleep(rt, Duration::from_millis(1));
+        }
+    }
+
+    fn late_wakes(&self, late: u64) {
+        self.late.store(late, Ordering::SeqCst);
+    }
+}
+
+/// Adds the report of a host that is closed. True where its seats were told its events.
+fn put_left(text: &mut Text, closed: &Closed) -> bool {
+    let Closed::Ended { outcome, .. } = closed else {
+        text.put("a seat was told something else");
+        return false;
+    };
+    text.put_report(outcome);
+    true
+}
+
+/// Adds the report of one run, and before it what is wrong. True where nothing is.
+fn put_run<R: Threads + Wait + Clock + Sync>(
+    rt: &R,
+    alloc: Global,
+    verified: &Verified,
+    given: &Given,
+    text: &mut Text,
+) -> bool {
+    let onlooker = Onlooker::new();
+    let (inputs, limit) = (given.inputs.as_slice(), given.limit);
+    match run(rt, alloc, verified, inputs, given.layout, limit, &onlooker) {
+        Ok((closed, false)) => {
+            let mut is_well = onlooker.put_faults(text);
+            is_well &= put_left(text, &closed);
+            is_well
+        }
+        _ => {
+            text.put("not opened, or memory ran out");
+            false
+        }
+    }
+}
+
+/// Returns the report of a program that is run several times: each run has the same one, ends soon, and no wake is late. Else what one run comes to
+/// that isn't so.
+pub fn woken_text<R: AllocGlobal + Threads + Wait + Clock + Sync>(
+    rt: &R,
+    verified: &Verified,
+    given: &Given,
+) -> Result<String, Complaint> {
+    let alloc = rt.alloc();
+    let mut first = Text::new(alloc);
+    if !put_run(rt, alloc, verified, given, &mut first) {
+        return first.into_line();
+    }
+    for _ in 1..TIMES {
+        let mut next = Text::new(alloc);
+        if !put_run(rt, alloc, verified, given, &mut next) || !next.is(&first) {
+            next.put("another run: ");
+            next.add(&first);
+            return next.into_line();
+        }
+    }
+    first.into_line()
+}
