@@ -1,0 +1,13 @@
+pub mod GreatestCost
+pub mod Reached
+pub mod Moved
+pub mod Numbers
+pub mod Paying
+pub mod Reporting
+pub mod Along
+pub mod Ending
+pub mod Whole
+pub mod Capping
+pub mod Tables
+pub mod Partial
+pub mod Accepting

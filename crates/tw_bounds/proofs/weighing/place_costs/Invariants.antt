@@ -1,0 +1,8 @@
+use Rattle.std.proofs.Common.{◌≡◌, map, take, Some}
+use Rattle.tw_bounds.specs.Bounds.{weight_of}
+use Rattle.tw_bounds.specs.Rows.{AreSmall}
+use Rattle.tw_bounds.proofs.weighing.place_costs.Given as goal
+
+-- so far
+abbrev pub invariant-loop-instr : goal.invariant-loop-instr
+invariant-loop-instr l = (map (weight_of l.program l.weights l.known) (take l.instr-index l.code) ≡ map Some l.costs.items) × AreSmall l.costs.items

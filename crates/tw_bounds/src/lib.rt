@@ -1,0 +1,16 @@
+//! Bounds of whole runs: how many tasks, instructions, data, rules and events a run of a program takes at most.
+#![tactic(auto)]
+
+mod bound;
+mod laws;
+mod row;
+mod solving;
+mod walk;
+mod weighing;
+mod weights;
+mod whole_runs;
+
+pub use bound::{Bound, RunBounds};
+pub use laws::{budgets_are_costs, within_bound};
+pub use weights::Weights;
+pub use whole_runs::run_bounds;

@@ -1,0 +1,109 @@
+//! Costs by the bounds that are known.
+
+ghost use Rattle.std.specs.Prelude.{◌≡◌, ◌≤◌, IfOk, IfSome, None, filter, length};
+ghost use Rattle.tw_types.specs.Mode.{is_closed_mode};
+ghost use Rattle.tw_code.specs.format.Program.{IsProgram};
+ghost use Rattle.tw_code.specs.machine.Arguments.{params_of};
+ghost use Rattle.tw_bounds.specs.Bounds.{AreCosts, bound_at, data_weight, weight_of, rule_events};
+ghost use Rattle.tw_bounds.specs.Solving.{AreWithin, CallsUnknown};
+ghost use Rattle.tw_bounds.specs.Rows.{AreSmall, most_cost};
+
+use crate::weights::Weights;
+use std::alloc::{AllocError, Global};
+use tw_code::{DataInstr, Instr, Procedure};
+use tw_types::{Mode, Param};
+
+/// The bound of a procedure, if it is known.
+fn bound_of(known: &[Option<u64>], number: u8) -> Option<u64>
+    ensures { result ≡ bound_at known.now number }
+{
+    known.get(usize::from(number)).copied().flatten()
+}
+
+/// How many parameters are `closed`.
+fn closed_in(params: &[Param]) -> usize
+    ensures is { result ≡ length (filter (λ p. is_closed_mode p.mode) params.now) }
+    ensures few { result ≤ length params.now }
+{
+    params
+        .iter()
+        .filter(|p| matches!(p.mode, Mode::Closed))
+        .count()
+}
+
+/// What an instruction on data adds besides.
+fn data_weight(weights: &Weights, instr: DataInstr) -> u32
+    ensures { result ≡ data_weight weights.now instr }
+{
+    match instr {
+        DataInstr::New { .. } => weights.datum,
+        _ => 0,
+    }
+}
+
+/// How many events come behind a RULE of the procedure.
+fn rule_events(program: &[Procedure], number: u8) -> u64
+    requires { IsProgram program.now }
+    ensures is { result ≡ rule_events (params_of program.now number) }
+    ensures few { result ≤ 17 }
+{
+    match program.get(usize::from(number)) {
+        Some(procedure) => 1 + 2 * closed_in(procedure.params.as_slice()) as u64,
+        None => 1,
+    }
+}
+
+/// What an instruction adds, if it calls nothing whose bound isn't known.
+pub fn instr_weight(
+    program: &[Procedure],
+    weights: &Weights,
+    known: &[Option<u64>],
+    instr: &Instr,
+) -> Option<u64>
+    requires limits { IsProgram program.now }
+    requires within { AreWithin known.now }
+    ensures is { result ≡ weight_of program.now weights.now known.now instr.now }
+    ensures small { IfSome result (λ n. n ≤ most_cost) }
+{
+    let own = u64::from(weights.instr);
+    match instr {
+        Instr::Local(_) | Instr::Ret => Some(own),
+        Instr::Data(i) => Some(own + u64::from(data_weight(weights, *i))),
+        Instr::Rule(action) => match bound_of(known, action.procedure) {
+            Some(bound) => {
+                let rule_event = u64::from(weights.rule_event)
+                    * rule_events(program, action.procedure);
+                Some(own + u64::from(weights.rule) + rule_event + bound)
+            }
+            None => None,
+        },
+        Instr::Put(action) => match bound_of(known, action.procedure) {
+            Some(bound) => Some(own + bound),
+            None => None,
+        },
+    }
+}
+
+/// What each place costs, unless one calls what isn't known.
+pub fn place_costs(
+    alloc: Global,
+    program: &[Procedure],
+    weights: &Weights,
+    known: &[Option<u64>],
+    code: &[Instr],
+) -> Result<Option<Vec<u64>>, AllocError>
+    requires limits { IsProgram program.now }
+    requires within { AreWithin known.now }
+    ensures costs { IfOk result (λ o. IfSome o (λ costs. AreCosts program.now weights.now known.now code.now costs.items)) }
+    ensures small { IfOk result (λ o. IfSome o (λ costs. AreSmall costs.items)) }
+    ensures unknown { IfOk result (λ o. o ≡ None → CallsUnknown program.now weights.now known.now code.now) }
+{
+    let mut costs = Vec::new(alloc);
+    for instr in code.iter() {
+        let Some(weight) = instr_weight(program, weights, known, instr) else {
+            return Ok(None);
+        };
+        costs.push(weight)?;
+    }
+    Ok(Some(costs))
+}
