@@ -1,3 +1,4 @@
+mod Bounded
 mod Frames
 mod Leaving
 mod Moving

@@ -5,5 +5,5 @@ mod laws;
 mod rounds;
 mod run;
 
-pub use laws::one_run;
+pub use laws::{ends_below_limit, one_run};
 pub use run::{Left, run_in_turn};

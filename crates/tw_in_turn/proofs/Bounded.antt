@@ -1,0 +1,66 @@
+-- A run whose events have a bound ends before a limit above it.
+use Rattle.std.proofs.Common.{◌≡◌, ◌==◌, ◌<◌, ◌≤◌, ℕ, Bool, true, false, if◌then◌else◌, List, length, Option, Some, None, refl, sym, ap, subst, ◌∙◌, arith, option_map}
+use Rattle.std.proofs.lemmas.Bool.{eqb-true}
+use Rattle.std.specs.Option.{option_or}
+use Rattle.tw_types.specs.declared.ending.Ending.{Ending}
+use Rattle.tw_types.specs.declared.ending.Ending.TheVariants as ending
+use Rattle.tw_types.specs.declared.input.Input.{Input}
+use Rattle.tw_types.specs.Layout.{ActorCounts}
+use Rattle.tw_types.specs.Outcome.{Went}
+use Rattle.tw_code.specs.machine.Ending.{ending}
+use Rattle.tw_code.specs.machine.Inputs.{AreInputsOf}
+use Rattle.tw_code.specs.machine.Opening.{reached}
+use Rattle.tw_code.specs.machine.State.{State}
+use Rattle.tw_verify.specs.Typed.{TypedProgram, typings_of}
+use Rattle.tw_bounds.proofs.Along.{few_events}
+use Rattle.tw_pool.specs.declared.answer.Closing.{Closing}
+use Rattle.tw_pool.specs.declared.answer.Closing.TheVariants.{Quiet, Stuck, Stopped, Limit}
+use Rattle.tw_pool.specs.Ends.{FinalView}
+use Rattle.tw_pool.specs.History.{HistoryView}
+use Rattle.tw_pool.specs.Openings.{opened}
+use Rattle.tw_pool.specs.PoolView.{PoolView, HasState}
+use Rattle.tw_pool.specs.Turns.{closing_at, closing_of}
+use Rattle.tw_in_turn.specs.InTurn.{HasEnded, IsLeftIn}
+use Rattle.tw_in_turn.specs.Bounded.{EndsByItself, HasEndedByItself, HasFew, IsBoundedBy}
+
+pub has_few : (verified : TypedProgram) (most : ℕ) → IsBoundedBy verified most → HasFew verified most
+has_few verified most is p s same inputs state =
+    few_events verified.program (typings_of verified) is.within is.right most is.bound p.inputs p.layout p.history s inputs
+    (subst (λ (program : TypedProgram). reached program.program p.inputs p.layout p.history ≡ Went s) same state)
+
+-- a run is over by the limit only with so many events
+limit_reached : (p : PoolView) (s : State) → closing_at p s ≡ Some Limit → length p.history ≡ p.limit
+limit_reached p s e = by (ending s) e
+  where
+    by_test : (b : Bool) → (length p.history == p.limit) ≡ b → (if b then Some Limit else None) ≡ Some Limit → length p.history ≡ p.limit
+    by_test true same f = eqb-true (length p.history) p.limit same
+    by_test false same f = cc
+
+    by_stop : (b : Bool) → (if b then Some Stopped else if length p.history == p.limit then Some Limit else None) ≡ Some Limit → length p.history ≡ p.limit
+    by_stop true f = cc
+    by_stop false f = by_test (length p.history == p.limit) refl f
+
+    by : (o : Option Ending) → option_or (option_map closing_of o) (if p.stopped then Some Stopped else if length p.history == p.limit then Some Limit else None) ≡ Some Limit → length p.history ≡ p.limit
+    by None f = by_stop p.stopped f
+    by (Some ending.Quiet) f = cc
+    by (Some (ending.Stuck rules)) f = cc
+
+not_by_limit : (closing : Option Closing) → HasEnded closing → (closing ≡ Some Limit → ⊥) → HasEndedByItself closing
+not_by_limit None ended not = ended
+not_by_limit (Some Quiet) ended not = tt
+not_by_limit (Some (Stuck rules)) ended not = tt
+not_by_limit (Some Stopped) ended not = ended
+not_by_limit (Some Limit) ended not = not refl
+
+pub ends_by_itself : (verified : TypedProgram) (most : ℕ) → IsBoundedBy verified most → EndsByItself verified most
+ends_by_itself verified most is inputs layout limit final history given above left =
+    not_by_limit final.closing left.3 (by left.0 left.2)
+  where
+    by : (p : PoolView) → IsLeftIn (opened verified inputs layout limit) p final history → final.closing ≡ Some Limit → ⊥
+    by p l e =
+        let program = ap (λ (q : PoolView). q.program) l.of_first in
+        let same = ap (λ (q : PoolView). q.inputs) l.of_first in
+        let limits = ap (λ (q : PoolView). q.limit) l.of_first in
+        let few = has_few verified most is p l.shut.state program (subst (λ (xs : List Input). AreInputsOf verified.program xs) (sym same) given) l.shut.has_state in
+        let all = limit_reached p l.shut.state (sym l.shut.closing ∙ e) in
+        absurd (omega (arith, few, all, limits, above))
