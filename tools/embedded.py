@@ -80,8 +80,11 @@ def compare_calls():
             text = file.read()
         words = (shown_words(name) or [[]])[0]
         inputs = [word for word in words if ":" in word]
-        for call, order in ((lambda: yuglemit.assemble(text).hex() + "\n", ["asm", "--names"] if name.endswith(".twn") else ["asm"]), (lambda: yuglemit.check(text), ["check", "--text"]),
-                            (lambda: yuglemit.run(text, *inputs, workers=2).text, ["run", "--text", "--in-turn", "--workers", "2", *inputs])):
+        calls = [(lambda: yuglemit.assemble(text).hex() + "\n", ["asm", "--names"] if name.endswith(".twn") else ["asm"]),
+                 (lambda: yuglemit.load(text).checked, ["check", "--text"])]
+        if inputs or not re.search(r"^proc control.*\b(closed|ref)\b", text, re.M):  # inputs that main doesn't ask for are a TypeError
+            calls.append((lambda: yuglemit.load(text).run(*map(yuglemit.read_input, inputs), workers=2).text, ["run", "--text", "--in-turn", "--workers", "2", *inputs]))
+        for call, order in calls:
             try:
                 got = call()
             except yuglemit.Refused as why:

@@ -1,0 +1,16 @@
+from yuglemit.build import Array, Int, Out, Table, Text, byte_length, check, control, each, insert, leaf, nth, out
+
+
+@leaf
+def add(member: Int, total: Int) -> Int:
+    if check(more := total + member):
+        return more
+    return total
+
+
+@control
+def main(members: Array[Int], total: Out[Int]):
+    so_far = 0
+    for _, member in each(members, 10):
+        so_far = add(member, so_far)
+    out.total = so_far

@@ -1,0 +1,12 @@
+from yuglemit.build import Array, Int, Out, Table, Text, byte_length, check, control, each, insert, leaf, nth, out
+
+
+@leaf
+def square(number: Int, into: Out[Array[Int]]):
+    out.into[number] = number * number
+
+
+@control
+def main(squares: Out[Array[Int]]):
+    for number in range(8):
+        square(number, out.squares)

@@ -1,0 +1,15 @@
+from yuglemit.build import Array, Int, Out, Table, Text, byte_length, check, control, each, insert, leaf, nth, out
+
+
+@leaf
+def count(container: Array[Int]) -> Int:
+    return len(container)
+
+
+@control
+def main(given: Out[Array[Int]], size: Out[Int]):
+    own = Array[Int]()
+    for number in range(1, 4):
+        out.given[number] = number
+        own[number] = number
+    out.size = count(own)

@@ -1,0 +1,12 @@
+from yuglemit.build import Array, Int, Out, Table, Text, byte_length, check, control, each, insert, leaf, nth, out
+
+
+@control
+def main(container: Out[Array[Int]], count: Out[Int]):
+    refused = 0
+    for number in range(3):
+        if check(insert(out.container, number % 2, number + 1)):
+            pass
+        else:
+            refused += 1
+    out.count = refused

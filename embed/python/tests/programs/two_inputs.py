@@ -1,0 +1,8 @@
+from yuglemit.build import Array, Int, Out, Table, Text, byte_length, check, control, each, insert, leaf, nth, out
+
+
+@control
+def main(container: Array[Int], other: Int, both: Out[Array[Int]]):
+    out.both[other] = len(container)
+    if check(insert(out.both, len(container), other)):
+        pass

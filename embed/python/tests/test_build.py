@@ -1,0 +1,374 @@
+"""The compiler: the examples written in Python, random functions beside Python's own answers, and every error."""
+
+from __future__ import annotations
+
+import ast
+import os
+import random
+import re
+import shlex
+import subprocess
+import sys
+import tempfile
+import unittest
+from pathlib import Path
+from typing import Any, Dict, List, Tuple
+
+import random_programs
+import yuglemit
+from common import EXAMPLES, TESTS, example
+from yuglemit.build import BuildError, build_file, build_text
+
+HEAD = "from yuglemit.build import Array, Int, Out, Table, Text, byte_length, check, control, each, insert, leaf, nth, out\n"
+REFUSED = (-77, "refused")
+FUNCTIONS = int(os.environ.get("FUNCTIONS", "1000"))
+
+
+def sessions(name: str) -> List[Tuple[List[Any], Dict[str, int]]]:
+    """The inputs and the layouts with which the repository shows a program."""
+    shown = "".join((EXAMPLES.parent / it).read_text(encoding="utf-8") for it in ("examples/sessions.txt", "docs/IDIOMS.md", "docs/FORMAT.md"))
+    found = re.findall(rf"^\$ \./tw run examples/{name}\.twn?\b(.*)$", shown, re.M)
+    runs: List[Tuple[List[Any], Dict[str, int]]] = []
+    for words in map(shlex.split, found):
+        layout = {it: int(number) for it, number in re.findall(r"--(engines|workers)[ =](\d+)", " ".join(words))}
+        inputs = [yuglemit.read_input(word) for word in words if ":" in word]
+        if "|" not in words and not {"--stats", "--inputs", "--trace"} & set(words):
+            runs.append((inputs, layout))
+    return runs
+
+
+class Examples(unittest.TestCase):
+    """Each program of examples/ that can be said in Python answers as its text does."""
+
+    def test_programs(self) -> None:
+        for path in sorted((TESTS / "programs").glob("*.py")):
+            with self.subTest(path.name):
+                built = build_file(path)
+                twin = EXAMPLES / f"{path.stem}.twn"
+                text = yuglemit.load(twin if twin.exists() else twin.with_suffix(".tw"))
+                runs = sessions(path.stem)
+                self.assertTrue(runs, "nothing shows how to run it")
+                for inputs, layout in runs:
+                    self.assertEqual(self.answer(built.program, inputs, layout), self.answer(text, inputs, layout), (inputs, layout))
+
+    def answer(self, program: yuglemit.Program, inputs: List[Any], layout: Dict[str, int]) -> Any:
+        try:
+            report = program.run(*inputs, **layout)  # type: ignore[arg-type]
+            return report.end, report.outputs
+        except yuglemit.Refused as why:
+            return why.code
+        except TypeError:
+            return "no inputs of this program"
+
+    def test_more_inputs(self) -> None:
+        chance = random.Random(1)
+        for name in ("chain", "mapreduce", "matrix", "sized_loop", "read_member"):
+            mine, its = build_file(TESTS / "programs" / f"{name}.py").program, yuglemit.load(EXAMPLES / f"{name}.twn")
+            for _ in range(20):
+                inputs = {chance.randrange(-20, 20): chance.choice(random_programs.NUMBERS[:12]) for _ in range(chance.randrange(9))}
+                self.assertEqual(mine.run(inputs).outputs, its.run(inputs).outputs, (name, inputs))
+        mine, its = build_file(TESTS / "programs" / "words.py").program, yuglemit.load(EXAMPLES / "words.twn")
+        for _ in range(20):
+            words = {number: chance.choice(["the", "cat", "", "é"]) for number in range(chance.randrange(9))}
+            self.assertEqual(mine.run(words).outputs, its.run(words).outputs, words)
+
+
+class RandomFunctions(unittest.TestCase):
+    """1,000 random functions answer as Python does."""
+
+    def test_leaf_functions(self) -> None:
+        chance = random.Random(76)
+        taken = seed = refused = 0
+        while taken < FUNCTIONS:
+            seed += 1
+            compiled, run = random_programs.function(seed)
+            text = (
+                HEAD + f"@leaf(otherwise={REFUSED!r})\n" + compiled
+                + "@control\ndef main(a: Int, b: Int, s: Text, number: Out[Int], words: Out[Text]):\n    out.number, out.words = f(a, b, s)\n"
+            )
+            try:
+                program = build_text(text).program
+            except BuildError as why:
+                self.assertRegex(str(why), "never reached|more than 16|nothing in .* can be refused|doesn't fit", f"{seed}\n{text}")
+                continue
+            taken += 1
+            names = random_programs.names()
+            exec(random_programs.runnable(run), names)
+            for _ in range(3):
+                a, b, s = chance.choice(random_programs.NUMBERS), chance.randrange(-20, 20), chance.choice(random_programs.WORDS)
+                wanted = self.by_python(names["f"], a, b, s)
+                refused += wanted == list(REFUSED)
+                self.assertEqual(program.run(a, b, s, limit=1_000_000).outputs, wanted, f"{seed} {a} {b} {s!r}\n{text}")
+        self.assertLess(seed, 4 * FUNCTIONS)
+        self.assertTrue(FUNCTIONS / 10 < refused < FUNCTIONS * 2, refused)
+
+    def by_python(self, function: Any, a: int, b: int, s: str) -> List[Any]:
+        try:
+            number, words = function(random_programs.Number(a), random_programs.Number(b), random_programs.Word(s))
+            return [int(number), str(words)]
+        except random_programs.Overflow:
+            return list(REFUSED)
+
+    def test_control_functions(self) -> None:
+        for seed in range(FUNCTIONS * 3 // 10):
+            chance = random.Random(seed)
+            body = random_control(chance)
+            text = HEAD + LEAVES + "@control\ndef main(a: Int, b: Int, xs: Array[Int], total: Out[Int], kept: Out[Array[Int]]):\n" + body
+            program = build_text(text).program
+            names: Dict[str, Any] = {"Number": random_programs.Number, "Overflow": random_programs.Overflow}
+            exec(PYTHON_LEAVES + "def main(a, b, xs, out, each, insert):\n" + body, names)
+            for _ in range(3):
+                a, b = chance.randrange(-5, 6), chance.randrange(-5, 6)
+                xs = {chance.randrange(-9, 9): chance.randrange(-9, 9) for _ in range(chance.randrange(5))}
+                out = type("Outputs", (), {"kept": {}})()
+                names["main"](a, b, xs, out, lambda it, most: sorted(it.items())[:most], None)
+                report = program.run(a, b, xs)
+                self.assertEqual((report.end, report.outputs), ("quiet", [out.total, out.kept]), f"{seed} {a} {b} {xs}\n{text}")
+
+
+LEAVES = """@leaf(otherwise=0)
+def add(x: Int, y: Int) -> Int:
+    return x + y
+
+@leaf(otherwise=0)
+def mix(x: Int, y: Int) -> Int:
+    return x * 3 - y if x < y else y - x
+
+@control
+def both(x: Int, y: Int) -> Int:
+    return add(mix(x, y), mix(y, x))
+
+@leaf
+def pair(x: Int) -> tuple[Int, Int]:
+    return x, x
+
+"""
+PYTHON_LEAVES = """
+def refused_is_0(task):
+    def call(*numbers):
+        try:
+            return int(task(*map(Number, numbers)))
+        except Overflow:
+            return 0
+    return call
+
+@refused_is_0
+def add(x, y):
+    return x + y
+
+@refused_is_0
+def mix(x, y):
+    return x * 3 - y if x < y else y - x
+
+def both(x, y):
+    return add(mix(x, y), mix(y, x))
+
+def pair(x):
+    return x, x
+
+"""
+
+
+def random_control(chance: random.Random) -> str:
+    """The body of a random control function, which Python runs as it is."""
+    futures = ["p", "q", "r"]
+    lines = ["p = 0", "q = add(a, b)", "r = b", "r = mix(a, r)"]
+
+    def future(deep: int = 0) -> str:
+        if deep < 2 and chance.random() < 0.5:
+            return f"{chance.choice(['add', 'mix', 'both'])}({future(deep + 1)}, {future(deep + 1)})"
+        return chance.choice([*futures, "a", "b", str(chance.randrange(9))])
+
+    def statements(indent: str, depth: int, count: int) -> None:
+        for _ in range(count):
+            kind = chance.randrange(8)
+            if kind < 4 or depth == 2:
+                lines.append(f"{indent}{chance.choice(futures)} = {chance.choice(['add', 'mix', 'both'])}({future()}, {future()})")
+            elif kind == 4:
+                lines.append(f"{indent}p, q = pair({future()})")
+            elif kind == 5:
+                lines.append(f"{indent}if a {chance.choice(['<', '==', '>='])} {chance.randrange(-2, 3)}:")
+                statements(indent + "    ", depth + 1, 2)
+                if chance.random() < 0.6:
+                    lines.append(f"{indent}else:")
+                    statements(indent + "    ", depth + 1, 1)
+            elif kind == 6:
+                lines.append(f"{indent}for i{depth} in range({chance.randrange(1, 4)}):")
+                if chance.random() < 0.4:
+                    lines.append(f"{indent}    if i{depth} == b:")
+                    lines.append(f"{indent}        {chance.choice(['break', 'continue'])}")
+                statements(indent + "    ", depth + 1, 2)
+            else:
+                lines.append(f"{indent}for s{depth}, m{depth} in each(xs, 5):")
+                lines.append(f"{indent}    q = add(q, m{depth})")
+                statements(indent + "    ", depth + 1, 1)
+
+    statements("", 0, chance.randrange(2, 6))
+    lines.append("for s, m in each(xs, 5):")
+    lines.append(f"    out.kept[s] = {chance.choice(['m', 'add(m, p)', 's', 'q'])}")
+    lines.append(f"out.total = {chance.choice([*futures, 'add(p, q)', 'a'])}")
+    return "".join(f"    {line}\n" for line in lines)
+
+
+MAIN = "@control\ndef main(x: Int, xs: Array[Int], y: Out[Int]):\n"
+ERRORS: List[Tuple[str, int, int, str]] = [
+    # a text behind HEAD, the line and the column of the error, and what it says
+    ("", 1, 1, "no function main"),
+    ("@leaf\ndef main():\n    pass\n", 3, 1, "main is a control function"),
+    ("@control\ndef main(x):\n    pass\n", 3, 10, "has no type"),
+    ("@control\ndef main(x: float):\n    pass\n", 3, 13, "expected a type"),
+    ("@control\ndef main(x: Array[Array[Int]]):\n    pass\n", 3, 1, "main takes and gives"),
+    ("@control\ndef main(x: Array[Array[Array[Array[Int]]]]):\n    pass\n", 3, 13, "at most 3"),
+    ("@control\ndef main(*x: Int):\n    pass\n", 3, 1, "no defaults"),
+    ("@control\ndef main(x: Int = 3):\n    pass\n", 3, 1, "no defaults"),
+    ("@control\ndef main(a: Int, b: Int, c: Int, d: Int, e: Int, f: Int, g: Int, h: Int, i: Int):\n    pass\n", 3, 1, "at most 8"),
+    ("@leaf(often=1)\ndef f():\n    pass\n" + MAIN + "    out.y = 1\n", 2, 2, "otherwise"),
+    ("@leaf(otherwise=x)\ndef f() -> Int:\n    return 1\n" + MAIN + "    out.y = 1\n", 2, 17, "expected a constant"),
+    ("@leaf(otherwise='x')\ndef f() -> Int:\n    return 1\n" + MAIN + "    out.y = 1\n", 3, 1, "otherwise: expected Int"),
+    ("@leaf\ndef f():\n    pass\n@leaf\ndef f():\n    pass\n" + MAIN + "    out.y = 1\n", 6, 1, "two functions f"),
+    ("@leaf\ndef check():\n    pass\n" + MAIN + "    out.y = 1\n", 3, 1, "word of the language"),
+    (MAIN + "    out.y = 1 +\n", 4, 16, "invalid syntax"),
+    (MAIN + "    out.y = z\n", 4, 13, "z isn't known"),
+    (MAIN + "    out.y = f(x)\n", 4, 13, "f is no function|f isn't known"),
+    (MAIN + "    out.z = 1\n", 4, 5, "no output"),
+    (MAIN + "    y = 1\n", 4, 5, "y is a parameter: out.y"),
+    (MAIN + "    xs = 1\n", 4, 5, "has one type|is a parameter"),
+    (MAIN + "    out.y = 'a'\n", 4, 5, "out.y is Int, and can't be set to Text"),
+    (MAIN + "    z = 1\n    z = 'a'\n", 5, 5, "has one type"),
+    (MAIN + "    pass\n", 4, 5, "out.y may be unset at the end"),
+    (MAIN + "    if x > 1:\n        out.y = 1\n", 4, 5, "out.y may be unset at the end"),
+    (MAIN + "    if x > 1:\n        z = 1\n    out.y = z\n", 6, 13, "z may be unset"),
+    (MAIN + "    for i in range(3):\n        pass\n    out.y = i\n", 6, 13, "i may be unset"),
+    (MAIN + "    out.y = x / 2\n", 4, 13, "// divides ints"),
+    (MAIN + "    out.y = x ** x\n", 4, 13, "not of the language"),
+    (MAIN + "    out.y = 2**63\n", 4, 13, "64 bits"),
+    (MAIN + "    out.y = x + 'a'\n", 4, 17, "expected Int, found 'a'"),
+    (MAIN + "    out.y = len('a')\n", 4, 13, "byte_length"),
+    (MAIN + "    out.y = int(x)\n", 4, 17, "expected Text, found x"),
+    (MAIN + "    out.y = min(x)\n", 4, 13, "min takes 2 arguments"),
+    (MAIN + "    out.y = xs[1] + 1\n", 4, 13, "known only when its task has run"),
+    (MAIN + "    while x > 1:\n        pass\n", 4, 5, "while is not of the language"),
+    (MAIN + "    for i in range(x):\n        pass\n", 4, 14, "constants"),
+    (MAIN + "    for i in range(1001):\n        pass\n", 4, 14, "1 to 1000 turns, this one 1001"),
+    (MAIN + "    for i in range(0):\n        pass\n", 4, 14, "1 to 1000 turns, this one 0"),
+    (MAIN + "    for i in range(1, 9, 0):\n        pass\n", 4, 14, "step of 0"),
+    (MAIN + "    for i in range(3):\n        i = 1\n", 5, 9, "counts the turns"),
+    (MAIN + "    for i in each(xs):\n        pass\n", 4, 14, "the most members"),
+    (MAIN + "    for i in each(xs, 1001):\n        pass\n", 4, 14, "the most members"),
+    (MAIN + "    for i in x:\n        pass\n", 4, 14, "no container"),
+    (MAIN + "    for i in range(2):\n        for j in range(2):\n            for k in range(2):\n                for l in range(2):\n                    for m in range(2):\n                        pass\n", 8, 21, "at most 4 loops"),
+    (MAIN + "    break\n", 4, 5, "for loops"),
+    (MAIN + "    out.y = 1\n    return\n    x = 2\n", 6, 5, "never reached"),
+    (MAIN + "    x\n", 4, 5, "does nothing"),
+    (MAIN + "    if x:\n        pass\n", 4, 8, "expected a comparison"),
+    (MAIN + "    if 'a' < 'b':\n        pass\n", 4, 8, "== and != alone"),
+    (MAIN + "    if check(x) and x > 1:\n        pass\n", 4, 8, "whole condition"),
+    (MAIN + "    if check(x):\n        pass\n", 4, 8, "nothing in check"),
+    (MAIN + "    kept = Array[Int]()\n    if 1 in kept:\n        pass\n", 5, 13, "isn't complete here"),
+    (MAIN + "    kept = Array[Int](1)\n", 4, 12, "begins empty"),
+    (MAIN + "    xs[1] = 2\n", 4, 5, "can't be written"),
+    ("@leaf\ndef f(n: Int) -> Int:\n    return n * n\n" + MAIN + "    out.y = f(x)\n", 4, 12, "otherwise"),
+    ("@leaf\ndef f(n: Int) -> Int:\n    return g(n)\n@leaf\ndef g(n: Int) -> Int:\n    return n\n" + MAIN + "    out.y = f(x)\n", 4, 12, "calls no task"),
+    ("@leaf\ndef f(ns: Array[Int]) -> Int:\n    for s, n in ns:\n        pass\n    return 1\n" + MAIN + "    out.y = f(xs)\n", 4, 9, "can't wait for members"),
+    ("@leaf\ndef f(n: Int) -> Int:\n    return n\n" + MAIN + "    out.y = f()\n", 7, 13, "takes 1 argument"),
+    ("@leaf\ndef f(n: Int) -> Int:\n    return n\n" + MAIN + "    out.y = f('a')\n", 7, 15, "expected Int"),
+    ("@leaf\ndef f(n: Int) -> Int:\n    return n\n" + MAIN + "    out.y = f(x, often=1)\n", 7, 24, "keywords priority and worker"),
+    ("@leaf\ndef f(n: Int) -> Int:\n    return n\n" + MAIN + "    out.y = f(x, worker=16)\n", 7, 25, "0 to 15"),
+    ("@leaf\ndef f(n: Int) -> Int:\n    return n\n" + MAIN + "    out.y = f(x)\n    out.y = f(x)\n", 8, 5, "out.y is set already"),
+    ("@leaf\ndef f(n: Int) -> Int:\n    return n\n" + MAIN + "    if x > 1:\n        out.y = f(x)\n", 7, 5, "set it on each"),
+    ("@leaf\ndef f(n: Int) -> Int:\n    return n\n" + MAIN + "    for i in range(2):\n        out.y = f(x)\n", 8, 9, "not in a loop"),
+    ("@leaf\ndef f(n: Int) -> tuple[Int, Int]:\n    return n, n\n" + MAIN + "    out.y = f(x)\n", 7, 13, "2 results: one is needed|has 2 results"),
+    ("@leaf\ndef f(n: Int) -> Int:\n    return n\n" + MAIN + "    a, b = f(x)\n", 7, 12, "1 results, 2 are asked"),
+    (MAIN + "    main(x, xs, out.y)\n", 4, 5, "called by the run alone"),
+    (MAIN + "".join(f"    v{i} = x\n" for i in range(16)) + "    out.y = 1\n", 19, 5, "more than 16 values"),
+    ("@leaf\ndef f(n: Int) -> Int:\n    return n\n" + MAIN + "".join(f"    v{i} = f(x)\n" for i in range(16)) + "    out.y = 1\n", 19, 5, "more than 16 data"),
+    (MAIN + "    for a in range(1000):\n        for b in range(1000):\n            for c in range(1000):\n                for d in range(1000):\n                    pass\n    out.y = 1\n", 3, 1, "V17"),
+]
+
+
+class Errors(unittest.TestCase):
+    def test_each(self) -> None:
+        for text, line, column, told in ERRORS:
+            with self.subTest(text):
+                with self.assertRaises(BuildError) as caught:
+                    assert build_text(HEAD + text, "file.py").program
+                why = caught.exception
+                self.assertRegex(why.message, told)
+                self.assertEqual((why.line, why.column, why.file), (line, column, "file.py"), why.message)
+                self.assertTrue(str(why).startswith(f"file.py:{line}:{column}: "))
+
+
+class Refused(unittest.TestCase):
+    """What is refused outside of check(..) leaves outputs unset, or gives what `otherwise` says."""
+
+    def run_text(self, text: str, *inputs: Any) -> yuglemit.Report:
+        return build_text(HEAD + text).program.run(*inputs)
+
+    def test_output_of_control_stays_unset(self) -> None:
+        text = "@control\ndef main(x: Int, y: Out[Int], z: Out[Text]):\n    out.y = x * x\n    out.z = str(x)\n"
+        self.assertEqual(self.run_text(text, 3).outputs, [9, "3"])
+        report = self.run_text(text, 2**62)
+        self.assertEqual((report.end, report.outputs, report.unfinished), ("stuck", [None, None], [0, 1]))
+
+    def test_leaf_gives_otherwise(self) -> None:
+        text = "@leaf(otherwise=(-1, 'no'))\ndef f(n: Int) -> tuple[Int, Text]:\n    return n * n, 'yes'\n@control\ndef main(x: Int, y: Out[Int], z: Out[Text]):\n    out.y, out.z = f(x)\n"
+        self.assertEqual(self.run_text(text, 3).outputs, [9, "yes"])
+        self.assertEqual(self.run_text(text, 2**62).outputs, [-1, "no"])
+
+    def test_second_member_of_a_subscript_is_refused(self) -> None:
+        text = "@control\ndef main(y: Out[Array[Int]]):\n    out.y[1] = 1\n    out.y[1] = 2\n    out.y[2] = 3\n"
+        self.assertEqual(self.run_text(text).outputs, [{1: 1}])
+
+    def test_refused_in_a_loop(self) -> None:
+        text = "@control\ndef main(y: Out[Array[Int]], n: Out[Int]):\n    n = 0\n    for i in range(5):\n        for j in range(3):\n            out.y[i * j] = i\n    out.n = 1\n"
+        with self.assertRaises(BuildError):
+            self.run_text(text)
+        report = self.run_text(text.replace("    n = 0\n", ""))
+        self.assertEqual((report.end, report.outputs), ("stuck", [{0: 0}, None]))
+
+    def test_least_int(self) -> None:
+        text = "@control\ndef main(x: Int, d: Int, q: Out[Int], r: Out[Int]):\n    out.r = x % d\n    if check(found := x // d):\n        out.q = found\n    else:\n        out.q = 5\n"
+        self.assertEqual(self.run_text(text, -(2**63), -1).outputs, [5, 0])
+        for x in (-7, 7, -(2**63), 2**63 - 1, 6, 0):
+            for d in (-3, 3, 2, -2, 7, 1, 2**63 - 1, -(2**63)):
+                self.assertEqual(self.run_text(text, x, d).outputs, [x // d, x % d], (x, d))
+
+
+class Manual(unittest.TestCase):
+    def test_programs_of_the_manual(self) -> None:
+        text = (EXAMPLES.parent / "docs" / "BUILD.md").read_text(encoding="utf-8")
+        shown = re.findall(r"```python\n(.*?)```\n\nWith `(.*?)` it gives `(.*?)`\.", text, re.S)
+        self.assertEqual(len(shown), 5)
+        self.assertEqual(text.count("```python"), 5)
+        for code, given, wanted in shown:
+            with self.subTest(given):
+                self.assertLess(len([line for line in code.split("\n") if line]), 20)
+                report = build_text(code).program.run(*ast.literal_eval(f"({given},)"))
+                self.assertEqual((report.end, report.outputs), ("quiet", list(ast.literal_eval(f"({wanted},)"))))
+
+
+class Command(unittest.TestCase):
+    def test_build_writes_the_text(self) -> None:
+        path = TESTS / "programs" / "pipeline.py"
+        done = subprocess.run([sys.executable, "-m", "yuglemit", "build", str(path)], capture_output=True, text=True)
+        self.assertEqual((done.returncode, done.stderr), (0, ""))
+        self.assertEqual(done.stdout, build_file(path).text)
+        self.assertEqual(yuglemit.load(done.stdout).run(39).outputs, yuglemit.load(example("pipeline.twn")).run(39).outputs)
+        self.assertIn("; 13: out.to = add_one(add_one(add_one(start)))\n", done.stdout)
+
+    def test_build_tells_where(self) -> None:
+        with tempfile.TemporaryDirectory() as folder:
+            path = Path(folder) / "wrong.py"
+            path.write_text(HEAD + MAIN + "    out.y = z\n")
+            done = subprocess.run([sys.executable, "-m", "yuglemit", "build", str(path)], capture_output=True, text=True)
+            self.assertEqual((done.returncode, done.stdout), (1, ""))
+            self.assertIn(f"{path}:4:13: z isn't known", done.stderr)
+            done = subprocess.run([sys.executable, "-m", "yuglemit", "build", f"{folder}/none.py"], capture_output=True, text=True)
+            self.assertEqual(done.returncode, 66)
+
+    def test_load_takes_a_python_file(self) -> None:
+        self.assertEqual(yuglemit.load(TESTS / "programs" / "pipeline.py").run(39).outputs, [42])
+
+
+if __name__ == "__main__":
+    unittest.main()

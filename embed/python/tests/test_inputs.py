@@ -1,0 +1,139 @@
+"""Inputs are Python values; none is an option, and what can't be an input says so."""
+
+from __future__ import annotations
+
+import unittest
+from pathlib import Path
+from typing import Any
+
+import yuglemit
+from common import DOUBLE, example, same, sized
+
+try:
+    import numpy
+except ImportError:
+    numpy = None  # type: ignore[assignment]
+
+
+class Values(unittest.TestCase):
+    def test_texts_come_back_as_they_are(self) -> None:
+        program = yuglemit.load(same("closed", "text"))
+        hostile = ["", "--stats", "--help", "--in-turn", "-7", "int:39", "ints:1=7", " a b ", '"', "\\", "\\n", "a\tb", "\r", "ab\r", "\r\r", "é\u2028\u0085\U0001f600\x00"]
+        for text in hostile + ["".join(map(chr, range(1, 0x180))).replace("\n", "")]:
+            with self.subTest(text):
+                self.assertEqual(program.run(text).outputs, [text])
+
+    def test_texts_of_containers_may_have_line_feeds(self) -> None:
+        report = yuglemit.load(Path(__file__).parents[3] / "examples" / "texts.tw").run({1: "a\nb", 2: "\r", 3: '"\\'})
+        self.assertEqual(report.outputs[0], 'a\nb,\r,"\\')
+
+    def test_text_with_a_line_feed_is_refused_by_name(self) -> None:
+        with self.assertRaisesRegex(ValueError, "input 1: .*line feed"):
+            yuglemit.load(same("closed", "text")).run("a\nb")
+
+    def test_ints(self) -> None:
+        program = yuglemit.load(same("closed", "int"))
+        for number in (0, -1, 2**63 - 1, -(2**63)):
+            self.assertEqual(program.run(number).outputs, [number])
+        for number in (2**63, -(2**63) - 1):
+            with self.assertRaisesRegex(ValueError, "input 1: .*64 bits"):
+                program.run(number)
+
+    @unittest.skipIf(numpy is None, "numpy isn't installed")
+    def test_ints_of_numpy(self) -> None:
+        program = yuglemit.load(same("closed", "int"))
+        for kind in (numpy.int8, numpy.uint16, numpy.int32, numpy.int64, numpy.uint64):
+            self.assertEqual(program.run(kind(7)).outputs, [7])
+        self.assertEqual(yuglemit.load(sized("cont int")).run({numpy.int64(1): numpy.int32(2)}).outputs, [1])
+        with self.assertRaisesRegex(TypeError, "input 1: expected an int, got bool"):
+            program.run(numpy.bool_(True))
+
+    def test_what_is_no_input(self) -> None:
+        program = yuglemit.load(same("closed", "int"))
+        wrong: list[tuple[Any, str]] = [
+            (True, "expected an int, got bool True"),
+            (None, "expected an int, got NoneType"),
+            (1.5, "no fractions"),
+            ("abc", "expected an int, got str 'abc'"),
+            (b"abc", r"value\.decode\(\)"),
+            ([1, 2], r"dict\(enumerate"),
+            (Path("x"), "expected an int, got PosixPath"),
+            ({1: 2}, "expected an int, got dict"),
+        ]
+        for value, told in wrong:
+            with self.subTest(value), self.assertRaisesRegex(TypeError, f"input 1: .*{told}"):
+                program.run(value)
+
+    def test_what_is_no_member(self) -> None:
+        program = yuglemit.load(sized("cont int"))
+        for value in ({1: 1.9}, {1: True}, {True: 1}, {"a": 1}, {1: "a"}, {1: 2, 2: "a"}, {1: 2, "a": 2}, {1: None}, 7):
+            with self.subTest(value), self.assertRaisesRegex(TypeError, "input 1.*expected"):
+                program.run(value)
+
+    def test_limits_of_inputs(self) -> None:
+        with self.assertRaisesRegex(ValueError, "input 1: 1001 members"):
+            yuglemit.load(sized("cont int")).run(dict.fromkeys(range(1001), 0))
+        self.assertEqual(yuglemit.load(sized("cont int")).run(dict.fromkeys(range(1000), 0)).outputs, [1000])
+        with self.assertRaisesRegex(ValueError, "4097 bytes"):
+            yuglemit.load(same("closed", "text")).run("x" * 4097)
+        self.assertEqual(yuglemit.load(same("closed", "text")).run("é" * 2048).outputs, ["é" * 2048])
+        with self.assertRaisesRegex(ValueError, "no UTF-8"):
+            yuglemit.load(same("closed", "text")).run("\ud800")
+
+    def test_empty_containers_of_each_type(self) -> None:
+        for kind in ("cont int", "cont text", "tcont int", "tcont text"):
+            self.assertEqual(yuglemit.load(sized(kind)).run({}).outputs, [0])
+
+    def test_subscripts_are_put_in_order(self) -> None:
+        program = yuglemit.load(example("first_subscript.tw"))
+        self.assertEqual(program.run({"b": 2, "a": 1, "é": 3, "": 4}).outputs, [""])
+        self.assertEqual(program.run({"\U0001f600": 1, "\uffff": 2}).outputs, ["\uffff"])
+
+    def test_number_of_inputs(self) -> None:
+        program = yuglemit.load(example("two_inputs.twn"))
+        with self.assertRaisesRegex(TypeError, r"takes 2 inputs \(container: cont int, other: int\), got 1"):
+            program.run({})
+        with self.assertRaisesRegex(TypeError, r"input 2 \(other\): expected an int, got str"):
+            program.run({}, "x")
+
+    def test_words_as_values(self) -> None:
+        for word, value in (("int:-4", -4), ("text:a\\n", "a\\n"), ("ints:", {}), ("ints:1=7,5=-3", {1: 7, 5: -3}), ('tints:"a\\x41\\n"=1', {"aA\n": 1}), ('texts:1="a,b",2=""', {1: "a,b", 2: ""})):
+            self.assertEqual(yuglemit.read_input(word), value)
+        for word in ("39", "int:x", "ints:1=7,", "ints:1=7 5=3", "--stats", "tints:a=1"):
+            with self.assertRaises(ValueError):
+                yuglemit.read_input(word)
+
+
+class Options(unittest.TestCase):
+    def test_ranges(self) -> None:
+        program = yuglemit.load(DOUBLE)
+        for name, most in (("engines", 4), ("servers", 4), ("workers", 16), ("limit", 1_000_000)):
+            for number in (0, most + 1, -1):
+                with self.assertRaisesRegex(ValueError, f"{name}: expected 1 to {most}, got {number}"):
+                    program.run(1, **{name: number})  # type: ignore[arg-type]
+            with self.assertRaisesRegex(TypeError, name):
+                program.run(1, **{name: "--help"})  # type: ignore[arg-type]
+
+    def test_codes(self) -> None:
+        self.assertIn("V04", yuglemit.explain("V04"))
+        for code in ("--help", "", "V 4"):
+            with self.assertRaises(ValueError):
+                yuglemit.explain(code)
+
+    def test_sources(self) -> None:
+        code = yuglemit.assemble(DOUBLE)
+        for source in (code, bytearray(code), memoryview(code)):
+            self.assertEqual(yuglemit.load(source).run(4).outputs, [8])
+            self.assertEqual(yuglemit.verify(source), (0, 0))
+        with self.assertRaises(yuglemit.Refused):
+            yuglemit.load(DOUBLE.encode())
+        with self.assertRaisesRegex(TypeError, "assemble"):
+            yuglemit.verify(DOUBLE)  # type: ignore[arg-type]
+        with self.assertRaisesRegex(ValueError, "pathlib"):
+            yuglemit.load("examples/pipeline.twn")
+        with self.assertRaisesRegex(TypeError, "int"):
+            yuglemit.load(7)  # type: ignore[arg-type]
+
+
+if __name__ == "__main__":
+    unittest.main()

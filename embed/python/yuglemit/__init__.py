@@ -1,0 +1,41 @@
+"""Assembles, verifies, runs and replays dataflow programs that you don't trust.
+
+    program = yuglemit.load(pathlib.Path("sum.twn"))    # verified here, or Refused
+    report = program.run({1: 7, 5: -3})
+    report.end, report.outputs
+
+`load` makes a `Program`, `Program.run` a `Report`, `map` many reports over any executor; `yuglemit.build` compiles programs from Python.
+"""
+
+from ._errors import Refused, Trap
+from ._inputs import Output, Value, read_input
+from ._listing import Bounds, Needs, Parameter, Procedure
+from ._map import map
+from ._program import Program, assemble, explain, load, session, verify
+from ._report import Report, Wait
+from ._version import __version__
+
+for _public in (Refused, Trap, Bounds, Needs, Parameter, Procedure, Program, Report, Wait):
+    _public.__module__ = "yuglemit"
+
+__all__ = [
+    "Bounds",
+    "Needs",
+    "Output",
+    "Parameter",
+    "Procedure",
+    "Program",
+    "Refused",
+    "Report",
+    "Trap",
+    "Value",
+    "Wait",
+    "__version__",
+    "assemble",
+    "explain",
+    "load",
+    "map",
+    "read_input",
+    "session",
+    "verify",
+]

@@ -1,0 +1,182 @@
+"""Inputs: Python values as the words that the library reads, and such words as Python values."""
+
+from __future__ import annotations
+
+import operator
+import re
+from typing import Dict, Mapping, Optional, Union
+
+Scalar = Union[int, str]
+Value = Union[int, str, Mapping[int, int], Mapping[int, str], Mapping[str, int], Mapping[str, str]]
+Output = Union[None, int, str, Dict[Scalar, Optional[Scalar]]]
+
+TYPES = ("int", "text", "cont int", "cont text", "tcont int", "tcont text")
+_PREFIXES = {"cont int": "ints:", "cont text": "texts:", "tcont int": "tints:", "tcont text": "ttexts:"}
+_ASKED = {
+    "int": "an int",
+    "text": "a str",
+    "cont int": "a dict of int by int",
+    "cont text": "a dict of str by int",
+    "tcont int": "a dict of int by str",
+    "tcont text": "a dict of str by str",
+}
+_MOST_MEMBERS = 1000
+_MOST_BYTES = 4096
+
+
+def quoted(text: str) -> str:
+    """Writes a text between quotes, as the formats have it."""
+    escape = {'"': '\\"', "\\": "\\\\", "\n": "\\n"}
+    return '"' + "".join(escape.get(c) or (f"\\x{ord(c):02x}" if c < " " or c == "\x7f" else c) for c in text) + '"'
+
+
+def unquoted(text: str) -> str:
+    """Reads a text between quotes."""
+    return re.sub(r"\\(?:x([0-9a-fA-F]{2})|(.))", lambda found: _escaped(found.group(1), found.group(2)), text[1:-1], flags=re.S)
+
+
+def _escaped(code: Optional[str], character: str) -> str:
+    if code:
+        return chr(int(code, 16))
+    return "\n" if character == "n" else character
+
+
+def _advice(value: object) -> str:
+    if isinstance(value, (bytes, bytearray)):
+        return "; decode bytes first, value.decode()"
+    if isinstance(value, (list, tuple)):
+        return "; dict(enumerate(values)) numbers members from 0"
+    if isinstance(value, float):
+        return "; there are no fractions"
+    return ""
+
+
+def _shown(value: object) -> str:
+    text = repr(value)
+    return f"{type(value).__name__} {text if len(text) <= 60 else text[:57] + '...'}"
+
+
+def _wrong(where: str, asked: str, value: object) -> TypeError:
+    return TypeError(f"{where}: expected {asked}, got {_shown(value)}{_advice(value)}")
+
+
+def _is_bool(value: object) -> bool:
+    return isinstance(value, bool) or type(value).__name__ in ("bool_", "bool")
+
+
+def _is_int(value: object) -> bool:
+    return hasattr(value, "__index__") and not _is_bool(value)
+
+
+def _int(value: object, where: str) -> int:
+    if not _is_int(value):
+        raise _wrong(where, "an int", value)
+    number = operator.index(value)  # type: ignore[arg-type]
+    if not -(2**63) <= number < 2**63:
+        raise ValueError(f"{where}: {number} doesn't fit in 64 bits")
+    return number
+
+
+def _text(value: object, where: str) -> str:
+    if not isinstance(value, str):
+        raise _wrong(where, "a str", value)
+    try:
+        size = len(value.encode())
+    except UnicodeEncodeError as why:
+        raise ValueError(f"{where}: the text is no UTF-8: {why.reason} at {why.start}") from None
+    if size > _MOST_BYTES:
+        raise ValueError(f"{where}: the text has {size} bytes of UTF-8, and at most {_MOST_BYTES} are taken")
+    return str(value)
+
+
+def _scalar(value: object, kind: str, where: str) -> str:
+    return str(_int(value, where)) if kind == "int" else quoted(_text(value, where))
+
+
+def _type_of(value: object, where: str) -> str:
+    """Finds the type of a value for which no parameter asks one."""
+    if _is_int(value):
+        return "int"
+    if isinstance(value, str):
+        return "text"
+    if isinstance(value, Mapping):
+        key, member = next(iter(value.items()), (0, 0))
+        return f"{'tcont' if isinstance(key, str) else 'cont'} {'text' if isinstance(member, str) else 'int'}"
+    raise _wrong(where, "an int, a str, or a dict of one of these by int or str", value)
+
+
+def _members(value: Mapping[object, object], kind: str, where: str) -> str:
+    outer, inner = kind.split()
+    keyed = "text" if outer == "tcont" else "int"
+    if len(value) > _MOST_MEMBERS:
+        raise ValueError(f"{where}: {len(value)} members, and at most {_MOST_MEMBERS} are taken")
+    pairs = []
+    for key, member in value.items():
+        spelled = _scalar(key, keyed, f"{where}, subscript {key!r:.60}")
+        order = str(key).encode() if keyed == "text" else int(spelled)
+        pairs.append((order, f"{spelled}={_scalar(member, inner, f'{where}, member at {key!r:.60}')}"))
+    pairs.sort(key=lambda pair: pair[0])  # type: ignore[arg-type, return-value]
+    return _PREFIXES[kind] + ",".join(spelled for _, spelled in pairs)
+
+
+def word_of(value: object, kind: Optional[str] = None, where: str = "input") -> str:
+    """Returns the word for a value, which has to be of the type `kind` if there is one.
+
+    No word is an option, whatever the value is, since each begins with its type.
+
+    >>> word_of(39), word_of("--help"), word_of({2: 7, 1: -3})
+    ('int:39', 'text:--help', 'ints:1=-3,2=7')
+    >>> word_of({}, "tcont text")
+    'ttexts:'
+    >>> word_of({1: 1.9})
+    Traceback (most recent call last):
+    ...
+    TypeError: input, member at 1: expected an int, got float 1.9; there are no fractions
+    """
+    kind = kind or _type_of(value, where)
+    if kind == "int":
+        return f"int:{_int(value, where)}"
+    if kind == "text":
+        text = _text(value, where)
+        if "\n" in text:
+            raise ValueError(f"{where}: the library can't take a text with a line feed yet, except as a container's member")
+        return "text:" + text
+    if not isinstance(value, Mapping):
+        raise _wrong(where, _ASKED[kind], value)
+    return _members(value, kind, where)
+
+
+_PAIR = re.compile(r'(-?\d+|"(?:\\.|[^"\\])*")=(-?\d+|"(?:\\.|[^"\\])*")(,|$)', re.S)
+
+
+def read_scalar(text: str) -> Scalar:
+    """Reads a number, or a text between quotes."""
+    return unquoted(text) if text[:1] == '"' else int(text)
+
+
+def read_input(word: str) -> Value:
+    """Returns the value that an input's word has, as `tw run` takes it.
+
+    >>> read_input("ints:1=7,5=-3"), read_input("text:a b"), read_input("int:-4")
+    ({1: 7, 5: -3}, 'a b', -4)
+    """
+    kind, colon, rest = word.partition(":")
+    if kind == "int" and re.fullmatch(r"-?\d+", rest):
+        return int(rest)
+    if kind == "text" and colon:
+        return rest
+    if colon and f"{kind}:" in _PREFIXES.values():
+        return _read_members(word, rest)
+    raise ValueError(f"{word!r:.60} is no input: int:, text:, ints:, texts:, tints: or ttexts: begins one")
+
+
+def _read_members(word: str, rest: str) -> Value:
+    members: Dict[Scalar, Scalar] = {}
+    place = 0
+    while place < len(rest):
+        found = _PAIR.match(rest, place)
+        if not found or (found.end() == len(rest)) == (found.group(3) == ","):
+            raise ValueError(f"{word!r:.60} is no input: pairs SUBSCRIPT=MEMBER are expected, parted by commas")
+        members[read_scalar(found.group(1))] = read_scalar(found.group(2))
+        place = found.end()
+    return members  # type: ignore[return-value]

@@ -1,0 +1,167 @@
+"""Reports of runs, and how they are read."""
+
+from __future__ import annotations
+
+import json
+import re
+from dataclasses import dataclass, field
+from functools import cached_property
+from typing import TYPE_CHECKING, Dict, List, NamedTuple, Optional, Tuple
+
+from ._errors import Refused
+from ._inputs import Output, Scalar, read_scalar
+
+if TYPE_CHECKING:
+    from ._program import Program
+
+_SCALAR = r'(-?\d+|"(?:\\.|[^"\\])*")'
+_SET = re.compile(rf"out \d+ (?:int|text) {_SCALAR}$", re.S)
+_MEMBER = re.compile(rf"  at {_SCALAR} (?:(?:int|text) {_SCALAR})?", re.S)
+_ENDS = ("quiet", "stuck", "limit", "running", "stopped")
+
+
+class Wait(NamedTuple):
+    """A rule of a circle, the datum for which it waits, and the rule that would write it."""
+
+    rule: int
+    datum: int
+    writer: int
+
+
+def read_outputs(text: str) -> Tuple[List[Output], List[int]]:
+    """Reads the outputs of a report, and the numbers of those that aren't closed."""
+    outputs: List[Output] = []
+    unfinished: List[int] = []
+    for line in text.split("\n"):
+        if line.startswith("out "):
+            found = _SET.match(line)
+            outputs.append(read_scalar(found[1]) if found else {} if "cont " in line else None)
+            if not found and " closed " not in line:
+                unfinished.append(len(outputs) - 1)
+        elif line.startswith("  at ") and outputs:
+            _put_member(outputs[-1], line)
+        elif line.split(" ")[0] in _ENDS:
+            break
+    return outputs, unfinished
+
+
+def _put_member(output: Output, line: str) -> None:
+    found = _MEMBER.match(line)
+    if found and isinstance(output, dict):
+        output[read_scalar(found[1])] = read_scalar(found[2]) if found[2] else None
+
+
+def read_end(text: str) -> str:
+    """Returns how the run of a report ended."""
+    for line in text.split("\n"):
+        word = line.split(" ")[0]
+        if word in _ENDS:
+            return word
+    return "refused"
+
+
+def read_circle(text: str) -> List[Wait]:
+    """Reads the circle of rules of a run that is stuck."""
+    return [Wait(int(a), int(b), int(c)) for a, b, c in re.findall(r"^waits (\d+) (\d+) (\d+)$", text, re.M)]
+
+
+class _Numbers(NamedTuple):
+    events: int
+    instructions: int
+
+
+def read_numbers(text: str) -> _Numbers:
+    """Reads the statistics behind a report: its events, and the instructions of all its tasks."""
+    events = re.findall(r"^events (\d+)$", text, re.M)
+    done = re.findall(r"^procedure \d+ tasks \d+ instructions (\d+) ", text, re.M)
+    return _Numbers(int(events[-1]) if events else 0, sum(map(int, done)))
+
+
+@dataclass(frozen=True)
+class Made:
+    """What made a report: the same again makes the same run, since its actors take turns in a fixed order."""
+
+    program: "Program"
+    inputs: Tuple[object, ...]
+    options: Tuple[str, ...]
+    limit: int
+
+
+@dataclass(frozen=True)
+class Report:
+    """The report of a run.
+
+    `end` is "quiet", "stuck" (rules wait for one another), "limit" (as many events as allowed) or "refused" (only in what `map` returns:
+    then `error` says why). `outputs` has an int, a str or a dict for each output of main, None for one that is unset; `unfinished` the
+    numbers of those that are unset or still open. `text` is the report as `tw run` writes it.
+    """
+
+    end: str
+    outputs: List[Output] = field(default_factory=list)
+    text: str = ""
+    unfinished: List[int] = field(default_factory=list)
+    error: Optional[Exception] = None
+    made: Optional[Made] = field(default=None, repr=False, compare=False)
+    kept_trace: Optional[str] = field(default=None, repr=False, compare=False)
+
+    @property
+    def circle(self) -> List[Wait]:
+        """The rules that wait for one another in a circle, if the run is stuck."""
+        return read_circle(self.text)
+
+    @cached_property
+    def _numbers(self) -> _Numbers:
+        return read_numbers(self._again("--stats"))
+
+    @property
+    def events(self) -> int:
+        """How many events the run had. The first access makes the run again and counts."""
+        return self._numbers.events
+
+    @property
+    def instructions(self) -> int:
+        """How many instructions its tasks did. The first access makes the run again and counts."""
+        return self._numbers.instructions
+
+    @cached_property
+    def trace(self) -> str:
+        """The events of the run, which `Program.replay` takes. Unless `trace=True` was given, the first access makes the run again."""
+        return self.kept_trace if self.kept_trace is not None else split_trace(self._again("--trace"))[0]
+
+    def timeline(self, first: int = 1, last: int = 4294967295) -> str:
+        """Draws the events of the run, from one number to another, as an SVG picture; it makes the run again."""
+        return self._again("--picture", "--from", str(first), "--to", str(last))
+
+    def _repr_svg_(self) -> Optional[str]:
+        return None if self.made is None else self.timeline()
+
+    def _again(self, *options: str) -> str:
+        if self.made is None:
+            raise ValueError("there was no run: the report is of a refused input or a replay")
+        return self.made.program.answer(self.made, self.made.program.words(self.made.inputs), *options)
+
+    @property
+    def json(self) -> str:
+        """The report as JSON. A container is an object whose names are its subscripts, a number as its decimal digits."""
+        told: Dict[str, object] = {"end": self.end, "outputs": self.outputs, "unfinished": self.unfinished}
+        if self.end == "stuck":
+            told["circle"] = [wait._asdict() for wait in self.circle]
+        if self.error is not None:
+            told["error"] = str(self.error)
+            told["code"] = self.error.code if isinstance(self.error, Refused) else None
+        return json.dumps(told, ensure_ascii=False)
+
+
+def split_trace(answer: str) -> Tuple[str, str]:
+    """Parts what `tw run --trace` writes into the trace and the report."""
+    trace, _, report = answer.partition("\nend\n")
+    return trace + "\nend\n", report
+
+
+def report_of(text: str, made: Optional[Made] = None, trace: Optional[str] = None) -> Report:
+    """Reads a report."""
+    outputs, unfinished = read_outputs(text)
+    return Report(read_end(text), outputs, text, unfinished, None, made, trace)
+
+
+__all__ = ["Made", "Report", "Scalar", "Wait", "report_of", "split_trace"]

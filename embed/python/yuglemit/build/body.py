@@ -1,0 +1,217 @@
+"""The state of compiling one procedure: its code, its registers, and what they hold on the way that is being compiled."""
+
+from __future__ import annotations
+
+import ast
+from dataclasses import dataclass, field
+from typing import Dict, FrozenSet, Iterable, List, NoReturn, Optional, Set, Tuple
+
+from .code import Code, Place
+from .kinds import Kinds
+from .registers import Names, Rights, Values
+from .source import Function, Source
+from .types import DataType
+
+
+@dataclass(frozen=True)
+class Right:
+    """A right in a register: "closed" or "ref" to read, "write" to write."""
+
+    register: str
+    mode: str
+    type: DataType
+
+    @property
+    def may_drop(self) -> bool:
+        """Whether the machine lets a task drop it; who may write a scalar has to."""
+        return self.mode != "write" or not self.type.is_scalar
+
+
+@dataclass
+class State:
+    """What is known on a way: which variables are set, and which rights are held, by their keys."""
+
+    assigned: Set[str] = field(default_factory=set)
+    rights: Dict[str, Right] = field(default_factory=dict)
+
+    def copy(self) -> "State":
+        """Returns a state of its own."""
+        return State(set(self.assigned), dict(self.rights))
+
+
+@dataclass
+class Failing:
+    """Where refused instructions go on: a way for each set of rights that was held, all of which come to `home`."""
+
+    home: State
+    pads: Dict[FrozenSet[str], Tuple[str, State]] = field(default_factory=dict)
+    first: Place = (1, 0)
+
+
+@dataclass
+class Loop:
+    """A loop that is being compiled: the label of its END, that of the next turn, and the flag that ends it."""
+
+    home: State
+    next: str
+    end: str
+    flag: str
+    is_ended: bool = False
+    return_sets: List[Set[str]] = field(default_factory=list)
+    has_failed: bool = False
+
+
+BREAK, RETURN, FAILED = 1, 2, 3
+HELPERS = ("copy_int", "copy_text", "never_int", "never_text")
+
+
+@dataclass(frozen=True)
+class Variant:
+    """A function with the modes of its parameters: "val", "closed" or "write" each."""
+
+    function: Function
+    modes: Tuple[str, ...]
+
+
+@dataclass
+class Unit:
+    """What is alike for all procedures of a program: names, what is still to be compiled, and what else the text needs."""
+
+    source: Source
+    names: Dict[Variant, str] = field(default_factory=dict)
+    queue: List[Variant] = field(default_factory=list)
+    helpers: Dict[str, List[str]] = field(default_factory=dict)
+    version_2: bool = False
+
+    def name_of(self, variant: Variant) -> str:
+        """Returns the procedure's name of a variant, which is compiled once."""
+        if variant not in self.names:
+            taken = {*self.names.values(), *HELPERS}
+            name, number = variant.function.name, 1
+            while name in taken or name in self.source.functions and name != variant.function.name:
+                number += 1
+                name = f"{variant.function.name}_{number}"
+            self.names[variant] = name
+            self.queue.append(variant)
+        return self.names[variant]
+
+
+class Body:
+    """A procedure that is being compiled."""
+
+    def __init__(self, unit: Unit, variant: Variant) -> None:
+        self.unit, self.source, self.function = unit, unit.source, variant.function
+        self.variant = variant
+        self.kinds = Kinds(unit.source, variant.function)
+        self.code = Code()
+        names = Names([*unit.source.functions, *HELPERS])
+        self.values, self.rights = Values(names), Rights(names)
+        self.state: Optional[State] = State()
+        self.failing: List[Failing] = []
+        self.loops: List[Loop] = []
+        self.node: ast.AST = variant.function.node
+        self.places: Dict[str, str] = {}
+        self.aliases: Dict[str, str] = {}
+        self._labels: Dict[str, int] = {}
+        self._temporaries = 0
+
+    # --- errors, labels, registers
+
+    def fail(self, message: str, node: Optional[ast.AST] = None) -> NoReturn:
+        """Raises the error at a node, or at the statement that is being compiled."""
+        self.source.fail(node if node is not None and hasattr(node, "lineno") else self.node, message)
+
+    def new_label(self, wanted: str) -> str:
+        """Returns a label of this procedure."""
+        self._labels[wanted] = self._labels.get(wanted, 0) + 1
+        return f"{wanted}_{self._labels[wanted]}"
+
+    def temporary(self, kind: DataType) -> str:
+        """Returns a value register for a moment."""
+        return self.values.temporary(kind, self.fail)
+
+    def variable(self, key: str) -> str:
+        """Returns the value register of a variable."""
+        return self.values.variable(key, self.kinds.found[key].type, self.fail)
+
+    @property
+    def now(self) -> State:
+        """The state of the way that is being compiled."""
+        if self.state is None:
+            self.fail("this line is never reached")
+        return self.state
+
+    # --- rights
+
+    def hold(self, key: str, wanted: str, mode: str, kind: DataType) -> Right:
+        """Takes a register for a right that the next instruction fills; a variable has the same register on each way."""
+        register = self.places.get(key) or self.rights.take(wanted, self.fail)
+        if not key.startswith("#"):
+            self.places[key] = register
+        right = Right(register, mode, kind)
+        self.now.rights[key] = right
+        return right
+
+    def forget(self, keys: Iterable[str]) -> None:
+        """Gives the registers of variables back that a loop made."""
+        for key in keys:
+            self.rights.release(self.places.pop(key))
+
+    def new_key(self) -> str:
+        """Returns a key for a right without a variable."""
+        self._temporaries += 1
+        return f"#{self._temporaries}"
+
+    def spend(self, key: str) -> Right:
+        """Notes that the right with this key is gone: an instruction takes it."""
+        right = self.now.rights.pop(key)
+        if key.startswith("#"):
+            self.rights.release(right.register)
+        return right
+
+    def drop(self, key: str) -> None:
+        """Drops a right."""
+        right = self.spend(key)
+        self.code.put("DROPW" if right.mode == "write" else "DROPR", right.register)
+
+    def come_home(self, home: State) -> None:
+        """Drops what is held on this way and isn't held at home; what home holds must be held."""
+        for key in [it for it in self.now.rights if it not in home.rights]:
+            if not self.now.rights[key].may_drop:
+                self.fail(f"{named(key)} is set on one way only: set it on each")
+            self.drop(key)
+        for key in home.rights:
+            if key not in self.now.rights:
+                self.fail(f"{named(key)} is spent on one way only, or in a loop: set it on each way, once, and not in a loop")
+
+    # --- refused instructions
+
+    def refused(self) -> str:
+        """Returns the label to which an instruction skips if it is refused here."""
+        failing = self.failing[-1]
+        rights = frozenset(self.now.rights)
+        if not failing.pads:
+            failing.first = self.code.place
+        if rights not in failing.pads:
+            failing.pads[rights] = (self.new_label("refused"), self.now.copy())
+        return failing.pads[rights][0]
+
+    def begin_failing(self) -> Failing:
+        """Begins a part in which refused instructions go on elsewhere."""
+        self.failing.append(Failing(self.now.copy()))
+        return self.failing[-1]
+
+    def put_pads(self, failing: Failing, goal: str) -> None:
+        """Writes the ways on which refused instructions come home, each to the label `goal`."""
+        kept = self.state
+        for label, state in failing.pads.values():
+            self.state = state.copy()
+            self.code.label(label)
+            self.come_home(failing.home)
+            self.code.put("JMP", goal)
+        self.state = kept
+
+
+def named(key: str) -> str:
+    """Returns how a right's key is told in an error."""
+    return key.rstrip(">") if not key.startswith("#") else "the result of a task"

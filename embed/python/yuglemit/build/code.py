@@ -1,0 +1,112 @@
+"""The text that is made: lines of one procedure, each with the place in the Python file from which it comes."""
+
+from __future__ import annotations
+
+import ast
+from dataclasses import dataclass, field
+from typing import Dict, List, Tuple
+
+_SKIPS = frozenset("JMP JEQ JLT ADD SUB MUL DIV REM CAT READI INS LOOK SUBAT TINS TLOOK TSUBAT".split())
+Place = Tuple[int, int]  # line, from 1, and offset in bytes, from 0, as ast has them
+
+
+@dataclass(frozen=True)
+class Line:
+    """A line of the text, and the place from which it comes."""
+
+    text: str
+    place: Place
+
+    @property
+    def is_label(self) -> bool:
+        """Whether it is a label."""
+        return self.text.endswith(":") and not self.text.startswith(";")
+
+    @property
+    def is_comment(self) -> bool:
+        """Whether it is a comment."""
+        return self.text.startswith(";")
+
+
+@dataclass
+class Code:
+    """Lines that are added one after another; `place` is that of the lines to come."""
+
+    lines: List[Line] = field(default_factory=list)
+    place: Place = (1, 0)
+
+    def put(self, *words: object) -> None:
+        """Adds an instruction."""
+        self.lines.append(Line(" ".join(str(it) for it in words), self.place))
+
+    def label(self, name: str) -> None:
+        """Adds a label."""
+        self.lines.append(Line(f"{name}:", self.place))
+
+    def at(self, node: ast.AST) -> None:
+        """Sets the place of the lines to come."""
+        self.place = (getattr(node, "lineno", 1), getattr(node, "col_offset", 0))
+
+    def comment(self, text: str) -> None:
+        """Adds a comment, once for a line of the Python file."""
+        line = f"; {self.place[0]}: {text}"
+        last = next((it.text for it in reversed(self.lines) if it.is_comment), None)
+        if last != line:
+            self.lines.append(Line(line, self.place))
+
+
+def tidy(lines: List[Line]) -> List[Line]:
+    """Shortens jumps: those to a jump go to its goal, and those to what follows at once, labels that nothing names, and what nothing reaches
+    are taken out."""
+    kept = list(lines)
+    while True:
+        shorter = _reached(_without_idle(_threaded(kept)))
+        if shorter == kept:
+            return kept
+        kept = shorter
+
+
+def _threaded(lines: List[Line]) -> List[Line]:
+    """Lets each jump to a label behind which a jump stands go to that one's goal."""
+    goals = {}
+    for number, line in enumerate(lines):
+        after = next((it for it in lines[number + 1 :] if not it.is_label and not it.is_comment), None)
+        if line.is_label and after is not None and after.text.startswith("JMP "):
+            goals[line.text[:-1]] = after.text[4:]
+    return [it if it.is_label or it.is_comment else Line(_renamed(it.text, goals), it.place) for it in lines]
+
+
+def _renamed(text: str, goals: Dict[str, str]) -> str:
+    before, blank, last = text.rpartition(" ")
+    return f"{before}{blank}{goals[last]}" if last in goals and text.split(" ")[0] in _SKIPS else text
+
+
+def _without_idle(lines: List[Line]) -> List[Line]:
+    without = [it for number, it in enumerate(lines) if not _is_idle_jump(lines, number)]
+    named = {it.text.rpartition(" ")[2] for it in without if not it.is_label and not it.is_comment}
+    return [it for it in without if not it.is_label or it.text[:-1] in named]
+
+
+def _reached(lines: List[Line]) -> List[Line]:
+    """Takes out instructions behind a JMP or RET with no label before them; an END is always kept."""
+    kept: List[Line] = []
+    open_way = True
+    for line in lines:
+        open_way = open_way or line.is_label
+        if open_way or line.is_comment:
+            kept.append(line)
+        if line.text == "RET" or line.text.startswith("JMP "):
+            open_way = False
+    return kept
+
+
+def _is_idle_jump(lines: List[Line], number: int) -> bool:
+    if not lines[number].text.startswith("JMP "):
+        return False
+    goal = lines[number].text[4:] + ":"
+    for line in lines[number + 1 :]:
+        if line.text == goal:
+            return True
+        if not line.is_label and not line.is_comment:
+            return False
+    return False

@@ -1,0 +1,180 @@
+"""Compiles a file: each function that main leads to becomes a procedure of the text."""
+
+from __future__ import annotations
+
+import ast
+from dataclasses import dataclass
+from functools import cached_property
+from pathlib import Path
+from typing import TYPE_CHECKING, List, Tuple, Union
+
+from .body import Body, Right, Unit, Variant
+from .code import Line, Place, tidy
+from .errors import BuildError
+from .source import Parameter, Source, read_source
+from .statements import block, ends, fails
+from .types import DataType
+
+if TYPE_CHECKING:
+    from .._program import Program
+
+MOST_INSTRUCTIONS = 4096
+MOST_PROCEDURES = 64
+
+
+@dataclass(frozen=True)
+class Built:
+    """A compiled file: `text` is the program as assembly text with names, `program` the loaded program."""
+
+    text: str
+    file: str
+    places: Tuple[Place, ...]
+    source: Source
+
+    @cached_property
+    def program(self) -> "Program":
+        """The program, verified. What the verifier refuses, such as a budget that is too large, is told at the Python line."""
+        from .. import Refused, load
+
+        try:
+            return load(self.text)
+        except Refused as why:
+            place = self.places[why.line - 1] if why.line and why.line <= len(self.places) else (1, 0)
+            node = ast.Pass(lineno=place[0], col_offset=place[1])
+            details = why.text.strip().split("\n")
+            self.source.fail(node, f"the program is {details[0]} ({details[-1]})")
+
+
+def _prologue(body: Body) -> Tuple[List[str], int]:
+    """Gives the parameters their registers; returns how the head lists them, and how many are values."""
+    listed: List[str] = []
+    values = 0
+    for parameter, mode in zip(body.function.parameters, body.variant.modes):
+        if mode == "val":
+            register = body.variable(parameter.name)
+            body.now.assigned.add(parameter.name)
+            values += 1
+        else:
+            register = body.rights.parameter(f"{parameter.name}_in" if parameter.type.is_scalar and not parameter.is_out else parameter.name)
+            key = f"out.{parameter.name}" if parameter.is_out else parameter.name
+            _hold(body, key, register, mode, parameter.type)
+        listed.append(f"{register}: {mode} {parameter.type.spelling}")
+    for name, kind in zip(body.function.result_names, body.function.results):
+        register = body.rights.parameter(name)
+        _hold(body, f"out.{name}", register, "write", kind)
+        listed.append(f"{register}: write {kind.spelling}")
+    return listed, values
+
+
+def _hold(body: Body, key: str, register: str, mode: str, kind: DataType) -> None:
+    body.places[key] = register
+    body.now.rights[key] = Right(register, mode, kind)
+    body.unit.version_2 = body.unit.version_2 or kind.needs_version_2
+
+
+def _read_scalars(body: Body) -> None:
+    """Reads the parameters that come as data, and drops the right to them."""
+    used = {it.id for it in ast.walk(body.function.node) if isinstance(it, ast.Name) and isinstance(it.ctx, ast.Load)}
+    body.code.at(body.function.node)
+    for parameter, mode in zip(body.function.parameters, body.variant.modes):
+        if mode == "closed" and parameter.type.is_scalar:
+            if parameter.name in used:
+                body.code.put("GET", body.variable(parameter.name), body.now.rights[parameter.name].register)
+            body.now.assigned.add(parameter.name)
+            body.drop(parameter.name)
+
+
+def _find_aliases(body: Body) -> None:
+    """A container that is made here and returned is the output itself."""
+    if len(body.function.results) != 1 or body.function.results[0].is_scalar:
+        return
+    for node in ast.walk(body.function.node):
+        if isinstance(node, ast.Return) and isinstance(node.value, ast.Name):
+            name = node.value.id
+            if name not in body.kinds.found or body.kinds.found[name].form != "container" or any(it.name == name for it in body.function.parameters):
+                body.fail(f"{name} can't be returned: a container that is made here can, or the result of a task", node)
+            body.aliases[name] = "out.result"
+    if len(body.aliases) > 1:
+        body.fail("one container is the result: return the same one on each way", body.function.node)
+
+
+def _put_failures(body: Body) -> None:
+    failing = body.failing.pop()
+    scalars = any(it.type.is_scalar for it in body.function.outputs)
+    if failing.pads and body.function.kind == "leaf" and scalars and body.function.otherwise is None:
+        node = ast.Pass(lineno=failing.first[0], col_offset=failing.first[1])
+        body.fail("this may be refused, as by a result past 64 bits, and a leaf has to give one: put it into a check(..), or say what the result is then, "
+                  "@leaf(otherwise=..)", node)
+    for label, state in failing.pads.values():
+        body.state = state.copy()
+        body.code.label(label)
+        fails(body)
+
+
+def _compile(unit: Unit, variant: Variant) -> List[Line]:
+    body = Body(unit, variant)
+    listed, values = _prologue(body)
+    _find_aliases(body)
+    _read_scalars(body)
+    body.begin_failing()
+    block(body, variant.function.node.body)
+    if body.state is not None:
+        body.node = variant.function.node.body[-1]
+        ends(body)
+    _put_failures(body)
+    lines = tidy(body.code.lines)
+    count = sum(not it.is_label and not it.is_comment for it in lines)
+    if count > MOST_INSTRUCTIONS:
+        body.fail(f"{variant.function.name} has {count} instructions, and at most {MOST_INSTRUCTIONS} are allowed", variant.function.node)
+    place = (variant.function.node.lineno, variant.function.node.col_offset)
+    head = [f"proc {variant.function.kind} {unit.names[variant]}({', '.join(listed)})"]
+    head.append(("regs " + ", ".join(f"{name}: {kind.spelling}" for name, kind in body.values.listed[values:])).strip())
+    head.extend(f"let {name} = d{number}" for name, number in body.rights.names)
+    return [*(Line(it, place) for it in head), *lines]
+
+
+def _check_main(source: Source) -> Variant:
+    main = source.functions.get("main")
+    if main is None:
+        raise BuildError(source.file, 1, 1, "there is no function main: @control def main(..) begins the program")
+    if main.kind != "control":
+        source.fail(main.node, "main is a control function: @control")
+    for it in (*main.parameters, *(Parameter("result", kind, True) for kind in main.results)):
+        if len(it.type.words) > 2:
+            source.fail(main.node, f"{it.name}: main takes and gives Int, Text, and Array or Table of these")
+    return Variant(main, tuple("write" if it.is_out else "closed" for it in main.parameters))
+
+
+def build_text(text: str, file: str = "<text>") -> Built:
+    """Compiles a Python file's text.
+
+    >>> built = build_text('''
+    ... @control
+    ... def main(x: Int, out_total: Out[Int]):
+    ...     out.out_total = x
+    ... ''')
+    >>> built.text.split()[0]
+    'names'
+    """
+    source = read_source(text, file)
+    unit = Unit(source)
+    unit.name_of(_check_main(source))
+    procedures: List[List[Line]] = []
+    while unit.queue:
+        procedures.append(_compile(unit, unit.queue.pop(0)))
+        if len(procedures) + len(unit.helpers) > MOST_PROCEDURES:
+            source.fail(source.functions["main"].node, f"the program has more than {MOST_PROCEDURES} procedures")
+    procedures.extend([Line(it, (1, 0)) for it in lines] for lines in unit.helpers.values())
+    first = ["names", f"; Compiled from {Path(file).name} by yuglemit.build."] + (["version 2"] if unit.version_2 else [])
+    lines = [Line(it, (1, 0)) for it in first]
+    for procedure in procedures:
+        lines.extend([Line("", (1, 0)), *procedure])
+    return Built("\n".join(it.text for it in lines) + "\n", file, tuple(it.place for it in lines), source)
+
+
+def build_file(path: Union[str, Path]) -> Built:
+    """Compiles a Python file. Nothing of it is run."""
+    with open(path, encoding="utf-8") as file:
+        return build_text(file.read(), str(path))
+
+

@@ -1,0 +1,86 @@
+"""Conditions: comparisons, `and`, `or`, `not`, `in`, as jumps."""
+
+from __future__ import annotations
+
+import ast
+from typing import List
+
+from .body import Body
+from .kinds import called
+from .types import INT, TEXT
+from .values import closed_container, kind_of, value
+
+
+def branch(body: Body, node: ast.expr, yes: str, no: str) -> None:
+    """Writes code that goes to one of two labels."""
+    if isinstance(node, ast.UnaryOp) and isinstance(node.op, ast.Not):
+        branch(body, node.operand, no, yes)
+    elif isinstance(node, ast.BoolOp):
+        _joined(body, node, yes, no)
+    elif isinstance(node, ast.Compare):
+        _compared(body, node, yes, no)
+    elif called(node) == "check":
+        body.fail("check(..) is the whole condition of an if, or none of it", node)
+    else:
+        body.fail(f"expected a comparison, found {ast.unparse(node)}", node)
+
+
+def _joined(body: Body, node: ast.BoolOp, yes: str, no: str) -> None:
+    for it in node.values[:-1]:
+        more = body.new_label("and" if isinstance(node.op, ast.And) else "or")
+        if isinstance(node.op, ast.And):
+            branch(body, it, more, no)
+        else:
+            branch(body, it, yes, more)
+        body.code.label(more)
+    branch(body, node.values[-1], yes, no)
+
+
+def _compared(body: Body, node: ast.Compare, yes: str, no: str) -> None:
+    operands = [node.left, *node.comparators]
+    for number, operator in enumerate(node.ops):
+        more = yes if number == len(node.ops) - 1 else body.new_label("and")
+        _compare(body, operator, operands[number : number + 2], more, no)
+        if more != yes:
+            body.code.label(more)
+
+
+def _compare(body: Body, operator: ast.cmpop, operands: List[ast.expr], yes: str, no: str) -> None:
+    left, right = operands
+    if isinstance(operator, (ast.In, ast.NotIn)):
+        _contained(body, left, right, *((yes, no) if isinstance(operator, ast.In) else (no, yes)))
+        return
+    kind = kind_of(body, left).type
+    if isinstance(operator, (ast.Eq, ast.NotEq)):
+        first, second = value(body, left), value(body, right, kind)
+        body.code.put("JEQ", first, second, yes if isinstance(operator, ast.Eq) else no)
+        body.code.put("JMP", no if isinstance(operator, ast.Eq) else yes)
+    elif isinstance(operator, (ast.Lt, ast.Gt, ast.LtE, ast.GtE)):
+        if kind == TEXT:
+            body.fail("texts are compared by == and != alone", left)
+        first, second = value(body, left, INT), value(body, right, INT)
+        ordered = (first, second) if isinstance(operator, (ast.Lt, ast.GtE)) else (second, first)
+        strict = isinstance(operator, (ast.Lt, ast.Gt))
+        body.code.put("JLT", *ordered, yes if strict else no)
+        body.code.put("JMP", no if strict else yes)
+    else:
+        body.fail(f"expected == != < <= > >= in, found {ast.unparse(ast.Compare(left, [operator], [right]))}", left)
+    for it in (first, second):
+        body.values.release(it)
+
+
+def _contained(body: Body, subscript: ast.expr, over: ast.expr, yes: str, no: str) -> None:
+    kind = kind_of(body, over).type
+    if kind.is_scalar:
+        body.fail("in is for containers: whether a subscript is there", over)
+    register = closed_container(body, over)
+    wanted = value(body, subscript, kind.subscript)
+    key = body.new_key()
+    missing = body.now.copy()
+    found = body.hold(key, "found", "ref", kind.member)
+    body.code.put("LOOK" if kind.subscript == INT else "TLOOK", found.register, register, wanted, no)
+    body.unit.version_2 = body.unit.version_2 or kind.subscript == TEXT
+    body.values.release(wanted)
+    body.drop(key)
+    body.code.put("JMP", yes)
+    assert set(body.now.rights) == set(missing.rights)

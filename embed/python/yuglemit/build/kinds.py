@@ -1,0 +1,155 @@
+"""Finds what each variable of a function stands for: one kind and one type throughout the function."""
+
+from __future__ import annotations
+
+import ast
+from typing import Dict, Iterator, List, Optional, Tuple
+
+from .source import Function, Source, constant_of, container_type
+from .types import INT, TEXT, Kind, container, future, value
+
+_INT_CALLS = frozenset("len byte_length int abs min max".split())
+
+
+def name_of(node: ast.expr) -> Optional[str]:
+    """Returns the key of a place to which one assigns: a variable's name, or "out.NAME"."""
+    if isinstance(node, ast.Name):
+        return node.id
+    if isinstance(node, ast.Attribute) and isinstance(node.value, ast.Name) and node.value.id == "out":
+        return f"out.{node.attr}"
+    return None
+
+
+def called(node: ast.expr) -> Optional[str]:
+    """Returns the name of the function that a call calls."""
+    return node.func.id if isinstance(node, ast.Call) and isinstance(node.func, ast.Name) else None
+
+
+class Kinds:
+    """The kinds of a function's variables, outputs among them as "out.NAME"."""
+
+    def __init__(self, source: Source, function: Function) -> None:
+        self.source, self.function = source, function
+        self.found: Dict[str, Kind] = {}
+        for it in function.parameters:
+            if not it.is_out:
+                self.found[it.name] = value(it.type) if it.type.is_scalar else container(it.type)
+        for it in function.outputs:
+            self.found[f"out.{it.name}"] = value(it.type) if it.type.is_scalar else container(it.type)
+        before: Optional[Dict[str, Kind]] = None
+        while before != self.found:
+            before = dict(self.found)
+            for key, kind, node in self._assignments(function.node.body):
+                self._note(key, kind, node)
+
+    def _note(self, key: str, kind: Kind, node: ast.AST) -> None:
+        known = self.found.get(key)
+        if known is None:
+            if not key.startswith("out."):
+                self.found[key] = kind
+            return
+        if known.type != kind.type or "container" in (known.form, kind.form) and known.form != kind.form and not key.startswith("out."):
+            self.source.fail(node, f"{key} is {known}, and can't be set to {kind}: a name has one type")
+        if known.form == "value" and kind.form == "future":
+            if any(it.name == key for it in self.function.parameters):
+                self.source.fail(node, f"{key} is a parameter: take another name for the result of a task")
+            self.found[key] = kind
+
+    def _assignments(self, body: List[ast.stmt]) -> Iterator[Tuple[str, Kind, ast.AST]]:
+        for statement in body:
+            for node in ast.walk(statement):
+                if isinstance(node, ast.NamedExpr):
+                    yield from self._assigned(node.target, node.value)
+                elif isinstance(node, ast.Assign):
+                    for target in node.targets:
+                        yield from self._assigned(target, node.value)
+                elif isinstance(node, ast.AnnAssign) and node.value is not None:
+                    yield from self._assigned(node.target, node.value)
+                elif isinstance(node, ast.Return) and node.value is not None:
+                    yield from self._returned(node.value)
+                elif isinstance(node, ast.For):
+                    yield from self._looped(node)
+
+    def _assigned(self, target: ast.expr, node: ast.expr) -> Iterator[Tuple[str, Kind, ast.AST]]:
+        if isinstance(target, ast.Tuple) and isinstance(node, ast.Tuple):
+            for it, its in zip(target.elts, node.elts):
+                yield from self._assigned(it, its)
+            return
+        if isinstance(target, ast.Tuple):
+            function = self.source.functions.get(called(node) or "")
+            for it, kind in zip(target.elts, function.results if function else ()):
+                key = name_of(it)
+                if key:
+                    yield key, future(kind), it
+            return
+        key, kind_found = name_of(target), self.kind_of(node)
+        if key and kind_found:
+            yield key, kind_found, target
+
+    def _returned(self, node: ast.expr) -> Iterator[Tuple[str, Kind, ast.AST]]:
+        names = self.function.result_names
+        items = node.elts if isinstance(node, ast.Tuple) else [node]
+        function = self.source.functions.get(called(node) or "")
+        if function is not None and len(names) > 1:
+            for name, kind in zip(names, function.results):
+                yield f"out.{name}", future(kind), node
+            return
+        for name, it in zip(names, items):
+            kind_found = self.kind_of(it)
+            if kind_found:
+                yield f"out.{name}", kind_found, it
+
+    def _looped(self, node: ast.For) -> Iterator[Tuple[str, Kind, ast.AST]]:
+        over = node.iter.args[0] if called(node.iter) == "each" and isinstance(node.iter, ast.Call) and node.iter.args else node.iter
+        if called(node.iter) == "range":
+            if isinstance(node.target, ast.Name):
+                yield node.target.id, value(INT), node.target
+            return
+        kind = self.kind_of(over)
+        if kind is None or kind.type.is_scalar:
+            return
+        targets = node.target.elts if isinstance(node.target, ast.Tuple) else [node.target]
+        for it, found in zip(targets, (value(kind.type.subscript), future(kind.type.member))):
+            if isinstance(it, ast.Name) and it.id != "_":
+                yield it.id, found, it
+
+    def kind_of(self, node: ast.expr) -> Optional[Kind]:
+        """Returns the kind of an expression, or None if a name in it isn't known yet, or it is none."""
+        key = name_of(node)
+        if key is not None and key in self.found:
+            return self.found[key]
+        constant = constant_of(node, self.source.constants)
+        if constant is not None:
+            return value(INT if isinstance(constant, int) else TEXT)
+        if isinstance(node, ast.JoinedStr):
+            return value(TEXT)
+        if isinstance(node, ast.UnaryOp):
+            return value(INT)
+        if isinstance(node, ast.BinOp):
+            kind = self.kind_of(node.left) or self.kind_of(node.right)
+            return value(kind.type) if kind and isinstance(node.op, ast.Add) else value(INT)
+        if isinstance(node, ast.IfExp):
+            return self.kind_of(node.body) or self.kind_of(node.orelse)
+        if isinstance(node, ast.NamedExpr):
+            return self.kind_of(node.value)
+        if isinstance(node, ast.Subscript):
+            kind = self.kind_of(node.value)
+            return future(kind.type.member) if kind and not kind.type.is_scalar else None
+        return self._kind_of_call(node)
+
+    def _kind_of_call(self, node: ast.expr) -> Optional[Kind]:
+        made = container_type(self.source, node)
+        if made:
+            return container(made)
+        name = called(node)
+        function = self.source.functions.get(name or "")
+        if function is not None:
+            return future(function.results[0]) if len(function.results) == 1 else None
+        if name in _INT_CALLS:
+            return value(INT)
+        if name == "str":
+            return value(TEXT)
+        if name == "nth" and isinstance(node, ast.Call) and node.args:
+            kind = self.kind_of(node.args[0])
+            return value(kind.type.subscript) if kind and not kind.type.is_scalar else None
+        return None

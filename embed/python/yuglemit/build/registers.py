@@ -1,0 +1,101 @@
+"""Registers of one procedure: 16 for values, each of one type, and 16 for rights; and their names in the text."""
+
+from __future__ import annotations
+
+import re
+from dataclasses import dataclass, field
+from typing import Callable, Dict, Iterable, List, Set, Tuple
+
+from .types import DataType
+
+MOST = 16
+Fail = Callable[[str], None]
+
+
+class Names:
+    """Names of a procedure's registers, each used once, none of them a procedure's: these are called as functions, or so and a number."""
+
+    def __init__(self, functions: Iterable[str]) -> None:
+        self._taken: Set[str] = set()
+        self._procedures = re.compile(rf"({'|'.join(map(re.escape, functions))})(_\d+)?")
+
+    def new(self, wanted: str) -> str:
+        """Returns this name, or one like it that isn't taken."""
+        base = re.sub(r"\W", "_", wanted, flags=re.A)[:50] or "it"
+        if re.fullmatch(r"any|[vd]\d+|_.*|\d.*", base) or self._procedures.fullmatch(base):
+            base = f"the_{base}".replace("__", "_")
+        name, number = base, 1
+        while name in self._taken:
+            number += 1
+            name = f"{base}_{number}"
+        self._taken.add(name)
+        return name
+
+
+@dataclass
+class Values:
+    """The value registers: variables keep theirs, what is needed for a moment is given back."""
+
+    names: Names
+    listed: List[Tuple[str, DataType]] = field(default_factory=list)
+    variables: Dict[str, str] = field(default_factory=dict)
+    free: List[Tuple[str, DataType]] = field(default_factory=list)
+
+    def variable(self, key: str, kind: DataType, fail: Fail) -> str:
+        """Returns the register of a variable; at first it gets one."""
+        if key not in self.variables:
+            self.variables[key] = self._add(key, kind, fail)
+        return self.variables[key]
+
+    def temporary(self, kind: DataType, fail: Fail) -> str:
+        """Returns a register for a moment."""
+        for it in self.free:
+            if it[1] == kind:
+                self.free.remove(it)
+                return it[0]
+        return self._add("i" if kind.words == ("int",) else "t", kind, fail)
+
+    def release(self, name: str) -> None:
+        """Gives a register back, unless a variable has it."""
+        if name not in self.variables.values() and all(it[0] != name for it in self.free):
+            self.free.append(next(it for it in self.listed if it[0] == name))
+
+    def _add(self, wanted: str, kind: DataType, fail: Fail) -> str:
+        if len(self.listed) == MOST:
+            held = ", ".join(sorted(self.variables))
+            fail(f"more than {MOST} values at once; variables here are {held}: make two tasks of it, or shorter expressions")
+        name = self.names.new(wanted.replace("out.", "out_"))
+        self.listed.append((name, kind))
+        return name
+
+
+@dataclass
+class Rights:
+    """The right registers; `names` lists every name that one of them got, with its number."""
+
+    taken: Names
+    names: List[Tuple[str, int]] = field(default_factory=list)
+    held: Dict[int, str] = field(default_factory=dict)
+
+    def parameter(self, name: str) -> str:
+        """Gives the next register to a parameter, which the head of the procedure names."""
+        named = self.taken.new(name)
+        self.held[len(self.held)] = named
+        return named
+
+    def take(self, wanted: str, fail: Fail) -> str:
+        """Returns a register that is free, under a name."""
+        for number in range(MOST):
+            if number not in self.held:
+                known = next((name for name, it in self.names if it == number and re.fullmatch(rf"{re.escape(wanted)}(_\d+)?", name)), None)
+                name = known or self.taken.new(wanted)
+                if known is None:
+                    self.names.append((name, number))
+                self.held[number] = name
+                return name
+        fail(f"more than {MOST} data at once; held here are {', '.join(self.held.values())}: make two tasks of it, or fewer variables")
+        raise AssertionError
+
+    def release(self, name: str) -> None:
+        """Gives a register back."""
+        self.held = {number: it for number, it in self.held.items() if it != name}

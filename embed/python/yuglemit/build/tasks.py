@@ -1,0 +1,303 @@
+"""Tasks: calls of other functions make rules, and what they give is a future."""
+
+from __future__ import annotations
+
+import ast
+from dataclasses import dataclass, field
+from typing import List, Optional, Sequence, Tuple
+
+from .body import Body, Variant
+from .kinds import called, name_of
+from .source import Function, Parameter, constant_of
+from .types import INT, DataType
+from .values import closed_container, kind_of, value
+
+_TARGETS = {"worker": "leaf", "engine": "control"}
+
+
+@dataclass
+class _Call:
+    """What a call has gathered: operands in the order of the parameters, their modes, and what is gone or given back after it."""
+
+    operands: List[str] = field(default_factory=list)
+    modes: List[str] = field(default_factory=list)
+    spent: List[str] = field(default_factory=list)
+    values: List[str] = field(default_factory=list)
+    waits: bool = False
+
+
+def call_task(body: Body, node: ast.Call, results: Sequence[Optional[str]]) -> None:
+    """Writes a call of a function of the file. Each result goes to a key: that of a variable or of the call around, which gets the right to
+    read it; that of an output, whose right to write is given away; or None, and nobody reads it."""
+    function = body.source.functions[called(node) or ""]
+    if body.function.kind == "leaf":
+        body.fail(f"a leaf function computes, and calls no task: {function.name} can be called by a control function", node)
+    if function.name == "main":
+        body.fail("main is called by the run alone", node)
+    if len(results) != len(function.results):
+        body.fail(f"{function.name} has {len(function.results) or 'no'} results, {len(results)} are asked here", node)
+    gathered = _Call()
+    _gather(body, function, node, gathered)
+    priority, target = _options(body, function, node, gathered)
+    discarded, moved = _results(body, function, results, gathered)
+    name = body.unit.name_of(Variant(function, tuple(gathered.modes)))
+    instruction = ("RULE" if gathered.waits else "PUT") + ("V" if priority in gathered.values else "")
+    body.unit.version_2 = body.unit.version_2 or instruction.endswith("V")
+    body.code.at(node)
+    body.code.put(instruction, name, priority, target, *gathered.operands)
+    _finish(body, gathered, discarded, moved)
+
+
+def _finish(body: Body, gathered: _Call, discarded: List[str], moved: List[Tuple[str, str]]) -> None:
+    for key in gathered.spent:
+        body.spend(key)
+    for it in gathered.values:
+        body.values.release(it)
+    for key in discarded:
+        body.drop(key)
+    for temporary, key in moved:
+        move(body, temporary, key)
+
+
+def move(body: Body, source: str, key: str) -> None:
+    """Moves a right to read to a variable's register: no instruction does, so it is copied and dropped."""
+    right = body.now.rights[source]
+    goal = body.hold(key, key, right.mode, right.type)
+    body.code.put("DUPR", goal.register, right.register)
+    body.drop(source)
+    body.now.assigned.add(key)
+
+
+def _gather(body: Body, function: Function, node: ast.Call, gathered: _Call) -> None:
+    if len(node.args) != len(function.parameters) or any(isinstance(it, ast.Starred) for it in node.args):
+        asked = ", ".join(f"{it.name}: {'Out[' if it.is_out else ''}{it.type}{']' if it.is_out else ''}" for it in function.parameters)
+        body.fail(f"{function.name} takes {len(function.parameters)} arguments ({asked}), {len(node.args)} are given", node)
+    for parameter, argument in zip(function.parameters, node.args):
+        if parameter.is_out:
+            _give_write(body, parameter, argument, gathered)
+        elif parameter.type.is_scalar and kind_of(body, argument).form == "value":
+            operand = value(body, argument, parameter.type)
+            gathered.values.append(operand)
+            _add(gathered, operand, "val")
+        else:
+            _give_read(body, parameter, argument, gathered)
+
+
+def _add(gathered: _Call, operand: str, mode: str) -> None:
+    gathered.operands.append(operand)
+    gathered.modes.append(mode)
+
+
+def _give_read(body: Body, parameter: Parameter, argument: ast.expr, gathered: _Call) -> None:
+    kind = kind_of(body, argument)
+    if kind.type != parameter.type:
+        body.fail(f"{parameter.name} is {parameter.type}, and {ast.unparse(argument)} is {kind.type}", argument)
+    key = read_right(body, argument)
+    right = body.now.rights[key]
+    if key in gathered.spent:
+        body.fail("the same name twice: no right is left for the second", argument)
+    gathered.waits = gathered.waits or right.mode == "ref"
+    gathered.spent.append(key)
+    _add(gathered, right.register, "closed")
+
+
+def read_right(body: Body, node: ast.expr) -> str:
+    """Returns the key of a right to read what an expression gives, that can be given away: of a future, a member or a container."""
+    body.code.at(node)
+    if isinstance(node, ast.Name):
+        return _right_of_variable(body, node)
+    key = body.new_key()
+    if called(node) in body.source.functions and isinstance(node, ast.Call):
+        call_task(body, node, [key])
+        return key
+    if isinstance(node, ast.Subscript):
+        look(body, node, key)
+        return key
+    if name_of(node):
+        body.fail(f"{ast.unparse(node)} can only be written here", node)
+    body.fail(f"{ast.unparse(node)} can't be given to a task: give it a name before", node)
+
+
+def look(body: Body, node: ast.Subscript, key: str, wanted: str = "member") -> None:
+    """Writes the look-up of a member, which is refused if there is none."""
+    if body.function.kind == "leaf":
+        body.fail("a leaf function can't wait for a member: give it the member as an argument", node)
+    over = closed_container(body, node.value)
+    kind = kind_of(body, node.value).type
+    subscript = value(body, node.slice, kind.subscript)
+    label = body.refused()
+    right = body.hold(key, wanted, "ref", kind.member)
+    body.unit.version_2 = body.unit.version_2 or kind.subscript != INT
+    body.code.put("LOOK" if kind.subscript == INT else "TLOOK", right.register, over, subscript, label)
+    body.values.release(subscript)
+
+
+def _right_of_variable(body: Body, node: ast.Name) -> str:
+    key = node.id
+    if key in body.aliases:
+        body.fail(f"{key} is the result of this function, which can't read it: make another container for that", node)
+    right = body.now.rights.get(key)
+    if right is None or right.mode == "write":
+        body.fail(f"{key} may be unset here: set it on each way before", node)
+    if is_last_use(body, node):
+        return key
+    copy = body.new_key()
+    held = body.hold(copy, f"{key}_again", right.mode, right.type)
+    body.code.put("DUPR", held.register, right.register)
+    return copy
+
+
+def is_last_use(body: Body, node: ast.Name) -> bool:
+    """Whether nothing needs a variable's right after this use: then the right itself is given, and else a copy."""
+    statement, name = body.node, node.id
+    uses = [it for it in ast.walk(statement) if isinstance(it, ast.Name) and it.id == name and isinstance(it.ctx, ast.Load)]
+    if isinstance(statement, ast.Assign) and any(name_of(it) == name for it in statement.targets):
+        return len(uses) == 1
+    if len(uses) > 1 or body.loops and name in body.loops[-1].home.rights:
+        return False
+    here = (node.lineno, node.col_offset)
+    names = (it for it in ast.walk(body.function.node) if isinstance(it, ast.Name) and it.id == name and isinstance(it.ctx, ast.Load))
+    return all((it.lineno, it.col_offset) <= here for it in names)
+
+
+def write_key(body: Body, node: ast.expr) -> str:
+    """Returns the key of the right to write to `out.NAME`, or to a container that this function made."""
+    key = name_of(node)
+    if key is None:
+        body.fail(f"expected out.NAME or a container made here, found {ast.unparse(node)}", node)
+    if not key.startswith("out."):
+        key = body.aliases.get(key, f"{key}>")
+    if key not in body.now.rights:
+        if key in body.kinds.found:
+            body.fail(f"{key} is set already", node)
+        body.fail(f"{ast.unparse(node)} can't be written here: expected out.NAME or a container made here", node)
+    return key
+
+
+def _give_write(body: Body, parameter: Parameter, argument: ast.expr, gathered: _Call) -> None:
+    key = write_key(body, argument)
+    right = body.now.rights[key]
+    if right.type != parameter.type:
+        body.fail(f"{parameter.name} is Out[{parameter.type}], and {ast.unparse(argument)} is {right.type}", argument)
+    if not right.type.is_scalar:
+        copy = body.new_key()
+        held = body.hold(copy, f"{parameter.name}_given", "write", right.type)
+        body.code.put("DUPW", held.register, right.register)
+        key, right = copy, held
+    gathered.spent.append(key)
+    _add(gathered, right.register, "write")
+
+
+def _options(body: Body, function: Function, node: ast.Call, gathered: _Call) -> Tuple[str, str]:
+    priority, target = "0", "any"
+    for it in node.keywords:
+        constant = constant_of(it.value, body.source.constants)
+        if it.arg == "priority":
+            if isinstance(constant, int) and -(2**63) <= constant < 2**63:
+                priority = str(constant)
+            else:
+                priority = value(body, it.value, INT)
+                gathered.values.append(priority)
+        elif it.arg in _TARGETS and _TARGETS[it.arg] == function.kind:
+            if not isinstance(constant, int) or not 0 <= constant < 16:
+                body.fail(f"{it.arg}: expected a number from 0 to 15", it.value)
+            target = str(constant)
+        else:
+            other = next(word for word, kind in _TARGETS.items() if kind == function.kind)
+            body.fail(f"{it.arg}: a call of {function.name} takes the keywords priority and {other}", it.value)
+    return priority, target
+
+
+def _results(body: Body, function: Function, results: Sequence[Optional[str]], gathered: _Call) -> Tuple[List[str], List[Tuple[str, str]]]:
+    """Makes the data for the results; returns the keys of those that nobody reads, and those to be moved to a variable after the call."""
+    discarded: List[str] = []
+    moved: List[Tuple[str, str]] = []
+    for key, kind in zip(results, function.results):
+        if key is not None and key.startswith("out."):
+            _give_output(body, key, kind, gathered)
+            continue
+        goal = key if key is not None else body.new_key()
+        if key is None:
+            discarded.append(goal)
+        elif key in gathered.spent:
+            goal = body.new_key()
+            moved.append((goal, key))
+        elif key in body.now.rights:
+            body.drop(key)
+        write = new_datum(body, goal, kind, key if key and not key.startswith("#") else function.name)
+        gathered.spent.append(write)
+        gathered.operands.append(body.now.rights[write].register)
+        if not goal.startswith("#"):
+            body.now.assigned.add(goal)
+    return discarded, moved
+
+
+def _give_output(body: Body, key: str, kind: DataType, gathered: _Call) -> None:
+    right = body.now.rights.get(key)
+    if right is None:
+        body.fail(f"{key} is set already")
+    if right.type != kind:
+        body.fail(f"{key} is {right.type}, and the result is {kind}")
+    gathered.spent.append(key)
+    gathered.operands.append(right.register)
+
+
+def new_datum(body: Body, key: str, kind: DataType, wanted: str) -> str:
+    """Writes a NEW: the right to read goes to `key`; returns the key of the right to write."""
+    write = body.new_key()
+    to_write = body.hold(write, f"{wanted}_out", "write", kind)
+    to_read = body.hold(key, wanted, "ref", kind)
+    body.code.put("NEW", to_write.register, to_read.register, kind.spelling)
+    body.unit.version_2 = body.unit.version_2 or kind.needs_version_2
+    return write
+
+
+def stored(body: Body, node: ast.expr, key: str, kind: DataType, wanted: str) -> None:
+    """Writes a datum with the value of an expression, the right to read it under `key`."""
+    register = value(body, node, kind)
+    if key in body.now.rights:
+        body.drop(key)
+    write = new_datum(body, key, kind, wanted)
+    body.code.put("STORE", body.spend(write).register, register)
+    body.values.release(register)
+
+
+def copied_to(body: Body, key: str, output: str) -> None:
+    """Writes the rule that copies a scalar, once it is known, to an output; the right to read it is given away."""
+    right, goal = body.now.rights[key], body.now.rights[output]
+    kind = goal.type
+    name = f"copy_{kind.spelling}"
+    register = "number" if kind == INT else "words"
+    body.unit.helpers[name] = [
+        f"proc leaf {name}(given: closed {kind.spelling}, to: write {kind.spelling})",
+        f"regs {register}: {kind.spelling}",
+        f"GET {register} given",
+        "DROPR given",
+        f"STORE to {register}",
+        "RET",
+    ]
+    body.code.put("RULE", name, 0, "any", right.register, goal.register)
+    body.spend(key)
+    body.spend(output)
+
+
+def left_unset(body: Body, output: str) -> None:
+    """Writes the rule that holds a scalar output for ever, so that it stays unset: the run then ends stuck."""
+    kind = body.now.rights[output].type
+    name = f"never_{kind.spelling}"
+    register = "number" if kind == INT else "words"
+    body.unit.helpers[name] = [
+        "; Waits for what it would store itself, so its task never comes, and `unset` stays unset.",
+        f"proc leaf {name}(waits: closed int, own: write int, unset: write {kind.spelling})",
+        f"regs {register}: {kind.spelling}" + ("" if kind == INT else ", number: int"),
+        "DROPR waits",
+        "STORE own number",
+        f"STORE unset {register}",
+        "RET",
+    ]
+    key = body.new_key()
+    write = new_datum(body, key, INT, "never")
+    rights = body.now.rights
+    body.code.put("RULE", name, 0, "any", rights[key].register, rights[write].register, rights[output].register)
+    for it in (key, write, output):
+        body.spend(it)

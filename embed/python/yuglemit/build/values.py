@@ -1,0 +1,341 @@
+"""Values: expressions of ints and texts, into registers."""
+
+from __future__ import annotations
+
+import ast
+from typing import List, Optional
+
+from .body import Body
+from .kinds import called
+from .source import Constant, constant_of
+from .types import INT, TEXT, DataType, Kind
+
+_PLAIN = {ast.Add: "ADD", ast.Sub: "SUB", ast.Mult: "MUL"}
+_MOST_TEXT = 4096
+
+
+def spelled(value: Constant) -> str:
+    """Returns a constant as the text has it."""
+    if isinstance(value, int):
+        return str(value)
+    escape = {'"': '\\"', "\\": "\\\\", "\n": "\\n"}
+    return '"' + "".join(escape.get(c) or (f"\\x{ord(c):02x}" if c < " " or c == "\x7f" else c) for c in value) + '"'
+
+
+def value(body: Body, node: ast.expr, asked: Optional[DataType] = None, into: Optional[str] = None) -> str:
+    """Writes code that evaluates an expression, and returns the register that has the value: `into` if it is given."""
+    kind = kind_of(body, node)
+    if kind.form != "value":
+        what = "is known only when its task has run" if kind.form == "future" else "is a container"
+        body.fail(f"{ast.unparse(node)} {what}: give it to a task as an argument", node)
+    if asked is not None and kind.type != asked:
+        body.fail(f"expected {asked}, found {ast.unparse(node)}, which is {kind.type}", node)
+    constant = constant_of(node, body.source.constants)
+    if constant is not None and not (isinstance(node, ast.Name) and node.id in body.kinds.found):
+        return put_constant(body, constant, node, into)
+    if isinstance(node, ast.Name):
+        return _copied(body, _variable(body, node), into)
+    register = _computed(body, node, kind, into)
+    return register
+
+
+def kind_of(body: Body, node: ast.expr) -> Kind:
+    """Returns the kind of an expression, or raises the error that says why it has none."""
+    kind = body.kinds.kind_of(node)
+    if kind is not None:
+        return kind
+    for it in ast.walk(node):
+        if isinstance(it, ast.Name) and body.kinds.kind_of(it) is None and not _is_called(node, it):
+            body.fail(f"{it.id} isn't known here: it is no variable, parameter, constant or function", it)
+    name = called(node)
+    if name is not None and name in body.source.functions:
+        body.fail(f"{name} has {len(body.source.functions[name].results) or 'no'} results: one is needed here", node)
+    if name is not None:
+        body.fail(f"{name} is no function of this file, and not of the language", node)
+    body.fail(f"{ast.unparse(node)} is not of the language here", node)
+
+
+def _is_called(root: ast.expr, name: ast.Name) -> bool:
+    return any(isinstance(it, ast.Call) and it.func is name for it in ast.walk(root))
+
+
+def put_constant(body: Body, constant: Constant, node: ast.AST, into: Optional[str] = None) -> str:
+    """Writes a constant into a register."""
+    if isinstance(constant, int):
+        if not -(2**63) <= constant < 2**63:
+            body.fail(f"{constant} doesn't fit in 64 bits", node)
+        register = into or body.temporary(INT)
+        body.code.put("INT", register, constant)
+        return register
+    if len(constant.encode()) > _MOST_TEXT:
+        body.fail(f"the text has more than {_MOST_TEXT} bytes", node)
+    register = into or body.temporary(TEXT)
+    body.code.put("TEXT", register, spelled(constant))
+    return register
+
+
+def _variable(body: Body, node: ast.Name) -> str:
+    if node.id not in body.now.assigned:
+        body.fail(f"{node.id} may be unset here: set it on each way before", node)
+    return body.variable(node.id)
+
+
+def _copied(body: Body, register: str, into: Optional[str]) -> str:
+    if into is None or into == register:
+        return register
+    body.code.put("COPY", into, register)
+    return into
+
+
+def _computed(body: Body, node: ast.expr, kind: Kind, into: Optional[str]) -> str:
+    if isinstance(node, ast.BinOp):
+        return _binary(body, node, kind, into)
+    if isinstance(node, ast.UnaryOp):
+        return _unary(body, node, into)
+    if isinstance(node, ast.IfExp):
+        return _chosen(body, node, kind, into)
+    if isinstance(node, ast.JoinedStr):
+        return _formatted(body, node, into)
+    if isinstance(node, ast.Call):
+        return _called(body, node, into)
+    if isinstance(node, ast.NamedExpr):
+        body.fail(":= is for the argument of check(..)", node)
+    body.fail(f"{ast.unparse(node)} is not of the language", node)
+
+
+def _binary(body: Body, node: ast.BinOp, kind: Kind, into: Optional[str]) -> str:
+    if kind.type == TEXT:
+        left, right = value(body, node.left, TEXT), value(body, node.right, TEXT)
+        body.code.at(node)
+        return _put(body, "CAT", TEXT, into, left, right)
+    plain = _PLAIN.get(type(node.op))
+    if plain is None and not isinstance(node.op, (ast.FloorDiv, ast.Mod)):
+        advice = "; // divides ints" if isinstance(node.op, ast.Div) else ""
+        body.fail(f"the operator of {ast.unparse(node)} is not of the language: + - * // % are{advice}", node)
+    left = value(body, node.left, INT)
+    if plain is not None:
+        right = value(body, node.right, INT)
+        body.code.at(node)
+        return _put(body, plain, INT, into, left, right)
+    divisor = constant_of(node.right, body.source.constants)
+    if isinstance(node.right, ast.Name) and node.right.id in body.kinds.found:
+        divisor = None
+    right = value(body, node.right, INT)
+    body.code.at(node)
+    divide = _floored if isinstance(node.op, ast.FloorDiv) else _remainder
+    result = divide(body, left, right, divisor if isinstance(divisor, int) else None)
+    for it in (left, right):
+        body.values.release(it)
+    return _moved(body, result, into)
+
+
+def _moved(body: Body, register: str, into: Optional[str]) -> str:
+    """Copies a register that was taken for a moment to where it is wanted."""
+    if into is None:
+        return register
+    body.code.put("COPY", into, register)
+    body.values.release(register)
+    return into
+
+
+def _put(body: Body, name: str, kind: DataType, into: Optional[str], *operands: str) -> str:
+    """Writes an instruction that may be refused; its operands are given back, and its result may be in one of them."""
+    register = into
+    if register is None:
+        for it in operands:
+            body.values.release(it)
+        register = body.temporary(kind)
+    body.code.put(name, register, *operands, body.refused())
+    for it in operands:
+        if it != register:
+            body.values.release(it)
+    return register
+
+
+def _signs(body: Body, remainder: str, right: str, divisor: Optional[int], adjust: str, done: str) -> None:
+    """Goes to `adjust` if a remainder isn't 0 and has another sign than the divisor, else to `done`."""
+    zero = body.temporary(INT)
+    body.code.put("INT", zero, 0)
+    if divisor is not None and divisor > 0:
+        body.code.put("JLT", remainder, zero, adjust)
+        body.code.put("JMP", done)
+    else:
+        negative = body.new_label("negative")
+        body.code.put("JEQ", remainder, zero, done)
+        body.code.put("JLT", remainder, zero, negative)
+        body.code.put("JLT", right, zero, adjust)
+        body.code.put("JMP", done)
+        body.code.label(negative)
+        body.code.put("JLT", right, zero, done)
+    body.values.release(zero)
+    body.code.label(adjust)
+
+
+def _floored(body: Body, left: str, right: str, divisor: Optional[int]) -> str:
+    """Python's //: the quotient towards zero, and one less if what is left has another sign than the divisor."""
+    adjust, done = body.new_label("floor"), body.new_label("divided")
+    quotient, remainder = body.temporary(INT), body.temporary(INT)
+    body.code.put("DIV", quotient, left, right, body.refused())
+    body.code.put("REM", remainder, left, right, body.refused())
+    _signs(body, remainder, right, divisor, adjust, done)
+    body.code.put("INT", remainder, 1)
+    body.code.put("SUB", quotient, quotient, remainder, body.refused())
+    body.code.label(done)
+    body.values.release(remainder)
+    return quotient
+
+
+def _remainder(body: Body, left: str, right: str, divisor: Optional[int]) -> str:
+    """Python's %: it has the divisor's sign. By -1 nothing is left; the machine refuses that of the least int."""
+    adjust, done, none = body.new_label("floor"), body.new_label("divided"), body.new_label("none")
+    result = body.temporary(INT)
+    if divisor is None or divisor == -1:
+        body.code.put("INT", result, -1)
+        body.code.put("JEQ", right, result, none)
+    body.code.put("REM", result, left, right, body.refused())
+    _signs(body, result, right, divisor, adjust, done)
+    body.code.put("ADD", result, result, right, body.refused())
+    body.code.put("JMP", done)
+    if divisor is None or divisor == -1:
+        body.code.label(none)
+        body.code.put("INT", result, 0)
+    body.code.label(done)
+    return result
+
+
+def _unary(body: Body, node: ast.UnaryOp, into: Optional[str]) -> str:
+    if isinstance(node.op, ast.UAdd):
+        return value(body, node.operand, INT, into)
+    if not isinstance(node.op, ast.USub):
+        body.fail(f"{ast.unparse(node)} is no int or text", node)
+    zero = put_constant(body, 0, node)
+    return _put(body, "SUB", INT, into, zero, value(body, node.operand, INT))
+
+
+def _chosen(body: Body, node: ast.IfExp, kind: Kind, into: Optional[str]) -> str:
+    from .conditions import branch
+
+    yes, no, done = body.new_label("then"), body.new_label("else"), body.new_label("chosen")
+    result = body.temporary(kind.type)
+    branch(body, node.test, yes, no)
+    body.code.label(yes)
+    value(body, node.body, kind.type, result)
+    body.code.put("JMP", done)
+    body.code.label(no)
+    value(body, node.orelse, kind.type, result)
+    body.code.label(done)
+    return _moved(body, result, into)
+
+
+def _formatted(body: Body, node: ast.JoinedStr, into: Optional[str]) -> str:
+    result: Optional[str] = None
+    for part in node.values:
+        if isinstance(part, ast.FormattedValue):
+            if part.conversion != -1 or part.format_spec is not None:
+                body.fail("a format in {} is not of the language", node)
+            text = _as_text(body, part.value)
+        else:
+            text = value(body, part, TEXT)
+        result = text if result is None else _put(body, "CAT", TEXT, None, result, text)
+    if result is None:
+        return put_constant(body, "", node, into)
+    return _copied_back(body, result, into)
+
+
+def _copied_back(body: Body, register: str, into: Optional[str]) -> str:
+    copied = _copied(body, register, into)
+    if copied != register:
+        body.values.release(register)
+    return copied
+
+
+def _as_text(body: Body, node: ast.expr, into: Optional[str] = None) -> str:
+    if kind_of(body, node).type == TEXT:
+        return value(body, node, TEXT, into)
+    number = value(body, node, INT)
+    register = into or body.temporary(TEXT)
+    body.code.put("SHOW", register, number)
+    body.values.release(number)
+    return register
+
+
+def _called(body: Body, node: ast.Call, into: Optional[str]) -> str:
+    name = called(node)
+    if node.keywords:
+        body.fail(f"{name} takes no keywords", node)
+    counts = {"str": 1, "int": 1, "len": 1, "byte_length": 1, "abs": 1, "min": 2, "max": 2, "nth": 2}
+    if name not in counts:
+        body.fail(f"{ast.unparse(node)} is not of the language here", node)
+    if len(node.args) != counts[name]:
+        body.fail(f"{name} takes {counts[name]} argument{'s' if counts[name] > 1 else ''}", node)
+    if name == "str":
+        return _as_text(body, node.args[0], into)
+    if name == "int":
+        text = value(body, node.args[0], TEXT)
+        body.code.at(node)
+        return _put(body, "READI", INT, into, text)
+    if name == "byte_length":
+        text = value(body, node.args[0], TEXT)
+        register = into or body.temporary(INT)
+        body.code.put("LEN", register, text)
+        body.values.release(text)
+        return register
+    if name == "len":
+        return _size(body, node, into)
+    if name == "nth":
+        return _nth(body, node, into)
+    return _least(body, name, node.args, into)
+
+
+def _size(body: Body, node: ast.Call, into: Optional[str]) -> str:
+    if kind_of(body, node.args[0]).form == "value":
+        body.fail("len is for containers; byte_length(text) counts a text's bytes", node)
+    register = into or body.temporary(INT)
+    body.code.put("SIZE", register, closed_container(body, node.args[0]))
+    return register
+
+
+def _nth(body: Body, node: ast.Call, into: Optional[str]) -> str:
+    over = closed_container(body, node.args[0])
+    kind = kind_of(body, node.args[0]).type
+    index = value(body, node.args[1], INT)
+    register = into or body.temporary(kind.subscript)
+    body.code.put("SUBAT" if kind.subscript == INT else "TSUBAT", register, over, index, body.refused())
+    body.unit.version_2 = body.unit.version_2 or kind.subscript == TEXT
+    body.values.release(index)
+    return register
+
+
+def closed_container(body: Body, node: ast.expr) -> str:
+    """Returns the register of a container that is complete: a parameter that isn't Out."""
+    if isinstance(node, ast.Name):
+        right = body.now.rights.get(node.id)
+        if right is not None and right.mode == "closed" and not right.type.is_scalar:
+            return right.register
+    kind = kind_of(body, node)
+    if kind.type.is_scalar:
+        body.fail(f"{ast.unparse(node)} is no container", node)
+    body.fail(f"{ast.unparse(node)} isn't complete here: give it to a task, whose parameter it is", node)
+
+
+def _least(body: Body, name: str, arguments: List[ast.expr], into: Optional[str]) -> str:
+    """abs, min and max: one of two values."""
+    first = value(body, arguments[0], INT)
+    if name == "abs":
+        zero = put_constant(body, 0, arguments[0])
+        result, done = body.temporary(INT), body.new_label("chosen")
+        body.code.put("COPY", result, first)
+        body.code.put("JLT", zero, first, done)
+        body.code.put("SUB", result, zero, first, body.refused())
+        others = [first, zero]
+    else:
+        second = value(body, arguments[1], INT)
+        result, done = body.temporary(INT), body.new_label("chosen")
+        body.code.put("COPY", result, first)
+        body.code.put("JLT", *((first, second) if name == "min" else (second, first)), done)
+        body.code.put("COPY", result, second)
+        others = [first, second]
+    body.code.label(done)
+    for it in others:
+        body.values.release(it)
+    return _moved(body, result, into)
