@@ -1,34 +1,54 @@
 #!/bin/sh
-# Runs one program on each file NAME.in of a folder, by GNU parallel: on this machine, or on those that its options name.
+# Runs one program on each file NAME.in of a folder by GNU parallel: on this machine, or on those that its options name.
 #
-#   parallel.sh TW PROGRAM INPUTS RESULTS [OPTION OF PARALLEL..]
-#   parallel.sh tw sum.tw inputs results --sshlogin 8/one.example,16/two.example
+#   parallel.sh TW PROGRAM INPUTS RESULTS [OPTION OF PARALLEL..] [-- OPTION OF TW RUN..]
+#   parallel.sh tw sum.twn inputs results --sshlogin 8/one.example,16/two.example -- --limit 100000
 #
-# What comes is NAME.out and NAME.status in RESULTS, as one.sh tells; RESULTS/log has a line a run, with its time. Called again, it runs what
-# has no NAME.status. To other machines the program tw, the program that it runs and one.sh are copied once, and each file of inputs for
-# its run; nothing stays there.
+# Each run writes NAME.out and NAME.status to RESULTS as it ends (one.sh says what they hold), so what is done stays, however this ends.
+# Called again, it runs what has no answer for this version, program, options and inputs. RESULTS/log has a line a run, with its time.
+# Programs are copied to other machines once, each file of inputs for its run; nothing stays there.
+[ $# -ge 4 ] || { echo "usage: parallel.sh TW PROGRAM INPUTS RESULTS [OPTION OF PARALLEL..] [-- OPTION OF TW RUN..]" >&2; exit 2; }
 here=$(dirname "$(readlink -f "$0")")
-tw=$(readlink -f "$1") program=$(readlink -f "$2") inputs=$3 results=$4
+tw=$(readlink -f "$1") program=$(readlink -f "$2") inputs=$(readlink -f "$3") results=$4
 shift 4
 mkdir -p "$results" && results=$(readlink -f "$results") || exit
-room=$(mktemp -d)
-trap 'rm -rf "$room"' EXIT
-cp "$tw" "$room/tw" && cp "$here/one.sh" "$program" "$room" || exit
-program=$(basename "$program")
-for file in "$inputs"/*.in; do
-    name=$(basename "$file" .in)
-    [ -e "$results/$name.status" ] || { cp "$file" "$room" && echo "$name"; }
-done >"$results/list"
-cd "$room" || exit
+
+# The options before `--` go to parallel; of those behind it each is quoted for the shell that parallel starts.
+count=$# behind='' options=''
+while [ "$count" -gt 0 ]; do
+    word=$1 count=$((count - 1))
+    shift
+    if [ -n "$behind" ]; then
+        options="$options '$(printf %s "$word" | sed "s/'/'\\\\''/g")'"
+    elif [ "$word" = -- ]; then
+        behind=yes
+    else
+        set -- "$@" "$word"
+    fi
+done
+todo=$(eval "\"\$here/todo.sh\" \"\$tw\" \"\$program\" \"\$inputs\" \"\$results\" $options") || exit
+printf '%s\n' "$todo" | sed 1d >"$results/list"
+key=$(printf '%s\n' "$todo" | sed -n 1p)
+[ -s "$results/list" ] || exit 0
+
+cd "$results" || exit
+quote() {
+    printf "'%s'" "$(printf %s "$1" | sed "s/'/'\\\\''/g")"
+}
 case " $* " in
     *" -S"* | *" --sshlogin"* | *" --slf"*)
-        set -- "$@" --workdir "$(basename "$room")" --basefile tw --basefile one.sh --basefile "$program" \
-            --transferfile {}.in --return {}.out --return {}.status --cleanup ;;
+        set -- "$@" --workdir "yuglemit.$(uname -n).$$" --basefile "$(dirname "$tw")/./$(basename "$tw")" --basefile "$here/./one.sh" --cleanup \
+            --basefile "$(dirname "$program")/./$(basename "$program")" --transferfile "$inputs/./{}.in" --return {}.out --return {}.status
+        command="./one.sh ./$(quote "$(basename "$tw")") ./$(quote "$(basename "$program")") ./{}.in ./{}" ;;
+    *) command="$(quote "$here/one.sh") $(quote "$tw") $(quote "$program") $(quote "$inputs")/./{}.in ./{}" ;;
 esac
-parallel --joblog "$results/log" --retries 3 "$@" ./one.sh ./tw "$program" {}.in {} :::: "$results/list"
-failed=$?
-while read -r name; do
-    [ ! -e "$name.status" ] || mv "$name.out" "$name.status" "$results"
-done <"$results/list"
-rm "$results/list"
-exit "$failed"
+parallel --joblog "$results/log" --retries 3 "$@" "TW_KEY=$key $command -- $options" :::: "$results/list" &
+child=$!
+trap 'kill -TERM "$child"' INT TERM HUP
+wait "$child"
+status=$?
+while kill -0 "$child" 2>/dev/null; do # a signal ended the wait: parallel ends after the runs that it has begun
+    wait "$child"
+    status=$?
+done
+exit "$status"

@@ -1,0 +1,14 @@
+"""Runs a program on a folder of inputs, on the workers of a Dask scheduler: dask_cluster.py PROGRAM INPUTS tcp://HOST:8786 >TABLE"""
+
+import pathlib
+import sys
+
+import folder
+import yuglemit
+from dask.distributed import Client
+
+if __name__ == "__main__":
+    program = yuglemit.load(pathlib.Path(sys.argv[1]))
+    names, inputs = folder.read(sys.argv[2])
+    with Client(sys.argv[3]) as client:
+        folder.table(names, yuglemit.map(program, inputs, client.get_executor(pure=False)))

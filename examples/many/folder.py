@@ -1,0 +1,20 @@
+"""What the scripts beside share: a folder's inputs (NAME.in, an input a line), and the table that table.sh prints of results."""
+
+import pathlib
+import sys
+
+import yuglemit
+
+STATUS = {"quiet": 0, "refused": 1, "stuck": 3, "limit": 4}
+
+
+def read(folder):
+    files = sorted(pathlib.Path(folder).glob("*.in"))
+    lines = [file.read_bytes().decode().split("\n") for file in files]
+    return [file.stem for file in files], [tuple(yuglemit.read_input(line) for line in its if line) for its in lines]
+
+
+def table(names, reports, file=sys.stdout):
+    for name, report in zip(names, reports):
+        text = report.text if report.error is None else f"refused: {report.error}\n"
+        print(name, STATUS[report.end], text.replace("\n", ";"), sep="\t", file=file)

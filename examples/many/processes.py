@@ -1,0 +1,14 @@
+"""Runs a program on a folder of inputs, in processes of this machine: processes.py PROGRAM INPUTS >TABLE"""
+
+import pathlib
+import sys
+from concurrent.futures import ProcessPoolExecutor
+
+import folder
+import yuglemit
+
+if __name__ == "__main__":
+    program = yuglemit.load(pathlib.Path(sys.argv[1]))
+    names, inputs = folder.read(sys.argv[2])
+    with ProcessPoolExecutor() as pool:
+        folder.table(names, yuglemit.map(program, inputs, pool))

@@ -1,0 +1,24 @@
+#!/bin/sh
+# Checks a program, and lists which files NAME.in of a folder have no answer in RESULTS that fits: KEY on the first line, then a NAME a line.
+#
+#   todo.sh TW PROGRAM INPUTS RESULTS [OPTION OF TW RUN..]
+#
+# Ends with 1 if the program is refused, which standard error then says, and with 66 if there are no inputs.
+tw=$1 program=$2 inputs=$3 results=$4
+shift 4
+text=''
+case $program in
+    *.[tT][wW] | *.[tT][wW][nN]) text=--text && set -- --text "$@" ;;
+esac
+told=$("$tw" check $text <"$program") || { printf '%s\n' "$told" >&2; exit 1; }
+[ -n "$(find "$inputs" -maxdepth 1 -name '*.in' -print -quit)" ] || { echo "there is no file $inputs/NAME.in" >&2; exit 66; }
+key=$("$(dirname "$(readlink -f "$0")")/key.sh" "$tw" "$program" "$@") || exit
+echo "$key"
+(cd "$inputs" && find . -maxdepth 1 -name '*.in' -print0 | sort -z | xargs -0 sha256sum --) |
+    awk -v key="$key" -v results="$results" '
+        {
+            hash = $1; sub(/^[^ ]+ [ *]\.\//, ""); sub(/\.in$/, "")
+            file = results "/" $0 ".status"; line = ""
+            getline line <file; close(file)
+            if (substr(line, index(line, " ") + 1) != key " " hash) print
+        }'
