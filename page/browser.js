@@ -1,7 +1,10 @@
 // Drives a Chromium without a screen over its pipe: opens a page, evaluates what is asked there, and takes pictures.
-const {spawn} = require('child_process'), fs = require('fs'), os = require('os'), path = require('path');
+import {spawn} from 'node:child_process';
+import fs from 'node:fs';
+import os from 'node:os';
+import path from 'node:path';
 
-exports.open = async (address, width = 1300, height = 1000) => {
+export const open = async (address, width = 1300, height = 1000) => {
     const home = fs.mkdtempSync(path.join(os.tmpdir(), 'browser-'));
     const child = spawn('chromium', ['--headless', '--no-sandbox', '--disable-gpu', `--user-data-dir=${home}`, `--window-size=${width},${height}`, '--remote-debugging-pipe', 'about:blank'],
         {stdio: ['ignore', 'ignore', 'ignore', 'pipe', 'pipe']});

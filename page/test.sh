@@ -1,14 +1,19 @@
 #!/bin/sh
-# Makes the page, and uses it in headless Chromium as a reader would: every example by every button, with the text and the status that the
-# program tw has (runs by --in-turn); pictures, steps, a circle, the keyboard, a run that is stopped, five megabytes of text, and no message in
-# the console; and the 128-bit arithmetic with the machine's own. It ends with `N passed, 0 failed`.
+# Makes the page, and tries it: its types, where TypeScript's tsc is there; the 128-bit arithmetic with the machine's own; its machine with the
+# library's replay, for each beginning of the runs of all examples; and the page in headless Chromium as a reader would use it, with what the
+# program tw answers. Each part ends with `N passed, 0 failed`.
 #
-#   page/test.sh            with the page that page/build.sh makes
-#   page/test.sh PICTURES   and puts pictures of it into a folder, to be looked at
+#   page/test.sh             builds program and page first, and puts pictures of the page into page/out/pictures
+#   page/test.sh PROGRAM     takes that program tw, and the page that is built
 #
-# Needs chromium, node and a C compiler.
+# Needs chromium, node 20 and a C compiler.
 here=$(dirname "$(readlink -f "$0")")
 root=$(dirname "$here")
-"$root/tw" build && "$here/build.sh" || exit
-cc -O2 -o "$here/out/wide_test" "$here/wide_test.c" && "$here/out/wide_test" || exit
-node "$here/test.js" "$here/out/index.html" "$root/crates/tw_main/out/tw_main" "$root/examples" "$@"
+out=$here/out
+program=${1:-$root/crates/tw_main/out/tw_main}
+[ $# -gt 0 ] || { "$root/tw" build && "$here/build.sh"; } || exit
+if command -v tsc >/dev/null; then tsc -p "$here" || exit; else echo "no tsc: types aren't looked at"; fi
+cc -O2 -o "$out/wide_test" "$here/wide_test.c" && "$out/wide_test" || exit
+node "$here/machine_test.js" "$out/yuglemit.wasm" "$here" "$root/examples" || exit
+mkdir -p "$out/pictures"
+node "$here/test.js" "$out/index.html" "$program" "$root/examples" "$out/pictures" "$out/test_wide.wasm" "$out/test_narrow.wasm"

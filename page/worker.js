@@ -1,14 +1,21 @@
-// Answers sessions, in a thread of the browser's own, so that the page can end one that runs long.
+// Calls the module, in a thread of the browser's own, so that the page can end one that runs long.
 let x;
 const made = performance.now();
-const ready = WebAssembly.instantiate(Uint8Array.from(atob(self.wasm), c => c.charCodeAt(0)), {}).then(it => { x = it.instance.exports; });
+
+// The module out of its letters: it is compressed, and they spell its bytes.
+async function begin() {
+    const packed = Uint8Array.from(atob(self.wasm), sign => sign.charCodeAt(0));
+    const bytes = await new Response(new Blob([packed]).stream().pipeThrough(new DecompressionStream("gzip"))).arrayBuffer();
+    x = (await WebAssembly.instantiate(bytes, {})).instance.exports;
+}
+const ready = begin();
 
 // What the command tw with these words writes where it reads this input, and its exit status.
 function session(words, input) {
     const encoder = new TextEncoder();
     words = encoder.encode(words.join("\n"));
     input = encoder.encode(input);
-    for (let length = 1 << 16;;) {
+    for (let length = 1 << 20;;) {
         const places = [words.length, input.length, length, 1].map(n => x.yuglemit_room(BigInt(n + 1)));
         if (places.some(place => place === 0n)) return {status: 5, text: "memory\n"};
         let memory = new Uint8Array(x.memory.buffer);
@@ -28,12 +35,12 @@ onmessage = async ({data: {number, words, input}}) => {
     try {
         await ready;
     } catch (error) {
-        return postMessage({number, failed: `this browser can't begin the module, which asks for WebAssembly with 64-bit memory: ${error.message}\n`});
+        return postMessage({number, failed: `this browser can't begin the module: ${error.message}`});
     }
     try {
         const from = performance.now(), reply = session(words, input);
         postMessage({number, ...reply, ms: performance.now() - from, made: from - made, memory: x.memory.buffer.byteLength});
     } catch (error) {
-        postMessage({number, failed: `the module stopped: ${error.message}\n`});
+        postMessage({number, failed: `the module stopped: ${error.message}`});
     }
 };

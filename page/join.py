@@ -1,0 +1,87 @@
+"""Writes the page as one file: join.py FOLDER EXAMPLES GRAMMAR WASM, with the folder page/, examples/, tools/tw.vim and the module."""
+import base64
+import gzip
+import json
+import os
+import re
+import sys
+
+IMPORT = re.compile(r'^import \{([\w, $]+)\} from "\./(\w+)\.js";$', re.M)
+EXPORT = re.compile(r"^export (?=(?:async )?(?:function|const|let|class) ([\w$]+))", re.M)
+KEYWORDS = re.compile(r"^syntax keyword tw(\w+) (.*)$", re.M)
+
+
+def read(path: str) -> str:
+    """Returns the text of a file."""
+    with open(path, encoding="utf-8") as file:
+        return file.read()
+
+
+def order(folder: str, name: str, done: list[str]) -> list[str]:
+    """Returns the modules that a module needs, each after those that it needs, and itself last."""
+    for _, other in IMPORT.findall(read(f"{folder}/{name}.js")):
+        if other not in done:
+            order(folder, other, done)
+    if name not in done:
+        done.append(name)
+    return done
+
+
+def wrapped(folder: str, name: str) -> str:
+    """Returns a module as a function that is called once, whose value has what the module exports."""
+    text = read(f"{folder}/{name}.js")
+    exported = EXPORT.findall(text)
+    text = IMPORT.sub(lambda it: f"const {{{it[1]}}} = of_{it[2]};", text)
+    text = EXPORT.sub("", text)
+    if re.search(r"^(import|export)\b", text, re.M):
+        raise ValueError(f"{name}.js has an import or export of another form")
+    return f"const of_{name} = (() => {{\n{text}\nreturn {{{', '.join(exported)}}};\n}})();\n"
+
+
+def spellings(folder: str, examples: str, name: str) -> dict[str, str]:
+    """Returns the texts of an example, by their spelling."""
+    texts = {}
+    for spelled, path in (("names", f"{examples}/{name}.twn"), ("numbers", f"{examples}/{name}.tw"), ("names", f"{folder}/{name}.twn")):
+        if os.path.exists(path):
+            texts[spelled] = read(path)
+    if not texts:
+        raise ValueError(f"there is no example {name}")
+    return texts
+
+
+def groups(folder: str, examples: str) -> list[dict[str, object]]:
+    """Returns the groups of examples with their texts. Each file of the folder must be in one."""
+    listed: list[dict[str, object]] = json.loads(read(f"{folder}/examples.json"))
+    named = set()
+    for group in listed:
+        some = group["examples"]
+        assert isinstance(some, list)
+        for it in some:
+            named.add(it["name"])
+            it["texts"] = spellings(folder, examples, it["name"])
+    missing = {re.sub(r"\.twn?$", "", it) for it in os.listdir(examples) if re.search(r"\.twn?$", it)} - named
+    if missing:
+        raise ValueError(f"examples.json lacks {sorted(missing)}")
+    return listed
+
+
+def literal(what: object) -> str:
+    """Returns a value as JavaScript for a script element."""
+    return json.dumps(what, ensure_ascii=False).replace("</", "<\\/").replace("<!--", "<\\!--")
+
+
+def page(folder: str, examples: str, grammar: str, wasm: bytes) -> str:
+    """Returns the page."""
+    keywords = {group.lower(): words for group, words in KEYWORDS.findall(read(grammar))}
+    module = base64.b64encode(gzip.compress(wasm, 9, mtime=0)).decode()
+    script = "".join(wrapped(folder, name) for name in order(folder, "app", []))
+    for mark, value in (("@GRAMMAR@*/ {}", keywords), ("@EXAMPLES@*/ []", groups(folder, examples)), ("@WORKER@*/ \"\"", f'self.wasm = "{module}";\n{read(f"{folder}/worker.js")}')):
+        if script.count(f"/*{mark}") != 1:
+            raise ValueError(f"the script must have {mark} once")
+        script = script.replace(f"/*{mark}", literal(value))
+    return read(f"{folder}/page.html").replace("@STYLE@", read(f"{folder}/page.css").strip()).replace("@SCRIPT@", script.strip())
+
+
+if __name__ == "__main__":
+    with open(sys.argv[4], "rb") as opened:
+        print(page(sys.argv[1], sys.argv[2], sys.argv[3], opened.read()))

@@ -1,0 +1,98 @@
+// Compares the page's machine with the library: machine_test.js MODULE.wasm PAGE_FOLDER EXAMPLES. Each example runs with its own layout and with
+// others, and every prefix of its events must lead to the report that the library's replay writes. It ends with `N passed, 0 failed`.
+import fs from "node:fs";
+import {dearestWalk, mostEvents} from "./bounds.js";
+import {report, copyOf, step} from "./machine.js";
+import {decode} from "./program.js";
+import {readPlaces, readTrace, readVerdict} from "./replies.js";
+import {Run} from "./run.js";
+import {namings, scan} from "./source.js";
+import {inputFault, readInput} from "./values.js";
+
+const [module, folder, examplesFolder] = process.argv.slice(2);
+const x = (await WebAssembly.instantiate(fs.readFileSync(module))).instance.exports;
+let passed = 0, failed = 0;
+const say = (is, ...what) => { if (is) passed++; else { failed++; console.log("FAILED", ...what); } };
+
+// Returns the library's reply to these words and this input.
+function session(words, input) {
+    const bytes = [new TextEncoder().encode(words.join("\n")), new TextEncoder().encode(input)], room = 1 << 24;
+    const places = [bytes[0].length, bytes[1].length, room, 1].map(length => x.yuglemit_room(BigInt(length + 1)));
+    bytes.forEach((it, k) => new Uint8Array(x.memory.buffer).set(it, Number(places[k])));
+    const length = Number(x.yuglemit_session(places[0], BigInt(bytes[0].length), places[1], BigInt(bytes[1].length), places[2], BigInt(room), places[3]));
+    const text = new TextDecoder().decode(new Uint8Array(x.memory.buffer, Number(places[2]), length)), [status] = new Uint8Array(x.memory.buffer, Number(places[3]), 1);
+    places.forEach(place => x.yuglemit_free(place));
+    return {status, text};
+}
+
+// Returns a report without the rules of a deadlock, as the page's machine writes it.
+const plain = text => text.replace(/^(waits|rule) .*\n/gm, "");
+
+// Follows a run, and compares every prefix.
+async function compare(name, text, words, [engines, servers, workers]) {
+    const options = ["--engines", engines, "--servers", servers, "--workers", workers].map(String), limit = ["--limit", "1000"];
+    const {text: answer} = session(["run", "--text", "--trace", ...limit, ...options, ...words], text), {events} = readTrace(answer);
+    say(events.length > 0, name, "has no events", answer.slice(0, 200));
+    const source = scan(text), program = decode(session(["asm", "--names"], text).text), names = namings(source, session(["asm", "--names", "--plain"], text).text);
+    const run = await new Run({program, source, names, inputs: words.map(readInput), engines, servers, workers, events}).follow();
+    const state = copyOf(run.kept[0]);
+    for (let k = 0; k <= events.length; k++) {
+        if (k) step(state, program, events[k - 1]);
+        const wanted = session(["replay", "--text", ...options, ...words], `${text}\nevents\n${events.slice(0, k).join("\n")}\nend\n`).text;
+        say(report(state) === plain(wanted), name, "event", k, JSON.stringify(report(state)), JSON.stringify(wanted));
+        if (k % 7 === 0) say(report(run.at(k)) === report(state), name, "another state at", k);
+    }
+    const places = readPlaces(session(["check", "--text", "--places"], text).text, source), verdict = readVerdict(session(["check", "--text"], text).text, source);
+    say(verdict.accepted && verdict.budgets.length === program.length, name, "verdict", verdict);
+    say(source.places.every((code, k) => code.length === program[k].code.length), name, "lines of places", source.places.map(it => it.length));
+    say(verdict.budgets.every(({budget, procedure}) => dearestWalk(program[procedure].code, () => 1n) === BigInt(budget)), name, "other budgets", verdict.budgets);
+    say(events.length <= Number(mostEvents(program)), name, "more events than bounded", events.length, mostEvents(program));
+    heldRights(name, run, places);
+}
+
+// Checks the bounds of a run that can be counted by hand, and of one without a bound.
+function bounds() {
+    const of = text => mostEvents(decode(session(["asm"], text).text)), leaf = "proc leaf closed int write int\nregs int\nDROPR d0\nSTORE d1 v0\nRET\n";
+    // Take, twice REPEAT's turn of NEW, STORE, NEW, RULE, DROPR and END; RULE: one Ask, one Deliver, Release, Take, three instructions; REPEAT and RET.
+    const text = `proc control\nregs int\nREPEAT 2\nNEW d0 d1 int\nSTORE d0 v0\nNEW d0 d2 int\nRULE 1 0 any 1 0\nDROPR d2\nEND\nRET\n${leaf}`;
+    say(of(text) === BigInt(1 + 2 * (6 + 1 + 1 + 1 + 1 + 3) + 2), "a bound", of(text));
+    say(of("proc control\nregs\nPUT 1 0 any\nRET\nproc control\nregs\nPUT 1 0 any\nRET\n") === null, "a bound of a cycle");
+}
+
+// Checks that a frame's registers hold data exactly where the verifier lists rights.
+function heldRights(name, run, places) {
+    for (let k = 0; k <= run.length; k++)
+        for (const frame of run.at(k).frames.values()) {
+            const line = run.setting.source.places[frame.procedure][frame.place], full = frame.rights.flatMap((id, register) => id ? [`d${register}`] : []);
+            say(String(full) === String((places.get(line) ?? []).map(([register]) => register)), name, "rights at event", k, "line", line + 1, full, places.get(line));
+        }
+}
+
+// Programs with what no example has: texts that aren't ASCII, a freed container with members, targets, priorities and a stored register.
+const MORE = [
+    ["texts", 'version 2\nproc control write tcont text write text write int\nregs text text int\nTEXT v0 "\\x41é\\n\\"\\\\"\nTEXT v1 "ﬀ😀"\nNEW d3 d4 text\nSTORE d3 v0\nTINS d0 v1 d4 a\nJMP b\na:\nDROPR d4\nb:\nNEW d3 d4 text\nSTORE d3 v1\nTINS d0 v0 d4 c\nJMP d\nc:\nDROPR d4\nd:\nCAT v0 v0 v1 e\ne:\nLEN v2 v0\nDROPW d0\nSTORE d1 v0\nSTORE d2 v2\nRET\n', []],
+    ["freed", "proc control write int\nregs int\nNEW d1 d2 cont int\nNEW d3 d4 int\nSTORE d3 v0\nINS d1 v0 d4 a\nJMP b\na:\nDROPR d4\nb:\nDROPW d1\nDROPR d2\nNEW d1 d2 int\nDROPR d2\nSTORE d1 v0\nSTORE d0 v0\nRET\n", []],
+    ["arithmetic", "proc control write int\nregs int int int\nINT v0 -9\nINT v1 4\nDIV v2 v0 v1 a\na:\nREM v2 v0 v1 b\nb:\nINT v1 9223372036854775807\nADD v2 v1 v1 c\nMUL v2 v1 v1 c\nSUB v2 v0 v1 c\nINT v2 5\nc:\nREPEAT 3\nADD v2 v2 v0 d\nd:\nREPEAT 2\nJLT v2 v0 e\nADD v2 v2 v2 e\ne:\nEND\nEND\nSTORE d0 v2\nRET\n", []],
+    ["priorities", "proc control write int write int write int\nregs int\nPUT 1 -1 any 0\nPUT 1 5 any 1\nPUT 1 5 0 2\nRET\nproc leaf write int\nregs int\nSTORE d0 v0\nRET\n", []],
+];
+
+// Checks that the page and the program accept the same input words.
+function words() {
+    const echo = 'proc control ref int write int\nregs int\nDROPR d0\nSTORE d1 v0\nRET\n';
+    for (const word of ["int:7", "int:-0", "int:007", "int:9223372036854775808", "int:-9223372036854775808", "int:", "int: 7", "int:+7", "7", "Int:7", "text:", "ints:", "ints:1=2", "ints:1=2,", "ints:,", "ints:1=2,3", "ints:1=2 ,3=4", "tints:a=1", 'tints:"a"=1', 'texts:1="a,b",2="\\x41"', 'texts:1="a\\q"', 'texts:1="\\x80"', 'ttexts:"a"="b"', 'ttexts:"a"=1', 'texts:1="a']) {
+        const refused = /^input word 1 refused/.test(session(["run", "--text", word], echo).text);
+        say((readInput(word) === null) === refused && !!inputFault(word) === refused, "input word", word, readInput(word), refused);
+    }
+}
+
+const groups = JSON.parse(fs.readFileSync(`${folder}/examples.json`, "utf8"));
+for (const it of groups.flatMap(group => group.examples)) {
+    if (it.ends.startsWith("refused")) continue;
+    for (const path of [`${examplesFolder}/${it.name}.tw`, `${examplesFolder}/${it.name}.twn`, `${folder}/${it.name}.twn`].filter(path => fs.existsSync(path)))
+        for (const layout of [[it.engines ?? 1, it.servers ?? 1, it.workers ?? 1], [2, 2, 3], [4, 3, 16]]) await compare(path, fs.readFileSync(path, "utf8"), it.inputs ?? [], layout);
+}
+for (const [name, text, inputs] of MORE) for (const layout of [[1, 1, 1], [2, 2, 2]]) await compare(name, text, inputs, layout);
+words();
+bounds();
+console.log(`${passed} passed, ${failed} failed`);
+process.exitCode = failed ? 1 : 0;

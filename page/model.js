@@ -1,0 +1,149 @@
+// @ts-check
+// Describes a step: its event in a sentence, and the state after it in rows.
+import {isClosed, lines, standing, subscripts} from "./machine.js";
+import {callName, nameAt, uncommented} from "./source.js";
+import {shown} from "./values.js";
+
+/** @typedef {import("./run.js").Run} Run */
+/** @typedef {import("./run.js").Event} Event */
+/** @typedef {import("./machine.js").State} State */
+/** @typedef {import("./machine.js").Datum} Datum */
+/** @typedef {import("./machine.js").Frame} Frame */
+/** @typedef {import("./machine.js").Task} Task */
+/** A row: its key, its cells, its datum and its line.
+ * @typedef {{key: string, cells: string[], datum?: number, line?: number, changed?: boolean, gone?: boolean}} Row */
+/** An actor that runs a task.
+ * @typedef {{actor: string, title: string, line: number, next: string, values: Row[], rights: Row[], spent: string}} Running */
+/** @typedef {{running: Running[], idle: string[], rules: Row[], control: Row[], leaf: Row[], notices: Row[], data: Row[], outputs: string}} View */
+
+const KINDS = /** @type {Record<string, string>} */ ({e: "engine", s: "server", w: "worker"});
+/** Returns an actor in words, as `worker 1`.
+ * @param {string} actor */
+export const actorName = actor => `${KINDS[actor[0]]} ${actor.slice(1)}`;
+
+/** Returns what a datum is called in a run.
+ * @param {Run} run @param {number} id */
+export const dataName = (run, id) => run.labels.get(id) ? `${run.labels.get(id)} (datum ${id})` : `datum ${id}`;
+
+/** Returns the statement of a line, without its comment.
+ * @param {Run} run @param {number} line */
+const statement = (run, line) => uncommented(run.setting.source.text[line] ?? "").trim();
+
+/** A description of each instruction on data.
+ * @type {Record<string, (data: string[], event: Event) => string>} */
+const DID = {
+    NEW: ([it]) => `makes ${it}, with a right to write it and one to read it`,
+    STORE: ([it]) => `stores a value in ${it}, which closes it`,
+    GET: ([it]) => `reads ${it}`,
+    INS: ([into, member], {refused}) => refused ? `finds the subscript taken in ${into}, and skips` : `puts ${member} into ${into}`,
+    LOOK: ([from, member], {refused}) => refused ? `finds no such subscript in ${from}, and skips` : `finds ${member} in ${from}, and gets a right to read it`,
+    SIZE: ([it]) => `counts the members of ${it}`,
+    SUBAT: ([it], {refused}) => refused ? `finds no further subscript in ${it}, and skips` : `reads a subscript of ${it}`,
+    DUPR: ([it]) => `copies its right to read ${it}`,
+    DUPW: ([it]) => `copies its right to write ${it}`,
+    DROPR: ([it]) => `gives up its right to read ${it}`,
+    DROPW: ([it]) => `gives up a right to write ${it}`,
+};
+
+/** Returns what an event does, in a sentence.
+ * @param {Run} run @param {Event} event */
+export function sentence(run, event) {
+    const said = describe(run, event);
+    return said[0].toUpperCase() + said.slice(1);
+}
+
+/** @param {Run} run @param {Event} event */
+function describe(run, event) {
+    const {source, program} = run.setting, who = actorName(event.actor), data = event.data.map(id => dataName(run, id)), called = callName(source, event.procedure);
+    switch (event.kind) {
+        case "take": return `${who} takes task ${event.task}: ${called}`;
+        case "end": return `${who} ends task ${event.task}, ${called}`;
+        case "local": return `${who} computes: ${event.count > 1 ? `${event.count} instructions` : statement(run, event.lines[0])}${event.refused && event.count === 1 && /^(ADD|SUB|MUL|DIV|REM|CAT|READI)/.test(statement(run, event.lines[0])) ? ", which has no result, and skips" : ""}`;
+        case "ask": return `${who} asks for rule ${event.rule} whether ${data[0]} is closed: ${event.refused ? "not yet, so the rule waits" : "it is"}`;
+        case "deliver": return `${who} tells rule ${event.rule} that ${data[0]} is closed`;
+        case "release": return `${who} turns rule ${event.rule} into task ${event.made}: ${called} may begin`;
+    }
+    const {name, operands} = program[event.procedure].code[event.places[0]];
+    if (event.makes === "rule") return `${who} makes rule ${event.made}: ${callName(source, operands[0])} begins when what it waits for is closed`;
+    if (event.makes === "task") return `${who} puts task ${event.made}: ${callName(source, operands[0])}`;
+    return `${who} ${DID[name.replace(/^T(INS|LOOK|SUBAT)$/, "$1")]?.(data, event) ?? name}`;
+}
+
+/** Returns a datum's content in words.
+ * @param {Datum} datum */
+function content(datum) {
+    if (!datum.members) return datum.value === null ? "not yet written" : shown(datum.value);
+    const all = subscripts(datum), some = all.slice(0, 12).map(key => `${shown(key)} → ${datum.members?.get(key)}`).join(", ");
+    return all.length ? `${all.length} member${all.length > 1 ? "s" : ""}: ${some}${all.length > 12 ? ", .." : ""}` : "no members";
+}
+
+/** Returns what an argument is called.
+ * @param {Run} run @param {import("./machine.js").Argument} argument */
+const argumentName = (run, argument) => "value" in argument ? shown(argument.value) : run.labels.get(argument.datum) || `datum ${argument.datum}`;
+
+/** Returns a call in words, as `square(3, squares)`.
+ * @param {Run} run @param {Task} task */
+const callOf = (run, task) => `${callName(run.setting.source, task.procedure)}(${task.args.map(it => argumentName(run, it)).join(", ")})`;
+
+/** Returns the rows of a frame's registers.
+ * @param {Run} run @param {string} actor @param {Frame} frame @param {Map<number, [string, string][]>} places @returns {Running} */
+function runningOf(run, actor, frame, places) {
+    const {source, names, program} = run.setting, {procedure, place} = frame, line = source.places[procedure][place] ?? -1;
+    const named = (/** @type {string} */ register) => nameAt(names, procedure, line, register), held = new Map(places.get(line) ?? []);
+    const values = frame.values.map((value, k) => ({key: `${actor} v${k}`, cells: [named(`v${k}`), program[procedure].regs[k], shown(value)]}));
+    const rights = frame.rights.flatMap((id, k) => id ? [{key: `${actor} d${k}`, datum: id, cells: [named(`d${k}`), held.get(`d${k}`) ?? "right", dataName(run, id)]}] : []);
+    const loops = frame.loops.length ? `; ${frame.loops.map(({left}) => left).join(", ")} turn${frame.loops.length > 1 || frame.loops[0].left > 1 ? "s" : ""} left` : "";
+    return {actor, title: `task ${frame.task}: ${callName(source, procedure)}`, line, next: statement(run, line), values, rights, spent: `${frame.spent} instruction${frame.spent === 1 ? "" : "s"} done${loops}`};
+}
+
+/** Returns the rows of the rules.
+ * @param {Run} run @param {State} state @returns {Row[]} */
+const ruleRows = (run, state) => [...state.rules.values()].map(rule => {
+    const waits = rule.stages.flatMap((stage, k) => stage ? [`${argumentName(run, rule.args[k])}: ${stage === "unasked" ? "not asked yet" : stage === "waiting" ? "waiting" : "closed"}`] : []);
+    return {key: `rule ${rule.number}`, line: run.ruleLines.get(rule.number), cells: [`rule ${rule.number}`, callOf(run, rule), waits.join(", ") || "waits for nothing", `engine ${rule.engine}`]};
+});
+
+/** Returns the rows of the tasks that wait for one kind of actor, the best first.
+ * @param {Run} run @param {State} state @param {string} kind @returns {Row[]} */
+function queueRows(run, state, kind) {
+    const all = [...state.tasks.values()].filter(task => run.setting.program[task.procedure].kind === kind);
+    all.sort((one, other) => one.priority === other.priority ? one.number - other.number : one.priority < other.priority ? 1 : -1);
+    const actor = kind === "control" ? "engine" : "worker";
+    return all.map(task => ({key: `task ${task.number}`, cells: [`task ${task.number}`, callOf(run, task), `priority ${task.priority}`, task.target === null ? `any ${actor}` : `${actor} ${task.target} alone`]}));
+}
+
+/** Returns the row of a datum.
+ * @param {Run} run @param {Datum} datum @returns {Row} */
+function dataRow(run, datum) {
+    const waits = datum.waiters.map(it => `rule ${it.rule}`).join(", ");
+    return {key: `datum ${datum.id}`, datum: datum.id, cells: [String(datum.id), run.labels.get(datum.id) ?? "", datum.type, content(datum), isClosed(datum) ? "closed" : "open", `${datum.reads} / ${datum.writes}`, waits]};
+}
+
+/** Returns what a state shows.
+ * @param {Run} run @param {State} state @param {Map<number, [string, string][]>} places @param {string[]} actors @returns {View} */
+export function viewOf(run, state, places, actors) {
+    const data = [...state.data.values()].sort((one, other) => one.id - other.id).map(datum => dataRow(run, datum));
+    return {
+        running: actors.flatMap(actor => { const frame = state.frames.get(actor); return frame ? [runningOf(run, actor, frame, places)] : []; }),
+        idle: actors.filter(actor => actor[0] !== "s" && !state.frames.has(actor)),
+        rules: ruleRows(run, state), control: queueRows(run, state, "control"), leaf: queueRows(run, state, "leaf"),
+        notices: state.notices.map(it => ({key: `notice ${it.datum} ${it.rule} ${it.param}`, cells: [`server ${it.server}`, `${dataName(run, it.datum)} is closed`, `for rule ${it.rule}`]})),
+        data, outputs: outputsOf(state),
+    };
+}
+
+/** Returns the outputs of a state and its standing, a line each.
+ * @param {State} state */
+function outputsOf(state) {
+    const all = state.outputs.map((id, k) => `output ${k}: ${lines(state, state.data.get(id)).join("\n")}`);
+    return [...all, {quiet: "all is done", running: "running"}[standing(state)] ?? `${standing(state)}: rules wait for ever`].join("\n");
+}
+
+/** Marks the rows that an event changed, and adds those that it took away.
+ * @param {Row[]} now @param {Row[]} before @returns {Row[]} */
+export function compared(now, before) {
+    const old = new Map(before.map(row => [row.key, row.cells.join("\0")])), keys = new Set(now.map(row => row.key));
+    const gone = before.filter(row => !keys.has(row.key)).map(row => ({...row, gone: true}));
+    return [...now.map(row => ({...row, changed: old.get(row.key) !== row.cells.join("\0")})), ...gone];
+}
+

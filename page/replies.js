@@ -1,0 +1,109 @@
+// @ts-check
+// Parses the library's replies, which docs/FORMAT.md describes.
+import {wordsOf} from "./source.js";
+
+/** @typedef {import("./source.js").Source} Source */
+/** A refusal: its code, its line (from 0, or -1), its reason, and the columns of the word at fault.
+ * @typedef {{number: string, line: number, reason: string, from: number, to: number}} Refusal */
+/** @typedef {{procedure: number, kind: string, budget: string, more: string}} Budget */
+/** The result of `check`.
+ * @typedef {{accepted: boolean, budgets: Budget[], engines: number, workers: number, refusal: Refusal | null, text: string}} Verdict */
+
+/** Parses the reply to `check`.
+ * @param {string} text @param {Source} source @returns {Verdict} */
+export function readVerdict(text, source) {
+    const lines = text.split("\n"), needs = /^needs engines (\d+) workers (\d+)/m.exec(text), accepted = lines[0] === "accepted";
+    const budgets = [...text.matchAll(/^proc (\d+) (?:.* )?(control|leaf) (?:.* )?budget (\d+)(.*)$/gm)].map(it => ({procedure: +it[1], kind: it[2], budget: it[3], more: it[4].replace(/\(\w+\)/, "").trim()}));
+    return {accepted, budgets, engines: +(needs?.[1] ?? 0), workers: +(needs?.[2] ?? 0), refusal: accepted ? null : readRefusal(text, source), text};
+}
+
+/** Reads a refusal; null if the text has none. Only the first line decides, since the others quote the program.
+ * @param {string} text @param {Source} source @returns {Refusal | null} */
+export function readRefusal(text, source) {
+    const [first, ...rest] = text.split("\n"), number = /^refused ([A-Z]\d+)/.exec(first)?.[1], details = rest.filter(line => line);
+    if (!number) return null;
+    const told = /^refused [AHN]\d+ at line (\d+)/.exec(first) ?? /^at line (\d+)/.exec(details[0] ?? "");
+    const line = told ? +told[1] - 1 : placed(first, source);
+    const [from, to] = line >= 0 ? fault(source.text[line] ?? "", details) : [0, 0];
+    return {number, line, reason: reasonOf(details, source.text[line] ?? ""), from, to};
+}
+
+/** Returns the line of a refusal that names a procedure and a place, or -1.
+ * @param {string} first @param {Source} source */
+function placed(first, source) {
+    const told = /in procedure (\d+)\b.* at place (\d+)/.exec(first);
+    return told ? source.places[+told[1]]?.[+told[2]] ?? source.heads[+told[1]] ?? -1 : -1;
+}
+
+/** Returns the columns of the word at fault, or else of all words of the line.
+ * @param {string} line @param {string[]} details @returns {[number, number]} */
+function fault(line, details) {
+    const words = wordsOf(line), [first, last] = [words[0], words[words.length - 1]];
+    if (!first) return [0, line.length];
+    const end = last.at + last.word.length;
+    for (const detail of details) {
+        const counted = /^word (\d+), column (\d+)/.exec(detail);
+        if (counted) {
+            const word = words[+counted[1] - 1];
+            return word ? [word.at, word.at + word.word.length] : [end, end + 1];
+        }
+        const called = /^([vd]\d+) \((\w+)\)/.exec(detail) ?? /^([vd]\d+)\b()/.exec(detail) ?? /^([^\s:]+)():/.exec(detail);
+        const word = called && words.slice(1).find(it => it.word === called[1] || it.word === called[2]);
+        if (word) return [word.at, word.at + word.word.length];
+    }
+    return [first.at, end];
+}
+
+/** Returns the reason of a refusal: its details without the lines that quote the program.
+ * @param {string[]} details @param {string} line */
+function reasonOf(details, line) {
+    const quoted = line.trim(), isQuote = (/** @type {string} */ it) => it === quoted || it.length > 150 && quoted.startsWith(it.slice(0, 150));
+    const said = details.filter(it => !isQuote(it.trim()) && !/^(at line \d+\b[^:]*|stands for): /.test(it));
+    return said.join("; ").replace(/^word \d+, column \d+: /, "");
+}
+
+/** Returns the rights that a check by places lists, by line: each as the register, and its mode and type.
+ * @param {string} text @param {Source} source @returns {Map<number, [string, string][]>} */
+export function readPlaces(text, source) {
+    const held = new Map(), listing = text.split("\n");
+    let at = 0;
+    source.lines.forEach(({kind, place}, k) => {
+        if (kind === "proc" && /^procedure \d+/.test(listing[at] ?? "")) at++;
+        const line = listing[at++] ?? "", prefix = `${String(place).padStart(5)}  `;
+        if (kind !== "instruction" || !line.startsWith(prefix)) return;
+        const rest = line.slice(prefix.length + source.text[k].replace(/\s+$/, "").length);
+        const rights = rest.split(/ {2,}/).filter(it => it).map(it => /^(d\d+)\b.*?\b((?:closed|ref|write) .*)$/.exec(it.trim()));
+        held.set(k, rights.flatMap(it => it ? [[it[1], it[2]]] : []));
+    });
+    return held;
+}
+
+/** Splits the answer of a traced run into its events and its report.
+ * @param {string} text @returns {{events: string[], report: string}} */
+export function readTrace(text) {
+    const found = /^events\n([^]*?)^end\n/m.exec(text);
+    if (!text.startsWith("events\n") || !found) return {events: [], report: text};
+    return {events: found[1].split("\n").slice(0, -1), report: text.slice(found[0].length)};
+}
+
+/** Returns an explanation as its parts: what a number means, and what was asked, the usual mistake and its mending.
+ * @param {string} text @returns {{meaning: string, parts: [string, string][]}} */
+export function readExplanation(text) {
+    const [first = "", ...rest] = text.split("\n"), parts = rest.map(line => /^ {2}([^:]+): (.*)$/.exec(line));
+    return {meaning: first.replace(/^[A-Z]\d+: /, ""), parts: parts.flatMap(it => it ? [[it[1], onPage(it[2])]] : [])};
+}
+
+// How explanations for the command line read on this page.
+/** @type {[RegExp, string][]} */
+const ON_PAGE = [
+    [/give the option --text, or look at what `tw asm` alone says/, "open the text again from its file"],
+    [/with --text the word is told, and what was expected there; /, ""],
+    [/give --limit a number in the range/, "set the field `limit` to a number in the range"],
+    [/`tw` tells this as `command line refused`/, "the fields are beside Run"],
+    [/give the numbers that `tw check` tells/, "set engines and workers to the numbers below the program"],
+    [/--(workers|engines|servers|limit)/g, "the field `$1`"],
+    [/`tw explain (\w+)`/g, "$1"],
+    [/hex text is given without --text/, "this page reads text alone"],
+];
+/** @param {string} text */
+const onPage = text => ON_PAGE.reduce((text, [from, to]) => text.replace(from, to), text);
