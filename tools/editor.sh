@@ -1,12 +1,14 @@
 #!/bin/sh
-# Writes tools/tw.vim, by which vim shows assembly text and texts with names, and tools/tw.bash, by which bash completes the words of ./tw. The first is made of
-# the names of instructions and the words that are read in lines, the second of the program's help texts and that of ./tw.
+# Writes tools/tw.vim, by which vim shows assembly text and symbolic assembly, and tools/tw.bash and tools/tw.zsh, by which these shells complete the
+# arguments of tw. The first is made of the names of instructions and the words that are read in lines, the others of the help texts of the program and of ./tw.
 #
-#   tools/editor.sh            writes both; the proved program is built where it isn't there
-#   tools/editor.sh --check    compares them with those that are there, and fails where one is stale
+#   tools/editor.sh            writes them, by the program with which ./tw answers
+#   tools/editor.sh --check    compares them with those that are there, and fails if one is stale
 #
+# ./tw install puts them where they are looked for. By hand:
 # For vim:   mkdir -p ~/.vim/syntax ~/.vim/ftdetect; cp tools/tw.vim ~/.vim/syntax/; echo 'au BufNewFile,BufRead *.tw,*.twn setf tw' >~/.vim/ftdetect/tw.vim
 # For bash:  . tools/tw.bash
+# For zsh:   mkdir -p ~/.zfunc; cp tools/tw.zsh ~/.zfunc/_tw; and before compinit in ~/.zshrc: fpath+=~/.zfunc
 root=$(dirname "$(dirname "$(readlink -f "$0")")")
 assembler=$root/crates/tw_asm/src
 names=$root/crates/tw_names/src
@@ -81,25 +83,45 @@ options() {
     "$program" "$1" --help </dev/null | sed -n '/^Options:/,/^$/s/^ *\(-[a-z], \)\{0,1\}\(--[a-z-]*\).*/\2/p' | tr '\n' ' ' | sed 's/ $//'
 }
 
+# What ./tw package makes.
+packages() {
+    sed -n 's/^PACKAGES: .*{\(.*\)}$/\1/p' "$root/tools/package.py" | grep -o '"[a-z]*"' | tr -d '"' | tr '\n' ' ' | sed 's/ $//'
+}
+
 # How inputs begin, as the help of `run` says it.
 inputs() {
     "$program" run --help </dev/null | sed -n 's/^ *\[input\]\.\.\. *\(.*\)/\1/p' | grep -o '[a-z]*:' | grep -v '^input:$' | in_line
 }
 
+# The program's commands, and those of ./tw besides.
+all_commands() {
+    "$program" --help </dev/null | commands | grep -v '^help$' | tr '\n' ' ' | sed 's/ $//'
+}
+
+own_commands() {
+    "$root/tw" --help | commands | grep '^test$\|^install$\|^package$\|^build$' | tr '\n' ' ' | sed 's/ $//'
+}
+
 write_bash() {
-    all=$("$root/tw" --help | commands | tr '\n' ' ' | sed 's/ $//')
     cat <<TEXT
-# What bash completes behind tw and ./tw. tools/editor.sh writes this file.
+# What bash completes after tw and ./tw. tools/editor.sh writes this file.
 _tw() {
-    local word=\${COMP_WORDS[COMP_CWORD]} command=\${COMP_WORDS[1]}
+    local word=\${COMP_WORDS[COMP_CWORD]} command=\${COMP_WORDS[1]} all="$(all_commands)"
     COMPREPLY=()
+    case \${COMP_WORDS[0]} in */*) all="\$all $(own_commands)" ;; esac
     if [ "\$COMP_CWORD" = 1 ]; then
-        COMPREPLY=(\$(compgen -W "$all help --help --version" -- "\$word"))
+        COMPREPLY=(\$(compgen -W "\$all help --help --version" -- "\$word"))
         return
     fi
     case \$command:\$word in
-        help:*) COMPREPLY=(\$(compgen -W "$all" -- "\$word")) ;;
+        help:*) COMPREPLY=(\$(compgen -W "\$all" -- "\$word")) ;;
+        build:*) COMPREPLY=(\$(compgen -W "--library" -- "\$word")) ;;
+        install:-*) COMPREPLY=(\$(compgen -W "--uninstall" -- "\$word")) ;;
+        install:*) COMPREPLY=(\$(compgen -d -- "\$word")) ;;
+        package:*) COMPREPLY=(\$(compgen -W "$(packages)" -- "\$word")) ;;
 TEXT
+    # (the text is the file's)
+    # shellcheck disable=SC2016
     for name in $("$program" --help </dev/null | commands | grep -v '^help$'); do
         printf '        %s:-*) COMPREPLY=($(compgen -W "%s" -- "$word")) ;;\n' "$name" "$(options "$name")"
     done
@@ -113,12 +135,40 @@ complete -o filenames -o bashdefault -F _tw tw
 TEXT
 }
 
-program=${TW_PROGRAM:-$root/crates/tw_main/out/tw_main}
-[ -x "$program" ] || "$root/tw" build || exit
+write_zsh() {
+    cat <<TEXT
+#compdef tw
+# What zsh completes after tw and ./tw. tools/editor.sh writes this file.
+local -a all
+all=($(all_commands))
+case \$words[1] in */*) all+=($(own_commands)) ;; esac
+if (( CURRENT == 2 )); then
+    compadd -- \$all help --help --version
+    return
+fi
+case \$words[2]:\$PREFIX in
+    help:*) compadd -- \$all ;;
+    build:*) compadd -- --library ;;
+    install:-*) compadd -- --uninstall ;;
+    install:*) _files -/ ;;
+    package:*) compadd -- $(packages) ;;
+TEXT
+    for name in $(all_commands); do
+        printf '    %s:-*) compadd -- %s ;;\n' "$name" "$(options "$name")"
+    done
+    cat <<TEXT
+    run:* | replay:* | picture:*) compadd -S '' -- $(inputs); _files ;;
+    asm:* | check:* | disasm:*) _files ;;
+esac
+TEXT
+}
+
+program=${TW_PROGRAM:-$("$root/tools/tw-pick.sh" tw_main)} || exit
 write_vim >"$room/tw.vim" || exit
 write_bash >"$room/tw.bash" || exit
+write_zsh >"$room/tw.zsh" || exit
 stale=0
-for file in tw.vim tw.bash; do
+for file in tw.vim tw.bash tw.zsh; do
     if [ "$1" = --check ]; then
         cmp -s "$room/$file" "$root/tools/$file" || { echo "tools/$file is stale: tools/editor.sh writes it" >&2; stale=1; }
     else

@@ -32,7 +32,7 @@ block && /^\$ sed -i / {
 }
 
 block && /^\$ / {
-    shown = /^\$ \.\/tw / && !/^\$ \.\/tw (build|test)$/
+    shown = /^\$ \.\/tw / && !/^\$ \.\/tw (build|test|install|package)$/
     for (name in version) gsub(name, current(name))
 }
 

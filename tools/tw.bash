@@ -1,13 +1,18 @@
-# What bash completes behind tw and ./tw. tools/editor.sh writes this file.
+# What bash completes after tw and ./tw. tools/editor.sh writes this file.
 _tw() {
-    local word=${COMP_WORDS[COMP_CWORD]} command=${COMP_WORDS[1]}
+    local word=${COMP_WORDS[COMP_CWORD]} command=${COMP_WORDS[1]} all="asm disasm check run replay picture explain"
     COMPREPLY=()
+    case ${COMP_WORDS[0]} in */*) all="$all test install package build" ;; esac
     if [ "$COMP_CWORD" = 1 ]; then
-        COMPREPLY=($(compgen -W "asm disasm check run replay picture explain build test help --help --version" -- "$word"))
+        COMPREPLY=($(compgen -W "$all help --help --version" -- "$word"))
         return
     fi
     case $command:$word in
-        help:*) COMPREPLY=($(compgen -W "asm disasm check run replay picture explain build test" -- "$word")) ;;
+        help:*) COMPREPLY=($(compgen -W "$all" -- "$word")) ;;
+        build:*) COMPREPLY=($(compgen -W "--library" -- "$word")) ;;
+        install:-*) COMPREPLY=($(compgen -W "--uninstall" -- "$word")) ;;
+        install:*) COMPREPLY=($(compgen -d -- "$word")) ;;
+        package:*) COMPREPLY=($(compgen -W "deb wheel crate tar" -- "$word")) ;;
         asm:-*) COMPREPLY=($(compgen -W "--names --plain --help" -- "$word")) ;;
         disasm:-*) COMPREPLY=($(compgen -W "--text --places --help" -- "$word")) ;;
         check:-*) COMPREPLY=($(compgen -W "--text --places --help" -- "$word")) ;;

@@ -1,0 +1,25 @@
+#compdef tw
+# What zsh completes after tw and ./tw. tools/editor.sh writes this file.
+local -a all
+all=(asm disasm check run replay picture explain)
+case $words[1] in */*) all+=(test install package build) ;; esac
+if (( CURRENT == 2 )); then
+    compadd -- $all help --help --version
+    return
+fi
+case $words[2]:$PREFIX in
+    help:*) compadd -- $all ;;
+    build:*) compadd -- --library ;;
+    install:-*) compadd -- --uninstall ;;
+    install:*) _files -/ ;;
+    package:*) compadd -- deb wheel crate tar ;;
+    asm:-*) compadd -- --names --plain --help ;;
+    disasm:-*) compadd -- --text --places --help ;;
+    check:-*) compadd -- --text --places --help ;;
+    run:-*) compadd -- --engines --servers --workers --limit --from --to --trace --stats --picture --in-turn --quiet --text --inputs --help ;;
+    replay:-*) compadd -- --engines --servers --workers --stats --text --inputs --help ;;
+    picture:-*) compadd -- --engines --servers --workers --from --to --text --inputs --help ;;
+    explain:-*) compadd -- --help ;;
+    run:* | replay:* | picture:*) compadd -S '' -- int: ints: text: texts: tints: ttexts:; _files ;;
+    asm:* | check:* | disasm:*) _files ;;
+esac
