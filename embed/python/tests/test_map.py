@@ -99,7 +99,7 @@ class Map(unittest.TestCase):
         self.assertEqual(seen, [(100, 300), (200, 300), (300, 300)])
 
     def test_lost_process(self) -> None:
-        program = yuglemit.load("proc control closed int write int\nregs int int\nGET v0 d0\nDROPR d0\nREPEAT 1000\nREPEAT 300\nEND\nEND\nSTORE d1 v0\nRET\n")
+        program = yuglemit.load("proc control closed int write int\nregs int int\nGET v0 d0\nDROPR d0\nREPEAT 1000\nREPEAT 1000\nREPEAT 5\nEND\nEND\nEND\nSTORE d1 v0\nRET\n")  # 10 ms and more
         with ProcessPoolExecutor(2, mp_context=multiprocessing.get_context("fork")) as pool, warnings.catch_warnings(record=True) as told:
             warnings.simplefilter("always")
             pool.submit(os.getpid).result()
