@@ -195,6 +195,7 @@ def rebuild_program(kit: Path, tree: Path, crate: str) -> None:
     """Proves a topmost crate again over the libraries in the tree, and compiles its program anew, as `rt ci` does."""
     rt = load_rt(kit)
     os.chdir(tree)
+    rt.rtlib.guarded()  # sets its handler of a signal here, in the main thread, since it proves in others
     rt.rtlib.Crate = rt.Crate
     rt.Crate.cuts_libraries = True
     rt.Crate.allowed = rt.handles_of(str(tree))
