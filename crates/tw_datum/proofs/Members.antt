@@ -1,5 +1,5 @@
 -- The members of a container, where there are some and where there are none, and going through them.
-use Rattle.std.proofs.Common.{[], ◌≡◌, Bool, true, false, subst, OnErr, ℕ, zero, suc, ℤ, List, ◌∷◌, Some, None, IfSome, refl, sym, ap, ◌∙◌, map as each, length, slice_get, pos, negsuc, arith, ◌+◌, ◌≤◌, fold, drop, inl, inr, OnOk}
+use Rattle.std.proofs.Common.{[], ◌≡◌, Bool, true, false, subst, OnErr, ℕ, zero, suc, ℤ, List, ◌∷◌, Some, None, IfSome, refl, sym, ap, ◌∙◌, map as each, length, slice_get, pos, negsuc, arith, ◌+◌, ◌≤◌, fold, drop, inl, inr, OnOk, IsSome, option_map}
 use Rattle.std.specs.declared.option.Option.{Option}
 use Rattle.std.specs.declared.result.Result.{Result}
 use Rattle.std.specs.declared.result.Result.TheVariants.{Ok, Err}
@@ -11,15 +11,15 @@ use Rattle.std.specs.Map.{keys_of}
 use Rattle.std.proofs.lemmas.List.{length-map, drop_all}
 use Rattle.tw_types.specs.DataType.{is_container_by, is_scalar}
 use Rattle.tw_types.specs.Nesting.{NestedScalar}
-use Rattle.tw_types.specs.Store.{Contains, empty_content}
-use Rattle.tw_types.specs.StoreCalls.{subscript_after}
+use Rattle.tw_types.specs.Store.{Contains, Members, empty_content}
+use Rattle.tw_types.specs.StoreCalls.{members_in, subscript_after}
 use Rattle.tw_types.specs.TypedStore.{AreSubscriptsFor}
 use Rattle.tw_types.specs.Value.{scalar_of}
 use Rattle.tw_types.proofs.Subscripts.{no_kinds, one_more_kind}
 use Rattle.tw_types.proofs.Totals.{IsEntry, get_entry}
-use Rattle.tw_datum.specs.Kept.{FitsType, KeptMembers, ids_of}
+use Rattle.tw_datum.specs.Kept.{FitsType, KeptMembers, KeptDatum, ids_of, IsAddition, IsMemberAdded, with_kept_member}
 use Rattle.tw_types.proofs.Elements.{no_items}
-use Rattle.tw_types.proofs.Mapped.{insert_mapped}
+use Rattle.tw_types.proofs.Mapped.{insert_mapped, get_mapped}
 
 pub insert_ids : {M : Type 0} (id : M → ℕ) (m : KeptMembers M) (k : Subscript) (x : M) → ids_of id (map.insert m k x) ≡ map.insert (ids_of id m) k (id x)
 insert_ids id = insert_mapped id value_cmp_total value_cmp-IsAntisymmetric
@@ -92,3 +92,26 @@ module _ {M : Type 0} where
   pub nth_there : (ms : KeptMembers M) (i : ℕ) (r : Option (Subscript × M)) → r ≡ slice_get (entries ms) i → IfSome r (λ e. map.get ms e.0 ≡ Some e.1)
   nth_there ms i None h = tt
   nth_there ms i (Some e) h = nth_get ms i e (sym h)
+
+-- the same, where a member came, was there, or was refused
+pub kinds_after : {M E : Type 0} (id : M → ℕ) (r : Result Bool E) (ty : NestedScalar) (before after : KeptMembers M) (subscript : Subscript) (member : M) → AreSubscriptsFor ty (ids_of id before) → is_container_by (scalar_of subscript) ty ≡ true
+    → IsAddition r subscript member before after → AreSubscriptsFor ty (ids_of id after)
+kinds_after id (Ok true) ty before after subscript member kinds kind h = subst (AreSubscriptsFor ty) (sym (ap (ids_of id) h.1 ∙ insert_ids id before subscript member)) (one_more_kind ty (ids_of id before) subscript (id member) kinds kind)
+kinds_after {M} id (Ok false) ty before after subscript member kinds kind h = subst (λ (m : KeptMembers M). AreSubscriptsFor ty (ids_of id m)) (sym h.1) kinds
+kinds_after {M} id (Err why) ty before after subscript member kinds kind h = subst (λ (m : KeptMembers M). AreSubscriptsFor ty (ids_of id m)) (sym h.1) kinds
+
+still_some : {M : Type 0} (id : M → ℕ) (o : Option M) → IsSome o → IsSome (option_map id o)
+still_some id None h = h
+still_some id (Some x) h = refl
+
+-- a datum d that is seen as its members say
+module _ {M : Type 0} (id : M → ℕ) (seen : Members → KeptMembers M → KeptDatum M) (d : KeptDatum M) (before after : KeptMembers M) (k : Subscript) (member : M)
+    (content : (ids : Members) (ms : KeptMembers M) → members_in (seen ids ms).datum.content ≡ ids) (is : seen (ids_of id before) before ≡ d) where
+  got : map.get (members_in d.datum.content) k ≡ option_map id (map.get before k)
+  got = sym (ap (λ (x : KeptDatum M). map.get (members_in x.datum.content) k) is) ∙ ap (λ m. map.get m k) (content (ids_of id before) before) ∙ get_mapped id before k
+
+  pub member_added : {E : Type 0} (r : Result Bool E) → seen (map.insert (ids_of id before) k (id member)) (map.insert before k member) ≡ with_kept_member id k member d
+      → IsAddition r k member before after → IsMemberAdded id r k member d (seen (ids_of id after) after)
+  member_added (Ok true) put h = (got ∙ ap (option_map id) h.0, ap (λ m. seen (ids_of id m) m) h.1 ∙ ap (λ ids. seen ids (map.insert before k member)) (insert_ids id before k member) ∙ put)
+  member_added (Ok false) put h = (subst IsSome (sym got) (still_some id (map.get before k) h.0), ap (λ m. seen (ids_of id m) m) h.1 ∙ is)
+  member_added (Err why) put h = (got ∙ ap (option_map id) h.0, ap (λ m. seen (ids_of id m) m) h.1 ∙ is)

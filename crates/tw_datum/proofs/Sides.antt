@@ -20,10 +20,10 @@ module _ {V : Type 0} (d l : List (Value × V)) (e : Value × V) (r : List (Valu
   here : T (is_sorted value_cmp (l ++ e ∷ r))
   here = subst (λ es. T (is_sorted value_cmp es)) is sorted
 
-  left : T (is_sorted value_cmp l)
+  pub left : T (is_sorted value_cmp l)
   left = sorted_front value_cmp_total l (e ∷ r) here
 
-  right : T (is_sorted value_cmp r)
+  pub right : T (is_sorted value_cmp r)
   right = sorted_back value_cmp_total l e r here
 
   found : find value_cmp k (l ++ e ∷ r) ≡ find value_cmp q d

@@ -1,5 +1,5 @@
 -- A datum as it is kept: a member may say more than its id, such as the place of its datum.
-use Rattle.std.specs.Prelude.{[], ◌≡◌, ℕ, ℤ, Bool, true, false, not, List, map as each, Option, Some, None, option_map}
+use Rattle.std.specs.Prelude.{[], ◌≡◌, ℕ, ℤ, Bool, true, false, not, List, map as each, Option, Some, None, option_map, Result, Ok, Err, IsSome}
 use Rattle.std.specs.Borrow.{Bor}
 use Rattle.std.specs.FinMap as map
 use Rattle.std.specs.FinMap.{FinMap}
@@ -21,6 +21,12 @@ KeptMembers M = FinMap value_cmp M
 -- their ids alone
 abbrev pub ids_of : {M : Type 0} → (M → ℕ) → KeptMembers M → Members
 ids_of id members = mapped id members
+
+-- before and after a member was put at a subscript that is not there; or all stays, since it is there or memory is refused
+abbrev pub IsAddition : {M E : Type 0} → Result Bool E → Subscript → M → KeptMembers M → KeptMembers M → Type 0
+IsAddition (Ok true) k v old new = (map.get old k ≡ None) × (new ≡ map.insert old k v)
+IsAddition (Ok false) k v old new = IsSome (map.get old k) × (new ≡ old)
+IsAddition (Err e) k v old new = (map.get old k ≡ None) × (new ≡ old)
 
 -- a datum, and its members
 pub record KeptDatum (M : Type 0) : Type 0 where
@@ -53,6 +59,12 @@ new_kept ty = record { datum = new_datum ty; members = map.empty }
 
 abbrev pub with_kept_member : {M : Type 0} → (M → ℕ) → Subscript → M → KeptDatum M → KeptDatum M
 with_kept_member id subscript member d = record { datum = with_member subscript (id member) d.datum; members = map.insert d.members subscript member }
+
+-- before and after a member was put at a subscript that is not there; or all stays, since it is there or memory is refused
+abbrev pub IsMemberAdded : {M E : Type 0} → (M → ℕ) → Result Bool E → Subscript → M → KeptDatum M → KeptDatum M → Type 0
+IsMemberAdded id (Ok true) k v old new = (map.get (members_in old.datum.content) k ≡ None) × (new ≡ with_kept_member id k v old)
+IsMemberAdded id (Ok false) k v old new = IsSome (map.get (members_in old.datum.content) k) × (new ≡ old)
+IsMemberAdded id (Err e) k v old new = (map.get (members_in old.datum.content) k ≡ None) × (new ≡ old)
 
 -- it has one read, and nobody will write it
 abbrev pub closed_datum : NestedScalar → Meaning → Datum

@@ -6,9 +6,9 @@ ghost use Rattle.std.specs.Option.{option_and_then, option_copied};
 ghost use Rattle.tw_types.specs.DataType.{is_container_by};
 ghost use Rattle.tw_types.specs.StoreCalls.{members_in, subscript_after};
 ghost use Rattle.tw_types.specs.TypedStore.{AreSubscriptsFor};
-ghost use Rattle.tw_types.specs.Value.{scalar_of};
+ghost use Rattle.tw_types.specs.Value.{IsProper, scalar_of};
 ghost use Rattle.tw_types.specs.ValueOrder.{named};
-ghost use Rattle.tw_datum.specs.Kept.{AreMembers, bare, by_int, lent, with_kept_member};
+ghost use Rattle.tw_datum.specs.Kept.{AreMembers, IsMemberAdded, bare, by_int, lent, with_kept_member};
 
 use crate::datum::{Content, Datum};
 use crate::member::Member;
@@ -115,6 +115,18 @@ impl<M: Member> Datum<M> {
         match self.kept_member(subscript) {
             Some(member) => Some(member.id()),
             None => None,
+        }
+    }
+
+    /// Puts a member into a container under a copy of a subscript, unless one is there. Returns whether none was.
+    pub fn add_absent(&mut self, subscript: ValueRef<'_>, member: M) -> Result<bool, AllocError>
+        requires container { is_container_by (scalar_of (named subscript)) self.old.datum.ty ≡ true }
+        requires proper { IsProper (named subscript) }
+        ensures { IsMemberAdded M.id result (named subscript.entry) member self.old self.new }
+    {
+        match &mut self.content {
+            Content::Contains(members) => members.add(subscript, member),
+            Content::Unset | Content::Set(_) => unreachable!(),
         }
     }
 

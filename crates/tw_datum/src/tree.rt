@@ -6,7 +6,8 @@ ghost use Rattle.std.specs.Prelude.{◌≡◌, ◌+◌, ◌-◌, ◌*◌, ◌^�
 ghost use Rattle.std.specs.FinMap.{find, put, is_sorted};
 ghost use Rattle.std.specs.Option.{option_copied};
 ghost use Rattle.tw_types.specs.ValueOrder.{named, value_cmp};
-ghost use Rattle.tw_datum.specs.Tree.{AreEven, AreNearlyEven};
+ghost use Rattle.tw_types.specs.Value.{IsProper};
+ghost use Rattle.tw_datum.specs.Tree.{AreEven, AreNearlyEven, IsRight, in_fork, IsAdded};
 
 use std::alloc::{AllocError, Global};
 use std::cmp::Ordering;
@@ -18,20 +19,17 @@ use tw_types::{Value, ValueRef};
 #[cycle(tree)]
 #[derive(Drop)]
 pub struct Tree<V> {
-    node: Node<V>,
+    root: Option<Box<Fork<V>>>,
 }
 
+/// One entry between those before and after it, with the number of all three.
 #[cycle(tree)]
 #[derive(Drop)]
-enum Node<V> {
-    Leaf,
-    /// One entry between those before and after it, with the number of all three.
-    Fork {
-        before: Box<Tree<V>>,
-        own: (Value, V),
-        len: usize,
-        after: Box<Tree<V>>,
-    },
+struct Fork<V> {
+    before: Tree<V>,
+    own: (Value, V),
+    len: usize,
+    after: Tree<V>,
 }
 
 impl<V> Model for Tree<V> {
@@ -42,9 +40,9 @@ impl<V> Model for Tree<V> {
 
     ghost use Rattle.tw_datum.specs.Tree.{seen, IsBalanced};
 
-    ghost view = { λ t. seen t.node };
+    ghost view = { λ t. seen t.root };
 
-    ghost invariant = { λ t. IsBalanced t.node };
+    ghost invariant = { λ t. IsBalanced t.root };
 
     ghost size = { length };
 
@@ -57,15 +55,15 @@ impl<V: Copy> Tree<V> {
     pub fn new() -> Tree<V>
         ensures { result ≡ [] }
     {
-        Tree { node: Node::Leaf }
+        Tree { root: None }
     }
 
     pub fn len(&self) -> usize
         ensures { result ≡ length self.now }
     {
-        match self.node {
-            Node::Leaf => 0,
-            Node::Fork { len, .. } => len,
+        match &self.root {
+            None => 0,
+            Some(fork) => fork.len,
         }
     }
 
@@ -73,18 +71,16 @@ impl<V: Copy> Tree<V> {
     pub fn get(&self, key: ValueRef<'_>) -> Option<V>
         ensures { T (is_sorted value_cmp self.now) → result ≡ find value_cmp (named key.entry) self.now }
     {
-        match &self.node {
-            Node::Leaf => None,
-            Node::Fork {
-                before,
-                own,
-                after,
-                ..
-            } => match key.compare(&own.0) {
-                Ordering::Less => before.get(key),
-                Ordering::Equal => Some(own.1),
-                Ordering::Greater => after.get(key),
-            },
+        match &self.root {
+            None => None,
+            Some(fork) => {
+                let fork = &**fork;
+                match key.compare(&fork.own.0) {
+                    Ordering::Less => fork.before.get(key),
+                    Ordering::Equal => Some(fork.own.1),
+                    Ordering::Greater => fork.after.get(key),
+                }
+            }
         }
     }
 
@@ -92,19 +88,59 @@ impl<V: Copy> Tree<V> {
     pub fn nth(&self, index: usize) -> Option<&(Value, V)>
         ensures { option_copied result ≡ slice_get self.now index }
     {
-        match &self.node {
-            Node::Leaf => None,
-            Node::Fork {
-                before,
-                own,
-                after,
-                ..
-            } => {
-                let place = before.len();
+        match &self.root {
+            None => None,
+            Some(fork) => {
+                let fork = &**fork;
+                let place = fork.before.len();
                 match index.cmp(&place) {
-                    Ordering::Less => before.nth(index),
-                    Ordering::Equal => Some(own),
-                    Ordering::Greater => after.nth(index - place - 1),
+                    Ordering::Less => fork.before.nth(index),
+                    Ordering::Equal => Some(&fork.own),
+                    Ordering::Greater => fork.after.nth(index - place - 1),
+                }
+            }
+        }
+    }
+
+    /// Puts a value at a copy of a key, unless one is there. Returns whether none was.
+    pub fn add(&mut self, alloc: Global, key: ValueRef<'_>, value: V) -> Result<bool, AllocError>
+        requires room { length self.old < 2 ^ 64 - 1 }
+        requires proper { IsProper (named key) }
+        ensures { IsAdded result (named key.entry) value self.old self.new }
+    {
+        match &mut self.root {
+            None => {
+                let own = key.try_to_value(alloc)?;
+                let fork = Box::new(
+                    alloc,
+                    Fork {
+                        before: Tree::new(),
+                        own: (own, value),
+                        len: 1,
+                        after: Tree::new(),
+                    },
+                )?;
+                self.root = Some(fork);
+                Ok(true)
+            }
+            Some(fork) => {
+                let fork = &mut **fork;
+                match key.compare(&fork.own.0) {
+                    Ordering::Less => {
+                        if !fork.before.add(alloc, key, value)? {
+                            return Ok(false);
+                        }
+                        fork.even_out();
+                        Ok(true)
+                    }
+                    Ordering::Equal => Ok(false),
+                    Ordering::Greater => {
+                        if !fork.after.add(alloc, key, value)? {
+                            return Ok(false);
+                        }
+                        fork.even_out();
+                        Ok(true)
+                    }
                 }
             }
         }
@@ -118,159 +154,206 @@ impl<V: Copy> Tree<V> {
         ensures not_shorter { length self.old ≤ length self.new }
         ensures one_longer_at_most { length self.new ≤ length self.old + 1 }
     {
-        if self.len() == 0 {
-            return self.fill(alloc, (key, value));
-        }
-        let (mut before, mut own, mut after) = self.take_apart();
-        match key.borrowed().compare(&own.0) {
-            Ordering::Less => {
-                let done = before.insert(alloc, key, value);
-                self.rebuild(before, own, after);
-                done
-            }
-            Ordering::Equal => {
-                own.1 = value;
-                self.rebuild(before, own, after);
+        match &mut self.root {
+            None => {
+                let fork = Box::new(
+                    alloc,
+                    Fork {
+                        before: Tree::new(),
+                        own: (key, value),
+                        len: 1,
+                        after: Tree::new(),
+                    },
+                )?;
+                self.root = Some(fork);
                 Ok(())
             }
-            Ordering::Greater => {
-                let done = after.insert(alloc, key, value);
-                self.rebuild(before, own, after);
-                done
+            Some(fork) => {
+                let fork = &mut **fork;
+                match key.borrowed().compare(&fork.own.0) {
+                    Ordering::Less => {
+                        fork.before.insert(alloc, key, value)?;
+                        fork.even_out();
+                        Ok(())
+                    }
+                    Ordering::Equal => {
+                        fork.own.1 = value;
+                        Ok(())
+                    }
+                    Ordering::Greater => {
+                        fork.after.insert(alloc, key, value)?;
+                        fork.even_out();
+                        Ok(())
+                    }
+                }
             }
         }
     }
+}
 
-    /// Puts the first entry.
-    fn fill(&mut self, alloc: Global, own: (Value, V)) -> Result<(), AllocError>
-        requires { length self.old ≡ 0 }
-        ensures added { OnOk result (self.new ≡ own ∷ []) }
-        ensures refused { OnErr result (self.new ≡ self.old) }
+impl<V: Copy> Tree<V> {
+    fn of(fork: Box<Fork<V>>) -> Tree<V>
+        requires { IsRight fork.value }
+        ensures { result ≡ in_fork fork.value }
     {
-        let before = Box::new(alloc, Tree::new())?;
-        let after = Box::new(alloc, Tree::new())?;
-        *self = fork(before, own, after);
-        Ok(())
+        Tree { root: Some(fork) }
     }
 
-    /// Makes it of these, where one side may have one entry too many.
-    fn rebuild(&mut self, before: Box<Tree<V>>, own: (Value, V), after: Box<Tree<V>>)
-        requires room { length before.value + length after.value < 2 ^ 64 - 1 }
-        requires near { AreNearlyEven (length before.value) (length after.value) }
-        ensures entries { self.new ≡ before.value ++ own ∷ after.value }
-        ensures len { length self.new ≡ length before.value + length after.value + 1 }
-    {
-        *self = balanced(before, own, after);
-    }
-
-    /// An entry of this tree, with the trees before and after it.
-    fn take_apart(&mut self) -> (Box<Tree<V>>, (Value, V), Box<Tree<V>>)
+    /// Its topmost node, which leaves it empty.
+    fn take(&mut self) -> Box<Fork<V>>
         requires { 0 < length self.old }
-        ensures entries { self.old ≡ result.0.value ++ result.1 ∷ result.2.value }
-        ensures len { length self.old ≡ length result.0.value + length result.2.value + 1 }
-        ensures even { AreEven (length result.0.value) (length result.2.value) }
+        ensures entries { self.old ≡ in_fork result.value }
+        ensures right { IsRight result.value }
+        ensures len { length self.old ≡ length result.value.before + length result.value.after + 1 }
     {
-        let Node::Fork {
-            before,
-            own,
-            after,
-            ..
-        } = mem::replace(&mut self.node, Node::Leaf)
-        else {
+        let Some(fork) = self.root.take() else {
             unreachable!()
         };
-        (before, own, after)
+        fork
     }
 }
 
-fn fork<V: Copy>(before: Box<Tree<V>>, own: (Value, V), after: Box<Tree<V>>) -> Tree<V>
-    requires room { length before.value + length after.value < 2 ^ 64 - 1 }
-    requires even { AreEven (length before.value) (length after.value) }
-    ensures entries { result ≡ before.value ++ own ∷ after.value }
-    ensures len { length result ≡ length before.value + length after.value + 1 }
-{
-    let len = before.len() + after.len() + 1;
-    Tree {
-        node: Node::Fork {
-            before,
-            own,
-            len,
-            after,
-        },
+impl<V: Copy> Fork<V> {
+    /// Makes the number right and the sides even, where one side may have one entry too many.
+    fn even_out(&mut self)
+        requires room { length self.old.before + length self.old.after < 2 ^ 64 - 1 }
+        requires near { AreNearlyEven (length self.old.before) (length self.old.after) }
+        ensures entries { in_fork self.new ≡ in_fork self.old }
+        ensures right { IsRight self.new }
+        ensures len { self.new.len ≡ length self.old.before + length self.old.after + 1 }
+    {
+        let (left, right) = (self.before.len(), self.after.len());
+        self.len = left + right + 1;
+        if left / 3 > right {
+            self.turn_right();
+        } else if right / 3 > left {
+            self.turn_left();
+        }
+    }
+
+    /// Turns what is too heavy on its left side to the right.
+    #[inline(never)]
+    fn turn_right(&mut self)
+        requires room { length self.old.before + length self.old.after < 2 ^ 64 - 1 }
+        requires heavy { length self.old.before ≡ 3 * (length self.old.after + 1) }
+        requires len { self.old.len ≡ length self.old.before + length self.old.after + 1 }
+        ensures entries { in_fork self.new ≡ in_fork self.old }
+        ensures right { IsRight self.new }
+        ensures len { self.new.len ≡ self.old.len }
+    {
+        let mut left = self.before.take();
+        if left.after.len() / 2 <= left.before.len() {
+            single_right(self, &mut left);
+            self.after = Tree::of(left);
+        } else {
+            let mut inner = left.after.take();
+            double_right(self, &mut left, &mut inner);
+            self.before = Tree::of(left);
+            self.after = Tree::of(inner);
+        }
+    }
+
+    /// Turns what is too heavy on its right side to the left.
+    #[inline(never)]
+    fn turn_left(&mut self)
+        requires room { length self.old.before + length self.old.after < 2 ^ 64 - 1 }
+        requires heavy { length self.old.after ≡ 3 * (length self.old.before + 1) }
+        requires len { self.old.len ≡ length self.old.before + length self.old.after + 1 }
+        ensures entries { in_fork self.new ≡ in_fork self.old }
+        ensures right { IsRight self.new }
+        ensures len { self.new.len ≡ self.old.len }
+    {
+        let mut right = self.after.take();
+        if right.before.len() / 2 <= right.after.len() {
+            single_left(self, &mut right);
+            self.before = Tree::of(right);
+        } else {
+            let mut inner = right.before.take();
+            double_left(self, &mut right, &mut inner);
+            self.after = Tree::of(right);
+            self.before = Tree::of(inner);
+        }
     }
 }
 
-/// A tree of these, where one side may have one entry too many.
-fn balanced<V: Copy>(before: Box<Tree<V>>, own: (Value, V), after: Box<Tree<V>>) -> Tree<V>
-    requires room { length before.value + length after.value < 2 ^ 64 - 1 }
-    requires near { AreNearlyEven (length before.value) (length after.value) }
-    ensures entries { result ≡ before.value ++ own ∷ after.value }
-    ensures len { length result ≡ length before.value + length after.value + 1 }
+/// The entry on the left becomes the whole's own; what was the whole's own stands on the left, with what is after it.
+fn single_right<V: Copy>(whole: &mut Fork<V>, left: &mut Fork<V>)
+    requires room { length left.old.after + length whole.old.after < 2 ^ 64 - 1 }
+    ensures before { whole.new.before ≡ left.old.before }
+    ensures own { whole.new.own ≡ left.old.own }
+    ensures len { whole.new.len ≡ whole.old.len }
+    ensures left_before { left.new.before ≡ left.old.after }
+    ensures left_own { left.new.own ≡ whole.old.own }
+    ensures left_after { left.new.after ≡ whole.old.after }
+    ensures left_len { left.new.len ≡ length left.old.after + length whole.old.after + 1 }
 {
-    let (left, right) = (before.len(), after.len());
-    if left / 3 > right {
-        lean_left(before, own, after)
-    } else if right / 3 > left {
-        lean_right(before, own, after)
-    } else {
-        fork(before, own, after)
-    }
+    let last = mem::replace(&mut whole.after, Tree::new());
+    let middle = mem::replace(&mut left.after, last);
+    whole.before = mem::replace(&mut left.before, middle);
+    mem::swap(&mut whole.own, &mut left.own);
+    left.len = left.before.len() + left.after.len() + 1;
 }
 
-/// Turns what is too heavy on its left side to the right.
-fn lean_left<V: Copy>(mut before: Box<Tree<V>>, own: (Value, V), after: Box<Tree<V>>) -> Tree<V>
-    requires room { length before.value + length after.value < 2 ^ 64 - 1 }
-    requires heavy { length before.value ≡ 3 * (length after.value + 1) }
-    ensures entries { result ≡ before.value ++ own ∷ after.value }
-    ensures len { length result ≡ length before.value + length after.value + 1 }
+/// The entry on the right becomes the whole's own; what was the whole's own stands on the right, with what is before it.
+fn single_left<V: Copy>(whole: &mut Fork<V>, right: &mut Fork<V>)
+    requires room { length whole.old.before + length right.old.before < 2 ^ 64 - 1 }
+    ensures after { whole.new.after ≡ right.old.after }
+    ensures own { whole.new.own ≡ right.old.own }
+    ensures len { whole.new.len ≡ whole.old.len }
+    ensures right_before { right.new.before ≡ whole.old.before }
+    ensures right_own { right.new.own ≡ whole.old.own }
+    ensures right_after { right.new.after ≡ right.old.before }
+    ensures right_len { right.new.len ≡ length whole.old.before + length right.old.before + 1 }
 {
-    let (first, own_1, inner) = leaning_left(&mut before);
-    *before = fork(inner, own, after);
-    fork(first, own_1, before)
+    let first = mem::replace(&mut whole.before, Tree::new());
+    let middle = mem::replace(&mut right.before, first);
+    whole.after = mem::replace(&mut right.after, middle);
+    mem::swap(&mut whole.own, &mut right.own);
+    right.len = right.before.len() + right.after.len() + 1;
 }
 
-/// Takes a tree apart, where the second part may not be much heavier than the first.
-fn leaning_left<V: Copy>(tree: &mut Tree<V>) -> (Box<Tree<V>>, (Value, V), Box<Tree<V>>)
-    requires { (0 < length tree.old) × (length tree.old < 2 ^ 64) }
-    ensures entries { tree.old ≡ result.0.value ++ result.1 ∷ result.2.value }
-    ensures len { length tree.old ≡ length result.0.value + length result.2.value + 1 }
-    ensures second { length result.2.value ≤ 2 * length result.0.value + 1 }
-    ensures first { length result.0.value ≤ 8 * (length result.2.value + 1) }
+/// The inner entry becomes the whole's own; its two sides go to the left and to what was the whole's own.
+fn double_right<V: Copy>(whole: &mut Fork<V>, left: &mut Fork<V>, inner: &mut Fork<V>)
+    requires room { length inner.old.after + length whole.old.after < 2 ^ 64 - 1 }
+    requires left_room { length left.old.before + length inner.old.before < 2 ^ 64 - 1 }
+    ensures own { whole.new.own ≡ inner.old.own }
+    ensures len { whole.new.len ≡ whole.old.len }
+    ensures left_before { left.new.before ≡ left.old.before }
+    ensures left_own { left.new.own ≡ left.old.own }
+    ensures left_after { left.new.after ≡ inner.old.before }
+    ensures left_len { left.new.len ≡ length left.old.before + length inner.old.before + 1 }
+    ensures inner_before { inner.new.before ≡ inner.old.after }
+    ensures inner_own { inner.new.own ≡ whole.old.own }
+    ensures inner_after { inner.new.after ≡ whole.old.after }
+    ensures inner_len { inner.new.len ≡ length inner.old.after + length whole.old.after + 1 }
 {
-    let (first, own, mut inner) = tree.take_apart();
-    if inner.len() / 2 <= first.len() {
-        return (first, own, inner);
-    }
-    let (second, own_1, third) = inner.take_apart();
-    *inner = fork(first, own, second);
-    (inner, own_1, third)
+    let last = mem::replace(&mut whole.after, Tree::new());
+    let third = mem::replace(&mut inner.after, last);
+    left.after = mem::replace(&mut inner.before, third);
+    mem::swap(&mut whole.own, &mut inner.own);
+    left.len = left.before.len() + left.after.len() + 1;
+    inner.len = inner.before.len() + inner.after.len() + 1;
 }
 
-/// Turns what is too heavy on its right side to the left.
-fn lean_right<V: Copy>(before: Box<Tree<V>>, own: (Value, V), mut after: Box<Tree<V>>) -> Tree<V>
-    requires room { length before.value + length after.value < 2 ^ 64 - 1 }
-    requires heavy { length after.value ≡ 3 * (length before.value + 1) }
-    ensures entries { result ≡ before.value ++ own ∷ after.value }
-    ensures len { length result ≡ length before.value + length after.value + 1 }
+/// The inner entry becomes the whole's own; its two sides go to what was the whole's own and to the right.
+fn double_left<V: Copy>(whole: &mut Fork<V>, right: &mut Fork<V>, inner: &mut Fork<V>)
+    requires room { length whole.old.before + length inner.old.before < 2 ^ 64 - 1 }
+    requires right_room { length inner.old.after + length right.old.after < 2 ^ 64 - 1 }
+    ensures own { whole.new.own ≡ inner.old.own }
+    ensures len { whole.new.len ≡ whole.old.len }
+    ensures right_before { right.new.before ≡ inner.old.after }
+    ensures right_own { right.new.own ≡ right.old.own }
+    ensures right_after { right.new.after ≡ right.old.after }
+    ensures right_len { right.new.len ≡ length inner.old.after + length right.old.after + 1 }
+    ensures inner_before { inner.new.before ≡ whole.old.before }
+    ensures inner_own { inner.new.own ≡ whole.old.own }
+    ensures inner_after { inner.new.after ≡ inner.old.before }
+    ensures inner_len { inner.new.len ≡ length whole.old.before + length inner.old.before + 1 }
 {
-    let (inner, own_1, last) = leaning_right(&mut after);
-    *after = fork(before, own, inner);
-    fork(after, own_1, last)
-}
-
-/// Takes a tree apart, where the first part may not be much heavier than the second.
-fn leaning_right<V: Copy>(tree: &mut Tree<V>) -> (Box<Tree<V>>, (Value, V), Box<Tree<V>>)
-    requires { (0 < length tree.old) × (length tree.old < 2 ^ 64) }
-    ensures entries { tree.old ≡ result.0.value ++ result.1 ∷ result.2.value }
-    ensures len { length tree.old ≡ length result.0.value + length result.2.value + 1 }
-    ensures first { length result.0.value ≤ 2 * length result.2.value + 1 }
-    ensures second { length result.2.value ≤ 8 * (length result.0.value + 1) }
-{
-    let (mut inner, own, last) = tree.take_apart();
-    if inner.len() / 2 <= last.len() {
-        return (inner, own, last);
-    }
-    let (first, own_1, second) = inner.take_apart();
-    *inner = fork(second, own, last);
-    (first, own_1, inner)
+    let first = mem::replace(&mut whole.before, Tree::new());
+    let second = mem::replace(&mut inner.before, first);
+    right.before = mem::replace(&mut inner.after, second);
+    mem::swap(&mut whole.own, &mut inner.own);
+    right.len = right.before.len() + right.after.len() + 1;
+    inner.len = inner.before.len() + inner.after.len() + 1;
 }

@@ -1,5 +1,5 @@
 -- Slots of which some are left, with what was known of them.
-use Rattle.std.proofs.Common.{[], ◌≡◌, ◌≢◌, ◌<◌, ◌+◌, ◌-◌, ℕ, suc, zero, Bool, true, false, cond, List, ◌∷◌, refl, sym, ap, subst, ◌∙◌, arith, get_or, set, inl, inr, fold, IfSome, IsSome}
+use Rattle.std.proofs.Common.{[], ◌≡◌, ◌≢◌, ◌<◌, ◌+◌, ◌-◌, ℕ, suc, zero, Bool, true, false, cond, List, ◌∷◌, refl, sym, ap, subst, ◌∙◌, arith, get_or, set, inl, inr, fold, IfSome, IsSome, Result, Ok, Err}
 use Rattle.std.specs.declared.option.Option.{Option}
 use Rattle.std.specs.declared.option.Option.TheVariants.{None, Some}
 use Rattle.std.proofs.lemmas.Bool.Decides.{eqb_tells}
@@ -9,12 +9,12 @@ use Rattle.tw_types.proofs.ValueOrder.{value_cmp_total}
 use Rattle.std.specs.FinMap as map
 use Rattle.std.specs.FinMap.{get, insert, remove, get-insert}
 use Rattle.tw_types.specs.Store.{Datum, drop_read_within, settled, is_unheld, members_of, subscribers_cleared}
-use Rattle.tw_types.specs.StoreCalls.{with_member}
+use Rattle.tw_types.specs.StoreCalls.{with_member, members_in}
 use Rattle.tw_store.specs.declared.member.Member.{Member}
 use Rattle.tw_store.specs.declared.slot.Slot.{Slot}
-use Rattle.tw_datum.specs.Kept.{with_kept_member}
+use Rattle.tw_datum.specs.Kept.{with_kept_member, IsMemberAdded}
 use Rattle.tw_store.specs.Placed.{PlacedDatum, PlacedMembers, id_of}
-use Rattle.tw_store.specs.Slots.{Slots, live_of, places_of, datum_in, place_in, AreApart, IsAt, AllAt, AreSeated, Stood, Remains, IsChanged, IsChangedAt, IsSettled}
+use Rattle.tw_store.specs.Slots.{Slots, live_of, places_of, datum_in, place_in, AreApart, IsAt, AllAt, AreSeated, Stood, Remains, IsChanged, IsChangedAt, IsInsertedAt, IsSettled}
 use Rattle.tw_store.proofs.Shown.{map_of, get_shown, get_nowhere, search_slots, same_slot, no_slot, shown_put, shown_gone, apart_put, set_there, set_others, seat_of, IsSeat}
 use Rattle.tw_types.proofs.Settled.{changed_is, same, settled_gone, settled_held}
 use Rattle.tw_store.proofs.Live.{after_is}
@@ -331,3 +331,13 @@ pub joined_at : (slots : Slots) (p : ℕ) (x : Slot) (d : PlacedDatum) (k : Subs
 joined_at slots p x d k m at is placed next e seated there =
     subst (λ (y : Slot). IsChanged next y.id (with_member k m.id) slots (set slots p (Some (record { id = x.id; datum = d })))) (same_slot x e (sym at ∙ there))
     (joined_changed slots next p x seated at d k m (with_member k m.id) (ap (λ (y : PlacedDatum). y.members) is) (ap (λ (y : PlacedDatum). y.datum) is) placed)
+
+-- a member came to the datum at a place, was there, or was refused
+pub inserted_at : {E : Type 0} (r : Result Bool E) (slots : Slots) (p : ℕ) (x : Slot) (d : PlacedDatum) (k : Subscript) (m : Member) → get_or slots p None ≡ Some x → IsMemberAdded id_of r k m x.datum d → get (places_of slots) m.id ≡ Some m.place
+    → IsInsertedAt p k m.id r slots (set slots p (Some (record { id = x.id; datum = d })))
+inserted_at (Ok true) slots p x d k m at h placed =
+    (λ e there. subst (λ (y : Slot). get (members_in y.datum.datum.content) k ≡ None) (same_slot x e (sym at ∙ there)) h.0, joined_at slots p x d k m at h.1 placed)
+inserted_at (Ok false) slots p x d k m at h placed =
+    (λ e there. subst (λ (y : Slot). IsSome (get (members_in y.datum.datum.content) k)) (same_slot x e (sym at ∙ there)) h.0, ap (λ (y : PlacedDatum). set slots p (Some (record { id = x.id; datum = y }))) h.1 ∙ set_same slots p x at)
+inserted_at (Err why) slots p x d k m at h placed =
+    (λ e there. subst (λ (y : Slot). get (members_in y.datum.datum.content) k ≡ None) (same_slot x e (sym at ∙ there)) h.0, ap (λ (y : PlacedDatum). set slots p (Some (record { id = x.id; datum = y }))) h.1 ∙ set_same slots p x at)

@@ -1,9 +1,9 @@
 -- Slots of data, each with its id, seen as two maps: from each id to its datum, and to its place.
-use Rattle.std.specs.Prelude.{◌≡◌, ◌<◌, ℕ, suc, List, [], ◌∷◌, Option, Some, None, slice_index_or}
+use Rattle.std.specs.Prelude.{◌≡◌, ◌<◌, ℕ, suc, List, [], ◌∷◌, Option, Some, None, IsSome, Result, Ok, Err, Bool, true, false, slice_index_or}
 use Rattle.std.specs.Ordering.{nat_cmp}
 use Rattle.std.specs.FinMap.{FinMap, from_entries, get}
 use Rattle.tw_types.specs.Store.{Data, Datum, Store}
-use Rattle.tw_types.specs.StoreCalls.{changed, store_after}
+use Rattle.tw_types.specs.StoreCalls.{changed, store_after, members_in, with_member}
 use Rattle.tw_types.specs.ValueOrder.{Subscript}
 use Rattle.tw_store.specs.declared.member.Member.{Member}
 use Rattle.tw_store.specs.declared.slot.Slot.{Slot}
@@ -88,6 +88,19 @@ pub record IsChanged (next id : ℕ) (f : Datum → Datum) (old new : Slots) : T
 -- the datum at the place, if there is one
 abbrev pub IsChangedAt : ℕ → (Datum → Datum) → Slots → Slots → Type 0
 IsChangedAt place f old new = (next : ℕ) (e : Slot) → AreSeated old next → slot_at old place ≡ Some e → IsChanged next e.id f old new
+
+-- the datum at the place has no member at the subscript, or has one
+abbrev pub HasNoneAt : ℕ → Subscript → Slots → Type 0
+HasNoneAt place k slots = (e : Slot) → slot_at slots place ≡ Some e → get (members_in e.datum.datum.content) k ≡ None
+
+abbrev pub HasOneAt : ℕ → Subscript → Slots → Type 0
+HasOneAt place k slots = (e : Slot) → slot_at slots place ≡ Some e → IsSome (get (members_in e.datum.datum.content) k)
+
+-- the member came under the subscript; or all stays, since there is one or memory is refused
+abbrev pub IsInsertedAt : {E : Type 0} → ℕ → Subscript → ℕ → Result Bool E → Slots → Slots → Type 0
+IsInsertedAt place k id (Ok true) old new = HasNoneAt place k old × IsChangedAt place (with_member k id) old new
+IsInsertedAt place k id (Ok false) old new = HasOneAt place k old × (new ≡ old)
+IsInsertedAt place k id (Err e) old new = HasNoneAt place k old × (new ≡ old)
 
 -- the datum of the id is what f makes of it, and may be freed by that; what is left stays where it is
 pub record IsSettled (id : ℕ) (f : Datum → Datum) (old new : Slots) : Type 0 where

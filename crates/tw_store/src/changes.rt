@@ -7,7 +7,7 @@ ghost use Rattle.tw_types.specs.StoreCalls.{set_to, one_read_more, one_write_mor
 ghost use Rattle.tw_types.specs.Value.{IsProper, scalar_of};
 ghost use Rattle.tw_types.specs.ValueOrder.{named};
 ghost use Rattle.tw_store.specs.Parts.{data_room_of};
-ghost use Rattle.tw_store.specs.Slots.{slot_at, places_of, AreSeated, IsChanged, IsChangedAt, IsSettled};
+ghost use Rattle.tw_store.specs.Slots.{slot_at, places_of, AreSeated, IsChanged, IsChangedAt, IsInsertedAt, IsSettled};
 
 use crate::freeing::settle;
 use crate::member::Member;
@@ -47,27 +47,25 @@ pub fn drop_write_at(slab: &mut Slab<Slot>, place: usize)
     settle(slab, place);
 }
 
-/// Puts a member into the container at a place, under a copy of the subscript.
+/// Puts a member into the container at a place, under a copy of the subscript, if that is not there. Answers whether it was not.
 pub fn insert_at(
     slab: &mut Slab<Slot>,
     alloc: Global,
     place: usize,
     subscript: ValueRef<'_>,
     member: Member,
-) -> Result<(), AllocError>
+) -> Result<bool, AllocError>
     requires there { IsSome (slot_at slab.old.slots place) }
     requires container { IfSome (slot_at slab.old.slots place) (λ e. is_container_by (scalar_of (named subscript)) e.datum.datum.ty ≡ true) }
     requires proper { IsProper (named subscript) }
     requires member { get (places_of slab.old.slots) member.id ≡ Some member.place }
-    ensures inserted { OnOk result (IsChangedAt place (with_member (named subscript.entry) member.id) slab.old.slots slab.new.slots) }
-    ensures refused { OnErr result (slab.new.slots ≡ slab.old.slots) }
+    ensures inserted { IsInsertedAt place (named subscript.entry) member.id result slab.old.slots slab.new.slots }
     ensures room { data_room_of slab.old ≤ data_room_of slab.new }
 {
-    let own = subscript.try_to_value(alloc)?;
     let Some(slot) = slab.get_mut(place) else {
         unreachable!();
     };
-    slot.datum.add_member(own, member)
+    slot.datum.add_absent(subscript, member)
 }
 
 /// Adds a read.
