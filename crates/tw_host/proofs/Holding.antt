@@ -1,26 +1,36 @@
 -- What turns under one hold of the lock say to a seat.
 use Rattle.std.proofs.Common.{◌≡◌, ◌+◌, ◌*◌, ◌<◌, ◌≤◌, ℕ, zero, suc, Bool, true, false, not, refl, sym, ap, subst, ◌∙◌, arith, List, [], ◌∷◌, ◌++◌, append_assoc, length, length-append, slice_get, Option, Some, None, Result, Ok, Err, drop, ◌⊎◌, inl, inr}
-use Rattle.std.specs.Prelude.{is_some}
+use Rattle.std.specs.Prelude.{IsSomeAnd, is_some}
 use Rattle.std.proofs.lemmas.List.{drop_at}
 use Rattle.std.proofs.lemmas.List.Elements.{filter-append}
 use Rattle.std.proofs.lemmas.Option.{same_Some}
 use Rattle.tw_types.specs.declared.actor.Actor.{Actor}
 use Rattle.tw_types.specs.declared.event.Event.{Event}
 use Rattle.tw_types.specs.Outcome.{Went, NotEnabled}
+use Rattle.tw_types.specs.declared.data_type.Scalar.{Scalar}
+use Rattle.tw_code.specs.declared.instr.Instr.{Instr}
 use Rattle.tw_code.specs.declared.instr.Instr.TheVariants as instr
+use Rattle.tw_code.specs.accepting.Flow.{flows}
 use Rattle.tw_code.specs.declared.procedure.Procedure.{Procedure}
 use Rattle.tw_code.specs.machine.History.{actor_of}
 use Rattle.tw_code.specs.machine.Machine.{local_of, local_steps}
 use Rattle.tw_code.specs.machine.Position.{Position}
+use Rattle.tw_budget.proofs.FrameLaws.{below_budget}
+use Rattle.tw_code.specs.accepting.Walk.{IsBudget}
+use Rattle.tw_code.specs.format.Program.{IsProgram}
+use Rattle.tw_no_trap.specs.NoTrap.{AreRight}
+use Rattle.tw_no_trap.specs.Standing.{Accepts, Stands}
+use Rattle.tw_no_trap.proofs.Safe.{accepts}
+use Rattle.tw_frame.specs.Banks.{HasText}
 use Rattle.tw_frame.specs.Jobs.{DoneView, IsDone, JobView}
 use Rattle.tw_frame.specs.Ready.{IsStop, StopsAt}
-use Rattle.tw_verify.specs.Typed.{TypedProgram}
+use Rattle.tw_verify.specs.Typed.{TypedProgram, typings_of}
 use Rattle.tw_pool.specs.declared.answer.Turn.{Turn}
 use Rattle.tw_pool.specs.declared.answer.Turn.TheVariants as turn
 use Rattle.tw_pool.specs.Actors.{events_of, same_actor}
 use Rattle.tw_pool.specs.PoolView.{PoolView, with_events}
 use Rattle.tw_pool.specs.Turns.{IsTurn}
-use Rattle.tw_host.specs.Holds.{AreTold, AreTurns, HandsOn, SomeTurns, TellsUpTo, Waits}
+use Rattle.tw_host.specs.Holds.{AreTold, AreTurns, HandsOn, IsBrief, RunsHere, SomeTurns, TellsUpTo, Waits, few_steps}
 use Rattle.tw_host.specs.Run.{Run, run_of}
 use Rattle.tw_host.specs.Tells.{IsAnswerOf, IsDoneOf, SomeTurn, Tells, TurnsOrNot}
 use Rattle.tw_host.specs.declared.locked.Strange.{Strange}
@@ -53,6 +63,39 @@ pub waits_still : (job : JobView) (done : DoneView) → Waits job → done.befor
 waits_still job done waits is d =
     let there = subst (λ (j : JobView). Waits j) (sym is) waits in
     still done.before.program.program done.before.procedure done.before.position done.after done.steps done.short there.0 there.1 there.2 d
+
+-- ---- a job whose task is brief
+
+pub is_brief : (job : JobView) (v : TypedProgram) → v ≡ job.program → (number : ℕ) → number ≡ job.procedure → (p : Procedure) → slice_get v.program number ≡ Some p
+    → (budget : ℕ) → IsSomeAnd (slice_get v.program number) (λ (q : Procedure). IsBudget (flows q.code) budget) → budget ≤ few_steps
+    → IsProgram v.program → AreRight v.program (typings_of v) → (HasText p.registers → ⊥) → IsBrief job
+is_brief job v of_job number same p there budget is_budget few is right plain = record {
+  p = p;
+  here = subst (λ (t : TypedProgram). slice_get t.program job.procedure ≡ Some p) of_job (subst (λ (n : ℕ). slice_get v.program n ≡ Some p) same there);
+  typings = typings_of v number;
+  accepts = subst (λ (t : TypedProgram). Accepts t.program (typings_of v number) p) of_job (accepts v.program (typings_of v) is right number p there);
+  budget = budget;
+  is_budget = subst (λ (o : Option Procedure). IsSomeAnd o (λ (q : Procedure). IsBudget (flows q.code) budget)) there is_budget;
+  few = few;
+  plain = plain;
+}
+
+no_text : (code : List Instr) (types : List Scalar) (place : ℕ) → (HasText types → ⊥) → (short : Bool) → StopsAt short code types place → short ≡ false
+no_text code types place plain false stops = refl
+no_text code types place plain true stops = absurd (plain stops.texts)
+
+brief_job : (job : JobView) (b : IsBrief job) (after : Position) (steps : ℕ) (short : Bool) → IsDone job.program.program job.procedure job.position after steps short → (steps ≤ few_steps) × (short ≡ false)
+brief_job job b after steps short d =
+    let same : d.p ≡ b.p = same_Some d.p b.p (sym d.here ∙ b.here) in
+    let stands : Stands b.p steps after = subst (λ (q : Procedure). Stands q steps after) same d.reached.stands in
+    let stops : StopsAt short b.p.code b.p.registers after.place = subst (λ (q : Procedure). StopsAt short q.code q.registers after.place) same d.stops in
+    let below = below_budget (flows b.p.code) b.accepts.sound b.budget steps after.place after.loops (stands.within b.budget b.is_budget) in
+    (omega (arith, below, b.few), no_text b.p.code b.p.registers after.place b.plain short stops)
+
+pub few_here : (job : JobView) (done : DoneView) → RunsHere job → done.before ≡ job → IsDone done.before.program.program done.before.procedure done.before.position done.after done.steps done.short
+    → (done.steps ≤ few_steps) × (done.short ≡ false)
+few_here job done (inl waits) is d = let none = waits_still job done waits is d in (omega (arith, none.0), none.1)
+few_here job done (inr brief) is d = brief_job done.before (subst (λ (j : JobView). IsBrief j) (sym is) brief) done.after done.steps done.short d
 
 pub none_there : {A : Type 0} (o : Option A) (b : Bool) → b ≡ is_some o → not b ≡ true → o ≡ None
 none_there None b is holds = refl

@@ -3,6 +3,11 @@ use Rattle.std.specs.Prelude.{◌≡◌, ◌<◌, ◌≤◌, ◌*◌, ◌⊎◌,
 use Rattle.tw_types.specs.declared.actor.Actor.{Actor}
 use Rattle.tw_types.specs.declared.event.Event.{Event}
 use Rattle.tw_code.specs.declared.procedure.Procedure.{Procedure}
+use Rattle.tw_code.specs.accepting.Flow.{flows}
+use Rattle.tw_code.specs.accepting.Walk.{IsBudget}
+use Rattle.tw_code.specs.machine.Rights.{Typing}
+use Rattle.tw_no_trap.specs.Standing.{Accepts}
+use Rattle.tw_frame.specs.Banks.{HasText}
 use Rattle.tw_frame.specs.Jobs.{DoneView, JobView}
 use Rattle.tw_frame.specs.Ready.{IsStop}
 use Rattle.tw_pool.specs.declared.answer.Turn.{Turn}
@@ -22,14 +27,34 @@ most_turns = 64
 abbrev pub Waits : JobView → Type 0
 Waits job = (p : Procedure) × (slice_get job.program.program job.procedure ≡ Some p) × IsStop p.code job.position.place
 
+-- how many instructions a task may do at most whose jobs are run under the lock
+abbrev pub few_steps : ℕ
+few_steps = 256
+
+-- a job of an accepted procedure whose tasks do at most so many instructions, and without text registers, so that no step takes memory
+pub record IsBrief (job : JobView) : Type 0 where
+  pub p : Procedure
+  pub here : slice_get job.program.program job.procedure ≡ Some p
+  pub typings : List Typing
+  pub accepts : Accepts job.program.program typings p
+  pub budget : ℕ
+  pub is_budget : IsBudget (flows p.code) budget
+  pub few : budget ≤ few_steps
+  pub plain : HasText p.registers → ⊥
+
+-- a job that is run under the lock
+abbrev pub RunsHere : JobView → Type 0
+RunsHere job = Waits job ⊎ IsBrief job
+
 -- What the same hold hands in behind an answer: nothing behind an event that lends no job, and behind the end of a task; of a job whose
--- next instruction isn't local its Done, which has no steps. Behind any other answer it hands in nothing more
+-- next instruction isn't local, or whose task is brief, its Done, which has few steps and isn't short. Behind any other answer it hands in
+-- nothing more
 abbrev pub HandsOn : Turn → Option DoneView → Type 0
 HandsOn (turn.Over closing) next = ⊥
 HandsOn (turn.Foreign done) next = ⊥
 HandsOn turn.Owed next = ⊥
 HandsOn (turn.NoMemory given) next = ⊥
-HandsOn (turn.Run job) next = Waits job × ((done : DoneView) × (next ≡ Some done) × (done.before ≡ job) × (done.steps ≡ 0) × (done.short ≡ false))
+HandsOn (turn.Run job) next = RunsHere job × ((done : DoneView) × (next ≡ Some done) × (done.before ≡ job) × (done.steps ≤ few_steps) × (done.short ≡ false))
 HandsOn turn.Ended next = next ≡ None
 HandsOn turn.Went next = next ≡ None
 HandsOn turn.Idle next = ⊥

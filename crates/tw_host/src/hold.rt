@@ -1,20 +1,27 @@
 //! Several turns under one hold of the lock.
 
-ghost use Rattle.std.specs.Prelude.{◌≡◌, ◌<◌, IfErr, IfOk, List, true, false, length};
+ghost use Rattle.std.specs.Prelude.{◌≡◌, ◌<◌, ◌≤◌, IfErr, IfOk, List, true, false, length};
 ghost use Rattle.tw_types.specs.Actor.{is_in};
+ghost use Rattle.tw_frame.specs.Banks.{HasText};
 ghost use Rattle.tw_frame.specs.Ready.{IsStop};
 ghost use Rattle.tw_pool.specs.declared.answer.Turn.{Turn as ATurn};
-ghost use Rattle.tw_host.specs.Holds.{AreTurns, HandsOn, Waits};
+ghost use Rattle.tw_host.specs.Holds.{AreTurns, HandsOn, IsBrief, RunsHere, Waits};
 ghost use Rattle.tw_host.specs.Tells.{IsDoneOf};
 
 use std::alloc::Global;
 use tw_code::Instr;
 use tw_frame::{Done, Job};
 use tw_pool::{Pool, Turn};
-use tw_types::Actor;
+use tw_types::{Actor, Scalar};
 
 /// How many turns of one seat are made under one hold of the lock at most.
 pub(crate) const MOST_TURNS: usize = 64;
+
+/// From so many turns on a hold ends where a task has ended, so that a job is seldom left to be run outside.
+const ENOUGH_TURNS: usize = 56;
+
+/// The greatest budget of a procedure whose jobs are run under the lock.
+const FEW_STEPS: u64 = 256;
 
 /// Whether an instruction that isn't local stands at a place.
 fn stops_at(code: &[Instr], place: usize) -> bool
@@ -38,15 +45,58 @@ fn waits(job: &Job<'_>) -> bool
     }
 }
 
-/// The Done of a job whose next instruction isn't local.
+/// Returns whether no register is a text.
+fn has_no_text(types: &[Scalar]) -> bool
+    ensures { result ≡ true → HasText types.now → ⊥ }
+{
+    for index in 0..types.len() {
+        if types[index] == Scalar::Text {
+            return false;
+        }
+    }
+    true
+}
+
+/// Returns whether a job's task does few instructions and needs no memory for them.
+fn is_brief(job: &Job<'_>) -> bool
+    ensures { result ≡ true → IsBrief job.now }
+{
+    let lent = job.lent();
+    let verified = lent.program();
+    let number = usize::from(lent.procedure());
+    match verified.program().procedures().get(number) {
+        Some(procedure) => {
+            verified.budget(number) <= FEW_STEPS && has_no_text(procedure.registers.as_slice())
+        }
+        None => false,
+    }
+}
+
+/// Returns whether a job is run under the lock.
+fn runs_here(job: &Job<'_>) -> bool
+    ensures { result ≡ true → RunsHere job.now }
+{
+    waits(job) || is_brief(job)
+}
+
+/// Runs a job under the lock, and returns its Done.
 fn done_at_once<'a>(alloc: Global, job: Job<'a>) -> Done<'a>
-    requires { Waits job }
+    requires { RunsHere job }
     ensures before { result.before ≡ job.entry }
-    ensures none { (result.steps ≡ 0) × (result.short ≡ false) }
+    ensures few { result.steps ≤ 256 }
+    ensures never_short { result.short ≡ false }
 {
     let done = job.run(alloc);
     let _steps = done.steps();
     done
+}
+
+/// Returns whether a task has ended.
+fn has_ended(answer: &Turn<'_>) -> bool {
+    match answer {
+        Turn::Ended => true,
+        _ => false,
+    }
 }
 
 /// What is handed in with the next turn under the same hold; or the answer, behind which the hold ends.
@@ -57,7 +107,7 @@ fn handed_on<'a>(alloc: Global, answer: Turn<'a>) -> Result<Option<Done<'a>>, Tu
     match answer {
         Turn::Ended | Turn::Went => Ok(None),
         Turn::Run(job) => {
-            if waits(&job) {
+            if runs_here(&job) {
                 Ok(Some(done_at_once(alloc, job)))
             } else {
                 Err(Turn::Run(job))
@@ -67,7 +117,7 @@ fn handed_on<'a>(alloc: Global, answer: Turn<'a>) -> Result<Option<Done<'a>>, Tu
     }
 }
 
-/// Turns of an actor, one behind another, so many at most, as long as nothing is to be done outside of the lock between two of them.
+/// Takes turns of an actor, at most `most`, as long as little or nothing is to be run between two of them.
 pub(crate) fn turns<'a>(
     pool: &mut Pool<'a>,
     alloc: Global,
@@ -81,8 +131,11 @@ pub(crate) fn turns<'a>(
     ensures { (before : List ATurn) × (length before < most) × AreTurns pool.old actor given.entry before result pool.new }
 {
     let mut given = given;
-    for _made in 1..most {
+    for made in 1..most {
         let answer = pool.turn(alloc, actor, given.take());
+        if made >= ENOUGH_TURNS && has_ended(&answer) {
+            return answer;
+        }
         match handed_on(alloc, answer) {
             Ok(next) => given = next,
             Err(answer) => return answer,

@@ -23,7 +23,7 @@ use tw_types::{Input, Layout};
 use tw_verify::Verified;
 
 /// How often the lock is asked for before the thread sleeps for it.
-const TRIES: u32 = 64;
+const TRIES: u32 = 256;
 
 /// Takes a lock that is held for a short time each time: spins and yields first, so that who holds it needs wake nobody.
 fn locked_soon<'b, T, R: Wait>(lock: &'b Mutex<T>, rt: &R) -> MutexGuard<'b, T> {
@@ -160,8 +160,9 @@ impl<'a, N: Named> Host<'a, N> {
     }
 
     /// Turns of the seat's actor, one behind another, under one hold of the lock: as long as a turn answers Went or Ended, or lends a
-    /// job whose next instruction isn't local, and at most 64. The seat is told the events that they append. Where memory for these
-    /// is refused the pool isn't touched. Where the seat's list isn't the pool's nothing is changed either.
+    /// job whose next instruction isn't local or whose task is brief, which is run at once; and at most 64. The seat is told the events
+    /// that they append. Where memory for these is refused the pool isn't touched. Where the seat's list isn't the pool's nothing is
+    /// changed either.
     #[inline(always)]
     pub fn turns(
         &self,

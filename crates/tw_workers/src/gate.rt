@@ -24,8 +24,8 @@ pub trait Gate {
     /// Nothing is lost where it doesn't see each job.
     ghost unwatched: { Type 0 } = { ⊥ };
 
-    /// Whether it is to see each job. Where it isn't, a job whose next instruction isn't local is handed in under the lock that lent it, and
-    /// the gate isn't called for it.
+    /// Whether it is to see each job. Where it isn't, a job whose next instruction isn't local, or whose task is brief, is run and handed in
+    /// under the lock that lent it, and the gate isn't called for it.
     fn watches(&self) -> bool
         ensures { result ≡ false → unwatched }
     {

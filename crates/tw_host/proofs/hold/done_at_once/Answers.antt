@@ -1,5 +1,8 @@
-use Rattle.tw_host.proofs.Holding.{waits_still}
+use Rattle.tw_host.proofs.Holding.{few_here}
 use Rattle.tw_host.proofs.hold.done_at_once.Goals as goal
 
-pub returns-clause-none : goal.returns-clause-none
-returns-clause-none c = waits_still c.args.job c.run-done.result c.requires c.run-done.ensures c.steps-steps.ensures.done
+pub returns-clause-few : goal.returns-clause-few
+returns-clause-few c = (few_here c.args.job c.run-done.result c.requires c.run-done.ensures c.steps-steps.ensures.done).0
+
+pub returns-clause-never_short : goal.returns-clause-never_short
+returns-clause-never_short c = (few_here c.args.job c.run-done.result c.requires c.run-done.ensures c.steps-steps.ensures.done).1

@@ -40,6 +40,16 @@ returns-in-Err c =
     let back = subst (λ (answer : Turn). IsTurn p actor given answer q) (sym c.in-Err.ensures.back) t in
     holding.last c.args.pool.now actor c.args.given p given inv.so_far.0 inv.so_far.2 c.args.most c.in-Err.answer q back (omega (arith, inv.so_far.1, c.loop-made-test.true))
 
+pub returns-then-has_ended : goal.returns-then-has_ended
+returns-then-has_ended c =
+    let inv = c.loop-made.invariant in
+    let p = c.loop-made.pool in
+    let q = c.turn-answer.new.self in
+    let actor = c.args.actor in
+    let given = c.loop-made.given in
+    let t = subst (λ (o : Option DoneView). IsTurn p actor o c.turn-answer.result q) c.take.ensures.value c.turn-answer.ensures in
+    holding.last c.args.pool.now actor c.args.given p given inv.so_far.0 inv.so_far.2 c.args.most c.turn-answer.result q t (omega (arith, inv.so_far.1, c.loop-made-test.true))
+
 pub returns : goal.returns
 returns c =
     let inv = c.loop-made.invariant in

@@ -10,6 +10,6 @@ abbrev pub invariant-loop-made : goal.invariant-loop-made
 invariant-loop-made l = record {
   actor : is_in l.pool.layout l.actor ≡ true;
   program : IsDoneOf l.pool.program l.given;
-  so_far : (past : List Turn) × (length past + 1 ≡ l._made)
+  so_far : (past : List Turn) × (length past + 1 ≡ l.made)
       × ((rest : List Turn) (answer : Turn) (new : PoolView) → AreTurns l.pool l.actor l.given rest answer new → AreTurns l.fn.pool l.actor l.fn.given (past ++ rest) answer new);
 }
