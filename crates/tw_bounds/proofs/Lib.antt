@@ -11,3 +11,4 @@ pub mod Capping
 pub mod Tables
 pub mod Partial
 pub mod Accepting
+pub mod Circling

@@ -2,6 +2,7 @@
 #![tactic(auto)]
 
 mod bound;
+mod circles;
 mod laws;
 mod row;
 mod solving;
@@ -11,6 +12,7 @@ mod weights;
 mod whole_runs;
 
 pub use bound::{Bound, RunBounds};
+pub use circles::{Circle, circle_of_calls};
 pub use laws::{budgets_are_costs, within_bound};
 pub use weights::Weights;
 pub use whole_runs::run_bounds;
