@@ -8,13 +8,12 @@ ghost use Rattle.tw_asm.specs.declared.statement.First.TheVariants as expected;
 ghost use Rattle.tw_asm.specs.reading.Progress.{LabelAdded, TakenStatement, WithDraft, WithLabel, seen_draft, seen_label, seen_reading, seen_section, seen_stage, stage_of};
 
 use crate::fault::{AsmFault, FaultNo};
-use crate::reading::{Reading, Section, Stage, UnlinkedLine};
+use crate::reading::{Labels, Reading, Section, Stage, UnlinkedLine};
 use crate::statement::Unlinked;
-use indexmap::IndexMap;
 use tw_code::Procedure;
 
 fn add_label<'a>(
-    labels: &mut IndexMap<&'a [u8], usize>,
+    labels: &mut Labels<'a>,
     name: &'a [u8],
     place: usize,
     number: usize,

@@ -6,15 +6,14 @@ ghost use Rattle.tw_asm.specs.reading.Goals.{AreLinkedCode, AreLinkedProcedures,
 ghost use Rattle.tw_asm.specs.reading.Progress.{IsMemory, seen_draft, seen_label, seen_section};
 
 use crate::fault::{AsmFault, FaultNo};
-use crate::reading::{Section, UnlinkedLine};
+use crate::reading::{Labels, Section, UnlinkedLine};
 use crate::skip::with_skip;
-use indexmap::IndexMap;
 use std::alloc::Global;
 use tw_code::{Instr, Procedure};
 use tw_types::Items;
 
 /// The skip from the instruction at a place to a label.
-fn skip_to(labels: &IndexMap<&[u8], usize>, place: usize, name: &[u8]) -> Result<u16, FaultNo>
+fn skip_to(labels: &Labels<'_>, place: usize, name: &[u8]) -> Result<u16, FaultNo>
     requires { AreWithin (map seen_label labels.now.entries) }
     ensures { IsSkipTo (map seen_label labels.now.entries) place name.now result }
 {
@@ -30,11 +29,7 @@ fn skip_to(labels: &IndexMap<&[u8], usize>, place: usize, name: &[u8]) -> Result
     }
 }
 
-fn link_instr(
-    labels: &IndexMap<&[u8], usize>,
-    place: usize,
-    line: UnlinkedLine<'_>,
-) -> Result<Instr, AsmFault>
+fn link_instr(labels: &Labels<'_>, place: usize, line: UnlinkedLine<'_>) -> Result<Instr, AsmFault>
     requires { AreWithin (map seen_label labels.now.entries) }
     ensures { IsLinkedInstr (map seen_label labels.now.entries) place (seen_draft line.entry) result }
 {
@@ -50,7 +45,7 @@ fn link_instr(
 
 fn link_code(
     alloc: Global,
-    labels: &IndexMap<&[u8], usize>,
+    labels: &Labels<'_>,
     drafts: Vec<UnlinkedLine<'_>>,
 ) -> Result<Vec<Instr>, AsmFault>
     requires { AreWithin (map seen_label labels.now.entries) }

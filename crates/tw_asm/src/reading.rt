@@ -20,7 +20,10 @@ use indexmap::IndexMap;
 use std::alloc::Global;
 use tw_code::{Program, Version};
 use tw_types::{Items, Kind, Param, Scalar};
-use tw_words::{Flaw, Word, words_of};
+use tw_words::{Flaw, TextHash, Word, words_of};
+
+/// The labels of a procedure, and their places.
+pub type Labels<'a> = IndexMap<&'a [u8], usize, TextHash>;
 
 /// An instruction whose goal isn't looked for yet, and the number of its line.
 #[derive(Drop)]
@@ -35,7 +38,7 @@ pub struct Section<'a> {
     pub kind: Kind,
     pub params: Items<Param>,
     pub registers: Items<Scalar>,
-    pub labels: IndexMap<&'a [u8], usize>,
+    pub labels: Labels<'a>,
     pub drafts: Vec<UnlinkedLine<'a>>,
 }
 
@@ -54,6 +57,8 @@ pub enum Stage<'a> {
 /// What the lines so far have said.
 #[derive(Drop)]
 pub struct Reading<'a> {
+    /// How the text's labels are hashed.
+    pub hash: TextHash,
     pub version: Version,
     /// The procedures that have ended.
     pub sections: Vec<Section<'a>>,
@@ -182,6 +187,7 @@ fn take_head<'a>(
     ensures { MayBegin (stage_of (seen_stage reading.entry.stage)) expected.Head → TakenStatement (seen_reading reading.entry) number (record { statement = Head kind params; goal = None }) result }
 {
     let Reading {
+        hash,
         version,
         sections,
         head_line,
@@ -192,6 +198,7 @@ fn take_head<'a>(
         return Err(AsmFault::new(FaultNo::Limit, number));
     }
     Ok(Reading {
+        hash,
         version,
         sections,
         head_line: number,
@@ -208,6 +215,7 @@ fn take_registers<'a>(
     ensures { MayBegin (stage_of (seen_stage reading.entry.stage)) expected.Registers → TakenStatement (seen_reading reading.entry) number (record { statement = Registers registers; goal = None }) result }
 {
     let Reading {
+        hash,
         version,
         sections,
         head_line,
@@ -220,10 +228,11 @@ fn take_registers<'a>(
         kind,
         params,
         registers,
-        labels: IndexMap::new(alloc),
+        labels: IndexMap::with_hasher(alloc, hash),
         drafts: Vec::new(alloc),
     };
     Ok(Reading {
+        hash,
         version,
         sections,
         head_line,
@@ -268,6 +277,7 @@ fn read_lines<'a>(alloc: Global, text: &'a str) -> Result<Reading<'a>, AsmFault>
     ensures { LinesAreRead text.now result }
 {
     let mut reading = Reading {
+        hash: TextHash::new(text),
         version: Version::One,
         sections: Vec::new(alloc),
         head_line: 0,

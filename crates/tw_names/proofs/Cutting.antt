@@ -1,7 +1,8 @@
 -- The pieces of a word, byte by byte.
 use Rattle.std.proofs.Common.{[], ◌≡◌, ℕ, suc, ◌+◌, ◌-◌, ◌<◌, ◌≤◌, Bool, true, false, cond, List, ◌∷◌, ◌++◌, length, get_or, take, drop, refl, sym, ap, ◌∙◌, arith}
 use Rattle.std.proofs.Math.Seq.{drop-cons, take-suc}
-use Rattle.tw_names.proofs.TextNames.{Bor, drop_all, get_or-drop, is_sign, length-drop, length-map, now, pieces, pieces_behind, some_piece, take-map, take_all, texts}
+use Rattle.tw_names.proofs.TextNames.{Bor, drop_all, get_or-drop, is_sign, length-drop, length-map, now, pieces_behind, some_piece, take-map, take_all, texts}
+use Rattle.std.proofs.lemmas.List.{drop-map}
 use Rattle.tw_names.specs.Answers.{pieces_left}
 
 at_byte : (front : List ℕ) (b : ℕ) (rest : List ℕ) (t : Bool) → is_sign b ≡ t → pieces_behind front (b ∷ rest) ≡ cond t (some_piece front ++ pieces_behind [] rest) (pieces_behind (front ++ b ∷ []) rest)
@@ -19,7 +20,7 @@ piece_more word start index low lt =
 next_place : (word : List ℕ) (index : ℕ) → drop (suc index) word ≡ drop (index + 1) word
 next_place word index = let e : suc index ≡ index + 1 = omega arith in ap (λ (n : ℕ). drop n word) e
 
-pub left_first : (word : List ℕ) → pieces_left word 0 0 ≡ pieces word
+pub left_first : (word : List ℕ) → pieces_left word 0 0 ≡ pieces_behind [] word
 unfolding pieces_left
 left_first word = refl
 
@@ -54,3 +55,15 @@ pub all_taken : (n : ℕ) (words : List (Bor (List ℕ))) → length words ≤ n
 all_taken n words low =
     let inside : length (texts words) ≤ n = omega (arith, low, length-map words now) in
     sym (take_all n (texts words) inside)
+
+-- ---- the words after the first
+
+pub left_after : (n : ℕ) (words : List (Bor (List ℕ))) → texts (take (length words - n) (drop n words)) ≡ drop n (texts words)
+left_after n words =
+    let all : length (drop n words) ≤ length words - n = omega (arith, length-drop n words) in
+    ap texts (take_all (length words - n) (drop n words) all) ∙ sym (drop-map now n words)
+
+pub none_after : (n : ℕ) (words : List (Bor (List ℕ))) → length words ≤ n → texts [] ≡ drop n (texts words)
+none_after n words low =
+    let inside : length (texts words) ≤ n = omega (arith, low, length-map words now) in
+    sym (drop_all n (texts words) inside)

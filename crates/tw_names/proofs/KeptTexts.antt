@@ -1,6 +1,6 @@
 -- What texts keep that are made of texts of a line: that no line feed is in them, and that they are in UTF-8.
 use Rattle.std.proofs.Common.{[], ◌≡◌, ◌==◌, ◌<◌, ◌≤◌, ◌+◌, ◌/◌, ◌%◌, ℕ, zero, suc, Bool, true, false, cond, List, ◌∷◌, ◌++◌, refl, sym, subst, append_assoc, arith}
-use Rattle.tw_names.proofs.TextNames.{AllByRecursion, IsUtf8, StandsFirst, append-nil, decimal, is_sign, nat_lt, pieces, pieces_behind, some_piece}
+use Rattle.tw_names.proofs.TextNames.{AllByRecursion, IsTail, IsUtf8, StandsFirst, append-nil, begins_quoted, decimal, is_sign, nat_lt, pieces, pieces_behind, some_piece}
 use Rattle.std.specs.Fmt.{digit_glyph, digits, digits_onto}
 use Rattle.std.proofs.lemmas.Bool.Decides.{nat_tests}
 use Rattle.std.proofs.lemmas.Str.{IsUtf8-append, IsUtf8-nil}
@@ -16,6 +16,7 @@ pub record IsKept (Q : List ℕ → Type 0) : Type 0 where
   pub byte : (b : ℕ) → 32 ≤ b → b < 128 → Q (b ∷ [])
   pub cut : (word : List ℕ) → Q word → AllByRecursion Q (pieces word)
   pub first : (word bytes rest : List ℕ) → StandsFirst word bytes rest → Q bytes → Q word × Q rest
+  pub tail : (tail bytes : List ℕ) → IsTail tail bytes → Q bytes → Q tail
 
 abbrev pub AllKept : (List ℕ → Type 0) → List (List ℕ) → Type 0
 AllKept Q texts = AllByRecursion Q texts
@@ -79,8 +80,14 @@ first_feeds word bytes rest (w, f, e) h =
     let here = feeds_rest f.gap (f.text ++ rest) (subst HasNoLineFeed f.parts h) in
     (subst HasNoLineFeed e (feeds_front f.text rest here), feeds_rest f.text rest here)
 
+cut_feeds : (word : List ℕ) → HasNoLineFeed word → AllKept HasNoLineFeed (pieces word)
+cut_feeds word h = either (AllKept HasNoLineFeed) (begins_quoted word) (some_piece word) (pieces_behind [] word) (some_feeds word h) (pieces_feeds [] word tt h)
+
+tail_feeds : (tail bytes : List ℕ) → IsTail tail bytes → HasNoLineFeed bytes → HasNoLineFeed tail
+tail_feeds tail bytes is h = feeds_rest is.gap tail (subst HasNoLineFeed is.parts h)
+
 pub feeds_kept : IsKept HasNoLineFeed
-feeds_kept = record { none = tt; both = feeds_both; byte = λ b low _. (no_feed b low, tt); cut = λ word h. pieces_feeds [] word tt h; first = first_feeds }
+feeds_kept = record { none = tt; both = feeds_both; byte = λ b low _. (no_feed b low, tt); cut = cut_feeds; first = first_feeds; tail = tail_feeds }
 
 -- ---- in UTF-8
 
@@ -113,5 +120,11 @@ first_utf8 : (word bytes rest : List ℕ) → StandsFirst word bytes rest → Is
 first_utf8 word bytes rest (w, f, e) u =
     (subst IsUtf8 e (before_edge f.text rest f.edge (behind_gap f.gap (f.text ++ rest) f.is_gap (subst IsUtf8 f.parts u))), rest_utf8 w bytes rest f u)
 
+cut_utf8 : (word : List ℕ) → IsUtf8 word → AllKept IsUtf8 (pieces word)
+cut_utf8 word u = either (AllKept IsUtf8) (begins_quoted word) (some_piece word) (pieces_behind [] word) (some_utf8 word u) (pieces_utf8 [] word u)
+
+tail_utf8 : (tail bytes : List ℕ) → IsTail tail bytes → IsUtf8 bytes → IsUtf8 tail
+tail_utf8 tail bytes is u = behind_gap is.gap tail is.is_gap (subst IsUtf8 is.parts u)
+
 pub utf8_kept : IsKept IsUtf8
-utf8_kept = record { none = IsUtf8-nil; both = IsUtf8-append; byte = λ b _ small. one_ascii b small; cut = λ word u. pieces_utf8 [] word u; first = first_utf8 }
+utf8_kept = record { none = IsUtf8-nil; both = IsUtf8-append; byte = λ b _ small. one_ascii b small; cut = cut_utf8; first = first_utf8; tail = tail_utf8 }

@@ -1,7 +1,9 @@
 pub mod Taking
 pub mod Once
 pub mod Tables
+pub mod ListedNames
 pub mod Walk
+pub mod SymbolLines
 pub mod Loops
 pub mod NamesLine
 pub mod FirstNamed
@@ -12,4 +14,8 @@ pub mod RegisterNames
 pub mod KeptTexts
 pub mod SaidTexts
 pub mod LineByLine
+pub mod NameSteps
+pub mod Apart
+pub mod Uses
+pub mod Renamed
 mod TextNames

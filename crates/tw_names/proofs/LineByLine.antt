@@ -1,21 +1,20 @@
 -- A text with names stands for as many lines as it has, and where it is in UTF-8 for a text in UTF-8.
 use Rattle.std.proofs.Common.{[], ◌≡◌, ◌==◌, ◌<◌, ◌-◌, ◌+◌, ℕ, suc, Bool, true, false, cond, List, ◌∷◌, ◌++◌, length, take, drop, get_or, Result, Ok, Err, inl, inr, refl, sym, ap, subst, ◌∙◌, append_assoc, append-nil, arith}
-use Rattle.tw_names.proofs.TextNames.{AllByRecursion, AreTaken, Broken, IsTaken, IsUtf8, Line, Names, Procedures, Refusal, Said, Says, StandFirst, Worded, at_number, ended, lines, lines_of_parts, lines_say, no_names, onto_first, procedures_of, slice_index, slice_split, strip_carriage_return, take-append-drop, taken_says}
+use Rattle.tw_names.proofs.TextNames.{AllByRecursion, AreTaken, Broken, IsTaken, IsUtf8, Line, Names, Procedures, Refusal, Said, Says, StandFirst, Worded, at_number, ended, line_rest, line_words, lines, lines_of_parts, lines_say, no_names, onto_first, procedures_of, slice_index, slice_split, strip_carriage_return, take-append-drop, taken_says}
 use Rattle.std.proofs.lemmas.Bool.{eqb-true}
 use Rattle.std.proofs.lemmas.List.Splits.{slice_split-cons_no}
 use Rattle.std.proofs.lemmas.Str.{IsCharBoundary-before_ascii, IsUtf8-append, IsUtf8-nil, IsUtf8-take}
 use Rattle.tw_words.proofs.Breaks.{HasNoLineFeed}
 use Rattle.tw_words.proofs.Utf8.{cut_front, cut_rest, one_ascii}
 use Rattle.tw_names.specs.Laws.{AsManyLines, InUtf8}
-use Rattle.tw_names.proofs.KeptTexts.{AllKept, IsKept, either, feeds_front, feeds_kept, utf8_kept}
+use Rattle.tw_names.proofs.KeptTexts.{AllKept, IsKept, all_kept, either, feeds_front, feeds_kept, utf8_kept}
 use Rattle.tw_names.proofs.SaidTexts.{line_kept, ok_is, went_then}
 use Rattle.tw_names.proofs.Walk.{taken_length}
 
 -- ---- line by line
 
 abbrev LineKept : (List ℕ → Type 0) → Line → Type 0
-LineKept Q (Worded words rest) = AllKept Q words × Q rest
-LineKept Q (Broken line) = Q line
+LineKept Q line = AllKept Q (line_words line) × Q (line_rest line)
 
 -- each with a line feed
 abbrev joined : List (List ℕ) → List ℕ
@@ -39,7 +38,9 @@ module _ (Q : List ℕ → Type 0) (kept : IsKept Q) where
 
   line_in : (t : Line) (bytes : List ℕ) → IsTaken t bytes → Q bytes → LineKept Q t
   line_in (Worded ws rest) bytes (are, _) h = words_in ws bytes rest are h
-  line_in (Broken line) bytes (e, _) h = subst Q e h
+  line_in (Broken ws tail) bytes (after, are, is) h =
+      let k = words_in ws bytes after are h in
+      (all_kept Q ws (tail ∷ []) k.0 (kept.tail tail after is k.1, tt), kept.none)
 
   lines_in : (all : List Line) (ls : List (List ℕ)) → AreTaken all ls → AllKept Q ls → AllByRecursion (LineKept Q) all
   lines_in [] [] are h = tt
@@ -49,18 +50,16 @@ module _ (Q : List ℕ → Type 0) (kept : IsKept Q) where
 
   ended_kept : (p : Procedures) (n : ℕ) (names : Names) (front : List ℕ) (t : Line) (said : Names × List ℕ) → AllKept Q names.types → LineKept Q t → taken_says p n names front t ≡ Ok said
       → (line : List ℕ) × (said.1 ≡ front ++ (line ++ 10 ∷ [])) × Q line × AllKept Q said.0.types
-  ended_kept p n names front (Worded ws rest) said h k e =
+  ended_kept p n names front t said h k e =
+      let rest = line_rest t in
       let went = went_then _ (λ (s : Names × List ℕ). Ok (s.0, s.1 ++ ended rest)) said e in
-      let one = line_kept Q kept p n names front ws h k.0 went.0 went.1 in
+      let one = line_kept Q kept p n names front (line_words t) h k.0 went.0 went.1 in
       let is = ok_is (went.0.0, went.0.1 ++ ended rest) said went.2 in (
         one.0 ++ rest,
         ap (λ (x : Names × List ℕ). x.1) (sym is) ∙ ap (λ (t : List ℕ). t ++ ended rest) one.1 ∙ append_assoc front one.0 (ended rest) ∙ ap (λ (t : List ℕ). front ++ t) (sym (append_assoc one.0 rest (10 ∷ []))),
         kept.both one.0 rest one.2 k.1,
         subst (λ (x : Names × List ℕ). AllKept Q x.0.types) is one.3,
       )
-  ended_kept p n names front (Broken line) said h k e =
-      let is = ok_is (names, front ++ ended line) said e in
-      (line, ap (λ (x : Names × List ℕ). x.1) (sym is), k, subst (λ (x : Names × List ℕ). AllKept Q x.0.types) is h)
 
   -- each line says one line
   lines_kept : (p : Procedures) (n : ℕ) (names : Names) (front : List ℕ) (all : List Line) (plain : List ℕ) → AllKept Q names.types → AllByRecursion (LineKept Q) all → lines_say p n names front all ≡ Ok plain

@@ -1,7 +1,9 @@
 -- What a line stands for keeps what its words keep.
 use Rattle.std.proofs.Common.{[], ◌≡◌, ◌<◌, ◌≤◌, ℕ, ℤ, pos, negsuc, zero, suc, cond, List, ◌∷◌, ◌++◌, length, take, drop, filter, Option, Some, None, Result, Ok, Err, refl, sym, ap, subst, ◌∙◌, append_assoc, append-nil, codes, decimal, is_some, slice_get, arith}
 use Rattle.tw_names.proofs.TextNames.{Flaw, Names, Procedures, and_then, flat_map, is_name, known, may_name, name_register, nat_lt, pieces, unwrap_or, with_constant, with_register}
+use Rattle.tw_names.specs.Meanings.{is_listed, with_listed}
 use Rattle.std.specs.Fmt.{signed_decimal}
+use Rattle.std.specs.Prelude.{not, ◌&&◌}
 use Rattle.std.specs.Result.{result_ok}
 use Rattle.std.specs.Str.{bytes_eq}
 use Rattle.tw_words.specs.Names.{before_colon}
@@ -9,15 +11,18 @@ use Rattle.tw_code.specs.format.Table.{opcode_in, forms_of}
 use Rattle.tw_words.specs.Digits.{signed_in}
 use Rattle.tw_code.specs.declared.opcode.Opcode.{Opcode}
 use Rattle.tw_code.specs.declared.version.Version.TheVariants.{Two}
-use Rattle.tw_names.specs.Saying.{Said, asked_by, assigned, at_head, banks_of, begins, begins_first, behind, body_says, constant_says, counted, fitting, head_says, instruction_says, is_names_line, is_unnamed, let_says, line_says, list_name, list_says, made, made_one, makes, name_before, name_says, named, number_in, only_names, parameters, procedure_name, register_of, registers_say, stands, value_types, with_word, word_says, words_say}
+use Rattle.tw_names.specs.Saying.{Said, asked_by, at_head, banks_of, begins, begins_first, behind, body_says, constant_says, counted, fitting, has_colon, head_says, instruction_says, is_listed_word, is_names_line, is_unnamed, let_says, line_says, number_of, list_name, list_says, made_one, made_say, made_word, makes, name_before, name_says, named, number_in, only_names, parameters, procedure_name, register_of, registers_say, stands, value_behind, value_types, with_word, word_says, words_say}
 use Rattle.tw_names.specs.declared.meaning.Asked.{Asked}
 use Rattle.tw_names.specs.declared.meaning.Asked.TheVariants as asked
 use Rattle.tw_names.specs.declared.meaning.Bank.{Bank}
 use Rattle.tw_names.specs.declared.meaning.Bank.TheVariants as bank
 use Rattle.tw_names.specs.declared.meaning.Listed.{Listed}
 use Rattle.tw_names.specs.declared.meaning.Listed.TheVariants as listed
+use Rattle.tw_names.specs.declared.meaning.Origin.{Origin}
+use Rattle.tw_names.specs.declared.meaning.Origin.TheVariants as origin
 use Rattle.tw_names.specs.declared.meaning.Thing.{Thing}
 use Rattle.tw_names.specs.declared.meaning.Thing.TheVariants as thing
+use Rattle.tw_names.specs.declared.refusal.NameNo.TheVariants as no
 use Rattle.tw_names.proofs.KeptTexts.{AllKept, IsKept, all_kept, either, number_kept}
 
 -- what went, and what went first
@@ -45,46 +50,39 @@ same_names names after e = ap (λ (n : Names). n.types) (sym (ok_is names after 
 none_named : (names : Names) (flaw : Flaw) → SameTypes names (Err flaw)
 none_named names flaw after e = not_ok flaw after e
 
-with_one : (names : Names) (r : Result (Unit {0}) Flaw) (next : Unit {0} → Result Names Flaw) → ((u : Unit {0}) → SameTypes names (next u)) → SameTypes names (and_then r next)
+with_one : {A : Type 0} (names : Names) (r : Result A Flaw) (next : A → Result Names Flaw) → ((a : A) → SameTypes names (next a)) → SameTypes names (and_then r next)
 with_one names r next each after e = let went = went_then r next after e in each went.0 after went.2
 
-register_types : (p : Procedures) (names : Names) (name : List ℕ) (b : Bank) (number : ℕ) → SameTypes names (with_register p names name b number)
-register_types p names name b number =
+register_types : (p : Procedures) (names : Names) (name : List ℕ) (b : Bank) (number : ℕ) (by : Origin) → SameTypes names (with_register p names name b number by)
+register_types p names name b number by =
     with_one names (may_name p names name) _
-    (λ _. either (SameTypes names) (nat_lt number 16) _ _ (λ after e. ap (λ (n : Names). n.types) (sym (ok_is (name_register names name b number) after e))) (λ after e. not_ok _ after e))
+    (λ _. either (SameTypes names) (nat_lt number 16) _ _ (λ after e. ap (λ (n : Names). n.types) (sym (ok_is (name_register names name b number by) after e))) (λ after e. not_ok _ after e))
+
+listed_types : (p : Procedures) (names : Names) (name : List ℕ) (b : Bank) (number : ℕ) → SameTypes names (with_listed p names name b number)
+listed_types p names name b number = either (SameTypes names) (is_listed b number names.registers) _ _ (none_named names _) (register_types p names name b number origin.Listed)
 
 constant_types : (p : Procedures) (names : Names) (name : List ℕ) (x : Thing) → SameTypes names (with_constant p names name x)
 constant_types p names name x = with_one names (may_name p names name) _ (λ _ after e. ap (λ (n : Names). n.types) (sym (ok_is _ after e)))
 
 const_types : (p : Procedures) (names : Names) (first : List ℕ) (words : List (List ℕ)) → SameTypes names (constant_says p names first words)
-const_types p names first words after h = by (assigned words) refl
-  where
-    is : (x : List ℕ × List ℕ) → assigned words ≡ Some x → (o : Option ℤ) → result_ok (signed_in x.1) ≡ o → after.types ≡ names.types
-    is x e None d = not_ok _ after (rw (e, d) at h)
-    is x e (Some number) d = constant_types p names x.0 (thing.Constant number) after (rw (e, d) at h)
-
-    by : (x : Option (List ℕ × List ℕ)) → assigned words ≡ x → after.types ≡ names.types
-    by None e = not_ok _ after (rw e at h)
-    by (Some x) e = is x e (result_ok (signed_in x.1)) refl
+const_types p names first [] = none_named names _
+const_types p names first (name ∷ words) =
+    with_one names (may_name p names name) _ (λ _. with_one names (value_behind number_of first words) _ (λ number. constant_types p names name (thing.Constant number)))
 
 let_types : (p : Procedures) (names : Names) (first : List ℕ) (words : List (List ℕ)) → SameTypes names (let_says p names first words)
-let_types p names first words after h = by (assigned words) refl
-  where
-    is : (x : List ℕ × List ℕ) → assigned words ≡ Some x → (o : Option (Bank × ℕ)) → register_of x.1 ≡ o → after.types ≡ names.types
-    is x e None d = not_ok _ after (rw (e, d) at h)
-    is x e (Some r) d = register_types p names x.0 r.0 r.1 after (rw (e, d) at h)
-
-    by : (x : Option (List ℕ × List ℕ)) → assigned words ≡ x → after.types ≡ names.types
-    by None e = not_ok _ after (rw e at h)
-    by (Some x) e = is x e (register_of x.1) refl
+let_types p names first [] = none_named names _
+let_types p names first (name ∷ words) =
+    with_one names (may_name p names name) _ (λ _. with_one names (value_behind register_of first words) _ (λ register. register_types p names name register.0 register.1 origin.Chosen))
 
 list_name_types : (p : Procedures) (names : Names) (values rights : ℕ) (word name : List ℕ) (b : Option Bank) → SameTypes names (list_name p names values rights word name b)
 list_name_types p names values rights word [] b = none_named names _
 list_name_types p names values rights word (c ∷ name) None = none_named names _
-list_name_types p names values rights word (c ∷ name) (Some b) = register_types p names (c ∷ name) b (number_in b values rights)
+list_name_types p names values rights word (c ∷ name) (Some b) = listed_types p names (c ∷ name) b (number_in b values rights)
 
 before_types : (p : Procedures) (l : Listed) (names : Names) (values rights : ℕ) (word : List ℕ) (words : List (List ℕ)) (name : Option (List ℕ)) → SameTypes names (name_before p l names values rights word words name)
-before_types p l names values rights word words None = either (SameTypes names) _ _ _ (none_named names _) (same_names names)
+before_types p l names values rights word words None =
+    either (SameTypes names) (is_name word && not (is_listed_word word)) _ _ (none_named names (record { no = no.Unknown; word = word }))
+    (either (SameTypes names) (has_colon word) _ _ (none_named names (record { no = no.Form; word = word })) (same_names names))
 before_types p l names values rights word words (Some name) = list_name_types p names values rights word name (begins_first l words)
 
 list_types : (p : Procedures) (l : Listed) (names : Names) (values rights : ℕ) (words : List (List ℕ)) → SameTypes names (list_says p l names values rights words)
@@ -95,13 +93,22 @@ list_types p l names values rights (word ∷ words) after e =
     ∙ before_types p l names values rights word words (before_colon word) went.0 went.1
 
 one_types : (p : Procedures) (names : Names) (word : List ℕ) → SameTypes names (made_one p names word)
-one_types p names word = either (SameTypes names) _ _ _ (register_types p names word bank.Right names.rights) (same_names names)
+one_types p names word = either (SameTypes names) _ _ _ (register_types p names word bank.Right names.rights origin.Listed) (same_names names)
 
-made_types : (p : Procedures) (names : Names) (words : List (List ℕ)) → SameTypes names (made p names words)
-made_types p names [] after e = same_names names after e
-made_types p names (word ∷ words) after e =
-    let went = went_then (made_one p names word) (λ (n : Names). made p n words) after e in
-    made_types p went.0 words after went.2 ∙ one_types p names word went.0 went.1
+-- what a word that is made comes to
+pub word_made : (p : Procedures) (names : Names) (front word : List ℕ) (said : Names × List ℕ) → made_word p names front word ≡ Ok said
+    → (made_one p names word ≡ Ok said.0) × (word_says p said.0 asked.Right front word ≡ Ok said.1)
+word_made p names front word said e =
+    let first = went_then (made_one p names word) (λ (n : Names). and_then (word_says p n asked.Right front word) (λ (text : List ℕ). Ok (n, text))) said e in
+    let next = went_then (word_says p first.0 asked.Right front word) (λ (text : List ℕ). Ok (first.0, text)) said first.2 in
+    let is = ok_is (first.0, next.0) said next.2 in
+    subst (λ (x : Names × List ℕ). (made_one p names word ≡ Ok x.0) × (word_says p x.0 asked.Right front word ≡ Ok x.1)) is (first.1, next.1)
+
+made_types : (p : Procedures) (names : Names) (front : List ℕ) (words : List (List ℕ)) (said : Names × List ℕ) → made_say p names front words ≡ Ok said → said.0.types ≡ names.types
+made_types p names front [] said e = ap (λ (x : Names × List ℕ). x.0.types) (sym (ok_is (names, front) said e))
+made_types p names front (word ∷ words) said e =
+    let went = went_then (made_word p names front word) (λ (s : Names × List ℕ). made_say p s.0 s.1 words) said e in
+    made_types p went.0.0 went.0.1 words said went.2 ∙ one_types p names word went.0.0 ((word_made p names front word went.0 went.1).0)
 
 -- ---- lists of words
 
@@ -185,10 +192,10 @@ module _ (Q : List ℕ → Type 0) (kept : IsKept Q) where
   signed_kept (negsuc n) = lettered 45 (suc n) (omega arith) (omega arith)
 
   stood : (a : Asked) (x : Thing) (text : List ℕ) → stands a x ≡ Some text → Q text
-  stood asked.Value (thing.Register bank.Value n) text e = subst Q (some_is (codes "v" ++ decimal n) text e) (lettered 118 n (omega arith) (omega arith))
-  stood asked.Right (thing.Register bank.Right n) text e = subst Q (some_is (codes "d" ++ decimal n) text e) (lettered 100 n (omega arith) (omega arith))
-  stood asked.ValueArgument (thing.Register bank.Value n) text e = subst Q (some_is (decimal n) text e) (number_kept Q kept n)
-  stood asked.RightArgument (thing.Register bank.Right n) text e = subst Q (some_is (decimal n) text e) (number_kept Q kept n)
+  stood asked.Value (thing.Register bank.Value n by) text e = subst Q (some_is (codes "v" ++ decimal n) text e) (lettered 118 n (omega arith) (omega arith))
+  stood asked.Right (thing.Register bank.Right n by) text e = subst Q (some_is (codes "d" ++ decimal n) text e) (lettered 100 n (omega arith) (omega arith))
+  stood asked.ValueArgument (thing.Register bank.Value n by) text e = subst Q (some_is (decimal n) text e) (number_kept Q kept n)
+  stood asked.RightArgument (thing.Register bank.Right n by) text e = subst Q (some_is (decimal n) text e) (number_kept Q kept n)
   stood asked.Number (thing.Constant z) text e = subst Q (some_is (signed_decimal z) text e) (signed_kept z)
   stood asked.Procedure (thing.Procedure n) text e = subst Q (some_is (decimal n) text e) (number_kept Q kept n)
   stood a x text e = absurd cc
@@ -200,13 +207,13 @@ module _ (Q : List ℕ → Type 0) (kept : IsKept Q) where
   plainly : (front word text : List ℕ) → Q word → ◌≡◌ {A = Result (List ℕ) Flaw} (Ok (with_word front word)) (Ok text) → IsMore front text
   plainly front word text h e = (32 ∷ word, sym (ok_is (with_word front word) text e), spaced word h)
 
-  fits : (front word text : List ℕ) (o : Option (List ℕ)) → ((t : List ℕ) → o ≡ Some t → Q t) → fitting front word o ≡ Ok text → IsMore front text
-  fits front word text None each e = not_ok _ text e
-  fits front word text (Some t) each e = plainly front t text (each t refl) e
+  fits : (front word : List ℕ) (a : Asked) (x : Thing) (text : List ℕ) (o : Option (List ℕ)) → ((t : List ℕ) → o ≡ Some t → Q t) → fitting front word a x o ≡ Ok text → IsMore front text
+  fits front word a x text None each e = not_ok _ text e
+  fits front word a x text (Some t) each e = plainly front t text (each t refl) e
 
   named_kept : (a : Asked) (front word text : List ℕ) (x : Option Thing) → named front word x a ≡ Ok text → IsMore front text
   named_kept a front word text None e = not_ok _ text e
-  named_kept a front word text (Some x) e = fits front word text (stands a x) (stood a x) e
+  named_kept a front word text (Some x) e = fits front word a x text (stands a x) (stood a x) e
 
   either_word : (p : Procedures) (names : Names) (a : Asked) (front word text : List ℕ) → Q word
       → cond (is_name word) (named front word (known p names word) a) (Ok (with_word front word)) ≡ Ok text → IsMore front text
@@ -226,21 +233,31 @@ module _ (Q : List ℕ → Type 0) (kept : IsKept Q) where
       let more = words_kept p names (drop 1 all) went.0 ws text h.1 went.2 in
       (one.0 ++ more.0, more.1 ∙ ap (λ (t : List ℕ). t ++ more.0) one.1 ∙ append_assoc front one.0 more.0, kept.both one.0 more.0 one.2 more.2)
 
+  made_kept : (p : Procedures) (names : Names) (front : List ℕ) (ws : List (List ℕ)) (said : Names × List ℕ) → AllKept Q ws → made_say p names front ws ≡ Ok said → IsMore front said.1
+  made_kept p names front [] said h e = ([], ap (λ (x : Names × List ℕ). x.1) (sym (ok_is (names, front) said e)) ∙ sym (append-nil front), kept.none)
+  made_kept p names front (w ∷ ws) said h e =
+      let went = went_then (made_word p names front w) (λ (s : Names × List ℕ). made_say p s.0 s.1 ws) said e in
+      let one = word_kept p went.0.0 asked.Right front w went.0.1 h.0 ((word_made p names front w went.0 went.1).1) in
+      let more = made_kept p went.0.0 went.0.1 ws said h.1 went.2 in
+      (one.0 ++ more.0, more.1 ∙ ap (λ (t : List ℕ). t ++ more.0) one.1 ∙ append_assoc front one.0 more.0, kept.both one.0 more.0 one.2 more.2)
+
   instruction_kept : (p : Procedures) (names : Names) (o : Opcode) (front : List ℕ) (ws : List (List ℕ)) → AllKept Q names.types → AllKept Q ws → SaysKept Q front (instruction_says p names o front ws)
   instruction_kept p names o front ws h k said e =
-      let first = went_then (made p names (take (makes o) ws)) (λ (after : Names). and_then (words_say p after (flat_map (asked_by (banks_of p after ws)) (forms_of o)) front ws) (λ (text : List ℕ). Ok (after, text))) said e in
-      let next = went_then (words_say p first.0 (flat_map (asked_by (banks_of p first.0 ws)) (forms_of o)) front ws) (λ (text : List ℕ). Ok (first.0, text)) said first.2 in
-      let line = words_kept p first.0 (flat_map (asked_by (banks_of p first.0 ws)) (forms_of o)) front ws next.0 k next.1 in
-      let is = ok_is (first.0, next.0) said next.2 in (
-        line.0,
-        ap (λ (x : Names × List ℕ). x.1) (sym is) ∙ line.1,
-        line.2,
-        subst (λ (x : Names × List ℕ). AllKept Q x.0.types) is (subst (AllKept Q) (sym (made_types p names (take (makes o) ws) first.0 first.1)) h),
+      let asked_in = λ (n : Names). drop (makes o) (flat_map (asked_by (banks_of p n ws)) (forms_of o)) in
+      let first = went_then (made_say p names front (take (makes o) ws)) (λ (s : Names × List ℕ). and_then (words_say p s.0 (asked_in s.0) s.1 (drop (makes o) ws)) (λ (text : List ℕ). Ok (s.0, text))) said e in
+      let next = went_then (words_say p first.0.0 (asked_in first.0.0) first.0.1 (drop (makes o) ws)) (λ (text : List ℕ). Ok (first.0.0, text)) said first.2 in
+      let made = made_kept p names front (take (makes o) ws) first.0 (all_taken Q (makes o) ws k) first.1 in
+      let line = words_kept p first.0.0 (asked_in first.0.0) first.0.1 (drop (makes o) ws) next.0 (all_left Q (makes o) ws k) next.1 in
+      let is = ok_is (first.0.0, next.0) said next.2 in (
+        made.0 ++ line.0,
+        ap (λ (x : Names × List ℕ). x.1) (sym is) ∙ line.1 ∙ ap (λ (t : List ℕ). t ++ line.0) made.1 ∙ append_assoc front made.0 line.0,
+        kept.both made.0 line.0 made.2 line.2,
+        subst (λ (x : Names × List ℕ). AllKept Q x.0.types) is (subst (AllKept Q) (sym (made_types p names front (take (makes o) ws) first.0 first.1)) h),
       )
 
   body_kept : (p : Procedures) (names : Names) (o : Option Opcode) (front : List ℕ) (ws : List (List ℕ)) → AllKept Q names.types → AllKept Q ws → SaysKept Q front (body_says p names o front ws)
   body_kept p names None front ws h k = words_more names front ws h k
-  body_kept p names (Some o) front ws h k = instruction_kept p names o front ws h k
+  body_kept p names (Some o) front ws h k = instruction_kept p names o front (flat_map pieces ws) h (pieces_kept ws k)
 
   -- ---- `proc` and `regs`
 

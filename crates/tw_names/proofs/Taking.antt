@@ -1,9 +1,9 @@
 -- The words of a line are one list.
 use Rattle.std.proofs.Common.{[], ◌≡◌, ℕ, ◌+◌, ◌-◌, ◌<◌, List, ◌∷◌, ◌++◌, length, take, refl, sym, ap, subst, ◌∙◌, arith}
-use Rattle.tw_names.proofs.TextNames.{AreTaken, AreWords, Broken, IsTaken, Line, StandFirst, StandsFirst, Worded, length-append, take_at}
-use Rattle.tw_words.specs.Words.{AreFirstWords, IsBlank, IsBroken, IsBrokenLine, IsFirstWord, IsLine, IsWord, Bare, Quoted, Word}
+use Rattle.tw_names.proofs.TextNames.{AreTaken, AreWords, Broken, IsTail, IsTaken, Line, StandFirst, StandsFirst, Worded, length-append, take_at}
+use Rattle.tw_words.specs.Words.{IsBlank, IsFirstWord, IsWord, Bare, Quoted, Word}
 use Rattle.tw_words.specs.reading.Next.{IsAfterGap}
-use Rattle.tw_words.proofs.Once.{blank_no_word, broken_no_line, first_word_once, gap_once, word_here}
+use Rattle.tw_words.proofs.Once.{blank_no_word, first_word_once, gap_once, word_here}
 
 -- what stands before a text's end
 cut_front : (text after : List ℕ) → take (length (text ++ after) - length after) (text ++ after) ≡ text
@@ -68,29 +68,41 @@ words_once (w ∷ ws) (v ∷ vs) bytes rest after ((next, first, more), blank) (
     let all = words_once ws vs next_ rest after (subst (λ (b : List ℕ). StandFirst ws b rest) one.1 more, blank) (others, empty) in
     (ap (λ (x : List ℕ). x ∷ ws) one.0 ∙ ap (λ (xs : List (List ℕ)). v ∷ xs) all.0, all.1)
 
-as_first_words : (ws : List (List ℕ)) (bytes rest : List ℕ) → StandFirst ws bytes rest → (words : List Word) × AreFirstWords words bytes rest
-as_first_words [] bytes rest are = ([], are)
-as_first_words (w ∷ ws) bytes rest (after, (word, first, e), more) =
-    let others = as_first_words ws after rest more in
-    (word ∷ others.0, (after, first, others.1))
+-- where something is no word, no word stands
+no_word_in_tail : (t tail bytes rest : List ℕ) → IsTail tail bytes → StandsFirst t bytes rest → ⊥
+no_word_in_tail t tail bytes rest is (w, f, e) = is.broken.1 w rest f
 
-pub as_line : (ws : List (List ℕ)) (bytes rest : List ℕ) → AreWords ws bytes rest → (words : List Word) × IsLine words bytes
-as_line ws bytes rest (are, blank) = let words = as_first_words ws bytes rest are in (words.0, (rest, words.1, blank))
+pub not_both_ways : (ws vs : List (List ℕ)) (bytes rest tail : List ℕ) → AreWords ws bytes rest → IsTaken (Broken vs tail) bytes → ⊥
+not_both_ways [] [] bytes rest tail (a, blank) (after, b, is) = is.broken.0 (subst IsBlank (sym a ∙ b) blank)
+not_both_ways [] (v ∷ vs) bytes rest tail (a, blank) (after, (next, first, more), is) = no_word_there v bytes next (subst IsBlank (sym a) blank) first
+not_both_ways (w ∷ ws) [] bytes rest tail ((next, first, more), blank) (after, b, is) = no_word_in_tail w tail bytes next (subst (IsTail tail) (sym b) is) first
+not_both_ways (w ∷ ws) (v ∷ vs) bytes rest tail ((next, first, more), blank) (after, (next_, other, others), is) =
+    let one = first_once w v bytes next next_ first other in
+    not_both_ways ws vs next_ rest tail (subst (λ (b : List ℕ). StandFirst ws b rest) one.1 more, blank) (after, others, is)
 
-pub broken_line : (ws : List (List ℕ)) (bytes rest : List ℕ) → StandFirst ws bytes rest → IsBroken rest → (words : List Word) × IsBrokenLine words bytes
-broken_line ws bytes rest are broken = let words = as_first_words ws bytes rest are in (words.0, (rest, words.1, broken))
+tail_once : (t u bytes : List ℕ) → IsTail t bytes → IsTail u bytes → t ≡ u
+tail_once t u bytes a b = gap_once a.gap b.gap t u a.is_gap b.is_gap a.at_word b.at_word (sym a.parts ∙ b.parts)
 
-pub not_both_ways : (ws : List (List ℕ)) (bytes rest : List ℕ) (line : List ℕ) → AreWords ws bytes rest → IsTaken (Broken line) bytes → ⊥
-not_both_ways ws bytes rest line are (same, (words, broken)) = let k = as_line ws bytes rest are in broken_no_line words k.0 bytes broken k.1
+broken_once : (ws vs : List (List ℕ)) (bytes t u : List ℕ) → IsTaken (Broken ws t) bytes → IsTaken (Broken vs u) bytes → (ws ≡ vs) × (t ≡ u)
+broken_once [] [] bytes t u (after, a, is) (next, b, also) = (refl, tail_once t u bytes (subst (IsTail t) (sym a) is) (subst (IsTail u) (sym b) also))
+broken_once [] (v ∷ vs) bytes t u (after, a, is) (next, (n, first, more), also) = absurd (no_word_in_tail v t bytes n (subst (IsTail t) (sym a) is) first)
+broken_once (w ∷ ws) [] bytes t u (after, (n, first, more), is) (next, b, also) = absurd (no_word_in_tail w u bytes n (subst (IsTail u) (sym b) also) first)
+broken_once (w ∷ ws) (v ∷ vs) bytes t u (after, (n, first, more), is) (next, (m, other, others), also) =
+    let one = first_once w v bytes n m first other in
+    let all = broken_once ws vs m t u (after, subst (λ (b : List ℕ). StandFirst ws b after) one.1 more, is) (next, others, also) in
+    (ap (λ (x : List ℕ). x ∷ ws) one.0 ∙ ap (λ (xs : List (List ℕ)). v ∷ xs) all.0, all.1)
 
 pub taken_once : (a b : Line) (bytes : List ℕ) → IsTaken a bytes → IsTaken b bytes → a ≡ b
 taken_once (Worded ws rest) (Worded vs after) bytes is other = both ws vs rest after (words_once ws vs bytes rest after is other)
   where
     both : (ws vs : List (List ℕ)) (rest after : List ℕ) → (ws ≡ vs) × (rest ≡ after) → Worded ws rest ≡ Worded vs after
     both ws vs rest after (e, d) = cc
-taken_once (Worded ws rest) (Broken line) bytes is other = absurd (not_both_ways ws bytes rest line is other)
-taken_once (Broken line) (Worded ws rest) bytes is other = absurd (not_both_ways ws bytes rest line other is)
-taken_once (Broken line) (Broken other) bytes (e, _) (d, _) = ap Broken (sym e ∙ d)
+taken_once (Worded ws rest) (Broken vs tail) bytes is other = absurd (not_both_ways ws vs bytes rest tail is other)
+taken_once (Broken ws tail) (Worded vs rest) bytes is other = absurd (not_both_ways vs ws bytes rest tail other is)
+taken_once (Broken ws t) (Broken vs u) bytes is other = both ws vs t u (broken_once ws vs bytes t u is other)
+  where
+    both : (ws vs : List (List ℕ)) (t u : List ℕ) → (ws ≡ vs) × (t ≡ u) → Broken ws t ≡ Broken vs u
+    both ws vs t u (e, d) = cc
 
 pub all_once : (xs ys : List Line) (lines : List (List ℕ)) → AreTaken xs lines → AreTaken ys lines → xs ≡ ys
 all_once [] [] lines a b = refl

@@ -1,10 +1,10 @@
 -- What the calls answer.
 use Rattle.std.specs.Prelude.{◌≡◌, ◌⊎◌, ◌<◌, ℕ, Bool, true, false, List, [], ◌∷◌, ◌++◌, decimal, Option, Some, None, Result, Ok, Err, ◌-◌, length, take, drop, IsUtf8}
 use Rattle.std.specs.Fmt.{signed_decimal}
-use Rattle.tw_names.specs.Meanings.{Flaw}
+use Rattle.tw_names.specs.Meanings.{Flaw, lists}
 use Rattle.std.specs.Str.Lines.{lines}
 use Rattle.tw_words.specs.Words.{IsBlank, IsBroken}
-use Rattle.tw_names.specs.Lines.{Broken, IsTaken, Line, StandsFirst, Worded, pieces_behind}
+use Rattle.tw_names.specs.Lines.{IsTaken, Line, StandsFirst, line_words, pieces_behind}
 use Rattle.tw_names.specs.Saying.{Said, is_names_line}
 use Rattle.tw_names.specs.Seen.{seen_names}
 use Rattle.tw_names.specs.Standing.{HasNames, Refusal as Told}
@@ -12,6 +12,8 @@ use Rattle.tw_names.specs.declared.asked.Standing as standings
 use Rattle.tw_names.specs.declared.asked.Standing.TheVariants as standing
 use Rattle.tw_names.specs.declared.line.First as firsts
 use Rattle.tw_names.specs.declared.line.First.TheVariants as first
+use Rattle.tw_names.specs.declared.meaning.Bank.{Bank}
+use Rattle.tw_names.specs.declared.meaning.Thing.{Thing}
 use Rattle.tw_names.specs.declared.names.Names as names
 use Rattle.tw_names.specs.declared.refusal.NameNo.{NameNo}
 use Rattle.tw_names.specs.declared.refusal.NameNo.TheVariants as no
@@ -19,19 +21,25 @@ use Rattle.tw_names.specs.declared.refusal.NameRefusal.{NameRefusal}
 use Rattle.tw_names.specs.declared.refusal.Refusal.{Refusal}
 use Rattle.tw_names.specs.declared.refusal.Refusal.TheVariants as refusal
 
--- N01 to N07
+-- N01 to N07; a name and a register may both be taken, which is N03
 abbrev pub name_number : NameNo → ℕ
 name_number no.Form = 1
 name_number no.NoName = 2
 name_number no.Twice = 3
+name_number no.Listed = 3
 name_number no.Unknown = 4
-name_number no.Kind = 5
+name_number (no.Kind x a) = 5
 name_number no.Limit = 6
 name_number no.NoMemory = 7
 
 abbrev pub standing_text : standings.Standing → List ℕ
 standing_text (standing.Numbered front number) = front.now ++ decimal number
 standing_text (standing.Number number) = signed_decimal number
+
+-- whether an entry is a name by which this register was listed or made
+abbrev pub lists_entry : Bank → ℕ → Option (List ℕ × Thing) → Bool
+lists_entry in_bank number None = false
+lists_entry in_bank number (Some entry) = lists in_bank number entry.1
 
 -- the pieces of a word from an index on, where the piece round it begins at a place
 unfoldable pub pieces_left : List ℕ → ℕ → ℕ → List (List ℕ)
@@ -56,7 +64,7 @@ SaysBehind result text says = Gives (λ n. (seen_names n, text)) result says
 -- ---- a whole text
 
 abbrev pub IsMemory : NameRefusal → Type 0
-IsMemory f = (f.no ≡ no.NoMemory) × (f.line ≡ 0)
+IsMemory f = (f.no ≡ no.NoMemory) × (f.line ≡ 0) × (f.word.now ≡ [])
 
 abbrev pub told : NameRefusal → Told
 told f = record { line = f.line; no = f.no; word = f.word.now }
@@ -72,15 +80,14 @@ SaidAt number (Ok n) text says = says ≡ Ok (seen_names n, text)
 SaidAt number (Err f) text says = IsMemory f ⊎ ((f.line ≡ number) × (says ≡ Err (record { no = f.no; word = f.word.now })))
 
 -- whether a line that has a word has just `names`
-abbrev pub named_by : Line → Option Bool
-named_by (Worded [] rest) = None
-named_by (Worded (first ∷ words) rest) = Some (is_names_line first words)
-named_by (Broken line) = Some false
+abbrev pub named_by : List (List ℕ) → Option Bool
+named_by [] = None
+named_by (first ∷ words) = Some (is_names_line first words)
 
 -- the same of the first line that has a word, where this one is read behind others
 abbrev pub IsNamedAfter : Option Bool → List ℕ → Option Bool → Type 0
 IsNamedAfter (Some named) line after = after ≡ Some named
-IsNamedAfter None line after = (taken : Line) × IsTaken taken line × (after ≡ named_by taken)
+IsNamedAfter None line after = (taken : Line) × IsTaken taken line × (after ≡ named_by (line_words taken))
 
 abbrev pub IsNamed : Bool → List ℕ → Type 0
 IsNamed true text = HasNames (lines text)

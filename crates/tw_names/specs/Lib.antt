@@ -8,6 +8,8 @@ pub mod Standing
 pub mod Laws
 -- How a register's name is told beside its number.
 pub mod Registers
+-- How procedures are told by name.
+pub mod Symbols
 -- How contracts see what the code keeps, and what calls answer.
 pub mod Seen
 pub mod Answers

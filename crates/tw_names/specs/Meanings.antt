@@ -1,11 +1,13 @@
 -- What names mean.
-use Rattle.std.specs.Prelude.{◌==◌, ◌+◌, ◌||◌, ℕ, Bool, false, not, List, [], ◌∷◌, ◌++◌, length, codes, Option, Some, None, Result, Ok, Err, is_some, nat_lt, if◌then◌else◌}
+use Rattle.std.specs.Prelude.{◌==◌, ◌+◌, ◌&&◌, ◌||◌, ℕ, Bool, true, false, not, List, [], ◌∷◌, ◌++◌, length, codes, Option, Some, None, Result, Ok, Err, is_some, nat_lt, if◌then◌else◌}
 use Rattle.std.specs.Map.{lookup}
 use Rattle.std.specs.Str.{bytes_eq}
 use Rattle.tw_words.specs.Digits.{are_digits}
 use Rattle.tw_words.specs.Names as words
 use Rattle.tw_names.specs.declared.meaning.Bank.{Bank}
 use Rattle.tw_names.specs.declared.meaning.Bank.TheVariants as bank
+use Rattle.tw_names.specs.declared.meaning.Origin.{Origin}
+use Rattle.tw_names.specs.declared.meaning.Origin.TheVariants as origin
 use Rattle.tw_names.specs.declared.meaning.Thing.{Thing}
 use Rattle.tw_names.specs.declared.meaning.Thing.TheVariants as thing
 use Rattle.tw_names.specs.declared.refusal.NameNo.{NameNo}
@@ -92,10 +94,36 @@ abbrev pub above : Bank → ℕ → ℕ → ℕ
 above bank.Value number rights = rights
 above bank.Right number rights = if nat_lt number rights then rights else number + 1
 
-abbrev pub name_register : Names → List ℕ → Bank → ℕ → Names
-name_register names name in_bank number =
-    record names { registers = names.registers ++ (name, thing.Register in_bank number) ∷ []; rights = above in_bank number names.rights }
+abbrev pub name_register : Names → List ℕ → Bank → ℕ → Origin → Names
+name_register names name in_bank number by =
+    record names { registers = names.registers ++ (name, thing.Register in_bank number by) ∷ []; rights = above in_bank number names.rights }
 
-abbrev pub with_register : Procedures → Names → List ℕ → Bank → ℕ → Result Names Flaw
-with_register procedures names name in_bank number =
-    and_then (may_name procedures names name) (λ _. if nat_lt number 16 then Ok (name_register names name in_bank number) else refused no.Limit name)
+abbrev pub with_register : Procedures → Names → List ℕ → Bank → ℕ → Origin → Result Names Flaw
+with_register procedures names name in_bank number by =
+    and_then (may_name procedures names name) (λ _. if nat_lt number 16 then Ok (name_register names name in_bank number by) else refused no.Limit name)
+
+-- ---- a register that is listed has one name
+
+abbrev pub is_bank : Bank → Bank → Bool
+is_bank bank.Value bank.Value = true
+is_bank bank.Right bank.Right = true
+is_bank a b = false
+
+abbrev pub is_origin : Origin → Origin → Bool
+is_origin origin.Listed origin.Listed = true
+is_origin origin.Chosen origin.Chosen = true
+is_origin a b = false
+
+-- a name that means this is that by which the register was listed or made
+abbrev pub lists : Bank → ℕ → Thing → Bool
+lists in_bank number (thing.Register other place by) = is_bank in_bank other && ((number == place) && is_origin by origin.Listed)
+lists in_bank number x = false
+
+-- a register has a name by which it was listed or made
+abbrev pub is_listed : Bank → ℕ → Table → Bool
+is_listed in_bank number [] = false
+is_listed in_bank number (entry ∷ table) = lists in_bank number entry.1 || is_listed in_bank number table
+
+abbrev pub with_listed : Procedures → Names → List ℕ → Bank → ℕ → Result Names Flaw
+with_listed procedures names name in_bank number =
+    if is_listed in_bank number names.registers then refused no.Listed name else with_register procedures names name in_bank number origin.Listed

@@ -3,11 +3,10 @@ use Rattle.std.specs.Prelude.{◌≡◌, ◌==◌, ◌+◌, ◌&&◌, ℕ, Bool,
 use Rattle.std.specs.Option.{option_map_or}
 use Rattle.std.specs.Str.Lines.{lines}
 use Rattle.tw_names.specs.Lines.{AreTaken, Line}
-use Rattle.tw_names.specs.Meanings.{Names, Procedures, Table, no_names}
+use Rattle.tw_names.specs.Meanings.{Names, Procedures, Table, is_bank, no_names}
 use Rattle.tw_names.specs.Saying.{Said, register_of}
 use Rattle.tw_names.specs.Standing.{procedures_of, taken_says}
 use Rattle.tw_names.specs.declared.meaning.Bank.{Bank}
-use Rattle.tw_names.specs.declared.meaning.Bank.TheVariants as bank
 use Rattle.tw_names.specs.declared.meaning.Thing.{Thing}
 use Rattle.tw_names.specs.declared.meaning.Thing.TheVariants as thing
 
@@ -25,13 +24,8 @@ names_behind procedures last number names front (line ∷ others) =
 abbrev pub registers_at : List Line → ℕ → Table
 registers_at all last = option_map_or (λ (names : Names). names.registers) (names_behind (procedures_of all) last 1 no_names [] all) []
 
-abbrev pub is_bank : Bank → Bank → Bool
-is_bank bank.Value bank.Value = true
-is_bank bank.Right bank.Right = true
-is_bank a b = false
-
 abbrev pub is_register : Bank → ℕ → Thing → Bool
-is_register in_bank number (thing.Register other place) = is_bank in_bank other && (number == place)
+is_register in_bank number (thing.Register other place by) = is_bank in_bank other && (number == place)
 is_register in_bank number x = false
 
 -- the name of an entry, if it is that of this register

@@ -1,7 +1,7 @@
 -- What each line of a text with names says: which names it adds, and which text it stands for.
 use Rattle.std.specs.Prelude.{◌==◌, ◌+◌, ◌&&◌, ◌||◌, ℕ, ℤ, Bool, true, false, List, [], ◌∷◌, ◌++◌, length, map, filter, not, take, drop, codes, decimal, slice_get, Option, Some, None, Result, Ok, is_none, is_some, unwrap_or, if◌then◌else◌}
 use Rattle.std.specs.Fmt.{signed_decimal}
-use Rattle.std.specs.List.{flat_map}
+use Rattle.std.specs.List.{flat_map, list_any}
 use Rattle.std.specs.Option.{option_map_or}
 use Rattle.std.specs.Result.{result_ok}
 use Rattle.std.specs.Str.{bytes_eq}
@@ -13,14 +13,15 @@ use Rattle.tw_code.specs.declared.form.Form.TheVariants as form
 use Rattle.tw_code.specs.declared.opcode.Opcode.{Opcode}
 use Rattle.tw_code.specs.declared.opcode.Opcode.TheVariants as opcode
 use Rattle.tw_code.specs.declared.version.Version.TheVariants.{Two}
-use Rattle.tw_names.specs.Lines.{pieces}
-use Rattle.tw_names.specs.Meanings.{Flaw, Head, Names, Procedures, and_then, is_name, known, meaning, refused, with_constant, with_register}
+use Rattle.tw_names.specs.Lines.{begins_quoted, pieces}
+use Rattle.tw_names.specs.Meanings.{Flaw, Head, Names, Procedures, and_then, is_name, known, may_name, meaning, refused, with_constant, with_listed, with_register}
 use Rattle.tw_names.specs.declared.meaning.Asked.{Asked}
 use Rattle.tw_names.specs.declared.meaning.Asked.TheVariants as asked
 use Rattle.tw_names.specs.declared.meaning.Bank.{Bank}
 use Rattle.tw_names.specs.declared.meaning.Bank.TheVariants as bank
 use Rattle.tw_names.specs.declared.meaning.Listed.{Listed}
 use Rattle.tw_names.specs.declared.meaning.Listed.TheVariants as listed
+use Rattle.tw_names.specs.declared.meaning.Origin.TheVariants as origin
 use Rattle.tw_names.specs.declared.meaning.Thing.{Thing}
 use Rattle.tw_names.specs.declared.meaning.Thing.TheVariants as thing
 use Rattle.tw_names.specs.declared.refusal.NameNo.TheVariants as no
@@ -37,10 +38,10 @@ behind front words = front ++ flat_map (λ word. 32 ∷ word) words
 
 -- What stands in the place of a name, where this is asked: of a register its letter and number, as an argument the number alone.
 abbrev pub stands : Asked → Thing → Option (List ℕ)
-stands asked.Value (thing.Register bank.Value number) = Some (codes "v" ++ decimal number)
-stands asked.Right (thing.Register bank.Right number) = Some (codes "d" ++ decimal number)
-stands asked.ValueArgument (thing.Register bank.Value number) = Some (codes "" ++ decimal number)
-stands asked.RightArgument (thing.Register bank.Right number) = Some (codes "" ++ decimal number)
+stands asked.Value (thing.Register bank.Value number by) = Some (codes "v" ++ decimal number)
+stands asked.Right (thing.Register bank.Right number by) = Some (codes "d" ++ decimal number)
+stands asked.ValueArgument (thing.Register bank.Value number by) = Some (codes "" ++ decimal number)
+stands asked.RightArgument (thing.Register bank.Right number by) = Some (codes "" ++ decimal number)
 stands asked.Number (thing.Constant number) = Some (signed_decimal number)
 stands asked.Procedure (thing.Procedure number) = Some (codes "" ++ decimal number)
 stands a x = None
@@ -49,13 +50,13 @@ stands a x = None
 abbrev pub with_word : List ℕ → List ℕ → List ℕ
 with_word front word = front ++ 32 ∷ word
 
-abbrev pub fitting : List ℕ → List ℕ → Option (List ℕ) → Result (List ℕ) Flaw
-fitting front word None = refused no.Kind word
-fitting front word (Some text) = Ok (with_word front text)
+abbrev pub fitting : List ℕ → List ℕ → Asked → Thing → Option (List ℕ) → Result (List ℕ) Flaw
+fitting front word a x None = refused (no.Kind x a) word
+fitting front word a x (Some text) = Ok (with_word front text)
 
 abbrev pub named : List ℕ → List ℕ → Option Thing → Asked → Result (List ℕ) Flaw
 named front word None a = refused no.Unknown word
-named front word (Some x) a = fitting front word (stands a x)
+named front word (Some x) a = fitting front word a x (stands a x)
 
 -- a text with what a word stands for: where nothing is asked, and where it is no name, that is the word itself
 abbrev pub word_says : Procedures → Names → Asked → List ℕ → List ℕ → Result (List ℕ) Flaw
@@ -94,10 +95,10 @@ abbrev pub banks_at : Procedures → Option ℕ → List Bank
 banks_at procedures None = []
 banks_at procedures (Some number) = option_map_or (λ (head : Head). head.banks) (slice_get procedures.heads number) []
 
--- those of the parameters of the procedure that the first word tells
+-- those of the parameters of the procedure that the first word tells, as many as there are words
 abbrev pub banks_of : Procedures → Names → List (List ℕ) → List Bank
 banks_of procedures names [] = []
-banks_of procedures names (word ∷ words) = banks_at procedures (callee (known procedures names word) (result_ok (digits_in 0 255 word)))
+banks_of procedures names (word ∷ words) = take (length (word ∷ words)) (banks_at procedures (callee (known procedures names word) (result_ok (digits_in 0 255 word))))
 
 -- how many of its first operands are right registers that it fills
 abbrev pub makes : Opcode → ℕ
@@ -111,23 +112,42 @@ makes o = 0
 -- a name that means nothing yet is the next right register
 abbrev pub made_one : Procedures → Names → List ℕ → Result Names Flaw
 made_one procedures names word =
-    if is_name word && is_none (known procedures names word) then with_register procedures names word bank.Right names.rights else Ok names
+    if is_name word && is_none (known procedures names word) then with_register procedures names word bank.Right names.rights origin.Listed else Ok names
 
-abbrev pub made : Procedures → Names → List (List ℕ) → Result Names Flaw
-made procedures names [] = Ok names
-made procedures names (word ∷ words) = and_then (made_one procedures names word) (λ after. made procedures after words)
+-- a text with the word of a right register that an instruction fills: it is named, and then stands for its register
+abbrev pub made_word : Procedures → Names → List ℕ → List ℕ → Said
+made_word procedures names front word = and_then (made_one procedures names word) (λ after. and_then (word_says procedures after asked.Right front word) (λ text. Ok (after, text)))
+
+abbrev pub made_say : Procedures → Names → List ℕ → List (List ℕ) → Said
+made_say procedures names front [] = Ok (names, front)
+made_say procedures names front (word ∷ words) = and_then (made_word procedures names front word) (λ said. made_say procedures said.0 said.1 words)
 
 abbrev pub instruction_says : Procedures → Names → Opcode → List ℕ → List (List ℕ) → Said
 instruction_says procedures names o front words =
-    and_then (made procedures names (take (makes o) words)) (λ after.
-    and_then (words_say procedures after (flat_map (asked_by (banks_of procedures after words)) (forms_of o)) front words) (λ text. Ok (after, text)))
+    and_then (made_say procedures names front (take (makes o) words)) (λ said.
+    and_then (words_say procedures said.0 (drop (makes o) (flat_map (asked_by (banks_of procedures said.0 words)) (forms_of o))) said.1 (drop (makes o) words)) (λ text. Ok (said.0, text)))
 
 -- ---- `const` and `let`
 
--- a name, `=`, and a word
-abbrev pub assigned : List (List ℕ) → Option (List ℕ × List ℕ)
-assigned (name ∷ sign ∷ word ∷ []) = if bytes_eq sign (codes "=") then Some (name, word) else None
-assigned words = None
+-- The word behind `=`, of the words behind a name. A word that is missing is told by the line's first word, and another sign by itself.
+abbrev pub assigned : List ℕ → List (List ℕ) → Result (List ℕ) Flaw
+assigned first [] = refused no.Form first
+assigned first (sign ∷ []) = if bytes_eq sign (codes "=") then refused no.Form first else refused no.Form sign
+assigned first (sign ∷ word ∷ words) = if bytes_eq sign (codes "=") then Ok word else refused no.Form sign
+
+-- what a word is read as, if it is that
+abbrev pub read_as : {A : Type 0} → List ℕ → Option A → Result A Flaw
+read_as word None = refused no.Form word
+read_as word (Some a) = Ok a
+
+-- no word is left
+abbrev pub nothing_left : List (List ℕ) → Result (Unit {0}) Flaw
+nothing_left [] = Ok tt
+nothing_left (word ∷ words) = refused no.Form word
+
+-- what stands behind a name, `=` and nothing else, as this reads it
+abbrev pub value_behind : {A : Type 0} → (List ℕ → Option A) → List ℕ → List (List ℕ) → Result A Flaw
+value_behind read first words = and_then (assigned first words) (λ word. and_then (read_as word (read word)) (λ a. and_then (nothing_left (drop 2 words)) (λ _. Ok a)))
 
 abbrev pub bank_of_letter : ℕ → Option Bank
 bank_of_letter b = if b == 118 then Some bank.Value else if b == 100 then Some bank.Right else None
@@ -142,27 +162,19 @@ abbrev pub register_of : List ℕ → Option (Bank × ℕ)
 register_of [] = None
 register_of (b ∷ rest) = register_in (bank_of_letter b) (result_ok (digits_in 0 15 rest))
 
-abbrev pub constant_says : Procedures → Names → List ℕ → List (List ℕ) → Result Names Flaw
-constant_says procedures names first words = by (assigned words)
-  where
-    is : List ℕ → Option ℤ → Result Names Flaw
-    is name None = refused no.Form first
-    is name (Some number) = with_constant procedures names name (thing.Constant number)
+-- the number that a word spells
+abbrev pub number_of : List ℕ → Option ℤ
+number_of word = result_ok (signed_in word)
 
-    by : Option (List ℕ × List ℕ) → Result Names Flaw
-    by None = refused no.Form first
-    by (Some x) = is x.0 (result_ok (signed_in x.1))
+abbrev pub constant_says : Procedures → Names → List ℕ → List (List ℕ) → Result Names Flaw
+constant_says procedures names first [] = refused no.Form first
+constant_says procedures names first (name ∷ words) =
+    and_then (may_name procedures names name) (λ _. and_then (value_behind number_of first words) (λ number. with_constant procedures names name (thing.Constant number)))
 
 abbrev pub let_says : Procedures → Names → List ℕ → List (List ℕ) → Result Names Flaw
-let_says procedures names first words = by (assigned words)
-  where
-    is : List ℕ → Option (Bank × ℕ) → Result Names Flaw
-    is name None = refused no.Form first
-    is name (Some register) = with_register procedures names name register.0 register.1
-
-    by : Option (List ℕ × List ℕ) → Result Names Flaw
-    by None = refused no.Form first
-    by (Some x) = is x.0 (register_of x.1)
+let_says procedures names first [] = refused no.Form first
+let_says procedures names first (name ∷ words) =
+    and_then (may_name procedures names name) (λ _. and_then (value_behind register_of first words) (λ register. with_register procedures names name register.0 register.1 origin.Chosen))
 
 -- ---- `proc` and `regs`
 
@@ -190,16 +202,23 @@ number_in bank.Right values rights = rights
 abbrev pub list_name : Procedures → Names → ℕ → ℕ → List ℕ → List ℕ → Option Bank → Result Names Flaw
 list_name procedures names values rights word [] b = refused no.Form word
 list_name procedures names values rights word name None = refused no.Form word
-list_name procedures names values rights word name (Some b) = with_register procedures names name b (number_in b values rights)
+list_name procedures names values rights word name (Some b) = with_listed procedures names name b (number_in b values rights)
 
 -- a mode, or a word of a type
 abbrev pub is_listed_word : List ℕ → Bool
 is_listed_word word =
     is_some (bank_of_mode word) || (bytes_eq word (codes "int") || (bytes_eq word (codes "text") || (bytes_eq word (codes "cont") || bytes_eq word (codes "tcont"))))
 
--- no name stands there without `:`
+-- a `:` stands in it, and not between quotes
+abbrev pub has_colon : List ℕ → Bool
+has_colon word = not (begins_quoted word) && list_any (λ b. b == 58) word
+
+-- no name stands there without `:`, and none with more right behind that
 abbrev pub unnamed_says : Names → List ℕ → Result Names Flaw
-unnamed_says names word = if is_name word && not (is_listed_word word) then refused no.Unknown word else Ok names
+unnamed_says names word =
+    if is_name word && not (is_listed_word word) then refused no.Unknown word else
+    if has_colon word then refused no.Form word else
+    Ok names
 
 abbrev pub name_before : Procedures → Listed → Names → ℕ → ℕ → List ℕ → List (List ℕ) → Option (List ℕ) → Result Names Flaw
 name_before procedures l names values rights word words None = unnamed_says names word
@@ -260,7 +279,7 @@ registers_say procedures names front words =
 -- ---- lines
 
 abbrev pub body_says : Procedures → Names → Option Opcode → List ℕ → List (List ℕ) → Said
-body_says procedures names (Some o) front words = instruction_says procedures names o front words
+body_says procedures names (Some o) front words = instruction_says procedures names o front (flat_map pieces words)
 body_says procedures names None front words = Ok (names, behind front words)
 
 -- nothing is left of the line

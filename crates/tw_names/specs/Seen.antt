@@ -1,10 +1,7 @@
 -- How contracts see what the code keeps.
 use Rattle.std.specs.Prelude.{ℕ, List, map}
 use denote.Ref.{Bor}
-use Rattle.tw_names.specs.Lines.{Line, Worded, Broken}
 use Rattle.tw_names.specs.Meanings.{Head, Names, Procedures, Table}
-use Rattle.tw_names.specs.declared.line.Taken as taken_lines
-use Rattle.tw_names.specs.declared.line.Taken.TheVariants as taken
 use Rattle.tw_names.specs.declared.meaning.Thing.{Thing}
 use Rattle.tw_names.specs.declared.names.Names as names
 use Rattle.tw_names.specs.declared.procedures.Head as heads
@@ -13,16 +10,8 @@ use Rattle.tw_names.specs.declared.procedures.Procedures as procedures
 abbrev pub now : Bor (List ℕ) → List ℕ
 now word = word.now
 
-abbrev pub both_now : Bor (List ℕ) × Bor (List ℕ) → List ℕ × List ℕ
-both_now x = (x.0.now, x.1.now)
-
 abbrev pub texts : List (Bor (List ℕ)) → List (List ℕ)
 texts words = map now words
-
--- a line, of which a broken one is all of its bytes
-abbrev pub seen_line : List ℕ → taken_lines.Taken → Line
-seen_line bytes (taken.Worded words rest) = Worded (texts words.items) rest.now
-seen_line bytes taken.Broken = Broken bytes
 
 abbrev pub seen_entry : Bor (List ℕ) × Thing → List ℕ × Thing
 seen_entry entry = (entry.0.now, entry.1)

@@ -3,7 +3,7 @@ use Rattle.std.specs.Prelude.{◌≡◌, ◌+◌, ℕ, List, [], ◌∷◌, ◌+
 use Rattle.std.specs.List.{filter_map, flat_map}
 use Rattle.std.specs.Str.{bytes_eq}
 use Rattle.std.specs.Str.Lines.{lines}
-use Rattle.tw_names.specs.Lines.{AreTaken, AreWords, Broken, Line, Worded, pieces}
+use Rattle.tw_names.specs.Lines.{AreTaken, AreWords, Line, line_rest, line_words, pieces}
 use Rattle.tw_names.specs.Meanings.{Names, Procedures, Table, and_then, meaning, no_names}
 use Rattle.tw_names.specs.Saying.{Said, bank_of_mode, line_says, procedure_name}
 use Rattle.tw_names.specs.declared.meaning.Thing.TheVariants as thing
@@ -28,8 +28,7 @@ with_words procedures number [] = procedures
 with_words procedures number (first ∷ words) = if bytes_eq first (codes "proc") then with_head procedures number (flat_map pieces words) else procedures
 
 abbrev pub with_line : Procedures → ℕ → Line → Procedures
-with_line procedures number (Worded words rest) = with_words procedures number words
-with_line procedures number (Broken line) = procedures
+with_line procedures number line = with_words procedures number (line_words line)
 
 -- those of lines from this number on
 abbrev pub with_lines : Procedures → ℕ → List Line → Procedures
@@ -49,10 +48,9 @@ pub record Refusal : Type 0 where
 abbrev pub ended : List ℕ → List ℕ
 ended line = line ++ codes "\n"
 
--- what follows the last word stands as it is, and so does a line in which something is no word
+-- what follows the last word stands as it is
 abbrev pub taken_says : Procedures → ℕ → Names → List ℕ → Line → Said
-taken_says procedures number names front (Worded words rest) = and_then (line_says procedures number names front words) (λ said. Ok (said.0, said.1 ++ ended rest))
-taken_says procedures number names front (Broken line) = Ok (names, front ++ ended line)
+taken_says procedures number names front line = and_then (line_says procedures number names front (line_words line)) (λ said. Ok (said.0, said.1 ++ ended (line_rest line)))
 
 -- what is refused is told with the number of its line
 abbrev pub at_number : ℕ → Said → (Names × List ℕ → Result (List ℕ) Refusal) → Result (List ℕ) Refusal

@@ -1,6 +1,6 @@
 //! What is asked in the place of a word, and what stands there.
 
-ghost use Rattle.std.specs.Prelude.{◌≡◌, ◌++◌, OnOk, drop, slice_get, take, unwrap_or};
+ghost use Rattle.std.specs.Prelude.{◌≡◌, ◌++◌, OnOk, drop, length, slice_get, take, unwrap_or};
 ghost use Rattle.tw_names.specs.declared.meaning.Asked.TheVariants.{Nothing};
 ghost use Rattle.std.specs.Option.{option_map};
 ghost use Rattle.tw_names.specs.Answers.{Gives, standing_text};
@@ -33,12 +33,12 @@ fn standing_of(asked: Asked, thing: Thing) -> Option<Standing>
             Asked::Number => Some(Standing::Number(number)),
             _ => None,
         },
-        Thing::Register(Bank::Value, number) => match asked {
+        Thing::Register(Bank::Value, number, _) => match asked {
             Asked::Value => Some(Standing::Numbered("v", number)),
             Asked::ValueArgument => Some(Standing::Numbered("", number)),
             _ => None,
         },
-        Thing::Register(Bank::Right, number) => match asked {
+        Thing::Register(Bank::Right, number, _) => match asked {
             Asked::Right => Some(Standing::Numbered("d", number)),
             Asked::RightArgument => Some(Standing::Numbered("", number)),
             _ => None,
@@ -67,6 +67,13 @@ pub fn put_plain(out: &mut Vec<u8>, word: &[u8]) -> Result<(), AllocError>
     out.extend_from_slice(word)
 }
 
+/// Returns how many words there are.
+pub fn count(words: &[&[u8]]) -> usize
+    ensures { result ≡ length (texts words.now) }
+{
+    words.len()
+}
+
 /// The first so many words, or all.
 #[tactic(auto, using(crate::proofs::Cutting::first_taken, crate::proofs::Cutting::all_taken))]
 pub fn first_words<'b, 'a>(words: &'b [&'a [u8]], count: usize) -> &'b [&'a [u8]]
@@ -76,6 +83,30 @@ pub fn first_words<'b, 'a>(words: &'b [&'a [u8]], count: usize) -> &'b [&'a [u8]
         &words[..count]
     } else {
         words
+    }
+}
+
+/// Returns the words after the first so many.
+#[tactic(auto, using(crate::proofs::Cutting::left_after, crate::proofs::Cutting::none_after))]
+pub fn words_after<'b, 'a>(words: &'b [&'a [u8]], count: usize) -> &'b [&'a [u8]]
+    ensures { texts result.now ≡ drop count (texts words.now) }
+{
+    if count < words.len() {
+        &words[count..]
+    } else {
+        &[]
+    }
+}
+
+/// Returns what is required after the first so many places.
+#[tactic(auto, using(std::proofs::lemmas::List::drop_all))]
+pub fn asked_after(asked: &[Asked], count: usize) -> &[Asked]
+    ensures { result.now ≡ drop count asked.now }
+{
+    if count < asked.len() {
+        &asked[count..]
+    } else {
+        &[]
     }
 }
 
@@ -111,7 +142,7 @@ fn put_named<'a>(
         return Err(Refusal::Flawed(NameNo::Unknown, word));
     };
     let Some(standing) = standing_of(asked, thing) else {
-        return Err(Refusal::Flawed(NameNo::Kind, word));
+        return Err(Refusal::Flawed(NameNo::Kind(thing, asked), word));
     };
     out.extend_from_slice(b" ")?;
     put_standing(alloc, out, standing)?;
@@ -119,7 +150,7 @@ fn put_named<'a>(
 }
 
 /// Adds a space, and what a word stands for.
-fn put_word<'a>(
+pub fn put_word<'a>(
     alloc: Global,
     procedures: &Procedures<'_>,
     names: &Names<'_>,

@@ -1,13 +1,12 @@
 //! Lines `const` and `let`.
 
-ghost use Rattle.std.specs.Prelude.{◌≡◌};
-ghost use Rattle.std.specs.Option.{option_map};
+ghost use Rattle.std.specs.Prelude.{◌≡◌, drop};
 ghost use Rattle.tw_names.specs.Answers.{Gives};
-ghost use Rattle.tw_names.specs.Saying.{assigned, bank_of_letter, constant_says, let_says, register_in, register_of};
-ghost use Rattle.tw_names.specs.Seen.{both_now, seen_names, seen_procedures, texts};
+ghost use Rattle.tw_names.specs.Saying.{assigned, bank_of_letter, constant_says, let_says, nothing_left, number_of, register_in, register_of, value_behind};
+ghost use Rattle.tw_names.specs.Seen.{now, seen_names, seen_procedures, texts};
 
-use crate::meaning::Bank;
-use crate::names::{Names, with_constant, with_register};
+use crate::meaning::{Bank, Origin};
+use crate::names::{Names, may_name, with_constant, with_register};
 use crate::numbers::{natural, signed};
 use crate::procedures::Procedures;
 use crate::refusal::{NameNo, Refusal};
@@ -15,14 +14,52 @@ use crate::refusal::{NameNo, Refusal};
 /// The number of a bank's last register.
 const LAST_REGISTER: u64 = 15;
 
-/// A name, and the word behind its `=`.
-fn assigned<'a>(words: &[&'a [u8]]) -> Option<(&'a [u8], &'a [u8])>
-    ensures { option_map both_now result ≡ assigned (texts words.now) }
+/// Returns the word behind `=`, of the words behind a name.
+///
+/// A missing word is told by the line's first word.
+fn assigned<'a>(first: &'a [u8], words: &[&'a [u8]]) -> Result<&'a [u8], Refusal<'a>>
+    ensures { Gives now result (assigned first.now (texts words.now)) }
 {
     match words {
-        [name, sign, word] if *sign == b"=".as_slice() => Some((*name, *word)),
-        _ => None,
+        [] => Err(Refusal::Flawed(NameNo::Form, first)),
+        [sign, ..] if *sign != b"=".as_slice() => Err(Refusal::Flawed(NameNo::Form, *sign)),
+        [_, word, ..] => Ok(*word),
+        [_] => Err(Refusal::Flawed(NameNo::Form, first)),
     }
+}
+
+/// Returns an error if a word is left behind `=` and the value.
+fn nothing_after<'a>(words: &[&'a [u8]]) -> Result<(), Refusal<'a>>
+    ensures { Gives (λ u. u) result (nothing_left (drop 2 (texts words.now))) }
+{
+    match words {
+        [_, _, word, ..] => Err(Refusal::Flawed(NameNo::Form, *word)),
+        _ => Ok(()),
+    }
+}
+
+/// Returns the number behind `=`, of the words behind a constant's name.
+fn number_behind<'a>(first: &'a [u8], words: &[&'a [u8]]) -> Result<i64, Refusal<'a>>
+    ensures { Gives (λ n. n) result (value_behind number_of first.now (texts words.now)) }
+{
+    let word = assigned(first, words)?;
+    let Some(number) = signed(word) else {
+        return Err(Refusal::Flawed(NameNo::Form, word));
+    };
+    nothing_after(words)?;
+    Ok(number)
+}
+
+/// Returns the register behind `=`, of the words behind its name.
+fn register_behind<'a>(first: &'a [u8], words: &[&'a [u8]]) -> Result<(Bank, usize), Refusal<'a>>
+    ensures { Gives (λ r. r) result (value_behind register_of first.now (texts words.now)) }
+{
+    let word = assigned(first, words)?;
+    let Some(register) = register_of(word) else {
+        return Err(Refusal::Flawed(NameNo::Form, word));
+    };
+    nothing_after(words)?;
+    Ok(register)
 }
 
 fn bank_of_letter(byte: u8) -> Option<Bank>
@@ -63,13 +100,12 @@ pub fn with_const<'a>(
 ) -> Result<Names<'a>, Refusal<'a>>
     ensures { Gives seen_names result (constant_says (seen_procedures procedures.now) (seen_names names.entry) first.now (texts words.now)) }
 {
-    let Some((name, word)) = assigned(words) else {
+    let [name, others @ ..] = words else {
         return Err(Refusal::Flawed(NameNo::Form, first));
     };
-    match signed(word) {
-        Some(number) => with_constant(procedures, names, name, number),
-        None => Err(Refusal::Flawed(NameNo::Form, first)),
-    }
+    may_name(procedures, &names, name)?;
+    let number = number_behind(first, others)?;
+    with_constant(procedures, names, name, number)
 }
 
 /// The names behind a line `let`.
@@ -81,11 +117,10 @@ pub fn with_let<'a>(
 ) -> Result<Names<'a>, Refusal<'a>>
     ensures { Gives seen_names result (let_says (seen_procedures procedures.now) (seen_names names.entry) first.now (texts words.now)) }
 {
-    let Some((name, word)) = assigned(words) else {
+    let [name, others @ ..] = words else {
         return Err(Refusal::Flawed(NameNo::Form, first));
     };
-    match register_of(word) {
-        Some((bank, number)) => with_register(procedures, names, name, bank, number),
-        None => Err(Refusal::Flawed(NameNo::Form, first)),
-    }
+    may_name(procedures, &names, name)?;
+    let (bank, number) = register_behind(first, others)?;
+    with_register(procedures, names, name, bank, number, Origin::Chosen)
 }

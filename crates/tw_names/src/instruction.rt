@@ -1,16 +1,17 @@
 //! Lines of instructions.
 
-ghost use Rattle.std.specs.Prelude.{◌≡◌, ◌++◌, IfOk, OnOk};
+ghost use Rattle.std.specs.Prelude.{◌≡◌, ◌++◌, IfOk, OnOk, drop, take};
 ghost use Rattle.std.specs.List.{flat_map};
 ghost use Rattle.std.specs.Result.{result_ok};
 ghost use Rattle.tw_words.specs.Digits.{digits_in};
 ghost use Rattle.tw_names.specs.Meanings.{known};
 ghost use Rattle.tw_names.specs.Answers.{Gives, SaysBehind};
-ghost use Rattle.tw_names.specs.Saying.{argument_of, asked_by, banks_at, banks_of, callee, instruction_says, made, made_one, makes};
+ghost use Rattle.tw_code.specs.format.Table.{forms_of};
+ghost use Rattle.tw_names.specs.Saying.{argument_of, asked_by, banks_at, banks_of, callee, instruction_says, made_one, made_say, made_word, makes, words_say};
 ghost use Rattle.tw_names.specs.Seen.{seen_names, seen_procedures, texts};
 
-use crate::asked::{first_words, put_words};
-use crate::meaning::{Asked, Bank, Thing};
+use crate::asked::{asked_after, count, first_words, put_word, put_words, words_after};
+use crate::meaning::{Asked, Bank, Origin, Thing};
 use crate::names::{Names, is_name, known, with_register};
 use crate::numbers::natural;
 use crate::procedures::Procedures;
@@ -84,12 +85,27 @@ fn banks_at<'p>(procedures: &'p Procedures<'_>, number: Option<usize>) -> &'p [B
     }
 }
 
-/// Those of the procedure that the first word tells.
+/// Returns the first banks, at most so many.
+#[tactic(auto, using(std::proofs::lemmas::List::take_all))]
+fn first_banks(banks: &[Bank], count: usize) -> &[Bank]
+    ensures { result.now ≡ take count banks.now }
+{
+    if count < banks.len() {
+        &banks[..count]
+    } else {
+        banks
+    }
+}
+
+/// Returns the banks of the procedure that the first word tells, as many as there are words.
 fn banks_of<'p>(procedures: &'p Procedures<'_>, names: &Names<'_>, words: &[&[u8]]) -> &'p [Bank]
     ensures { result.now ≡ banks_of (seen_procedures procedures.entry.now) (seen_names names.now) (texts words.now) }
 {
     match words {
-        [word, ..] => banks_at(procedures, callee(procedures, names, word)),
+        [word, ..] => first_banks(
+            banks_at(procedures, callee(procedures, names, word)),
+            count(words),
+        ),
         [] => &[],
     }
 }
@@ -115,24 +131,66 @@ fn made_one<'a>(
 {
     if is_name(word) && known(procedures, &names, word).is_none() {
         let number = names.rights;
-        with_register(procedures, names, word, Bank::Right, number)
+        with_register(procedures, names, word, Bank::Right, number, Origin::Listed)
     } else {
         Ok(names)
     }
 }
 
-/// The names with those of right registers that these words fill.
-fn made<'a>(
+/// Adds the register that a word stands for, after naming it if it has no meaning.
+fn put_made<'a>(
+    alloc: Global,
+    procedures: &Procedures<'_>,
+    names: Names<'a>,
+    out: &mut Vec<u8>,
+    word: &'a [u8],
+) -> Result<Names<'a>, Refusal<'a>>
+    ensures { SaysBehind result out.new.items (made_word (seen_procedures procedures.now) (seen_names names.entry) out.old.items word.now) }
+{
+    let names = made_one(procedures, names, word)?;
+    put_word(alloc, procedures, &names, out, Asked::Right, word)?;
+    Ok(names)
+}
+
+/// Adds the right registers that these words fill, each after naming it if it has no meaning.
+fn put_all_made<'a>(
+    alloc: Global,
     procedures: &Procedures<'_>,
     mut names: Names<'a>,
+    out: &mut Vec<u8>,
     words: &[&'a [u8]],
 ) -> Result<Names<'a>, Refusal<'a>>
-    ensures { Gives seen_names result (made (seen_procedures procedures.now) (seen_names names.entry) (texts words.now)) }
+    ensures { SaysBehind result out.new.items (made_say (seen_procedures procedures.now) (seen_names names.entry) out.old.items (texts words.now)) }
 {
     for word in words {
-        names = made_one(procedures, names, word)?;
+        names = put_made(alloc, procedures, names, out, word)?;
     }
     Ok(names)
+}
+
+/// Adds what the words behind those stand for.
+fn put_others<'a>(
+    alloc: Global,
+    procedures: &Procedures<'_>,
+    names: &Names<'_>,
+    out: &mut Vec<u8>,
+    opcode: Opcode,
+    words: &[&'a [u8]],
+) -> Result<(), Refusal<'a>>
+    ensures { Gives (λ _. out.new.items) result (words_say (seen_procedures procedures.now) (seen_names names.now)
+        (drop (makes opcode) (flat_map (asked_by (banks_of (seen_procedures procedures.now) (seen_names names.now) (texts words.now))) (forms_of opcode)))
+        out.old.items (drop (makes opcode) (texts words.now))) }
+{
+    let asked = asked_in(alloc, banks_of(procedures, names, words), opcode.forms())?;
+    let made = makes(opcode);
+    put_words(
+        alloc,
+        procedures,
+        names,
+        out,
+        asked_after(&asked, made),
+        words_after(words, made),
+    )
 }
 
 /// Adds what the operands of an instruction stand for.
@@ -146,8 +204,13 @@ pub fn put_instruction<'a>(
 ) -> Result<Names<'a>, Refusal<'a>>
     ensures { SaysBehind result out.new.items (instruction_says (seen_procedures procedures.now) (seen_names names.entry) opcode out.old.items (texts words.now)) }
 {
-    let names = made(procedures, names, first_words(words, makes(opcode)))?;
-    let asked = asked_in(alloc, banks_of(procedures, &names, words), opcode.forms())?;
-    put_words(alloc, procedures, &names, out, &asked, words)?;
+    let names = put_all_made(
+        alloc,
+        procedures,
+        names,
+        out,
+        first_words(words, makes(opcode)),
+    )?;
+    put_others(alloc, procedures, &names, out, opcode, words)?;
     Ok(names)
 }

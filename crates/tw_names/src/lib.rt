@@ -20,10 +20,14 @@ mod procedures;
 mod refusal;
 mod registers;
 mod says;
+mod symbols;
 
 pub use laws::{
-    as_many_lines, in_utf8, not_both, one_first_refusal, stands_for_itself, stands_for_one,
+    as_many_lines, in_utf8, listed_by_place, names_differ, names_stay, not_both, one_first_refusal,
+    renamed_alike, stands_for_itself, stands_for_one, uses_are_registers,
 };
+pub use meaning::{Asked, Bank, Origin, Thing};
 pub use plain::plain_text;
 pub use refusal::{NameNo, NameRefusal};
 pub use registers::put_with_name;
+pub use symbols::Symbols;

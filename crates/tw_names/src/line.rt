@@ -1,22 +1,23 @@
 //! The words of a line, as they stand in it.
 
-ghost use Rattle.std.specs.Prelude.{IfOk, IsUtf8};
+ghost use Rattle.std.specs.Prelude.{◌≡◌, ◌++◌, ◌∷◌, [], ℕ, List, IfOk, IsUtf8};
 ghost use Rattle.tw_words.specs.Seen.{seen};
 ghost use Rattle.tw_words.specs.Words.{IsFirstWord};
+ghost use Rattle.tw_words.specs.reading.Next.{IsAfterGap};
 ghost use Rattle.tw_names.specs.Answers.{IsFirst};
-ghost use Rattle.tw_names.specs.Lines.{IsTaken, StandsFirst};
-ghost use Rattle.tw_names.specs.Seen.{seen_line};
+ghost use Rattle.tw_names.specs.Lines.{IsTaken, Line, StandsFirst, line_rest, line_words};
+ghost use Rattle.tw_names.specs.Seen.{texts};
 
 use std::alloc::{AllocError, Global};
 use tw_words::{Next, Word, next_word, without_gap};
 
-/// A line.
+/// A line: its words, and what follows the last one.
+///
+/// What is no word counts as one more, the last, up to the line's end.
 #[derive(Drop)]
-pub enum Taken<'a> {
-    /// Its words, and what follows the last one.
-    Worded(Vec<&'a [u8]>, &'a [u8]),
-    /// Something in it is no word.
-    Broken,
+pub struct Taken<'a> {
+    pub words: Vec<&'a [u8]>,
+    pub rest: &'a [u8],
 }
 
 /// What stands first in what is left of a line.
@@ -54,16 +55,25 @@ fn first_text(alloc: Global, bytes: &[u8]) -> Result<First<'_>, AllocError>
     }
 }
 
+/// Returns a line that has these words, and then something that is no word.
+fn broken<'a>(mut words: Vec<&'a [u8]>, rest: &'a [u8]) -> Result<Taken<'a>, AllocError>
+    requires { IsUtf8 rest.now }
+    ensures { IfOk result (λ taken. (tail : List ℕ) × IsAfterGap rest.entry.now tail × (texts taken.words.items ≡ texts words.entry.items ++ tail ∷ []) × (taken.rest.now ≡ [])) }
+{
+    words.push(without_gap(rest))?;
+    Ok(Taken { words, rest: b"" })
+}
+
 /// The words of a line.
 pub fn take_line(alloc: Global, line: &str) -> Result<Taken<'_>, AllocError>
-    ensures { IfOk result (λ taken. IsTaken (seen_line line.now taken) line.now) }
+    ensures { IfOk result (λ taken. (seen : Line) × IsTaken seen line.now × (texts taken.words.items ≡ line_words seen) × (taken.rest.now ≡ line_rest seen)) }
 {
     let mut words = Vec::new(alloc);
     let mut rest = line.as_bytes();
     loop {
         match first_text(alloc, rest)? {
-            First::End => return Ok(Taken::Worded(words, rest)),
-            First::Broken => return Ok(Taken::Broken),
+            First::End => return Ok(Taken { words, rest }),
+            First::Broken => return broken(words, rest),
             First::Text(word, after) => {
                 words.push(word)?;
                 rest = after;

@@ -4,13 +4,14 @@ ghost use Rattle.std.specs.Prelude.{◌≡◌, ◌≤◌, ◌^◌, IfOk, OnOk, f
 ghost use Rattle.std.specs.Option.{option_map};
 ghost use Rattle.tw_names.specs.Answers.{Gives, SaysBehind};
 ghost use Rattle.tw_words.specs.Names.{before_colon};
-ghost use Rattle.tw_names.specs.Saying.{at_head, begins, behind, begins_at, begins_first, head_says, is_listed_word, is_unnamed, list_name, list_says, name_before, name_says, number_in, registers_say, unnamed_says};
+ghost use Rattle.tw_names.specs.Saying.{at_head, begins, behind, begins_at, begins_first, has_colon, head_says, is_listed_word, is_unnamed, list_name, list_says, name_before, name_says, number_in, registers_say, unnamed_says};
 ghost use Rattle.tw_names.specs.Seen.{now, seen_names, seen_procedures, texts};
 
-use crate::asked::{first_words, put_all, put_plain};
+use crate::asked::{count, first_words, put_all, put_plain};
 use crate::heads::{bank_of_mode, parameters, procedure_name, value_types};
 use crate::meaning::{Bank, Listed, Thing};
-use crate::names::{Names, is_name, meaning, with_register};
+use crate::names::{Names, is_name, meaning, with_listed};
+use crate::pieces::begins_quoted;
 use crate::procedures::Procedures;
 use crate::refusal::{NameNo, Refusal};
 use indexmap::IndexMap;
@@ -62,12 +63,21 @@ fn is_listed_word(word: &[u8]) -> bool
         || word == b"tcont".as_slice()
 }
 
+/// Returns whether a `:` stands in a word that isn't quoted.
+fn has_colon(word: &[u8]) -> bool
+    ensures { result ≡ has_colon word.now }
+{
+    !begins_quoted(word) && word.contains(&b':')
+}
+
 /// The names behind a word that isn't a name and `:`.
 fn unnamed<'a>(names: Names<'a>, word: &'a [u8]) -> Result<Names<'a>, Refusal<'a>>
     ensures { Gives seen_names result (unnamed_says (seen_names names.entry) word.now) }
 {
     if is_name(word) && !is_listed_word(word) {
         Err(Refusal::Flawed(NameNo::Unknown, word))
+    } else if has_colon(word) {
+        Err(Refusal::Flawed(NameNo::Form, word))
     } else {
         Ok(names)
     }
@@ -87,7 +97,7 @@ fn name_begun<'a>(
     match bank {
         Some(bank) if !name.is_empty() => {
             let number = number_in(bank, begun.0, begun.1);
-            with_register(procedures, names, name, bank, number)
+            with_listed(procedures, names, name, bank, number)
         }
         _ => Err(Refusal::Flawed(NameNo::Form, word)),
     }
@@ -187,8 +197,13 @@ fn check_name<'a>(
     }
 }
 
-/// The names at a head: no registers yet.
-fn at_head<'a>(alloc: Global, names: Names<'a>, words: &[&'a [u8]]) -> Result<Names<'a>, AllocError>
+/// Returns the names at a head: no registers yet.
+fn at_head<'a>(
+    alloc: Global,
+    procedures: &Procedures<'_>,
+    names: Names<'a>,
+    words: &[&'a [u8]],
+) -> Result<Names<'a>, AllocError>
     ensures { IfOk result (λ after. seen_names after ≡ at_head (seen_names names.entry) (texts words.now)) }
 {
     let types = if procedure_name(words).is_some() {
@@ -199,7 +214,7 @@ fn at_head<'a>(alloc: Global, names: Names<'a>, words: &[&'a [u8]]) -> Result<Na
     let Names { constants, .. } = names;
     Ok(Names {
         constants,
-        registers: IndexMap::new(alloc),
+        registers: IndexMap::with_hasher(alloc, procedures.hash),
         types,
         rights: 0,
     })
@@ -217,18 +232,12 @@ pub fn put_head<'a>(
     ensures { SaysBehind result out.new.items (head_says (seen_procedures procedures.now) number (seen_names names.entry) out.old.items (texts words.now)) }
 {
     check_name(procedures, number, procedure_name(words))?;
-    let names = at_head(alloc, names, words)?;
+    let names = at_head(alloc, procedures, names, words)?;
     let params = parameters(words);
     let names = list(procedures, Listed::Parameters, names, 0, params)?;
     put_all(out, first_words(words, 1))?;
     put_unnamed(out, params)?;
     Ok(names)
-}
-
-fn count(words: &[&[u8]]) -> usize
-    ensures { result ≡ length (texts words.now) }
-{
-    words.len()
 }
 
 /// Adds what stands behind `regs`.

@@ -1,21 +1,22 @@
 //! The names that are known at a line.
 
-ghost use Rattle.std.specs.Prelude.{◌≡◌, ◌==◌, ◌||◌, ◌∷◌, [], ◌++◌, ◌<◌, None, OnOk, nat_lt};
+ghost use Rattle.std.specs.Prelude.{◌≡◌, ◌==◌, ◌||◌, ◌∷◌, [], ◌++◌, ◌<◌, None, OnOk, nat_lt, slice_get};
 ghost use Rattle.tw_words.specs.Digits.{all_digits, are_digits};
 ghost use Rattle.std.specs.Char.{digit_value};
-ghost use Rattle.tw_names.specs.Answers.{Gives};
-ghost use Rattle.tw_names.specs.Meanings.{above, is_name, is_register_word, known, may_name, meaning, no_names, with_constant, with_register};
+ghost use Rattle.tw_names.specs.Answers.{Gives, lists_entry};
+ghost use Rattle.tw_names.specs.Meanings.{above, is_name, is_register_word, known, may_name, meaning, no_names, with_constant, with_listed, with_register, is_listed, lists};
 ghost use Rattle.tw_names.specs.declared.meaning.Thing.TheVariants.{Constant};
 ghost use Rattle.tw_names.specs.Seen.{seen_names, seen_procedures, seen_table};
 
-use crate::meaning::{Bank, Thing};
+use crate::meaning::{Bank, Origin, Thing, is_bank, is_origin};
 use crate::procedures::Procedures;
 use crate::refusal::{NameNo, Refusal};
 use indexmap::IndexMap;
 use std::alloc::{AllocError, Global};
+use tw_words::TextHash;
 
 /// Names, and what they mean.
-pub type Table<'a> = IndexMap<&'a [u8], Thing>;
+pub type Table<'a> = IndexMap<&'a [u8], Thing, TextHash>;
 
 /// The most bytes of a name.
 const MAX_NAME: usize = 64;
@@ -36,13 +37,13 @@ pub struct Names<'a> {
 }
 
 impl<'a> Names<'a> {
-    /// None.
-    pub fn new(alloc: Global) -> Names<'a>
+    /// Makes an empty table of names, to be hashed so.
+    pub fn new(alloc: Global, hash: TextHash) -> Names<'a>
         ensures { seen_names result ≡ no_names }
     {
         Names {
-            constants: IndexMap::new(alloc),
-            registers: IndexMap::new(alloc),
+            constants: IndexMap::with_hasher(alloc, hash),
+            registers: IndexMap::with_hasher(alloc, hash),
             types: Vec::new(alloc),
             rights: 0,
         }
@@ -133,7 +134,7 @@ pub fn known(procedures: &Procedures<'_>, names: &Names<'_>, name: &[u8]) -> Opt
 }
 
 /// Whether a word may be given a meaning: it is a name, and means nothing yet.
-fn may_name<'a>(
+pub fn may_name<'a>(
     procedures: &Procedures<'_>,
     names: &Names<'_>,
     name: &'a [u8],
@@ -190,14 +191,69 @@ pub fn with_register<'a>(
     name: &'a [u8],
     bank: Bank,
     number: usize,
+    origin: Origin,
 ) -> Result<Names<'a>, Refusal<'a>>
-    ensures { Gives seen_names result (with_register (seen_procedures procedures.now) (seen_names names.entry) name.now bank number) }
+    ensures { Gives seen_names result (with_register (seen_procedures procedures.now) (seen_names names.entry) name.now bank number origin) }
 {
     may_name(procedures, &names, name)?;
     if number >= REGISTERS {
         return Err(Refusal::Flawed(NameNo::Limit, name));
     }
-    put_name(&mut names.registers, name, Thing::Register(bank, number))?;
+    put_name(
+        &mut names.registers,
+        name,
+        Thing::Register(bank, number, origin),
+    )?;
     names.rights = above(bank, number, names.rights);
     Ok(names)
+}
+
+/// Returns whether a name with this meaning is that by which the register was listed or made.
+fn lists(bank: Bank, number: usize, thing: Thing) -> bool
+    ensures { result ≡ lists bank number thing }
+{
+    match thing {
+        Thing::Register(other, place, origin) => {
+            is_bank(bank, other) && number == place && is_origin(origin, Origin::Listed)
+        }
+        _ => false,
+    }
+}
+
+/// Returns whether the entry at an index names this register, which was listed or made by that name.
+fn lists_at(table: &Table<'_>, index: usize, bank: Bank, number: usize) -> bool
+    ensures { result ≡ lists_entry bank number (slice_get (seen_table table.now.entries) index) }
+{
+    match table.get_index(index) {
+        Some((_, thing)) => lists(bank, number, *thing),
+        None => false,
+    }
+}
+
+/// Returns whether a register has a name by which it was listed or made.
+fn is_listed(table: &Table<'_>, bank: Bank, number: usize) -> bool
+    ensures { result ≡ is_listed bank number (seen_table table.now.entries) }
+{
+    for index in 0..table.len() {
+        if lists_at(table, index, bank, number) {
+            return true;
+        }
+    }
+    false
+}
+
+/// Returns the names with a register more, unless it has been listed or made by another name.
+pub fn with_listed<'a>(
+    procedures: &Procedures<'_>,
+    names: Names<'a>,
+    name: &'a [u8],
+    bank: Bank,
+    number: usize,
+) -> Result<Names<'a>, Refusal<'a>>
+    ensures { Gives seen_names result (with_listed (seen_procedures procedures.now) (seen_names names.entry) name.now bank number) }
+{
+    if is_listed(&names.registers, bank, number) {
+        return Err(Refusal::Flawed(NameNo::Listed, name));
+    }
+    with_register(procedures, names, name, bank, number, Origin::Listed)
 }

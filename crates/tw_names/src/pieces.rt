@@ -1,9 +1,9 @@
 //! Words of lines that list registers, where signs part words too.
 
-ghost use Rattle.std.specs.Prelude.{◌≡◌, ◌++◌, ◌+◌, ◌<◌, ◌≤◌, IfOk, OnOk, length};
+ghost use Rattle.std.specs.Prelude.{◌≡◌, [], ◌++◌, ◌+◌, ◌<◌, ◌≤◌, IfOk, OnOk, length};
 ghost use Rattle.tw_names.specs.Answers.{pieces_left};
 ghost use Rattle.std.specs.List.{flat_map};
-ghost use Rattle.tw_names.specs.Lines.{is_sign, pieces, some_piece};
+ghost use Rattle.tw_names.specs.Lines.{begins_quoted, is_sign, pieces, pieces_behind, some_piece};
 ghost use Rattle.tw_names.specs.Seen.{texts};
 
 use std::alloc::{AllocError, Global};
@@ -45,10 +45,10 @@ fn push_ended<'a>(
     }
 }
 
-/// Adds the pieces of a word.
+/// Adds the pieces of a word that isn't quoted.
 #[tactic(auto, using(crate::proofs::Cutting::left_first))]
-fn push_pieces<'a>(out: &mut Vec<&'a [u8]>, word: &'a [u8]) -> Result<(), AllocError>
-    ensures { OnOk result (texts out.new.items ≡ texts out.old.items ++ pieces word.entry.now) }
+fn push_parted<'a>(out: &mut Vec<&'a [u8]>, word: &'a [u8]) -> Result<(), AllocError>
+    ensures { OnOk result (texts out.new.items ≡ texts out.old.items ++ pieces_behind [] word.entry.now) }
 {
     let mut start = 0;
     for index in 0..word.len() {
@@ -56,6 +56,27 @@ fn push_pieces<'a>(out: &mut Vec<&'a [u8]>, word: &'a [u8]) -> Result<(), AllocE
     }
     push_some(out, &word[start..])?;
     Ok(())
+}
+
+/// Returns whether a word begins with a quote.
+pub fn begins_quoted(word: &[u8]) -> bool
+    ensures { result ≡ begins_quoted word.now }
+{
+    match word {
+        [byte, ..] => *byte == b'"',
+        [] => false,
+    }
+}
+
+/// Adds the pieces of a word.
+fn push_pieces<'a>(out: &mut Vec<&'a [u8]>, word: &'a [u8]) -> Result<(), AllocError>
+    ensures { OnOk result (texts out.new.items ≡ texts out.old.items ++ pieces word.entry.now) }
+{
+    if begins_quoted(word) {
+        push_some(out, word)
+    } else {
+        push_parted(out, word)
+    }
 }
 
 /// The pieces of words, one word after the other.

@@ -3,30 +3,36 @@
 ghost use Rattle.std.specs.Prelude.{◌≡◌, ◌⊎◌, ◌++◌, [], List, Ok, Err, IfOk, IsUtf8, MatchOption, MatchResult, string_bytes};
 ghost use Rattle.std.specs.Str.Lines.{lines};
 ghost use Rattle.tw_names.specs.Answers.{IsAtLine, IsMemory, IsNamed, IsNamedAfter, SaidAt, SaysBehind, named_by, told};
-ghost use Rattle.tw_names.specs.Lines.{AreTaken, IsTaken, Line, Worded};
-ghost use Rattle.tw_names.specs.Meanings.{no_names};
+ghost use Rattle.tw_names.specs.Lines.{AreTaken, IsTaken, Line, line_words};
+ghost use Rattle.tw_names.specs.Meanings.{and_then, no_names};
+ghost use Rattle.tw_names.specs.Saying.{line_says};
 ghost use Rattle.tw_names.specs.Seen.{seen_names, seen_procedures, texts};
 ghost use Rattle.tw_names.specs.Standing.{HasNames, IsFirstRefusal, StandsFor, ended, lines_say, taken_says};
 
 use crate::asked::put_ended;
-use crate::line::{Taken, take_line};
+use crate::line::take_line;
 use crate::names::Names;
 use crate::procedures::{Procedures, procedures_of};
 use crate::refusal::{NameRefusal, Refusal};
 use crate::says::{is_names_line, put_line};
 use std::alloc::{AllocError, Global};
 
-/// Whether a line has just the word `names`; `None` where it has no word.
-fn names_in(alloc: Global, line: &str) -> Result<Option<bool>, AllocError>
-    ensures { IfOk result (λ named. (taken : Line) × IsTaken taken line.now × (named ≡ named_by taken)) }
+/// Returns whether these words are just `names`; `None` if there are none.
+fn named_by(words: &[&[u8]]) -> Option<bool>
+    ensures { result ≡ named_by (texts words.now) }
 {
-    match take_line(alloc, line)? {
-        Taken::Worded(words, _) => match words.as_slice() {
-            [first, others @ ..] => Ok(Some(is_names_line(first, others))),
-            [] => Ok(None),
-        },
-        Taken::Broken => Ok(Some(false)),
+    match words {
+        [first, others @ ..] => Some(is_names_line(first, others)),
+        [] => None,
     }
+}
+
+/// Returns whether a line has just the word `names`; `None` if it has no word.
+fn names_in(alloc: Global, line: &str) -> Result<Option<bool>, AllocError>
+    ensures { IfOk result (λ named. (taken : Line) × IsTaken taken line.now × (named ≡ named_by (line_words taken))) }
+{
+    let taken = take_line(alloc, line)?;
+    Ok(named_by(&taken.words))
 }
 
 /// The same of the first line that has a word, where one line more is read.
@@ -60,7 +66,7 @@ fn put_worded<'a>(
     words: &[&'a [u8]],
     rest: &'a [u8],
 ) -> Result<Names<'a>, Refusal<'a>>
-    ensures { SaysBehind result out.new.items (taken_says (seen_procedures procedures.now) number (seen_names names.entry) out.old.items (Worded (texts words.now) rest.now)) }
+    ensures { SaysBehind result out.new.items (and_then (line_says (seen_procedures procedures.now) number (seen_names names.entry) out.old.items (texts words.now)) (λ said. Ok (said.0, said.1 ++ ended rest.now))) }
 {
     match put_line(alloc, procedures, number, names, out, words) {
         Ok(names) => {
@@ -69,14 +75,6 @@ fn put_worded<'a>(
         }
         Err(refusal) => Err(refusal),
     }
-}
-
-/// Adds a line in which something is no word.
-fn put_broken<'a>(names: Names<'a>, out: &mut Vec<u8>, line: &str) -> Result<Names<'a>, AllocError>
-    ensures { IfOk result (λ after. (seen_names after ≡ seen_names names.entry) × (out.new.items ≡ out.old.items ++ ended line.now)) }
-{
-    put_ended(out, line.as_bytes())?;
-    Ok(names)
 }
 
 /// Adds what a line stands for, with its line feed, and gives the names behind it.
@@ -90,15 +88,16 @@ fn put_taken<'a>(
 ) -> Result<Names<'a>, Refusal<'a>>
     ensures { (taken : Line) → IsTaken taken line.entry.now → SaysBehind result out.new.items (taken_says (seen_procedures procedures.now) number (seen_names names.entry) out.old.items taken) }
 {
-    match take_line(alloc, line)? {
-        Taken::Worded(words, rest) => put_worded(
-            alloc, procedures, number, names, out, &words, rest,
-        ),
-        Taken::Broken => match put_broken(names, out, line) {
-            Ok(names) => Ok(names),
-            Err(_) => Err(Refusal::NoMemory),
-        },
-    }
+    let taken = take_line(alloc, line)?;
+    put_worded(
+        alloc,
+        procedures,
+        number,
+        names,
+        out,
+        &taken.words,
+        taken.rest,
+    )
 }
 
 fn at_line(number: usize, refusal: Refusal<'_>) -> NameRefusal<'_>
@@ -142,7 +141,7 @@ fn plain_lines<'a>(
         (λ f. IsMemory f ⊎ (lines_say (seen_procedures procedures.now) 1 no_names [] all ≡ Err (told f))) }
 {
     let mut out = Vec::new(alloc);
-    let mut names = Names::new(alloc);
+    let mut names = Names::new(alloc, procedures.hash);
     for (index, line) in text.lines().enumerate() {
         names = put_numbered_line(alloc, procedures, index + 1, names, &mut out, line)?;
     }

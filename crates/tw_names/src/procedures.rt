@@ -8,12 +8,13 @@ ghost use Rattle.tw_names.specs.Seen.{now, seen_procedures, seen_table, texts};
 ghost use Rattle.tw_names.specs.Standing.{procedures_of, with_head, with_line, with_name, with_words};
 
 use crate::heads::{banks_of_modes, procedure_name};
-use crate::line::{Taken, take_line};
+use crate::line::take_line;
 use crate::meaning::{Bank, Thing};
 use crate::names::{Table, meaning, put_name};
 use crate::pieces::pieces_of;
 use indexmap::IndexMap;
 use std::alloc::{AllocError, Global};
+use tw_words::TextHash;
 
 /// A procedure: the banks of its parameters, and the line at which it begins.
 #[derive(Drop)]
@@ -25,6 +26,8 @@ pub struct Head {
 /// The procedures of a text, and what their names mean.
 #[derive(Drop)]
 pub struct Procedures<'a> {
+    /// How the text's names are hashed.
+    pub hash: TextHash,
     pub table: Table<'a>,
     pub heads: Vec<Head>,
 }
@@ -90,18 +93,18 @@ fn with_line<'a>(
 ) -> Result<Procedures<'a>, AllocError>
     ensures { IfOk result (λ after. (taken : Line) × IsTaken taken line.entry.now × (seen_procedures after ≡ with_line (seen_procedures procedures.entry) number taken)) }
 {
-    match take_line(alloc, line)? {
-        Taken::Worded(words, _) => with_words(alloc, procedures, number, &words),
-        Taken::Broken => Ok(procedures),
-    }
+    let taken = take_line(alloc, line)?;
+    with_words(alloc, procedures, number, &taken.words)
 }
 
 /// The procedures of a text.
 pub fn procedures_of(alloc: Global, text: &str) -> Result<Procedures<'_>, AllocError>
     ensures { IfOk result (λ procedures. (all : List Line) × AreTaken all (lines text.now) × (seen_procedures procedures ≡ procedures_of all)) }
 {
+    let hash = TextHash::new(text);
     let mut procedures = Procedures {
-        table: IndexMap::new(alloc),
+        hash,
+        table: IndexMap::with_hasher(alloc, hash),
         heads: Vec::new(alloc),
     };
     for (index, line) in text.lines().enumerate() {

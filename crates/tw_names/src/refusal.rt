@@ -1,10 +1,11 @@
 //! Refusals of texts with names.
 
-ghost use Rattle.std.specs.Prelude.{◌≡◌};
+ghost use Rattle.std.specs.Prelude.{◌≡◌, []};
 ghost use Rattle.tw_names.specs.Answers.{name_number};
 ghost use Rattle.tw_names.specs.declared.refusal.NameNo.TheVariants as no;
 ghost use Rattle.tw_names.specs.declared.refusal.Refusal.TheVariants.{NoMemory};
 
+use crate::meaning::{Asked, Thing};
 use std::alloc::{AllocError, AllocFailed};
 
 /// What is wrong with a text with names.
@@ -16,10 +17,12 @@ pub enum NameNo {
     NoName,
     /// N03: the name is taken.
     Twice,
+    /// N03: the register has been listed by another name.
+    Listed,
     /// N04: the name means nothing here.
     Unknown,
-    /// N05: the name means something else than asked.
-    Kind,
+    /// N05: the name means this, and that is required in its place.
+    Kind(Thing, Asked),
     /// N06: a register past the last would be named.
     Limit,
     /// N07: memory was refused.
@@ -27,11 +30,19 @@ pub enum NameNo {
 }
 
 impl NameNo {
-    /// The number behind the letter N, from 1.
+    /// Returns the number behind the letter N.
     pub fn number(self) -> u8
         ensures { result ≡ name_number self }
     {
-        self as u8 + 1
+        match self {
+            NameNo::Form => 1,
+            NameNo::NoName => 2,
+            NameNo::Twice | NameNo::Listed => 3,
+            NameNo::Unknown => 4,
+            NameNo::Kind(_, _) => 5,
+            NameNo::Limit => 6,
+            NameNo::NoMemory => 7,
+        }
     }
 }
 
@@ -73,6 +84,7 @@ impl<'a> NameRefusal<'a> {
     pub(crate) fn memory() -> NameRefusal<'a>
         ensures no { result.no ≡ no.NoMemory }
         ensures line { result.line ≡ 0 }
+        ensures word { result.word.now ≡ [] }
     {
         NameRefusal {
             no: NameNo::NoMemory,
@@ -83,7 +95,7 @@ impl<'a> NameRefusal<'a> {
 }
 
 impl From<AllocError> for NameRefusal<'_> {
-    ghost from_gives = { λ _ f. (f.no ≡ no.NoMemory) × (f.line ≡ 0) };
+    ghost from_gives = { λ _ f. (f.no ≡ no.NoMemory) × (f.line ≡ 0) × (f.word.now ≡ []) };
 
     fn from(_refused: AllocError) -> Self {
         NameRefusal::memory()

@@ -5,13 +5,13 @@ ghost use Rattle.std.specs.Result.{IsErr};
 ghost use Rattle.std.specs.Str.Lines.{lines};
 ghost use Rattle.tw_names.specs.Lines.{AreTaken, IsTaken, Line};
 ghost use Rattle.tw_names.specs.Meanings.{no_names};
-ghost use Rattle.tw_names.specs.Registers.{IsWithName, entry_name, first_part, is_bank, is_register, last_name, name_of, name_text, names_behind, registers_at};
+ghost use Rattle.tw_names.specs.Registers.{IsWithName, entry_name, first_part, is_register, last_name, name_of, name_text, names_behind, registers_at};
 ghost use Rattle.tw_names.specs.Saying.{register_of};
 ghost use Rattle.tw_names.specs.Seen.{now, seen_names, seen_procedures, seen_table};
 ghost use Rattle.tw_names.specs.Standing.{taken_says};
 
 use crate::assigned::register_of;
-use crate::meaning::{Bank, Thing};
+use crate::meaning::{Bank, Thing, is_bank};
 use crate::names::{Names, Table};
 use crate::plain::put_numbered_line;
 use crate::procedures::{Procedures, procedures_of};
@@ -50,7 +50,7 @@ fn names_behind<'a>(
     ensures { (all : List Line) → AreTaken all (lines text.entry.now) → IfOk result (λ found.
         option_map seen_names found ≡ names_behind (seen_procedures procedures.now) last 1 no_names [] all) }
 {
-    let mut names = Names::new(alloc);
+    let mut names = Names::new(alloc, procedures.hash);
     let mut out = Vec::new(alloc);
     for (index, line) in text.lines().enumerate() {
         match names_after(alloc, procedures, index + 1, names, &mut out, line)? {
@@ -62,20 +62,11 @@ fn names_behind<'a>(
     Ok(None)
 }
 
-fn is_bank(bank: Bank, other: Bank) -> bool
-    ensures { result ≡ is_bank bank other }
-{
-    match bank {
-        Bank::Value => matches!(other, Bank::Value),
-        Bank::Right => matches!(other, Bank::Right),
-    }
-}
-
 fn is_register(bank: Bank, number: usize, thing: Thing) -> bool
     ensures { result ≡ is_register bank number thing }
 {
     match thing {
-        Thing::Register(other, place) => is_bank(bank, other) && number == place,
+        Thing::Register(other, place, _) => is_bank(bank, other) && number == place,
         _ => false,
     }
 }

@@ -40,7 +40,10 @@ fn put_body<'a>(
 {
     out.extend_from_slice(first)?;
     match opcode_in(Version::Two, first) {
-        Some(opcode) => put_instruction(alloc, procedures, names, out, opcode, words),
+        Some(opcode) => {
+            let pieces = pieces_of(alloc, words)?;
+            put_instruction(alloc, procedures, names, out, opcode, &pieces)
+        }
         None => {
             put_all(out, words)?;
             Ok(names)

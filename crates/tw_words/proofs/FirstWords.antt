@@ -8,8 +8,8 @@ use Rattle.tw_words.proofs.Insides.{one_text, head_is}
 use Rattle.tw_words.specs.declared.word.Next as nexts
 use Rattle.tw_words.specs.declared.word.Next.TheVariants as next
 use Rattle.tw_words.specs.Seen.{seen}
-use Rattle.tw_words.specs.reading.Next.{IsAfterGap, IsAtWord, IsNext, bare_length, is_at_edge}
-use Rattle.tw_words.specs.Words.{Bare, IsAtEdge, IsAtEnd, IsBare, IsBlank, IsBroken, IsFirstWord, IsGap, IsWord, Quoted, Word, is_comment_sign, is_edge, is_parting}
+use Rattle.tw_words.specs.reading.Next.{IsAfterGap, IsNext, bare_length, is_at_edge}
+use Rattle.tw_words.specs.Words.{Bare, IsAtEdge, IsAtEnd, IsAtWord, IsBare, IsBlank, IsBroken, IsFirstWord, IsGap, IsWord, Quoted, Word, is_comment_sign, is_edge, is_parting}
 use Rattle.tw_words.proofs.Once.{HasNoEdge, differ, end_here, gap_once, word_here}
 use Rattle.tw_words.proofs.Texts.{slice_tail}
 

@@ -1,10 +1,11 @@
 -- A loop over the lines of a text, with their indices.
-use Rattle.std.proofs.Common.{◌≡◌, ℕ, zero, suc, ◌+◌, ◌<◌, List, [], ◌∷◌, ◌++◌, length, map, get_or, take, drop, refl, sym, ap, ◌∙◌, arith}
+use Rattle.std.proofs.Common.{◌≡◌, ℕ, zero, suc, ◌+◌, ◌<◌, List, [], ◌∷◌, ◌++◌, length, map, get_or, take, drop, Option, None, Some, option_map, refl, sym, ap, ◌∙◌, arith}
 use denote.Ref.{Bor}
 use Rattle.std.proofs.Math.Seq.{split_at}
 use Rattle.std.proofs.lemmas.List.{length-map}
 use Rattle.std.proofs.lemmas.List.FromFn.{get_or-enumerate_from, length-enumerate_from}
 use Rattle.std.specs.List.{enumerate_from}
+use Rattle.std.specs.Prelude.{MatchOption}
 
 seconds : (k n : ℕ) (ls : List (List ℕ)) → map (λ (p : ℕ × List ℕ). p.1) (take n (enumerate_from k ls)) ≡ take n ls
 seconds k zero ls = refl
@@ -44,3 +45,8 @@ all_lines ls items e = sym (lines_of items) ∙ ap (map (λ (x : ℕ × List ℕ
     all_seconds : (k : ℕ) (ls : List (List ℕ)) → map (λ (x : ℕ × List ℕ). x.1) (enumerate_from k ls) ≡ ls
     all_seconds k [] = refl
     all_seconds k (l ∷ ls) = ap (λ (x : List (List ℕ)). l ∷ x) (all_seconds (k + 1) ls)
+
+-- the line of a number, if there is one
+pub nth_told : (r : Option (Bor (List ℕ))) (found : Option (List ℕ)) → option_map (λ (line : Bor (List ℕ)). line.now) r ≡ found → MatchOption r (found ≡ None) (λ line. found ≡ Some line.now)
+nth_told None found e = sym e
+nth_told (Some line) found e = sym e

@@ -5,8 +5,7 @@ use Rattle.std.specs.List.{AllByRecursion}
 use Rattle.std.proofs.lemmas.Bool.{eqb-true}
 use Rattle.tw_words.specs.Quoted.{SpellsQuoted}
 use Rattle.tw_words.proofs.Insides.{head_is, one_text, tail_is}
-use Rattle.tw_words.specs.reading.Next.{IsAtWord}
-use Rattle.tw_words.specs.Words.{AreFirstWords, Bare, IsAtEdge, IsAtEnd, IsBare, IsBlank, IsBroken, IsBrokenLine, IsFirstWord, IsGap, IsLine, IsWord, Quoted, Word, is_comment_sign, is_edge, is_parting}
+use Rattle.tw_words.specs.Words.{AreFirstWords, Bare, IsAtEdge, IsAtEnd, IsAtWord, IsBare, IsBlank, IsBroken, IsBrokenLine, IsFirstWord, IsGap, IsLine, IsWord, Quoted, Word, is_comment_sign, is_edge, is_parting}
 
 pub differ : true ≡ false → ⊥
 differ e = cc

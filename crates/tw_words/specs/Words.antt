@@ -33,6 +33,11 @@ IsWord (Quoted text) bytes = SpellsQuoted text bytes
 abbrev pub IsGap : List ℕ → Type 0
 IsGap bytes = AllByRecursion (λ b. is_parting b ≡ true) bytes
 
+-- no gap stands first
+abbrev pub IsAtWord : List ℕ → Type 0
+IsAtWord [] = Unit {0}
+IsAtWord (b ∷ rest) = is_parting b ≡ false
+
 -- the line's end, or one of these, is where a word may end
 abbrev pub IsAtEdge : List ℕ → Type 0
 IsAtEdge [] = Unit {0}

@@ -7,16 +7,22 @@
 mod behind;
 mod escape;
 mod first;
+mod hash;
 mod laws;
+mod lines;
 mod names;
 mod numbers;
 mod quoted;
+mod shown;
 mod word;
 
 pub use behind::{put, put_both, put_decimal, put_numbered, put_signed};
 pub use first::after;
+pub use hash::TextHash;
 pub use laws::{numbers_are_read_back, quoted_texts_are_read_back};
+pub use lines::line_numbered;
 pub use names::{before, before_colon, is_name};
 pub use numbers::{Flaw, digits, number};
 pub use quoted::{put_quoted, quoted_text};
+pub use shown::{begins_character, put_shortened, put_shortened_quoted};
 pub use word::{Line, Next, Word, next_word, without_gap, words_of};

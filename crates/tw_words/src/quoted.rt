@@ -76,13 +76,20 @@ fn put_escaped(out: &mut Vec<u8>, byte: u8) -> Result<(), AllocError>
     }
 }
 
+/// Adds the bytes of a text between quotes.
+pub(crate) fn put_quoted_bytes(out: &mut Vec<u8>, text: &[u8]) -> Result<(), AllocError>
+    ensures { OnOk result (out.new.items ≡ out.old.items ++ quoted text.now) }
+{
+    out.extend_from_slice(b"\"")?;
+    for byte in text {
+        put_escaped(out, *byte)?;
+    }
+    out.extend_from_slice(b"\"")
+}
+
 /// Adds a text between quotes.
 pub fn put_quoted(out: &mut Vec<u8>, text: &str) -> Result<(), AllocError>
     ensures { OnOk result (out.new.items ≡ out.old.items ++ quoted text.now) }
 {
-    out.extend_from_slice(b"\"")?;
-    for byte in text.as_bytes() {
-        put_escaped(out, *byte)?;
-    }
-    out.extend_from_slice(b"\"")
+    put_quoted_bytes(out, text.as_bytes())
 }

@@ -1,9 +1,9 @@
 //! Words of a line.
 
 ghost use Rattle.std.specs.Prelude.{◌≡◌, ℕ, IfOk, IsUtf8, get_or, map};
-ghost use Rattle.tw_words.specs.Words.{is_edge, is_parting};
+ghost use Rattle.tw_words.specs.Words.{IsAtWord, is_edge, is_parting};
 ghost use Rattle.tw_words.specs.Seen.{IsRead, seen};
-ghost use Rattle.tw_words.specs.reading.Next.{IsAfterGap, IsAtWord, IsNext, bare_length, is_at_edge};
+ghost use Rattle.tw_words.specs.reading.Next.{IsAfterGap, IsNext, bare_length, is_at_edge};
 
 use crate::quoted::quoted_text;
 use std::alloc::{AllocError, Global};

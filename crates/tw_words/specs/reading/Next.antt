@@ -1,19 +1,14 @@
 -- What stands first in what is left of a line.
-use Rattle.std.specs.Prelude.{◌≡◌, ℕ, suc, Bool, true, false, List, [], ◌∷◌, ◌++◌, if◌then◌else◌}
+use Rattle.std.specs.Prelude.{◌≡◌, ℕ, suc, Bool, true, List, [], ◌∷◌, ◌++◌, if◌then◌else◌}
 use Rattle.tw_words.specs.declared.word.Next as nexts
 use Rattle.tw_words.specs.declared.word.Next.TheVariants as next
 use Rattle.tw_words.specs.Seen.{seen}
-use Rattle.tw_words.specs.Words.{IsBlank, IsBroken, IsFirstWord, IsGap, is_edge, is_parting}
+use Rattle.tw_words.specs.Words.{IsAtWord, IsBlank, IsBroken, IsFirstWord, IsGap, is_edge}
 
 abbrev pub IsNext : nexts.Next → List ℕ → Type 0
 IsNext next.End bytes = IsBlank bytes
 IsNext next.Broken bytes = IsBroken bytes
 IsNext (next.Found word rest) bytes = IsFirstWord (seen word) bytes rest.now
-
--- no gap stands first
-abbrev pub IsAtWord : List ℕ → Type 0
-IsAtWord [] = Unit {0}
-IsAtWord (b ∷ rest) = is_parting b ≡ false
 
 -- all of the gap that stands first is before it
 pub record IsAfterGap (bytes rest : List ℕ) : Type 0 where

@@ -1,13 +1,27 @@
 use Rattle.std.proofs.Common.{◌≡◌, ◌<◌, ◌++◌, ◌∷◌, [], List, ℕ, length, IsUtf8, refl, ap, sym, subst, ◌∙◌}
-use Rattle.tw_names.proofs.TextNames.{StandFirst, StandsFirst, map-append, now, texts}
-use Rattle.tw_words.specs.Words.{IsBroken}
-use Rattle.tw_names.proofs.Taking.{broken_line, first_more}
+use Rattle.std.proofs.lemmas.Result.{IfOk-weaker}
+use Rattle.tw_names.proofs.TextNames.{Broken, IsTaken, Line, StandFirst, StandsFirst, Worded, line_rest, line_words, map-append, now, texts}
+use Rattle.tw_words.specs.Words.{IsBlank, IsBroken}
+use Rattle.tw_names.proofs.Taking.{first_more}
 use Rattle.tw_names.proofs.line.take_line.Goals as goal
+
+pub returns-in-End : goal.returns-in-End
+returns-in-End c =
+    let blank : IsBlank c.loop-words.rest.now = rw c.in-End.is at c.in_ok-first_text.ensures in
+    (Worded (texts c.loop-words.words.items) c.loop-words.rest.now, (c.loop-words.invariant.first, blank), refl, refl)
 
 pub returns-in-Broken : goal.returns-in-Broken
 returns-in-Broken c =
     let broken : IsBroken c.loop-words.rest.now = rw c.in-Broken.is at c.in_ok-first_text.ensures in
-    (refl, broken_line (texts c.loop-words.words.items) c.args.line.now c.loop-words.rest.now c.loop-words.invariant.first broken)
+    IfOk-weaker c.broken.result _ _
+    (λ taken is.
+    let e : texts taken.words.items ≡ texts c.loop-words.words.items ++ is.0 ∷ [] = is.2 in (
+      Broken (texts c.loop-words.words.items) is.0,
+      (c.loop-words.rest.now, c.loop-words.invariant.first, record { broken = broken; gap = is.1.gap; parts = is.1.parts; is_gap = is.1.is_gap; at_word = is.1.at_word }),
+      e,
+      is.3,
+    ))
+    c.broken.ensures
 
 pub loop-words-preserved : goal.loop-words-preserved
 loop-words-preserved c =

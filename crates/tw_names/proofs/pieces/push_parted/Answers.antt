@@ -1,7 +1,7 @@
 use Rattle.std.proofs.Common.{◌≡◌, ◌++◌, List, ℕ, length, ap, sym, ◌∙◌, arith}
 use Rattle.tw_names.proofs.TextNames.{pieces_left, texts}
 use Rattle.tw_names.proofs.Cutting.{left_last}
-use Rattle.tw_names.proofs.pieces.push_pieces.Goals as goal
+use Rattle.tw_names.proofs.pieces.push_parted.Goals as goal
 
 pub returns : goal.returns
 returns c =
