@@ -5,7 +5,11 @@ use Rattle.std.proofs.lemmas.Bool.{eqb-false}
 use Rattle.tw_types.specs.declared.input.Input.{Input}
 use Rattle.tw_types.specs.declared.input.Input.TheVariants as input
 use Rattle.tw_words.specs.Quoted.{SpellsQuoted}
-use Rattle.tw_command.specs.InputWords.{AreBehind, AreJoined, AreSpelled, IsRefusedWord, OneInput, OneRefusedWord, SpellsInput, SpellsInt, SpellsMember, SpellsMembers, SpellsRest, head_of}
+use Rattle.tw_command.specs.InputWords.{AreBehind, AreJoined, AreSpelled, IsRefusedWord, OneInput, OneRefusedWord, RefusedWord, refused_word, SpellsInput, SpellsInt, SpellsMember, SpellsMembers, SpellsRest, head_of}
+use Rattle.tw_command.specs.InputReasons.{reason_line}
+use Rattle.tw_command.specs.Order.{IsInputReason, IsRefusal}
+use Rattle.tw_command.specs.declared.command.NoOrder.{NoOrder}
+use Rattle.tw_command.specs.declared.command.NoOrder.TheVariants.{Help, Refused, InputWord, Explanation, NoMemory}
 use Rattle.tw_command.specs.CommandLine.{Asked, Assembles, Disassembles, Checks, Explains, Runs, Replays, IsAsked, IsRefusedInput}
 use Rattle.tw_command.specs.declared.command.Order.{Order}
 use Rattle.tw_command.proofs.InputReading.{IsOne, one_int, one_int_first, one_member, one_text_first}
@@ -123,12 +127,21 @@ as_many (w ∷ before) (v ∷ others) word other later after (x ∷ inputs) [] e
 as_many (w ∷ before) (v ∷ others) word other later after (x ∷ inputs) (y ∷ given) e h k none nothing =
     ap suc (as_many before others word other later after inputs given (heads w v (before ++ word ∷ later) (others ++ other ∷ after) e).1 h.1 k.1 none nothing)
 
+-- words behind as many are the same
+same_word : (before others : List (List ℕ)) (word other : List ℕ) (later after : List (List ℕ)) → before ++ word ∷ later ≡ others ++ other ∷ after → length before ≡ length others → word ≡ other
+same_word [] [] word other later after e l = (heads word other later after e).0
+same_word [] (w ∷ others) word other later after e l = absurd (omega (arith, l))
+same_word (w ∷ before) [] word other later after e l = absurd (omega (arith, l))
+same_word (w ∷ before) (v ∷ others) word other later after e l = same_word before others word other later after (heads w v (before ++ word ∷ later) (others ++ other ∷ after) e).1 (omega (arith, l))
+
 pub one_refused_word : OneRefusedWord
-one_refused_word words number other (before, inputs, word, later, e, h, none, is) (others, given, second, after, f, k, nothing, also) =
-    is ∙ ap suc (as_many before others word second later after inputs given (sym e ∙ f) h k none nothing) ∙ sym also
+one_refused_word words refused other (before, inputs, word, later, e, h, none, is) (others, given, second, after, f, k, nothing, also) =
+    let many = as_many before others word second later after inputs given (sym e ∙ f) h k none nothing in
+    let same = same_word before others word second later after (sym e ∙ f) many in
+    is ∙ ap (λ (n : ℕ). refused_word (suc n) (reason_line (suc n) word)) many ∙ ap (λ (w : List ℕ). refused_word (suc (length others)) (reason_line (suc (length others)) w)) same ∙ sym also
 
 -- where each word spells an input, none is refused
-pub none_refused : (words : List (List ℕ)) (inputs : List Input) (number : ℕ) → AreSpelled inputs words → IsRefusedWord words number → ⊥
+pub none_refused : (words : List (List ℕ)) (inputs : List Input) (number : RefusedWord) → AreSpelled inputs words → IsRefusedWord words number → ⊥
 none_refused words inputs number all (before, given, word, later, e, h, none, is) = by before inputs (subst (AreSpelled inputs) e all)
   where
     by : (before : List (List ℕ)) (inputs : List Input) → AreSpelled inputs (before ++ word ∷ later) → ⊥
@@ -162,31 +175,49 @@ one_word_more inputs new words i d x lt h k is =
 
 -- the first word that spells no input
 pub refused_at : (inputs : List Input) (words : List (Bor (List ℕ))) (i : ℕ) (d : Bor (List ℕ)) → i < length words → AreSpelled inputs (take i (map (λ w. w.now) words))
-    → ((given : Input) → SpellsInput given (get_or words i d).now → ⊥) → IsRefusedWord (map (λ w. w.now) words) (i + 1)
-refused_at inputs words i d lt h none =
+    → ((given : Input) → SpellsInput given (get_or words i d).now → ⊥) → (why : NoOrder) → IsRefusal (i + 1) (get_or words i d).now why → IsInputReason (map (λ w. w.now) words) why
+refused_at inputs words i d lt h none why refusal =
     let texts = map (λ (w : Bor (List ℕ)). w.now) words in
     let all : length texts ≡ length words = length-map words (λ (w : Bor (List ℕ)). w.now) in
     let parts : texts ≡ take i texts ++ (get_or words i d).now ∷ drop (i + 1) texts =
     sym (take-append-drop (i + 1) texts) ∙ ap (λ (t : List (List ℕ)). t ++ drop (i + 1) texts) (word_at words i d lt) ∙ append_assoc (take i texts) ((get_or words i d).now ∷ []) (drop (i + 1) texts) in
-    (take i texts, inputs, (get_or words i d).now, drop (i + 1) texts, parts, h, none, omega (arith, lt, all, length-take i texts))
+    let count : i + 1 ≡ suc (length (take i texts)) = omega (arith, lt, all, length-take i texts) in
+    by why (λ at reason is line. (
+      take i texts,
+      inputs,
+      (get_or words i d).now,
+      drop (i + 1) texts,
+      parts,
+      h,
+      none,
+      ap (λ (n : ℕ). refused_word n reason) (is ∙ count) ∙ ap (refused_word (suc (length (take i texts)))) (line ∙ ap (λ (n : ℕ). reason_line n (get_or words i d).now) count),
+    )) refusal
+  where
+    by : (r : NoOrder) → ((at : ℕ) (reason : List ℕ) → at ≡ i + 1 → reason ≡ reason_line (i + 1) (get_or words i d).now → IsRefusedWord (map (λ (w : Bor (List ℕ)). w.now) words) (refused_word at reason)) → IsRefusal (i + 1) (get_or words i d).now r
+        → IsInputReason (map (λ (w : Bor (List ℕ)). w.now) words) r
+    by (Help text) all h = absurd h
+    by Refused all h = absurd h
+    by (InputWord at reason) all h = all at reason.items h.0 h.1
+    by (Explanation text) all h = absurd h
+    by NoMemory all h = tt
 
 -- what is asked for is no refused word, and one word alone is refused
-pub never_refused : (asked : Asked) (order : Order) (number : ℕ) → IsAsked asked order → IsRefusedInput asked number → ⊥
+pub never_refused : (asked : Asked) (order : Order) (number : RefusedWord) → IsAsked asked order → IsRefusedInput asked number → ⊥
 never_refused (Assembles what) order number is_asked h = h
 never_refused (Disassembles source listed) order number is_asked h = h
-never_refused (Checks source listed) order number is_asked h = h
+never_refused (Checks source told) order number is_asked h = h
 never_refused (Runs source answer layout most traced turns (Some words)) order number (run, is, answer_is, layout_is, limit_is, trace_is, turns_is, spelled) h = none_refused words run.inputs number spelled h
 never_refused (Runs source answer layout most traced turns None) order number is_asked h = h
 never_refused (Replays source answer layout (Some words)) order number (replay, is, answer_is, layout_is, spelled) h = none_refused words replay.inputs number spelled h
 never_refused (Replays source answer layout None) order number is_asked h = h
 never_refused (Explains explained) order number is_asked h = h
 
-pub one_number : (asked : Asked) (number other : ℕ) → IsRefusedInput asked number → IsRefusedInput asked other → number ≡ other
-one_number (Assembles what) number other h k = absurd h
-one_number (Disassembles source listed) number other h k = absurd h
-one_number (Checks source listed) number other h k = absurd h
-one_number (Runs source answer layout most traced turns (Some words)) number other h k = one_refused_word words number other h k
-one_number (Runs source answer layout most traced turns None) number other h k = absurd h
-one_number (Replays source answer layout (Some words)) number other h k = one_refused_word words number other h k
-one_number (Replays source answer layout None) number other h k = absurd h
-one_number (Explains explained) number other h k = absurd h
+pub one_refused : (asked : Asked) (number other : RefusedWord) → IsRefusedInput asked number → IsRefusedInput asked other → number ≡ other
+one_refused (Assembles what) number other h k = absurd h
+one_refused (Disassembles source listed) number other h k = absurd h
+one_refused (Checks source told) number other h k = absurd h
+one_refused (Runs source answer layout most traced turns (Some words)) number other h k = one_refused_word words number other h k
+one_refused (Runs source answer layout most traced turns None) number other h k = absurd h
+one_refused (Replays source answer layout (Some words)) number other h k = one_refused_word words number other h k
+one_refused (Replays source answer layout None) number other h k = absurd h
+one_refused (Explains explained) number other h k = absurd h

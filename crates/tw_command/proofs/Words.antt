@@ -61,5 +61,5 @@ refused a words e n asked line kinds reason =
     go (Help text) r (inr h) = (kind_of e, among h, r)
     go Refused r (inl h) = absurd (r.1 h)
     go Refused r (inr h) = (kind_of e, among h, r.0)
-    go (InputWord number) r h = absurd r
+    go (InputWord number reason) r h = absurd r
     go (Explanation text) r h = absurd r

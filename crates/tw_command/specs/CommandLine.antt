@@ -1,5 +1,5 @@
 -- The command line: what clap is told of it, and what the words then ask for.
-use Rattle.std.specs.Prelude.{◌≡◌, ◌||◌, ◌&&◌, ℕ, Bool, true, not, List, [], ◌∷◌, Option, Some, None, codes, bytes_eq, fold, if◌then◌else◌, is_some, map, nat_lt, unwrap_or}
+use Rattle.std.specs.Prelude.{◌≡◌, ◌||◌, ◌&&◌, ℕ, Bool, true, false, not, List, [], ◌∷◌, Option, Some, None, codes, bytes_eq, fold, if◌then◌else◌, is_some, map, nat_lt, unwrap_or}
 use Rattle.clap.specs.Kinds.{or_else}
 use Rattle.clap.specs.Lexer.{usize_max}
 use Rattle.clap.specs.Walk.{is_empty}
@@ -7,15 +7,16 @@ use Rattle.clap.specs.Words.{App, Kinds, Row, Rule, Text, all_of, fault_of, firs
 use Rattle.clap.specs.declared.error.ErrorKind.TheVariants.{ArgumentConflict}
 use Rattle.tw_types.specs.declared.input.Input.{Input}
 use Rattle.tw_types.specs.Layout.{ActorCounts}
-use Rattle.tw_command.specs.InputWords.{AreSpelled, IsRefusedWord}
-use Rattle.tw_command.specs.Options.{NumberOption, actor_options, actors_told, assembling_told, first_shown, flag_rule, in_turn, inputs, is_given, last_shown, limit, names, number_options, option_faults, option_rule, picture, picture_options, places, places_told, plain, quiet, source_told, stats, stretch_options, stretch_told, text, told, trace}
-use Rattle.tw_command.specs.Explanations.{IsExplanation, number_faults, number_rule, number_word}
+use Rattle.tw_command.specs.InputWords.{AreSpelled, IsRefusedWord, RefusedWord}
+use Rattle.tw_command.specs.Options.{NumberOption, actor_options, actors_told, assembling_told, first_shown, flag_rule, in_turn, inputs, bounds, check_told, checking, is_given, last_shown, limit, names, number_options, option_faults, option_rule, picture, picture_options, places, places_told, plain, quiet, source_told, stats, stretch_options, stretch_told, text, told, trace}
+use Rattle.tw_command.specs.Explanations.{IsTold, number_faults, number_rule, number_word}
 use Rattle.tw_command.specs.declared.command.Answer.{Answer}
 use Rattle.tw_command.specs.declared.command.Answer.TheVariants.{Numbers, Picture, Report}
 use Rattle.tw_command.specs.declared.command.Order.{Order}
 use Rattle.tw_command.specs.declared.command.Assembling.{Assembling}
 use Rattle.tw_command.specs.declared.command.InputsOrder.TheVariants.{ToReplay, ToRun}
 use Rattle.tw_command.specs.declared.command.Order.TheVariants.{Assemble, Inputs, Program, Replay}
+use Rattle.tw_command.specs.declared.command.CheckOrder.{CheckOrder}
 use Rattle.tw_command.specs.declared.command.Places.{Places}
 use Rattle.tw_command.specs.declared.command.Places.TheVariants.{Hidden}
 use Rattle.tw_command.specs.declared.command.ProgramOrder.TheVariants.{Disassemble, Verified}
@@ -35,9 +36,13 @@ plain_line name = new_app name
 abbrev pub asm_line : App
 asm_line = with_rule (with_rule (new_app (codes "asm")) (flag_rule names)) (flag_rule plain)
 
--- a command that reads a program, and has no options but how that is written and whether places are listed
+-- a command that reads a program, and has options for how that is written and whether places are listed
 abbrev pub program_line : Text → App
 program_line name = with_rule (with_rule (new_app name) (flag_rule text)) (flag_rule places)
+
+-- the command that verifies
+abbrev pub check_line : App
+check_line = with_rule (program_line (codes "check")) (flag_rule bounds)
 
 abbrev pub explain_line : App
 explain_line = with_rule (new_app (codes "explain")) number_rule
@@ -85,7 +90,7 @@ bare_line = record (new_app (codes "tw")) {
 -- the whole command line
 unfoldable pub command_line : App
 command_line = fold (λ line command. with_subcommand line command.top) bare_line
-    (asm_line ∷ program_line (codes "disasm") ∷ program_line (codes "check") ∷ run_line
+    (asm_line ∷ program_line (codes "disasm") ∷ check_line ∷ run_line
     ∷ replay_line ∷ picture_line ∷ explain_line ∷ [])
 
 -- ---- what the words ask for
@@ -98,13 +103,13 @@ given_words rows = unwrap_or (all_of (codes "input") rows) []
 abbrev pub words_told : List Row → Option (List Text)
 words_told rows = if is_given inputs rows then None else Some (given_words rows)
 
--- the command that was named; `asm` with what it assembles, and the others with how the program is written that they read; `disasm` and `check` with
--- whether places are listed; `run`, by what is written, with its actors, the most events of the run, whether its history is written, whether it is in turn,
+-- the command that was named; `asm` with what it assembles, and the others with how the program is written that they read; `disasm` with
+-- whether places are listed, `check` with that and whether bounds are told; `run`, by what is written, with its actors, the most events of the run, whether its history is written, whether it is in turn,
 -- and the input words, if they don't stand in what is read; `replay` or `picture`, by what is written, with its actors and these; `explain` with its number
 pub data Asked : Type 0 where
   Assembles : Assembling → Asked
   Disassembles : Source → Places → Asked
-  Checks : Source → Places → Asked
+  Checks : Source → CheckOrder → Asked
   Runs : Source → Answer → ActorCounts → ℕ → Bool → Bool → Option (List Text) → Asked
   Replays : Source → Answer → ActorCounts → Option (List Text) → Asked
   Explains : Text → Asked
@@ -126,7 +131,7 @@ abbrev pub replay_asked : Answer → List Row → Asked
 replay_asked answer rows = Replays (source_told rows) answer (actors_told rows) (words_told rows)
 
 abbrev pub asked_of : Option (Text × List Row) → Asked
-asked_of None = Checks Hex Hidden
+asked_of None = Checks Hex (checking Hidden false)
 asked_of (Some named) =
     if bytes_eq named.0 (codes "run") then run_asked named.1 else
     if bytes_eq named.0 (codes "replay") then replay_asked (answer_told named.1) named.1 else
@@ -134,7 +139,7 @@ asked_of (Some named) =
     if bytes_eq named.0 (codes "asm") then Assembles (assembling_told named.1) else
     if bytes_eq named.0 (codes "disasm") then Disassembles (source_told named.1) (places_told named.1) else
     if bytes_eq named.0 (codes "explain") then Explains (number_word named.1) else
-    Checks (source_told named.1) (places_told named.1)
+    Checks (source_told named.1) (check_told named.1)
 
 -- what the program's words ask for
 abbrev pub asked_by_words : List Text → Asked
@@ -151,7 +156,7 @@ replay_with options given = record { answer = options.answer; layout = options.l
 abbrev pub IsAsked : Asked → Order → Type 0
 IsAsked (Assembles what) order = order ≡ Assemble what
 IsAsked (Disassembles source listed) order = order ≡ Program source (Disassemble listed)
-IsAsked (Checks source listed) order = order ≡ Program source (Verified (Check listed))
+IsAsked (Checks source told) order = order ≡ Program source (Verified (Check told))
 IsAsked (Runs source answer layout most traced turns (Some words)) order =
     (run : RunOrder) × (order ≡ Program source (Verified (Run run)))
     × (run.answer ≡ answer) × (run.layout ≡ layout) × (run.limit ≡ most) × (run.trace ≡ traced) × (run.in_turn ≡ turns) × AreSpelled run.inputs words
@@ -163,25 +168,25 @@ IsAsked (Replays source answer layout None) order =
     (replay : ReplayOptions) × (order ≡ Inputs source (ToReplay replay)) × (replay.answer ≡ answer) × (replay.layout ≡ layout)
 IsAsked (Explains number) order = ⊥
 
--- or the word of this number, counted from 1, is the first that spells no input
-abbrev pub IsRefusedInput : Asked → ℕ → Type 0
-IsRefusedInput (Assembles what) number = ⊥
-IsRefusedInput (Disassembles source listed) number = ⊥
-IsRefusedInput (Checks source listed) number = ⊥
-IsRefusedInput (Runs source answer layout most traced turns (Some words)) number = IsRefusedWord words number
-IsRefusedInput (Runs source answer layout most traced turns None) number = ⊥
-IsRefusedInput (Replays source answer layout (Some words)) number = IsRefusedWord words number
-IsRefusedInput (Replays source answer layout None) number = ⊥
-IsRefusedInput (Explains other) number = ⊥
+-- or this word is the first that spells no input
+abbrev pub IsRefusedInput : Asked → RefusedWord → Type 0
+IsRefusedInput (Assembles what) refused = ⊥
+IsRefusedInput (Disassembles source listed) refused = ⊥
+IsRefusedInput (Checks source told) refused = ⊥
+IsRefusedInput (Runs source answer layout most traced turns (Some words)) refused = IsRefusedWord words refused
+IsRefusedInput (Runs source answer layout most traced turns None) refused = ⊥
+IsRefusedInput (Replays source answer layout (Some words)) refused = IsRefusedWord words refused
+IsRefusedInput (Replays source answer layout None) refused = ⊥
+IsRefusedInput (Explains other) refused = ⊥
 
--- or a number is to be explained, and this is its explanation
+-- or numbers are to be explained, and this is told of them
 abbrev pub IsExplained : Asked → List ℕ → Type 0
 IsExplained (Assembles what) explanation = ⊥
 IsExplained (Disassembles source listed) explanation = ⊥
-IsExplained (Checks source listed) explanation = ⊥
+IsExplained (Checks source told) explanation = ⊥
 IsExplained (Runs source answer layout most traced turns words) explanation = ⊥
 IsExplained (Replays source answer layout words) explanation = ⊥
-IsExplained (Explains number) explanation = IsExplanation number explanation
+IsExplained (Explains number) explanation = IsTold number explanation
 
 -- ---- what refuses the words
 

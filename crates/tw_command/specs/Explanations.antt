@@ -1,17 +1,18 @@
 -- The numbers of refusals and traps, which `explain` explains.
-use Rattle.std.specs.Prelude.{◌≡◌, ◌++◌, ◌||◌, ℕ, Bool, true, List, [], ◌∷◌, codes, if◌then◌else◌, unwrap_or}
-use Rattle.std.specs.List.{list_any}
+use Rattle.std.specs.Prelude.{◌≡◌, ◌++◌, ◌==◌, ◌&&◌, ◌||◌, not, ℕ, Bool, true, false, List, [], ◌∷◌, codes, drop, if◌then◌else◌, length, map, nat_eq, take, unwrap_or, ⊤}
+use Rattle.std.specs.List.{list_any, starts_with}
+use Rattle.std.specs.Char.{to_ascii_uppercase}
 use Rattle.std.specs.Str.{bytes_eq}
 use Rattle.clap.specs.Words.{Kinds, Row, Rule, Text, first_of, new_rule}
 use Rattle.clap.specs.declared.error.ErrorKind.TheVariants.{ValueValidation}
 
 -- ---- all that there are, as refusals and traps name them
 
--- of what is read, of openings, layouts, histories and runs
+-- of what is read, of openings, histories and runs
 abbrev pub session_numbers : List Text
 session_numbers =
     codes "H01" ∷ codes "H02" ∷ codes "H03" ∷ codes "O01" ∷ codes "O02" ∷ codes "O03" ∷ codes "O04" ∷ codes "O05" ∷
-    codes "O06" ∷ codes "L01" ∷ codes "E01" ∷ codes "X01" ∷ []
+    codes "O06" ∷ codes "E01" ∷ codes "X01" ∷ []
 
 -- of assembly text
 abbrev pub assembly_numbers : List Text
@@ -48,19 +49,37 @@ is_among numbers word = list_any (λ number. bytes_eq number word) numbers
 abbrev pub is_number : Text → Bool
 is_number word = is_among session_numbers word || (is_among assembly_numbers word || (is_among name_numbers word || (is_among byte_numbers word || (is_among verifier_numbers word || is_among trap_numbers word))))
 
+-- ---- as they may be written
+
+-- a letter and one digit have a 0 between them, but for a trap
+abbrev pub full_number : Text → Text
+full_number word = if (length word == 2) && not (starts_with nat_eq word (codes "C")) then take 1 word ++ (codes "0" ++ drop 1 word) else word
+
+-- the number that a word means, in letters of either case
+abbrev pub meant : Text → Text
+meant word = full_number (map to_ascii_uppercase word)
+
 -- ---- what is written
 
 -- what is written for a number: it stands first, and something follows
 abbrev pub IsExplanation : Text → List ℕ → Type 0
 IsExplanation number text = (more : List ℕ) × (text ≡ number ++ (codes ": " ++ more))
 
--- the word behind `explain`
+-- for no word a list of all numbers, of which nothing more is said; for another the number that it means
+abbrev pub IsToldBy : Bool → Text → List ℕ → Type 0
+IsToldBy true word text = ⊤
+IsToldBy false word text = IsExplanation (meant word) text
+
+abbrev pub IsTold : Text → List ℕ → Type 0
+IsTold word text = IsToldBy (length word == 0) word text
+
+-- the word after `explain`, which may be missing
 abbrev pub number_rule : Rule
-number_rule = record (new_rule (codes "number")) { required = true }
+number_rule = new_rule (codes "number")
 
 abbrev pub number_word : List Row → Text
 number_word rows = unwrap_or (first_of (codes "number") rows) []
 
--- the fault where it is none of the numbers
+-- the fault where it means none of the numbers
 abbrev pub number_faults : Text → Kinds
-number_faults word = if is_number word then [] else ValueValidation ∷ []
+number_faults word = if length word == 0 then [] else if is_number (meant word) then [] else ValueValidation ∷ []

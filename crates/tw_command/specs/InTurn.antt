@@ -21,7 +21,7 @@ turned (Explains number) = Explains number
 
 -- a run that is ordered is in turn
 abbrev pub IsVerifiedInTurn : VerifiedOrder → Type 0
-IsVerifiedInTurn (Check places) = Unit {0}
+IsVerifiedInTurn (Check told) = Unit {0}
 IsVerifiedInTurn (Run run) = run.in_turn ≡ true
 
 abbrev pub IsProgramInTurn : ProgramOrder → Type 0
@@ -40,7 +40,7 @@ IsInTurn (Inputs source order) = IsInputsInTurn order
 
 -- the order with its run in turn
 abbrev pub verified_in_turn : VerifiedOrder → VerifiedOrder
-verified_in_turn (Check places) = Check places
+verified_in_turn (Check told) = Check told
 verified_in_turn (Run run) = Run (record run { in_turn = true })
 
 abbrev pub program_in_turn : ProgramOrder → ProgramOrder

@@ -4,6 +4,7 @@ use Rattle.tw_types.specs.declared.input.Input.{Input}
 use Rattle.tw_types.specs.declared.input.Input.TheVariants as input
 use Rattle.tw_words.specs.Number.{IsIn64, SpellsNumber}
 use Rattle.tw_words.specs.Quoted.{SpellsQuoted}
+use Rattle.tw_command.specs.InputReasons.{reason_line}
 
 -- ---- lists
 
@@ -62,11 +63,20 @@ AreSpelled [] (word ∷ words) = ⊥
 AreSpelled (given ∷ inputs) [] = ⊥
 AreSpelled (given ∷ inputs) (word ∷ words) = SpellsInput given word × AreSpelled inputs words
 
--- the word of this number, counted from 1, is the first that spells no input
-abbrev pub IsRefusedWord : List (List ℕ) → ℕ → Type 0
-IsRefusedWord words number =
+-- a word that spells no input, by its number, counted from 1, and the line that says why
+pub record RefusedWord : Type 0 where
+  pub number : ℕ
+  pub reason : List ℕ
+
+abbrev pub refused_word : ℕ → List ℕ → RefusedWord
+refused_word number reason = record { number = number; reason = reason }
+
+-- it is the first that spells no input, and the reason is that of this word
+abbrev pub IsRefusedWord : List (List ℕ) → RefusedWord → Type 0
+IsRefusedWord words refused =
     (before : List (List ℕ)) × (inputs : List Input) × (word : List ℕ) × (later : List (List ℕ))
-    × (words ≡ before ++ word ∷ later) × AreSpelled inputs before × ((given : Input) → SpellsInput given word → ⊥) × (number ≡ suc (length before))
+    × (words ≡ before ++ word ∷ later) × AreSpelled inputs before × ((given : Input) → SpellsInput given word → ⊥)
+    × (refused ≡ refused_word (suc (length before)) (reason_line (suc (length before)) word))
 
 -- ---- the laws
 
@@ -74,4 +84,4 @@ abbrev pub OneInput : Type 0
 OneInput = (word : List ℕ) (given other : Input) → SpellsInput given word → SpellsInput other word → given ≡ other
 
 abbrev pub OneRefusedWord : Type 0
-OneRefusedWord = (words : List (List ℕ)) (number other : ℕ) → IsRefusedWord words number → IsRefusedWord words other → number ≡ other
+OneRefusedWord = (words : List (List ℕ)) (refused other : RefusedWord) → IsRefusedWord words refused → IsRefusedWord words other → refused ≡ other

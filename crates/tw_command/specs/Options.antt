@@ -8,6 +8,7 @@ use Rattle.tw_types.specs.Layout.{ActorCounts}
 use Rattle.tw_command.specs.declared.command.Assembling.{Assembling}
 use Rattle.tw_command.specs.declared.command.Assembling.TheVariants.{Names, Plain}
 use Rattle.tw_command.specs.declared.command.Assembling.TheVariants as assembling
+use Rattle.tw_command.specs.declared.command.CheckOrder.{CheckOrder}
 use Rattle.tw_command.specs.declared.command.Places.{Places}
 use Rattle.tw_command.specs.declared.command.Places.TheVariants.{Hidden, Shown}
 use Rattle.tw_command.specs.declared.command.Source.{Source}
@@ -98,6 +99,10 @@ places = codes "places"
 abbrev pub inputs : Text
 inputs = codes "inputs"
 
+-- the flag of `check`: bounds of whole runs are told after the budgets
+abbrev pub bounds : Text
+bounds = codes "bounds"
+
 -- what clap is told of an option of this name
 abbrev pub option_rule : Text → Rule
 option_rule name = record (new_rule name) { long = Some name }
@@ -131,6 +136,13 @@ assembling_told rows = if is_given plain rows then Plain else if is_given names 
 -- whether the places of instructions are listed
 abbrev pub places_told : List Row → Places
 places_told rows = if is_given places rows then Shown else Hidden
+
+-- what a check tells besides the budgets
+abbrev pub checking : Places → Bool → CheckOrder
+checking listed bounded = record { places = listed; bounds = bounded }
+
+abbrev pub check_told : List Row → CheckOrder
+check_told rows = checking (places_told rows) (is_given bounds rows)
 
 -- the fault where one of these options has none
 abbrev pub option_faults : List NumberOption → List Row → Kinds

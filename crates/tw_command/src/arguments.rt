@@ -3,13 +3,13 @@
 ghost use Rattle.std.specs.Prelude.{◌≡◌, false, IfOk};
 ghost use Rattle.clap.specs.Words.{app_of, rule_of};
 ghost use Rattle.clap.specs.declared.Command.TheViews.{out-Command};
-ghost use Rattle.tw_command.specs.CommandLine.{asm_line, explain_line, input_rule, plain_line, program_line};
+ghost use Rattle.tw_command.specs.CommandLine.{asm_line, check_line, explain_line, input_rule, plain_line, program_line};
 ghost use Rattle.tw_command.specs.Options.{flag_rule, inputs, option_rule, places, text};
 ghost use Rattle.tw_command.specs.Explanations.{number_rule};
 
 use crate::help::{
-    ASM, CommandHelp, EXPLAIN, INPUT_HELP, INPUTS_HELP, NAMES_HELP, NUMBER_HELP, PLACES_HELP,
-    PLAIN_HELP, TEXT_HELP,
+    ASM, BOUNDS_HELP, CHECK, CommandHelp, EXPLAIN, INPUT_HELP, INPUTS_HELP, NAMES_HELP,
+    NUMBER_HELP, PLACES_HELP, PLAIN_HELP, TEXT_HELP,
 };
 use clap::{Arg, ArgAction, Command};
 use std::alloc::{AllocError, Global};
@@ -67,7 +67,7 @@ pub(crate) fn number_arg<'a>(alloc: Global) -> Arg<'a>
     ensures rule { rule_of result ≡ number_rule }
     ensures local { result.global ≡ false }
 {
-    Arg::new(alloc, "number").required(true).help(NUMBER_HELP)
+    Arg::new(alloc, "number").help(NUMBER_HELP)
 }
 
 pub(crate) fn input_arg<'a>(alloc: Global) -> Arg<'a>
@@ -89,6 +89,16 @@ pub(crate) fn program_command<'a>(
     let bare = plain_command(alloc, name, help);
     let text = bare.arg(text_arg(alloc))?;
     let whole = text.arg(places_arg(alloc))?;
+    Ok(whole)
+}
+
+/// Makes the command that verifies a program.
+pub(crate) fn check_command<'a>(alloc: Global) -> Result<Command<'a>, AllocError>
+    ensures app { IfOk result (λ c. app_of c ≡ check_line) }
+    ensures local { IfOk result (λ c. (out-Command c).has_globals ≡ false) }
+{
+    let reading = program_command(alloc, "check", &CHECK)?;
+    let whole = reading.arg(flag_arg(alloc, "bounds", BOUNDS_HELP))?;
     Ok(whole)
 }
 

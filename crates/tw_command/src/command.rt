@@ -8,11 +8,11 @@ ghost use Rattle.tw_command.specs.Options.{actor_options, number_options};
 ghost use Rattle.tw_command.specs.declared.command.NoOrder.TheVariants.{NoMemory};
 
 use crate::arguments::{
-    asm_command, explain_command, flag_arg, input_arg, inputs_arg, option_arg, plain_command,
-    program_command, text_arg,
+    asm_command, check_command, explain_command, flag_arg, input_arg, inputs_arg, option_arg,
+    plain_command, program_command, text_arg,
 };
 use crate::help::{
-    ABOUT, CHECK, CommandHelp, DISASM, ENGINES_HELP, FROM_HELP, IN_TURN_HELP, LIMIT_HELP, PICTURE,
+    ABOUT, CommandHelp, DISASM, ENGINES_HELP, FROM_HELP, IN_TURN_HELP, LIMIT_HELP, PICTURE,
     PICTURE_HELP, QUIET_HELP, REPLAY, RUN, SERVERS_HELP, STATS_HELP, TO_HELP, TRACE_HELP, VERSION,
     WORKERS_HELP,
 };
@@ -46,11 +46,20 @@ pub enum Places {
     Shown,
 }
 
+/// What a check tells besides the budgets.
+#[derive(Clone, Copy)]
+pub struct CheckOrder {
+    /// Whether the instructions are listed before them.
+    pub places: Places,
+    /// Whether the bounds of whole runs come after them.
+    pub bounds: bool,
+}
+
 /// What is asked for of a program that is accepted.
 #[derive(Drop)]
 pub enum VerifiedOrder {
-    /// Tell its budgets, behind the listing where that is shown.
-    Check(Places),
+    /// Tell its budgets, and this besides.
+    Check(CheckOrder),
     /// Run it.
     Run(RunOrder),
 }
@@ -184,8 +193,9 @@ pub enum NoOrder {
     Help(String),
     /// No command of `tw` takes them, an option has no number in its range, or inputs are given in two ways.
     Refused,
-    /// The input word of this number, counted from 1, is the first that spells no input; all else is taken.
-    InputWord(usize),
+    /// The input word of this number, counted from 1, is the first that spells no input, for the reason that this line
+    /// gives; all else is taken.
+    InputWord(usize, Vec<u8>),
     /// They ask what a number means, and this is told of it.
     Explanation(Vec<u8>),
     /// Memory was refused on the way.
@@ -325,7 +335,7 @@ pub(crate) fn command<'a>(alloc: Global) -> Result<Command<'a>, AllocError>
     let bare = bare_command(alloc)?;
     let one = joined(bare, asm_command(alloc))?;
     let two = joined(one, program_command(alloc, "disasm", &DISASM))?;
-    let three = joined(two, program_command(alloc, "check", &CHECK))?;
+    let three = joined(two, check_command(alloc))?;
     let four = joined(three, run_command(alloc))?;
     let five = joined(four, replay_command(alloc))?;
     let six = joined(five, picture_command(alloc))?;

@@ -1,9 +1,10 @@
 //! What the numbers of refusals and traps mean.
 
-ghost use Rattle.std.specs.Prelude.{◌≡◌, ◌++◌, codes, is_some, IfOk, IfSome, OnOk};
+ghost use Rattle.std.specs.Prelude.{◌≡◌, ◌++◌, ◌∷◌, [], true, false, codes, is_some, IfOk, IfSome, MatchOption, OnOk};
 ghost use Rattle.std.specs.List.{find, list_any};
 ghost use Rattle.std.specs.Str.{bytes_eq};
-ghost use Rattle.tw_command.specs.Explanations.{IsExplanation, assembly_numbers, byte_numbers, is_among, is_number, name_numbers, session_numbers, trap_numbers, verifier_numbers};
+ghost use Rattle.clap.specs.declared.error.ErrorKind.TheVariants.{ValueValidation};
+ghost use Rattle.tw_command.specs.Explanations.{IsExplanation, IsTold, assembly_numbers, byte_numbers, full_number, is_among, is_number, meant, name_numbers, number_faults, session_numbers, trap_numbers, verifier_numbers};
 
 use crate::explained_names::NAMES;
 use crate::explained_programs::{TRAPS, VERIFIER};
@@ -26,7 +27,7 @@ pub(crate) struct Explanation {
 
 /// Of what is read, of openings, histories and runs.
 #[rattlefmt::skip]
-const SESSION: [Explanation; 12] = [
+const SESSION: [Explanation; 11] = [
     Explanation { number: "H01",
         meaning: "what was read isn't hex text",
         asked: "two hexadecimal digits a byte, with nothing else between them but spaces, tabs and line ends",
@@ -72,11 +73,6 @@ const SESSION: [Explanation; 12] = [
         asked: "what V16 asks",
         mistake: "as at V16",
         mending: "as at V16; see `tw explain V16`" },
-    Explanation { number: "L01",
-        meaning: "a number of actors is out of its limits",
-        asked: "1 to 4 engines, 1 to 4 servers and 1 to 16 workers",
-        mistake: "--workers 0, or more than 16",
-        mending: "give a number in the range; `tw` tells this as `command line refused`" },
     Explanation { number: "E01",
         meaning: "a line of the history is no event",
         asked: "take w0, local w0 3, call w0, end w0, ask e0 1 0, deliver s0 2 1 0 or release e0 1",
@@ -179,67 +175,67 @@ const BYTES: [Explanation; 9] = [
         mending: "give it more memory" },
 ];
 
-/// The first of these rows with this number.
-fn first_named(rows: &[Explanation], word: &str) -> Option<Explanation>
+/// Returns the first of these rows with this number.
+fn first_named(rows: &[Explanation], word: &[u8]) -> Option<Explanation>
     ensures { result ≡ find (λ row. bytes_eq row.number.now word.now) rows.now }
 {
     rows.iter()
         .copied()
-        .find(|row| row.number.as_bytes() == word.as_bytes())
+        .find(|row| row.number.as_bytes() == word)
 }
 
-/// The row of a number among these.
-fn found(rows: &[Explanation], word: &str) -> Option<Explanation>
+/// Returns the row of a number among these.
+fn found(rows: &[Explanation], word: &[u8]) -> Option<Explanation>
     ensures known { is_some result ≡ list_any (λ row. bytes_eq row.number.now word.now) rows.now }
     ensures number { IfSome result (λ row. row.number.now ≡ word.now) }
 {
     first_named(rows, word)
 }
 
-fn session_row(word: &str) -> Option<Explanation>
+fn session_row(word: &[u8]) -> Option<Explanation>
     ensures known { is_some result ≡ is_among session_numbers word.now }
     ensures number { IfSome result (λ row. row.number.now ≡ word.now) }
 {
     found(&SESSION, word)
 }
 
-fn assembly_row(word: &str) -> Option<Explanation>
+fn assembly_row(word: &[u8]) -> Option<Explanation>
     ensures known { is_some result ≡ is_among assembly_numbers word.now }
     ensures number { IfSome result (λ row. row.number.now ≡ word.now) }
 {
     found(&ASSEMBLY, word)
 }
 
-fn name_row(word: &str) -> Option<Explanation>
+fn name_row(word: &[u8]) -> Option<Explanation>
     ensures known { is_some result ≡ is_among name_numbers word.now }
     ensures number { IfSome result (λ row. row.number.now ≡ word.now) }
 {
     found(&NAMES, word)
 }
 
-fn bytes_row(word: &str) -> Option<Explanation>
+fn bytes_row(word: &[u8]) -> Option<Explanation>
     ensures known { is_some result ≡ is_among byte_numbers word.now }
     ensures number { IfSome result (λ row. row.number.now ≡ word.now) }
 {
     found(&BYTES, word)
 }
 
-fn verifier_row(word: &str) -> Option<Explanation>
+fn verifier_row(word: &[u8]) -> Option<Explanation>
     ensures known { is_some result ≡ is_among verifier_numbers word.now }
     ensures number { IfSome result (λ row. row.number.now ≡ word.now) }
 {
     found(&VERIFIER, word)
 }
 
-fn trap_row(word: &str) -> Option<Explanation>
+fn trap_row(word: &[u8]) -> Option<Explanation>
     ensures known { is_some result ≡ is_among trap_numbers word.now }
     ensures number { IfSome result (λ row. row.number.now ≡ word.now) }
 {
     found(&TRAPS, word)
 }
 
-/// The row of a number, if it is one.
-fn row_of(word: &str) -> Option<Explanation>
+/// Returns the row of a number, if it is one.
+fn row_of(word: &[u8]) -> Option<Explanation>
     ensures known { is_some result ≡ is_number word.now }
     ensures number { IfSome result (λ row. row.number.now ≡ word.now) }
 {
@@ -260,7 +256,43 @@ fn put_line(out: &mut Vec<u8>, name: &str, text: &str) -> Result<(), AllocError>
     put(out, "\n")
 }
 
-/// The text of a row: its number stands first.
+/// Adds each number with its meaning, a line each.
+fn put_rows(out: &mut Vec<u8>, rows: &[Explanation]) -> Result<(), AllocError> {
+    for row in rows {
+        put(out, row.number)?;
+        put_line(out, ": ", row.meaning)?;
+    }
+    Ok(())
+}
+
+/// Returns all numbers with their meanings, a line each.
+fn listing(alloc: Global) -> Result<Vec<u8>, AllocError> {
+    let mut text = Vec::new(alloc);
+    put_rows(&mut text, &SESSION)?;
+    put_rows(&mut text, &ASSEMBLY)?;
+    put_rows(&mut text, &NAMES)?;
+    put_rows(&mut text, &BYTES)?;
+    put_rows(&mut text, &VERIFIER)?;
+    put_rows(&mut text, &TRAPS)?;
+    Ok(text)
+}
+
+/// Puts a 0 between a letter and a digit alone, except for a trap's number.
+fn full_number(alloc: Global, word: &[u8]) -> Result<Vec<u8>, AllocError>
+    ensures { IfOk result (λ number. number.items ≡ full_number word.now) }
+{
+    if word.len() == 2 && !word.starts_with(b"C") {
+        let mut number = Vec::new(alloc);
+        number.extend_from_slice(&word[..1])?;
+        number.extend_from_slice(b"0")?;
+        number.extend_from_slice(&word[1..])?;
+        Ok(number)
+    } else {
+        word.to_vec(alloc)
+    }
+}
+
+/// Returns the text of a row: its number stands first.
 fn text_of(alloc: Global, row: &Explanation) -> Result<Vec<u8>, AllocError>
     ensures { IfOk result (λ text. IsExplanation row.now.number.now text.items) }
 {
@@ -273,13 +305,32 @@ fn text_of(alloc: Global, row: &Explanation) -> Result<Vec<u8>, AllocError>
     Ok(text)
 }
 
-/// What is told of a number, if it is one.
-pub fn explained(alloc: Global, word: &str) -> Result<Option<Vec<u8>>, AllocError>
-    ensures known { IfOk result (λ told. is_some told ≡ is_number word.now) }
-    ensures text { IfOk result (λ told. IfSome told (λ text. IsExplanation word.now text.items)) }
+/// Returns what a number means, if it is one.
+fn row_told(alloc: Global, number: &[u8]) -> Result<Option<Vec<u8>>, AllocError>
+    ensures { IfOk result (λ told. MatchOption told (is_number number.now ≡ false) (λ text. (is_number number.now ≡ true) × IsExplanation number.now text.items)) }
 {
-    match row_of(word) {
+    match row_of(number) {
         Some(row) => Ok(Some(text_of(alloc, &row)?)),
         None => Ok(None),
+    }
+}
+
+/// Returns what the number means that a word means, if it means one.
+fn word_told(alloc: Global, word: &[u8]) -> Result<Option<Vec<u8>>, AllocError>
+    ensures { IfOk result (λ told. MatchOption told (is_number (meant word.now) ≡ false) (λ text. (is_number (meant word.now) ≡ true) × IsExplanation (meant word.now) text.items)) }
+{
+    let capitals = word.to_ascii_uppercase(alloc)?;
+    let number = full_number(alloc, &capitals)?;
+    row_told(alloc, &number)
+}
+
+/// Returns what a word after `explain` asks for: what a number means, or for no word all numbers; none if it means no number.
+pub fn explained(alloc: Global, word: &str) -> Result<Option<Vec<u8>>, AllocError>
+    ensures { IfOk result (λ told. MatchOption told (number_faults word.now ≡ ValueValidation ∷ []) (λ text. (number_faults word.now ≡ []) × IsTold word.now text.items)) }
+{
+    if word.is_empty() {
+        Ok(Some(listing(alloc)?))
+    } else {
+        word_told(alloc, word.as_bytes())
     }
 }

@@ -1,6 +1,6 @@
 //! What was found behind a command: its options, and the input words.
 
-ghost use Rattle.std.specs.Prelude.{◌≡◌, not, [], ◌∷◌, map, IfOk, IfErr, IfSome, MatchOption};
+ghost use Rattle.std.specs.Prelude.{◌≡◌, false, not, [], ◌∷◌, map, IfOk, IfErr, IfSome, MatchOption};
 ghost use Rattle.clap.specs.Walk.{is_empty};
 ghost use Rattle.clap.specs.Words.{found_of, rows_of};
 ghost use Rattle.clap.specs.declared.error.ErrorKind.TheVariants.{ValueValidation};
@@ -8,11 +8,12 @@ ghost use Rattle.tw_command.specs.CommandLine.{answer_told, given_words, input_f
 ghost use Rattle.tw_command.specs.declared.command.Answer.{Answer as Answers};
 ghost use Rattle.tw_command.specs.InputWords.{AreSpelled};
 ghost use Rattle.tw_command.specs.reading.Inputs.{HasInputs};
-ghost use Rattle.tw_command.specs.Options.{HasActors, actor_options, assembling_told, is_given, limit, number_of, option_faults, places_told, source_told};
+ghost use Rattle.tw_command.specs.Options.{HasActors, actor_options, assembling_told, check_told, checking, is_given, limit, number_of, option_faults, places_told, source_told};
 ghost use Rattle.std.specs.Int.{IsInRange};
 ghost use Rattle.tw_command.specs.Order.{HasReason, IsInputReason};
 
-use crate::command::{Answer, Assembling, NoOrder, Places, Source};
+use crate::command::{Answer, Assembling, CheckOrder, NoOrder, Places, Source};
+use crate::input_reasons::refused_word;
 use crate::input_words::input_of;
 use crate::limit::EventLimit;
 use clap::ArgMatches;
@@ -87,6 +88,26 @@ pub(crate) fn places_given(matches: &ArgMatches<'_>) -> Places
     }
 }
 
+/// Returns what a check tells besides the budgets.
+pub(crate) fn check_given(matches: &ArgMatches<'_>) -> CheckOrder
+    ensures { result ≡ check_told (rows_of (found_of matches.now)) }
+{
+    CheckOrder {
+        places: places_given(matches),
+        bounds: flag_given(matches, "bounds"),
+    }
+}
+
+/// Returns what a check tells without options.
+pub(crate) fn bare_check() -> CheckOrder
+    ensures { result ≡ checking Places.Hidden false }
+{
+    CheckOrder {
+        places: Places::Hidden,
+        bounds: false,
+    }
+}
+
 /// What is assembled, and what is written of it.
 pub(crate) fn assembling_given(matches: &ArgMatches<'_>) -> Assembling
     ensures { result ≡ assembling_told (rows_of (found_of matches.now)) }
@@ -120,7 +141,7 @@ pub fn inputs_of(alloc: Global, words: &[&str]) -> Result<Items<Input>, NoOrder>
     for (index, word) in words.iter().enumerate() {
         match input_of(alloc, word)? {
             Some(input) => inputs.push(input)?,
-            None => return Err(NoOrder::InputWord(index + 1)),
+            None => return Err(refused_word(alloc, index + 1, word)),
         }
     }
     Ok(Items::from(inputs))

@@ -40,6 +40,9 @@ refused, as `at line 17: STORE d0 v0`, and why: the word, what was expected and 
 holds and what was asked.
 Where it is accepted, a line for each procedure tells how many instructions a task of it does at most, and a last
 line how many engines and workers its targets need.
+With --bounds lines follow with what a whole run does at most, whatever its inputs and actors: `bound tasks 9` and so for
+instructions, data, rules and events; `over` is more than 1,000,000,000,000. Such a run ends within its bound of events. If calls
+lead back to their procedure there are no bounds, and a line names one such call.
 With --places the program is listed before these lines as `tw disasm --places` lists it, or where it is read as text by the
 text's own lines, and behind each instruction stands what the right registers hold there, as `d0 write int`; before a refusal, up
 to the refused place.
@@ -110,8 +113,9 @@ Exit status: 0 quiet or still running, 1 refused or an event that isn't enabled,
 
 pub(crate) const EXPLAIN: CommandHelp<'static> = CommandHelp {
     about: "Tells what the number of a refusal or a trap means",
-    whole: "A number is what a line of another command names: H01 to H03, A01 to A07, N01 to N07, F01 to F09, V01 to V18, O01 to O06, L01,
-E01, X01 or C1 to C15. What is written says what it means, what was asked, the usual mistake and how that is mended.
+    whole: "A number is what a line of another command names: H01 to H03, A01 to A07, N01 to N07, F01 to F09, V01 to V18, O01 to O06,
+E01, X01 or C1 to C15. Small letters are taken, and V4 for V04. What is written says what it means, what was asked, the usual
+mistake and how that is mended. Without a number all are listed, each with what it means.
 Exit status: 0 told, 2 command line refused or no such number, 5 memory ran out, 7 a write failed.",
 };
 
@@ -157,6 +161,9 @@ pub(crate) const NAMES_HELP: &str =
 pub(crate) const PLAIN_HELP: &str =
     "Write the assembly text for which a text with names stands, and not the bytes";
 
+pub(crate) const BOUNDS_HELP: &str =
+    "Tell bounds of whole runs: tasks, instructions, data, rules, events";
+
 pub(crate) const PLACES_HELP: &str = "List the instructions, each with its place";
 
-pub(crate) const NUMBER_HELP: &str = "The number, as A02, V04 or C5";
+pub(crate) const NUMBER_HELP: &str = "The number, as A02, V04 or C5; without it all are listed";

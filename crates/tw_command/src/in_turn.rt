@@ -10,7 +10,7 @@ impl VerifiedOrder {
         ensures { result ≡ verified_in_turn self }
     {
         match self {
-            VerifiedOrder::Check(places) => VerifiedOrder::Check(places),
+            VerifiedOrder::Check(order) => VerifiedOrder::Check(order),
             VerifiedOrder::Run(mut run) => {
                 run.in_turn = true;
                 VerifiedOrder::Run(run)

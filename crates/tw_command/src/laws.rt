@@ -1,13 +1,14 @@
 //! What the reading of words says at some words.
 
 ghost use Rattle.std.specs.Prelude.{◌≡◌, ℕ, true, false, List, [], ◌∷◌, Some, None, codes};
-ghost use Rattle.clap.specs.declared.error.ErrorKind.TheVariants.{ArgumentConflict, DisplayHelp, DisplayVersion, InvalidSubcommand, InvalidValue, MissingRequiredArgument, TooManyValues, UnknownArgument, ValueValidation};
+ghost use Rattle.clap.specs.declared.error.ErrorKind.TheVariants.{ArgumentConflict, DisplayHelp, DisplayVersion, InvalidSubcommand, InvalidValue, TooManyValues, UnknownArgument, ValueValidation};
 ghost use Rattle.tw_command.specs.CommandLine.{Assembles, Checks, Disassembles, Explains, Replays, Runs, asked_by_words, word_faults};
 ghost use Rattle.tw_command.specs.declared.command.Answer.TheVariants.{Numbers, Picture, Report};
 ghost use Rattle.tw_command.specs.declared.command.Assembling.TheVariants.{Names, Plain, Text};
 ghost use Rattle.tw_command.specs.declared.command.Places.TheVariants.{Hidden, Shown};
 ghost use Rattle.tw_command.specs.declared.command.Source.TheVariants.{Assembly, Hex};
-ghost use Rattle.tw_command.specs.Options.{actors, stretch};
+ghost use Rattle.tw_command.specs.Options.{actors, checking, stretch};
+ghost use Rattle.tw_command.specs.Explanations.{meant};
 ghost use Rattle.tw_command.specs.InputWords.{OneInput, OneRefusedWord};
 
 /// Each command is taken, and asks for what its name says, with the options and words behind it.
@@ -17,7 +18,9 @@ pub fn commands_are_taken()
     ensures plain { (word_faults (codes "asm" ∷ codes "--names" ∷ codes "--plain" ∷ []) ≡ [])
         × (asked_by_words (codes "asm" ∷ codes "--names" ∷ codes "--plain" ∷ []) ≡ Assembles Plain) }
     ensures disasm { (word_faults (codes "disasm" ∷ []) ≡ []) × (asked_by_words (codes "disasm" ∷ []) ≡ Disassembles Hex Hidden) }
-    ensures check { (word_faults (codes "check" ∷ []) ≡ []) × (asked_by_words (codes "check" ∷ []) ≡ Checks Hex Hidden) }
+    ensures check { (word_faults (codes "check" ∷ []) ≡ []) × (asked_by_words (codes "check" ∷ []) ≡ Checks Hex (checking Hidden false)) }
+    ensures bounds { (word_faults (codes "check" ∷ codes "--bounds" ∷ codes "--text" ∷ []) ≡ [])
+        × (asked_by_words (codes "check" ∷ codes "--bounds" ∷ codes "--text" ∷ []) ≡ Checks Assembly (checking Hidden true)) }
     ensures run { (word_faults (codes "run" ∷ []) ≡ [])
         × (asked_by_words (codes "run" ∷ []) ≡ Runs Hex Report (actors 1 1 1) 10000 false false (Some [])) }
     ensures inputs { (word_faults (codes "run" ∷ codes "int:7" ∷ codes "text:a" ∷ []) ≡ [])
@@ -63,9 +66,9 @@ pub fn commands_are_taken()
         × (asked_by_words (codes "picture" ∷ codes "--from" ∷ codes "3" ∷ codes "--to=3" ∷ [])
         ≡ Replays Hex (Picture (stretch 3 3)) (actors 1 1 1) (Some [])) }
     ensures text { (word_faults (codes "check" ∷ codes "--text" ∷ []) ≡ [])
-        × (asked_by_words (codes "check" ∷ codes "--text" ∷ []) ≡ Checks Assembly Hidden) }
+        × (asked_by_words (codes "check" ∷ codes "--text" ∷ []) ≡ Checks Assembly (checking Hidden false)) }
     ensures places { (word_faults (codes "check" ∷ codes "--places" ∷ codes "--text" ∷ []) ≡ [])
-        × (asked_by_words (codes "check" ∷ codes "--places" ∷ codes "--text" ∷ []) ≡ Checks Assembly Shown) }
+        × (asked_by_words (codes "check" ∷ codes "--places" ∷ codes "--text" ∷ []) ≡ Checks Assembly (checking Shown false)) }
     ensures disasm_places { (word_faults (codes "disasm" ∷ codes "--places" ∷ []) ≡ [])
         × (asked_by_words (codes "disasm" ∷ codes "--places" ∷ []) ≡ Disassembles Hex Shown) }
     ensures run_text { (word_faults (codes "run" ∷ codes "int:7" ∷ codes "--text" ∷ []) ≡ [])
@@ -81,6 +84,8 @@ pub fn commands_are_taken()
         × (asked_by_words (codes "replay" ∷ codes "--inputs" ∷ []) ≡ Replays Hex Report (actors 1 1 1) None) }
     ensures explain { (word_faults (codes "explain" ∷ codes "V04" ∷ []) ≡ [])
         × (asked_by_words (codes "explain" ∷ codes "V04" ∷ []) ≡ Explains (codes "V04")) }
+    ensures meant { (word_faults (codes "explain" ∷ codes "v4" ∷ []) ≡ []) × (meant (codes "v4") ≡ codes "V04") }
+    ensures numbers { (word_faults (codes "explain" ∷ []) ≡ []) × (asked_by_words (codes "explain" ∷ []) ≡ Explains []) }
 {}
 
 /// Words are refused that name no command, or come after `check`; so is an option that isn't known, comes twice, or has
@@ -111,10 +116,10 @@ pub fn strangers_are_refused()
     ensures past_event { word_faults (codes "run" ∷ codes "--picture" ∷ codes "--to" ∷ codes "4294967296" ∷ []) ≡ ValueValidation ∷ [] }
     ensures replay_stretch { word_faults (codes "replay" ∷ codes "--from" ∷ codes "1" ∷ []) ≡ UnknownArgument ∷ [] }
     ensures places { word_faults (codes "run" ∷ codes "--places" ∷ []) ≡ UnknownArgument ∷ [] }
+    ensures bounds { word_faults (codes "disasm" ∷ codes "--bounds" ∷ []) ≡ UnknownArgument ∷ [] }
     ensures traces { word_faults (codes "run" ∷ codes "--trace" ∷ codes "--trace" ∷ []) ≡ ArgumentConflict ∷ [] }
     ensures value { word_faults (codes "run" ∷ codes "--trace=true" ∷ []) ≡ TooManyValues ∷ [] }
     ensures number { word_faults (codes "explain" ∷ codes "V19" ∷ []) ≡ ValueValidation ∷ [] }
-    ensures no_number { word_faults (codes "explain" ∷ []) ≡ MissingRequiredArgument ∷ [] }
     ensures word { word_faults (codes "run" ∷ codes "--engines" ∷ codes "+1" ∷ []) ≡ ValueValidation ∷ [] }
 {}
 

@@ -11,6 +11,7 @@ mod explanations;
 mod found;
 mod help;
 mod in_turn;
+mod input_reasons;
 mod input_words;
 mod laws;
 mod limit;
@@ -20,8 +21,8 @@ mod shown;
 mod wrong_words;
 
 pub use command::{
-    Answer, Assembling, InputsOrder, NoOrder, Order, Places, ProgramOrder, ReplayOptions,
-    ReplayOrder, RunOptions, RunOrder, Source, VerifiedOrder,
+    Answer, Assembling, CheckOrder, InputsOrder, NoOrder, Order, Places, ProgramOrder,
+    ReplayOptions, ReplayOrder, RunOptions, RunOrder, Source, VerifiedOrder,
 };
 pub use found::inputs_of;
 pub use input_words::input_of;

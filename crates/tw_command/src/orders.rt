@@ -13,13 +13,13 @@ ghost use Rattle.tw_command.specs.Order.{HasReason, IsReason};
 ghost use Rattle.tw_command.specs.declared.command.NoOrder.TheVariants.{Refused};
 
 use crate::command::{
-    Answer, InputsOrder, NoOrder, Order, Places, ProgramOrder, ReplayOptions, RunOptions, Source,
+    Answer, InputsOrder, NoOrder, Order, ProgramOrder, ReplayOptions, RunOptions, Source,
     VerifiedOrder, command,
 };
 use crate::explanations::explained;
 use crate::found::{
-    answer_given, assembling_given, flag_given, inputs_given, layout_given, limit_given,
-    places_given, source_given,
+    answer_given, assembling_given, bare_check, check_given, flag_given, inputs_given,
+    layout_given, limit_given, places_given, source_given,
 };
 use crate::shown::{run_answer_told, stretch_given};
 use clap::error::ErrorKind;
@@ -167,9 +167,9 @@ pub(crate) fn order_of(alloc: Global, matches: &ArgMatches<'_>) -> Result<Order,
         Some(("explain", given)) => explained_order(alloc, given),
         Some((_, given)) => Ok(verified_order(
             source_given(given),
-            VerifiedOrder::Check(places_given(given)),
+            VerifiedOrder::Check(check_given(given)),
         )),
-        None => Ok(verified_order(Source::Hex, VerifiedOrder::Check(Places::Hidden))),
+        None => Ok(verified_order(Source::Hex, VerifiedOrder::Check(bare_check()))),
     }
 }
 

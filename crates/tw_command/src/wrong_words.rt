@@ -10,8 +10,10 @@ use crate::command::{NoOrder, command};
 use crate::found::{flag_given, number_given};
 use crate::orders::{order_of, reason_of};
 use crate::shown::{Conflict, run_answer_told, stretch_given};
-use clap::ArgMatches;
+use clap::error::ErrorKind;
+use clap::{ArgMatches, Error};
 use std::alloc::{AllocError, Global};
+use tw_words::{put, put_shortened_quoted};
 
 /// Which option has no number in its range, if one hasn't.
 fn range_line(given: &ArgMatches<'_>) -> Option<&'static str> {
@@ -67,6 +69,43 @@ fn own_line(matches: &ArgMatches<'_>) -> &'static str {
     }
 }
 
+fn is_negative(word: &[u8]) -> bool {
+    match word {
+        [b'-', digit, ..] => digit.is_ascii_digit(),
+        _ => false,
+    }
+}
+
+/// Returns the first word that begins with a negative number, as an option can't.
+fn negative_word(words: &[String]) -> Option<&str> {
+    for word in words {
+        if is_negative(word.as_bytes()) {
+            return Some(word.as_str());
+        }
+    }
+    None
+}
+
+/// Returns what is wrong with a word that begins with a negative number. Clap takes it for an option.
+fn negative_line(alloc: Global, word: &str) -> Result<String, AllocError> {
+    let mut line = Vec::new(alloc);
+    put(&mut line, "error: ")?;
+    put_shortened_quoted(&mut line, word.as_bytes())?;
+    put(
+        &mut line,
+        ": expected int:, ints:, text:, texts:, tints: or ttexts: before it; options take no negative number\n",
+    )?;
+    String::from_utf8(line).map_err(|_| AllocError)
+}
+
+/// Returns what is wrong with words that clap refuses.
+fn refused_line(alloc: Global, words: &[String], error: &Error) -> Result<String, AllocError> {
+    match negative_word(words) {
+        Some(word) if error.kind() == ErrorKind::UnknownArgument => negative_line(alloc, word),
+        _ => error.to_string(alloc).map_err(|_| AllocError),
+    }
+}
+
 /// The line, where the words give no order since they are refused.
 fn told_of(alloc: Global, no_order: NoOrder, line: &str) -> Result<Option<String>, AllocError>
     ensures { (kinds : Kinds) (asked : Asked) → HasReason kinds asked no_order → IfOk result (HasComplaint kinds) }
@@ -92,9 +131,7 @@ pub fn complaint(alloc: Global, words: &[String]) -> Result<Option<String>, Allo
             Err(no_order) => told_of(alloc, no_order, own_line(&matches)),
         },
         Err(error) => {
-            let Ok(line) = error.to_string(alloc) else {
-                return Err(AllocError);
-            };
+            let line = refused_line(alloc, words, &error)?;
             told_of(alloc, reason_of(alloc, &error), &line)
         }
     }

@@ -1,0 +1,64 @@
+-- Why a word spells no input, and how that is told.
+use Rattle.std.specs.Prelude.{ℕ, ℤ, ◌==◌, Bool, true, false, not, ◌&&◌, if◌then◌else◌, List, ◌++◌, codes, decimal, drop, nat_eq, Result, Ok, Err}
+use Rattle.std.specs.List.{ends_with, list_any, starts_with}
+use Rattle.tw_words.specs.Digits.{signed_in}
+use Rattle.tw_words.specs.Shown.{shortened_quoted}
+use Rattle.tw_words.specs.declared.numbers.Flaw.{Flaw}
+use Rattle.tw_words.specs.declared.numbers.Flaw.TheVariants.{Form, Limit}
+
+-- ---- what is wrong
+
+abbrev pub has : ℕ → List ℕ → Bool
+has byte text = list_any (λ b. b == byte) text
+
+abbrev pub begins : List ℕ → List ℕ → Bool
+begins front word = starts_with nat_eq word front
+
+-- a number after `int:`
+abbrev pub int_reason : Result ℤ Flaw → List ℕ
+int_reason (Ok n) = codes "expected a number in decimal digits after int:"
+int_reason (Err Form) = codes "expected a number in decimal digits after int:"
+int_reason (Err Limit) = codes "the number isn't within 64 bits"
+
+-- members, of which some have texts or none has
+abbrev pub list_reason : Bool → List ℕ → List ℕ
+list_reason texts list =
+    if ends_with nat_eq list (codes ",") then codes "nothing follows the last comma, and a list has no blanks outside of quotes; expected " else
+    if not (has 61 list) then codes "a member has no =; expected " else
+    if texts && not (has 34 list) then codes "a text is between quotes; expected " else
+    codes "expected "
+
+-- the form of members, by whether their values are texts
+unfoldable pub form_by_int : Bool → List ℕ
+form_by_int false = codes "NUMBER=NUMBER,NUMBER=NUMBER with numbers within 64 bits"
+form_by_int true = codes "NUMBER=\"TEXT\",NUMBER=\"TEXT\" with \\\", \\\\, \\n or \\xHH in a text"
+
+unfoldable pub form_by_text : Bool → List ℕ
+form_by_text false = codes "\"TEXT\"=NUMBER,\"TEXT\"=NUMBER with \\\", \\\\, \\n or \\xHH in a text"
+form_by_text true = codes "\"TEXT\"=\"TEXT\",\"TEXT\"=\"TEXT\" with \\\", \\\\, \\n or \\xHH in a text"
+
+abbrev pub no_head : List ℕ
+no_head = codes "expected int:, ints:, text:, texts:, tints: or ttexts: before it"
+
+-- what is wrong with a word, by its head
+abbrev pub text_reason : List ℕ → List ℕ
+text_reason word =
+    if begins (codes "tints:") word then list_reason true (drop 6 word) ++ form_by_text false else
+    if begins (codes "ttexts:") word then list_reason true (drop 7 word) ++ form_by_text true else
+    no_head
+
+abbrev pub word_reason : List ℕ → List ℕ
+word_reason word =
+    if begins (codes "int:") word then int_reason (signed_in (drop 4 word)) else
+    if begins (codes "ints:") word then list_reason false (drop 5 word) ++ form_by_int false else
+    if begins (codes "texts:") word then list_reason true (drop 6 word) ++ form_by_int true else
+    text_reason word
+
+-- ---- the line
+
+-- the line for the word of this number, counted from 1
+abbrev pub input_text : ℕ → List ℕ → List ℕ
+input_text number word = codes "input " ++ (decimal number ++ (codes ": " ++ (shortened_quoted word ++ codes ": ")))
+
+abbrev pub reason_line : ℕ → List ℕ → List ℕ
+reason_line number word = input_text number word ++ (word_reason word ++ codes "\n")
