@@ -55,7 +55,7 @@ split_at number s (l ∷ ls) line others (x ∷ said) h =
 abbrev pub NoHeads : List (List ℕ) → Type 0
 NoHeads ls = (said : List (Option Statement)) → LinesSay 1 at_start ls said → HasNoHead said
 
-all_more : {A : Type 0} (P : A → Type 0) (xs : List A) (x : A) → AllByRecursion P xs → P x → AllByRecursion P (xs ++ (x ∷ []))
+pub all_more : {A : Type 0} (P : A → Type 0) (xs : List A) (x : A) → AllByRecursion P xs → P x → AllByRecursion P (xs ++ (x ∷ []))
 all_more P [] x all p = (p, tt)
 all_more P (y ∷ xs) x all p = (all.0, all_more P xs x all.1 p)
 

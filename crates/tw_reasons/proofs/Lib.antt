@@ -7,7 +7,10 @@ pub mod Forms
 pub mod Getting
 pub mod GoingOn
 pub mod Heads
+pub mod Labelling
 pub mod Lines
+pub mod LoopEnds
+pub mod Matched
 pub mod Judging
 pub mod ParamsGo
 pub mod Reasoning

@@ -1,7 +1,8 @@
 -- Where a word stands in a line.
-use Rattle.std.proofs.Common.{◌≡◌, ℕ, ◌+◌, ◌-◌, ◌<◌, ◌≤◌, List, [], ◌∷◌, ◌++◌, length, take, refl, sym, ap, ◌∙◌, append_assoc, arith}
+use Rattle.std.proofs.Common.{◌≡◌, ℕ, ◌+◌, ◌-◌, ◌<◌, ◌≤◌, List, [], ◌∷◌, ◌++◌, length, take, Option, None, Some, refl, sym, ap, ◌∙◌, append_assoc, arith}
 use Rattle.std.proofs.lemmas.List.{take_at}
-use Rattle.tw_reasons.proofs.ReasonNames.{AreFirstWords, IsFirstWord, IsWord, Stands, Word, first_words_more, length-append, word_here}
+use Rattle.tw_reasons.proofs.ReasonNames.{AreFirstWords, IsBlank, IsBroken, IsFirstWord, IsLine, IsWord, MatchOption, Stands, Word, broken_no_line, first_words_more, length-append, line_once, word_here}
+use Rattle.tw_reasons.specs.declared.stop.Stop.{Stop}
 use Rattle.tw_words.specs.reading.Next.{IsAfterGap}
 
 -- what stands before a back
@@ -66,3 +67,27 @@ first_room word line after first = let less = rest_shorter word line after first
 
 pub one_room : (word : Word) (line rest after : List ℕ) (before : ℕ) → before + length rest ≤ length line → IsFirstWord word rest after → (before + 1) + length after ≤ length line
 one_room word line rest after before room first = let less = rest_shorter word rest after first in omega (arith, less, room)
+
+-- ---- the last word
+
+-- nothing follows the words that are passed, so that they are all
+pub last_of : (line rest : List ℕ) (before : ℕ) (last : Option Stop) → Passed line rest before → MatchOption last (before ≡ 0) (λ stop. stop.word ≡ before) → IsBlank rest
+    → (words : List Word) → IsLine words line → MatchOption last (words ≡ []) (λ stop. stop.word ≡ length words)
+last_of line rest before last (passed, are, count) known blank words is = by last known
+  where
+    same : passed ≡ words
+    same = line_once passed words line (rest, are, blank) is
+
+    all : before ≡ length words
+    all = count ∙ ap length same
+
+    none : (ws : List Word) → length ws ≡ 0 → ws ≡ []
+    none [] e = refl
+    none (w ∷ ws) e = absurd cc
+
+    by : (l : Option Stop) → MatchOption l (before ≡ 0) (λ stop. stop.word ≡ before) → MatchOption l (words ≡ []) (λ stop. stop.word ≡ length words)
+    by None e = none words (sym all ∙ e)
+    by (Some stop) e = e ∙ all
+
+pub broken_apart : (line rest : List ℕ) (before : ℕ) → Passed line rest before → IsBroken rest → (words : List Word) → IsLine words line → ⊥
+broken_apart line rest before (passed, are, count) broken words is = broken_no_line passed words line (rest, are, broken) is

@@ -19,9 +19,11 @@ use Rattle.tw_verify.specs.Refusal.{verify_refusal_number}
 use Rattle.tw_verify.specs.declared.refusal.VerifyRefusal.{VerifyRefusal}
 use Rattle.tw_verify.specs.declared.refusal.VerifyRefusal.TheVariants as refusal
 use Rattle.tw_reasons.specs.Asked.{asked_at, told}
-use Rattle.tw_reasons.specs.Meetings.{IsMeeting}
-use Rattle.tw_reasons.specs.Words.{asked_line, param_text, right_text}
+use Rattle.tw_reasons.specs.Meetings.{IsChange, IsMeeting}
+use Rattle.tw_reasons.specs.Words.{asked_line, held_text, param_text, right_text}
 use Rattle.tw_reasons.specs.declared.asked.Asked.{Asked}
+use Rattle.tw_reasons.specs.declared.asked.Held.TheVariants as held
+use Rattle.tw_reasons.specs.declared.meeting.Difference.{Difference}
 use Rattle.tw_reasons.specs.declared.meeting.Meeting.{Meeting}
 
 -- ---- V01 to V04, V10, V15
@@ -58,6 +60,23 @@ meeting_line lines procedure m =
 
 abbrev pub TellsMeeting : List (List ℕ) → List Procedure → Procedure → ℕ → List Typing → ℕ → List ℕ → Type 0
 TellsMeeting lines program p procedure typings place text = (m : Meeting) × IsMeeting program p typings place m × (text ≡ meeting_line lines procedure m)
+
+-- no two ways bring different typings
+abbrev pub HasNoMeeting : List Procedure → Procedure → List Typing → ℕ → Type 0
+HasNoMeeting program p typings place = (m : Meeting) → IsMeeting program p typings place m → ⊥
+
+-- ---- V08
+
+-- what the register holds, and what it held where the loop begins
+abbrev pub changed_line : Difference → List ℕ
+changed_line d = held_text d.register (held.Right d.first) ++ (codes ", asked: " ++ (holding_text d.second ++ codes ", as where the loop begins\n"))
+
+abbrev pub TellsChange : Procedure → List Typing → ℕ → List ℕ → Type 0
+TellsChange p typings place text = (first : ℕ) × (d : Difference) × IsChange p.code typings first place d × (text ≡ changed_line d)
+
+-- no loop that ends here changes a register
+abbrev pub HasNoChange : Procedure → List Typing → ℕ → Type 0
+HasNoChange p typings place = (first : ℕ) (d : Difference) → IsChange p.code typings first place d → ⊥
 
 -- ---- V05, V12, V13
 
@@ -112,8 +131,8 @@ IsReason refusal.RightNotEmpty lines program p procedure place i typings text = 
 IsReason refusal.WrongRight lines program p procedure place i typings text = text ≡ vain_line 4 program p place i (slice_get typings place)
 IsReason refusal.SkipLeavesBlock lines program p procedure place i typings text = text ≡ goal_line (place + 1 + skip_of (flow_of i)) (length p.code)
 IsReason refusal.Unmatched lines program p procedure place i typings text = text ≡ unmatched_line (flow_of i)
-IsReason refusal.TypingsDiffer lines program p procedure place i typings text = (text ≡ []) ⊎ TellsMeeting lines program p procedure typings place text
-IsReason refusal.TypingChanged lines program p procedure place i typings text = Unit {0}
+IsReason refusal.TypingsDiffer lines program p procedure place i typings text = TellsMeeting lines program p procedure typings place text ⊎ ((text ≡ []) × HasNoMeeting program p typings place)
+IsReason refusal.TypingChanged lines program p procedure place i typings text = TellsChange p typings place text ⊎ ((text ≡ []) × HasNoChange p typings place)
 IsReason refusal.Unreached lines program p procedure place i typings text = text ≡ codes "no way leads here\n"
 IsReason refusal.RightLeft lines program p procedure place i typings text = text ≡ vain_line 10 program p place i (slice_get typings place)
 IsReason refusal.MisplacedRet lines program p procedure place i typings text = text ≡ misplaced_line (flow_of i)

@@ -1,19 +1,16 @@
 -- Where a line of a text is told to stop: at which word, at which column, and what stands there.
-use Rattle.std.specs.Prelude.{◌≡◌, ℕ, ◌+◌, ◌||◌, Bool, List, ◌∷◌, ◌++◌, length, count_by, nat_lt, IsUtf8}
+use Rattle.std.specs.Prelude.{◌≡◌, ℕ, ◌+◌, List, ◌∷◌, ◌++◌, length, count_by, IsUtf8}
 use Rattle.std.specs.List.{AllByRecursion}
 use Rattle.tw_asm.specs.Statement.{HaveForm}
 use Rattle.tw_code.specs.declared.version.Version.{Version}
 use Rattle.tw_words.specs.Words.{AreFirstWords, Bare, IsBlank, IsBroken, IsFirstWord, Quoted, Word}
+use Rattle.tw_words.specs.Shown.{begins_character}
 use Rattle.tw_words.specs.reading.Next.{IsAfterGap}
 use Rattle.tw_reasons.specs.declared.stop.Found.{Found}
 use Rattle.tw_reasons.specs.declared.stop.Found.TheVariants as found
 use Rattle.tw_reasons.specs.declared.stop.Stop.{Stop}
 
 -- ---- columns
-
--- a byte that goes on with no character
-abbrev pub begins_character : ℕ → Bool
-begins_character b = nat_lt b 128 || nat_lt 191 b
 
 -- the column behind these bytes, counted in characters from 1
 abbrev pub column_behind : List ℕ → ℕ

@@ -1,5 +1,8 @@
 //! What a line may go on with.
 
+ghost use Rattle.std.specs.Prelude.{◌≡◌};
+ghost use Rattle.tw_reasons.specs.DueWords.{due_limit, due_text, limit_of, operand_limit, operand_text};
+
 use tw_code::Form;
 
 /// What is due next in a line.
@@ -21,7 +24,9 @@ pub(crate) enum Due {
     Register,
 }
 
-fn operand_text(form: Form) -> &'static str {
+fn operand_text(form: Form) -> &'static str
+    ensures { result.now ≡ operand_text form }
+{
     match form {
         Form::Value => "a value register",
         Form::Right => "a right register",
@@ -36,7 +41,9 @@ fn operand_text(form: Form) -> &'static str {
     }
 }
 
-fn operand_limit(form: Form) -> &'static str {
+fn operand_limit(form: Form) -> &'static str
+    ensures { result.now ≡ operand_limit form }
+{
     match form {
         Form::Value => "v0 to v15",
         Form::Right => "d0 to d15",
@@ -52,8 +59,10 @@ fn operand_limit(form: Form) -> &'static str {
 }
 
 impl Due {
-    /// The words that are due.
-    pub(crate) fn text(self) -> &'static str {
+    /// Names the words that are due.
+    pub(crate) fn text(self) -> &'static str
+        ensures { result.now ≡ due_text self }
+    {
         match self {
             Due::Operand(form) => operand_text(form),
             Due::Version => "a version's number",
@@ -64,8 +73,10 @@ impl Due {
         }
     }
 
-    /// How much of that there may be.
-    pub(crate) fn limit(self) -> &'static str {
+    /// Names how much of that there may be.
+    pub(crate) fn limit(self) -> &'static str
+        ensures { result.now ≡ due_limit self }
+    {
         match self {
             Due::Operand(form) => operand_limit(form),
             Due::Version => "1 or 2",
@@ -74,5 +85,15 @@ impl Due {
             Due::ParamType => "3 containers",
             Due::Register => "16 registers",
         }
+    }
+}
+
+/// Names the limit at a word where this is due.
+pub(crate) fn limit_of(due: Option<Due>) -> &'static str
+    ensures { result.now ≡ limit_of due }
+{
+    match due {
+        Some(due) => due.limit(),
+        None => "one statement",
     }
 }

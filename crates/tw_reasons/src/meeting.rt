@@ -1,6 +1,6 @@
 //! Typings that differ where ways meet.
 
-ghost use Rattle.std.specs.Prelude.{◌≡◌, ◌≢◌, ◌<◌, ◌≤◌, ◌^◌, ℕ, false, Some, IfSome, IsTrue, length, slice_get};
+ghost use Rattle.std.specs.Prelude.{◌≡◌, ◌≢◌, ◌<◌, ◌≤◌, ◌^◌, ℕ, false, Some, IsTrue, MatchOption, length};
 ghost use Rattle.tw_code.specs.accepting.Flow.{flow_of, onward};
 ghost use Rattle.tw_code.specs.accepting.WellTyped.{Brings, LeadsTo};
 ghost use Rattle.tw_code.specs.format.Program.{IsInstr};
@@ -8,9 +8,13 @@ ghost use Rattle.tw_code.specs.machine.Rights.{Typing as HeldBy, right_at};
 ghost use Rattle.std.specs.List.{AllByRecursion};
 ghost use Rattle.std.specs.Option.{option_eq};
 ghost use Rattle.tw_verify.specs.Same.{same_right};
+ghost use Rattle.tw_code.specs.declared.flow.Way.{Way as AWay};
+ghost use Rattle.tw_reasons.specs.Bringing.{BringsNothingElse};
 ghost use Rattle.tw_reasons.specs.Meetings.{IsDifference, IsMeeting};
+ghost use Rattle.tw_reasons.specs.Reasons.{HasNoMeeting};
+ghost use Rattle.tw_reasons.specs.declared.meeting.Difference.{Difference as ADifference};
 
-use tw_code::{Flow, Instr, Procedure, Way};
+use tw_code::{Instr, Procedure, Way};
 use tw_verify::{RightType, Typing, next_place};
 
 /// A register of which two typings say something else.
@@ -52,7 +56,7 @@ fn differ(first: &Typing, second: &Typing, register: u8) -> bool
 
 /// The first register of which two typings say something else.
 pub(crate) fn first_difference(first: &Typing, second: &Typing) -> Option<Difference>
-    ensures { IfSome result (IsDifference first.now second.now) }
+    ensures { MatchOption result ((d : ADifference) → IsDifference first.now second.now d → ⊥) (IsDifference first.now second.now) }
 {
     for register in 0..16u8 {
         if differ(first, second, register) {
@@ -69,7 +73,8 @@ pub(crate) fn first_difference(first: &Typing, second: &Typing) -> Option<Differ
 /// Whether an instruction at a place goes on at another by this outcome.
 fn goes_on(way: Way, before: usize, instr: &Instr, place: usize) -> bool
     requires { before < 2 ^ 32 }
-    ensures { IsTrue result → onward way before (flow_of instr.now) ≡ Some place }
+    ensures goes { IsTrue result → onward way before (flow_of instr.now) ≡ Some place }
+    ensures stays { result ≡ false → onward way before (flow_of instr.now) ≢ Some place }
 {
     match next_place(way, before, instr.flow()) {
         Some(next) => next == place,
@@ -80,7 +85,7 @@ fn goes_on(way: Way, before: usize, instr: &Instr, place: usize) -> bool
 /// The first place that leads to one.
 fn first_leading(code: &[Instr], place: usize) -> Option<usize>
     requires { length code.now ≤ 4096 }
-    ensures { IfSome result (λ before. LeadsTo code.now before place) }
+    ensures { MatchOption result ((before : ℕ) → LeadsTo code.now before place → ⊥) (λ before. LeadsTo code.now before place) }
 {
     for (before, instr) in code.iter().enumerate() {
         if before >= place {
@@ -108,7 +113,9 @@ fn brought(
     requires short { length procedure.now.code ≤ 4096 }
     requires operands { AllByRecursion IsInstr procedure.now.code }
     requires earlier { before < place }
-    ensures { IfSome result (λ d. (other : HeldBy) × Brings procedures.now procedure.now typings.now before place other × IsDifference here.now other d) }
+    ensures { MatchOption result
+        (BringsNothingElse procedures.now procedure.now typings.now way before place here.now)
+        (λ d. (other : HeldBy) × Brings procedures.now procedure.now typings.now before place other × IsDifference here.now other d) }
 {
     let instr = procedure.code.as_slice().get(before)?;
     let from = typings.get(before)?;
@@ -138,7 +145,9 @@ fn second_of(
 ) -> Option<(usize, Difference)>
     requires short { length procedure.now.code ≤ 4096 }
     requires operands { AllByRecursion IsInstr procedure.now.code }
-    ensures { IfSome result (λ found. (other : HeldBy) × Brings procedures.now procedure.now typings.now found.0 place other × IsDifference here.now other found.1) }
+    ensures { MatchOption result
+        ((before : ℕ) (way : AWay) → BringsNothingElse procedures.now procedure.now typings.now way before place here.now)
+        (λ found. (other : HeldBy) × Brings procedures.now procedure.now typings.now found.0 place other × IsDifference here.now other found.1) }
 {
     for before in 0..place {
         if let Some(found) = brought(
@@ -176,7 +185,7 @@ pub(crate) fn meeting_at(
 ) -> Option<Meeting>
     requires short { length procedure.now.code ≤ 4096 }
     requires operands { AllByRecursion IsInstr procedure.now.code }
-    ensures { IfSome result (IsMeeting procedures.now procedure.now typings.now place) }
+    ensures { MatchOption result (HasNoMeeting procedures.now procedure.now typings.now place) (IsMeeting procedures.now procedure.now typings.now place) }
 {
     let here = typings.get(place)?;
     let first = first_leading(procedure.code.as_slice(), place)?;
@@ -186,18 +195,4 @@ pub(crate) fn meeting_at(
         second,
         difference,
     })
-}
-
-/// The first place of the loop that an END ends.
-pub(crate) fn loop_begin(code: &[Instr], place: usize) -> Option<usize> {
-    let mut inner = 0usize;
-    for before in (0..place.min(code.len())).rev() {
-        match code[before].flow() {
-            Flow::Close => inner = inner.saturating_add(1),
-            Flow::Begin(_) if inner == 0 => return Some(before.saturating_add(1)),
-            Flow::Begin(_) => inner = inner.saturating_sub(1),
-            _ => (),
-        }
-    }
-    None
 }

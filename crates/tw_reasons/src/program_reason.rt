@@ -1,12 +1,14 @@
 //! Why a program isn't accepted.
 
-ghost use Rattle.std.specs.Prelude.{◌≡◌, ◌⊎◌, ◌<◌, ◌+◌, ◌-◌, ◌++◌, [], ℕ, List, Some, length, nat_lt, OnOk, slice_get};
+ghost use Rattle.std.specs.Prelude.{◌≡◌, ◌<◌, ◌+◌, ◌-◌, ◌++◌, Some, length, nat_lt, OnOk, slice_get};
 ghost use Rattle.tw_code.specs.format.Program.{IsInstr, IsProcedure};
 ghost use Rattle.tw_code.specs.machine.Arguments.{params_of};
-ghost use Rattle.tw_reasons.specs.Reasons.{AddsReason, AddsTold, TellsMeeting, arguments_text, count_line, goal_line, misplaced_line, named_by, outside_text, skip_of, told_line, unknown_line, unmatched_line, vain_line};
+ghost use Rattle.tw_verify.specs.declared.refusal.VerifyRefusal.TheVariants as refusal;
+ghost use Rattle.tw_reasons.specs.Reasons.{AddsReason, AddsTold, arguments_text, count_line, goal_line, misplaced_line, named_by, outside_text, skip_of, told_line, unknown_line, unmatched_line, vain_line};
 
 use crate::asked::{Asked, put_asked};
 use crate::find::asked_at;
+use crate::loops::changed_at;
 use crate::meeting::meeting_at;
 use crate::told_meeting::{put_changed, put_meeting};
 use std::alloc::{AllocError, Global};
@@ -156,11 +158,11 @@ fn put_count(alloc: Global, out: &mut Vec<u8>, args: usize, params: usize) -> Re
 
 // ---- a place
 
-/// Tells where two ways meet, if they do.
+/// Adds where two ways meet whose typings differ.
 #[rattlefmt::skip]
-fn put_differing(alloc: Global, out: &mut Vec<u8>, lines: &LineNumbers, procedures: &[Procedure], number: usize, procedure: &Procedure, place: usize, typings: &[Typing]) -> Result<(), AllocError>
+fn put_differing(alloc: Global, out: &mut Vec<u8>, lines: &LineNumbers, procedures: &[Procedure], number: usize, procedure: &Procedure, place: usize, instr: &Instr, typings: &[Typing]) -> Result<(), AllocError>
     requires { IsProcedure procedure.now }
-    ensures { OnOk result ((text : List ℕ) × ((text ≡ []) ⊎ TellsMeeting lines.now.procedures procedures.now procedure.now number typings.now place text) × (out.new.items ≡ out.old.items ++ text)) }
+    ensures { OnOk result (AddsReason refusal.TypingsDiffer lines.now.procedures procedures.now procedure.now number place instr.now typings.now out.old.items out.new.items) }
 {
     match meeting_at(procedures, procedure, typings, place) {
         Some(found) => put_meeting(alloc, out, lines, number, &found),
@@ -168,7 +170,19 @@ fn put_differing(alloc: Global, out: &mut Vec<u8>, lines: &LineNumbers, procedur
     }
 }
 
-/// A refusal of the verifier a line.
+/// Adds which register a loop changes.
+#[rattlefmt::skip]
+fn put_loop(alloc: Global, out: &mut Vec<u8>, lines: &LineNumbers, procedures: &[Procedure], number: usize, procedure: &Procedure, place: usize, instr: &Instr, typings: &[Typing]) -> Result<(), AllocError>
+    requires { IsProcedure procedure.now }
+    ensures { OnOk result (AddsReason refusal.TypingChanged lines.now.procedures procedures.now procedure.now number place instr.now typings.now out.old.items out.new.items) }
+{
+    match changed_at(procedure.code.as_slice(), typings, place) {
+        Some(found) => put_changed(alloc, out, &found),
+        None => Ok(()),
+    }
+}
+
+/// Adds what a refusal of the verifier means, a refusal a line.
 #[rattlefmt::skip]
 fn put_at(alloc: Global, out: &mut Vec<u8>, lines: &LineNumbers, refused: &Refused, procedure: &Procedure, instr: &Instr, typings: &[Typing]) -> Result<(), AllocError>
     requires is { IsProcedure procedure.now }
@@ -185,8 +199,8 @@ fn put_at(alloc: Global, out: &mut Vec<u8>, lines: &LineNumbers, refused: &Refus
         VerifyRefusal::WrongRight => put_vain(alloc, out, 4, procedures, procedure, place, instr, typings),
         VerifyRefusal::SkipLeavesBlock => put_goal(alloc, out, place + 1 + skip_of(instr.flow()), procedure.code.as_slice().len()),
         VerifyRefusal::Unmatched => put_unmatched(out, instr.flow()),
-        VerifyRefusal::TypingsDiffer => put_differing(alloc, out, lines, procedures, refused.procedure, procedure, place, typings),
-        VerifyRefusal::TypingChanged => put_changed(alloc, out, procedure.code.as_slice(), place, typings),
+        VerifyRefusal::TypingsDiffer => put_differing(alloc, out, lines, procedures, refused.procedure, procedure, place, instr, typings),
+        VerifyRefusal::TypingChanged => put_loop(alloc, out, lines, procedures, refused.procedure, procedure, place, instr, typings),
         VerifyRefusal::Unreached => put(out, "no way leads here\n"),
         VerifyRefusal::RightLeft => put_vain(alloc, out, 10, procedures, procedure, place, instr, typings),
         VerifyRefusal::MisplacedRet => put_misplaced(out, instr.flow()),

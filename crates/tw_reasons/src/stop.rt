@@ -1,7 +1,7 @@
 //! Where a line stops being a statement.
 
-ghost use Rattle.std.specs.Prelude.{◌≡◌, ◌+◌, ◌≤◌, ℕ, List, false, true, IfOk, IfSome, IsUtf8, MatchOption, length};
-ghost use Rattle.tw_words.specs.Words.{AreFirstWords, Bare, IsBlank, IsFirstWord, Word as AWord};
+ghost use Rattle.std.specs.Prelude.{◌≡◌, ◌+◌, ◌≤◌, [], ℕ, List, false, true, IfOk, IfSome, IsUtf8, MatchOption, length};
+ghost use Rattle.tw_words.specs.Words.{AreFirstWords, Bare, IsBlank, IsFirstWord, IsLine, Word as AWord};
 ghost use Rattle.tw_asm.specs.Fault.{HasWords};
 ghost use Rattle.tw_asm.specs.Statement.{IsExpected};
 ghost use Rattle.tw_asm.specs.declared.statement.First.{First};
@@ -10,7 +10,9 @@ ghost use Rattle.tw_words.specs.Seen.{seen};
 ghost use Rattle.tw_words.specs.reading.Next.{IsAfterGap};
 ghost use Rattle.tw_reasons.specs.Going.{may_end};
 ghost use Rattle.tw_reasons.specs.declared.stop.Found.TheVariants as found;
-ghost use Rattle.tw_reasons.specs.Stops.{Begin, Ends, IsFirstStop, IsFound, IsStop, begins_character, column_behind};
+ghost use Rattle.tw_reasons.specs.Stops.{Begin, Ends, IsFirstStop, IsFound, IsStop, column_behind};
+ghost use Rattle.tw_reasons.specs.Told.{found_word, is_long_label};
+ghost use Rattle.tw_words.specs.Names.{before_colon};
 
 use crate::breaks::{Break, break_of};
 use crate::due::Due;
@@ -18,7 +20,7 @@ use crate::step::Ahead;
 use crate::words::Ask;
 use std::alloc::{AllocError, Global};
 use tw_code::Version;
-use tw_words::{Next, Word, is_name, next_word, without_gap};
+use tw_words::{Next, Word, before_colon, begins_character, is_name, next_word, without_gap};
 
 /// What stands where a line stops.
 #[derive(Clone, Copy)]
@@ -41,12 +43,6 @@ pub(crate) struct Stop<'a> {
     pub(crate) found: Found<'a>,
     /// What may stand there; nothing but the line's end, where it is none.
     pub(crate) due: Option<Due>,
-}
-
-fn begins_character(byte: u8) -> bool
-    ensures { result ≡ begins_character byte }
-{
-    byte < 128 || 191 < byte
 }
 
 /// The column behind these bytes.
@@ -246,7 +242,8 @@ pub(crate) fn line_stop<'a>(
 /// The last word of the bytes of a line.
 fn last_word<'a>(alloc: Global, line: &'a [u8]) -> Result<Option<Stop<'a>>, AllocError>
     requires { IsUtf8 line.now }
-    ensures { IfOk result (λ stop. IfSome stop (IsStop line.entry.now)) }
+    ensures stands { IfOk result (λ stop. IfSome stop (IsStop line.entry.now)) }
+    ensures last { IfOk result (λ stop. (words : List AWord) → IsLine words line.entry.now → MatchOption stop (words ≡ []) (λ s. s.word ≡ length words)) }
 {
     let mut last = None;
     let mut rest = line;
@@ -267,15 +264,29 @@ fn last_word<'a>(alloc: Global, line: &'a [u8]) -> Result<Option<Stop<'a>>, Allo
 
 /// The last word of a line.
 pub(crate) fn last_stop<'a>(alloc: Global, line: &'a str) -> Result<Option<Stop<'a>>, AllocError>
-    ensures { IfOk result (λ stop. IfSome stop (IsStop line.entry.now)) }
+    ensures stands { IfOk result (λ stop. IfSome stop (IsStop line.entry.now)) }
+    ensures last { IfOk result (λ stop. (words : List AWord) → IsLine words line.entry.now → MatchOption stop (words ≡ []) (λ s. s.word ≡ length words)) }
 {
     last_word(alloc, line.as_bytes())
 }
 
-/// Whether a label is too long.
-pub(crate) fn is_long_label(word: &[u8]) -> bool {
-    match word {
-        [name @ .., b':'] => is_name(name) && name.len() > 64,
-        _ => false,
+/// Returns the bytes of the word that was found.
+pub(crate) fn found_word<'a>(found: &Found<'a>) -> &'a [u8]
+    ensures { result.now ≡ found_word found.now }
+{
+    match found {
+        Found::Word(word) => *word,
+        Found::End => &[],
+        Found::Broken(_) => &[],
+    }
+}
+
+/// Tells whether a word is a label that is too long.
+pub(crate) fn is_long_label(word: &[u8]) -> bool
+    ensures { result ≡ is_long_label (before_colon word.now) }
+{
+    match before_colon(word) {
+        Some(name) => is_name(name) && 64 < name.len(),
+        None => false,
     }
 }

@@ -1,21 +1,23 @@
 //! Why a text spells no program.
 
-ghost use Rattle.std.specs.Prelude.{◌≡◌, ◌-◌, ◌++◌, ℕ, List, MatchOption, None, Some, OnOk, slice_get};
-ghost use Rattle.std.specs.Str.Lines.{lines};
+ghost use Rattle.std.specs.Prelude.{◌≡◌, ◌++◌, ℕ, List, OnOk};
 ghost use Rattle.tw_asm.specs.declared.fault.FaultNo.TheVariants as fault;
-ghost use Rattle.tw_reasons.specs.Told.{AddsLineReason, AddsWhy, IsTextReason};
+ghost use Rattle.tw_reasons.specs.Told.{AddsPast, AddsWhy, IsTextReason, due_said, found_word, said_text, whole_limit};
+ghost use Rattle.tw_reasons.specs.Hints.{hint_text, word_hint};
+ghost use Rattle.tw_reasons.specs.declared.stop.Found.{Found as AFound};
 
-use crate::due::Due;
-use crate::labels::label_before;
+use crate::due::{Due, limit_of};
+use crate::hints::{Hint, first_hint, word_hint};
+use crate::labels::{label_before, twin_before};
 use crate::situation::situation_before;
-use crate::stop::{Found, first_stop, is_long_label, last_stop, line_stop};
+use crate::stop::{first_stop, found_word, is_long_label, last_stop, line_stop};
 use crate::told::{Said, put_stop, put_whole};
 use crate::words::Ask;
 use std::alloc::{AllocError, Global};
 use tw_asm::{AsmFault, FaultNo};
-use tw_words::put_both;
+use tw_words::{line_numbered, put, put_shortened};
 
-/// A01: what may begin the line.
+/// Adds what may begin the line (A01).
 fn put_first(
     alloc: Global,
     out: &mut Vec<u8>,
@@ -27,22 +29,25 @@ fn put_first(
 {
     let situation = situation_before(alloc, text, number)?;
     let stop = first_stop(alloc, line)?;
+    let hint = first_hint(alloc, situation, found_word(&stop.found))?;
     put_stop(
         alloc,
         out,
         &stop,
-        &Said::Expected(situation.stage.text(), None),
+        &Said::Expected(situation.stage.text(), None, hint),
     )
 }
 
-fn said_of(due: Option<Due>) -> Said<'static> {
+fn said_of(due: Option<Due>, hint: Hint) -> Said<'static>
+    ensures { (found : AFound) → hint_text hint ≡ word_hint due (found_word found) → said_text result found ≡ due_said due found }
+{
     match due {
-        Some(due) => Said::Expected(due.text(), None),
+        Some(due) => Said::Expected(due.text(), None, hint),
         None => Said::TooMany,
     }
 }
 
-/// A02: what may go on.
+/// Adds what may go on (A02).
 fn put_operand(
     alloc: Global,
     out: &mut Vec<u8>,
@@ -54,35 +59,30 @@ fn put_operand(
 {
     let situation = situation_before(alloc, text, number)?;
     match line_stop(alloc, Ask::Form, situation.version, line)? {
-        Some(stop) => put_stop(alloc, out, &stop, &said_of(stop.due)),
+        Some(stop) => {
+            let hint = word_hint(alloc, stop.due, found_word(&stop.found))?;
+            put_stop(alloc, out, &stop, &said_of(stop.due, hint))
+        }
         None => Ok(()),
     }
 }
 
-fn word_of<'a>(found: &Found<'a>) -> &'a [u8] {
-    match found {
-        Found::Word(word) => *word,
-        Found::End => &[],
-        Found::Broken(_) => &[],
-    }
-}
-
-/// A03: the label isn't there.
+/// Adds that the label isn't there (A03).
 fn put_unknown(alloc: Global, out: &mut Vec<u8>, line: &str) -> Result<(), AllocError>
-    ensures { OnOk result (AddsLineReason line.now out.old.items out.new.items) }
+    ensures { OnOk result ((text : List ℕ) (number : ℕ) → AddsWhy text fault.UnknownLabel number line.now out.old.items out.new.items) }
 {
     match last_stop(alloc, line)? {
         Some(stop) => put_stop(
             alloc,
             out,
             &stop,
-            &Said::Expected("a label of this procedure", None),
+            &Said::Expected("a label of this procedure", None, Hint::Nothing),
         ),
         None => Ok(()),
     }
 }
 
-/// A04: the label stands before.
+/// Adds the line before with the same label (A04).
 fn put_twice(
     alloc: Global,
     out: &mut Vec<u8>,
@@ -90,17 +90,19 @@ fn put_twice(
     number: usize,
     line: &str,
 ) -> Result<(), AllocError>
-    ensures { OnOk result (AddsLineReason line.now out.old.items out.new.items) }
+    ensures { OnOk result (AddsWhy text.now fault.LabelTwice number line.now out.old.items out.new.items) }
 {
     let stop = first_stop(alloc, line)?;
-    let at = match word_of(&stop.found) {
-        [name @ .., b':'] => label_before(alloc, text, number, name)?,
-        _ => None,
-    };
-    put_stop(alloc, out, &stop, &Said::Expected("a new label", at))
+    let at = twin_before(alloc, text, number, found_word(&stop.found))?;
+    put_stop(
+        alloc,
+        out,
+        &stop,
+        &Said::Expected("a new label", at, Hint::Nothing),
+    )
 }
 
-/// A05: the label stands before the line that names it.
+/// Adds the line before with the label that is named (A05).
 fn put_backward(
     alloc: Global,
     out: &mut Vec<u8>,
@@ -108,24 +110,26 @@ fn put_backward(
     number: usize,
     line: &str,
 ) -> Result<(), AllocError>
-    ensures { OnOk result (AddsLineReason line.now out.old.items out.new.items) }
+    ensures { OnOk result (AddsWhy text.now fault.LabelNotForward number line.now out.old.items out.new.items) }
 {
     match last_stop(alloc, line)? {
         Some(stop) => {
-            let at = label_before(alloc, text, number, word_of(&stop.found))?;
+            let at = label_before(alloc, text, number, found_word(&stop.found))?;
             put_stop(
                 alloc,
                 out,
                 &stop,
-                &Said::Expected("a label behind this line", at),
+                &Said::Expected("a label behind this line", at, Hint::Nothing),
             )
         }
         None => Ok(()),
     }
 }
 
-/// What is past a limit where the line itself is within all.
-fn whole_limit(first: &[u8]) -> &'static str {
+/// Names what is past its limit when no word of the line is.
+fn whole_limit(first: &[u8]) -> &'static str
+    ensures { result.now ≡ whole_limit first.now }
+{
     if first == b"proc".as_slice() {
         "the procedure has no instruction, or 64 procedures stand before it"
     } else if first.is_empty() {
@@ -135,14 +139,25 @@ fn whole_limit(first: &[u8]) -> &'static str {
     }
 }
 
-fn limit_of(due: Option<Due>) -> &'static str {
-    match due {
-        Some(due) => due.limit(),
-        None => "one statement",
+/// Adds the limit of a word of the line, or of the whole text.
+fn put_limit(
+    alloc: Global,
+    out: &mut Vec<u8>,
+    text: &str,
+    number: usize,
+    line: &str,
+    first: &[u8],
+) -> Result<(), AllocError>
+    ensures { OnOk result (AddsPast line.now first.now out.old.items out.new.items) }
+{
+    let situation = situation_before(alloc, text, number)?;
+    match line_stop(alloc, Ask::Limits, situation.version, line)? {
+        Some(stop) => put_stop(alloc, out, &stop, &Said::Limit(limit_of(stop.due))),
+        None => put_whole(out, whole_limit(first)),
     }
 }
 
-/// A06: past which limit it is.
+/// Adds past which limit the line is (A06).
 fn put_past(
     alloc: Global,
     out: &mut Vec<u8>,
@@ -150,39 +165,17 @@ fn put_past(
     number: usize,
     line: &str,
 ) -> Result<(), AllocError>
-    ensures { OnOk result (AddsLineReason line.now out.old.items out.new.items) }
+    ensures { OnOk result (AddsWhy text.now fault.Limit number line.now out.old.items out.new.items) }
 {
-    let situation = situation_before(alloc, text, number)?;
     let first = first_stop(alloc, line)?;
-    if is_long_label(word_of(&first.found)) {
-        return put_stop(alloc, out, &first, &Said::Limit("64 bytes"));
-    }
-    match line_stop(alloc, Ask::Limits, situation.version, line)? {
-        Some(stop) => put_stop(alloc, out, &stop, &Said::Limit(limit_of(stop.due))),
-        None => put_whole(out, whole_limit(word_of(&first.found))),
+    if is_long_label(found_word(&first.found)) {
+        put_stop(alloc, out, &first, &Said::Limit("64 bytes"))
+    } else {
+        put_limit(alloc, out, text, number, line, found_word(&first.found))
     }
 }
 
-/// Tells why a line is refused whose words are a statement but for a label or a limit.
-fn put_other(
-    alloc: Global,
-    out: &mut Vec<u8>,
-    text: &str,
-    fault: AsmFault,
-    line: &str,
-) -> Result<(), AllocError>
-    ensures { OnOk result (AddsLineReason line.now out.old.items out.new.items) }
-{
-    match fault.no {
-        FaultNo::UnknownLabel => put_unknown(alloc, out, line),
-        FaultNo::LabelTwice => put_twice(alloc, out, text, fault.line, line),
-        FaultNo::LabelNotForward => put_backward(alloc, out, text, fault.line, line),
-        FaultNo::Limit => put_past(alloc, out, text, fault.line, line),
-        FaultNo::Word | FaultNo::Operand | FaultNo::NoMemory => Ok(()),
-    }
-}
-
-/// Tells why a line is refused.
+/// Adds why a line is refused.
 fn put_line_reason(
     alloc: Global,
     out: &mut Vec<u8>,
@@ -195,18 +188,15 @@ fn put_line_reason(
     match fault.no {
         FaultNo::Word => put_first(alloc, out, text, fault.line, line),
         FaultNo::Operand => put_operand(alloc, out, text, fault.line, line),
-        _ => put_other(alloc, out, text, fault, line),
+        FaultNo::UnknownLabel => put_unknown(alloc, out, line),
+        FaultNo::LabelTwice => put_twice(alloc, out, text, fault.line, line),
+        FaultNo::LabelNotForward => put_backward(alloc, out, text, fault.line, line),
+        FaultNo::Limit => put_past(alloc, out, text, fault.line, line),
+        FaultNo::NoMemory => Ok(()),
     }
 }
 
-/// The line of this number, counted from 1, if the text has one.
-fn line_numbered<'a>(text: &'a str, number: usize) -> Option<&'a str>
-    ensures { MatchOption result (slice_get (lines text.entry.now) (number - 1) ≡ None) (λ line. slice_get (lines text.entry.now) (number - 1) ≡ Some line.now) }
-{
-    text.lines().nth(number.saturating_sub(1))
-}
-
-/// Adds the line that is refused, as it stands, and why it is.
+/// Adds the line that is refused, shortened if it is long, and why it is refused.
 pub fn put_text_reason(
     alloc: Global,
     out: &mut Vec<u8>,
@@ -217,7 +207,8 @@ pub fn put_text_reason(
 {
     match line_numbered(text, fault.line) {
         Some(line) => {
-            put_both(out, line, "\n")?;
+            put_shortened(out, line.as_bytes())?;
+            put(out, "\n")?;
             put_line_reason(alloc, out, text, fault, line)
         }
         None => put_line_reason(alloc, out, text, fault, ""),

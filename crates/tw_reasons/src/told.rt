@@ -1,13 +1,13 @@
 //! What is told of the place at which a line stops.
 
-ghost use Rattle.std.specs.Prelude.{◌≡◌, ◌++◌, ℕ, List, OnOk};
-ghost use Rattle.tw_reasons.specs.Stops.{IsStop};
-ghost use Rattle.tw_reasons.specs.Told.{AddsLineReason, break_text, expected_text, found_text, has_part, hidden_text, line_text, said_text, stop_line, where_text, word_text};
+ghost use Rattle.std.specs.Prelude.{◌≡◌, ◌++◌, OnOk, codes};
+ghost use Rattle.tw_reasons.specs.Told.{break_text, expected_text, found_text, has_part, hidden_text, line_text, said_text, stop_line, where_text, word_text};
 
 use crate::breaks::Break;
+use crate::hints::{Hint, put_hint};
 use crate::stop::{Found, Stop};
 use std::alloc::{AllocError, Global};
-use tw_words::{put, put_both, put_numbered};
+use tw_words::{put, put_both, put_numbered, put_shortened};
 
 // ---- words that stood there
 
@@ -41,12 +41,12 @@ fn hidden_text(word: &[u8]) -> &'static str
     }
 }
 
-/// Adds a word as it stands, behind the name of what isn't seen in it.
+/// Adds a word, shortened if it is long, after the name of what isn't seen in it.
 fn put_word(out: &mut Vec<u8>, word: &[u8]) -> Result<(), AllocError>
     ensures { OnOk result (out.new.items ≡ out.old.items ++ word_text word.now) }
 {
     put(out, hidden_text(word))?;
-    out.extend_from_slice(word)
+    put_shortened(out, word)
 }
 
 fn break_text(broken: Break) -> &'static str
@@ -105,8 +105,8 @@ fn put_found(out: &mut Vec<u8>, found: &Found<'_>) -> Result<(), AllocError>
 /// What is said of a stop.
 #[derive(Clone, Copy)]
 pub(crate) enum Said<'a> {
-    /// This was expected; and the line of a label.
-    Expected(&'a str, Option<usize>),
+    /// This was expected; the line of a label; and the word that was meant.
+    Expected(&'a str, Option<usize>, Hint),
     TooMany,
     Limit(&'a str),
 }
@@ -129,9 +129,10 @@ fn put_said(
     ensures { OnOk result (out.new.items ≡ out.old.items ++ said_text said.now found.now) }
 {
     match said {
-        Said::Expected(expected, line) => {
+        Said::Expected(expected, line, hint) => {
             put_expected(out, expected, found)?;
-            put_line_of(alloc, out, *line)
+            put_line_of(alloc, out, *line)?;
+            put_hint(out, *hint)
         }
         Said::TooMany => {
             put(out, "one word too many")?;
@@ -151,8 +152,7 @@ pub(crate) fn put_stop(
     stop: &Stop<'_>,
     said: &Said<'_>,
 ) -> Result<(), AllocError>
-    ensures text { OnOk result (out.new.items ≡ out.old.items ++ stop_line stop.now (said_text said.now stop.now.found)) }
-    ensures adds { OnOk result ((line : List ℕ) → IsStop line stop.now → AddsLineReason line out.old.items out.new.items) }
+    ensures { OnOk result (out.new.items ≡ out.old.items ++ stop_line stop.now (said_text said.now stop.now.found)) }
 {
     put_where(alloc, out, stop)?;
     put_said(alloc, out, said, &stop.found)?;
@@ -161,7 +161,7 @@ pub(crate) fn put_stop(
 
 /// Adds a sentence on the whole.
 pub(crate) fn put_whole(out: &mut Vec<u8>, whole: &str) -> Result<(), AllocError>
-    ensures { OnOk result ((line : List ℕ) → AddsLineReason line out.old.items out.new.items) }
+    ensures { OnOk result (out.new.items ≡ out.old.items ++ (whole.now ++ codes "\n")) }
 {
     put(out, whole)?;
     put(out, "\n")

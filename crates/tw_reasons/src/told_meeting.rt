@@ -1,16 +1,15 @@
 //! What is told where ways meet whose typings differ.
 
-ghost use Rattle.std.specs.Prelude.{◌≡◌, ◌++◌, ℕ, List, OnOk};
+ghost use Rattle.std.specs.Prelude.{◌≡◌, ◌++◌, OnOk};
 ghost use Rattle.tw_asm.specs.Origins.{at_place};
-ghost use Rattle.tw_reasons.specs.Reasons.{holding_text, meeting_line, place_text, side_text};
+ghost use Rattle.tw_reasons.specs.Reasons.{changed_line, holding_text, meeting_line, place_text, side_text};
 
 use crate::asked::{Held, put_held};
-use crate::meeting::{Meeting, first_difference, loop_begin};
+use crate::meeting::{Difference, Meeting};
 use crate::rights::put_right;
 use std::alloc::{AllocError, Global};
 use tw_asm::LineNumbers;
-use tw_code::Instr;
-use tw_verify::{RightType, Typing};
+use tw_verify::RightType;
 use tw_words::{put, put_numbered};
 
 /// Adds the line of the text from which the instruction at a place comes, or the place.
@@ -86,28 +85,14 @@ pub(crate) fn put_meeting(
     put(out, "\n")
 }
 
-/// Which register a loop changes.
+/// Adds what a register holds, and what it held where the loop begins.
 pub(crate) fn put_changed(
     alloc: Global,
     out: &mut Vec<u8>,
-    code: &[Instr],
-    place: usize,
-    typings: &[Typing],
+    found: &Difference,
 ) -> Result<(), AllocError>
-    ensures { OnOk result ((text : List ℕ) × (out.new.items ≡ out.old.items ++ text)) }
+    ensures { OnOk result (out.new.items ≡ out.old.items ++ changed_line found.now) }
 {
-    let Some(first) = loop_begin(code, place) else {
-        return Ok(());
-    };
-    let Some(begun) = typings.get(first) else {
-        return Ok(());
-    };
-    let Some(here) = typings.get(place) else {
-        return Ok(());
-    };
-    let Some(found) = first_difference(here, begun) else {
-        return Ok(());
-    };
     put_held(alloc, out, found.register, Held::Right(found.first))?;
     put(out, ", asked: ")?;
     put_holding(out, found.second)?;

@@ -1,5 +1,6 @@
 use Rattle.std.proofs.Common.{◌≡◌, ◌+◌, ◌≤◌, drop, count_by}
-use Rattle.tw_reasons.specs.Stops.{begins_character, column_behind}
+use Rattle.tw_words.specs.Shown.{begins_character}
+use Rattle.tw_reasons.specs.Stops.{column_behind}
 use Rattle.tw_reasons.proofs.stop.column_behind.Given as goal
 
 abbrev pub invariant-loop-byte : goal.invariant-loop-byte
