@@ -7,6 +7,7 @@
 //! * `State` is what a machine has: live data, tasks that run or wait, rules that are pending, notices.
 #![tactic(auto)]
 
+mod event_actor;
 mod events;
 mod opened;
 mod opening;
@@ -18,6 +19,7 @@ mod state;
 mod tables;
 mod tasks;
 
+pub use event_actor::actor_of;
 pub use plain::Plain;
 pub use refusal::{OpenRefusal, OpenRefused};
 pub use rule::Rule;

@@ -106,9 +106,10 @@ AreArrows links place (w ∷ waits) = (w.from ≡ place) × (slice_get (rules_of
 -- ---- the drawing
 
 -- From the first state the events lead to this one. These are drawn, and how it has ended, with the first thousand rules of the
--- circle where it is stuck.
-pub record IsDrawing (first : PlainView) (events : List Event) (s : State) (d : Drawing) : Type 0 where
+-- circle where it is stuck. The procedures have these names.
+pub record IsDrawing (names : List (List ℕ)) (first : PlainView) (events : List Event) (s : State) (d : Drawing) : Type 0 where
   pub layout : d.layout ≡ first.layout
+  pub names_are : d.names ≡ names
   pub count : d.events ≡ length events
   pub marks : d.marks.items ≡ numbered 1 events
   pub bars : d.bars.items ≡ map (ended d.marks.items) (flat_map begun (history first events))

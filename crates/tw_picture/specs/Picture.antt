@@ -43,7 +43,7 @@ abbrev pub kinds : Forest
 kinds = joined first_kinds (joined (kind of_kind.Ask 560) (joined (kind of_kind.Deliver 630) (kind of_kind.Release 730)))
 
 abbrev pub looks : List ℕ
-looks = codes "svg{background:white;font:12px monospace}.lane{fill:#f3f5f8}.actor{fill:#222;font-weight:bold}.again{fill:#8a94a0;font-size:9px}.tick{stroke:#d5dae0}.number{fill:#667;font-size:10px}.thread{fill:none;stroke:#7a9;stroke-width:1.5}.thin{fill:none;stroke:#7a9;stroke-width:.6;opacity:.6}.bar{fill:#cfe0f5;stroke:#4a78b0}.open{fill:#e4edf8;stroke:#4a78b0;stroke-dasharray:4 3}.label{fill:#124;font-size:11px}.column{fill:#2f5d94;opacity:.75}.take{fill:#4a78b0}.local{fill:#98a2ae}.call{fill:#e08a1e}.end{fill:#1d3557}.ask{fill:#8e44ad}.deliver{fill:#16a085}.release{fill:#c0392b}.closing{fill:#222;font-size:14px;font-weight:bold}.rule{fill:#fbe3e0;stroke:#c0392b}.wait{fill:none;stroke:#c0392b;stroke-width:1.5;marker-end:url(#tip)}"
+looks = codes "svg{background:white;font:12px monospace}.lane{fill:#f3f5f8;stroke:#d5dae0}.actor{fill:#222;font-weight:bold}.again{fill:#8a94a0;font-size:8px}.tick{stroke:#d5dae0}.number{fill:#667;font-size:10px}.thread{fill:none;stroke:#7a9;stroke-width:1.5}.thin{fill:none;stroke:#7a9;stroke-width:.6;opacity:.6}.bar{fill:#cfe0f5;stroke:#4a78b0}.open{fill:#e4edf8;stroke:#4a78b0;stroke-dasharray:4 3}.label{fill:#124;font-size:11px}.column{fill:#2f5d94;opacity:.75}.take{fill:#4a78b0}.local{fill:#98a2ae}.call{fill:#e08a1e}.end{fill:#1d3557}.ask{fill:#8e44ad}.deliver{fill:#16a085}.release{fill:#c0392b}.closing{fill:#222;font-size:14px;font-weight:bold}.rule{fill:#fbe3e0;stroke:#c0392b}.wait{fill:none;stroke:#c0392b;stroke-width:1.5;marker-end:url(#tip)}"
 
 -- what a column means
 abbrev pub meaning : Forest
@@ -53,7 +53,7 @@ abbrev pub key_of : View → Forest
 key_of v = if is_coarse v then meaning else kinds
 
 abbrev pub some_text : View → ℕ → List ℕ
-some_text v events = codes "events " ++ (decimal v.first ++ (codes " to " ++ (decimal v.last ++ (codes " of " ++ decimal events))))
+some_text v events = codes "events " ++ (decimal v.first ++ (codes " to " ++ (decimal v.last ++ (codes " of " ++ (decimal events ++ codes ": order of events, not duration")))))
 
 abbrev pub none_text : ℕ → List ℕ
 none_text events = codes "none of " ++ (decimal events ++ codes " events")
@@ -104,7 +104,7 @@ events_of d v = if is_coarse v then all_columns d.layout v d.marks.items else al
 
 -- a bar for each task, the events, and the circle of rules
 abbrev pub things : Drawing → View → Forest
-things d v = joined (all (bar_shape d.layout v) d.bars.items) (joined (events_of d v) (all (wait_shape d.layout) d.waits.items))
+things d v = joined (all (bar_shape d.names d.layout v) d.bars.items) (joined (events_of d v) (all (wait_shape d.layout) d.waits.items))
 
 abbrev pub sized : ℕ → ℕ → List Attribute
 sized width height = fixed key.Namespace word.Svg ∷ number key.Width width ∷ number key.Height height ∷ record { key = key.ViewBox; value = value.Frame width height } ∷ []

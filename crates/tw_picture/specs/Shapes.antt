@@ -6,6 +6,7 @@ use Rattle.tw_types.specs.declared.event.Event.{Event}
 use Rattle.tw_types.specs.declared.event.Event.TheVariants as event
 use Rattle.tw_types.specs.Layout.{ActorCounts}
 use Rattle.tw_code.specs.machine.History.{actor_of}
+use Rattle.tw_names.specs.Symbols.{bracketed, name_at}
 use Rattle.tw_report.specs.Events.{event_line}
 use Rattle.tw_picture.specs.declared.attributes.Attribute.{Attribute}
 use Rattle.tw_picture.specs.declared.attributes.Key.{Key}
@@ -111,8 +112,8 @@ abbrev pub events_text : ℕ → Option ℕ → List ℕ
 events_text from None = codes ", from event " ++ (decimal from ++ codes " on")
 events_text from (Some to) = codes ", events " ++ (decimal from ++ (codes " to " ++ decimal to))
 
-abbrev pub bar_title : Bar → List ℕ
-bar_title b = (codes "task " ++ (decimal b.task ++ (codes " of procedure " ++ decimal b.procedure))) ++ events_text b.from b.to
+abbrev pub bar_title : List (List ℕ) → Bar → List ℕ
+bar_title names b = (codes "task " ++ (decimal b.task ++ (codes " of procedure " ++ decimal b.procedure))) ++ (bracketed (name_at names b.procedure) ++ events_text b.from b.to)
 
 -- the last of its events that is shown
 abbrev pub end_in : View → Option ℕ → ℕ
@@ -132,26 +133,44 @@ bar_class None = word.Open
 bar_class (Some to) = word.Bar
 
 -- from its Take to its End
-abbrev pub bar_box : ActorCounts → View → Bar → Forest
-bar_box layout v b = titled name.Rectangle (rectangle (bar_class b.to) (left_of v b.from) (lane_top layout b.actor + 16) (bar_width v b) 18) (bar_title b)
+abbrev pub bar_box : List (List ℕ) → ActorCounts → View → Bar → Forest
+bar_box names layout v b = titled name.Rectangle (rectangle (bar_class b.to) (left_of v b.from) (lane_top layout b.actor + 16) (bar_width v b) 18) (bar_title names b)
 
--- its task and its procedure, or its procedure, or nothing: seven units for a letter
-abbrev pub label_text : Bar → ℕ → List ℕ
-label_text b width =
-    let short = codes "p" ++ decimal b.procedure in
-    let full = codes "t" ++ (decimal b.task ++ (codes " p" ++ decimal b.procedure)) in
-    if nat_le (length full) (width / 7) then full else if nat_le (length short) (width / 7) then short else []
+-- seven units for a letter
+abbrev pub fits : List ℕ → ℕ → Bool
+fits text width = nat_le (length text) (width / 7)
 
-abbrev pub bar_label : ActorCounts → View → Bar → Forest
-bar_label layout v b =
-    let text = label_text b (bar_width v b) in
+abbrev pub number_text : ℕ → List ℕ
+number_text procedure = codes "p" ++ decimal procedure
+
+-- a procedure by its name, or else by its number
+abbrev pub name_or : List ℕ → ℕ → List ℕ
+name_or [] procedure = number_text procedure
+name_or (b ∷ name) procedure = b ∷ name
+
+abbrev pub full_text : ℕ → List ℕ → List ℕ
+full_text task procedure = (codes "t" ++ decimal task) ++ (codes " " ++ procedure)
+
+-- the first of three texts for which there is room, or nothing
+abbrev pub first_fitting : List ℕ → List ℕ → List ℕ → ℕ → List ℕ
+first_fitting a b c width = if fits a width then a else if fits b width then b else if fits c width then c else []
+
+-- its task and its procedure, or its procedure, by name or else by number, or nothing
+abbrev pub label_text : List (List ℕ) → Bar → ℕ → List ℕ
+label_text names b width =
+    let procedure = name_or (name_at names b.procedure) b.procedure in
+    first_fitting (full_text b.task procedure) procedure (number_text b.procedure) width
+
+abbrev pub bar_label : List (List ℕ) → ActorCounts → View → Bar → Forest
+bar_label names layout v b =
+    let text = label_text names b (bar_width v b) in
     if length text == 0 then Nothing else with_words name.Text (labelled word.Label (left_of v b.from + 1) (lane_top layout b.actor + 12)) text
 
-abbrev pub bar_parts : ActorCounts → View → Bar → Forest
-bar_parts layout v b = joined (bar_box layout v b) (bar_label layout v b)
+abbrev pub bar_parts : List (List ℕ) → ActorCounts → View → Bar → Forest
+bar_parts names layout v b = joined (bar_box names layout v b) (bar_label names layout v b)
 
-abbrev pub bar_shape : ActorCounts → View → Bar → Forest
-bar_shape layout v b = if has_bar v b then bar_parts layout v b else Nothing
+abbrev pub bar_shape : List (List ℕ) → ActorCounts → View → Bar → Forest
+bar_shape names layout v b = if has_bar v b then bar_parts names layout v b else Nothing
 
 -- ---- what led to tasks
 
@@ -190,9 +209,9 @@ actor_name (Engine n) = codes "engine " ++ decimal n
 actor_name (Server n) = codes "server " ++ decimal n
 actor_name (Worker n) = codes "worker " ++ decimal n
 
--- so that it is seen wherever one looks, every 960 units
+-- so that it is seen wherever one looks, every 960 units, below the bars and above the lane's lower edge
 abbrev pub name_again : ℕ → List ℕ → ℕ → Forest
-name_again top words place = with_words name.Text (labelled word.Again (970 + 960 * place) (top + 42)) words
+name_again top words place = with_words name.Text (labelled word.Again (970 + 960 * place) (top + 40)) words
 
 abbrev pub lane : ActorCounts → ℕ → Actor → Forest
 lane layout width actor =

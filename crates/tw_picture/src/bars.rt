@@ -1,7 +1,8 @@
 //! Tasks, as they are drawn.
 
 ghost use Rattle.std.specs.Prelude.{◌≡◌, ◌++◌, codes, decimal, IfOk, OnOk};
-ghost use Rattle.tw_picture.specs.Shapes.{bar_shape, bar_box, bar_class, bar_label, bar_parts, bar_title, bar_width, end_in, events_text, has_bar, label_text, labelled};
+ghost use Rattle.tw_picture.specs.Shapes.{bar_shape, bar_box, bar_class, bar_label, bar_parts, bar_title, bar_width, end_in, events_text, first_fitting, fits, full_text, has_bar, label_text, labelled, name_or};
+ghost use Rattle.tw_names.specs.Symbols.{name_at};
 ghost use Rattle.tw_picture.specs.Xml.{all, xml_text};
 
 use crate::attributes::{Attribute, Key, Name, Word, fixed, number};
@@ -10,6 +11,7 @@ use crate::elements::{numbered, put_titled, put_words};
 use crate::marks::rectangle;
 use crate::places::{View, lane_top};
 use std::alloc::{AllocError, Global};
+use tw_names::Symbols;
 use tw_report::{put, put_numbered};
 use tw_types::Layout;
 
@@ -72,8 +74,8 @@ fn put_events(
 }
 
 /// What a bar shows at the pointer: its task, its procedure and its events.
-fn bar_title(alloc: Global, bar: &Bar) -> Result<Vec<u8>, AllocError>
-    ensures { IfOk result (λ title. title.items ≡ bar_title bar.now) }
+fn bar_title(alloc: Global, names: &Symbols, bar: &Bar) -> Result<Vec<u8>, AllocError>
+    ensures { IfOk result (λ title. title.items ≡ bar_title names.now bar.now) }
 {
     let mut title = Vec::new(alloc);
     let task = bar.task.number() as usize;
@@ -83,24 +85,67 @@ fn bar_title(alloc: Global, bar: &Bar) -> Result<Vec<u8>, AllocError>
         ("task ", task),
         (" of procedure ", usize::from(bar.procedure)),
     )?;
+    names.put(&mut title, usize::from(bar.procedure))?;
     put_events(alloc, &mut title, bar.from, bar.to)?;
     Ok(title)
 }
 
-/// The words at a bar: its task and its procedure where there is room for both, or its procedure, or nothing.
-fn label_text(alloc: Global, bar: &Bar, width: usize) -> Result<Vec<u8>, AllocError>
-    ensures { IfOk result (λ text. text.items ≡ label_text bar.now width) }
+/// Whether there is room for a text: seven units for a letter.
+fn fits(text: &[u8], width: usize) -> bool
+    ensures { result ≡ fits text.now width }
 {
-    let short = numbered(alloc, "p", u64::from(bar.procedure))?;
-    let mut full = numbered(alloc, "t", bar.task.number())?;
-    put_numbered(alloc, &mut full, " p", usize::from(bar.procedure))?;
-    if full.len() <= width / 7 {
-        Ok(full)
-    } else if short.len() <= width / 7 {
-        Ok(short)
+    text.len() <= width / 7
+}
+
+/// Returns a procedure's name, or its number if it has none.
+fn name_or_number(alloc: Global, names: &Symbols, number: u8) -> Result<Vec<u8>, AllocError>
+    ensures { IfOk result (λ text. text.items ≡ name_or (name_at names.now number) number) }
+{
+    let name = names.procedure(usize::from(number));
+    if name.is_empty() {
+        numbered(alloc, "p", u64::from(number))
     } else {
-        Ok(Vec::new(alloc))
+        name.to_vec(alloc)
     }
+}
+
+fn full_text(alloc: Global, task: u64, procedure: &[u8]) -> Result<Vec<u8>, AllocError>
+    ensures { IfOk result (λ text. text.items ≡ full_text task procedure.now) }
+{
+    let mut text = numbered(alloc, "t", task)?;
+    put(&mut text, " ")?;
+    text.extend_from_slice(procedure)?;
+    Ok(text)
+}
+
+/// Returns the first of three texts for which there is room, or nothing.
+fn first_fitting<'a>(a: &'a [u8], b: &'a [u8], c: &'a [u8], width: usize) -> &'a [u8]
+    ensures { result.now ≡ first_fitting a.entry.now b.entry.now c.entry.now width }
+{
+    if fits(a, width) {
+        a
+    } else if fits(b, width) {
+        b
+    } else if fits(c, width) {
+        c
+    } else {
+        &[]
+    }
+}
+
+/// Returns the words at a bar: its task and its procedure where there is room for both, or its procedure, or nothing.
+fn label_text(
+    alloc: Global,
+    names: &Symbols,
+    bar: &Bar,
+    width: usize,
+) -> Result<Vec<u8>, AllocError>
+    ensures { IfOk result (λ text. text.items ≡ label_text names.now bar.now width) }
+{
+    let number = numbered(alloc, "p", u64::from(bar.procedure))?;
+    let procedure = name_or_number(alloc, names, bar.procedure)?;
+    let full = full_text(alloc, bar.task.number(), &procedure)?;
+    first_fitting(&full, &procedure, &number, width).to_vec(alloc)
 }
 
 /// The last event of a bar that is shown; an open one has no last.
@@ -144,13 +189,14 @@ fn bar_class(bar: &Bar) -> Word
 fn put_bar_box(
     alloc: Global,
     out: &mut Vec<u8>,
+    names: &Symbols,
     layout: Layout,
     view: View,
     bar: &Bar,
 ) -> Result<(), AllocError>
-    ensures { OnOk result (out.new.items ≡ out.old.items ++ xml_text (bar_box layout view bar.now)) }
+    ensures { OnOk result (out.new.items ≡ out.old.items ++ xml_text (bar_box names.now layout view bar.now)) }
 {
-    let title = bar_title(alloc, bar)?;
+    let title = bar_title(alloc, names, bar)?;
     let top = lane_top(layout, bar.actor) + 16;
     let row = rectangle(
         bar_class(bar),
@@ -166,13 +212,14 @@ fn put_bar_box(
 fn put_bar_label(
     alloc: Global,
     out: &mut Vec<u8>,
+    names: &Symbols,
     layout: Layout,
     view: View,
     bar: &Bar,
 ) -> Result<(), AllocError>
-    ensures { OnOk result (out.new.items ≡ out.old.items ++ xml_text (bar_label layout view bar.now)) }
+    ensures { OnOk result (out.new.items ≡ out.old.items ++ xml_text (bar_label names.now layout view bar.now)) }
 {
-    let text = label_text(alloc, bar, bar_width(view, bar))?;
+    let text = label_text(alloc, names, bar, bar_width(view, bar))?;
     if text.is_empty() {
         return Ok(());
     }
@@ -187,28 +234,30 @@ fn put_bar_label(
 fn put_parts(
     alloc: Global,
     out: &mut Vec<u8>,
+    names: &Symbols,
     layout: Layout,
     view: View,
     bar: &Bar,
 ) -> Result<(), AllocError>
-    ensures { OnOk result (out.new.items ≡ out.old.items ++ xml_text (bar_parts layout view bar.now)) }
+    ensures { OnOk result (out.new.items ≡ out.old.items ++ xml_text (bar_parts names.now layout view bar.now)) }
 {
-    put_bar_box(alloc, out, layout, view, bar)?;
-    put_bar_label(alloc, out, layout, view, bar)
+    put_bar_box(alloc, out, names, layout, view, bar)?;
+    put_bar_label(alloc, out, names, layout, view, bar)
 }
 
 /// Adds a bar, if it is drawn.
 fn put_bar(
     alloc: Global,
     out: &mut Vec<u8>,
+    names: &Symbols,
     layout: Layout,
     view: View,
     bar: &Bar,
 ) -> Result<(), AllocError>
-    ensures { OnOk result (out.new.items ≡ out.old.items ++ xml_text (bar_shape layout view bar.now)) }
+    ensures { OnOk result (out.new.items ≡ out.old.items ++ xml_text (bar_shape names.now layout view bar.now)) }
 {
     if has_bar(view, bar) {
-        put_parts(alloc, out, layout, view, bar)
+        put_parts(alloc, out, names, layout, view, bar)
     } else {
         Ok(())
     }
@@ -218,14 +267,15 @@ fn put_bar(
 pub fn put_bars(
     alloc: Global,
     out: &mut Vec<u8>,
+    names: &Symbols,
     layout: Layout,
     view: View,
     bars: &[Bar],
 ) -> Result<(), AllocError>
-    ensures { OnOk result (out.new.items ≡ out.old.items ++ xml_text (all (bar_shape layout view) bars.now)) }
+    ensures { OnOk result (out.new.items ≡ out.old.items ++ xml_text (all (bar_shape names.now layout view) bars.now)) }
 {
     for bar in bars {
-        put_bar(alloc, out, layout, view, bar)?;
+        put_bar(alloc, out, names, layout, view, bar)?;
     }
     Ok(())
 }

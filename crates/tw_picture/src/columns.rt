@@ -8,9 +8,10 @@ ghost use Rattle.tw_picture.specs.Xml.{below, xml_text};
 use crate::attributes::{Name, Word};
 use crate::drawing::Mark;
 use crate::elements::put_titled;
-use crate::marks::{actor_of, rectangle};
+use crate::marks::rectangle;
 use crate::places::{View, lane_count, lane_of};
 use std::alloc::{AllocError, Global};
+use tw_machine::actor_of;
 use tw_report::put_numbered;
 use tw_types::Layout;
 

@@ -1,5 +1,6 @@
 //! What a picture shows.
 
+use tw_names::Symbols;
 use tw_types::{Actor, Event, Layout, Link, TaskNo};
 
 /// An event of a history, with its number from 1.
@@ -47,6 +48,8 @@ pub struct Wait {
 pub struct Drawing {
     /// The actors, a lane each.
     pub layout: Layout,
+    /// The names of the procedures, where they are known.
+    pub names: Symbols,
     /// How many events there are.
     pub events: u32,
     pub marks: Vec<Mark>,

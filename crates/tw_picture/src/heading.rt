@@ -16,7 +16,7 @@ use tw_report::{put, put_numbered};
 fn looks() -> &'static str
     ensures { result.now ≡ looks }
 {
-    "svg{background:white;font:12px monospace}.lane{fill:#f3f5f8}.actor{fill:#222;font-weight:bold}.again{fill:#8a94a0;font-size:9px}.tick{stroke:#d5dae0}.number{fill:#667;font-size:10px}.thread{fill:none;stroke:#7a9;stroke-width:1.5}.thin{fill:none;stroke:#7a9;stroke-width:.6;opacity:.6}.bar{fill:#cfe0f5;stroke:#4a78b0}.open{fill:#e4edf8;stroke:#4a78b0;stroke-dasharray:4 3}.label{fill:#124;font-size:11px}.column{fill:#2f5d94;opacity:.75}.take{fill:#4a78b0}.local{fill:#98a2ae}.call{fill:#e08a1e}.end{fill:#1d3557}.ask{fill:#8e44ad}.deliver{fill:#16a085}.release{fill:#c0392b}.closing{fill:#222;font-size:14px;font-weight:bold}.rule{fill:#fbe3e0;stroke:#c0392b}.wait{fill:none;stroke:#c0392b;stroke-width:1.5;marker-end:url(#tip)}"
+    "svg{background:white;font:12px monospace}.lane{fill:#f3f5f8;stroke:#d5dae0}.actor{fill:#222;font-weight:bold}.again{fill:#8a94a0;font-size:8px}.tick{stroke:#d5dae0}.number{fill:#667;font-size:10px}.thread{fill:none;stroke:#7a9;stroke-width:1.5}.thin{fill:none;stroke:#7a9;stroke-width:.6;opacity:.6}.bar{fill:#cfe0f5;stroke:#4a78b0}.open{fill:#e4edf8;stroke:#4a78b0;stroke-dasharray:4 3}.label{fill:#124;font-size:11px}.column{fill:#2f5d94;opacity:.75}.take{fill:#4a78b0}.local{fill:#98a2ae}.call{fill:#e08a1e}.end{fill:#1d3557}.ask{fill:#8e44ad}.deliver{fill:#16a085}.release{fill:#c0392b}.closing{fill:#222;font-size:14px;font-weight:bold}.rule{fill:#fbe3e0;stroke:#c0392b}.wait{fill:none;stroke:#c0392b;stroke-width:1.5;marker-end:url(#tip)}"
 }
 
 fn tip_row() -> [Attribute; 6]
@@ -123,6 +123,7 @@ fn some_text(alloc: Global, view: View, events: u32) -> Result<Vec<u8>, AllocErr
     let mut text = numbered(alloc, "events ", u64::from(view.first()))?;
     put_numbered(alloc, &mut text, " to ", view.last() as usize)?;
     put_numbered(alloc, &mut text, " of ", events as usize)?;
+    put(&mut text, ": order of events, not duration")?;
     Ok(text)
 }
 
@@ -134,7 +135,7 @@ fn none_text(alloc: Global, events: u32) -> Result<Vec<u8>, AllocError>
     Ok(text)
 }
 
-/// The events that are shown, of so many.
+/// Says which events are shown of so many, and that a timeline has no durations.
 fn shown_text(alloc: Global, view: View, events: u32) -> Result<Vec<u8>, AllocError>
     ensures { IfOk result (λ text. text.items ≡ shown_text view events) }
 {

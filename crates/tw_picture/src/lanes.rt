@@ -41,7 +41,7 @@ fn put_names(
     ensures { OnOk result (out.new.items ≡ out.old.items ++ xml_text (below (name_again top name.now) (width / 970))) }
 {
     for place in 0..width / 970 {
-        let row = labelled(Word::Again, 970 + 960 * place, top + 42);
+        let row = labelled(Word::Again, 970 + 960 * place, top + 40);
         put_words(alloc, out, Name::Text, &row, name)?;
     }
     Ok(())

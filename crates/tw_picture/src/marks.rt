@@ -1,7 +1,6 @@
 //! Events, as they are drawn.
 
 ghost use Rattle.std.specs.Prelude.{◌≡◌, ◌++◌, IfOk, OnOk};
-ghost use Rattle.tw_code.specs.machine.History.{actor_of};
 ghost use Rattle.tw_picture.specs.Shapes.{kind_of, mark_box, mark_shape, mark_title, rectangle, way_row};
 ghost use Rattle.tw_picture.specs.Xml.{all, xml_text};
 
@@ -10,8 +9,9 @@ use crate::drawing::Mark;
 use crate::elements::put_titled;
 use crate::places::{View, lane_top};
 use std::alloc::{AllocError, Global};
+use tw_machine::actor_of;
 use tw_report::{put, put_event_line, put_numbered};
-use tw_types::{Actor, Event, Layout};
+use tw_types::{Event, Layout};
 
 /// A rectangle's row of attributes.
 pub fn rectangle(class: Word, x: usize, y: usize, width: usize, height: usize) -> [Attribute; 5]
@@ -31,19 +31,6 @@ pub fn way_row(class: Word, way: Value) -> [Attribute; 2]
     ensures { result ≡ way_row class way }
 {
     [fixed(Key::Class, class), route(way)]
-}
-
-/// Whose event it is.
-pub fn actor_of(event: &Event) -> Actor
-    ensures { result ≡ actor_of event.now }
-{
-    match *event {
-        Event::Take(actor) | Event::Call(actor) | Event::End(actor) => actor,
-        Event::Local(actor, _) => actor,
-        Event::Ask(engine, _, _) => Actor::Engine(engine),
-        Event::Deliver(server, _, _, _) => Actor::Server(server),
-        Event::Release(engine, _) => Actor::Engine(engine),
-    }
 }
 
 fn kind_of(event: &Event) -> Kind

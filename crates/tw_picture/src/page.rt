@@ -91,7 +91,14 @@ fn put_things(
 ) -> Result<(), AllocError>
     ensures { OnOk result (out.new.items ≡ out.old.items ++ xml_text (things drawing.now view)) }
 {
-    put_bars(alloc, out, drawing.layout, view, &drawing.bars)?;
+    put_bars(
+        alloc,
+        out,
+        &drawing.names,
+        drawing.layout,
+        view,
+        &drawing.bars,
+    )?;
     put_events(alloc, out, drawing, view)?;
     put_waits(alloc, out, drawing.layout, &drawing.waits)
 }

@@ -13,9 +13,9 @@ ghost use Rattle.tw_picture.specs.History.{AreArrows, HasFew, IsDrawing, IsOpeni
 
 use crate::circle::waits_at;
 use crate::drawing::{Bar, Drawing, Mark, Place, Thread};
-use crate::marks::actor_of;
 use std::alloc::{AllocError, Global};
-use tw_machine::Plain;
+use tw_machine::{Plain, actor_of};
+use tw_names::Symbols;
 use tw_report::ending_line;
 use tw_types::{Actor, Event, TaskNo};
 
@@ -192,10 +192,15 @@ impl Trail {
         keep_maker(&mut self.makers, plain, &mark)
     }
 
-    /// The drawing of the events that have led to where the machine stands.
-    pub fn drawing(self, alloc: Global, plain: &Plain) -> Result<Drawing, AllocError>
+    /// Draws the events that have led to where the machine stands; the procedures have these names.
+    pub fn drawing(
+        self,
+        alloc: Global,
+        plain: &Plain,
+        names: Symbols,
+    ) -> Result<Drawing, AllocError>
         requires { HasFew self }
-        ensures { IfOk result (λ d. (first : PlainView) (events : List AnEvent) → plain.now ≡ record first { state = plain.now.state } → IsTrail first events plain.now.state self → IsDrawing first events plain.now.state d) }
+        ensures { IfOk result (λ d. (first : PlainView) (events : List AnEvent) → plain.now ≡ record first { state = plain.now.state } → IsTrail first events plain.now.state self → IsDrawing names first events plain.now.state d) }
     {
         let bars = all_ended(alloc, &self.marks, &self.bars)?;
         let threads = threads_to(alloc, &self.makers, &bars)?;
@@ -203,6 +208,7 @@ impl Trail {
         let closing = ending_line(alloc, plain)?;
         Ok(Drawing {
             layout: plain.layout(),
+            names,
             events: self.marks.len() as u32,
             marks: self.marks,
             bars,

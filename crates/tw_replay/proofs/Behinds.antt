@@ -61,17 +61,17 @@ unfolding run played
 played_closes program layout number [] s = refl
 played_closes program layout number (event ∷ events) s = outcome_closes program layout number events (λ next. played_closes program layout (suc number) events next) (step program layout event s)
 
-counted_closes : (first : PlainView) (events : List Event) (o : Outcome State) (r : Reply) → ClosesBy o (played_from first events).close → ByOutcome o (λ s. IsNumbered first events s r) (r ≡ played_from first events) → ClosesBy o r.close
-counted_closes first events (Went s) r before h = ap (λ (x : Reply). x.close) h.4
-counted_closes first events NotEnabled r before h = λ e. before (sym (ap (λ (x : Reply). x.close) h) ∙ e)
-counted_closes first events (Trap cause) r before h = λ e. before (sym (ap (λ (x : Reply). x.close) h) ∙ e)
+counted_closes : (names : List (List ℕ)) (first : PlainView) (events : List Event) (o : Outcome State) (r : Reply) → ClosesBy o (played_from first events).close → ByOutcome o (λ s. IsNumbered names first events s r) (r ≡ played_from first events) → ClosesBy o r.close
+counted_closes names first events (Went s) r before h = ap (λ (x : Reply). x.close) h.4
+counted_closes names first events NotEnabled r before h = λ e. before (sym (ap (λ (x : Reply). x.close) h) ∙ e)
+counted_closes names first events (Trap cause) r before h = λ e. before (sym (ap (λ (x : Reply). x.close) h) ∙ e)
 
-pub answer_closes : (answer : Answer) (first : PlainView) (events : List Event) (r : Reply) → IsAnswer answer first events r → IsUndrawn answer → ClosesBy (run first.program first.layout events first.state) r.close
-answer_closes Report first events r h other =
+pub answer_closes : (names : List (List ℕ)) (answer : Answer) (first : PlainView) (events : List Event) (r : Reply) → IsAnswer names answer first events r → IsUndrawn answer → ClosesBy (run first.program first.layout events first.state) r.close
+answer_closes names Report first events r h other =
     subst (λ (c : Close). ClosesBy (run first.program first.layout events first.state) c) (sym (ap (λ (x : Reply). x.close) h)) (played_closes first.program first.layout 1 events first.state)
-answer_closes Numbers first events r h other =
-    counted_closes first events (run first.program first.layout events first.state) r (played_closes first.program first.layout 1 events first.state) h
-answer_closes (Picture shown) first events r h other = absurd other
+answer_closes names Numbers first events r h other =
+    counted_closes names first events (run first.program first.layout events first.state) r (played_closes first.program first.layout 1 events first.state) h
+answer_closes names (Picture shown) first events r h other = absurd other
 
 -- ---- behind a replay
 

@@ -19,6 +19,7 @@ use Rattle.tw_stats.specs.declared.thing.Thing.TheVariants.{Datum}
 use Rattle.tw_stats.specs.Waits.{made_at, made_by, made_in}
 use Rattle.tw_stats.proofs.Nexts.{step_more}
 use Rattle.tw_replay.specs.declared.stuck.Made.{Made}
+use Rattle.tw_names.specs.Symbols.{name_at}
 use Rattle.tw_report.proofs.HistoryReading.{never}
 
 none_some : {A : Type 0} {Z : Type 0} (x : A) → None ≡ Some x → Z
@@ -223,30 +224,30 @@ there start events rule m (action, made, runs) none =
 abbrev pub AddsTold : (List ℕ → Type 0) → List ℕ → List ℕ → Type 0
 AddsTold Tells old new = (more : List ℕ) × Tells more × (new ≡ old ++ more)
 
-pub rule_told : (text plain : List ℕ) (start : Start) (events : List Event) (rule : ℕ) (m : Made) (number : ℕ) (line old new : List ℕ) → StandsFor text plain → IsMadeSo start events rule m
+pub rule_told : (names : List (List ℕ)) (text plain : List ℕ) (start : Start) (events : List Event) (rule : ℕ) (m : Made) (number : ℕ) (line old new : List ℕ) → StandsFor text plain → IsMadeSo start events rule m
     → ComesFrom plain m.procedure m.place number → IsLineOf text number line
-    → new ≡ old ++ rule_line rule m.runs number line → AddsTold (TellsRule text start events rule) old new
-rule_told text plain start events rule m number line old new stands (action, made, runs) comes is added = (
-  rule_line rule action.procedure number line,
+    → new ≡ old ++ rule_line rule m.runs (name_at names m.runs) number line → AddsTold (TellsRule names text start events rule) old new
+rule_told names text plain start events rule m number line old new stands (action, made, runs) comes is added = (
+  rule_line rule action.procedure (name_at names action.procedure) number line,
   inl (plain, m.procedure, m.place, number, action, line, made, stands, comes, is, refl),
-  added ∙ ap (λ (n : ℕ). old ++ rule_line rule n number line) (sym runs),
+  added ∙ ap (λ (n : ℕ). old ++ rule_line rule n (name_at names n) number line) (sym runs),
 )
 
-pub none_told : (text : List ℕ) (start : Start) (events : List Event) (rule : ℕ) (old : List ℕ) → IsUnmade start events rule → AddsTold (TellsRule text start events rule) old old
-none_told text start events rule old unmade = ([], inr (unmade, refl), sym (append-nil old))
+pub none_told : (names : List (List ℕ)) (text : List ℕ) (start : Start) (events : List Event) (rule : ℕ) (old : List ℕ) → IsUnmade start events rule → AddsTold (TellsRule names text start events rule) old old
+none_told names text start events rule old unmade = ([], inr (unmade, refl), sym (append-nil old))
 
-rules_more : (text : List ℕ) (start : Start) (events : List Event) (links : List Link) (l : Link) (more line : List ℕ) → TellRules text start events links more → TellsRule text start events l.rule line
-    → TellRules text start events (links ++ l ∷ []) (more ++ line)
-rules_more text start events [] l more line none own = (line, [], own, refl, ap (λ (t : List ℕ). t ++ line) none ∙ sym (append-nil line))
-rules_more text start events (k ∷ links) l more line (first, others, is, rest, whole) own =
-    (first, others ++ line, is, rules_more text start events links l others line rest own, ap (λ (t : List ℕ). t ++ line) whole ∙ append_assoc first others line)
+rules_more : (names : List (List ℕ)) (text : List ℕ) (start : Start) (events : List Event) (links : List Link) (l : Link) (more line : List ℕ) → TellRules names text start events links more → TellsRule names text start events l.rule line
+    → TellRules names text start events (links ++ l ∷ []) (more ++ line)
+rules_more names text start events [] l more line none own = (line, [], own, refl, ap (λ (t : List ℕ). t ++ line) none ∙ sym (append-nil line))
+rules_more names text start events (k ∷ links) l more line (first, others, is, rest, whole) own =
+    (first, others ++ line, is, rules_more names text start events links l others line rest own, ap (λ (t : List ℕ). t ++ line) whole ∙ append_assoc first others line)
 
 -- the lines of so many rules of a circle, and of one more
-pub rule_more : (text : List ℕ) (start : Start) (events : List Event) (links next : List Link) (l : Link) (old now new : List ℕ) → next ≡ links ++ l ∷ [] → AddsTold (TellRules text start events links) old now
-    → AddsTold (TellsRule text start events l.rule) now new → AddsTold (TellRules text start events next) old new
-rule_more text start events links next l old now new is (more, told, before) (line, own, added) = (
+pub rule_more : (names : List (List ℕ)) (text : List ℕ) (start : Start) (events : List Event) (links next : List Link) (l : Link) (old now new : List ℕ) → next ≡ links ++ l ∷ [] → AddsTold (TellRules names text start events links) old now
+    → AddsTold (TellsRule names text start events l.rule) now new → AddsTold (TellRules names text start events next) old new
+rule_more names text start events links next l old now new is (more, told, before) (line, own, added) = (
   more ++ line,
-  subst (λ (ls : List Link). TellRules text start events ls (more ++ line)) (sym is) (rules_more text start events links l more line told own),
+  subst (λ (ls : List Link). TellRules names text start events ls (more ++ line)) (sym is) (rules_more names text start events links l more line told own),
   added ∙ ap (λ (t : List ℕ). t ++ line) before ∙ append_assoc old more line,
 )
 

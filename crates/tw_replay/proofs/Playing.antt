@@ -158,8 +158,8 @@ few_taken first events i s t h few =
     let bound : length t.marks.items < 2147483648 = omega (arith, length-take i events) in
     bound
 
-pub picture_of_all : (shown : Stretch) (first : PlainView) (events : List Event) (i : ℕ) (s : State) (r : Reply) → length events ≤ i → IsPicture shown first (take i events) s r → IsPicture shown first events s r
-picture_of_all shown first events i s r all h = subst (λ (es : List Event). IsPicture shown first es s r) (take_all i events all) h
+pub picture_of_all : (names : List (List ℕ)) (shown : Stretch) (first : PlainView) (events : List Event) (i : ℕ) (s : State) (r : Reply) → length events ≤ i → IsPicture names shown first (take i events) s r → IsPicture names shown first events s r
+picture_of_all names shown first events i s r all h = subst (λ (es : List Event). IsPicture names shown first es s r) (take_all i events all) h
 
 -- ---- the opening
 

@@ -20,6 +20,7 @@ use Rattle.tw_code.specs.machine.Opening.{reached}
 use Rattle.tw_code.specs.machine.Pending.{circle}
 use Rattle.tw_code.specs.machine.State.{Frame, State}
 use Rattle.tw_names.specs.Standing.{StandsFor}
+use Rattle.tw_names.specs.Symbols.{AreNames, bracketed, name_at}
 use Rattle.tw_replies.specs.Text.{IsLineOf, text_line}
 
 -- ---- who made a rule
@@ -57,29 +58,30 @@ pub record IsMade (start : Start) (events : List Event) (rule procedure place : 
 
 -- ---- lines
 
-abbrev pub rule_text : ℕ → ℕ → List ℕ
-rule_text rule procedure = codes "rule " ++ (decimal rule ++ (codes " runs procedure " ++ (decimal procedure ++ codes ", made ")))
+-- a rule, and the procedure that it runs, with its name in brackets if it has one
+abbrev pub rule_text : ℕ → ℕ → List ℕ → List ℕ
+rule_text rule procedure name = codes "rule " ++ (decimal rule ++ (codes " runs procedure " ++ (decimal procedure ++ (bracketed name ++ codes ", made "))))
 
-abbrev pub rule_line : ℕ → ℕ → ℕ → List ℕ → List ℕ
-rule_line rule procedure number line = rule_text rule procedure ++ text_line number line
+abbrev pub rule_line : ℕ → ℕ → List ℕ → ℕ → List ℕ → List ℕ
+rule_line rule procedure name number line = rule_text rule procedure name ++ text_line number line
 
--- the line of a rule that was made by the events; of another one nothing
-abbrev pub TellsRule : List ℕ → Start → List Event → ℕ → List ℕ → Type 0
-TellsRule text start events rule more =
+-- the line of a rule that was made by the events, where procedures have these names; of another one nothing
+abbrev pub TellsRule : List (List ℕ) → List ℕ → Start → List Event → ℕ → List ℕ → Type 0
+TellsRule names text start events rule more =
     ((plain : List ℕ) × (procedure place number : ℕ) × (action : Action) × (line : List ℕ) × IsMade start events rule procedure place action
-    × StandsFor text plain × ComesFrom plain procedure place number × IsLineOf text number line × (more ≡ rule_line rule action.procedure number line))
+    × StandsFor text plain × ComesFrom plain procedure place number × IsLineOf text number line × (more ≡ rule_line rule action.procedure (name_at names action.procedure) number line))
     ⊎ (((procedure place : ℕ) (action : Action) → IsMade start events rule procedure place action → ⊥) × (more ≡ []))
 
 -- of each rule of a circle
-abbrev pub TellRules : List ℕ → Start → List Event → List Link → List ℕ → Type 0
-TellRules text start events [] more = more ≡ []
-TellRules text start events (l ∷ links) more =
-    (line : List ℕ) × (others : List ℕ) × TellsRule text start events l.rule line × TellRules text start events links others × (more ≡ line ++ others)
+abbrev pub TellRules : List (List ℕ) → List ℕ → Start → List Event → List Link → List ℕ → Type 0
+TellRules names text start events [] more = more ≡ []
+TellRules names text start events (l ∷ links) more =
+    (line : List ℕ) × (others : List ℕ) × TellsRule names text start events l.rule line × TellRules names text start events links others × (more ≡ line ++ others)
 
--- of the circle, if there is one
+-- of the circle, if there is one, with the names that the text gives
 abbrev pub TellsCircle : List ℕ → Start → List Event → Option (List Link) → List ℕ → Type 0
 TellsCircle text start events None more = more ≡ []
-TellsCircle text start events (Some links) more = TellRules text start events links more
+TellsCircle text start events (Some links) more = (names : List (List ℕ)) × AreNames text names × TellRules names text start events links more
 
 -- ---- behind a report
 

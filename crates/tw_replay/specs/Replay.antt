@@ -30,6 +30,7 @@ use Rattle.tw_picture.specs.History.{IsDrawing}
 use Rattle.tw_picture.specs.Picture.{picture_of}
 use Rattle.tw_picture.specs.Places.{between}
 use Rattle.tw_picture.specs.Xml.{xml_text}
+use Rattle.tw_names.specs.Symbols.{AreSymbols}
 use Rattle.tw_report.specs.History.{AreParts, Tell, lines_in}
 use Rattle.tw_report.specs.Lines.{history_line, not_enabled_line, trap_line}
 use Rattle.tw_replies.specs.Lines.{opening_line}
@@ -71,10 +72,10 @@ played_from first events = played first.program first.layout 1 events first.stat
 
 -- ---- the picture
 
--- the drawing of the events that lead to a state, as one text that shows some of them
-abbrev pub IsPicture : Stretch → PlainView → List Event → State → Reply → Type 0
-IsPicture shown first events s r =
-    (d : Drawing) × IsDrawing first events s d × (r ≡ reply (xml_text (picture_of d (between shown.from shown.to))) (close_of (machine.ending s)))
+-- the drawing of the events that lead to a state, as one text that shows some of them; the procedures have these names
+abbrev pub IsPicture : List (List ℕ) → Stretch → PlainView → List Event → State → Reply → Type 0
+IsPicture names shown first events s r =
+    (d : Drawing) × IsDrawing names first events s d × (r ≡ reply (xml_text (picture_of d (between shown.from shown.to))) (close_of (machine.ending s)))
 
 -- one thing where events go, and another where one doesn't
 abbrev pub ByOutcome : Outcome State → (State → Type 0) → Type 0 → Type 0
@@ -83,8 +84,8 @@ ByOutcome NotEnabled goes stops = stops
 ByOutcome (Trap cause) goes stops = stops
 
 -- their picture, or what `replay` answers
-abbrev pub IsDrawn : Stretch → PlainView → List Event → Reply → Type 0
-IsDrawn shown first events r = ByOutcome (run first.program first.layout events first.state) (λ s. IsPicture shown first events s r) (r ≡ played_from first events)
+abbrev pub IsDrawn : List (List ℕ) → Stretch → PlainView → List Event → Reply → Type 0
+IsDrawn names shown first events r = ByOutcome (run first.program first.layout events first.state) (λ s. IsPicture names shown first events s r) (r ≡ played_from first events)
 
 -- ---- the numbers
 
@@ -100,21 +101,22 @@ abbrev pub AreKnownBudgets : List Procedure → List ℕ → Type 0
 AreKnownBudgets program budgets = (IsAccepted program × AreBudgets program budgets) ⊎ ((IsAccepted program → ⊥) × (budgets ≡ []))
 
 -- the report of the state to which the events lead, and behind it their numbers
-abbrev pub IsNumbered : PlainView → List Event → State → Reply → Type 0
-IsNumbered first events s r =
-    (budgets : List ℕ) × (text : List ℕ) × AreKnownBudgets first.program budgets × AreNumbers first.program first.layout budgets (history first events) text
+abbrev pub IsNumbered : List (List ℕ) → PlainView → List Event → State → Reply → Type 0
+IsNumbered names first events s r =
+    (budgets : List ℕ) × (text : List ℕ) × AreKnownBudgets first.program budgets × AreNumbers names first.program first.layout budgets (history first events) text
     × (r ≡ reply (state_report first.program s ++ text) (close_of (machine.ending s)))
 
 -- that, or what `replay` answers
-abbrev pub IsCounted : PlainView → List Event → Reply → Type 0
-IsCounted first events r = ByOutcome (run first.program first.layout events first.state) (λ s. IsNumbered first events s r) (r ≡ played_from first events)
+abbrev pub IsCounted : List (List ℕ) → PlainView → List Event → Reply → Type 0
+IsCounted names first events r = ByOutcome (run first.program first.layout events first.state) (λ s. IsNumbered names first events s r) (r ≡ played_from first events)
 
 -- ---- an answer
 
-abbrev pub IsAnswer : Answer → PlainView → List Event → Reply → Type 0
-IsAnswer Report first events r = r ≡ played_from first events
-IsAnswer Numbers first events r = IsCounted first events r
-IsAnswer (Picture shown) first events r = IsDrawn shown first events r
+-- where the procedures have these names
+abbrev pub IsAnswer : List (List ℕ) → Answer → PlainView → List Event → Reply → Type 0
+IsAnswer names Report first events r = r ≡ played_from first events
+IsAnswer names Numbers first events r = IsCounted names first events r
+IsAnswer names (Picture shown) first events r = IsDrawn names shown first events r
 
 -- ---- what stands behind it, where the program was read from a text
 
@@ -146,10 +148,10 @@ start_of order program = record { program = program.procedures; inputs = order.i
 abbrev pub opened : ReplayOrder → Versioned → PlainView
 opened order program = record { version = program.version; program = program.procedures; layout = order.layout; state = opening program.procedures order.inputs }
 
--- the answer, and what stands behind it
+-- the answer, with the names that the text gives, and what stands behind it
 abbrev pub IsAnswered : Option (List ℕ) → ReplayOrder → Versioned → List Event → Reply → Type 0
 IsAnswered text order program events r =
-    (told : Reply) × (more : List ℕ) × IsAnswer order.answer (opened order program) events told × IsAnswerBehind text order.answer (start_of order program) events more
+    (names : List (List ℕ)) × (told : Reply) × (more : List ℕ) × AreSymbols text names × IsAnswer names order.answer (opened order program) events told × IsAnswerBehind text order.answer (start_of order program) events more
     × (r ≡ reply (told.text ++ more) told.close)
 
 abbrev pub IsReplayed : Option (List ℕ) → ReplayOrder → Versioned → List Event → Reply → Type 0

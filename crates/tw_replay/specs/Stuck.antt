@@ -1,5 +1,5 @@
 -- What the code keeps of a history while it looks for the lines that made its rules.
-use Rattle.std.specs.Prelude.{◌≡◌, ◌≢◌, ◌+◌, ◌≤◌, ℕ, List, Option, Some, None, IfSome, length, slice_get}
+use Rattle.std.specs.Prelude.{◌≡◌, ◌≢◌, ◌+◌, ◌≤◌, ℕ, List, Option, Some, None, IfSome, length, map, slice_get}
 use Rattle.std.specs.FinMap.{get}
 use Rattle.std.specs.Option.{option_and_then}
 use Rattle.tw_types.specs.declared.event.Event.{Event}
@@ -27,6 +27,9 @@ use Rattle.tw_replies.specs.declared.source.SourceText.{SourceText}
 use Rattle.tw_replies.specs.declared.close.Close.{Close}
 use Rattle.tw_replies.specs.declared.close.Close.TheVariants.{Stuck}
 use Rattle.tw_replay.specs.declared.stuck.Made.{Made}
+use Rattle.tw_replay.specs.declared.stuck.Lookup.{Lookup}
+use Rattle.tw_names.specs.Symbols.{AreNames}
+use Rattle.std.specs.Str.Lines.{lines}
 
 -- ---- rules that were made
 
@@ -61,6 +64,13 @@ IsUnmade start events rule = (procedure place : ℕ) (action : Action) → IsMad
 pub record AreMade (start : Start) (events : List Event) (made : List Made) : Type 0 where
   pub each : (k : ℕ) (m : Made) → slice_get made k ≡ Some m → IsMadeSo start events (k + 1) m
   pub all : (rule procedure place : ℕ) (action : Action) → IsMade start events rule procedure place action → (1 ≤ rule) × (rule ≤ length made)
+
+-- ---- the lines of rules
+
+-- the lines of this text, and the names that it gives its procedures
+pub record IsLookup (l : Lookup) (text : List ℕ) : Type 0 where
+  pub lines_are : map (λ line. line.now) l.lines.lines.items ≡ lines text
+  pub names_are : AreNames text l.names
 
 -- ---- a history
 

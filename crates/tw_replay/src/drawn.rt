@@ -13,6 +13,7 @@ use crate::replay::{close_of, stopped_reply};
 use std::alloc::{AllocError, Global};
 use tw_command::Stretch;
 use tw_machine::Plain;
+use tw_names::Symbols;
 use tw_picture::{Settings, Trail, picture};
 use tw_replies::Reply;
 use tw_types::Event;
@@ -21,14 +22,15 @@ use tw_types::Event;
 fn picture_reply(
     alloc: Global,
     shown: Stretch,
+    names: Symbols,
     plain: &Plain,
     trail: Trail,
 ) -> Result<Reply, AllocError>
     requires { HasFew trail }
-    ensures { IfOk result (λ r. (first : PlainView) (events : List AnEvent) → plain.now ≡ record first { state = plain.now.state } → IsTrail first events plain.now.state trail → IsPicture shown first events plain.now.state (reply r.text.items r.close)) }
+    ensures { IfOk result (λ r. (first : PlainView) (events : List AnEvent) → plain.now ≡ record first { state = plain.now.state } → IsTrail first events plain.now.state trail → IsPicture names shown first events plain.now.state (reply r.text.items r.close)) }
 {
     let close = close_of(plain.ending());
-    let drawing = trail.drawing(alloc, plain)?;
+    let drawing = trail.drawing(alloc, plain, names)?;
     let text = picture(alloc, &drawing, Settings::between(shown.from, shown.to))?;
     Ok(Reply { text, close })
 }
@@ -37,6 +39,7 @@ fn picture_reply(
 pub fn draw(
     alloc: Global,
     shown: Stretch,
+    names: Symbols,
     first: Plain,
     events: &[Event],
 ) -> Result<Reply, AllocError>
@@ -44,7 +47,7 @@ pub fn draw(
     requires below { AreBelow opening_bound first.state }
     requires sizes { AreShort events.now }
     requires few { length events.now ≤ 16777217 }
-    ensures { IfOk result (λ r. IsDrawn shown first events.now (reply r.text.items r.close)) }
+    ensures { IfOk result (λ r. IsDrawn names shown first events.now (reply r.text.items r.close)) }
 {
     let mut plain = first;
     let mut trail = Trail::new(alloc);
@@ -54,5 +57,5 @@ pub fn draw(
             Err(stopped) => return stopped_reply(alloc, stopped, index + 1),
         }
     }
-    picture_reply(alloc, shown, &plain, trail)
+    picture_reply(alloc, shown, names, &plain, trail)
 }

@@ -17,6 +17,7 @@ use crate::replay::{close_of, stopped_reply};
 use std::alloc::{AllocError, Global};
 use tw_code::Program;
 use tw_machine::{Plain, Stopped};
+use tw_names::Symbols;
 use tw_replies::Reply;
 use tw_report::report_state;
 use tw_stats::Tally;
@@ -89,14 +90,15 @@ fn numbers_reply(
     alloc: Global,
     plain: &Plain,
     tally: &Tally,
+    names: &Symbols,
     budgets: &[u64],
 ) -> Result<Reply, AllocError>
     requires { AreKnownBudgets plain.now.program budgets.now }
-    ensures { IfOk result (λ r. (first : PlainView) (events : List AnEvent) → plain.now ≡ record first { state = plain.now.state } → IsTally first events plain.now.state tally.now → IsNumbered first events plain.now.state (reply r.text.items r.close)) }
+    ensures { IfOk result (λ r. (first : PlainView) (events : List AnEvent) → plain.now ≡ record first { state = plain.now.state } → IsTally first events plain.now.state tally.now → IsNumbered names.now first events plain.now.state (reply r.text.items r.close)) }
 {
     let close = close_of(plain.ending());
     let mut text = report_state(alloc, plain)?;
-    let numbers = tally.text(alloc, plain, budgets)?;
+    let numbers = tally.text(alloc, plain, names, budgets)?;
     put_bytes(&mut text, &numbers)?;
     Ok(Reply { text, close })
 }
@@ -135,6 +137,7 @@ pub fn counted_reply(
     alloc: Global,
     first: Plain,
     events: &[Event],
+    names: &Symbols,
     budgets: &[u64],
 ) -> Result<Reply, AllocError>
     requires known { AreKnownBudgets first.program budgets.now }
@@ -142,10 +145,16 @@ pub fn counted_reply(
     requires below { AreBelow opening_bound first.state }
     requires sizes { AreShort events.now }
     requires few { length events.now ≤ 16777217 }
-    ensures { IfOk result (λ r. IsCounted first events.now (reply r.text.items r.close)) }
+    ensures { IfOk result (λ r. IsCounted names.now first events.now (reply r.text.items r.close)) }
 {
     match count(alloc, first, events)? {
-        Counting::Made(counted) => numbers_reply(alloc, &counted.plain, &counted.tally, budgets),
+        Counting::Made(counted) => numbers_reply(
+            alloc,
+            &counted.plain,
+            &counted.tally,
+            names,
+            budgets,
+        ),
         Counting::Stopped(reply) => Ok(reply),
     }
 }

@@ -27,9 +27,10 @@ use std::alloc::{AllocError, Global};
 use tw_code::Program;
 use tw_command::{Answer, ReplayOptions, ReplayOrder, Source, inputs_of};
 use tw_machine::{Plain, Stopped};
+use tw_names::Symbols;
 use tw_replies::{
     Close, ReadProgram, Reply, SourceText, input_parts, not_utf8_reply, read_program,
-    reasoned_reply, refused_by, refused_words_reply,
+    reasoned_reply, refused_by, refused_words_reply, symbols_of,
 };
 use tw_report::{
     HistoryFault, cut_history, put_history_line, put_not_enabled_line, put_trap_line, read_history,
@@ -108,6 +109,7 @@ fn play(alloc: Global, first: Plain, events: &[Event]) -> Result<Reply, AllocErr
 fn answer_of(
     alloc: Global,
     answer: Answer,
+    names: Symbols,
     first: Plain,
     events: &[Event],
     budgets: &[u64],
@@ -118,12 +120,12 @@ fn answer_of(
     requires below { AreBelow opening_bound first.state }
     requires sizes { AreShort events.now }
     requires few { length events.now ≤ 16777217 }
-    ensures { IfOk result (λ r. IsAnswer answer first events.now (reply r.text.items r.close)) }
+    ensures { IfOk result (λ r. IsAnswer names answer first events.now (reply r.text.items r.close)) }
 {
     match answer {
         Answer::Report => play(alloc, first, events),
-        Answer::Numbers => counted_reply(alloc, first, events, budgets),
-        Answer::Picture(shown) => draw(alloc, shown, first, events),
+        Answer::Numbers => counted_reply(alloc, first, events, &names, budgets),
+        Answer::Picture(shown) => draw(alloc, shown, names, first, events),
     }
 }
 
@@ -156,9 +158,10 @@ fn opened_reply(
     requires few { length events.now ≤ 16777217 }
     ensures { IfOk result (λ r. IsReplayed (text_of source.now) order.now program events.now (reply r.text.items r.close)) }
 {
+    let names = symbols_of(alloc, source)?;
     match Plain::open(alloc, program, order.inputs.as_slice(), order.layout) {
         Ok(plain) => {
-            let told = answer_of(alloc, order.answer, plain, events, budgets)?;
+            let told = answer_of(alloc, order.answer, names, plain, events, budgets)?;
             behind_reply(alloc, source, order, events, told)
         }
         Err(refused) => unopened_reply(alloc, source, order, &refused),

@@ -12,6 +12,7 @@ ghost use Rattle.tw_replay.specs.Replay.{ByOutcome, IsAnswer, IsAnswerBehind, Is
 ghost use Rattle.tw_replies.specs.Reply.{reply};
 ghost use Rattle.tw_replies.specs.Source.{MayBeSource, text_of};
 ghost use Rattle.tw_replay.specs.Stuck.{CanTell, ClosesBy, IsStartOf, IsUndrawn, MayTell};
+ghost use Rattle.tw_names.specs.Symbols.{AreSymbols};
 ghost use Rattle.tw_replay.specs.Counted.{AreShort};
 
 use crate::opening::{inputs_refused_reply, opening_reply};
@@ -120,7 +121,7 @@ pub fn behind_reply(
 ) -> Result<Reply, AllocError>
     ensures { IfOk result (λ r. (program : Versioned) → MayBeSource source.now program.procedures → refusal_of program.procedures order.now.inputs ≡ None
         → length events.now ≤ 16777217 → AreShort events.now
-        → IsAnswer order.now.answer (opened order.now program) events.now (reply told.text.items told.close)
+        → (names : List (List ℕ)) → AreSymbols (text_of source.now) names → IsAnswer names order.now.answer (opened order.now program) events.now (reply told.text.items told.close)
         → IsAnswered (text_of source.now) order.now program events.now (reply r.text.items r.close)) }
 {
     let Reply { mut text, close } = told;

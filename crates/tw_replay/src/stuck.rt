@@ -1,6 +1,6 @@
 //! Which lines of a text made the rules that wait in a circle.
 
-ghost use Rattle.std.specs.Prelude.{◌≡◌, ◌<◌, ◌≤◌, ◌++◌, ◌↔◌, ℕ, List, Some, IsTrue, MatchOption, OnOk, nat_le, option_to_list};
+ghost use Rattle.std.specs.Prelude.{◌≡◌, ◌<◌, ◌≤◌, ◌++◌, ◌↔◌, ℕ, List, Some, IsTrue, IfOk, MatchOption, OnOk, nat_le, option_to_list};
 ghost use Rattle.tw_types.specs.declared.event.Event.{Event as AnEvent};
 ghost use Rattle.std.specs.FinMap.{get};
 ghost use Rattle.tw_types.specs.Outcome.{Outcome, Went};
@@ -10,14 +10,16 @@ ghost use Rattle.tw_code.specs.machine.State.{State};
 ghost use Rattle.tw_instr.specs.Attempts.{IsStopped};
 ghost use Rattle.tw_replay.specs.Circle.{Start, TellRules, TellsCircle, TellsRule, reached_from, rule_line, rule_text};
 ghost use Rattle.tw_replay.specs.Replay.{ByOutcome};
+ghost use Rattle.tw_names.specs.Symbols.{name_at};
 ghost use Rattle.tw_replies.specs.Source.{IsSource};
-ghost use Rattle.tw_replay.specs.Stuck.{AreMade, CanTell, IsMadeSo, IsOpened, IsStartOf, IsUnmade, rule_by, rule_done, rule_in};
+ghost use Rattle.tw_replay.specs.Stuck.{AreMade, CanTell, IsLookup, IsMadeSo, IsOpened, IsStartOf, IsUnmade, rule_by, rule_done, rule_in};
 
 use std::alloc::{AllocError, Global};
 use tw_asm::{FaultNo, assemble};
 use tw_code::{Instr, Program};
 use tw_machine::{Frame, OpenRefusal, Plain, Stopped};
-use tw_replies::{SourceText, line_at, put_text_line};
+use tw_names::Symbols;
+use tw_replies::{SourceText, TextLines, line_in, put_text_line};
 use tw_report::{circle_state, put, put_numbered};
 use tw_types::{Actor, Event, Input, Layout, Link, RuleNo};
 
@@ -116,28 +118,49 @@ fn made_of(made: &[Made], rule: RuleNo) -> Option<Made>
 fn put_rule_text(
     alloc: Global,
     out: &mut Vec<u8>,
+    names: &Symbols,
     rule: RuleNo,
     procedure: usize,
 ) -> Result<(), AllocError>
-    ensures { OnOk result (out.new.items ≡ out.old.items ++ rule_text rule procedure) }
+    ensures { OnOk result (out.new.items ≡ out.old.items ++ rule_text rule procedure (name_at names.now procedure)) }
 {
     put_numbered(alloc, out, "rule ", rule.number() as usize)?;
     put_numbered(alloc, out, " runs procedure ", procedure)?;
+    names.put(out, procedure)?;
     put(out, ", made ")
 }
 
 fn put_rule_line(
     alloc: Global,
     out: &mut Vec<u8>,
+    names: &Symbols,
     rule: RuleNo,
     procedure: usize,
     number: usize,
     line: &str,
 ) -> Result<(), AllocError>
-    ensures { OnOk result (out.new.items ≡ out.old.items ++ rule_line rule procedure number line.now) }
+    ensures { OnOk result (out.new.items ≡ out.old.items ++ rule_line rule procedure (name_at names.now procedure) number line.now) }
 {
-    put_rule_text(alloc, out, rule, procedure)?;
+    put_rule_text(alloc, out, names, rule, procedure)?;
     put_text_line(alloc, out, number, line)
+}
+
+/// A text as it is looked up for the lines of many rules: its lines, and the names of its procedures.
+#[derive(Drop)]
+struct Lookup<'a> {
+    lines: TextLines<'a>,
+    names: Symbols,
+}
+
+impl<'a> Lookup<'a> {
+    /// Reads a text once for all rules.
+    fn of(alloc: Global, text: &'a str) -> Result<Lookup<'a>, AllocError>
+        ensures { IfOk result (λ lookup. IsLookup lookup text.entry.now) }
+    {
+        let lines = TextLines::of(alloc, text)?;
+        let names = Symbols::of(alloc, text)?;
+        Ok(Lookup { lines, names })
+    }
 }
 
 /// Adds the line of a rule, where the events made it.
@@ -145,19 +168,20 @@ fn put_rule(
     alloc: Global,
     out: &mut Vec<u8>,
     source: &SourceText<'_>,
+    lookup: &Lookup<'_>,
     made: &[Made],
     rule: RuleNo,
 ) -> Result<(), AllocError>
-    ensures { OnOk result ((start : Start) (events : List AnEvent) → IsSource source.now start.program → AreMade start events made.now
-        → (more : List ℕ) × TellsRule source.now.text.now start events rule more × (out.new.items ≡ out.old.items ++ more)) }
+    ensures { OnOk result ((start : Start) (events : List AnEvent) → IsLookup lookup.now source.now.text.now → IsSource source.now start.program → AreMade start events made.now
+        → (more : List ℕ) × TellsRule lookup.now.names source.now.text.now start events rule more × (out.new.items ≡ out.old.items ++ more)) }
 {
     let Some(own) = made_of(made, rule) else {
         return Ok(());
     };
-    let Some((number, line)) = line_at(source, own.procedure, own.place) else {
+    let Some((number, line)) = line_in(source, &lookup.lines, own.procedure, own.place) else {
         return Ok(());
     };
-    put_rule_line(alloc, out, rule, own.runs, number, line)
+    put_rule_line(alloc, out, &lookup.names, rule, own.runs, number, line)
 }
 
 /// Adds a line for each rule of a circle.
@@ -165,16 +189,32 @@ fn put_rules(
     alloc: Global,
     out: &mut Vec<u8>,
     source: &SourceText<'_>,
+    lookup: &Lookup<'_>,
+    made: &[Made],
+    links: &[Link],
+) -> Result<(), AllocError>
+    ensures { OnOk result ((start : Start) (events : List AnEvent) → IsLookup lookup.now source.now.text.now → IsSource source.now start.program → AreMade start events made.now
+        → (more : List ℕ) × TellRules lookup.now.names source.now.text.now start events links.now more × (out.new.items ≡ out.old.items ++ more)) }
+{
+    for link in links {
+        put_rule(alloc, out, source, lookup, made, link.rule)?;
+    }
+    Ok(())
+}
+
+/// Adds a line for each rule of a circle, in one pass over the text.
+fn put_links(
+    alloc: Global,
+    out: &mut Vec<u8>,
+    source: &SourceText<'_>,
     made: &[Made],
     links: &[Link],
 ) -> Result<(), AllocError>
     ensures { OnOk result ((start : Start) (events : List AnEvent) → IsSource source.now start.program → AreMade start events made.now
-        → (more : List ℕ) × TellRules source.now.text.now start events links.now more × (out.new.items ≡ out.old.items ++ more)) }
+        → (more : List ℕ) × TellsCircle source.now.text.now start events (Some links.now) more × (out.new.items ≡ out.old.items ++ more)) }
 {
-    for link in links {
-        put_rule(alloc, out, source, made, link.rule)?;
-    }
-    Ok(())
+    let lookup = Lookup::of(alloc, source.text)?;
+    put_rules(alloc, out, source, &lookup, made, links)
 }
 
 /// Adds the lines of the circle in which the machine stands, if it stands in one.
@@ -189,7 +229,7 @@ fn put_circle(
         → (more : List ℕ) × TellsCircle source.now.text.now start events (circle plain.now.program plain.now.state) more × (out.new.items ≡ out.old.items ++ more)) }
 {
     match circle_state(alloc, plain)? {
-        Some(links) => put_rules(alloc, out, source, made, &links),
+        Some(links) => put_links(alloc, out, source, made, &links),
         None => Ok(()),
     }
 }

@@ -18,7 +18,7 @@ pub use Rattle.tw_asm.specs.Origins.{AreOrigins, ComesFrom, at_place, instr_at}
 pub use Rattle.tw_names.specs.Standing.{HasNames, IsFirstRefusal, StandsFor}
 pub use Rattle.tw_replies.specs.Listed.{counts_of, typings_in}
 pub use Rattle.tw_replies.specs.Listing.{IsListing, IsRefusedListing, listing_from, no_typings, procedure_listing, right_column, rights_below, said_line, said_lines}
-pub use Rattle.tw_replies.specs.Names.{IsFaultBehind, RepliesByPlain, line_text, name_behind, name_line}
+pub use Rattle.tw_replies.specs.Names.{IsFaultBehind, RepliesByPlain, name_behind, name_line, written_text}
 pub use Rattle.tw_replies.specs.Parts.{after_lines, parts, seen}
 pub use Rattle.tw_replies.specs.Program.{IsNoneBehind, RepliesBySource, Spells, SpellsNone, SpellsText, no_program_line}
 pub use Rattle.tw_replies.specs.Reply.{Reply as Spoken, reply}

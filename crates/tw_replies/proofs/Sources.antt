@@ -21,9 +21,6 @@ none_past [] k e = omega arith
 none_past (x ∷ xs) zero e = absurd cc
 none_past (x ∷ xs) (suc k) e = let h = none_past xs k e in omega (arith, h)
 
-pub counts : (text : List ℕ) (procedure place number : ℕ) → ComesFrom text procedure place number → 0 < number
-counts text procedure place number c = omega (arith, c.number_is)
-
 -- the line is there
 pub line_there : (text plain : List ℕ) (procedure place number : ℕ) → StandsFor text plain → ComesFrom plain procedure place number → slice_get (lines text) (number - 1) ≡ None → ⊥
 line_there text plain procedure place number stands c none =
@@ -49,9 +46,6 @@ some_origin text program numbers procedure place o there = by (at_place numbers 
 
 pub none_there : (program : List Procedure) (procedure place : ℕ) → program ≡ [] → (instr_at program procedure place ≡ None → ⊥) → ⊥
 none_there program procedure place none there = there (ap (λ (ps : List Procedure). instr_at ps procedure place) none)
-
-pub head_counts : (text : List ℕ) (number : ℕ) → IsFirstHead text number → 0 < number
-head_counts text number h = omega (arith, h.number_is)
 
 -- the line of the first head is there
 pub head_there : (text plain : List ℕ) (number : ℕ) → StandsFor text plain → IsFirstHead plain number → slice_get (lines text) (number - 1) ≡ None → ⊥

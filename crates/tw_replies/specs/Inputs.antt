@@ -4,7 +4,7 @@ use Rattle.std.specs.Str.{bytes_eq}
 use Rattle.std.specs.Str.Lines.{lines}
 use Rattle.clap.specs.Words.{Text}
 use Rattle.tw_types.specs.declared.input.Input.{Input}
-use Rattle.tw_command.specs.InputWords.{AreSpelled, IsRefusedWord}
+use Rattle.tw_command.specs.InputWords.{AreSpelled, IsRefusedWord, RefusedWord}
 use Rattle.tw_replies.specs.Lines.{input_word_line}
 use Rattle.tw_replies.specs.Reply.{Reply, reply}
 use Rattle.tw_replies.specs.Text.{RepliesByUtf8}
@@ -29,14 +29,14 @@ words_in (line ∷ others) = if bytes_eq line (codes "end") then [] else if leng
 
 -- ---- replies
 
--- the line that tells the first input word that spells no input
-abbrev pub TellsInputWord : ℕ → Reply → Type 0
-TellsInputWord number r = r ≡ reply (input_word_line number) CommandLine
+-- the line that tells the first input word that spells no input, and the one that says why
+abbrev pub TellsInputWord : RefusedWord → Reply → Type 0
+TellsInputWord refused r = r ≡ reply (input_word_line refused.number ++ refused.reason) CommandLine
 
 -- each word spells its input, and with these it is answered so; or one spells none
 abbrev pub RepliesByWords : List Text → (List Input → Reply → Type 0) → Reply → Type 0
 RepliesByWords words Answers r =
-    ((given : List Input) × AreSpelled given words × Answers given r) ⊎ ((number : ℕ) × IsRefusedWord words number × TellsInputWord number r)
+    ((given : List Input) × AreSpelled given words × Answers given r) ⊎ ((refused : RefusedWord) × IsRefusedWord words refused × TellsInputWord refused r)
 
 -- What is read is UTF-8; the program's lines and the inputs are answered so.
 abbrev pub RepliesByInputs : List ℕ → (List ℕ → List Input → Reply → Type 0) → Reply → Type 0

@@ -1,50 +1,91 @@
 -- What is told of texts with names, and of the assembly texts for which they stand.
-use Rattle.std.specs.Prelude.{◌≡◌, ◌⊎◌, ◌++◌, ◌-◌, ℕ, List, [], codes, decimal, slice_get, Option, Some, None}
+use Rattle.std.specs.Prelude.{◌≡◌, ◌⊎◌, ◌++◌, ◌-◌, ℕ, Bool, false, if◌then◌else◌, List, [], codes, decimal, slice_get, Option, Some, None}
+use Rattle.std.specs.Str.{bytes_eq}
 use Rattle.std.specs.Str.Lines.{lines}
 use Rattle.tw_asm.specs.declared.fault.FaultNo.{FaultNo}
 use Rattle.tw_names.specs.Answers.{name_number}
 use Rattle.tw_names.specs.Standing.{HasNames, IsFirstRefusal, Refusal, StandsFor}
+use Rattle.tw_names.specs.declared.meaning.Asked.{Asked}
+use Rattle.tw_names.specs.declared.meaning.Asked.TheVariants as asked
+use Rattle.tw_names.specs.declared.meaning.Bank.TheVariants as bank
+use Rattle.tw_names.specs.declared.meaning.Thing.{Thing}
+use Rattle.tw_names.specs.declared.meaning.Thing.TheVariants as thing
 use Rattle.tw_names.specs.declared.refusal.NameNo.{NameNo}
 use Rattle.tw_names.specs.declared.refusal.NameNo.TheVariants as no
 use Rattle.tw_reasons.specs.Told.{IsTextReason}
+use Rattle.tw_words.specs.Shown.{shortened}
 use Rattle.tw_replies.specs.Reply.{Reply, reply}
 use Rattle.tw_replies.specs.Text.{RepliesByUtf8}
 use Rattle.tw_replies.specs.declared.close.Close.TheVariants.{Refused, Success}
 
--- a line of a text as it stands, where it has one of this number
+-- a line of a text, shortened if it is long, where it has one of this number
 abbrev pub line_text : Option (List ℕ) → List ℕ
 line_text None = []
-line_text (Some line) = line ++ codes "\n"
+line_text (Some line) = shortened line ++ codes "\n"
 
 -- ---- a refusal of a text with names
 
 abbrev pub name_line : NameNo → ℕ → List ℕ
 name_line which line = codes "refused N0" ++ (decimal (name_number which) ++ (codes " at line " ++ (decimal line ++ codes "\n")))
 
+-- what a name means
+abbrev pub thing_words : Thing → List ℕ
+thing_words (thing.Constant number) = codes "a constant"
+thing_words (thing.Register bank.Value number by) = codes "a value register"
+thing_words (thing.Register bank.Right number by) = codes "a right register"
+thing_words (thing.Procedure number) = codes "a procedure"
+
+-- what is required in a name's place
+abbrev pub asked_words : Asked → List ℕ
+asked_words asked.Value = codes "a value register"
+asked_words asked.ValueArgument = codes "a value register"
+asked_words asked.Right = codes "a right register"
+asked_words asked.RightArgument = codes "a right register"
+asked_words asked.Number = codes "a number"
+asked_words asked.Procedure = codes "a procedure"
+asked_words asked.Nothing = codes "no name"
+
+abbrev pub kind_reason : Thing → Asked → List ℕ
+kind_reason x a = (codes "it is " ++ thing_words x) ++ ((codes ", " ++ asked_words a) ++ codes " is required")
+
+abbrev pub fixed_reason : NameNo → List ℕ
+fixed_reason no.Form = codes "expected const NAME = NUMBER, let NAME = REGISTER, or NAME: with a mode or type behind it"
+fixed_reason no.NoName = codes "this can't be a name"
+fixed_reason no.Twice = codes "the name is taken"
+fixed_reason no.Listed = codes "its register has a name already"
+fixed_reason no.Unknown = codes "the name means nothing here"
+fixed_reason no.Limit = codes "it would be a register past the last"
+fixed_reason other = []
+
 abbrev pub name_reason : NameNo → List ℕ
-name_reason no.Form = codes "expected const NAME = NUMBER, let NAME = REGISTER, or NAME: with a mode or type behind it"
-name_reason no.NoName = codes "this can't be a name"
-name_reason no.Twice = codes "the name is taken"
-name_reason no.Unknown = codes "the name means nothing here"
-name_reason no.Kind = codes "the name means something else than is asked here"
-name_reason no.Limit = codes "it would be a register past the last"
-name_reason no.NoMemory = []
+name_reason (no.Kind x a) = kind_reason x a
+name_reason other = fixed_reason other
 
 -- the line as it was written, and the word and what is wrong with it
 abbrev pub name_behind : List ℕ → NameNo → ℕ → List ℕ → List ℕ
-name_behind text which line word = line_text (slice_get (lines text) (line - 1)) ++ (word ++ (codes ": " ++ (name_reason which ++ codes "\n")))
+name_behind text which line word = line_text (slice_get (lines text) (line - 1)) ++ (shortened word ++ (codes ": " ++ (name_reason which ++ codes "\n")))
 
 -- ---- a fault of the assembly text for which it stands
 
--- what stands before its reason: the line as it was written, where there are names
-abbrev pub IsWrittenBefore : List ℕ → ℕ → List ℕ → Type 0
-IsWrittenBefore text line before =
-    ((HasNames (lines text) → ⊥) × (before ≡ [])) ⊎ (HasNames (lines text) × (before ≡ line_text (slice_get (lines text) (line - 1)) ++ codes "stands for: "))
+-- two lines are the same
+abbrev pub is_same_line : Option (List ℕ) → Option (List ℕ) → Bool
+is_same_line None other = false
+is_same_line (Some line) None = false
+is_same_line (Some line) (Some other) = bytes_eq line other
+
+-- the line as it was written, where it isn't the one for which it stands
+abbrev pub written_text : Option (List ℕ) → Option (List ℕ) → List ℕ
+written_text line other = if is_same_line line other then [] else line_text line ++ codes "stands for: "
+
+-- what stands before its reason: that line, where there are names
+abbrev pub IsWrittenBefore : List ℕ → List ℕ → ℕ → List ℕ → Type 0
+IsWrittenBefore text plain line before =
+    ((HasNames (lines text) → ⊥) × (before ≡ [])) ⊎ (HasNames (lines text) × (before ≡ written_text (slice_get (lines text) (line - 1)) (slice_get (lines plain) (line - 1))))
 
 -- that, and why the line is refused for which it stands
 abbrev pub IsFaultBehind : List ℕ → FaultNo → ℕ → List ℕ → Type 0
 IsFaultBehind text which line more =
-    (plain : List ℕ) × (before : List ℕ) × (reason : List ℕ) × StandsFor text plain × IsWrittenBefore text line before × IsTextReason plain which line reason × (more ≡ before ++ reason)
+    (plain : List ℕ) × (before : List ℕ) × (reason : List ℕ) × StandsFor text plain × IsWrittenBefore text plain line before × IsTextReason plain which line reason × (more ≡ before ++ reason)
 
 -- ---- the assembly text itself
 

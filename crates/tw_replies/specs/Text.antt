@@ -1,13 +1,15 @@
 -- What a session answers to text, and the line of a text that a refusal of its program tells.
-use Rattle.std.specs.Prelude.{◌≡◌, ◌⊎◌, ◌++◌, ◌-◌, ℕ, List, [], codes, decimal, slice_get, IsUtf8, Option, Some, None}
+use Rattle.std.specs.Prelude.{◌≡◌, ◌⊎◌, ◌++◌, ◌-◌, ℕ, List, [], ◌∷◌, codes, decimal, slice_get, IsUtf8, Option, Some, None}
 use Rattle.std.specs.Str.{IsTrimAscii}
 use Rattle.std.specs.Str.Lines.{lines}
 use Rattle.tw_asm.specs.Origins.{AreOrigins, ComesFrom}
 use Rattle.tw_code.specs.declared.procedure.Procedure.{Procedure}
 use Rattle.tw_names.specs.Registers.{IsWithName}
+use Rattle.tw_names.specs.Symbols.{AreNames, name_at}
 use Rattle.tw_names.specs.Standing.{StandsFor}
 use Rattle.tw_reasons.specs.Reasons.{TellsReason, shape_line}
 use Rattle.tw_reasons.specs.Says.{IsFirstHead}
+use Rattle.tw_words.specs.Shown.{shortened}
 use Rattle.tw_verify.specs.declared.refusal.VerifyRefusal.{VerifyRefusal}
 use Rattle.tw_verify.specs.declared.refusal.VerifyRefusal.TheVariants as refusal
 use Rattle.tw_replies.specs.Reply.{Reply, reply}
@@ -21,23 +23,35 @@ RepliesByUtf8 bytes Answers r = (IsUtf8 bytes × Answers) ⊎ ((IsUtf8 bytes →
 
 -- ---- where a refused place stands in it
 
--- the number of a line of the text, and the line
+-- the number of a line of the text, and as much of the line as a diagnostic shows
 abbrev pub text_line : ℕ → List ℕ → List ℕ
-text_line number line = codes "at line " ++ (decimal number ++ (codes ": " ++ (line ++ codes "\n")))
+text_line number line = codes "at line " ++ (decimal number ++ (codes ": " ++ (shortened line ++ codes "\n")))
+
+-- the same with the name of the procedure in which the line is, if it has one
+abbrev pub in_name : List ℕ → List ℕ
+in_name [] = []
+in_name (b ∷ name) = codes " in " ++ (b ∷ name)
+
+abbrev pub line_in_text : List ℕ → ℕ → List ℕ → List ℕ
+line_in_text name number line = codes "at line " ++ (decimal number ++ (in_name name ++ (codes ": " ++ (shortened line ++ codes "\n"))))
 
 -- the line of this number, counted from 1, without white space around it
+abbrev pub IsLineAt : List (List ℕ) → ℕ → List ℕ → Type 0
+IsLineAt all number trimmed = (line : List ℕ) × (slice_get all (number - 1) ≡ Some line) × IsTrimAscii line trimmed
+
 abbrev pub IsLineOf : List ℕ → ℕ → List ℕ → Type 0
-IsLineOf text number trimmed = (line : List ℕ) × (slice_get (lines text) (number - 1) ≡ Some line) × IsTrimAscii line trimmed
+IsLineOf text number trimmed = IsLineAt (lines text) number trimmed
 
 -- ---- what stands behind the line of a refusal
 
--- The line from which the instruction at the refused place comes, as it is written; and why it is refused, where the register that is told has its
--- name beside it.
+-- The line from which the instruction at the refused place comes, as it is written, with its procedure's name; and why it is refused, where the
+-- register that is told has its name beside it.
 abbrev pub IsPlaceBehind : List ℕ → VerifyRefusal → List Procedure → ℕ → ℕ → List ℕ → Type 0
 IsPlaceBehind text which program procedure place more =
-    (plain : List ℕ) × (number : ℕ) × (line : List ℕ) × (numbers : List (List ℕ)) × (reason : List ℕ) × (told : List ℕ)
+    (plain : List ℕ) × (number : ℕ) × (line : List ℕ) × (numbers : List (List ℕ)) × (reason : List ℕ) × (told : List ℕ) × (names : List (List ℕ))
     × StandsFor text plain × ComesFrom plain procedure place number × IsLineOf text number line
-    × AreOrigins plain program numbers × TellsReason which numbers program procedure place reason × IsWithName text number reason told × (more ≡ text_line number line ++ told)
+    × AreOrigins plain program numbers × TellsReason which numbers program procedure place reason × IsWithName text number reason told × AreNames text names
+    × (more ≡ line_in_text (name_at names procedure) number line ++ told)
 
 -- the line that begins main, and what is wrong with its shape
 abbrev pub IsMainBehind : List ℕ → List Procedure → List ℕ → Type 0

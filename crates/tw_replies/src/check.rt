@@ -2,19 +2,23 @@
 
 ghost use Rattle.std.specs.Prelude.{◌≡◌, ◌++◌, ℕ, List, IfOk, OnOk, decimal};
 ghost use Rattle.tw_code.specs.accepting.WellTyped.{IsFirstRefusal};
-ghost use Rattle.tw_replies.specs.Check.{AreProcedureLines, IsCheckText, IsChecked, IsRefused, StandsBefore, kind_text, needs_line, procedure_line};
+ghost use Rattle.tw_replies.specs.Check.{AreProcedureLines, IsCheckText, IsChecked, IsRefused, IsToldByCheck, StandsBefore, kind_text, needs_line, procedure_line};
+ghost use Rattle.tw_command.specs.declared.command.Places.TheVariants.{Shown};
+ghost use Rattle.tw_names.specs.Symbols.{name_at};
 ghost use Rattle.tw_replies.specs.Listing.{IsListing, IsRefusedListing};
 ghost use Rattle.tw_replies.specs.Reply.{reply};
 ghost use Rattle.tw_replies.specs.Source.{MayBeSource, text_of};
 ghost use Rattle.tw_verify.specs.Refusal.{verify_refusal_number};
 
+use crate::bounds::put_asked_bounds;
 use crate::lines::put_verify_line;
 use crate::listing::{refused_text, typed_text};
 use crate::reply::{Reply, refused_by};
-use crate::source::{SourceText, put_behind};
+use crate::source::{SourceText, put_behind, symbols_of};
 use crate::text_listing::{accepted_lines, refused_lines};
 use std::alloc::{AllocError, Global};
-use tw_command::Places;
+use tw_command::{CheckOrder, Places};
+use tw_names::Symbols;
 use tw_types::Kind;
 use tw_verify::{Refused, Verified};
 use tw_words::{put, put_numbered};
@@ -32,15 +36,17 @@ fn put_kind(out: &mut Vec<u8>, kind: Kind) -> Result<(), AllocError>
 fn put_procedure_line(
     alloc: Global,
     out: &mut Vec<u8>,
+    names: &Symbols,
     number: usize,
     kind: Kind,
     budget: u64,
 ) -> Result<(), AllocError>
-    ensures { OnOk result (out.new.items ≡ out.old.items ++ procedure_line number kind budget) }
+    ensures { OnOk result (out.new.items ≡ out.old.items ++ procedure_line (name_at names.now number) number kind budget) }
 {
     put_numbered(alloc, out, "proc ", number)?;
     put_kind(out, kind)?;
     put_numbered(alloc, out, " budget ", budget as usize)?;
+    names.put(out, number)?;
     put(out, "\n")
 }
 
@@ -48,13 +54,14 @@ fn put_procedure_line(
 fn put_procedure_lines(
     alloc: Global,
     out: &mut Vec<u8>,
+    names: &Symbols,
     verified: &Verified,
 ) -> Result<(), AllocError>
-    ensures { OnOk result ((lines : List ℕ) × AreProcedureLines 0 verified.now.program lines × (out.new.items ≡ out.old.items ++ lines)) }
+    ensures { OnOk result ((lines : List ℕ) × AreProcedureLines names.now 0 verified.now.program lines × (out.new.items ≡ out.old.items ++ lines)) }
 {
     for (number, procedure) in verified.program().procedures().iter().enumerate() {
         let budget = verified.budget(number);
-        put_procedure_line(alloc, out, number, procedure.kind, budget)?;
+        put_procedure_line(alloc, out, names, number, procedure.kind, budget)?;
     }
     Ok(())
 }
@@ -69,12 +76,12 @@ fn put_needs(alloc: Global, out: &mut Vec<u8>, engines: u8, workers: u8) -> Resu
 }
 
 /// The whole text of the check of an accepted program.
-fn check_text(alloc: Global, verified: &Verified) -> Result<Vec<u8>, AllocError>
-    ensures { IfOk result (λ text. IsCheckText verified.now.program text.items) }
+fn check_text(alloc: Global, names: &Symbols, verified: &Verified) -> Result<Vec<u8>, AllocError>
+    ensures { IfOk result (λ text. IsCheckText names.now verified.now.program text.items) }
 {
     let mut text = Vec::new(alloc);
     put(&mut text, "accepted\n")?;
-    put_procedure_lines(alloc, &mut text, verified)?;
+    put_procedure_lines(alloc, &mut text, names, verified)?;
     let (engines, workers) = verified.needs();
     put_needs(alloc, &mut text, engines, workers)?;
     Ok(text)
@@ -110,8 +117,24 @@ fn refused_listing(
     }
 }
 
-/// What a check tells of an accepted program, behind its listing where that is asked for.
-pub fn checked_text(
+/// Lists an accepted program, and tells what a check tells of it, with the names of its procedures.
+fn listed_text(
+    alloc: Global,
+    source: &Option<SourceText<'_>>,
+    verified: &Verified,
+) -> Result<Vec<u8>, AllocError>
+    requires { MayBeSource source.now verified.now.program }
+    ensures { IfOk result (λ text. IsChecked Shown (text_of source.now) verified.now.program text.items) }
+{
+    let mut text = accepted_listing(alloc, source, verified)?;
+    let names = symbols_of(alloc, source)?;
+    let told = check_text(alloc, &names, verified)?;
+    text.extend_from_slice(&told)?;
+    Ok(text)
+}
+
+/// Tells the budgets, after the listing if that is asked for.
+fn budgets_text(
     alloc: Global,
     source: &Option<SourceText<'_>>,
     places: Places,
@@ -121,14 +144,24 @@ pub fn checked_text(
     ensures { IfOk result (λ text. IsChecked places (text_of source.now) verified.now.program text.items) }
 {
     match places {
-        Places::Hidden => check_text(alloc, verified),
-        Places::Shown => {
-            let mut text = accepted_listing(alloc, source, verified)?;
-            let told = check_text(alloc, verified)?;
-            text.extend_from_slice(&told)?;
-            Ok(text)
-        }
+        Places::Hidden => check_text(alloc, &Symbols::none(alloc), verified),
+        Places::Shown => listed_text(alloc, source, verified),
     }
+}
+
+/// Tells what a check says of an accepted program: its budgets, and what else is asked for.
+pub fn checked_text(
+    alloc: Global,
+    source: &Option<SourceText<'_>>,
+    order: CheckOrder,
+    verified: &Verified,
+) -> Result<Vec<u8>, AllocError>
+    requires { MayBeSource source.now verified.now.program }
+    ensures { IfOk result (λ text. IsToldByCheck order (text_of source.now) verified.now.program text.items) }
+{
+    let mut text = budgets_text(alloc, source, order.places, verified)?;
+    put_asked_bounds(alloc, &mut text, order.bounds, verified)?;
+    Ok(text)
 }
 
 /// What stands before a refusal.

@@ -1,9 +1,9 @@
 //! Inputs that stand in what is read, behind the program.
 
-ghost use Rattle.std.specs.Prelude.{◌≡◌, ◌++◌, ◌∷◌, [], ℕ, List, map, IfOk, OnOk};
+ghost use Rattle.std.specs.Prelude.{◌≡◌, ◌++◌, ◌∷◌, [], List, map, IfOk, OnOk};
 ghost use Rattle.std.specs.Str.Lines.{lines};
 ghost use Rattle.clap.specs.Words.{Text};
-ghost use Rattle.tw_command.specs.InputWords.{IsRefusedWord};
+ghost use Rattle.tw_command.specs.InputWords.{IsRefusedWord, RefusedWord, refused_word};
 ghost use Rattle.tw_command.specs.Order.{IsInputReason};
 ghost use Rattle.tw_replies.specs.Inputs.{TellsInputWord, before_inputs, behind_inputs, words_in};
 ghost use Rattle.tw_replies.specs.Parts.{after_in, after_line, seen};
@@ -100,12 +100,13 @@ pub fn input_parts<'a>(alloc: Global, text: &'a str) -> Result<InputParts<'a>, A
     Ok(parts)
 }
 
-/// Tells the number of the input word that spells no input.
-pub fn input_word_reply(alloc: Global, number: usize) -> Result<Reply, AllocError>
-    ensures { IfOk result (λ r. TellsInputWord number (reply r.text.items r.close)) }
+/// Prints the number of the input word that spells no input, and the line that says why.
+pub fn input_word_reply(alloc: Global, number: usize, reason: &[u8]) -> Result<Reply, AllocError>
+    ensures { IfOk result (λ r. TellsInputWord (refused_word number reason.now) (reply r.text.items r.close)) }
 {
     let mut text = Vec::new(alloc);
     put_input_word_line(alloc, &mut text, number)?;
+    text.extend_from_slice(reason)?;
     Ok(Reply {
         text,
         close: Close::CommandLine,
@@ -115,10 +116,10 @@ pub fn input_word_reply(alloc: Global, number: usize) -> Result<Reply, AllocErro
 /// The reply where a word spells no input; the other reason that there is is want of memory.
 pub fn refused_words_reply(alloc: Global, why: NoOrder) -> Result<Reply, AllocError>
     ensures { IfOk result (λ r. (words : List Text) → IsInputReason words why
-        → (number : ℕ) × IsRefusedWord words number × TellsInputWord number (reply r.text.items r.close)) }
+        → (refused : RefusedWord) × IsRefusedWord words refused × TellsInputWord refused (reply r.text.items r.close)) }
 {
     match why {
-        NoOrder::InputWord(number) => input_word_reply(alloc, number),
+        NoOrder::InputWord(number, reason) => input_word_reply(alloc, number, reason.as_slice()),
         _ => Err(AllocError),
     }
 }

@@ -2,6 +2,7 @@
 #![tactic(auto)]
 
 mod assembled;
+mod bounds;
 mod check;
 mod close;
 mod digits;
@@ -12,6 +13,7 @@ mod names;
 mod program;
 mod reply;
 mod source;
+mod text_lines;
 mod text_listing;
 
 pub use assembled::assembled_reply;
@@ -22,4 +24,5 @@ pub use lines::put_opening_line;
 pub use listing::disassembled;
 pub use program::{ReadProgram, read_program, reasoned_reply};
 pub use reply::{Reply, fixed_reply, not_utf8_reply, refused_by};
-pub use source::{SourceText, line_at, put_text_line};
+pub use source::{SourceText, line_in, put_text_line, symbols_of};
+pub use text_lines::TextLines;

@@ -5,31 +5,25 @@ ghost use Rattle.std.specs.Str.Lines.{lines};
 ghost use Rattle.tw_reasons.specs.Told.{IsTextReason};
 ghost use Rattle.tw_names.specs.Answers.{told};
 ghost use Rattle.tw_names.specs.Standing.{IsFirstRefusal, StandsFor};
-ghost use Rattle.tw_replies.specs.Names.{IsFaultBehind, RepliesByPlain, line_text, name_behind, name_line, name_reason};
+ghost use Rattle.tw_replies.specs.Names.{IsFaultBehind, RepliesByPlain, asked_words, fixed_reason, is_same_line, kind_reason, line_text, name_behind, name_line, name_reason, thing_words, written_text};
+ghost use Rattle.tw_words.specs.Shown.{shortened};
 ghost use Rattle.tw_replies.specs.Reply.{reply};
 
 use crate::close::Close;
 use crate::reply::{Reply, fixed_reply, not_utf8_reply, refused_by};
 use std::alloc::{AllocError, Global};
 use tw_asm::AsmFault;
-use tw_names::{NameNo, NameRefusal, plain_text};
+use tw_names::{Asked, Bank, NameNo, NameRefusal, Thing, plain_text};
 use tw_reasons::put_text_reason;
-use tw_words::{put, put_numbered};
+use tw_words::{line_numbered, put, put_both, put_numbered, put_shortened};
 
-/// The line of this number, counted from 1.
-fn line_at<'a>(text: &'a str, number: usize) -> Option<&'a str>
-    ensures { option_map (λ line. line.now) result ≡ slice_get (lines text.entry.now) (number - 1) }
-{
-    text.lines().nth(number.saturating_sub(1))
-}
-
-/// Adds the line of this number as it stands, where the text has one.
+/// Adds the line of this number, shortened if it is long, where the text has one.
 fn put_line(out: &mut Vec<u8>, text: &str, number: usize) -> Result<(), AllocError>
     ensures { OnOk result (out.new.items ≡ out.old.items ++ line_text (slice_get (lines text.now) (number - 1))) }
 {
-    match line_at(text, number) {
+    match line_numbered(text, number) {
         Some(line) => {
-            put(out, line)?;
+            put_shortened(out, line.as_bytes())?;
             put(out, "\n")
         }
         None => Ok(()),
@@ -50,27 +44,69 @@ pub fn put_name_line(
     put(out, "\n")
 }
 
-fn name_reason(no: NameNo) -> &'static str
-    ensures { result.now ≡ name_reason no }
+fn thing_words(thing: Thing) -> &'static str
+    ensures { result.now ≡ thing_words thing }
+{
+    match thing {
+        Thing::Constant(_) => "a constant",
+        Thing::Register(Bank::Value, _, _) => "a value register",
+        Thing::Register(Bank::Right, _, _) => "a right register",
+        Thing::Procedure(_) => "a procedure",
+    }
+}
+
+fn asked_words(asked: Asked) -> &'static str
+    ensures { result.now ≡ asked_words asked }
+{
+    match asked {
+        Asked::Value | Asked::ValueArgument => "a value register",
+        Asked::Right | Asked::RightArgument => "a right register",
+        Asked::Number => "a number",
+        Asked::Procedure => "a procedure",
+        Asked::Nothing => "no name",
+    }
+}
+
+/// Adds what a name means, and what is required in its place.
+fn put_kind(out: &mut Vec<u8>, thing: Thing, asked: Asked) -> Result<(), AllocError>
+    ensures { OnOk result (out.new.items ≡ out.old.items ++ kind_reason thing asked) }
+{
+    put_both(out, "it is ", thing_words(thing))?;
+    put_both(out, ", ", asked_words(asked))?;
+    put(out, " is required")
+}
+
+fn fixed_reason(no: NameNo) -> &'static str
+    ensures { result.now ≡ fixed_reason no }
 {
     match no {
         NameNo::Form =>
             "expected const NAME = NUMBER, let NAME = REGISTER, or NAME: with a mode or type behind it",
         NameNo::NoName => "this can't be a name",
         NameNo::Twice => "the name is taken",
+        NameNo::Listed => "its register has a name already",
         NameNo::Unknown => "the name means nothing here",
-        NameNo::Kind => "the name means something else than is asked here",
         NameNo::Limit => "it would be a register past the last",
-        NameNo::NoMemory => "",
+        NameNo::Kind(_, _) | NameNo::NoMemory => "",
+    }
+}
+
+/// Adds what is wrong with a word.
+fn put_reason(out: &mut Vec<u8>, no: NameNo) -> Result<(), AllocError>
+    ensures { OnOk result (out.new.items ≡ out.old.items ++ name_reason no) }
+{
+    match no {
+        NameNo::Kind(thing, asked) => put_kind(out, thing, asked),
+        _ => put(out, fixed_reason(no)),
     }
 }
 
 fn put_word_reason(out: &mut Vec<u8>, word: &[u8], no: NameNo) -> Result<(), AllocError>
-    ensures { OnOk result (out.new.items ≡ out.old.items ++ (word.now ++ (codes ": " ++ (name_reason no ++ codes "\n")))) }
+    ensures { OnOk result (out.new.items ≡ out.old.items ++ (shortened word.now ++ (codes ": " ++ (name_reason no ++ codes "\n")))) }
 {
-    out.extend_from_slice(word)?;
+    put_shortened(out, word)?;
     put(out, ": ")?;
-    put(out, name_reason(no))?;
+    put_reason(out, no)?;
     put(out, "\n")
 }
 
@@ -86,6 +122,29 @@ pub fn put_name_behind(
     put_word_reason(out, refusal.word, refusal.no)
 }
 
+fn is_same_line(line: Option<&str>, other: Option<&str>) -> bool
+    ensures { result ≡ is_same_line (option_map (λ line. line.now) line.entry) (option_map (λ line. line.now) other.entry) }
+{
+    match line {
+        None => false,
+        Some(line) => match other {
+            None => false,
+            Some(other) => line == other,
+        },
+    }
+}
+
+/// Adds the line as it was written, unless it is the one for which it stands.
+fn put_written(out: &mut Vec<u8>, text: &str, plain: &str, number: usize) -> Result<(), AllocError>
+    ensures { OnOk result (out.new.items ≡ out.old.items ++ written_text (slice_get (lines text.now) (number - 1)) (slice_get (lines plain.now) (number - 1))) }
+{
+    if is_same_line(line_numbered(text, number), line_numbered(plain, number)) {
+        return Ok(());
+    }
+    put_line(out, text, number)?;
+    put(out, "stands for: ")
+}
+
 /// Adds the line as it was written, and why the line is refused for which it stands.
 fn put_written_fault(
     alloc: Global,
@@ -95,10 +154,9 @@ fn put_written_fault(
     fault: AsmFault,
 ) -> Result<(), AllocError>
     ensures { OnOk result ((reason : List ℕ) × IsTextReason plain.now fault.no fault.line reason
-        × (out.new.items ≡ out.old.items ++ ((line_text (slice_get (lines text.now) (fault.line - 1)) ++ codes "stands for: ") ++ reason))) }
+        × (out.new.items ≡ out.old.items ++ (written_text (slice_get (lines text.now) (fault.line - 1)) (slice_get (lines plain.now) (fault.line - 1)) ++ reason))) }
 {
-    put_line(out, text, fault.line)?;
-    put(out, "stands for: ")?;
+    put_written(out, text, plain, fault.line)?;
     put_text_reason(alloc, out, plain, fault)
 }
 

@@ -1,23 +1,25 @@
 //! The line of a text that a refusal of its program tells.
 
-ghost use Rattle.std.specs.Prelude.{◌≡◌, ◌++◌, ◌<◌, ◌-◌, ℕ, List, MatchOption, OnOk, None, length, slice_get};
+ghost use Rattle.std.specs.Prelude.{◌≡◌, ◌++◌, ◌<◌, ◌-◌, ℕ, List, MatchOption, IfOk, OnOk, None, length, map, slice_get};
 ghost use Rattle.std.specs.Str.Lines.{lines};
 ghost use Rattle.tw_asm.specs.Origins.{AreOrigins, ComesFrom, instr_at};
 ghost use Rattle.tw_code.specs.declared.procedure.Procedure.{Procedure as Section};
 ghost use Rattle.tw_replies.specs.Source.{IsSourceAt, MayBeSourceAt, plain_of, text_of};
 ghost use Rattle.tw_names.specs.Registers.{IsWithName};
 ghost use Rattle.tw_names.specs.Standing.{StandsFor};
+ghost use Rattle.tw_names.specs.Symbols.{AreSymbols};
 ghost use Rattle.tw_reasons.specs.Reasons.{TellsReason, shape_line};
 ghost use Rattle.tw_reasons.specs.Says.{IsFirstHead};
-ghost use Rattle.tw_replies.specs.Text.{IsBehind, IsLineOf, IsMainBehind, IsPlaceBehind, IsTextBehind, text_line};
+ghost use Rattle.tw_replies.specs.Text.{IsBehind, IsLineOf, IsMainBehind, IsPlaceBehind, IsTextBehind, in_name, line_in_text, text_line};
 
+use crate::text_lines::TextLines;
 use std::alloc::{AllocError, Global};
 use tw_asm::LineNumbers;
 use tw_code::Procedure;
-use tw_names::put_with_name;
+use tw_names::{Symbols, put_with_name};
 use tw_reasons::{head_line, put_main_reason, put_program_reason};
 use tw_verify::{Refused, VerifyRefusal};
-use tw_words::{put, put_numbered};
+use tw_words::{line_numbered, put, put_numbered, put_shortened};
 
 /// A text, and the line of each instruction of its program.
 #[derive(Drop)]
@@ -41,17 +43,26 @@ impl SourceText<'_> {
     }
 }
 
-/// The line of this number, counted from 1, without white space around it.
-fn line_numbered<'a>(text: &'a str, number: usize) -> Option<&'a str>
-    ensures { 0 < number → MatchOption result (slice_get (lines text.entry.now) (number - 1) ≡ None) (λ line. IsLineOf text.entry.now number line.now) }
+/// Reads the names of a program's procedures from the text from which it was read, if from one.
+pub fn symbols_of(alloc: Global, source: &Option<SourceText<'_>>) -> Result<Symbols, AllocError>
+    ensures { IfOk result (λ names. AreSymbols (text_of source.now) names) }
 {
-    let before = number.checked_sub(1)?;
-    let line = text.lines().nth(before)?;
+    match source {
+        Some(source) => Symbols::of(alloc, source.text),
+        None => Ok(Symbols::none(alloc)),
+    }
+}
+
+/// Returns the line of this number, counted from 1, without white space around it.
+fn trimmed_line<'a>(text: &'a str, number: usize) -> Option<&'a str>
+    ensures { MatchOption result (slice_get (lines text.entry.now) (number - 1) ≡ None) (λ line. IsLineOf text.entry.now number line.now) }
+{
+    let line = line_numbered(text, number)?;
     Some(line.trim_ascii())
 }
 
 /// The number of the line from which the instruction at a place comes, and the line as it is written.
-pub fn line_at<'b>(
+fn source_line<'b>(
     source: &'b SourceText<'_>,
     procedure: usize,
     place: usize,
@@ -62,11 +73,56 @@ pub fn line_at<'b>(
         (λ found. ComesFrom (plain_of source.now) procedure place found.0 × IsLineOf source.now.text.now found.0 found.1.now) }
 {
     let number = source.lines.at(procedure, place)?;
-    let line = line_numbered(source.text, number)?;
+    let line = trimmed_line(source.text, number)?;
     Some((number, line))
 }
 
-/// Adds the line of this number, without the white space around it.
+/// Like `source_line`, but by a table of the text's lines.
+pub fn line_in<'b>(
+    source: &SourceText<'_>,
+    table: &TextLines<'b>,
+    procedure: usize,
+    place: usize,
+) -> Option<(usize, &'b str)>
+    ensures { (program : List Section) → map (λ line. line.now) table.now.lines.items ≡ lines source.now.text.now → AreOrigins (plain_of source.now) program source.now.lines.procedures → StandsFor source.now.text.now (plain_of source.now)
+        → MatchOption result
+        (instr_at program procedure place ≡ None)
+        (λ found. ComesFrom (plain_of source.now) procedure place found.0 × IsLineOf source.now.text.now found.0 found.1.now) }
+{
+    let number = source.lines.at(procedure, place)?;
+    let line = table.trimmed(number)?;
+    Some((number, line))
+}
+
+/// Adds the name of a procedure in which a line is, if it has one.
+fn put_in(out: &mut Vec<u8>, name: &[u8]) -> Result<(), AllocError>
+    ensures { OnOk result (out.new.items ≡ out.old.items ++ in_name name.now) }
+{
+    if name.is_empty() {
+        return Ok(());
+    }
+    put(out, " in ")?;
+    out.extend_from_slice(name)
+}
+
+/// Adds the line of this number, with the name of its procedure, without the white space around it.
+fn put_line_in(
+    alloc: Global,
+    out: &mut Vec<u8>,
+    name: &[u8],
+    number: usize,
+    line: &str,
+) -> Result<(), AllocError>
+    ensures { OnOk result (out.new.items ≡ out.old.items ++ line_in_text name.now number line.now) }
+{
+    put_numbered(alloc, out, "at line ", number)?;
+    put_in(out, name)?;
+    put(out, ": ")?;
+    put_shortened(out, line.as_bytes())?;
+    put(out, "\n")
+}
+
+/// Adds the line of this number, without the white space around it, and cut if it is long.
 pub fn put_text_line(
     alloc: Global,
     out: &mut Vec<u8>,
@@ -77,7 +133,7 @@ pub fn put_text_line(
 {
     put_numbered(alloc, out, "at line ", number)?;
     put(out, ": ")?;
-    put(out, line)?;
+    put_shortened(out, line.as_bytes())?;
     put(out, "\n")
 }
 
@@ -107,10 +163,11 @@ fn put_place_behind(
     ensures { OnOk result (IsSourceAt source.now refused.now.program.procedures refused.now.procedure refused.now.place
         → (more : List ℕ) × IsPlaceBehind source.now.text.now refused.now.no refused.now.program.procedures refused.now.procedure refused.now.place more × (out.new.items ≡ out.old.items ++ more)) }
 {
-    let Some((number, line)) = line_at(source, refused.procedure, refused.place) else {
+    let Some((number, line)) = source_line(source, refused.procedure, refused.place) else {
         return Ok(());
     };
-    put_text_line(alloc, out, number, line)?;
+    let names = Symbols::of(alloc, source.text)?;
+    put_line_in(alloc, out, names.procedure(refused.procedure), number, line)?;
     put_reason(alloc, out, source, number, refused)
 }
 
@@ -129,7 +186,7 @@ fn put_head_behind(
     let Some(number) = head_line(alloc, source.plain())? else {
         return Ok(());
     };
-    let Some(line) = line_numbered(source.text, number) else {
+    let Some(line) = trimmed_line(source.text, number) else {
         return Ok(());
     };
     put_text_line(alloc, out, number, line)?;

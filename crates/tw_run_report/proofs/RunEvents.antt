@@ -19,6 +19,9 @@ use Rattle.tw_no_trap.specs.NoTrap.{AreRight}
 use Rattle.tw_no_trap.proofs.Along.{event_small}
 use Rattle.tw_no_trap.proofs.Safe.{kept_by, opened_held}
 use Rattle.tw_machine.specs.Moments.{history}
+use Rattle.tw_code.specs.declared.version.Version.{Version}
+use Rattle.tw_picture.specs.declared.drawing.Drawing.{Drawing}
+use Rattle.tw_picture.specs.History.{IsDrawing}
 use Rattle.tw_stats.specs.declared.tally.Tally.{Tally}
 use Rattle.tw_stats.specs.Kept.{IsTally}
 use Rattle.tw_stats.specs.Text.{AreNumbers}
@@ -64,8 +67,24 @@ pub begun : (program : Versioned) (sections : List Procedure) (order : RunOrder)
 begun program sections order first same is = is ∙ ap (λ (ps : List Procedure). begins program.version ps order) same
 
 -- the numbers of the events that were read are those of the run's
-pub numbers_there : (first begin : PlainView) (read events : List Event) (plain : PlainView) (t : Tally) (budgets text : List ℕ) → first ≡ begin → read ≡ events → plain ≡ record first { state = plain.state } → IsTally first read plain.state t
-    → ((v : PlainView) (es : List Event) → plain ≡ record v { state = plain.state } → IsTally v es plain.state t → AreNumbers v.program v.layout budgets (history v es) text) → AreNumbers begin.program begin.layout budgets (history begin events) text
-numbers_there first begin read events plain t budgets text same all stays tally tells =
-    subst (λ (v : PlainView). AreNumbers v.program v.layout budgets (history v events) text) same
-    (subst (λ (es : List Event). AreNumbers first.program first.layout budgets (history first es) text) all (tells first read stays tally))
+pub numbers_there : (names : List (List ℕ)) (first begin : PlainView) (read events : List Event) (plain : PlainView) (t : Tally) (budgets text : List ℕ) → first ≡ begin → read ≡ events → plain ≡ record first { state = plain.state } → IsTally first read plain.state t
+    → ((v : PlainView) (es : List Event) → plain ≡ record v { state = plain.state } → IsTally v es plain.state t → AreNumbers names v.program v.layout budgets (history v es) text) → AreNumbers names begin.program begin.layout budgets (history begin events) text
+numbers_there names first begin read events plain t budgets text same all stays tally tells =
+    subst (λ (v : PlainView). AreNumbers names v.program v.layout budgets (history v events) text) same
+    (subst (λ (es : List Event). AreNumbers names first.program first.layout budgets (history first es) text) all (tells first read stays tally))
+
+-- what is drawn doesn't depend on the version of the format
+pub other_version : (names : List (List ℕ)) (v w : Version) (program : List Procedure) (order : RunOrder) (events : List Event) (s : State) (d : Drawing) → IsDrawing names (begins v program order) events s d
+    → IsDrawing names (begins w program order) events s d
+other_version names v w program order events s d h = record {
+  layout = h.layout;
+  names_are = h.names_are;
+  count = h.count;
+  marks = h.marks;
+  bars = h.bars;
+  threads = h.threads;
+  closing = h.closing;
+  waits = h.waits;
+  arrows = h.arrows;
+  rules = h.rules;
+}

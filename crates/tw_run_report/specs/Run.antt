@@ -20,6 +20,7 @@ use Rattle.tw_picture.specs.History.{IsDrawing}
 use Rattle.tw_picture.specs.Picture.{picture_of}
 use Rattle.tw_picture.specs.Places.{between}
 use Rattle.tw_picture.specs.Xml.{xml_text}
+use Rattle.tw_names.specs.Symbols.{AreSymbols}
 use Rattle.tw_stats.specs.Text.{AreNumbers}
 use Rattle.tw_report.specs.Events.{event_line}
 use Rattle.tw_run_report.specs.Ends.{end_report}
@@ -55,22 +56,23 @@ run_report text program order s closing = end_report program s (Some closing) ++
 abbrev pub begins : Version → List Procedure → RunOrder → PlainView
 begins version program order = record { version = version; program = program; layout = order.layout; state = opening program order.inputs }
 
--- the numbers of its events
-abbrev pub AreRunNumbers : List Procedure → RunOrder → List Event → List ℕ → Type 0
-AreRunNumbers program order events text =
-    (version : Version) × (budgets : List ℕ) × AreBudgets program budgets × AreNumbers program order.layout budgets (history (begins version program order) events) text
+-- the numbers of its events, where the procedures have these names; they are the same in each version of the format
+abbrev pub AreRunNumbers : List (List ℕ) → List Procedure → RunOrder → List Event → List ℕ → Type 0
+AreRunNumbers names program order events text =
+    (version : Version) → (budgets : List ℕ) × AreBudgets program budgets × AreNumbers names program order.layout budgets (history (begins version program order) events) text
 
--- the picture of these of them
-abbrev pub IsRunPicture : Stretch → List Procedure → RunOrder → List Event → State → List ℕ → Type 0
-IsRunPicture shown program order events s text =
-    (version : Version) × (d : Drawing) × IsDrawing (begins version program order) events s d × (text ≡ xml_text (picture_of d (between shown.from shown.to)))
+-- the picture of these of them; it is the same in each version, too
+abbrev pub IsRunPicture : List (List ℕ) → Stretch → List Procedure → RunOrder → List Event → State → List ℕ → Type 0
+IsRunPicture names shown program order events s text =
+    (version : Version) → (d : Drawing) × IsDrawing names (begins version program order) events s d × (text ≡ xml_text (picture_of d (between shown.from shown.to)))
 
--- what is asked for: the report, the numbers behind it, or a picture in its place
+-- what is asked for, with the names that the text gives: the report, the numbers behind it, or a picture in its place
 abbrev pub IsRunText : Answer → Option (List ℕ) → List Procedure → RunOrder → List Event → State → Closing → List ℕ → Type 0
 IsRunText Report text program order events s closing told = told ≡ run_report text program order s closing
 IsRunText Numbers text program order events s closing told =
-    (numbers : List ℕ) × AreRunNumbers program order events numbers × (told ≡ run_report text program order s closing ++ numbers)
-IsRunText (Picture shown) text program order events s closing told = IsRunPicture shown program order events s told
+    (names : List (List ℕ)) × (numbers : List ℕ) × AreSymbols text names × AreRunNumbers names program order events numbers × (told ≡ run_report text program order s closing ++ numbers)
+IsRunText (Picture shown) text program order events s closing told =
+    (names : List (List ℕ)) × AreSymbols text names × IsRunPicture names shown program order events s told
 
 -- what the run is opened with
 abbrev pub start_of : List Procedure → RunOrder → Start

@@ -11,6 +11,7 @@ ghost use Rattle.tw_run_report.specs.Ends.{IsEndReport};
 ghost use Rattle.tw_run_report.specs.Over.{Goes, IsRunOver};
 ghost use Rattle.tw_replies.specs.Reply.{reply};
 ghost use Rattle.tw_run_report.specs.Run.{AreRunNumbers, IsRunBehind, IsRunPicture, IsRunText, begins, close_of, limit_told, trace_text};
+ghost use Rattle.tw_names.specs.Symbols.{AreSymbols};
 ghost use Rattle.tw_replies.specs.Source.{MayBeSource, text_of};
 
 use crate::end_report::report;
@@ -21,12 +22,12 @@ use tw_command::{Answer, RunOrder, Stretch};
 use tw_machine::Plain;
 use tw_pool::{Closing, Final, History};
 use tw_replay::{Counting, budgets_of, count, draw, put_bytes};
-use tw_replies::{Close, Reply, SourceText};
+use tw_replies::{Close, Reply, SourceText, symbols_of};
 use tw_report::{put, put_event_line, put_numbered};
 use tw_types::Event;
 use tw_verify::Verified;
 
-/// How a session ends whose run has ended so.
+/// How a session ends whose run has ended so. No run of a session is stopped, but other callers of `report` may tell of one.
 fn close_of(closing: Closing) -> Close
     ensures { result ≡ close_of closing }
 {
@@ -110,22 +111,25 @@ fn first_machine(alloc: Global, order: &RunOrder, program: Program) -> Result<Pl
 fn put_run_numbers(
     alloc: Global,
     out: &mut Vec<u8>,
+    source: &Option<SourceText<'_>>,
     order: &RunOrder,
     verified: Verified,
     history: &History,
 ) -> Result<(), AllocError>
     requires inputs { AreInputsOf verified.program order.now.inputs }
     requires goes { Goes verified.program order.now history.now.events }
-    ensures { OnOk result ((numbers : List ℕ) × AreRunNumbers verified.program order.now history.now.events numbers × (out.new.items ≡ out.old.items ++ numbers)) }
+    ensures { OnOk result ((names : List (List ℕ)) × (numbers : List ℕ) × AreSymbols (text_of source.now) names × AreRunNumbers names verified.program order.now history.now.events numbers × (out.new.items ≡ out.old.items ++ numbers)) }
 {
+    // For their clauses alone: what holds of an accepted program's procedures, and how many events a run may have.
     let _procedures = verified.program().procedures();
     let _most = order.limit.events();
     let budgets = budgets_of(alloc, &verified)?;
+    let names = symbols_of(alloc, source)?;
     let events = events_of(alloc, history)?;
     let first = first_machine(alloc, order, verified.into_program())?;
     match count(alloc, first, &events)? {
         Counting::Made(counted) => {
-            let numbers = counted.tally.text(alloc, &counted.plain, &budgets)?;
+            let numbers = counted.tally.text(alloc, &counted.plain, &names, &budgets)?;
             put_bytes(out, &numbers)
         }
         Counting::Stopped(_) => unreachable!(),
@@ -136,6 +140,7 @@ fn put_run_numbers(
 fn put_run_picture(
     alloc: Global,
     out: &mut Vec<u8>,
+    source: &Option<SourceText<'_>>,
     shown: Stretch,
     order: &RunOrder,
     verified: Verified,
@@ -144,13 +149,15 @@ fn put_run_picture(
     requires inputs { AreInputsOf verified.program order.now.inputs }
     requires goes { Goes verified.program order.now history.now.events }
     ensures { OnOk result ((s : MachineState) → reached verified.program order.now.inputs order.now.layout history.now.events ≡ Went s
-        → (picture : List ℕ) × IsRunPicture shown verified.program order.now history.now.events s picture × (out.new.items ≡ out.old.items ++ picture)) }
+        → (names : List (List ℕ)) × (picture : List ℕ) × AreSymbols (text_of source.now) names × IsRunPicture names shown verified.program order.now history.now.events s picture × (out.new.items ≡ out.old.items ++ picture)) }
 {
+    // For their clauses alone: what holds of an accepted program's procedures, and how many events a run may have.
     let _procedures = verified.program().procedures();
     let _most = order.limit.events();
     let events = events_of(alloc, history)?;
+    let names = symbols_of(alloc, source)?;
     let first = first_machine(alloc, order, verified.into_program())?;
-    let drawn = draw(alloc, shown, first, &events)?;
+    let drawn = draw(alloc, shown, names, first, &events)?;
     put_bytes(out, &drawn.text)
 }
 
@@ -191,9 +198,11 @@ fn put_told(
         Answer::Report => put_run_report(alloc, out, source, order, outcome, closing),
         Answer::Numbers => {
             put_run_report(alloc, out, source, order, outcome, closing)?;
-            put_run_numbers(alloc, out, order, verified, history)
+            put_run_numbers(alloc, out, source, order, verified, history)
         }
-        Answer::Picture(shown) => put_run_picture(alloc, out, shown, order, verified, history),
+        Answer::Picture(shown) => {
+            put_run_picture(alloc, out, source, shown, order, verified, history)
+        }
     }
 }
 
@@ -215,6 +224,7 @@ pub fn ended_reply(
         × IsRunBehind order.now.answer (text_of source.now) verified.program order.now history.now.events over.state closing more
         × (reply r.text.items r.close ≡ reply (trace_text order.now.trace history.now.events ++ (told ++ more)) (close_of closing))) }
 {
+    // For their clauses alone: what holds of an accepted program's procedures, and how many events a run may have.
     let _procedures = verified.program().procedures();
     let _most = order.limit.events();
     let mut text = Vec::new(alloc);

@@ -170,11 +170,11 @@ procedures_added moments m event d procedure tasks instructions done old new is 
     (subst (λ (p : ℕ). IsRaised old.most p done new.most) of_procedure raised)
 
 -- the line of a procedure
-pub line_same : (moments : List Moment) (p : Procedures) (number : ℕ) (budget : Option ℕ) → AreOfProcedures moments p → line_by p number budget ≡ procedure_line number budget moments
-line_same moments p number budget h =
-    ap (λ (n : ℕ). tasks_part number n ++ (done_part (number_at p.instructions number) (number_at p.most number) ++ (budget_text budget ++ codes "\n"))) (h.tasks number)
-    ∙ ap (λ (n : ℕ). tasks_part number (tasks_of number moments) ++ (done_part n (number_at p.most number) ++ (budget_text budget ++ codes "\n"))) (h.instructions number)
-    ∙ ap (λ (n : ℕ). tasks_part number (tasks_of number moments) ++ (done_part (instructions_of number moments) n ++ (budget_text budget ++ codes "\n"))) (h.most number)
+pub line_same : (names : List (List ℕ)) (moments : List Moment) (p : Procedures) (number : ℕ) (budget : Option ℕ) → AreOfProcedures moments p → line_by names p number budget ≡ procedure_line names number budget moments
+line_same names moments p number budget h =
+    ap (λ (n : ℕ). tasks_part names number n ++ (done_part (number_at p.instructions number) (number_at p.most number) ++ (budget_text budget ++ codes "\n"))) (h.tasks number)
+    ∙ ap (λ (n : ℕ). tasks_part names number (tasks_of number moments) ++ (done_part n (number_at p.most number) ++ (budget_text budget ++ codes "\n"))) (h.instructions number)
+    ∙ ap (λ (n : ℕ). tasks_part names number (tasks_of number moments) ++ (done_part (instructions_of number moments) n ++ (budget_text budget ++ codes "\n"))) (h.most number)
 
 -- one line more
 pub line_added : (there out new : List ℕ) (line : ℕ → List ℕ) (number : ℕ) (text : List ℕ) → text ≡ line number → out ≡ there ++ lines_below line number → new ≡ out ++ text → new ≡ there ++ lines_below line (number + 1)

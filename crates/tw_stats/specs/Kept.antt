@@ -50,8 +50,8 @@ abbrev pub IsRaised : Table → ℕ → ℕ → Table → Type 0
 IsRaised old key number new = (k : ℕ) → number_at new k ≡ max (number_at old k) (if key == k then number else 0)
 
 -- the line of a procedure, of these tables
-abbrev pub line_by : Procedures → ℕ → Option ℕ → List ℕ
-line_by p number budget = tasks_part number (number_at p.tasks number) ++ (done_part (number_at p.instructions number) (number_at p.most number) ++ (budget_text budget ++ codes "\n"))
+abbrev pub line_by : List (List ℕ) → Procedures → ℕ → Option ℕ → List ℕ
+line_by names p number budget = tasks_part names number (number_at p.tasks number) ++ (done_part (number_at p.instructions number) (number_at p.most number) ++ (budget_text budget ++ codes "\n"))
 
 -- ---- by actor
 

@@ -6,6 +6,7 @@ use Rattle.tw_types.specs.Layout.{ActorCounts}
 use Rattle.tw_code.specs.declared.procedure.Procedure.{Procedure}
 use Rattle.tw_report.specs.Events.{actor_part, part_text}
 use Rattle.tw_machine.specs.Moments.{Moment}
+use Rattle.tw_names.specs.Symbols.{bracketed, name_at}
 use Rattle.tw_stats.specs.Numbers.{events_of, events_of_kind, instructions_of, most_of, tasks_of}
 use Rattle.tw_stats.specs.Waits.{IsLongest, steps_in}
 
@@ -33,20 +34,21 @@ abbrev pub budget_text : Option ℕ → List ℕ
 budget_text None = []
 budget_text (Some budget) = numbered (codes " budget ") budget
 
-abbrev pub tasks_part : ℕ → ℕ → List ℕ
-tasks_part number tasks = numbered (codes "procedure ") number ++ numbered (codes " tasks ") tasks
+-- a procedure, with its name in brackets where it is known
+abbrev pub tasks_part : List (List ℕ) → ℕ → ℕ → List ℕ
+tasks_part names number tasks = numbered (codes "procedure ") number ++ (bracketed (name_at names number) ++ numbered (codes " tasks ") tasks)
 
 abbrev pub done_part : ℕ → ℕ → List ℕ
 done_part instructions most = numbered (codes " instructions ") instructions ++ numbered (codes " most ") most
 
 -- the tasks of a procedure, their instructions, the most of one of them, and what one may do
-abbrev pub procedure_line : ℕ → Option ℕ → List Moment → List ℕ
-procedure_line number budget history =
-    tasks_part number (tasks_of number history) ++ (done_part (instructions_of number history) (most_of number history) ++ (budget_text budget ++ codes "\n"))
+abbrev pub procedure_line : List (List ℕ) → ℕ → Option ℕ → List Moment → List ℕ
+procedure_line names number budget history =
+    tasks_part names number (tasks_of number history) ++ (done_part (instructions_of number history) (most_of number history) ++ (budget_text budget ++ codes "\n"))
 
 -- of the procedure of this number
-abbrev pub procedure_line_of : List ℕ → List Moment → ℕ → List ℕ
-procedure_line_of budgets history number = procedure_line number (slice_get budgets number) history
+abbrev pub procedure_line_of : List (List ℕ) → List ℕ → List Moment → ℕ → List ℕ
+procedure_line_of names budgets history number = procedure_line names number (slice_get budgets number) history
 
 -- ---- by actor
 
@@ -68,12 +70,12 @@ lines_below line (suc number) = lines_below line number ++ line number
 abbrev pub chain_line : ℕ → ℕ → List ℕ
 chain_line steps longest = numbered (codes "steps ") steps ++ number_line (codes " chain ") longest
 
-abbrev pub numbers_text : List Procedure → ActorCounts → List ℕ → List Moment → ℕ → List ℕ
-numbers_text program layout budgets history longest =
-    codes "numbers\n" ++ number_line (codes "events ") (length history) ++ kind_lines history ++ lines_below (procedure_line_of budgets history) (length program)
+abbrev pub numbers_text : List (List ℕ) → List Procedure → ActorCounts → List ℕ → List Moment → ℕ → List ℕ
+numbers_text names program layout budgets history longest =
+    codes "numbers\n" ++ number_line (codes "events ") (length history) ++ kind_lines history ++ lines_below (procedure_line_of names budgets history) (length program)
     ++ lines_below (actor_line_of layout history) (actor_count layout) ++ chain_line (steps_in history) longest
 
--- The lines of a history. The budgets are the procedures', by their numbers, as far as they are known.
-abbrev pub AreNumbers : List Procedure → ActorCounts → List ℕ → List Moment → List ℕ → Type 0
-AreNumbers program layout budgets history text =
-    (longest : ℕ) × IsLongest program history longest × (text ≡ numbers_text program layout budgets history longest)
+-- The lines of a history. The names and the budgets are the procedures', by their numbers, as far as they are known.
+abbrev pub AreNumbers : List (List ℕ) → List Procedure → ActorCounts → List ℕ → List Moment → List ℕ → Type 0
+AreNumbers names program layout budgets history text =
+    (longest : ℕ) × IsLongest program history longest × (text ≡ numbers_text names program layout budgets history longest)

@@ -2,7 +2,6 @@
 
 ghost use Rattle.std.specs.Prelude.{◌≡◌, ◌∷◌, ◌++◌, [], List, OnOk};
 ghost use Rattle.tw_code.specs.machine.Bounds.{size_of};
-ghost use Rattle.tw_code.specs.machine.History.{actor_of};
 ghost use Rattle.tw_machine.specs.Moments.{Moment};
 ghost use Rattle.tw_stats.specs.Kept.{AreCounts, IsSmall};
 ghost use Rattle.tw_stats.specs.Numbers.{kind_of};
@@ -10,7 +9,8 @@ ghost use Rattle.tw_stats.specs.Numbers.{kind_of};
 use crate::actors::Actors;
 use crate::table::Table;
 use std::alloc::{AllocError, Global};
-use tw_types::{Actor, Event};
+use tw_machine::actor_of;
+use tw_types::Event;
 
 /// Numbers of all events of a history.
 #[derive(Drop)]
@@ -44,18 +44,6 @@ pub fn size_of(event: &Event) -> u64
         Event::Local(_, steps) => steps,
         Event::Take(_) | Event::Call(_) | Event::End(_) => 1,
         Event::Ask(_, _, _) | Event::Deliver(_, _, _, _) | Event::Release(_, _) => 1,
-    }
-}
-
-/// Who makes an event.
-fn actor_of(event: &Event) -> Actor
-    ensures { result ≡ actor_of event.now }
-{
-    match *event {
-        Event::Take(actor) | Event::Local(actor, _) | Event::Call(actor) | Event::End(actor) =>
-            actor,
-        Event::Ask(engine, _, _) | Event::Release(engine, _) => Actor::Engine(engine),
-        Event::Deliver(server, _, _, _) => Actor::Server(server),
     }
 }
 

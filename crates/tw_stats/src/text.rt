@@ -14,6 +14,7 @@ use crate::procedures::Procedures;
 use crate::tally::Tally;
 use std::alloc::{AllocError, Global};
 use tw_machine::Plain;
+use tw_names::Symbols;
 use tw_report::{put, put_numbered};
 use tw_types::{Actor, Layout};
 
@@ -52,10 +53,17 @@ fn put_budget(alloc: Global, out: &mut Vec<u8>, budget: Option<u64>) -> Result<(
     }
 }
 
-fn put_tasks(alloc: Global, out: &mut Vec<u8>, number: usize, tasks: u64) -> Result<(), AllocError>
-    ensures { OnOk result (out.new.items ≡ out.old.items ++ tasks_part number tasks) }
+fn put_tasks(
+    alloc: Global,
+    out: &mut Vec<u8>,
+    names: &Symbols,
+    number: usize,
+    tasks: u64,
+) -> Result<(), AllocError>
+    ensures { OnOk result (out.new.items ≡ out.old.items ++ tasks_part names.now number tasks) }
 {
     put_numbered(alloc, out, "procedure ", number)?;
+    names.put(out, number)?;
     put_numbered(alloc, out, " tasks ", tasks as usize)
 }
 
@@ -75,14 +83,15 @@ fn put_done(
 fn put_procedure(
     alloc: Global,
     out: &mut Vec<u8>,
+    names: &Symbols,
     procedures: &Procedures,
     number: usize,
     budget: Option<u64>,
 ) -> Result<(), AllocError>
-    ensures { OnOk result (out.new.items ≡ out.old.items ++ line_by procedures.now number budget) }
+    ensures { OnOk result (out.new.items ≡ out.old.items ++ line_by names.now procedures.now number budget) }
 {
     let key = number as u64;
-    put_tasks(alloc, out, number, procedures.tasks.at(key))?;
+    put_tasks(alloc, out, names, number, procedures.tasks.at(key))?;
     let instructions = procedures.instructions.at(key);
     put_done(alloc, out, instructions, procedures.most.at(key))?;
     put_budget(alloc, out, budget)?;
@@ -127,14 +136,22 @@ fn budget_at(budgets: &[u64], number: usize) -> Option<u64>
 fn put_procedures(
     alloc: Global,
     out: &mut Vec<u8>,
+    names: &Symbols,
     procedures: &Procedures,
     budgets: &[u64],
     count: usize,
 ) -> Result<(), AllocError>
-    ensures { OnOk result ((moments : List Moment) → AreOfProcedures moments procedures.now → out.new.items ≡ out.old.items ++ lines_below (procedure_line_of budgets.now moments) count) }
+    ensures { OnOk result ((moments : List Moment) → AreOfProcedures moments procedures.now → out.new.items ≡ out.old.items ++ lines_below (procedure_line_of names.now budgets.now moments) count) }
 {
     for number in 0..count {
-        put_procedure(alloc, out, procedures, number, budget_at(budgets, number))?;
+        put_procedure(
+            alloc,
+            out,
+            names,
+            procedures,
+            number,
+            budget_at(budgets, number),
+        )?;
     }
     Ok(())
 }
@@ -153,18 +170,24 @@ fn procedure_count(plain: &Plain) -> usize
 }
 
 impl Tally {
-    /// The lines of the numbers of the events that have led to where the machine stands. The budgets are those of its
+    /// Writes the numbers of the events that have led to where the machine stands. The names and the budgets are those of its
     /// procedures, as far as they are known.
-    pub fn text(&self, alloc: Global, plain: &Plain, budgets: &[u64]) -> Result<Vec<u8>, AllocError>
+    pub fn text(
+        &self,
+        alloc: Global,
+        plain: &Plain,
+        names: &Symbols,
+        budgets: &[u64],
+    ) -> Result<Vec<u8>, AllocError>
         ensures { IfOk result (λ text. (first : PlainView) (events : List AnEvent) → plain.now ≡ record first { state = plain.now.state } → IsTally first events plain.now.state self.now
-            → AreNumbers first.program first.layout budgets.now (history first events) text.items) }
+            → AreNumbers names.now first.program first.layout budgets.now (history first events) text.items) }
     {
         let mut text = Vec::new(alloc);
         put(&mut text, "numbers\n")?;
         put_number_line(alloc, &mut text, "events ", self.counts.events)?;
         put_kinds(alloc, &mut text, &self.counts)?;
         let count = procedure_count(plain);
-        put_procedures(alloc, &mut text, &self.procedures, budgets, count)?;
+        put_procedures(alloc, &mut text, names, &self.procedures, budgets, count)?;
         put_actors(alloc, &mut text, plain.layout(), &self.counts)?;
         put_chain(alloc, &mut text, self.counts.steps, self.chains.longest)?;
         Ok(text)

@@ -24,9 +24,9 @@ returns-in-Err c =
     let first = c.args.first in
     let events = c.args.events.now in
     let kept = c.loop-index.invariant in
-    IfOk-weaker c.stopped_reply.result _ (λ (r : Reply). IsDrawn c.args.shown first events (reply r.text.items r.close))
+    IfOk-weaker c.stopped_reply.result _ (λ (r : Reply). IsDrawn c.args.names c.args.shown first events (reply r.text.items r.close))
     (λ (r : Reply) told.
-    not_made first c.loop-index.plain events c.loop-index.index c.index-events-index.result c.in-Err.stopped (reply r.text.items r.close) (λ s. IsPicture c.args.shown first events s (reply r.text.items r.close)) kept.stays c.loop-index-test.true c.index-events-index.is
+    not_made first c.loop-index.plain events c.loop-index.index c.index-events-index.result c.in-Err.stopped (reply r.text.items r.close) (λ s. IsPicture c.args.names c.args.shown first events s (reply r.text.items r.close)) kept.stays c.loop-index-test.true c.index-events-index.is
     c.in-Err.ensures.steps.0 told kept.same kept.runs) c.stopped_reply.ensures
 
 pub loop-index-init : goal.loop-index-init
@@ -65,6 +65,6 @@ returns c =
     let i = c.loop-index.index in
     let whole = run first.program first.layout events first.state in
     let comes : whole ≡ Went at.state = all_run first.program first.layout events i at.state whole c.loop-index-test.false kept.runs in
-    IfOk-weaker c.picture_reply.result (λ (r : Reply). (v : PlainView) (es : List Event) → at ≡ record v { state = at.state } → IsTrail v es at.state c.loop-index.trail → IsPicture c.args.shown v es at.state (reply r.text.items r.close)) (λ (r : Reply). IsDrawn c.args.shown first events (reply r.text.items r.close))
-    (λ (r : Reply) h. by_went whole at.state (λ s. IsPicture c.args.shown first events s (reply r.text.items r.close)) (reply r.text.items r.close ≡ played_from first events) comes
-    (picture_of_all c.args.shown first events i at.state (reply r.text.items r.close) c.loop-index-test.false (h first (take i events) kept.stays kept.trail))) c.picture_reply.ensures
+    IfOk-weaker c.picture_reply.result (λ (r : Reply). (v : PlainView) (es : List Event) → at ≡ record v { state = at.state } → IsTrail v es at.state c.loop-index.trail → IsPicture c.args.names c.args.shown v es at.state (reply r.text.items r.close)) (λ (r : Reply). IsDrawn c.args.names c.args.shown first events (reply r.text.items r.close))
+    (λ (r : Reply) h. by_went whole at.state (λ s. IsPicture c.args.names c.args.shown first events s (reply r.text.items r.close)) (reply r.text.items r.close ≡ played_from first events) comes
+    (picture_of_all c.args.names c.args.shown first events i at.state (reply r.text.items r.close) c.loop-index-test.false (h first (take i events) kept.stays kept.trail))) c.picture_reply.ensures

@@ -1,5 +1,5 @@
-use Rattle.std.proofs.Common.{◌≡◌, ◌++◌, ◌-◌, List, ℕ, codes, inr, refl, slice_get, string_bytes, subst, sym}
-use Rattle.tw_replies.proofs.ReplyNames.{HasNames, IsFirstRefusal, StandsFor, line_text, lines, on_ok_weaker}
+use Rattle.std.proofs.Common.{◌≡◌, ◌++◌, ◌-◌, List, ℕ, inr, refl, slice_get, string_bytes, subst, sym}
+use Rattle.tw_replies.proofs.ReplyNames.{HasNames, IsFirstRefusal, StandsFor, lines, on_ok_weaker, written_text}
 use Rattle.tw_names.specs.Answers.{told}
 use Rattle.tw_names.proofs.Once.{never_both}
 use Rattle.tw_replies.proofs.NamedTexts.{is_refused}
@@ -12,7 +12,7 @@ returns-in-Ok-Some c =
     let bytes : here ≡ string_bytes c.in-Ok-Some.plain = c.deref.ensures in
     let said : StandsFor text (string_bytes c.in-Ok-Some.plain) = rw c.in-Ok-Some.field-0-is at c.in-Ok-Some.ensures.stands in
     let named : HasNames (lines text) = rw c.in-Ok-Some.field-0-is at c.in-Ok-Some.ensures.named in
-    let before = line_text (slice_get (lines text) (c.args.fault.line - 1)) ++ codes "stands for: " in
+    let before = written_text (slice_get (lines text) (c.args.fault.line - 1)) (slice_get (lines here) (c.args.fault.line - 1)) in
     on_ok_weaker c.put_written_fault.result
     (λ t other stands. (before ++ t.0, (here, before, t.0, subst (λ (x : List ℕ). StandsFor text x) (sym bytes) said, inr (named, refl), t.1, refl), t.2)) c.put_written_fault.ensures
 

@@ -1,11 +1,11 @@
 use Rattle.std.proofs.Common.{◌≡◌, ◌≤◌, ◌++◌, ◌∙◌, ℕ, List, None, ap, arith, length, subst, sym}
-use Rattle.tw_run_report.proofs.RunNames.{AreShort, Event, IsProgram, PlainView, Procedure, Went, on_ok_weaker, reached, refusal_of, run, typings_of}
+use Rattle.tw_run_report.proofs.RunNames.{AreShort, Event, IsProgram, PlainView, Procedure, Went, begins, on_ok_weaker, reached, refusal_of, run, typings_of}
 use Rattle.tw_picture.specs.History.{IsDrawing, IsOpening}
 use Rattle.tw_picture.specs.declared.drawing.Drawing.{Drawing}
 use Rattle.tw_picture.proofs.History.{opening_is}
 use Rattle.tw_replay.specs.Replay.{IsPicture, played_from}
 use Rattle.tw_replies.specs.Reply.{Reply, reply}
-use Rattle.tw_run_report.proofs.RunEvents.{begun, goes_by, opens, run_short}
+use Rattle.tw_run_report.proofs.RunEvents.{begun, goes_by, opens, other_version, run_short}
 use Rattle.tw_run_report.proofs.ended.put_run_picture.Goals as goal
 
 pub first_machine-requires : goal.first_machine-requires
@@ -32,6 +32,7 @@ returns c =
     let order = c.args.order.now in
     let events = c.args.history.now.events in
     let version = c.into_program.result.version in
+    let names = c.in_ok-names.names in
     let first = c.in_ok-first.first in
     let read = c.deref.result.now in
     let r = reply c.in_ok-drawn.drawn.text.items c.in_ok-drawn.drawn.close in
@@ -41,7 +42,7 @@ returns c =
     (λ added s goes.
     let here : run first.program first.layout read first.state ≡ Went s =
     ap (λ (v : PlainView). run v.program v.layout read v.state) same ∙ ap (λ (es : List Event). reached program order.inputs order.layout es) all ∙ goes in
-    let drawn : IsPicture c.args.shown first read s r = goes_by (run first.program first.layout read first.state) s (λ t. IsPicture c.args.shown first read t r) (r ≡ played_from first read) here c.in_ok-drawn.ensures in
+    let drawn : IsPicture names c.args.shown first read s r = goes_by (run first.program first.layout read first.state) s (λ t. IsPicture names c.args.shown first read t r) (r ≡ played_from first read) here c.in_ok-drawn.ensures in
     let d : Drawing = drawn.0 in
-    let there = subst (λ (v : PlainView). IsDrawing v events s d) same (subst (λ (es : List Event). IsDrawing first es s d) all drawn.1) in
-    (r.text, (version, d, there, ap (λ (x : Reply). x.text) drawn.2), added ∙ ap (λ (t : List ℕ). c.args.out.now.items ++ t) c.deref-2.ensures.value)) c.put_bytes.ensures
+    let there : IsDrawing names (begins version program order) events s d = subst (λ (v : PlainView). IsDrawing names v events s d) same (subst (λ (es : List Event). IsDrawing names first es s d) all drawn.1) in
+    (names, r.text, c.in_ok-names.ensures, (λ v. (d, other_version names version v program order events s d there, ap (λ (x : Reply). x.text) drawn.2)), added ∙ ap (λ (t : List ℕ). c.args.out.now.items ++ t) c.deref-2.ensures.value)) c.put_bytes.ensures

@@ -28,10 +28,10 @@ returns-in_ok-put_run_report-in-Numbers c =
     let h = c.in_ok-put_run_report-in-Numbers.ensures in
     on_ok_weaker c.put_run_numbers.result
     (λ n over. (
-      (h.0 ++ more) ++ n.0,
-      subst (λ (a : Answer). IsRunText a source c.args.verified.program order events over.state c.args.closing ((h.0 ++ more) ++ n.0)) (sym c.in-Numbers.is)
-          (n.0, n.1, ap (λ (t : List ℕ). (t ++ more) ++ n.0) (over.reports h.0 h.1)),
-      n.2 ∙ ap (λ (t : List ℕ). t ++ n.0) h.2 ∙ append_assoc c.args.out.now.items (h.0 ++ more) n.0,
+      (h.0 ++ more) ++ n.1,
+      subst (λ (a : Answer). IsRunText a source c.args.verified.program order events over.state c.args.closing ((h.0 ++ more) ++ n.1)) (sym c.in-Numbers.is)
+          (n.0, n.1, n.2, n.3, ap (λ (t : List ℕ). (t ++ more) ++ n.1) (over.reports h.0 h.1)),
+      n.4 ∙ ap (λ (t : List ℕ). t ++ n.1) h.2 ∙ append_assoc c.args.out.now.items (h.0 ++ more) n.1,
     )) c.put_run_numbers.ensures
 
 pub returns-in-Picture : goal.returns-in-Picture
@@ -40,4 +40,4 @@ returns-in-Picture c =
     let order = c.args.order.now in
     let events = c.args.history.now.events in
     on_ok_weaker c.put_run_picture.result
-    (λ p over. let told = p over.state over.reaches in (told.0, subst (λ (a : Answer). IsRunText a source c.args.verified.program order events over.state c.args.closing told.0) (sym c.in-Picture.is) told.1, told.2)) c.put_run_picture.ensures
+    (λ p over. let told = p over.state over.reaches in (told.1, subst (λ (a : Answer). IsRunText a source c.args.verified.program order events over.state c.args.closing told.1) (sym c.in-Picture.is) (told.0, told.2, told.3), told.4)) c.put_run_picture.ensures

@@ -5,4 +5,4 @@ use Rattle.tw_stats.specs.Text.{procedure_line_of, lines_below}
 use Rattle.tw_stats.proofs.text.put_procedures.Given as goal
 
 abbrev pub invariant-loop-number : goal.invariant-loop-number
-invariant-loop-number l = (moments : List Moment) → AreOfProcedures moments l.procedures → l.out.items ≡ l.fn.out.items ++ lines_below (procedure_line_of l.budgets moments) l.number
+invariant-loop-number l = (moments : List Moment) → AreOfProcedures moments l.procedures → l.out.items ≡ l.fn.out.items ++ lines_below (procedure_line_of l.names l.budgets moments) l.number

@@ -1,4 +1,4 @@
-use Rattle.std.proofs.Common.{◌≡◌, ◌∙◌, List, ℕ, ap, map, subst, sym, take}
+use Rattle.std.proofs.Common.{◌≡◌, ◌∙◌, List, ℕ, ap, map, refl, subst, sym, take}
 use Rattle.std.specs.List.{flat_map}
 use Rattle.tw_code.specs.declared.procedure.Procedure.{Procedure}
 use Rattle.tw_code.specs.machine.Pending.{circle}
@@ -17,6 +17,7 @@ returns c = λ first events stays h.
     let program : c.args.plain.now.program ≡ first.program = ap (λ (v : PlainView). v.program) stays in
     record {
       layout = c.layout.ensures ∙ ap (λ (v : PlainView). v.layout) stays;
+      names_are = refl;
       count = c.len.ensures ∙ c.args.self.marks.ok.0 ∙ trail_length first events s c.args.self h;
       marks = h.marks;
       bars =
