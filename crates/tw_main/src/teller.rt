@@ -67,8 +67,10 @@ pub struct Teller {
 }
 
 impl Teller {
-    /// One that tells nothing if it is quiet, and no progress if standard error is no terminal.
-    pub fn new(stderr: Stderr, is_quiet: bool) -> Teller {
+    /// Makes one that tells nothing if it is quiet, and no progress if standard error is no terminal.
+    pub fn new(stderr: Stderr, is_quiet: bool) -> Teller
+        ensures { result.is_quiet ≡ is_quiet }
+    {
         Teller { stderr, is_quiet }
     }
 }

@@ -3,7 +3,8 @@ use Rattle.std.proofs.Common.{◌≡◌, ◌≢◌, ℕ, List, [], ◌∷◌, co
 use Rattle.std.specs.Io.KnownBytes.{Appends}
 use Rattle.clap.specs.Words.{Kinds, Text}
 use Rattle.tw_command.specs.CommandLine.{Asked, Assembles, Checks, Disassembles, Explains, IsExplained, IsRefusedInput, Replays, Runs}
-use Rattle.tw_command.proofs.InputLaws.{never_refused, one_number}
+use Rattle.tw_command.proofs.InputLaws.{never_refused, one_refused}
+use Rattle.tw_command.specs.InputWords.{RefusedWord}
 use Rattle.tw_replies.specs.Inputs.{TellsInputWord}
 use Rattle.tw_replies.specs.Reply.{Reply, reply}
 use Rattle.tw_session.specs.Session.{AnswersWords, MayAnswer, RefusesWords, TellsMeaning}
@@ -68,17 +69,17 @@ not_taken [] asked input r e h = absurd (e refl)
 not_taken (kind ∷ others) asked input r e h = h
 
 -- where an explanation is asked for, no input word is refused
-not_refused : (asked : Asked) (text : List ℕ) (number : ℕ) → IsExplained asked text → IsRefusedInput asked number → ⊥
+not_refused : (asked : Asked) (text : List ℕ) (number : RefusedWord) → IsExplained asked text → IsRefusedInput asked number → ⊥
 not_refused (Assembles what) text number e r = e
 not_refused (Disassembles source listed) text number e r = e
-not_refused (Checks source listed) text number e r = e
+not_refused (Checks source told) text number e r = e
 not_refused (Runs source answer layout most traced turns words) text number e r = e
 not_refused (Replays source answer layout words) text number e r = e
 not_refused (Explains explained) text number e r = r
 
-pub word_told : (asked : Asked) (input : List ℕ) (number : ℕ) (r : Reply) → IsRefusedInput asked number → MayAnswer asked input r → TellsInputWord number r
+pub word_told : (asked : Asked) (input : List ℕ) (number : RefusedWord) (r : Reply) → IsRefusedInput asked number → MayAnswer asked input r → TellsInputWord number r
 word_told asked input number r refused (inl (order, is_asked, h)) = absurd (never_refused asked order number is_asked refused)
-word_told asked input number r refused (inr (inl (other, is, h))) = subst (λ (n : ℕ). TellsInputWord n r) (one_number asked other number is refused) h
+word_told asked input number r refused (inr (inl (other, is, h))) = subst (λ (n : RefusedWord). TellsInputWord n r) (one_refused asked other number is refused) h
 word_told asked input number r refused (inr (inr h)) = absurd (not_refused asked r.text number h.0 refused)
 
 pub meaning_told : (number : Text) (input : List ℕ) (r : Reply) → MayAnswer (Explains number) input r → TellsMeaning (Explains number) r

@@ -2,20 +2,21 @@
 
 ghost use Rattle.std.specs.Prelude.{◌≡◌, IfOk, map, string_bytes, true};
 ghost use Rattle.tw_command.specs.CommandLine.{asked_by_words, word_faults};
-ghost use Rattle.tw_command.specs.InTurn.{turned};
+ghost use Rattle.tw_command.specs.InTurn.{IsInTurn, turned};
 ghost use Rattle.tw_code.specs.machine.Inputs.{AreInputsOf};
 ghost use Rattle.tw_in_turn.specs.InTurn.{IsLeft};
 ghost use Rattle.tw_pool.specs.Openings.{opened};
 ghost use Rattle.tw_replies.specs.Reply.{reply};
 ghost use Rattle.tw_session.specs.Run.{RepliesByOpening, RepliesByRun};
-ghost use Rattle.tw_session.specs.Session.{AnswersWords};
+ghost use Rattle.tw_session.specs.Session.{AnswersWords, MayReply};
 ghost use Rattle.tw_replies.specs.Source.{MayBeSource, text_of};
 
+use crate::input::looked_at;
 use crate::order::reply_in_turn;
 use crate::run::end_of;
 use crate::shell::unordered_reply;
 use std::alloc::{AllocError, Global};
-use tw_command::{RunOrder, read_order};
+use tw_command::{Order, RunOrder, read_order};
 use tw_in_turn::{Left, run_in_turn};
 use tw_pool::OpenRefusal;
 use tw_replay::inputs_refused_reply;
@@ -73,13 +74,23 @@ pub fn turned_reply(
     }
 }
 
-/// What is answered to words and to the bytes that come with them, where a run is in turn: no thread is started, and nothing waits.
-pub fn answer_in_turn(alloc: Global, words: &[String], input: Vec<u8>) -> Result<Reply, AllocError>
+/// Answers an order whose run is in turn. Bytes past the most that a session reads aren't copied.
+fn order_reply(alloc: Global, order: Order, input: &[u8]) -> Result<Reply, AllocError>
+    requires { IsInTurn order }
+    ensures { IfOk result (λ r. MayReply order input.now (reply r.text.items r.close)) }
+{
+    let input = looked_at(alloc, input)?;
+    reply_in_turn(alloc, order, input)
+}
+
+/// Answers words and the bytes that come with them, where a run is in turn: no thread is started, and nothing waits. Words that give no
+/// order copy none of the bytes.
+pub fn answer_in_turn(alloc: Global, words: &[String], input: &[u8]) -> Result<Reply, AllocError>
     ensures { IfOk result (λ r. AnswersWords (word_faults (map string_bytes words.now)) (turned (asked_by_words (map string_bytes words.now)))
-        input.items (reply r.text.items r.close)) }
+        input.now (reply r.text.items r.close)) }
 {
     match read_order(alloc, words) {
-        Ok(order) => reply_in_turn(alloc, order.in_turn(), input),
+        Ok(order) => order_reply(alloc, order.in_turn(), input),
         Err(no_order) => unordered_reply(alloc, no_order),
     }
 }

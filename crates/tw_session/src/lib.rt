@@ -10,14 +10,16 @@ mod order;
 mod programs;
 mod run;
 mod shell;
+mod standard_error;
 mod status;
 mod streams;
 
 pub use in_turn::answer_in_turn;
 pub use order::reply_to;
 pub use shell::{answer, session, without_words};
+pub use standard_error::{complain, is_quiet};
 pub use status::Status;
 pub use streams::{InStream, OutStream};
-pub use tw_command::{complaint, input_of};
+pub use tw_command::input_of;
 pub use tw_replies::{Close, Reply};
 pub use tw_workers::{Gate, NoGate, Progress};

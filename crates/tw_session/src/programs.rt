@@ -40,8 +40,8 @@ fn accepted_reply(
     ensures { IfOk result (Leads (λ run. order ≡ Run run) source.now (RepliesByAccepted (text_of source.now) order verified.program)) }
 {
     match order {
-        VerifiedOrder::Check(places) => Ok(Answered::Told(Reply {
-            text: checked_text(alloc, source, places, &verified)?,
+        VerifiedOrder::Check(order) => Ok(Answered::Told(Reply {
+            text: checked_text(alloc, source, order, &verified)?,
             close: Close::Success,
         })),
         VerifiedOrder::Run(order) => Ok(Answered::Run(Ordered { order, verified })),
@@ -53,7 +53,7 @@ fn places_of(order: &VerifiedOrder) -> Places
     ensures { result ≡ places_of order.now }
 {
     match order {
-        VerifiedOrder::Check(places) => *places,
+        VerifiedOrder::Check(order) => order.places,
         VerifiedOrder::Run(_) => Places::Hidden,
     }
 }

@@ -1,0 +1,34 @@
+use Rattle.std.proofs.Common.{List, ℕ, inl, inr, refl, subst, sym}
+use Rattle.tw_command.specs.CommandLine.{asked_by_words, word_faults}
+use Rattle.tw_command.specs.InTurn.{turned}
+use Rattle.tw_replies.specs.Reply.{reply}
+use Rattle.tw_session.specs.Session.{AnswersWords}
+use Rattle.tw_replies.specs.declared.close.Close.TheVariants.{CommandLine}
+use Rattle.tw_session.specs.declared.status.Status.TheVariants.{Ended}
+use Rattle.tw_calls.specs.Told.{Answers, arguments_in}
+use Rattle.tw_calls.proofs.sessions.session.Goals as goal
+
+pub returns-in_default : goal.returns-in_default
+returns-in_default c = record {
+  status = Ended CommandLine;
+  text = c.as_bytes.result.now;
+  answers = inr (c.in_default.ensures.cases.0, refl, c.as_bytes.ensures.value);
+  code_is = c.tell.ensures.code;
+  count_is = c.tell.ensures.count;
+  room = c.tell.ensures.room;
+}
+
+pub returns-in-Ok-answer : goal.returns-in-Ok-answer
+returns-in-Ok-answer c =
+    let r = c.in-Ok-answer.reply in
+    let words = c.in-Ok.ensures.cases in
+    let input = c.args.input.now in
+    let told = subst (λ (ws : List ℕ). AnswersWords (word_faults (arguments_in ws)) (turned (asked_by_words (arguments_in ws))) input (reply r.text.items r.close)) words.0 c.in-Ok-answer.ensures in
+    record {
+      status = Ended r.close;
+      text = c.as_slice.result.now;
+      answers = subst (λ (t : List ℕ). Answers c.args.words.now input (Ended r.close) t) (sym c.as_slice.ensures.value) (inl (words.1, told));
+      code_is = c.tell-in-Ok-answer.ensures.code;
+      count_is = c.tell-in-Ok-answer.ensures.count;
+      room = c.tell-in-Ok-answer.ensures.room;
+    }

@@ -1,0 +1,40 @@
+-- What a session's caller is told.
+use Rattle.std.specs.Prelude.{◌≡◌, ◌⊎◌, ◌==◌, ◌++◌, ℕ, List, [], ◌∷◌, codes, length, drop, nat_lt, if◌then◌else◌, IsUtf8}
+use Rattle.std.specs.Io.BufRead.{strip_last}
+use Rattle.std.specs.List.{slice_split}
+use Rattle.tw_command.specs.CommandLine.{asked_by_words, word_faults}
+use Rattle.tw_command.specs.InTurn.{turned}
+use Rattle.tw_replies.specs.Reply.{reply}
+use Rattle.tw_session.specs.Session.{AnswersWords}
+use Rattle.tw_session.specs.Status.{code_of}
+use Rattle.tw_replies.specs.declared.close.Close.TheVariants.{CommandLine}
+use Rattle.tw_session.specs.declared.status.Status.{Status}
+use Rattle.tw_session.specs.declared.status.Status.TheVariants.{Ended, NoMemory, ReadFailed, WriteFailed}
+
+-- The arguments of a text, each ended by a line feed, which the last may lack. An argument has all bytes that stand between.
+abbrev pub arguments_in : List ℕ → List (List ℕ)
+arguments_in [] = []
+arguments_in (byte ∷ text) = slice_split (λ b. b == 10) (strip_last 10 (byte ∷ text))
+
+-- What `tw` with these arguments may answer to this input, where it runs in turn, or that memory is wanting. Arguments that are no text
+-- are refused, always.
+abbrev pub Answers : List ℕ → List ℕ → Status → List ℕ → Type 0
+Answers words input (Ended close) text =
+    (IsUtf8 words × AnswersWords (word_faults (arguments_in words)) (turned (asked_by_words (arguments_in words))) input (reply text close))
+    ⊎ ((IsUtf8 words → ⊥) × (close ≡ CommandLine) × (text ≡ codes "command line refused\n"))
+Answers words input NoMemory text = IsUtf8 words × (text ≡ codes "memory\n")
+Answers words input ReadFailed text = ⊥
+Answers words input WriteFailed text = ⊥
+
+-- the room with the text at its start; as it was where the text doesn't fit
+abbrev pub filled : List ℕ → List ℕ → List ℕ
+filled text room = if nat_lt (length room) (length text) then room else text ++ drop (length text) room
+
+-- the status's number, the text's length, and the room
+pub record IsTold (words input old new : List ℕ) (code count : ℕ) : Type 0 where
+  pub status : Status
+  pub text : List ℕ
+  pub answers : Answers words input status text
+  pub code_is : code ≡ code_of status
+  pub count_is : count ≡ length text
+  pub room : new ≡ filled text old

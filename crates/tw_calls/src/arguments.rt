@@ -1,0 +1,39 @@
+//! The arguments of a session, as one text.
+
+ghost use Rattle.std.specs.Prelude.{◌≡◌, ◌==◌, IfOk, map, string_bytes};
+ghost use Rattle.std.specs.Io.BufRead.{strip_last};
+ghost use Rattle.std.specs.List.{slice_split};
+ghost use Rattle.tw_calls.specs.Told.{arguments_in};
+
+use std::alloc::{AllocError, Global};
+
+/// Takes the line feed at a text's end away, if there is one.
+fn without_last_end(text: &str) -> &str
+    ensures { result.now ≡ strip_last 10 text.now }
+{
+    match text.strip_suffix('\n') {
+        Some(front) => front,
+        None => text,
+    }
+}
+
+/// Copies the parts between line feeds.
+fn parts_of(alloc: Global, text: &str) -> Result<Vec<String>, AllocError>
+    ensures { IfOk result (λ parts. map string_bytes parts.items ≡ slice_split (λ b. b == 10) text.now) }
+{
+    let mut parts = Vec::new(alloc);
+    for part in text.split('\n') {
+        parts.push(part.to_string(alloc)?)?;
+    }
+    Ok(parts)
+}
+
+/// Copies the arguments of a text: each ends at a line feed, and nothing else ends one.
+pub fn arguments_of(alloc: Global, text: &str) -> Result<Vec<String>, AllocError>
+    ensures { IfOk result (λ words. map string_bytes words.items ≡ arguments_in text.now) }
+{
+    if text.is_empty() {
+        return Ok(Vec::new(alloc));
+    }
+    parts_of(alloc, without_last_end(text))
+}

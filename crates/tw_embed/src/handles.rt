@@ -1,0 +1,213 @@
+//! Exports the calls of `tw_handles`.
+
+ghost use Rattle.std.specs.Prelude.{◌≡◌};
+ghost use Rattle.tw_handles.specs.Asking.{IsBudgetOf, IsCountOf, IsShared};
+ghost use Rattle.tw_handles.specs.Loading.{IsLoaded};
+ghost use Rattle.tw_handles.specs.Members.{IsMember, IsMemberText, IsSubscriptText};
+ghost use Rattle.tw_handles.specs.Reading.{IsEnding, IsOutput, IsOutputText};
+ghost use Rattle.tw_handles.specs.Running.{IsAdded, IsRun, IsTextAdded};
+ghost use Rattle.tw_handles.specs.Verdict.{IsVerdict};
+ghost use Rattle.tw_types.specs.declared.input.Input.TheVariants as input;
+
+use std::alloc::Global;
+use tw_handles::{Ending, Handle, Item, Member, Verdict};
+
+/// Exports `tw_handles::load`.
+#[unsafe(no_mangle)]
+pub extern "C" fn yuglemit_load(
+    alloc: Global,
+    bytes: &[u8],
+    program: &mut Handle,
+    verdict: &mut Verdict,
+)
+    ensures verdict { IsVerdict bytes.now verdict.new }
+    ensures loaded { IsLoaded bytes.now program.old.held program.new.held verdict.new.letter }
+{
+    tw_handles::load(alloc, bytes, program, verdict);
+}
+
+/// Exports `tw_handles::share`.
+#[unsafe(no_mangle)]
+pub extern "C" fn yuglemit_program_share(
+    alloc: Global,
+    program: &mut Handle,
+    other: &mut Handle,
+) -> u8
+    ensures kept { program.new.held ≡ program.old.held }
+    ensures shared { IsShared program.old.held other.old.held other.new.held result }
+{
+    tw_handles::share(alloc, program, other)
+}
+
+/// Exports `tw_handles::procedures`.
+#[unsafe(no_mangle)]
+pub extern "C" fn yuglemit_program_procedures(
+    alloc: Global,
+    program: &mut Handle,
+    count: &mut usize,
+) -> u8
+    ensures kept { program.new.held ≡ program.old.held }
+    ensures is { IsCountOf program.old.held count.old count.new result }
+{
+    tw_handles::procedures(alloc, program, count)
+}
+
+/// Exports `tw_handles::budget`.
+#[unsafe(no_mangle)]
+pub extern "C" fn yuglemit_program_budget(
+    alloc: Global,
+    program: &mut Handle,
+    procedure: usize,
+    budget: &mut u64,
+) -> u8
+    ensures kept { program.new.held ≡ program.old.held }
+    ensures is { IsBudgetOf program.old.held procedure budget.old budget.new result }
+{
+    tw_handles::budget(alloc, program, procedure, budget)
+}
+
+/// Exports `tw_handles::input_int`.
+#[unsafe(no_mangle)]
+pub extern "C" fn yuglemit_input_int(alloc: Global, inputs: &mut Handle, number: i64) -> u8
+    ensures { IsAdded (input.Int number) inputs.old.held inputs.new.held result }
+{
+    tw_handles::input_int(alloc, inputs, number)
+}
+
+/// Exports `tw_handles::input_text`.
+#[unsafe(no_mangle)]
+pub extern "C" fn yuglemit_input_text(alloc: Global, inputs: &mut Handle, text: &[u8]) -> u8
+    ensures { IsTextAdded text.now inputs.old.held inputs.new.held result }
+{
+    tw_handles::input_text(alloc, inputs, text)
+}
+
+/// Exports `tw_handles::run`.
+#[unsafe(no_mangle)]
+pub extern "C" fn yuglemit_run(
+    alloc: Global,
+    program: &mut Handle,
+    inputs: &mut Handle,
+    engines: u8,
+    servers: u8,
+    workers: u8,
+    limit: usize,
+    report: &mut Handle,
+) -> u8
+    ensures program { program.new.held ≡ program.old.held }
+    ensures inputs { inputs.new.held ≡ inputs.old.held }
+    ensures is { IsRun program.old.held inputs.old.held (record { engines = engines; servers = servers; workers = workers }) limit report.old.held report.new.held result }
+{
+    tw_handles::run(
+        alloc,
+        program,
+        inputs,
+        (engines, servers, workers),
+        limit,
+        report,
+    )
+}
+
+/// Exports `tw_handles::report_ending`.
+#[unsafe(no_mangle)]
+pub extern "C" fn yuglemit_report_ending(
+    alloc: Global,
+    report: &mut Handle,
+    ending: &mut Ending,
+) -> u8
+    ensures kept { report.new.held ≡ report.old.held }
+    ensures is { IsEnding report.old.held ending.old ending.new result }
+{
+    tw_handles::report_ending(alloc, report, ending)
+}
+
+/// Exports `tw_handles::output`.
+#[unsafe(no_mangle)]
+pub extern "C" fn yuglemit_report_output(
+    alloc: Global,
+    report: &mut Handle,
+    index: usize,
+    item: &mut Item,
+) -> u8
+    ensures kept { report.new.held ≡ report.old.held }
+    ensures is { IsOutput report.old.held index item.old item.new result }
+{
+    tw_handles::output(alloc, report, index, item)
+}
+
+/// Exports `tw_handles::output_text`.
+#[unsafe(no_mangle)]
+pub extern "C" fn yuglemit_report_text(
+    alloc: Global,
+    report: &mut Handle,
+    index: usize,
+    room: &mut [u8],
+) -> u8
+    ensures kept { report.new.held ≡ report.old.held }
+    ensures is { IsOutputText report.old.held index room.old room.new result }
+{
+    tw_handles::output_text(alloc, report, index, room)
+}
+
+/// Exports `tw_handles::output_member`.
+#[unsafe(no_mangle)]
+pub extern "C" fn yuglemit_report_member(
+    alloc: Global,
+    report: &mut Handle,
+    index: usize,
+    place: usize,
+    member: &mut Member,
+) -> u8
+    ensures kept { report.new.held ≡ report.old.held }
+    ensures is { IsMember report.old.held index place member.old member.new result }
+{
+    tw_handles::output_member(alloc, report, index, place, member)
+}
+
+/// Exports `tw_handles::member_text`.
+#[unsafe(no_mangle)]
+pub extern "C" fn yuglemit_report_member_text(
+    alloc: Global,
+    report: &mut Handle,
+    index: usize,
+    place: usize,
+    room: &mut [u8],
+) -> u8
+    ensures kept { report.new.held ≡ report.old.held }
+    ensures is { IsMemberText report.old.held index place room.old room.new result }
+{
+    tw_handles::member_text(alloc, report, index, place, room)
+}
+
+/// Exports `tw_handles::subscript_text`.
+#[unsafe(no_mangle)]
+pub extern "C" fn yuglemit_report_subscript_text(
+    alloc: Global,
+    report: &mut Handle,
+    index: usize,
+    place: usize,
+    room: &mut [u8],
+) -> u8
+    ensures kept { report.new.held ≡ report.old.held }
+    ensures is { IsSubscriptText report.old.held index place room.old room.new result }
+{
+    tw_handles::subscript_text(alloc, report, index, place, room)
+}
+
+/// Frees what a program's handle holds.
+#[unsafe(no_mangle)]
+pub extern "C" fn yuglemit_program_free(program: Handle) {
+    program.drop();
+}
+
+/// Frees what the handle of inputs holds.
+#[unsafe(no_mangle)]
+pub extern "C" fn yuglemit_inputs_free(inputs: Handle) {
+    inputs.drop();
+}
+
+/// Frees what a report's handle holds.
+#[unsafe(no_mangle)]
+pub extern "C" fn yuglemit_report_free(report: Handle) {
+    report.drop();
+}

@@ -1,0 +1,18 @@
+use Rattle.std.proofs.Common.{ℕ, List, inl, inr, subst, sym}
+use Rattle.clap.specs.Words.{Kinds}
+use Rattle.tw_command.specs.InputWords.{refused_word}
+use Rattle.tw_command.specs.Order.{HasReason}
+use Rattle.tw_command.specs.declared.command.NoOrder.{NoOrder}
+use Rattle.tw_replies.specs.Inputs.{TellsInputWord}
+use Rattle.tw_replies.specs.declared.reply.Reply.{Reply as MadeReply}
+use Rattle.tw_session.proofs.SessionNames.{AnswersWords, IfOk-weaker, reply}
+use Rattle.tw_session.proofs.shell.unordered_reply.Goals as goal
+
+pub returns-in-InputWord : goal.returns-in-InputWord
+returns-in-InputWord c = λ kinds asked input has.
+    let refused = refused_word c.in-InputWord.number c.in-InputWord.reason.items in
+    let here = subst (λ (why : NoOrder). HasReason kinds asked why) c.in-InputWord.is has in
+    IfOk-weaker _ _ _
+    (λ (r : MadeReply) told.
+    let word = subst (λ (line : List ℕ). TellsInputWord (refused_word c.in-InputWord.number line) (reply r.text.items r.close)) c.as_slice.ensures.value told in
+    subst (λ (ks : Kinds). AnswersWords ks asked input (reply r.text.items r.close)) (sym here.0) (inr (inl (refused, here.1, word)))) c.input_word_reply.ensures
