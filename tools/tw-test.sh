@@ -1,33 +1,52 @@
-# shellcheck shell=sh
-# `./tw test`: runs the examples and tests, crates/tw_rows. The script tw reads this file.
-# shellcheck source=tools/tw-pick.sh disable=SC2154
-. "$root/tools/tw-pick.sh"
+# shellcheck shell=sh disable=SC2154
+# `./tw test [PATTERN..]`: runs the cases of cases/ by the program of crates/tw_rows. The script tw reads this file.
 
-# The cases that are run: an unverified build leaves out those whose names begin with `long_`, which CI runs.
-cases() {
-    if [ "$kind" = unverified ]; then
-        grep -v '^long_' "$rows/stdin"
-    else
-        cat "$rows/stdin"
-    fi
+test_usage() {
+    cat <<'TEXT'
+Runs the example tests, which are the cases of cases/.
+
+Usage: ./tw test [--update] [PATTERN..]
+       ./tw test --list [PATTERN..]
+
+PATTERN is a case's name, or a part of names or of a file's name: names/errors is the cases of cases/names/errors.case. With *, ? or [ it
+is the whole of a name. Without a pattern all cases are run.
+
+  --list    Lists the cases, where they are and what they are about
+  --update  Writes what came into the files of the cases that failed, for a person to read; not in CI
+
+CONTRIBUTING.md, "Cases", says how a case is written.
+TEXT
 }
 
-# Runs the cases in a copy of their data. Standard output is what it is in CI, except for the number in its last line.
+has_python() {
+    python3 -c 'import sys; sys.exit(sys.version_info < (3, 10))' 2>/dev/null
+}
+
+# Runs all cases as CI does, which needs no Python.
+run_as_in_ci() {
+    [ $# = 0 ] || { say "./tw test takes arguments only with Python 3.10 or newer"; exit 70; }
+    need_room
+    (cd "$root/crates/tw_rows/data" && exec "$program" <../stdin) >"$room/out"
+    diff "$root/crates/tw_rows/stdout" "$room/out" >"$room/diff"
+    differs=$?
+    cat "$room/diff" >&2
+    echo "$(sed -n 's/ cases as wanted$//p' "$room/out") passed, $(grep -c '^>.*: wanted ' "$room/diff") failed"
+    return "$differs"
+}
+
 test_command() {
-    [ $# = 0 ] || { say "./tw test takes no argument"; exit 2; }
-    rows=$root/crates/tw_rows
+    case $1 in
+        --help | -h) test_usage; return ;;
+        --list) exec python3 -B "$root/tools/cases.py" "$@" ;;
+        --update) ;;
+        -*) say "./tw test takes --list, --update and patterns"; exit 2 ;;
+    esac
+    # shellcheck source=tools/tw-pick.sh
+    . "$root/tools/tw-pick.sh"
     pick tw_rows
     say_kind
-    need_room
-    cp -R "$rows/data" "$room/data"
-    cases | (cd "$room/data" && ASAN_OPTIONS=detect_leaks=0 exec "$program") >"$room/out"
-    passed=$(sed -n 's/ cases as wanted$//p' "$room/out") failed=0
-    sed '$d' "$rows/stdout" >"$room/wanted"
-    sed '$d' "$room/out" | diff "$room/wanted" - >"$room/diff" || {
-        sed -n 's/^> \(.*: wanted .*\)/\1/p' "$room/diff" >&2
-        failed=$(grep -c '^>.*: wanted ' "$room/diff")
-    }
-    [ -s "$room/diff" ] || [ -z "$passed" ] && [ "$failed" = 0 ] && failed=1
-    echo "${passed:-0} passed, $failed failed"
-    [ "$failed" = 0 ]
+    if has_python; then
+        exec python3 -B "$root/tools/cases.py" --run "$program" "$kind" "$@"
+    fi
+    run_as_in_ci "$@"
 }

@@ -14,7 +14,9 @@ use crate::parts::part_text;
 use crate::programs::{decode_text, fronts_text, verify_text};
 use crate::scarce::{scarce_text, unthreaded_text};
 use crate::scarce_pools::scarce_pool_text;
-use crate::sessions::{cuts_text, phrases_text, read_input, tw_text};
+use crate::sessions::{
+    called_text, cuts_text, ends_text, errors_text, phrases_text, read_input, tw_text,
+};
 use crate::shown::shown_text;
 use crate::stops::stops_text;
 use crate::streams::stream_text;
@@ -37,12 +39,13 @@ pub fn outcome<H: AllocGlobal + Files + Threads + Wait + Clock + Sync>(
     let (kind, given) = first_field(inputs);
     let (kind, words) = kind.split_once(' ').unwrap_or((kind, ""));
     match kind {
-        "tw" | "scarce" | "cuts" => session_kind(rt, book, kind, words, given),
+        "tw" | "called" | "ends" | "scarce" | "cuts" => session_kind(rt, book, kind, words, given),
         "stream" => {
             let (streams, words) = words.split_once(' ').unwrap_or((words, ""));
             session_kind(rt, book, streams, words, given)
         }
         "phrases" => phrases_text(rt, words, given),
+        "errors" => errors_text(rt, words),
         "shown" => shown_text(rt, given),
         "layout" => layout_text(rt.alloc(), given),
         "names" => names_text(rt.alloc(), given),
@@ -68,6 +71,8 @@ fn session_kind<H: AllocGlobal + Threads + Wait + Clock + Sync>(
     let (words, input) = (words.as_slice(), input.as_slice());
     match kind {
         "tw" => tw_text(rt, words, input),
+        "called" => called_text(rt, words, input),
+        "ends" => ends_text(rt, words, input),
         "scarce" => scarce_text(rt, words, input),
         "cuts" => cuts_text(rt, words, input),
         _ => stream_text(rt, kind, words, input),

@@ -5,6 +5,7 @@
 
 mod book;
 mod bytes;
+mod calls;
 mod case;
 mod complaint;
 mod courses;

@@ -1,5 +1,6 @@
 //! Cases of bytes and programs that aren't run.
 
+use crate::calls::is_verdict;
 use crate::complaint::Complaint;
 use crate::text::Text;
 use std::alloc::Global;
@@ -41,6 +42,8 @@ pub fn decode_text(alloc: Global, bytes: &[u8]) -> Result<String, Complaint> {
         }
         Err(fault) => {
             text.display(&fault);
+            let named = (b'F', fault.no.number());
+            text.put_other(is_verdict(alloc, bytes, named, (0, 0), (0, fault.offset)));
             text.into_line()
         }
     }
@@ -71,10 +74,15 @@ pub fn verify_text(alloc: Global, bytes: &[u8]) -> Result<String, Complaint> {
     match verify(alloc, read_program(alloc, bytes)?) {
         Ok(verified) => {
             text.put("accepted");
+            let is_so = is_verdict(alloc, bytes, (0, 0), verified.needs(), (0, 0));
+            text.put_other(is_so);
             with_bytes(alloc, text, verified.program(), bytes)
         }
         Err(refused) => {
             text.display(&refused);
+            let named = (b'V', refused.no.number());
+            let at = (refused.procedure, refused.place);
+            text.put_other(is_verdict(alloc, bytes, named, (0, 0), at));
             with_bytes(alloc, text, &refused.program, bytes)
         }
     }

@@ -2,14 +2,16 @@
 
 use crate::book::Book;
 use crate::bytes::read_bytes;
+use crate::calls::is_answered;
 use crate::complaint::Complaint;
+use crate::streams::Room;
 use crate::text::Text;
 use crate::words::{read_words, unescaped};
 use std::alloc::Global;
 use std::sync::Wait;
 use std::thread::Threads;
 use std::time::Clock;
-use tw_session::{InStream, OutStream, session};
+use tw_session::{InStream, OutStream, Status, complain, session};
 use tw_workers::NoGate;
 
 /// The status and the whole text of a session with these words and this input.
@@ -23,7 +25,20 @@ pub fn tw_text<H: AllocGlobal + Threads + Wait + Clock + Sync>(
     session_text(rt.alloc(), code, written, is_unread)
 }
 
-/// The status of a session. All sessions are called here, so that the contract of `session` is read once.
+/// How a session ends. All sessions are called here, so that the contract of `session` is read once.
+fn status_of<H, R: InStream, W: OutStream>(
+    rt: &H,
+    words: &[String],
+    reader: &mut R,
+    writer: &mut W,
+) -> Status
+where
+    H: AllocGlobal + Threads + Wait + Clock + Sync,
+{
+    session(rt, &NoGate, words, reader, writer)
+}
+
+/// The status of a session.
 pub fn code_of<H, R: InStream, W: OutStream>(
     rt: &H,
     words: &[String],
@@ -33,10 +48,31 @@ pub fn code_of<H, R: InStream, W: OutStream>(
 where
     H: AllocGlobal + Threads + Wait + Clock + Sync,
 {
-    session(rt, &NoGate, words, reader, writer).code()
+    status_of(rt, words, reader, writer).code()
 }
 
-/// The status of a session, how many bytes it left unread, and what it wrote.
+/// What a session without input says on standard error, or `nothing`.
+pub fn errors_text<H: AllocGlobal + Threads + Wait + Clock + Sync>(
+    rt: &H,
+    words: &str,
+) -> Result<String, Complaint> {
+    let words = read_words(rt.alloc(), words)?;
+    let mut reader: &[u8] = &[];
+    let mut errors = Vec::new(rt.alloc());
+    let status = status_of(rt, words.as_slice(), &mut reader, &mut Room::new());
+    complain(rt.alloc(), status, words.as_slice(), &mut errors);
+    let mut text = Text::new(rt.alloc());
+    text.put_bytes(errors.as_slice());
+    if errors.is_empty() {
+        text.put("nothing");
+    }
+    text.into_line()
+}
+
+/// Stands for a status where the library answers otherwise than the session.
+const OTHERWISE: u8 = 99;
+
+/// The status of a session, how many bytes it left unread, and what it wrote. Where the library answers otherwise, that status and no text.
 pub fn ended<H: AllocGlobal + Threads + Wait + Clock + Sync>(
     rt: &H,
     words: &[String],
@@ -45,7 +81,44 @@ pub fn ended<H: AllocGlobal + Threads + Wait + Clock + Sync>(
     let mut reader = input;
     let mut writer = Vec::new(rt.alloc());
     let code = code_of(rt, words, &mut reader, &mut writer);
-    (code, reader.len(), writer)
+    let told = (code, writer.as_slice());
+    let just_enough = writer.len()..writer.len().saturating_add(1);
+    if is_answered(rt.alloc(), words, input, told, just_enough) {
+        (code, reader.len(), writer)
+    } else {
+        (OTHERWISE, reader.len(), Vec::new(rt.alloc()))
+    }
+}
+
+/// The status and the text of a session, where the library says the same with no room, with too much by a byte, and with any between.
+pub fn called_text<H: AllocGlobal + Threads + Wait + Clock + Sync>(
+    rt: &H,
+    words: &[String],
+    input: &[u8],
+) -> Result<String, Complaint> {
+    let (code, _, written) = ended(rt, words, input);
+    let told = (code, written.as_slice());
+    let sizes = 0..written.len().saturating_add(2);
+    if is_answered(rt.alloc(), words, input, told, sizes) {
+        session_text(rt.alloc(), code, written, false)
+    } else {
+        session_text(rt.alloc(), OTHERWISE, written, false)
+    }
+}
+
+/// The status of a session, and the last line of its text.
+pub fn ends_text<H: AllocGlobal + Threads + Wait + Clock + Sync>(
+    rt: &H,
+    words: &[String],
+    input: &[u8],
+) -> Result<String, Complaint> {
+    let told = tw_text(rt, words, input)?;
+    let (code, text) = told.as_str().split_once(' ').unwrap_or(("", ""));
+    let last = match text.rsplit_once(" / ") {
+        Some((_, last)) => last,
+        None => text,
+    };
+    Ok(format!(in rt.alloc(); "{code} .. {last}")?)
 }
 
 /// The status of a session without input, and which of these phrases its text lacks.

@@ -58,6 +58,13 @@ impl Text {
         self.put(if is_so { "true" } else { "false" });
     }
 
+    /// Adds that the library says something else, unless it says the same.
+    pub fn put_other(&mut self, is_same: bool) {
+        if !is_same {
+            self.put(" but the library says something else");
+        }
+    }
+
     pub fn event(&mut self, event: &Event) {
         self.is_whole &= put_event_line(self.alloc, &mut self.bytes, event).is_ok();
     }
@@ -79,6 +86,11 @@ impl Text {
     /// Memory ran out elsewhere.
     pub fn lose(&mut self) {
         self.is_whole = false;
+    }
+
+    /// What was added so far.
+    pub fn written(&self) -> &[u8] {
+        self.bytes.as_slice()
     }
 
     /// Whether it is this text.

@@ -1,0 +1,237 @@
+#!/usr/bin/env python3
+"""The cases of cases/: runs them, lists them, and makes what CI reads of them.
+
+cases.py --check                    says whether crates/tw_rows has what cases/ gives
+cases.py --make                     writes crates/tw_rows/stdin and stdout
+cases.py --compare FILE             says which cases FILE, an older stdin, has otherwise or besides
+cases.py --list [PATTERN..]         lists cases with their places
+cases.py --run PROGRAM KIND [--update] [PATTERN..]    runs cases by a program of crates/tw_rows; `./tw test` calls it
+
+A pattern is a case's name, a part of a name or of a file's (as names/errors), or has `*`, `?` or `[` and is the whole of one.
+"""
+
+from __future__ import annotations
+
+import fnmatch
+import os
+import re
+import shutil
+import sys
+from pathlib import Path
+
+sys.dont_write_bytecode = True
+from case_files import Book, Case, Fault, answer_text, lets_of, read_book, unknown_names, unused_lets
+from case_runs import Progress, Result, Runner, Times, run_all, shown_failure
+
+ROOT = Path(__file__).resolve().parent.parent
+CASES = ROOT / "cases"
+ROWS = ROOT / "crates" / "tw_rows"
+HEAD = "# Made of cases/ by tools/cases.py --make: edit those files, not this one."
+# Columns of what is shown of a failed case: at least, and where there is no terminal.
+NARROW, WIDE = 80, 160
+# Cases of this prefix take long by an unverified build.
+LONG = "long_"
+
+
+# --- What CI reads
+
+
+def stdin_of(book: Book) -> str:
+    """Returns the lines that the program of crates/tw_rows reads: each case, after the bytes that it names."""
+    lines = [HEAD]
+    done: set[str] = set()
+    topic = ""
+    for case in book.cases:
+        if case.topic != topic:
+            topic = case.topic
+            lines += ["", f"# cases/{case.path.as_posix()}"]
+        lines += [made.row for made in lets_of(book, case.given, done)]
+        lines.append(case.row)
+    return "\n".join(lines) + "\n"
+
+
+def stdout_of(book: Book) -> str:
+    """Returns what the program prints if all is as expected: each control's complaint, and the number of the other cases."""
+    controls = [case for case in book.cases if case.complaint is not None]
+    lines = [f"{case.name}: {case.complaint}" for case in controls]
+    return "\n".join([*lines, f"{len(book.cases) - len(controls)} cases as wanted"]) + "\n"
+
+
+def faults_of(book: Book) -> list[str]:
+    """Returns what is wrong with the files beyond their form."""
+    faults = [f"cases/{made.path}:{made.first}: no case names @{made.name}" for made in unused_lets(book)]
+    return faults + [f"{case.place}: no file has let {name}" for case, name in unknown_names(book)]
+
+
+def stale_files(book: Book) -> list[str]:
+    """Returns the files of crates/tw_rows that aren't what cases/ gives."""
+    made = {"stdin": stdin_of(book), "stdout": stdout_of(book)}
+    return [f"crates/tw_rows/{name}" for name, text in made.items() if not (ROWS / name).exists() or (ROWS / name).read_text(encoding="utf-8") != text]
+
+
+def check(book: Book) -> int:
+    faults = faults_of(book) + [f"{name} isn't what cases/ gives; tools/cases.py --make writes it" for name in stale_files(book)]
+    print("\n".join(faults) or f"{len(book.cases)} cases, and crates/tw_rows has them")
+    return 1 if faults else 0
+
+
+def make(book: Book) -> int:
+    (ROWS / "stdin").write_text(stdin_of(book), encoding="utf-8")
+    (ROWS / "stdout").write_text(stdout_of(book), encoding="utf-8")
+    return check(book)
+
+
+def rows_in(text: str) -> dict[str, str]:
+    """Returns the lines of a stdin by the names of their cases, or of their bytes."""
+    rows: dict[str, str] = {}
+    for line in text.split("\n"):
+        line = re.sub(r"\| +(?=\|)", "| ", line.strip())
+        if line and not line.startswith("#"):
+            rows[re.split(r" \||=", line)[0].strip()] = line
+    return rows
+
+
+def compare(book: Book, path: Path) -> int:
+    """Says which lines of another stdin cases/ has otherwise, or doesn't have, and which it has besides."""
+    old, new = rows_in(path.read_text(encoding="utf-8")), rows_in(stdin_of(book))
+    lost = [name for name in old if name not in new]
+    changed = [name for name in old if name in new and old[name] != new[name]]
+    added = [name for name in new if name not in old]
+    for word, names in (("lost", lost), ("changed", changed), ("added", added)):
+        print("\n".join(f"{word}: {name}" for name in names), end="\n" if names else "")
+    print(f"{len(old)} lines before, {len(new)} now: {len(lost)} lost, {len(changed)} changed, {len(added)} added")
+    return 1 if lost or changed else 0
+
+
+# --- Which cases
+
+
+def matches(case: Case, pattern: str) -> bool:
+    texts = (case.name, case.topic)
+    if re.search(r"[*?\[]", pattern):
+        return any(fnmatch.fnmatchcase(text, pattern) for text in texts)
+    return any(pattern in text for text in texts)
+
+
+def chosen(book: Book, patterns: list[str]) -> list[Case]:
+    """Returns the cases of the patterns; all of them if there is none. A pattern that is a case's name is this one alone."""
+    names = {case.name for case in book.cases}
+    for pattern in patterns:
+        if not any(matches(case, pattern) for case in book.cases):
+            raise SystemExit(f"tw: no case or file matches {pattern}; ./tw test --list lists them")
+    def fits(case: Case, pattern: str) -> bool:
+        return case.name == pattern if pattern in names else matches(case, pattern)
+    return [case for case in book.cases if not patterns or any(fits(case, pattern) for pattern in patterns)]
+
+
+def list_cases(cases: list[Case]) -> int:
+    for case in cases:
+        print(f"{case.name:<45} {case.place:<40} {case.words}")
+    return 0
+
+
+# --- Running
+
+
+def processors() -> int:
+    return len(os.sched_getaffinity(0)) if hasattr(os, "sched_getaffinity") else os.cpu_count() or 1
+
+
+def run_cases(book: Book, program: Path, cases: list[Case]) -> list[Result]:
+    times = Times(ROOT / "out" / "case_times")
+    progress = Progress(len(cases))
+    jobs = max(1, min(processors(), len(cases)))
+    results = run_all(cases, times, lambda: Runner(program, ROWS / "data", book), jobs, progress)
+    progress.close()
+    times.note(results)
+    times.keep()
+    order = {case.name: place for place, case in enumerate(cases)}
+    return sorted(results, key=lambda result: order[result.case.name])
+
+
+def test(book: Book, program: Path, kind: str, patterns: list[str]) -> list[Result]:
+    """Runs cases, and prints what failed and how many passed. Returns those that failed."""
+    cases = chosen(book, patterns)
+    if kind == "unverified":
+        left_out = [case for case in cases if case.name.startswith(LONG) and case.name not in patterns]
+        if left_out:
+            print(f"tw: {len(left_out)} cases take long by an unverified build, and are left out: {LONG}*", file=sys.stderr)
+        cases = [case for case in cases if case not in left_out]
+    results = run_cases(book, program, cases)
+    failed = [result for result in results if not result.is_expected]
+    width = max(NARROW, shutil.get_terminal_size((WIDE, 0)).columns)
+    for result in failed:
+        print(shown_failure(result, width))
+    controls = sum(result.case.complaint is not None and result.is_expected for result in results)
+    passed = len(results) - len(failed) - (controls if len(results) > controls else 0)
+    print(f"{passed} passed, {len(failed)} failed")
+    return failed
+
+
+def update(failed: list[Result]) -> int:
+    """Writes what came into the files of the cases that failed."""
+    done = 0
+    for result in sorted(failed, key=lambda each: each.case.first, reverse=True):
+        if result.got is None or result.case.complaint is not None:
+            print(f"tw: {result.case.place}: {result.case.name} has no output to write")
+            continue
+        write_answer(result.case, result.got)
+        done += 1
+    print(f"tw: {done} cases have what came as their expected output now. Read `git diff cases`: what is expected comes from the")
+    print("tw: format, the rules or arithmetic, and never from what the program printed. Then tools/cases.py --make")
+    return 0 if done == len(failed) else 1
+
+
+def write_answer(case: Case, got: str) -> None:
+    """Writes another expected output into a case's file."""
+    path = CASES / case.path
+    lines = path.read_text(encoding="utf-8").split("\n")
+    if case.answer is None:
+        row = lines[case.first - 1]
+        lines[case.first - 1] = f"{row[:row.rindex('|')]}| {got}"
+    else:
+        first, last = case.answer
+        lines[first - 1:last] = answer_text(case.kind, got)
+    path.write_text("\n".join(lines), encoding="utf-8")
+
+
+def run_command(book: Book, words: list[str]) -> int:
+    program, kind, *rest = words
+    is_update = "--update" in rest
+    patterns = [word for word in rest if word != "--update"]
+    if is_update and (os.environ.get("CI") or not patterns):
+        print("tw: --update takes the cases that it may write, and is refused in CI", file=sys.stderr)
+        return 2
+    failed = test(book, Path(program), kind, patterns)
+    if is_update and failed:
+        return update(failed)
+    if stale_files(book):
+        print("tw: CI doesn't have these cases yet; tools/cases.py --make writes them for it", file=sys.stderr)
+    return 1 if failed else 0
+
+
+def command(words: list[str]) -> int:
+    book = read_book(CASES)
+    match words:
+        case ["--check"]:
+            return check(book)
+        case ["--make"]:
+            return make(book)
+        case ["--compare", path]:
+            return compare(book, Path(path))
+        case ["--list", *patterns]:
+            return list_cases(chosen(book, patterns))
+        case ["--run", _, _, *_]:
+            return run_command(book, words[1:])
+        case _:
+            print(__doc__, file=sys.stderr)
+            return 2
+
+
+if __name__ == "__main__":
+    try:
+        sys.exit(command(sys.argv[1:]))
+    except Fault as fault:
+        sys.exit(f"tw: {fault}")
+    except BrokenPipeError:
+        sys.exit(1)
