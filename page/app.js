@@ -1,4 +1,5 @@
 // @ts-check
+// SPDX-License-Identifier: Apache-2.0
 // Connects the parts of the page: checks the text as it is typed, runs it, and saves it.
 import {mostEvents} from "./bounds.js";
 import {$, download, h} from "./dom.js";

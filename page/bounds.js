@@ -1,4 +1,5 @@
 // @ts-check
+// SPDX-License-Identifier: Apache-2.0
 // Bounds the events of a run of an accepted program: its dearest walk, where RULE and PUT cost what they start too.
 
 /** @typedef {import("./program.js").Procedure} Procedure */

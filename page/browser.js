@@ -1,4 +1,5 @@
-// Drives a Chromium without a screen over its pipe: opens a page, evaluates what is asked there, and takes pictures.
+// SPDX-License-Identifier: Apache-2.0
+// Drives a Chromium without a screen over its pipe: opens a page, evaluates what is asked there, and takes screenshots.
 import {spawn} from 'node:child_process';
 import fs from 'node:fs';
 import os from 'node:os';

@@ -1,13 +1,14 @@
 #!/bin/sh
+# SPDX-License-Identifier: Apache-2.0
 # Makes out/index.html, a page in one file: the proved library tw_embed as a WebAssembly module, the examples, and the page's
 # script and style.
 #
 #   page/build.sh             builds the library first
 #   page/build.sh MODULE.bc   uses this module of the library
 #
-# The module is the library's own, as rattle handed it to its clang (tools/library.py keeps it), retargeted from x86-64 to wasm64, whose pointers, sizes and
-# alignments are the same (retarget.py), with a heap (heap.c), 128-bit arithmetic (wide.c) and rattle's three functions over malloc
-# (glue.ll). Then its memory is made 32 bits wide, which browsers have had for longer (narrow.py). No proof covers these, nor that the module
+# The module is the library's own, as rattle passed it to its clang (tools/library.py keeps it). It is retargeted from x86-64 to wasm64, whose pointers,
+# sizes and alignments are the same (retarget.py). A heap (heap.c), 128-bit arithmetic (wide.c) and rattle's three functions over malloc
+# (glue.ll) are added. Then its memory is made 32 bits wide, which browsers have had for longer (narrow.py). No proof covers these, nor that the module
 # means there what it means as a program.
 set -e
 here=$(dirname "$(readlink -f "$0")")

@@ -1,4 +1,5 @@
 // @ts-check
+// SPDX-License-Identifier: Apache-2.0
 // Makes and finds elements.
 
 /** Returns the element of this id.

@@ -1,4 +1,5 @@
 // @ts-check
+// SPDX-License-Identifier: Apache-2.0
 // The editor: a plain text field, its lines in colours beneath it, and the line numbers beside it. The field is the browser's own:
 // undo, selection, touch and screen readers work as everywhere. Just the lines in sight are painted.
 import {h} from "./dom.js";

@@ -1,4 +1,5 @@
 // @ts-check
+// SPDX-License-Identifier: Apache-2.0
 // The fields above Run: an input for each that main asks for, and how many actors there are.
 import {$, h} from "./dom.js";
 import {inputFault} from "./values.js";

@@ -1,5 +1,6 @@
+/* SPDX-License-Identifier: Apache-2.0 */
 // A heap for wasm64: blocks in classes of sizes (multiples of 16 up to 1 KiB, then four steps a doubling), a list of free ones for each, and
-// memory that grows. Before each block stand 16 bytes with its class; each is aligned to 16, as rattle asks at most.
+// memory that grows. Before each block there are 16 bytes with its class; each is aligned to 16, as rattle asks at most.
 typedef unsigned long u64;
 typedef unsigned char u8;
 
@@ -19,7 +20,7 @@ static u64 class_of(u64 bytes) {
     return 64 + doubling * 4 + (bytes - base - 1) / (base / 4);
 }
 
-// So many bytes from the end of the memory that is used; null where it can't grow.
+// Takes so many bytes after the memory that is used; returns null if it can't grow.
 static u8 *more(u64 bytes) {
     if (!at) {
         at = ((u64)&__heap_base + 15) & ~15ul;

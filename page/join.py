@@ -1,3 +1,4 @@
+# SPDX-License-Identifier: Apache-2.0
 """Writes the page as one file: join.py FOLDER EXAMPLES GRAMMAR WASM, with the folder page/, examples/, tools/tw.vim and the module."""
 import base64
 import gzip

@@ -1,4 +1,5 @@
 // @ts-check
+// SPDX-License-Identifier: Apache-2.0
 // Calls the library in a worker (worker.js), so that a long run can be stopped.
 
 /** A reply: the exit status, the text and the time it took; or the browser's error.

@@ -1,3 +1,4 @@
+// SPDX-License-Identifier: Apache-2.0
 // Compares the page's machine with the library: machine_test.js MODULE.wasm PAGE_FOLDER EXAMPLES. Each example runs with its own layout and with
 // others, and every prefix of its events must lead to the report that the library's replay writes. It ends with `N passed, 0 failed`.
 import fs from "node:fs";
@@ -6,7 +7,7 @@ import {report, copyOf, step} from "./machine.js";
 import {decode} from "./program.js";
 import {readPlaces, readTrace, readVerdict} from "./replies.js";
 import {Run} from "./run.js";
-import {namings, scan} from "./source.js";
+import {namings, scan, wordsOf} from "./source.js";
 import {inputFault, readInput} from "./values.js";
 
 const [module, folder, examplesFolder] = process.argv.slice(2);
@@ -37,6 +38,7 @@ async function compare(name, text, words, [engines, servers, workers]) {
     const run = await new Run({program, source, names, inputs: words.map(readInput), engines, servers, workers, events}).follow();
     const state = copyOf(run.kept[0]);
     for (let k = 0; k <= events.length; k++) {
+        if (k) delivered(name, state, events[k - 1]);
         if (k) step(state, program, events[k - 1]);
         const wanted = session(["replay", "--text", ...options, ...words], `${text}\nevents\n${events.slice(0, k).join("\n")}\nend\n`).text;
         say(report(state) === plain(wanted), name, "event", k, JSON.stringify(report(state)), JSON.stringify(wanted));
@@ -48,6 +50,7 @@ async function compare(name, text, words, [engines, servers, workers]) {
     say(verdict.budgets.every(({budget, procedure}) => dearestWalk(program[procedure].code, () => 1n) === BigInt(budget)), name, "other budgets", verdict.budgets);
     say(events.length <= Number(mostEvents(program)), name, "more events than bounded", events.length, mostEvents(program));
     heldRights(name, run, places);
+    if (report(state).endsWith("quiet\n")) left(name, state);
 }
 
 // Checks the bounds of a run that can be counted by hand, and of one without a bound.
@@ -68,13 +71,32 @@ function heldRights(name, run, places) {
         }
 }
 
-// Programs with what no example has: texts that aren't ASCII, a freed container with members, targets, priorities and a stored register.
+// Checks that a notice is delivered by the server that has it.
+function delivered(name, state, event) {
+    const [kind, actor, ...numbers] = event.split(" "), [datum, rule, param] = numbers.map(Number);
+    if (kind !== "deliver") return;
+    const notice = state.notices.find(it => it.datum === datum && it.rule === rule && it.param === param);
+    say(notice && `s${notice.server}` === actor, name, event, "is a notice of another server", notice);
+}
+
+// Checks that at the end of a run that is quiet only outputs and their members are left, for which nothing waits: all other data are freed.
+function left(name, state) {
+    const kept = new Set(state.outputs), live = [...state.data.values()];
+    for (const datum of live) if (kept.has(datum.id)) for (const id of datum.members?.values() ?? []) kept.add(id);
+    say(live.every(({id, waiters}) => kept.has(id) && !waiters.length), name, "data that nobody can use", live.map(({id}) => id), [...kept]);
+}
+
+// Programs with what no example has: texts that aren't ASCII, a freed container with members, numbers that READI doesn't take, priorities,
+// a stored register, and (of two workers) a better task for another worker.
 const MORE = [
     ["texts", 'version 2\nproc control write tcont text write text write int\nregs text text int\nTEXT v0 "\\x41é\\n\\"\\\\"\nTEXT v1 "ﬀ😀"\nNEW d3 d4 text\nSTORE d3 v0\nTINS d0 v1 d4 a\nJMP b\na:\nDROPR d4\nb:\nNEW d3 d4 text\nSTORE d3 v1\nTINS d0 v0 d4 c\nJMP d\nc:\nDROPR d4\nd:\nCAT v0 v0 v1 e\ne:\nLEN v2 v0\nDROPW d0\nSTORE d1 v0\nSTORE d2 v2\nRET\n', []],
     ["freed", "proc control write int\nregs int\nNEW d1 d2 cont int\nNEW d3 d4 int\nSTORE d3 v0\nINS d1 v0 d4 a\nJMP b\na:\nDROPR d4\nb:\nDROPW d1\nDROPR d2\nNEW d1 d2 int\nDROPR d2\nSTORE d1 v0\nSTORE d0 v0\nRET\n", []],
     ["arithmetic", "proc control write int\nregs int int int\nINT v0 -9\nINT v1 4\nDIV v2 v0 v1 a\na:\nREM v2 v0 v1 b\nb:\nINT v1 9223372036854775807\nADD v2 v1 v1 c\nMUL v2 v1 v1 c\nSUB v2 v0 v1 c\nINT v2 5\nc:\nREPEAT 3\nADD v2 v2 v0 d\nd:\nREPEAT 2\nJLT v2 v0 e\nADD v2 v2 v2 e\ne:\nEND\nEND\nSTORE d0 v2\nRET\n", []],
     ["priorities", "proc control write int write int write int\nregs int\nPUT 1 -1 any 0\nPUT 1 5 any 1\nPUT 1 5 0 2\nRET\nproc leaf write int\nregs int\nSTORE d0 v0\nRET\n", []],
+    ["subscripts", 'version 2\nproc control write tcont int\nregs text int\nTEXT v0 "b\\x1f"\nNEW d1 d2 int\nSTORE d1 v1\nTINS d0 v0 d2 a\nJMP b\na:\nDROPR d2\nb:\nTEXT v0 "aa"\nNEW d1 d2 int\nSTORE d1 v1\nTINS d0 v0 d2 c\nJMP d\nc:\nDROPR d2\nd:\nDROPW d0\nRET\n', []],
+    ["numbers", 'proc control write int\nregs int text\nINT v0 3\nTEXT v1 "007"\nREADI v0 v1 a\nINT v0 8\na:\nTEXT v1 "-0"\nREADI v0 v1 b\nINT v0 9\nb:\nSTORE d0 v0\nRET\n', []],
 ];
+const FOR_TWO = "proc control write int write int\nregs\nPUT 1 0 any\nPUT 1 0 any\nPUT 2 9 1 0\nPUT 2 0 any 1\nRET\nproc leaf\nregs\nREPEAT 5\nNEW d0 d1 cont int\nDROPW d0\nDROPR d1\nEND\nRET\nproc leaf write int\nregs int\nSTORE d0 v0\nRET\n";
 
 // Checks that the page and the program accept the same input words.
 function words() {
@@ -85,6 +107,13 @@ function words() {
     }
 }
 
+// Checks that the words of a comment are none of the text's.
+function comments() {
+    const source = scan('proc control ; main\nregs ; n: int\nTEXT v0 "a;b" ; c\n; RET\nRET\n');
+    say(source.names[0] === "" && String(source.places[0]) === "2,4", "a text with comments", source.names, source.places);
+    say(String(wordsOf(source.text[2]).map(({word}) => word)) === 'TEXT,v0,"a;b"', "words", wordsOf(source.text[2]));
+}
+
 const groups = JSON.parse(fs.readFileSync(`${folder}/examples.json`, "utf8"));
 for (const it of groups.flatMap(group => group.examples)) {
     if (it.ends.startsWith("refused")) continue;
@@ -92,7 +121,9 @@ for (const it of groups.flatMap(group => group.examples)) {
         for (const layout of [[it.engines ?? 1, it.servers ?? 1, it.workers ?? 1], [2, 2, 3], [4, 3, 16]]) await compare(path, fs.readFileSync(path, "utf8"), it.inputs ?? [], layout);
 }
 for (const [name, text, inputs] of MORE) for (const layout of [[1, 1, 1], [2, 2, 2]]) await compare(name, text, inputs, layout);
+await compare("targets", FOR_TWO, [], [1, 1, 2]);
 words();
+comments();
 bounds();
 console.log(`${passed} passed, ${failed} failed`);
 process.exitCode = failed ? 1 : 0;

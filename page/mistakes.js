@@ -1,4 +1,5 @@
 // @ts-check
+// SPDX-License-Identifier: Apache-2.0
 // Mistakes to plant in a program. Each offers edits; the page takes the first that the verifier refuses by the expected rule.
 import {scan, uncommented, wordsOf} from "./source.js";
 

@@ -1,4 +1,5 @@
 // @ts-check
+// SPDX-License-Identifier: Apache-2.0
 // Describes a step: its event in a sentence, and the state after it in rows.
 import {isClosed, lines, standing, subscripts} from "./machine.js";
 import {callName, nameAt, uncommented} from "./source.js";

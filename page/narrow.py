@@ -1,3 +1,4 @@
+# SPDX-License-Identifier: Apache-2.0
 """Makes a wasm64 module one with 32-bit memory, which every browser of today has: narrow.py <WIDE >NARROW.
 
 Addresses stay 64 bits wide in registers, globals and memory, so nothing that the module computes changes. If an instruction

@@ -1,5 +1,6 @@
-// Uses what narrow.py changes: loads and stores of all sizes, calls through a table, copies and fills of memory, and its growth. test.js compares
-// what the wide module computes with what the narrowed one does.
+/* SPDX-License-Identifier: Apache-2.0 */
+// Uses what narrow.py changes: loads and stores of all sizes, calls through a table, copies and fills of memory, and its growth.
+// The results of the wide and the narrowed module are compared by test.js.
 typedef unsigned long u64;
 
 static u64 triple(u64 k) { return k * 3; }

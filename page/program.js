@@ -1,4 +1,5 @@
 // @ts-check
+// SPDX-License-Identifier: Apache-2.0
 // A program out of its bytes, as docs/BYTES.md writes them. The library assembles the text; nothing is refused here.
 
 /** @typedef {import("./values.js").Type} Type */

@@ -1,4 +1,5 @@
 // @ts-check
+// SPDX-License-Identifier: Apache-2.0
 // Parses the library's replies, which docs/FORMAT.md describes.
 import {wordsOf} from "./source.js";
 

@@ -1,3 +1,4 @@
+# SPDX-License-Identifier: Apache-2.0
 """Turns rattle's LLVM module for x86-64 into one for wasm64: both have 64-bit pointers, and the same sizes and alignments."""
 import re
 import sys

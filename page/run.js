@@ -1,4 +1,5 @@
 // @ts-check
+// SPDX-License-Identifier: Apache-2.0
 // A finished run: its events, their effects, and the state after each.
 import {copyOf, open, step, TooLong} from "./machine.js";
 import {nameAt} from "./source.js";

@@ -1,5 +1,6 @@
 #!/bin/sh
-# Shrinks the pictures that page/test.sh keeps to those that README.md shows. Needs pngquant.
+# SPDX-License-Identifier: Apache-2.0
+# Shrinks the screenshots that page/test.sh keeps to those that README.md shows. Needs pngquant.
 here=$(dirname "$(readlink -f "$0")")
 mkdir -p "$here/screens"
 for name in start step refusal break phone dark; do

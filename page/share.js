@@ -1,4 +1,5 @@
 // @ts-check
+// SPDX-License-Identifier: Apache-2.0
 // Saves the page's contents in the address and in the browser's storage.
 
 /** The page's contents: text, inputs, layout (engines, servers, workers, limit), event, and the example's name if the text is unchanged.
@@ -51,7 +52,7 @@ export async function keep(kept) {
     try {
         localStorage.setItem(KEY, letters);
     } catch {
-        // The storage is full or shut: the address has it.
+        // The storage is full or blocked: the address has it.
     }
     return fits;
 }

@@ -1,4 +1,5 @@
 // @ts-check
+// SPDX-License-Identifier: Apache-2.0
 // Reads a text without judging it: which line is which instruction, its names and its colours.
 
 /** A line: a procedure's head, an instruction, or something else.

@@ -1,5 +1,6 @@
 // @ts-check
-// Steps through a run: plays it, goes forward and back, and shows each event in the program, the state and the timeline.
+// SPDX-License-Identifier: Apache-2.0
+// Steps through a run: plays it, moves forward and back, and shows each event in the program, the state and the timeline.
 import {$, h} from "./dom.js";
 import {actorName, dataName, sentence, viewOf} from "./model.js";
 import {show} from "./view.js";

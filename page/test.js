@@ -1,3 +1,4 @@
+// SPDX-License-Identifier: Apache-2.0
 // Uses the page in Chromium as a reader would, looks at what a reader sees, and compares it with the program tw:
 // test.js INDEX.html TW EXAMPLES PICTURES [WIDE.wasm NARROW.wasm]; with ONLY=steps,tour in the environment just these parts
 import {spawnSync} from "node:child_process";
@@ -13,7 +14,7 @@ let passed = 0, failed = 0;
 const say = (is, ...what) => { if (is) passed++; else { failed++; console.log("FAILED", ...what); } };
 const native = (words, input) => { const ran = spawnSync(tw, words, {input, maxBuffer: 1 << 28}); return {status: ran.status, text: ran.stdout.toString()}; };
 
-// What a reader does and sees.
+// The actions of a reader, and what is seen.
 class Reader {
     constructor(page) { this.page = page; }
     js(text) { return this.page.evaluate(text); }
@@ -45,12 +46,12 @@ class Reader {
     async scheme(value) { await this.page.ask("Emulation.setEmulatedMedia", {features: [{name: "prefers-color-scheme", value}]}); return this.pause(); }
     async go(to) { await this.page.ask("Page.navigate", {url: "about:blank"}); await this.page.ask("Page.navigate", {url: to}); await this.page.until('document.body?.dataset.state === "ready"', 60000); }
     async forget() { await this.js("localStorage.clear()"); await this.go(address); }
-    // Goes to an event by the slider.
+    // Moves to an event by the slider.
     async event(number) { await this.js(`(() => { const it = document.getElementById("step"); it.value = ${number}; it.dispatchEvent(new Event("input")); })()`); return this.pause(); }
     async shot(name, whole = false) { if (pictures) fs.writeFileSync(`${pictures}/${name}.png`, Buffer.from((await this.page.ask("Page.captureScreenshot", {format: "png", captureBeyondViewport: whole})).data, "base64")); }
 }
 
-// The options and inputs that stand in the fields.
+// The options and inputs of the fields.
 async function fieldWords(reader) {
     const inputs = await reader.js('[...document.querySelectorAll("#inputs input")].map(it => it.dataset.prefix + it.value)'), options = [];
     for (const actor of ["engines", "servers", "workers"]) options.push("--" + actor, await reader.value(actor));
@@ -142,7 +143,7 @@ async function steps(reader) {
     say(names, "lane names lie in the picture");
 }
 
-// As one types: the fault is underlined with its message, the rights of the line are told, and budgets stand beside the heads.
+// As one types: the fault is underlined with its message, the rights of the line are shown, and budgets are next to the heads.
 async function typing(reader) {
     await reader.forget();
     const text = await reader.value("text");
@@ -238,7 +239,7 @@ async function mistakes(reader) {
     }
 }
 
-// The tour has five steps, goes by keyboard, and can be left.
+// The tour has five steps, works by keyboard, and can be left.
 async function tour(reader) {
     await reader.forget();
     await reader.click("#tour");
@@ -270,7 +271,7 @@ async function downloads(reader) {
     fs.rmSync(room, {recursive: true, force: true});
 }
 
-// What takes long can be stopped; what is long is shown.
+// Long checks can be stopped; long texts are shown.
 async function long(reader) {
     await reader.forget();
     await reader.write("text", "proc control write int\nregs int\nREPEAT 1000\nREPEAT 1000\nREPEAT 300\nINT v0 1\nEND\nEND\nEND\nSTORE d0 v0\nRET\n");
@@ -318,7 +319,7 @@ async function everywhere(reader) {
     await reader.size(1300);
 }
 
-// Of each text that is seen the ratio of its colour to that behind it; those below 4.5 are returned.
+// Returns the visible texts whose contrast with their background is below 4.5.
 const CONTRAST = `(() => {
     const rgb = text => (text.match(/[\\d.]+/g) ?? []).map(Number), shine = ([r, g, b]) => [r, g, b].map(c => c / 255).map(c => c <= 0.03928 ? c / 12.92 : ((c + 0.055) / 1.055) ** 2.4).reduce((sum, c, k) => sum + c * [0.2126, 0.7152, 0.0722][k], 0);
     const behind = it => { for (; it; it = it.parentElement) { const color = rgb(getComputedStyle(it).backgroundColor); if (color.length === 3 || color[3] > 0.9) return color; } return [255, 255, 255]; };
@@ -331,7 +332,7 @@ const CONTRAST = `(() => {
     return [...wrong];
 })()`;
 
-// A browser without WebAssembly is told what to do, with a picture.
+// A browser without WebAssembly gets advice, with a screenshot.
 async function old(reader) {
     const {identifier} = await reader.page.ask("Page.addScriptToEvaluateOnNewDocument", {source: "delete window.WebAssembly;"});
     await reader.page.ask("Page.navigate", {url: "about:blank"}); await reader.page.ask("Page.navigate", {url: address});
@@ -349,7 +350,7 @@ async function narrowed(reader) {
     say(results[0] === results[1] && results[0].length > 3, "the narrowed module differs", results);
 }
 
-// Pictures to be looked at, and for README.md.
+// Takes screenshots to look at, and for README.md.
 async function screens(reader) {
     if (!pictures) return;
     fs.mkdirSync(pictures, {recursive: true});

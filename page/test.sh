@@ -1,9 +1,10 @@
 #!/bin/sh
-# Makes the page, and tries it: its types, where TypeScript's tsc is there; the 128-bit arithmetic with the machine's own; its machine with the
-# library's replay, for each beginning of the runs of all examples; and the page in headless Chromium as a reader would use it, with what the
-# program tw answers. Each part ends with `N passed, 0 failed`.
+# SPDX-License-Identifier: Apache-2.0
+# Makes the page, and tests it: its types, if TypeScript's tsc is there; the 128-bit arithmetic against the machine's own; its machine against the
+# library's replay, for each prefix of the runs of all examples. The page itself is used in headless Chromium like by a reader, and compared with
+# the program tw. Each part ends with `N passed, 0 failed`.
 #
-#   page/test.sh             builds program and page first, and puts pictures of the page into page/out/pictures
+#   page/test.sh             builds program and page first, and puts screenshots into `page/out/pictures`
 #   page/test.sh PROGRAM     takes that program tw, and the page that is built
 #
 # Needs chromium, node 20 and a C compiler.

@@ -1,5 +1,6 @@
 // @ts-check
-// Draws the events as marks in a lane for each actor. Just what is in sight is drawn, so a million events take no longer than fifty.
+// SPDX-License-Identifier: Apache-2.0
+// Draws the events as markers in a row for each actor. Only what is in sight is drawn, so a million events take no longer than fifty.
 import {h, s} from "./dom.js";
 import {actorName, sentence} from "./model.js";
 import {callName} from "./source.js";

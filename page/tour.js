@@ -1,4 +1,5 @@
 // @ts-check
+// SPDX-License-Identifier: Apache-2.0
 // A tour of five steps. It doesn't block the page, and Escape or a button leaves it.
 import {h} from "./dom.js";
 

@@ -1,3 +1,4 @@
+// SPDX-License-Identifier: Apache-2.0
 // What the browser has and Debian's TypeScript doesn't know yet.
 declare class CompressionStream implements GenericTransformStream {
     constructor(format: string);

@@ -1,4 +1,5 @@
 // @ts-check
+// SPDX-License-Identifier: Apache-2.0
 // Types, values and input words, as docs/FORMAT.md and docs/MACHINE.md define them.
 
 /** A type as its words: `int`, `text`, or `cont` or `tcont` before a type.

@@ -1,4 +1,5 @@
 // @ts-check
+// SPDX-License-Identifier: Apache-2.0
 // Shows the state after an event: running tasks, waiting rules and tasks, and data.
 import {h} from "./dom.js";
 import {actorName, compared} from "./model.js";

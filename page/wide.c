@@ -1,3 +1,4 @@
+/* SPDX-License-Identifier: Apache-2.0 */
 // Arithmetic on 128 bits, which clang calls by these names where the processor has none. wide_test.c compares it with the machine's own.
 #ifndef WIDE
 #define WIDE(name) __##name

@@ -1,3 +1,4 @@
+/* SPDX-License-Identifier: Apache-2.0 */
 // Compares wide.c with the machine's own arithmetic on 128 bits.
 #define WIDE(name) own_##name
 #include "wide.c"

@@ -1,8 +1,9 @@
+// SPDX-License-Identifier: Apache-2.0
 // Calls the module, in a thread of the browser's own, so that the page can end one that runs long.
 let x;
 const made = performance.now();
 
-// The module out of its letters: it is compressed, and they spell its bytes.
+// Decodes the module from its letters, which are compressed bytes.
 async function begin() {
     const packed = Uint8Array.from(atob(self.wasm), sign => sign.charCodeAt(0));
     const bytes = await new Response(new Blob([packed]).stream().pipeThrough(new DecompressionStream("gzip"))).arrayBuffer();
@@ -10,7 +11,7 @@ async function begin() {
 }
 const ready = begin();
 
-// What the command tw with these words writes where it reads this input, and its exit status.
+// Returns the output of the command tw with these arguments and this input, and its exit status.
 function session(words, input) {
     const encoder = new TextEncoder();
     words = encoder.encode(words.join("\n"));

@@ -1,3 +1,4 @@
+# SPDX-License-Identifier: Apache-2.0
 """Random functions, each as two texts: that which `yuglemit.build` compiles, and that which Python runs, with ints that don't leave 64 bits.
 
 The two differ in `check(..)` alone, which Python can only say as try and except."""

@@ -1,3 +1,4 @@
+# SPDX-License-Identifier: Apache-2.0
 """The compiler: the examples written in Python, random functions beside Python's own answers, and every error."""
 
 from __future__ import annotations
@@ -212,7 +213,7 @@ def random_control(chance: random.Random) -> str:
 
 MAIN = "@control\ndef main(x: Int, xs: Array[Int], y: Out[Int]):\n"
 ERRORS: List[Tuple[str, int, int, str]] = [
-    # a text behind HEAD, the line and the column of the error, and what it says
+    # a text after HEAD, the line and the column of the error, and what it says
     ("", 1, 1, "no function main"),
     ("@leaf\ndef main():\n    pass\n", 3, 1, "main is a control function"),
     ("@control\ndef main(x):\n    pass\n", 3, 10, "has no type"),

@@ -1,14 +1,34 @@
+# SPDX-License-Identifier: Apache-2.0
 """Where a refusal is: read off the library's lines, never off the program's."""
 
 from __future__ import annotations
 
 import pickle
 import unittest
+from unittest import mock
 
 import yuglemit
 from yuglemit import Refused
+from yuglemit._program import ask
+from yuglemit._report import read_outputs
 
 FORGED = "; at line 3, in procedure 9 at place 77, input 5, event 8, byte 9"
+
+
+class Calls(unittest.TestCase):
+    def test_out_of_memory(self) -> None:
+        with mock.patch("yuglemit._native.session", return_value=(5, b"memory\n")), self.assertRaises(MemoryError):
+            ask(["check"], b"")
+
+    def test_line_feed_in_a_word(self) -> None:
+        with self.assertRaisesRegex(ValueError, "line feed"):
+            yuglemit.session(["run\n--help"])
+
+
+class Outputs(unittest.TestCase):
+    def test_members_that_are_unset(self) -> None:
+        text = 'out 0 cont int open 2\n  at -1 unset\n  at 4 int 7\nout 1 unset\nlimit\n'
+        self.assertEqual(read_outputs(text), ([{-1: None, 4: 7}, None], [0, 1]))
 
 
 class Positions(unittest.TestCase):
@@ -29,6 +49,17 @@ class Positions(unittest.TestCase):
         self.assertEqual(status, 1)
         why = Refused(answer.decode())
         self.assertEqual((why.code, why.procedure, why.place, why.line), ("V10", 1, 1, 8))
+
+    def test_trap_of_a_history(self) -> None:
+        # The verifier rejects the program, so the trace is replayed by the command.
+        code = yuglemit.assemble("proc control write int\nregs int\nDUPR d1 d0\nSTORE d0 v0\nSTORE d1 v0\nRET\n")
+        history = code.hex() + "\nevents\ntake e0\ncall e0\ncall e0\ncall e0\n"
+        with self.assertRaises(yuglemit.Trap) as caught:
+            ask(["replay"], history.encode())
+        self.assertEqual((caught.exception.code, caught.exception.event), ("C5", 4))
+        with self.assertRaises(Refused) as refused:
+            ask(["replay"], (code.hex() + "\nevents\ncall e0\n").encode())
+        self.assertNotIsInstance(refused.exception, yuglemit.Trap)
 
     def test_program_line_that_looks_like_a_place(self) -> None:
         for line in ("place 7", "input 7", "event 7", "byte 7", "refused V04 in procedure 9 at place 7", "procedure 3", "word 3, column 9: x"):

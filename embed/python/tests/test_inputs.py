@@ -1,3 +1,4 @@
+# SPDX-License-Identifier: Apache-2.0
 """Inputs are Python values; none is an option, and what can't be an input says so."""
 
 from __future__ import annotations
@@ -74,8 +75,9 @@ class Values(unittest.TestCase):
         with self.assertRaisesRegex(ValueError, "input 1: 1001 members"):
             yuglemit.load(sized("cont int")).run(dict.fromkeys(range(1001), 0))
         self.assertEqual(yuglemit.load(sized("cont int")).run(dict.fromkeys(range(1000), 0)).outputs, [1000])
-        with self.assertRaisesRegex(ValueError, "4097 bytes"):
-            yuglemit.load(same("closed", "text")).run("x" * 4097)
+        for text in ("x" * 4097, "é" * 2048 + "x"):
+            with self.assertRaisesRegex(ValueError, "4097 bytes"):
+                yuglemit.load(same("closed", "text")).run(text)
         self.assertEqual(yuglemit.load(same("closed", "text")).run("é" * 2048).outputs, ["é" * 2048])
         with self.assertRaisesRegex(ValueError, "no UTF-8"):
             yuglemit.load(same("closed", "text")).run("\ud800")

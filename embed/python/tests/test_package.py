@@ -1,3 +1,4 @@
+# SPDX-License-Identifier: Apache-2.0
 """The package: its version, its types, its documented examples."""
 
 from __future__ import annotations

@@ -1,3 +1,4 @@
+# SPDX-License-Identifier: Apache-2.0
 """Programs and reports."""
 
 from __future__ import annotations
@@ -64,8 +65,9 @@ class Programs(unittest.TestCase):
         self.assertEqual([str(it) for it in program.parameters], ["numbers: cont int"])
         self.assertEqual(program.needs, (0, 0))
         self.assertEqual(yuglemit.load(EXAMPLES / "for_one_worker.twn").needs, (0, 2))
-        # main, eight squares, one reduce with eight adds and a copy
-        self.assertEqual(program.bounds.tasks, 19)
+        # main, eight squares, one reduce with eight adds and a copy; by hand as in examples/sessions.txt
+        bounds = program.bounds
+        self.assertEqual((bounds.tasks, bounds.instructions, bounds.data, bounds.rules, bounds.events), (19, 275, 18, 18, 364))
         self.assertEqual(program.bounds.greatest, max(it.budget for it in program.procedures))
 
     def test_bounds_hold(self) -> None:

@@ -1,0 +1,254 @@
+#!/usr/bin/env python3
+"""Makes edits of what no contract holds, one after another, in a copy of the repository: the script tw, its tools, the page's JavaScript and
+the Python package. The tests of the edited part have to fail. Prints a line for each mutant and ends with `N killed, M survive`. It fails if
+a mutant survives that isn't said to be harmless, if one is killed that is, or if the tests fail without an edit.
+
+    tools/mutants.py                  all of them, in some ten minutes
+    tools/mutants.py NAME..           these, or those of a part: script, release, cases, python, page
+    tools/mutants.py --list           their names
+    tools/mutants.py --table NAME..   prints a table of Markdown at the end
+
+Programs and library are the release's, unpacked, or those that are built; the page's tests need node.
+"""
+
+from __future__ import annotations
+
+import base64
+import gzip
+import os
+import re
+import shutil
+import signal
+import subprocess
+import sys
+import tempfile
+from dataclasses import dataclass
+from pathlib import Path
+
+ROOT = Path(__file__).resolve().parent.parent
+SECONDS = 300
+
+# The command that tests each part, its quick tests first. @LIBRARY@ and @MODULE@ are the library and the page's module.
+TESTS = {
+    "script": "tools/shown.sh",
+    "release": "python3 -B tools/test_release.py -f",
+    "cases": "python3 -B tools/test_cases.py -f",
+    "python": "export PYTHONPATH=$PWD/embed/python YUGLEMIT_LIBRARY=@LIBRARY@ && cd embed/python/tests && "
+    "python3 -B -m unittest -f test_inputs test_errors test_map test_program && python3 -B -m unittest discover -f -p 'test_*.py'",
+    "page": "node page/machine_test.js @MODULE@ page examples",
+}
+
+
+@dataclass(frozen=True)
+class Mutant:
+    """An edit: a text that a file has once, and what replaces it. `harmless` says why tests needn't notice it."""
+
+    name: str
+    part: str
+    file: str
+    old: str
+    new: str
+    harmless: str = ""
+
+
+FRONT, PICK, SOURCES = "tools/tw-front.sh", "tools/tw-pick.sh", "tools/tw-sources.sh"
+FILES, RUNS, CASES = "tools/case_files.py", "tools/case_runs.py", "tools/cases.py"
+PYTHON = "embed/python/yuglemit/"
+
+MUTANTS = (
+    # The script: which argument is the file, how it is read, and what is written after an answer.
+    Mutant("options_have_no_values", "script", FRONT, "--engines | --servers | --workers | --limit | --from | --to) return 1", "--engines) return 1"),
+    Mutant("options_without_values_eat_files", "script", FRONT, "-*) case $2 in *[!0-9]*) ;; *) return 1 ;; esac ;;", "-*) return 1 ;;"),
+    Mutant("inputs_may_be_files", "script", FRONT, "'' | -* | int:* | ints:*", "'' | -* | ints:*"),
+    Mutant("twn_is_no_text", "script", FRONT, "*.[tT][wW] | *.[tT][wW][nN]) return 1 ;;", "*.[tT][wW]) return 1 ;;"),
+    Mutant("names_go_without_their_option", "script", FRONT, "asm:*.[tT][wW][nN]) echo --names ;;", "asm:*.[tT][wW][nN]) ;;"),
+    Mutant("hex_by_its_first_byte", "script", FRONT, "head -c 6)\" = 545742 ]", "head -c 2)\" = 54 ]", "no assembly text begins with 54"),
+    Mutant("unreadable_files_are_empty", "script", FRONT, '    [ -d "$1" ] || [ ! -r "$1" ] || return 0\n', "    return 0\n"),
+    Mutant("unreadable_files_are_status_1", "script", FRONT, "    exit 66\n", "    exit 1\n"),
+    Mutant("inputs_after_the_events", "script", FRONT, 'head -n "$(($3 - 1))" "$1"', 'cat "$1"'),
+    Mutant("no_line_end_before_inputs", "script", FRONT, "printf '\\ninputs\\n'", "printf 'inputs\\n'"),
+    Mutant("a_dash_is_a_file", "script", FRONT, '[ "$inputs" = - ] && inputs=/dev/stdin', ":"),
+    Mutant("no_hint_of_explain", "script", FRONT, 'say "$me explain ${code%% *} says more" ;;', ": ;;"),
+    Mutant("statuses_are_lost", "script", FRONT, "    status=$?\n    cat", "    status=0\n    cat"),
+    Mutant("asm_tells_no_reason", "script", FRONT, '"asm:1:refused A"*)', '"asm:1:refused Z"*)'),
+    Mutant("pictures_of_programs_by_replay", "script", FRONT, 'set -- run --picture ${text:+"$text"} "$@"', 'set -- picture ${text:+"$text"} "$@"'),
+    Mutant("a_file_after_options_only", "script", FRONT, 'if [ -z "$file" ] && names_file "$before" "$word"; then', 'if [ -z "$file" ] && [ -n "$before" ] && names_file "$before" "$word"; then'),
+    Mutant("versions_are_the_programs", "script", "tw", '--version:1 | -V:1) echo "tw $(cat "$root/VERSION")"; exit ;;', "--version:1 | -V:1) echo tw; exit ;;"),
+    Mutant("every_release_fits", "release", SOURCES, "    lines_of_crates \"$1\" | sha256sum | sed 's/-$/crates.txt/'\n", ""),
+    Mutant("proofs_are_code", "release", SOURCES, "grep -v '  crates/[^/]*/\\(specs\\|proofs\\)/'", "cat"),
+    Mutant("crates_below_do_not_count", "release", SOURCES, "for (i = split(uses[crate], deps, \" \"); i > 0; i--) visit(deps[i])", "i = 0"),
+    Mutant("files_in_any_order", "release", SOURCES, "LC_ALL=C sort -z", "LC_ALL=C sort -rz"),
+    # Cases: what is read of their files, and what counts as failed.
+    Mutant("names_may_be_taken", "cases", FILES, "        if case.name in places:", "        if False:"),
+    Mutant("lines_may_be_long", "cases", FILES, "if len(line) > WIDTH:", "if len(line) > 2 * WIDTH:"),
+    Mutant("counters_lose_zeros", "cases", FILES, ".zfill(len(run[0]))", ""),
+    Mutant("leading_blank_lines_go", "cases", FILES, "        while lines and not lines[-1]:", "        while lines and not lines[0]:\n            lines.pop(0)\n        while lines and not lines[-1]:"),
+    Mutant("a_dead_runner_passes", "cases", RUNS, 'Result(case, f"{case.name}: the program stopped, or took longer than {MOST_SECONDS:.0f} s", 0.0)', 'Result(case, "", 0.0)'),
+    Mutant("controls_are_not_looked_at", "cases", RUNS, "        return self.said == expected", "        return self.said == expected or self.case.complaint is not None"),
+    Mutant("uncounted_cases_pass", "cases", RUNS, 'if said.decode(errors="replace") != f"{self.silent} cases as wanted\\n":', "if False:"),
+    Mutant("a_batch_goes_on_after_a_stop", "cases", RUNS, "batch = batch[len(results):]", "batch = []"),
+    Mutant("ci_may_update", "cases", CASES, 'if is_update and (os.environ.get("CI") or not patterns):', "if is_update and not patterns:"),
+    Mutant("changed_cases_are_kept", "cases", CASES, "return 1 if lost or changed else 0", "return 1 if lost else 0"),
+    Mutant("unused_bytes_stay", "cases", CASES, "for made in unused_lets(book)]", "for made in []]"),
+    # The Python package: inputs, reports, errors, bounds and many runs.
+    Mutant("bools_are_ints", "python", PYTHON + "_inputs.py", 'return hasattr(value, "__index__") and not _is_bool(value)', 'return hasattr(value, "__index__")'),
+    Mutant("ints_of_65_bits", "python", PYTHON + "_inputs.py", "if not -(2**63) <= number < 2**63:", "if not -(2**63) <= number <= 2**63:"),
+    Mutant("texts_count_characters", "python", PYTHON + "_inputs.py", "size = len(value.encode())", "size = len(value.encode()) and len(value)"),
+    Mutant("members_are_not_sorted", "python", PYTHON + "_inputs.py", "    pairs.sort(key=lambda pair: pair[0])  # type: ignore[arg-type, return-value]\n", ""),
+    Mutant("texts_sort_by_characters", "python", PYTHON + "_inputs.py", "order = str(key).encode() if keyed", "order = str(key) if keyed", "UTF-8 orders texts as their characters do"),
+    Mutant("quotes_stay_open", "python", PYTHON + "_inputs.py", '''escape = {'"': '\\\\"', "\\\\"''', '''escape = {"\\\\"'''),
+    Mutant("limits_read_as_quiet", "python", PYTHON + "_report.py", '_ENDS = ("quiet", "stuck", "limit"', '_ENDS = ("quiet", "stuck"'),
+    Mutant("open_outputs_are_finished", "python", PYTHON + "_report.py", 'if not found and " closed " not in line:', "if not found and line == '':"),
+    Mutant("unset_members_are_left_out", "python", PYTHON + "_report.py", "read_scalar(found[2]) if found[2] else None", "read_scalar(found[2]) if found[2] else 0"),
+    Mutant("statistics_of_main_alone", "python", PYTHON + "_report.py", "sum(map(int, done))", "int(done[0])"),
+    Mutant("errors_by_quoted_lines", "python", PYTHON + "_errors.py", 'r"at line (?P<line>\\d+): ", rest[:1]', 'r".*at line (?P<line>\\d+)", rest'),
+    Mutant("traps_are_refusals", "python", PYTHON + "_program.py", "raise (Trap if status == 6 else Refused)(text)", "raise Refused(text)"),
+    Mutant("no_memory_is_an_answer", "python", PYTHON + "_program.py", "    if status == 5:\n", "    if status == 55:\n"),
+    Mutant("bounds_of_loops_count_once", "python", PYTHON + "_listing.py", "turns.append(turns[-1] * int(words[1]))", "turns.append(turns[-1])"),
+    Mutant("circles_of_tasks_are_bounded", "python", PYTHON + "_listing.py", "        elif state.get(called) == 1:\n            return None\n", "        elif state.get(called) == 1:\n            continue\n"),
+    Mutant("maps_by_completion", "python", PYTHON + "_map.py", "            while following in waiting:\n", "            for following in sorted(waiting):\n"),
+    Mutant("lost_chunks_stay_lost", "python", PYTHON + "_map.py", "        return run_chunk(part)\n\n\ndef _shower", "        return []\n\n\ndef _shower"),
+    Mutant("small_buffers_cut", "python", PYTHON + "_native.py", "        if length <= len(room):\n            return", "        if True:\n            return"),
+    Mutant("words_may_have_line_feeds", "python", PYTHON + "_native.py", 'if any("\\n" in word for word in words):', "if False:"),
+    # The page: its machine, its bounds, and what it reads of texts and answers.
+    Mutant("sums_have_no_end", "page", "page/machine.js", "ADD: (a, b) => checked(a + b)", "ADD: (a, b) => a + b"),
+    Mutant("texts_have_no_end", "page", "page/machine.js", "byteLength(a) + byteLength(b) > LONGEST_TEXT", "byteLength(a) + byteLength(b) > 2 * LONGEST_TEXT"),
+    Mutant("remainders_of_the_least", "page", "page/machine.js", "b === 0n || a === LEAST && b === -1n ? REFUSED : a % b", "b === 0n ? REFUSED : a % b"),
+    Mutant("numbers_with_zeros", "page", "page/machine.js", "/^(0|-?[1-9][0-9]*)$/", "/^-?[0-9]+$/"),
+    Mutant("inserts_write_over", "page", "page/machine.js", "    if (members?.has(key)) return true;\n", ""),
+    Mutant("looks_count_no_read", "page", "page/machine.js", "    datumOf(state, id).reads++;\n    rights[to] = id;", "    rights[to] = id;"),
+    Mutant("members_are_never_freed", "page", "page/machine.js", "if (member && member.reads) lessRead(state, member);", ""),
+    Mutant("the_last_of_equal_tasks", "page", "page/machine.js", "task.priority > best.priority)", "task.priority >= best.priority)"),
+    Mutant("targets_are_anybodys", "page", "page/machine.js", "(task.target ?? number) === number && ", ""),
+    Mutant("notices_of_server_0", "page", "page/machine.js", "server: datum.id % state.servers", "server: 0"),
+    Mutant("waiters_of_closed_data", "page", "page/machine.js", "    if (!isClosed(datum)) datum.waiters.push(", "    datum.waiters.push("),
+    Mutant("rules_cost_no_release", "page", "page/bounds.js", "BigInt(2 * waits + 1)", "BigInt(2 * waits)"),
+    Mutant("loops_cost_once", "page", "page/bounds.js", "BigInt(operands[0]) * next + costs", "next + costs"),
+    Mutant("subscripts_by_length", "page", "page/values.js", "if (left[k] !== right[k]) return left[k] - right[k];", "if (left[k] !== right[k]) break;"),
+    Mutant("escapes_in_capitals", "page", "page/values.js", 'toString(16).padStart(2, "0")', 'toString(16).toUpperCase().padStart(2, "0")'),
+    Mutant("comments_have_words", "page", "page/source.js", "return found ? found[0] : line;", "return line;"),
+    Mutant("states_one_event_late", "page", "page/run.js", "k < count; k++) step(state", "k <= count && k < this.length; k++) step(state"),
+)
+
+
+# --- The copy
+
+
+def copy_repository(folder: Path) -> None:
+    """Copies the tracked files, and the programs that are unpacked or built."""
+    names = subprocess.run(["git", "ls-files", "-z"], cwd=ROOT, stdout=subprocess.PIPE, check=True).stdout.decode().split("\0")
+    for name in filter(None, names):
+        if (ROOT / name).is_file():
+            (folder / name).parent.mkdir(parents=True, exist_ok=True)
+            shutil.copy2(ROOT / name, folder / name)
+    for kept in ("out/release", "out/unverified"):
+        if (ROOT / kept).is_dir():
+            shutil.copytree(ROOT / kept, folder / kept)
+
+
+def unpacked(name: str, folder: Path) -> bytes:
+    return gzip.decompress((folder / "release" / f"{name}.gz").read_bytes())
+
+
+def library_of(folder: Path) -> Path:
+    built = ROOT / "crates/tw_embed/out/libyuglemit.so"
+    if built.exists():
+        return built
+    library = folder / "out" / "libyuglemit.so"
+    library.parent.mkdir(parents=True, exist_ok=True)
+    library.write_bytes(unpacked("libyuglemit.so", folder))
+    return library
+
+
+def module_of(folder: Path) -> Path:
+    """Returns the page's WebAssembly module: the built one, or that of the release's page."""
+    built = ROOT / "page/out/yuglemit.wasm"
+    if built.exists():
+        return built
+    found = re.search(rb'wasm = \\?"([A-Za-z0-9+/=]+)', unpacked("index.html", folder))
+    if not found:
+        sys.exit("mutants: release/index.html.gz has no module")
+    module = folder / "out" / "yuglemit.wasm"
+    module.parent.mkdir(parents=True, exist_ok=True)
+    module.write_bytes(gzip.decompress(base64.b64decode(found[1])))
+    return module
+
+
+# --- Trying
+
+
+def test(part: str, folder: Path) -> tuple[bool, str]:
+    """Runs the tests of a part. Returns whether they pass, and the last line that they wrote."""
+    command = TESTS[part]
+    if "@LIBRARY@" in command:
+        command = command.replace("@LIBRARY@", str(library_of(folder)))
+    if "@MODULE@" in command:
+        command = command.replace("@MODULE@", str(module_of(folder)))
+    run = subprocess.Popen(command, shell=True, cwd=folder, stdin=subprocess.DEVNULL, stdout=subprocess.PIPE, stderr=subprocess.STDOUT, start_new_session=True)
+    try:
+        said, _ = run.communicate(timeout=SECONDS)
+    except subprocess.TimeoutExpired:
+        os.killpg(run.pid, signal.SIGKILL)
+        run.communicate()
+        return False, f"longer than {SECONDS} s"
+    lines = said.decode(errors="replace").strip().splitlines()
+    return run.returncode == 0, lines[-1][:100] if lines else ""
+
+
+def attempt(mutant: Mutant, folder: Path) -> bool:
+    """Makes the edit, runs the tests, and takes the edit back. Returns whether the tests fail."""
+    path = folder / mutant.file
+    text = path.read_text(encoding="utf-8")
+    if text.count(mutant.old) != 1:
+        sys.exit(f"mutants: {mutant.name}: {mutant.file} has its text {text.count(mutant.old)} times")
+    path.write_text(text.replace(mutant.old, mutant.new), encoding="utf-8")
+    try:
+        passes, last = test(mutant.part, folder)
+    finally:
+        path.write_text(text, encoding="utf-8")
+    word = "killed  " if not passes else "harmless" if mutant.harmless else "SURVIVES"
+    print(f"{word} {mutant.name} ({mutant.part}): {mutant.harmless if passes and mutant.harmless else last}", flush=True)
+    return not passes
+
+
+def chosen(words: list[str]) -> list[Mutant]:
+    unknown = [word for word in words if word not in TESTS and word not in [mutant.name for mutant in MUTANTS]]
+    if unknown:
+        sys.exit(f"mutants: there is no {unknown[0]}; --list lists them")
+    return [mutant for mutant in MUTANTS if not words or mutant.name in words or mutant.part in words]
+
+
+def table(results: list[tuple[Mutant, bool]]) -> None:
+    print("\n| Part | Mutants | Killed | Survive |\n|---|---|---|---|")
+    for part in TESTS:
+        mine = [(mutant, is_killed) for mutant, is_killed in results if mutant.part == part]
+        if mine:
+            alive = "; ".join(f"`{mutant.name}`" + (f" (harmless: {mutant.harmless})" if mutant.harmless else "") for mutant, is_killed in mine if not is_killed)
+            print(f"| {part} | {len(mine)} | {sum(is_killed for _, is_killed in mine)} | {alive} |")
+
+
+def main(words: list[str]) -> int:
+    if words == ["--list"]:
+        print("\n".join(f"{mutant.part:<8} {mutant.name}" for mutant in MUTANTS))
+        return 0
+    mutants = chosen([word for word in words if word != "--table"])
+    with tempfile.TemporaryDirectory() as name:
+        folder = Path(name)
+        copy_repository(folder)
+        for part in dict.fromkeys(mutant.part for mutant in mutants):
+            passes, last = test(part, folder)
+            if not passes:
+                sys.exit(f"mutants: the tests of {part} fail without an edit: {last}")
+        results = [(mutant, attempt(mutant, folder)) for mutant in mutants]
+    if "--table" in words:
+        table(results)
+    killed = sum(is_killed for _, is_killed in results)
+    print(f"{killed} killed, {len(results) - killed} survive")
+    wrong = [mutant.name for mutant, is_killed in results if is_killed and mutant.harmless]
+    if wrong:
+        print(f"not harmless, since tests notice it: {', '.join(wrong)}")
+    return 1 if wrong or any(not is_killed and not mutant.harmless for mutant, is_killed in results) else 0
+
+
+if __name__ == "__main__":
+    sys.exit(main(sys.argv[1:]))
