@@ -1,3 +1,4 @@
+# SPDX-License-Identifier: Apache-2.0
 """Tags the wheel for the machine whose library it has, and for any Python 3; pyproject.toml has the rest."""
 
 from setuptools import Distribution, setup

@@ -1,4 +1,5 @@
 #!/bin/sh
+# SPDX-License-Identifier: Apache-2.0
 # Tests the Python package: the unit tests, the examples of docstrings and README.md, and mypy and pyflakes if they are installed.
 #
 #   embed/python/test.sh              the modules of this folder, with the library of ./tw build --library or YUGLEMIT_LIBRARY

@@ -1,12 +1,13 @@
 #!/bin/sh
+# SPDX-License-Identifier: Apache-2.0
 # Runs one program on each file NAME.in of a folder as one job array of Slurm, several files a job.
 #
 #   array.sh TW PROGRAM INPUTS RESULTS [FILES A JOB] [OPTION OF SBATCH..] [-- OPTION OF TW RUN..]
 #   array.sh tw sum.twn inputs results 100 --partition=short -- --limit 100000
 #
 # All four are where each machine sees them. Each run writes NAME.out and NAME.status to RESULTS (one.sh says what they hold). Called again
-# once the array is through, it runs what has no answer for this version, program, options and inputs. A job's time is that which bound.sh
-# tells for its runs, and a minute. The number of jobs keeps to the cluster's MaxArraySize, and a job's time to the partition's limit.
+# once the array is through, it runs what has no answer for this version, program, options and inputs. A job's time is what bound.sh
+# prints for its runs, and a minute. The number of jobs keeps to the cluster's MaxArraySize, and a job's time to the partition's limit.
 [ $# -ge 4 ] || { echo "usage: array.sh TW PROGRAM INPUTS RESULTS [FILES A JOB] [OPTION OF SBATCH..] [-- OPTION OF TW RUN..]" >&2; exit 2; }
 here=$(dirname "$(readlink -f "$0")")
 tw=$(readlink -f "$1") program=$(readlink -f "$2") inputs=$(readlink -f "$3") results=$4

@@ -1,3 +1,4 @@
+# SPDX-License-Identifier: Apache-2.0
 """Runs a program on a folder of inputs, on the workers of a Dask scheduler: dask_cluster.py PROGRAM INPUTS tcp://HOST:8786 >TABLE"""
 
 import pathlib

@@ -1,4 +1,5 @@
 #!/bin/sh
+# SPDX-License-Identifier: Apache-2.0
 # Makes the runs of one job of an array that array.sh submits: so many names of RESULTS/list, one after another.
 here=$1 tw=$2 program=$3 inputs=$4 results=$5 each=$6 TW_KEY=$7
 export TW_KEY

@@ -1,5 +1,6 @@
 #!/bin/sh
-# Prints a hash of what answers depend on besides the inputs: the version of TW, the program, and the options of `tw run`.
+# SPDX-License-Identifier: Apache-2.0
+# Prints a hash of what answers depend on, except the inputs: the version of TW, the program, and the options of `tw run`.
 #
 #   key.sh TW PROGRAM [OPTION OF TW RUN..]
 tw=$1 program=$2

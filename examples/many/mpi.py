@@ -1,3 +1,4 @@
+# SPDX-License-Identifier: Apache-2.0
 """Runs a program on a folder of inputs, over MPI: mpiexec -n 17 python3 -m mpi4py.futures mpi.py PROGRAM INPUTS >TABLE"""
 
 import pathlib

@@ -1,4 +1,5 @@
 #!/bin/sh
+# SPDX-License-Identifier: Apache-2.0
 # Runs one program on one file of inputs, an input a line, and writes its report to RESULT.out and its status to RESULT.status.
 #
 #   one.sh TW PROGRAM INPUTS RESULT [-- OPTION OF TW RUN..]
@@ -7,8 +8,8 @@
 # .twn, else hex text. RESULT.status is written last and in one step: the status, then a hash of version, program and options, then a hash of
 # the inputs. If it is there with the same hashes, nothing runs. The variable TW_KEY may give the first hash.
 #
-# Ends with 0 if the run gave an answer (0 quiet, 1 refused, 2 an input refused, 3 stuck, 4 limit); else with the status of the run, which
-# may be tried again (5 out of memory, 7 a read or write failed, above 128 killed); with 66 if a file can't be read.
+# Ends with 0 if the run gave an answer (0 quiet, 1 refused, 2 an input refused, 3 stuck, 4 limit). Otherwise it ends with the status of the run,
+# which may be tried again (5 out of memory, 7 a read or write failed, above 128 killed). It ends with 66 if a file can't be read.
 [ $# -ge 4 ] || { echo "usage: one.sh TW PROGRAM INPUTS RESULT [-- OPTION OF TW RUN..]" >&2; exit 2; }
 tw=$1 program=$2 inputs=$3 result=$4
 shift 4

@@ -1,4 +1,5 @@
 #!/bin/sh
+# SPDX-License-Identifier: Apache-2.0
 # Runs one program on each file NAME.in of a folder by GNU parallel: on this machine, or on those that its options name.
 #
 #   parallel.sh TW PROGRAM INPUTS RESULTS [OPTION OF PARALLEL..] [-- OPTION OF TW RUN..]
@@ -13,7 +14,7 @@ tw=$(readlink -f "$1") program=$(readlink -f "$2") inputs=$(readlink -f "$3") re
 shift 4
 mkdir -p "$results" && results=$(readlink -f "$results") || exit
 
-# The options before `--` go to parallel; of those behind it each is quoted for the shell that parallel starts.
+# The options before `--` are for parallel; each of those after it is quoted for the shell that parallel starts.
 count=$# behind='' options=''
 while [ "$count" -gt 0 ]; do
     word=$1 count=$((count - 1))

@@ -1,3 +1,4 @@
+# SPDX-License-Identifier: Apache-2.0
 """Runs a program on a folder of inputs, in processes of this machine: processes.py PROGRAM INPUTS >TABLE"""
 
 import pathlib

@@ -1,4 +1,5 @@
 #!/bin/sh
+# SPDX-License-Identifier: Apache-2.0
 # Prints a line for each run of a folder of results: its name, its status, and the lines of its report in one; then how many runs have each
 # status. Runs without an answer have no line.
 #

@@ -1,4 +1,5 @@
 #!/bin/sh
+# SPDX-License-Identifier: Apache-2.0
 # Checks a program, and lists which files NAME.in of a folder have no answer in RESULTS that fits: KEY on the first line, then a NAME a line.
 #
 #   todo.sh TW PROGRAM INPUTS RESULTS [OPTION OF TW RUN..]

@@ -1,3 +1,4 @@
+# SPDX-License-Identifier: Apache-2.0
 """Assembles, verifies, runs and replays dataflow programs that you don't trust.
 
     program = yuglemit.load(pathlib.Path("sum.twn"))    # verified here, or Refused

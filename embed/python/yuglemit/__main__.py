@@ -1,3 +1,4 @@
+# SPDX-License-Identifier: Apache-2.0
 """The command `python -m yuglemit build FILE.py`: compiles a file, verifies the program, and writes its text."""
 
 from __future__ import annotations

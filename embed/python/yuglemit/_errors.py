@@ -1,3 +1,4 @@
+# SPDX-License-Identifier: Apache-2.0
 """The exceptions of the package, and how a refusal is read."""
 
 from __future__ import annotations

@@ -1,3 +1,4 @@
+# SPDX-License-Identifier: Apache-2.0
 """Inputs: Python values as the words that the library reads, and such words as Python values."""
 
 from __future__ import annotations

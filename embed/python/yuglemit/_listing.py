@@ -1,18 +1,17 @@
+# SPDX-License-Identifier: Apache-2.0
 """What is known of an accepted program before it runs: its procedures, and bounds of what a run of it does."""
 
 from __future__ import annotations
 
 import re
 from dataclasses import dataclass
-from typing import Dict, Iterator, List, NamedTuple, Optional, Tuple
+from typing import Iterator, List, NamedTuple, Optional, Tuple
 
 # Instructions and events a second, as a run is priced; examples/many/bound.sh has the same numbers.
 INSTRUCTIONS_A_SECOND = 50_000_000
 EVENTS_A_SECOND = 100_000
 DEFAULT_LIMIT = 10_000
 
-_DATA = frozenset("NEW STORE GET INS LOOK SIZE SUBAT DUPR DUPW DROPR DROPW TINS TLOOK TSUBAT".split())
-_CALLS = frozenset("RULE PUT RULEV PUTV".split())
 _MODES = ("val", "closed", "ref", "write")
 
 
@@ -48,12 +47,14 @@ class Procedure:
 
 @dataclass(frozen=True)
 class Bounds:
-    """What a run does at most, whatever its inputs are. `tasks`, `instructions` and `events` are None if tasks make tasks in a circle: then
-    only the limit of events bounds a run."""
+    """Bounds of a run, whatever its inputs are, as they are proved; `greatest` is the greatest budget. The others are None if a procedure
+    starts itself, directly or through others, or past 1,000,000,000,000: then only the limit of events bounds a run."""
 
     greatest: int
     tasks: Optional[int]
     instructions: Optional[int]
+    data: Optional[int]
+    rules: Optional[int]
     events: Optional[int]
 
     def events_within(self, limit: int = DEFAULT_LIMIT) -> int:
@@ -120,83 +121,8 @@ def needs_of(check: str) -> Needs:
     return Needs(int(found[1]), int(found[2])) if found else Needs(0, 0)
 
 
-@dataclass
-class _Sites:
-    """How often a task of a procedure makes tasks of others, does instructions on data, and makes rules, each weighted by its loops."""
-
-    calls: Dict[int, int]
-    data: int = 0
-    local: int = 0
-    rules: Dict[int, int] | None = None
-
-
-def _sites_of(listing: str) -> List[_Sites]:
-    found: List[_Sites] = []
-    turns = [1]
-    for line in listing.split("\n"):
-        words = line.split()
-        if words[:1] == ["proc"]:
-            found.append(_Sites({}, rules={}))
-            turns = [1]
-        elif words and found:
-            _count_instruction(found[-1], words, turns)
-    return found
-
-
-def _count_instruction(sites: _Sites, words: List[str], turns: List[int]) -> None:
-    name = words[0]
-    if name in _CALLS:
-        called = int(words[1])
-        sites.calls[called] = sites.calls.get(called, 0) + turns[-1]
-        if name.startswith("RULE") and sites.rules is not None:
-            sites.rules[called] = sites.rules.get(called, 0) + turns[-1]
-    if name in _CALLS or name in _DATA:
-        sites.data += turns[-1]
-    elif name.isupper():
-        sites.local += turns[-1]
-    if name == "REPEAT":
-        turns.append(turns[-1] * int(words[1]))
-    elif name == "END":
-        turns.pop()
-
-
-def _tasks_of(sites: List[_Sites]) -> Optional[List[int]]:
-    """Counts the tasks of each procedure at most, or returns None if procedures that main leads to make tasks in a circle."""
-    order: List[int] = []
-    state: Dict[int, int] = {}
-    todo = [(0, iter(sites[0].calls))]
-    state[0] = 1
-    while todo:
-        procedure, rest = todo[-1]
-        called = next(rest, None)
-        if called is None:
-            state[procedure] = 2
-            order.append(procedure)
-            todo.pop()
-        elif state.get(called) == 1:
-            return None
-        elif called not in state:
-            state[called] = 1
-            todo.append((called, iter(sites[called].calls)))
-    tasks = [0] * len(sites)
-    tasks[0] = 1
-    for procedure in reversed(order):
-        for called, times in sites[procedure].calls.items():
-            tasks[called] += tasks[procedure] * times
-    return tasks
-
-
-def bounds_of(listing: str, procedures: Tuple[Procedure, ...]) -> Bounds:
-    """Bounds what a run of a program does, from its disassembly and its budgets."""
-    sites = _sites_of(listing)
+def bounds_of(check: str, procedures: Tuple[Procedure, ...]) -> Bounds:
+    """Reads the lines `bound` of what `check --bounds` answers; `over` and `none` are no numbers."""
+    bound = {kind: int(number) for kind, number in re.findall(r"^bound (\w+) (\d+)$", check, re.M)}
     greatest = max(it.budget for it in procedures)
-    tasks = _tasks_of(sites)
-    if tasks is None:
-        return Bounds(greatest, None, None, None)
-    events = 0
-    for count, site in zip(tasks, sites):
-        events += count * (2 + site.data + min(site.local, site.data + 1))
-        for called, times in (site.rules or {}).items():
-            events += count * times * (1 + 2 * sum(it.mode == "closed" for it in procedures[called].parameters))
-    instructions = sum(count * it.budget for count, it in zip(tasks, procedures))
-    return Bounds(greatest, sum(tasks), instructions, events)
+    return Bounds(greatest, *(bound.get(kind) for kind in ("tasks", "instructions", "data", "rules", "events")))

@@ -1,3 +1,4 @@
+# SPDX-License-Identifier: Apache-2.0
 """Many runs, over any executor of concurrent.futures."""
 
 from __future__ import annotations

@@ -1,3 +1,4 @@
+# SPDX-License-Identifier: Apache-2.0
 """Calls libyuglemit.so. No other module knows how the library is called.
 
 The library has two calls today: `yuglemit_session`, a command line with its input, and `yuglemit_verify`. Each call reads its program
@@ -117,8 +118,7 @@ def session(words: Sequence[str], data: bytes = b"", long: bool = False) -> Answ
     """
     if any("\n" in word for word in words):
         raise ValueError("a word of the command line has a line feed in it")
-    # The library ends a word at a line feed, and takes a carriage return before it away: each word gets one, so that its own stays.
-    line = "".join(word + "\r\n" for word in words).encode()
+    line = "".join(word + "\n" for word in words).encode()
     if long and threading.current_thread() is threading.main_thread():
         return _aside(lambda: _session(line, data))
     return _session(line, data)

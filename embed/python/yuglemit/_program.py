@@ -1,3 +1,4 @@
+# SPDX-License-Identifier: Apache-2.0
 """Programs: loaded and verified once, then run as often as one likes."""
 
 from __future__ import annotations
@@ -96,7 +97,7 @@ class Program:
     @cached_property
     def bounds(self) -> Bounds:
         """What a run of it does at most."""
-        return bounds_of(self.text, self.procedures)
+        return bounds_of(ask(["check", "--bounds"], self._hex), self.procedures)
 
     def places(self) -> str:
         """Lists each instruction with the rights that it finds, as `tw check --places` does."""

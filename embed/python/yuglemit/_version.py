@@ -1,3 +1,4 @@
+# SPDX-License-Identifier: Apache-2.0
 """The version of the package: that of the repository's file VERSION, or of the installed package. The repository's wheel has it written here."""
 
 from importlib import metadata

@@ -1,3 +1,4 @@
+# SPDX-License-Identifier: Apache-2.0
 """Compiles programs from a subset of Python. docs/BUILD.md is the manual.
 
     @leaf(otherwise=-1)

@@ -1,3 +1,4 @@
+# SPDX-License-Identifier: Apache-2.0
 """The state of compiling one procedure: its code, its registers, and what they hold on the way that is being compiled."""
 
 from __future__ import annotations

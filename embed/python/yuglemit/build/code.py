@@ -1,3 +1,4 @@
+# SPDX-License-Identifier: Apache-2.0
 """The text that is made: lines of one procedure, each with the place in the Python file from which it comes."""
 
 from __future__ import annotations

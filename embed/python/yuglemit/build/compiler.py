@@ -1,3 +1,4 @@
+# SPDX-License-Identifier: Apache-2.0
 """Compiles a file: each function that main leads to becomes a procedure of the text."""
 
 from __future__ import annotations

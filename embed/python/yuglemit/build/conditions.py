@@ -1,3 +1,4 @@
+# SPDX-License-Identifier: Apache-2.0
 """Conditions: comparisons, `and`, `or`, `not`, `in`, as jumps."""
 
 from __future__ import annotations

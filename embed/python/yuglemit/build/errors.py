@@ -1,3 +1,4 @@
+# SPDX-License-Identifier: Apache-2.0
 """The error of a program that can't be compiled."""
 
 from __future__ import annotations

@@ -1,3 +1,4 @@
+# SPDX-License-Identifier: Apache-2.0
 """Loops: over range(constants), and over the members of a container. The machine's loops make all their turns; a flag skips the rest."""
 
 from __future__ import annotations

@@ -1,3 +1,4 @@
+# SPDX-License-Identifier: Apache-2.0
 """Registers of one procedure: 16 for values, each of one type, and 16 for rights; and their names in the text."""
 
 from __future__ import annotations

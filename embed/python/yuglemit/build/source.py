@@ -1,3 +1,4 @@
+# SPDX-License-Identifier: Apache-2.0
 """Reads a Python file: its constants, and its functions with their signatures. Nothing of it is run."""
 
 from __future__ import annotations

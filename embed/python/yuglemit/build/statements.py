@@ -1,3 +1,4 @@
+# SPDX-License-Identifier: Apache-2.0
 """Statements: assignments, conditions, calls, and the ends of a task."""
 
 from __future__ import annotations

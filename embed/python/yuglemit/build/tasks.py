@@ -1,3 +1,4 @@
+# SPDX-License-Identifier: Apache-2.0
 """Tasks: calls of other functions make rules, and what they give is a future."""
 
 from __future__ import annotations

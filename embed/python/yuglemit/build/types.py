@@ -1,3 +1,4 @@
+# SPDX-License-Identifier: Apache-2.0
 """Types of the language: Int, Text, Array and Table, and what a name stands for."""
 
 from __future__ import annotations

@@ -1,3 +1,4 @@
+# SPDX-License-Identifier: Apache-2.0
 """Values: expressions of ints and texts, into registers."""
 
 from __future__ import annotations
