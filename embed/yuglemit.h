@@ -1,13 +1,20 @@
-/* Yuglemit for C and C++: libyuglemit.a or libyuglemit.so, which `./tw build --library` makes. Both calls are proved (crates/tw_embed).
+/* SPDX-License-Identifier: Apache-2.0 */
+/* Yuglemit for C and C++: libyuglemit.a or libyuglemit.so for Linux on x86-64 (x86-64-v2: SSE4.2 and POPCNT), which `./tw build --library`
+ * makes. All calls are proved (crates/tw_calls, crates/tw_handles, crates/tw_embed).
  *
- * No call keeps anything from one to the next, starts a thread or waits, so calls in several threads may go side by side. Memory comes
- * from malloc, and all of it is given back before a call returns.
+ * No call keeps anything from one to the next but what the caller's handles hold, starts a thread or waits, so calls in several threads
+ * may run at once. Memory comes from malloc; all of it is freed before a call returns, or when its handle is freed.
+ *
+ * How long a call takes. Reading, checking and verifying take time by the input's length. A run takes as long as its program: at most
+ * `--limit` events (10,000 if nothing is said), each of at most as many instructions as the greatest budget, which may be 1,000,000,000.
+ * Nothing stops a call from outside. So call `check` first, and run a stranger's program only if its greatest budget times the limit is
+ * what you can wait for.
  *
  * What the caller sees to, since no proof can:
- *   - each pointer is no null pointer, and has as many bytes behind it as its length says, also where that is 0;
+ *   - each pointer is no null pointer, and points to as many bytes as its length says, also if that is 0;
  *   - what is written (room, status, verdict) overlaps nothing else that is passed;
  *   - nothing of it is changed by another thread during a call;
- *   - there are 256 KiB of stack left.
+ *   - there are 64 KiB of stack left (tools/embedded.sh measures the calls over hostile inputs).
  */
 #ifndef YUGLEMIT_H
 #define YUGLEMIT_H
@@ -17,17 +24,19 @@
 extern "C" {
 #endif
 
-/* What the command `tw` writes with these words, where it reads this input; `tw --help` tells the words. Each word stands in a line,
- * "run\n--text\n--workers\n4", and all are UTF-8. The text stands at the start of `room`, if it fits, and the rest of the room is as it
- * was. *status is the exit status: 0 quiet or done, 1 refused, 2 words refused, 3 stuck, 4 limit, 5 memory ran out, 6 a trap.
- * Returns the length of the text: where it is more than `room_length`, nothing is in the room; call again with as much.
- * A program is run in the caller's thread, its actors in turn, as by `tw run --in-turn`. */
+/* Writes the output of the command `tw` with these arguments and this input; `tw --help` lists the arguments. All are UTF-8, and each ends
+ * with a line feed, which the last may lack: "run\n--text\n--workers\n4\n". So no argument has a line feed in it; any other character
+ * is allowed, a carriage return at its end too. The text is written to the start of `room`, if it fits, and the rest of `room` stays as it
+ * was. *status is the exit status: 0 quiet or done, 1 refused, 2 arguments refused, 3 stuck, 4 limit, 5 memory ran out, 6 a trap.
+ * Returns the length of the text: if it is more than `room_length`, nothing is written to `room`; call again with as much.
+ * A program is run in the caller's thread, its actors in turn, as by `tw run --in-turn`: `--workers 4` are four workers of that one thread,
+ * and the second call answers the same. Nothing is said on the way, nor on standard error. */
 size_t yuglemit_session(const uint8_t *words, size_t words_length, const uint8_t *input, size_t input_length,
                         uint8_t *room, size_t room_length, uint8_t *status);
 
 typedef struct yuglemit_verdict {
     uint8_t letter;    /* 0 accepted; 'F' the bytes are no program; 'V' refused by the verifier; 'M' memory ran out */
-    uint8_t number;    /* the number behind F or V: `tw explain V04` says what it means */
+    uint8_t number;    /* the number after F or V: `tw explain V04` says what it means */
     uint8_t engines;   /* accepted: how many engines and workers its targets need */
     uint8_t workers;
     size_t procedure;  /* V: the procedure, and the place in it; F: the byte, in `place` */
@@ -36,6 +45,93 @@ typedef struct yuglemit_verdict {
 
 /* The verifier alone, of a program's bytes (not of hex text): what `tw check` decides. */
 void yuglemit_verify(const uint8_t *bytes, size_t length, yuglemit_verdict *verdict);
+
+/* ---- Programs that are loaded once and run many times
+ *
+ * A handle is a pointer to memory of the library. The caller keeps it, begins it as {NULL} and frees it once, by value:
+ *
+ *     yuglemit_program program = {NULL};
+ *     yuglemit_report report = {NULL};
+ *     yuglemit_load(bytes, length, &program, &verdict);
+ *     if (verdict.letter == 0 && yuglemit_run(&program, &inputs, 1, 1, 1, 10000, &report) == 0) ..
+ *     yuglemit_report_free(report);
+ *     yuglemit_program_free(program);
+ *
+ * A handle is used by one call at a time, and the handles of one call are different ones. It may be made in one thread and used in
+ * another. It isn't copied: of two copies one would be freed by the other. A call that makes a handle frees what it held before.
+ *
+ * The calls return 0 or the letter of an error, and then they have written nothing: */
+enum {
+    YUGLEMIT_DONE = 0,
+    YUGLEMIT_NO_INPUTS = 'I',  /* the handle of inputs holds something else */
+    YUGLEMIT_NO_LAYOUT = 'L',  /* engines and servers are 1 to 4, workers 1 to 16 */
+    YUGLEMIT_NO_MEMORY = 'M',  /* an allocation failed */
+    YUGLEMIT_NO_PROGRAM = 'P', /* the handle is empty or holds something else */
+    YUGLEMIT_NO_REPORT = 'R',  /* the handle is empty or holds something else */
+    YUGLEMIT_NO_ROOM = 'S',    /* the buffer is shorter than the text */
+    YUGLEMIT_NO_TEXT = 'T',    /* the value isn't a text */
+    YUGLEMIT_NO_UTF8 = 'U',    /* the bytes aren't UTF-8 */
+    YUGLEMIT_NO_INDEX = 'X'    /* there is none of this index */
+};
+
+typedef struct yuglemit_program { void *at; } yuglemit_program;
+typedef struct yuglemit_inputs { void *at; } yuglemit_inputs;
+typedef struct yuglemit_report { void *at; } yuglemit_report;
+
+/* Decodes and verifies the bytes of a program. If verdict->letter is 0, the handle holds the program; else it is as it was. */
+void yuglemit_load(const uint8_t *bytes, size_t length, yuglemit_program *program, yuglemit_verdict *verdict);
+
+/* Makes `other` a handle of the same program, for another thread. The program isn't copied, and lives until the last handle is freed. */
+uint8_t yuglemit_program_share(yuglemit_program *program, yuglemit_program *other);
+
+uint8_t yuglemit_program_procedures(yuglemit_program *program, size_t *count);
+
+/* Writes the most instructions that one task of a procedure executes. */
+uint8_t yuglemit_program_budget(yuglemit_program *program, size_t procedure, uint64_t *budget);
+
+/* Append an input, by the order of main's parameters. An empty handle has no input; a run doesn't change it. A text is copied. Inputs that
+ * don't fit main are refused by the run; a text that is longer than 4,096 bytes is one of them. */
+uint8_t yuglemit_input_int(yuglemit_inputs *inputs, int64_t number);
+uint8_t yuglemit_input_text(yuglemit_inputs *inputs, const uint8_t *text, size_t length);
+
+/* Runs a program in this thread, its actors in turn, with up to `limit` events, at most 1,000,000. If it returns 0, the report is that of
+ * the run; 1 to 5 is the code of an error: `tw explain O01` and so on say what it means, and 5 is out of memory. */
+uint8_t yuglemit_run(yuglemit_program *program, yuglemit_inputs *inputs, uint8_t engines, uint8_t servers, uint8_t workers, size_t limit,
+                     yuglemit_report *report);
+
+typedef struct yuglemit_ending {
+    size_t events, outputs;
+    uint8_t status;    /* as the exit status of tw: 0 quiet, 3 stuck, 4 limit, 5 memory ran out */
+} yuglemit_ending;
+
+/* A datum of a report. */
+typedef struct yuglemit_item {
+    int64_t number;    /* i: the integer */
+    size_t length;     /* t: the bytes of the text; c: the number of members */
+    uint8_t kind;      /* 'i' an integer; 't' a text; 'u' unset; 'c' a container; 0 not live */
+    uint8_t closed;    /* 1: it never changes again */
+    uint8_t scalar;    /* 'i' or 't': the type of the value or of the members */
+    uint8_t by;        /* c: 'i' or 't', the type of the subscripts */
+} yuglemit_item;
+
+typedef struct yuglemit_member { yuglemit_item subscript, value; } yuglemit_member;
+
+uint8_t yuglemit_report_ending(yuglemit_report *report, yuglemit_ending *ending);
+uint8_t yuglemit_report_output(yuglemit_report *report, size_t output, yuglemit_item *item);
+
+/* Writes a member of an output, by how many subscripts are smaller. */
+uint8_t yuglemit_report_member(yuglemit_report *report, size_t output, size_t place, yuglemit_member *member);
+
+/* Write the text of an output, a member or a subscript to the start of `room`, if it fits; the rest of `room` stays. Its item has the
+ * length. There is no byte 0 after it. */
+uint8_t yuglemit_report_text(yuglemit_report *report, size_t output, uint8_t *room, size_t room_length);
+uint8_t yuglemit_report_member_text(yuglemit_report *report, size_t output, size_t place, uint8_t *room, size_t room_length);
+uint8_t yuglemit_report_subscript_text(yuglemit_report *report, size_t output, size_t place, uint8_t *room, size_t room_length);
+
+/* Free what a handle holds; an empty one is allowed. The handle isn't used after that. */
+void yuglemit_program_free(yuglemit_program program);
+void yuglemit_inputs_free(yuglemit_inputs inputs);
+void yuglemit_report_free(yuglemit_report report);
 
 #ifdef __cplusplus
 }

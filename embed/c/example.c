@@ -1,5 +1,7 @@
-/* As the command tw, by the library: reads standard input, takes tw's words, ends with its status. With `verify` it reads a program's
- * bytes. TIMES=n in the environment makes n calls, and tells on standard error how long one takes. */
+/* SPDX-License-Identifier: Apache-2.0 */
+/* Like the command tw, by the library: takes tw's arguments, reads standard input if tw would, ends with its status. With `verify` it reads a
+ * program's bytes. TIMES=n in the environment makes n calls, and prints on standard error how long one takes. */
+#define _POSIX_C_SOURCE 199309L /* clock_gettime */
 #include "../yuglemit.h"
 #include <stdio.h>
 #include <stdlib.h>
@@ -28,23 +30,25 @@ static void add(bytes *b, const void *from, size_t length) {
     b->length += length;
 }
 
-static bytes read_all(FILE *file) {
-    bytes all = {0};
+static void read_all(FILE *file, bytes *all) {
     uint8_t part[65536];
-    need(&all, 1);
-    for (size_t got; (got = fread(part, 1, sizeof part, file)) > 0;) add(&all, part, got);
-    return all;
+    for (size_t got; (got = fread(part, 1, sizeof part, file)) > 0;) add(all, part, got);
 }
 
 /* One session: the text comes to `text`, and the status is returned. */
 static int session(const bytes *words, const bytes *input, bytes *text) {
-    uint8_t status;
+    uint8_t status = 0;
     need(text, 4096);
     for (;;) {
         text->length = yuglemit_session(words->at, words->length, input->at, input->length, text->at, text->room, &status);
         if (text->length <= text->room) return status;
         need(text, text->length);
     }
+}
+
+/* Whether tw reads an input with these arguments: an empty one is refused by status 1 or comes to an empty text, and nothing else does. */
+static int is_read(const bytes *words, const bytes *empty, bytes *text) {
+    return session(words, empty, text) == 1 || text->length == 0;
 }
 
 static void tell_verdict(const yuglemit_verdict *v) {
@@ -63,15 +67,17 @@ static double seconds(void) {
 }
 
 int main(int count, char **word) {
-    bytes words = {0}, text = {0}, input = read_all(stdin);
-    yuglemit_verdict verdict;
+    bytes words = {0}, text = {0}, input = {0};
+    yuglemit_verdict verdict = {0};
     int status = 0, verifies = count == 2 && !strcmp(word[1], "verify");
     long times = getenv("TIMES") ? atol(getenv("TIMES")) : 1;
     need(&words, 1);
+    need(&input, 1);
     for (int i = 1; i < count; i++) {
         add(&words, word[i], strlen(word[i]));
         add(&words, "\n", 1);
     }
+    if (verifies || is_read(&words, &input, &text)) read_all(stdin, &input);
     double from = seconds();
     for (long k = 0; k < times; k++) {
         if (verifies) yuglemit_verify(input.at, input.length, &verdict);

@@ -1,0 +1,53 @@
+-- `empty` makes a slot at null.
+use Rattle.std.proofs.Common.{◌≡◌, List, [], ◌∷◌, ◌++◌, refl, sym, ap, ◌∙◌, subst, lit<}
+use mir.Val.{Val, vptr, vnull, vcons, vnil}
+use base.Logic.{SProp, ent, emp, id⊢}
+use base.Fml.{ftrue, flft}
+use prog.Wp.{WpFn}
+use types.Kit.{‵, raw, ◌⊛◌, at_ret, ◌$◌, ◌∵◌, !, qed, by, move, keep, drop, split, fsplit, fjoin, suffices, use0, use1}
+use types.Run.{stop, fld, lit, of_opd, bin, no_more, and_then, first, branches, exec, returns, enter}
+use types.ByLocal.{alloc_all, pass_all, free_all, look_at, get, get_in, sets, sets_last, env}
+use types.Part.{agg, sub, whole}
+use types.Match.{live}
+use contract.Monad.{fact, fact_i}
+use contract.Running.{tables}
+use denote.Exit.{yes, no}
+use denote.RattleType.{RattleType, owns}
+use denote.Signature.{types_at, type_at, plain}
+use denote.RawPtr.{Ptr, Testable, block_ptr, null_ptr, ptr_val, tests_null}
+use denote.Steps.{nothing, only, heard}
+use denote.Param.{layout}
+use denote.Triple.Walked.{Stays, stay_dropped, walk_of, Goes-dropped}
+use Rattle.core.specs.declared.option.Option.TheVariants.{None, Some}
+use Rattle.core.proofs.alloc.Shapes.{after}
+use Rattle.core.proofs.atomic.Steps.{Ptr-Good}
+use Rattle.core.proofs.cell.Inside.{Good}
+use Rattle.core.proofs.option.Made.{Some-of, none_of}
+use Rattle.std_alloc.proofs.ResultValues.{and_tt}
+use Rattle.std.specs.contracts.alloc.Global as heap
+use Rattle.std.proofs.alloc.Global.TheLaws as heap_laws
+use Rattle.std.specs.contracts.impls.GlobalAllocator.TheImpl.{ghosts}
+use Rattle.std.proofs.raw_atomic.Walks.{proved_at, leaves}
+use Rattle.tw_handles.proofs.Values.{both, Loose, loose_good, loose_out, loose_in, Z, Sl, slot_out, slot_in_none, slot_in_some}
+use Rattle.tw_handles.specs.contracts.held.Held.{the_row as R}
+use Rattle.tw_handles.specs.contracts.handle.Handle.empty.{ended, clauses}
+use Rattle.tw_handles.specs.contracts.handle.Handle.empty.Key.{name as #self}
+use Rattle.tw_handles.proofs.handle.Handle.empty.Statement.{statement}
+use Rattle.tw_handles.proofs.handle.Handle.empty.Code as code
+use Rattle.core.proofs.alloc.Calls.{handle_tells}
+use Rattle.std.specs.Prelude.{Option}
+use Rattle.tw_handles.proofs.Values.{heap_al, nowhere_good}
+
+pub empty_spec : {M : Type 1} → statement M
+empty_spec 𝓤 𝓛 𝓜 𝓡 wired =
+    let H = 𝓛.H in let 𝓣 = tables 𝓤 H 𝓜 𝓡 𝓡.env in let En = ended in let c = clauses 𝓛 𝓜.mem 𝓡.returns in let fn = code.function in
+    let hs : Stays En.signature.params En.kept = (stay_dropped (plain (λ _. Z)) yes, tt) in
+    proved_at 𝓛 En hs c 𝓜 𝓡 (Goes-dropped 𝓛 0 (plain (λ _. Z)) yes (λ κs x f. refl), tt) #self fn (code.unfolded 𝓤 H 𝓜 𝓡 wired) (λ z are.
+    let a = z.0.3.0 in let Post : Val → SProp 𝓤 = (walk_of 𝓛 En hs c).post z in let Run : List Val → SProp 𝓤 = λ ws. WpFn 𝓤 H 𝓣.C 𝓣.Λ fn ws Post in
+    qed 𝓛 ((‵ ftrue ⊛ ‵ (owns (types_at En.signature.params z.0.0) z.0.3 z.0.4)) ∷ raw ((c z.0.0 z.0.3).requires z.1) ∷ []) ∵ split ! $ move ! (1 ∷ []) $ fsplit ! $ handle_tells heap_al ! a z.0.4.0 (λ h ws fits.
+    let made : Val = both vnull h in
+    suffices ! (Run (h ∷ [])) (subst (λ (us : List Val). ent 𝓤 (Run (h ∷ [])) (Run us)) (sym (λ i. ws i ++ [])) (id⊢ 𝓤 (Run (h ∷ [])))) $
+    enter ! 𝓣.C 𝓣.Λ fn (h ∷ []) Post $ alloc_all ! (λ l. pass_all ! refl (fits, tt) $
+    sets ! (agg ! (and_then ! (lit ! tt) (and_then ! (get ! refl) (no_more !)))) refl (nowhere_good h fits) $
+    slot_in_none ! h a $ use0 𝓛 (raw (fact 𝓤 (◌≡◌ {A = Option R.Denot} None None))) (fact_i 𝓤 _ (emp 𝓤) refl) $ nothing ! $ nothing ! $ fjoin ! $
+    returns ! (look_at ! 0 refl) $ free_all ! refl $ keep ! (4 ∷ 0 ∷ 2 ∷ 1 ∷ []) $ by ! (leaves 𝓛 En hs c z made (record { at = null_ptr; alloc = a; held = None }) (tt, tt) (tt, tt)))))

@@ -1,0 +1,16 @@
+-- Calls on a loaded program.
+pub mod Asking
+-- The codes that calls return.
+pub mod Codes
+-- The contents of a handle. A program in it is the one that the bytes encode.
+pub mod Loading
+-- Calls on the members of an output.
+pub mod Members
+-- Calls on a report.
+pub mod Reading
+-- Inputs and runs.
+pub mod Running
+-- The memory of a handle.
+pub mod Slot
+-- The verdict on bytes.
+pub mod Verdict

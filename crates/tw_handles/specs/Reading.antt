@@ -1,0 +1,126 @@
+-- Calls on a report: how the run ended, and its outputs.
+use Rattle.std.specs.Prelude.{◌≡◌, ◌≤◌, ◌<◌, ◌⊎◌, ◌++◌, ℕ, List, Option, Some, None, MatchOption, drop, length, pos, slice_get, if◌then◌else◌}
+use Rattle.std.specs.FinMap as map
+use Rattle.std.specs.FinMap.{get}
+use Rattle.std.specs.Option.{option_and_then}
+use Rattle.tw_in_turn.specs.declared.run.Left.{Left}
+use Rattle.tw_in_turn.specs.declared.run.Left.TheVariants as left
+use Rattle.tw_pool.specs.declared.answer.Closing.{Closing}
+use Rattle.tw_pool.specs.declared.answer.Closing.TheVariants.{Quiet, Stuck, Stopped, Limit}
+use Rattle.tw_pool.specs.Ends.{FinalView}
+use Rattle.tw_pool.specs.History.{HistoryView}
+use Rattle.tw_types.specs.DataType.{is_container_by}
+use Rattle.tw_types.specs.Nesting.{NestedScalar}
+use Rattle.tw_types.specs.declared.data_type.Scalar.{Scalar}
+use Rattle.tw_types.specs.declared.data_type.Scalar.TheVariants as scalar
+use Rattle.tw_types.specs.Store.{Datum, is_closed}
+use Rattle.tw_types.specs.StoreCalls.{members_in, value_in}
+use Rattle.tw_types.specs.StoreChecks.{is_unset}
+use Rattle.tw_types.specs.declared.value.Value.{Value}
+use Rattle.tw_types.specs.declared.value.Value.TheVariants as value
+use Rattle.tw_handles.specs.Asking.{Fails}
+use Rattle.tw_handles.specs.Codes.{done, no_index, no_report, no_room, no_text}
+use Rattle.tw_handles.specs.Loading.{report_in}
+use Rattle.tw_handles.specs.declared.held.Held.{Held}
+use Rattle.tw_handles.specs.declared.item.Item.{Item}
+use Rattle.tw_handles.specs.declared.report.Ending.{Ending}
+
+abbrev pub final_of : Left → FinalView
+final_of (left.Over final history) = final
+final_of (left.NoMemory final history) = final
+
+abbrev pub history_of : Left → HistoryView
+history_of (left.Over final history) = history
+history_of (left.NoMemory final history) = history
+
+-- the exit status of `tw run` for an end: 0 quiet, 3 stuck, 4 limit; a run over has no other one
+abbrev pub closing_status : Option Closing → ℕ
+closing_status None = 5
+closing_status (Some Quiet) = 0
+closing_status (Some (Stuck rules)) = 3
+closing_status (Some Stopped) = 5
+closing_status (Some Limit) = 4
+
+-- 5 if an allocation failed
+abbrev pub end_status : Left → ℕ
+end_status (left.Over final history) = closing_status final.closing
+end_status (left.NoMemory final history) = 5
+
+abbrev pub ending_of : Left → Ending
+ending_of left = record { events = length (history_of left).events; outputs = length (final_of left).outputs; status = end_status left }
+
+abbrev pub IsEnding : Option Held → Ending → Ending → ℕ → Type 0
+IsEnding held old new code = MatchOption (report_in held) (Fails no_report old new code) (λ left. (new ≡ ending_of left) × (code ≡ done))
+
+-- ---- a datum
+
+-- i or t
+abbrev pub letter_of : Scalar → ℕ
+letter_of scalar.Int = 105
+letter_of scalar.Text = 116
+
+-- i with the integer, t with the text's length
+abbrev pub value_item : Value → Item
+value_item (value.Int n) = record { number = n; length = 0; kind = 105; closed = 1; scalar = 105; by = 0 }
+value_item (value.Text text) = record { number = pos 0; length = length text; kind = 116; closed = 1; scalar = 116; by = 0 }
+
+-- u if it is unset
+abbrev pub unset_item : NestedScalar → Item
+unset_item ty = record { number = pos 0; length = 0; kind = 117; closed = 0; scalar = letter_of ty.scalar; by = 0 }
+
+-- c with the number of members, whether it is closed, and the types of members and subscripts
+abbrev pub container_item : Datum → Item
+container_item x =
+    record {
+      number = pos 0;
+      length = map.len (members_in x.content);
+      kind = 99;
+      closed = if is_closed x then 1 else 0;
+      scalar = letter_of x.ty.scalar;
+      by = if is_container_by scalar.Text x.ty then 116 else 105;
+    }
+
+abbrev pub valueless_item : Datum → Item
+valueless_item x = if is_unset x.content then unset_item x.ty else container_item x
+
+abbrev pub item_by : Datum → Option Value → Item
+item_by x None = valueless_item x
+item_by x (Some v) = value_item v
+
+-- 0 if it isn't live
+abbrev pub item_of : Option Datum → Item
+item_of None = record { number = pos 0; length = 0; kind = 0; closed = 0; scalar = 0; by = 0 }
+item_of (Some x) = item_by x (value_in x.content)
+
+-- ---- outputs
+
+-- the datum of the output of this index, if the run has so many
+abbrev pub IsOutputIn : FinalView → ℕ → Item → Item → ℕ → Type 0
+IsOutputIn final index old new code =
+    MatchOption (slice_get final.outputs index) (Fails no_index old new code) (λ id. (new ≡ item_of (get final.store.store.live id)) × (code ≡ done))
+
+abbrev pub IsOutput : Option Held → ℕ → Item → Item → ℕ → Type 0
+IsOutput held index old new code = MatchOption (report_in held) (Fails no_report old new code) (λ left. IsOutputIn (final_of left) index old new code)
+
+abbrev pub text_of : Option Value → Option (List ℕ)
+text_of None = None
+text_of (Some (value.Int n)) = None
+text_of (Some (value.Text text)) = Some text
+
+-- the text is at the buffer's start, if it fits
+abbrev pub IsFilled : List ℕ → List ℕ → List ℕ → ℕ → Type 0
+IsFilled text old new code =
+    ((length text ≤ length old) × (new ≡ text ++ drop (length text) old) × (code ≡ done)) ⊎ ((length old < length text) × Fails no_room old new code)
+
+abbrev pub IsWritten : Option Value → List ℕ → List ℕ → ℕ → Type 0
+IsWritten v old new code = MatchOption (text_of v) (Fails no_text old new code) (λ text. IsFilled text old new code)
+
+abbrev pub value_of : Option Datum → Option Value
+value_of datum = option_and_then (λ x. value_in x.content) datum
+
+abbrev pub IsOutputTextIn : FinalView → ℕ → List ℕ → List ℕ → ℕ → Type 0
+IsOutputTextIn final index old new code =
+    MatchOption (slice_get final.outputs index) (Fails no_index old new code) (λ id. IsWritten (value_of (get final.store.store.live id)) old new code)
+
+abbrev pub IsOutputText : Option Held → ℕ → List ℕ → List ℕ → ℕ → Type 0
+IsOutputText held index old new code = MatchOption (report_in held) (Fails no_report old new code) (λ left. IsOutputTextIn (final_of left) index old new code)

@@ -1,0 +1,42 @@
+-- The verdict on bytes.
+use Rattle.std.specs.Prelude.{◌≡◌, ◌⊎◌, ℕ, List, Result, Ok, Err}
+use Rattle.tw_types.specs.declared.actor.Kind.TheVariants.{Control, Leaf}
+use Rattle.tw_code.specs.accepting.Needs.{needed}
+use Rattle.tw_code.specs.accepting.WellTyped.{IsAccepted, IsFirstRefusal}
+use Rattle.tw_bytes.specs.declared.fault.Fault.{Fault}
+use Rattle.tw_code.specs.declared.procedure.Procedure.{Procedure}
+use Rattle.tw_bytes.specs.Fault.{fault_number}
+use Rattle.tw_code.specs.format.Program.{Versioned}
+use Rattle.tw_bytes.specs.Reading.{program_of}
+use Rattle.tw_handles.specs.declared.verdict.Verdict.{Verdict}
+
+-- the engines and workers that its targets need
+abbrev pub accepted : List Procedure → Verdict
+accepted program = record { letter = 0; number = 0; engines = needed Control program; workers = needed Leaf program; procedure = 0; place = 0 }
+
+-- the letter V, the error's code, and its position
+abbrev pub refusal : ℕ → ℕ → ℕ → Verdict
+refusal number procedure place = record { letter = 86; number = number; engines = 0; workers = 0; procedure = procedure; place = place }
+
+-- the letter F, the fault's number, and the byte
+abbrev pub fault : Fault → Verdict
+fault f = record { letter = 70; number = fault_number f.no; engines = 0; workers = 0; procedure = 0; place = f.offset }
+
+-- the letter M
+abbrev pub no_memory : Verdict
+no_memory = record { letter = 77; number = 0; engines = 0; workers = 0; procedure = 0; place = 0 }
+
+-- the program is accepted, or this is its first error
+abbrev pub IsProgramVerdict : List Procedure → Verdict → Type 0
+IsProgramVerdict program v =
+    (IsAccepted program × (v ≡ accepted program))
+    ⊎ ((number : ℕ) × (procedure : ℕ) × (place : ℕ) × IsFirstRefusal program number procedure place × (v ≡ refusal number procedure place))
+
+-- the bytes are a program, or this is their first fault
+abbrev pub IsReadVerdict : Result Versioned Fault → Verdict → Type 0
+IsReadVerdict (Ok p) v = IsProgramVerdict p.procedures v
+IsReadVerdict (Err f) v = v ≡ fault f
+
+-- or an allocation failed
+abbrev pub IsVerdict : List ℕ → Verdict → Type 0
+IsVerdict bytes v = IsReadVerdict (program_of bytes) v ⊎ (v ≡ no_memory)

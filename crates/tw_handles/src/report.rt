@@ -1,0 +1,180 @@
+//! Questions to a report.
+
+ghost use Rattle.std.specs.Prelude.{◌≡◌, Some};
+ghost use Rattle.tw_handles.specs.Reading.{IsOutput, IsOutputIn, IsOutputText, IsOutputTextIn, IsEnding, closing_status as closing_status_is, end_status as end_status_is, final_of as final_is, history_of as history_is, ending_of as ending_is};
+
+use crate::codes;
+use crate::handle::Handle;
+use crate::held::Held;
+use crate::item::{Item, item_of, value_of, write_text};
+use std::alloc::Global;
+use tw_in_turn::Left;
+use tw_pool::{Closing, Final, History};
+
+/// How a run ended.
+#[repr(C)]
+#[derive(Clone, Copy)]
+pub struct Ending {
+    pub events: usize,
+    pub outputs: usize,
+    /// The exit status of `tw run`: 0 quiet, 3 stuck, 4 limit, 5 out of memory.
+    pub status: u8,
+}
+
+pub(crate) fn final_of(left: &Left) -> &Final
+    ensures { result.now ≡ final_is left.now }
+{
+    match left {
+        Left::Over {
+            outcome,
+            history: _,
+        } => outcome,
+        Left::NoMemory {
+            outcome,
+            history: _,
+        } => outcome,
+    }
+}
+
+fn history_of(left: &Left) -> &History
+    ensures { result.now ≡ history_is left.now }
+{
+    match left {
+        Left::Over {
+            outcome: _,
+            history,
+        } => history,
+        Left::NoMemory {
+            outcome: _,
+            history,
+        } => history,
+    }
+}
+
+fn closing_status(closing: Option<Closing>) -> u8
+    ensures { result ≡ closing_status_is closing }
+{
+    match closing {
+        Some(Closing::Quiet) => 0,
+        Some(Closing::Stuck(_)) => 3,
+        Some(Closing::Limit) => 4,
+        Some(Closing::Stopped) | None => 5,
+    }
+}
+
+fn end_status(left: &Left) -> u8
+    ensures { result ≡ end_status_is left.now }
+{
+    match left {
+        Left::Over {
+            outcome,
+            history: _,
+        } => closing_status(outcome.closing()),
+        Left::NoMemory {
+            outcome: _,
+            history: _,
+        } => 5,
+    }
+}
+
+fn ending_of(left: &Left) -> Ending
+    ensures { result ≡ ending_is left.now }
+{
+    Ending {
+        events: history_of(left).len(),
+        outputs: final_of(left).outputs().len(),
+        status: end_status(left),
+    }
+}
+
+fn ending_held(held: &Held, ending: &mut Ending) -> u8
+    ensures { IsEnding (Some held.now) ending.old ending.new result }
+{
+    match held {
+        Held::Report(left) => {
+            *ending = ending_of(left);
+            codes::DONE
+        }
+        Held::Program(_) | Held::Inputs(_) => codes::NO_REPORT,
+    }
+}
+
+/// Writes how a run ended.
+pub fn report_ending(alloc: Global, report: &mut Handle, ending: &mut Ending) -> u8
+    ensures kept { report.new.held ≡ report.old.held }
+    ensures is { IsEnding report.old.held ending.old ending.new result }
+{
+    let Some(whole) = report.take(alloc) else {
+        return codes::NO_REPORT;
+    };
+    let code = ending_held(&whole, ending);
+    *report = Handle::of(whole);
+    code
+}
+
+fn output_in(outcome: &Final, index: usize, item: &mut Item) -> u8
+    ensures { IsOutputIn outcome.now index item.old item.new result }
+{
+    let outputs = outcome.outputs();
+    if index < outputs.len() {
+        *item = item_of(outcome.view(outputs[index]));
+        codes::DONE
+    } else {
+        codes::NO_INDEX
+    }
+}
+
+fn output_held(held: &Held, index: usize, item: &mut Item) -> u8
+    ensures { IsOutput (Some held.now) index item.old item.new result }
+{
+    match held {
+        Held::Report(left) => output_in(final_of(left), index, item),
+        Held::Program(_) | Held::Inputs(_) => codes::NO_REPORT,
+    }
+}
+
+/// Describes an output.
+pub fn output(alloc: Global, report: &mut Handle, index: usize, item: &mut Item) -> u8
+    ensures kept { report.new.held ≡ report.old.held }
+    ensures is { IsOutput report.old.held index item.old item.new result }
+{
+    let Some(whole) = report.take(alloc) else {
+        return codes::NO_REPORT;
+    };
+    let code = output_held(&whole, index, item);
+    *report = Handle::of(whole);
+    code
+}
+
+fn text_in(outcome: &Final, index: usize, room: &mut [u8]) -> u8
+    ensures { IsOutputTextIn outcome.now index room.old room.new result }
+{
+    let outputs = outcome.outputs();
+    if index < outputs.len() {
+        write_text(value_of(outcome.view(outputs[index])), room)
+    } else {
+        codes::NO_INDEX
+    }
+}
+
+fn text_held(held: &Held, index: usize, room: &mut [u8]) -> u8
+    ensures { IsOutputText (Some held.now) index room.old room.new result }
+{
+    match held {
+        Held::Report(left) => text_in(final_of(left), index, room),
+        Held::Program(_) | Held::Inputs(_) => codes::NO_REPORT,
+    }
+}
+
+/// Writes the text of an output to the start of a buffer, if it fits. `output` returns its length.
+pub fn output_text(alloc: Global, report: &mut Handle, index: usize, room: &mut [u8]) -> u8
+    ensures kept { report.new.held ≡ report.old.held }
+    ensures is { IsOutputText report.old.held index room.old room.new result }
+{
+    let Some(whole) = report.take(alloc) else {
+        return codes::NO_REPORT;
+    };
+    let code = text_held(&whole, index, room);
+    *report = Handle::of(whole);
+    code
+}

@@ -1,0 +1,78 @@
+//! Verdicts.
+
+ghost use Rattle.std.specs.Prelude.{◌≡◌, ◌≢◌, ◌⊎◌};
+ghost use Rattle.tw_verify.specs.Refusal.{verify_refusal_number};
+ghost use Rattle.tw_handles.specs.Verdict.{accepted as accepted_is, fault as fault_is, no_memory as no_memory_is, refusal as refusal_is};
+
+use tw_bytes::{Fault, FaultNo};
+use tw_verify::{Refused, Verified, VerifyRefusal};
+
+/// The verdict on a program's bytes.
+#[repr(C)]
+#[derive(Clone, Copy)]
+pub struct Verdict {
+    /// 0: accepted; 70, 'F': the bytes are no program; 86, 'V': refused; 77, 'M': memory ran out.
+    pub letter: u8,
+    /// The code after the letter.
+    pub number: u8,
+    /// How many engines and workers the targets need, where it is accepted.
+    pub engines: u8,
+    pub workers: u8,
+    /// The procedure of an error.
+    pub procedure: usize,
+    /// The place of an error in it; or the byte of the fault.
+    pub place: usize,
+}
+
+/// A letter with its number, and where in a program.
+fn refused_at(letter: u8, number: u8, procedure: usize, place: usize) -> Verdict
+    ensures { result ≡ record { letter = letter; number = number; engines = 0; workers = 0; procedure = procedure; place = place } }
+{
+    Verdict {
+        letter,
+        number,
+        engines: 0,
+        workers: 0,
+        procedure,
+        place,
+    }
+}
+
+pub(crate) fn no_memory() -> Verdict
+    ensures { result ≡ no_memory_is }
+{
+    refused_at(b'M', 0, 0, 0)
+}
+
+pub(crate) fn accepted(verified: &Verified) -> Verdict
+    ensures { result ≡ accepted_is verified.now.program }
+{
+    let (engines, workers) = verified.needs();
+    Verdict {
+        letter: 0,
+        number: 0,
+        engines,
+        workers,
+        procedure: 0,
+        place: 0,
+    }
+}
+
+pub(crate) fn fault_verdict(fault: &Fault) -> Verdict
+    ensures { ((fault.now.no ≢ FaultNo.NoMemory) × (result ≡ fault_is fault.now)) ⊎ ((fault.now.no ≡ FaultNo.NoMemory) × (result ≡ no_memory_is)) }
+{
+    match fault.no {
+        FaultNo::NoMemory => no_memory(),
+        no => refused_at(b'F', no.number(), 0, fault.offset),
+    }
+}
+
+pub(crate) fn refusal_verdict(refused: &Refused) -> Verdict
+    ensures { ((refused.now.no ≢ VerifyRefusal.NoMemory) × (result ≡ refusal_is (verify_refusal_number refused.now.no) refused.now.procedure refused.now.place))
+        ⊎ ((refused.now.no ≡ VerifyRefusal.NoMemory) × (result ≡ no_memory_is)) }
+{
+    match refused.no {
+        VerifyRefusal::NoMemory => no_memory(),
+        no => refused_at(b'V', no.number(), refused.procedure, refused.place),
+    }
+}

@@ -1,0 +1,128 @@
+/* SPDX-License-Identifier: Apache-2.0 */
+/* Loads a program once and runs it: `loaded INPUT.. < PROGRAM`, where PROGRAM has a program's bytes, and an INPUT is int:7 or text:abc. Prints
+ * the report's outputs as `tw run` does, and ends with its status. TIMES=n in the environment makes n runs, and prints how many a second. */
+#define _POSIX_C_SOURCE 199309L /* clock_gettime */
+#include "../yuglemit.h"
+#include <inttypes.h>
+#include <stdio.h>
+#include <stdlib.h>
+#include <string.h>
+#include <time.h>
+
+enum { WORKERS = 1, LIMIT = 10000, LONGEST_TEXT = 4096 };
+
+static int fail(const char *what, int code) {
+    printf("refused %s %d\n", what, code);
+    return code == YUGLEMIT_NO_MEMORY ? 5 : 1;
+}
+
+static size_t read_all(uint8_t *at, size_t room) {
+    return fread(at, 1, room, stdin);
+}
+
+static int add_input(yuglemit_inputs *inputs, const char *word) {
+    if (strncmp(word, "int:", 4) == 0) return yuglemit_input_int(inputs, strtoll(word + 4, NULL, 10));
+    if (strncmp(word, "text:", 5) == 0) return yuglemit_input_text(inputs, (const uint8_t *)word + 5, strlen(word + 5));
+    return YUGLEMIT_NO_INPUTS;
+}
+
+static void print_byte(uint8_t byte) {
+    if (byte == '"' || byte == '\\') printf("\\%c", byte);
+    else if (byte == '\n') fputs("\\n", stdout);
+    else if (byte < 32 || byte == 127) printf("\\x%02x", byte);
+    else putchar(byte);
+}
+
+static void print_text(const uint8_t *text, size_t length) {
+    putchar('"');
+    for (size_t k = 0; k < length; k++) print_byte(text[k]);
+    putchar('"');
+}
+
+static const char *type_name(uint8_t letter) {
+    return letter == 'i' ? "int" : "text";
+}
+
+static void print_item(const yuglemit_item *item, const uint8_t *text) {
+    switch (item->kind) {
+    case 'i': printf("int %" PRId64, item->number); break;
+    case 't': fputs("text ", stdout); print_text(text, item->length); break;
+    case 'u': fputs("unset", stdout); break;
+    case 'c':
+        printf("%s %s %s %zu", item->by == 't' ? "tcont" : "cont", type_name(item->scalar), item->closed ? "closed" : "open", item->length);
+        break;
+    default: fputs("gone", stdout);
+    }
+}
+
+static void print_member(yuglemit_report *report, size_t output, size_t place) {
+    yuglemit_member member;
+    uint8_t text[LONGEST_TEXT];
+    if (yuglemit_report_member(report, output, place, &member)) return;
+    fputs("  at ", stdout);
+    if (member.subscript.kind == 'i') printf("%" PRId64, member.subscript.number);
+    else if (yuglemit_report_subscript_text(report, output, place, text, sizeof text) == YUGLEMIT_DONE) print_text(text, member.subscript.length);
+    putchar(' ');
+    yuglemit_report_member_text(report, output, place, text, sizeof text);
+    print_item(&member.value, text);
+    putchar('\n');
+}
+
+static void print_output(yuglemit_report *report, size_t output) {
+    yuglemit_item item;
+    uint8_t text[LONGEST_TEXT];
+    if (yuglemit_report_output(report, output, &item)) return;
+    yuglemit_report_text(report, output, text, sizeof text);
+    printf("out %zu ", output);
+    print_item(&item, text);
+    putchar('\n');
+    for (size_t place = 0; item.kind == 'c' && place < item.length; place++) print_member(report, output, place);
+}
+
+static int print_report(yuglemit_report *report) {
+    yuglemit_ending ending = {0, 0, 0};
+    if (yuglemit_report_ending(report, &ending)) return 1;
+    for (size_t output = 0; output < ending.outputs; output++) print_output(report, output);
+    return ending.status;
+}
+
+static double seconds(void) {
+    struct timespec t;
+    clock_gettime(CLOCK_PROCESS_CPUTIME_ID, &t);
+    return (double)t.tv_sec + (double)t.tv_nsec * 1e-9;
+}
+
+/* Runs the program as often as TIMES says, and returns the code of the last run. */
+static int run(yuglemit_program *program, yuglemit_inputs *inputs, yuglemit_report *report) {
+    const char *times = getenv("TIMES");
+    long count = times ? strtol(times, NULL, 10) : 1;
+    double begun = seconds();
+    int code = 0;
+    for (long k = 0; k < count && code == 0; k++) code = yuglemit_run(program, inputs, 1, 1, WORKERS, LIMIT, report);
+    if (times) fprintf(stderr, "%.0f runs a second\n", (double)count / (seconds() - begun));
+    return code;
+}
+
+/* Runs the program with these inputs, and prints what comes of it. */
+static int answer(yuglemit_program *program, int count, char **words) {
+    yuglemit_inputs inputs = {NULL};
+    yuglemit_report report = {NULL};
+    int code = 0, status;
+    for (int k = 0; k < count && code == 0; k++) code = add_input(&inputs, words[k]);
+    if (code) status = fail("input", code);
+    else if ((code = run(program, &inputs, &report)) != 0) status = fail("run", code);
+    else status = print_report(&report);
+    yuglemit_inputs_free(inputs);
+    yuglemit_report_free(report);
+    return status;
+}
+
+int main(int argc, char **argv) {
+    static uint8_t bytes[1 << 20];
+    yuglemit_program program = {NULL};
+    yuglemit_verdict verdict;
+    yuglemit_load(bytes, read_all(bytes, sizeof bytes), &program, &verdict);
+    int status = verdict.letter ? fail("program", verdict.number) : answer(&program, argc - 1, argv + 1);
+    yuglemit_program_free(program);
+    return status;
+}
