@@ -1,3 +1,4 @@
+# SPDX-License-Identifier: Apache-2.0
 """Times commands in turn and prints the least processor time of each, and its ratio to lua's loop; then that of a round."""
 import os
 import resource

@@ -1,3 +1,4 @@
+# SPDX-License-Identifier: Apache-2.0
 """Times runs of `tw` and of peers in turn, prints the least of each with its ratio to what it is measured by, and a table of all at the end."""
 import os
 import re
@@ -12,7 +13,7 @@ LIMIT = "--limit=1000000"
 LEAF = "proc leaf\nregs\nRET\n"
 WORKERS = (1, 2, 4, 16)
 ENGINE_RUNS = ("put", "rules", "cont")
-# What docs/PROOFS.md keeps of a sitting: rows of a name, what was measured, and the aim.
+# The table of a sitting: rows of a name, the measurement, and the aim.
 table = []
 
 

@@ -1,3 +1,4 @@
+// SPDX-License-Identifier: Apache-2.0
 // Peer: jobs of so many adds each through oneTBB's task_group. usage: tbb_jobs JOBS ADDS THREADS
 #include <oneapi/tbb/task_group.h>
 #include <oneapi/tbb/global_control.h>
