@@ -1,4 +1,5 @@
 #!/usr/bin/env python3
+# SPDX-License-Identifier: Apache-2.0
 """Checks the crate in whose folder it is called, with the crates below taken from their sources, as they stand and unproved: for the first minutes in
 a fresh clone, where `rt check` would prove all of those first. It takes the words of `rt check`, as --only FUNCTION, which checks that function and
 what it calls, in the crates below too; without one it checks all functions of those as well."""

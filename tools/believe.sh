@@ -1,9 +1,10 @@
 #!/bin/sh
-# Prints what must be believed of a public promise, as one text to read from top to bottom: the definitions that its clauses reach,
-# lowest first, each once, under the file in which it stands; the promise itself; which names are the toolchain's library's; and how
-# many lines of definitions these are.
+# SPDX-License-Identifier: Apache-2.0
+# Prints what must be believed of a public promise, as one text to read from top to bottom. It has the definitions that its clauses reach,
+# lowest first, each once, below the name of its file. The promise itself follows, the names of the toolchain's library, and the number of
+# lines of these definitions.
 #
-#   tools/believe.sh no_trap             all clauses of a call or a law
+#   tools/believe.sh no_trap             all clauses of a call or a theorem
 #   tools/believe.sh no_trap safe        its premises and one clause
 #   tools/believe.sh Pool::turn          a method; tw_pool::Pool::turn where two types have one
 #   tools/believe.sh Pool                the invariant of a type

@@ -1,3 +1,4 @@
+# SPDX-License-Identifier: Apache-2.0
 """Gives a built `tw` broken input, and prints how often it ended in which way: each beginning of a program's bytes, each of its bytes
 changed to each other, each beginning of a text, and a history with each line left out, doubled, or changed to others. Ends with 1 where
 an end was none that the command's help names, or said nothing.

@@ -1,6 +1,8 @@
 #!/bin/sh
-# Writes tools/tw.vim, by which vim shows assembly text and symbolic assembly, and tools/tw.bash and tools/tw.zsh, by which these shells complete the
-# arguments of tw. The first is made of the names of instructions and the words that are read in lines, the others of the help texts of the program and of ./tw.
+# SPDX-License-Identifier: Apache-2.0
+# Writes tools/tw.vim and tools/tw.tmLanguage.json, by which vim and editors with TextMate grammars show assembly text and symbolic assembly, and
+# tools/tw.bash and tools/tw.zsh, by which these shells complete the arguments of tw. The first two are made of the names of instructions and the
+# words that are read in lines, the others of the help texts of the program and of ./tw.
 #
 #   tools/editor.sh            writes them, by the program with which ./tw answers
 #   tools/editor.sh --check    compares them with those that are there, and fails if one is stale
@@ -71,6 +73,34 @@ let b:current_syntax = "tw"
 TEXT
 }
 
+# A list of words as alternatives of an expression.
+either() {
+    tr ' ' '|'
+}
+
+write_textmate() {
+    sed "s/@INSTRUCTIONS@/$(instructions | either)/; s/@STATEMENTS@/$(first_words | either)/; s/@WORDS@/$(other_words | either)/" <<'TEXT'
+{
+  "name": "Yuglemit assembly",
+  "comment": "tools/editor.sh writes this file.",
+  "scopeName": "source.tw",
+  "fileTypes": ["tw", "twn"],
+  "patterns": [
+    {"name": "comment.line.semicolon.tw", "match": ";.*$"},
+    {"name": "string.quoted.double.tw", "begin": "\"", "end": "\"|$", "patterns": [{"name": "constant.character.escape.tw", "match": "\\\\([\"\\\\n]|x[0-7][0-9A-Fa-f])"}]},
+    {"name": "entity.name.label.tw", "match": "^\\s*[A-Za-z][A-Za-z0-9_]*:(?=\\s|;|$)"},
+    {"name": "keyword.operator.instruction.tw", "match": "\\b(@INSTRUCTIONS@)\\b"},
+    {"name": "keyword.control.statement.tw", "match": "\\b(@STATEMENTS@)\\b"},
+    {"name": "storage.type.tw", "match": "\\b(@WORDS@)\\b"},
+    {"name": "variable.other.value.tw", "match": "\\bv(1[0-5]|[0-9])\\b"},
+    {"name": "variable.other.right.tw", "match": "\\bd(1[0-5]|[0-9])\\b"},
+    {"name": "constant.numeric.skip.tw", "match": "(?<=\\s)\\+[0-9]+\\b"},
+    {"name": "constant.numeric.tw", "match": "(?<=\\s)-?[0-9]+\\b"}
+  ]
+}
+TEXT
+}
+
 # ---- completion
 
 # The commands of a help text that is read.
@@ -83,7 +113,7 @@ options() {
     "$program" "$1" --help </dev/null | sed -n '/^Options:/,/^$/s/^ *\(-[a-z], \)\{0,1\}\(--[a-z-]*\).*/\2/p' | tr '\n' ' ' | sed 's/ $//'
 }
 
-# What ./tw package makes.
+# The kinds of packages of ./tw package.
 packages() {
     sed -n 's/^PACKAGES: .*{\(.*\)}$/\1/p' "$root/tools/package.py" | grep -o '"[a-z]*"' | tr -d '"' | tr '\n' ' ' | sed 's/ $//'
 }
@@ -93,7 +123,7 @@ inputs() {
     "$program" run --help </dev/null | sed -n 's/^ *\[input\]\.\.\. *\(.*\)/\1/p' | grep -o '[a-z]*:' | grep -v '^input:$' | in_line
 }
 
-# The program's commands, and those of ./tw besides.
+# The program's commands, and those of ./tw alone.
 all_commands() {
     "$program" --help </dev/null | commands | grep -v '^help$' | tr '\n' ' ' | sed 's/ $//'
 }
@@ -104,7 +134,7 @@ own_commands() {
 
 write_bash() {
     cat <<TEXT
-# What bash completes after tw and ./tw. tools/editor.sh writes this file.
+# Completes the arguments of tw and ./tw in bash. tools/editor.sh writes this file.
 _tw() {
     local word=\${COMP_WORDS[COMP_CWORD]} command=\${COMP_WORDS[1]} all="$(all_commands)"
     COMPREPLY=()
@@ -138,7 +168,7 @@ TEXT
 write_zsh() {
     cat <<TEXT
 #compdef tw
-# What zsh completes after tw and ./tw. tools/editor.sh writes this file.
+# Completes the arguments of tw and ./tw in zsh. tools/editor.sh writes this file.
 local -a all
 all=($(all_commands))
 case \$words[1] in */*) all+=($(own_commands)) ;; esac
@@ -165,10 +195,11 @@ TEXT
 
 program=${TW_PROGRAM:-$("$root/tools/tw-pick.sh" tw_main)} || exit
 write_vim >"$room/tw.vim" || exit
+write_textmate >"$room/tw.tmLanguage.json" || exit
 write_bash >"$room/tw.bash" || exit
 write_zsh >"$room/tw.zsh" || exit
 stale=0
-for file in tw.vim tw.bash tw.zsh; do
+for file in tw.vim tw.tmLanguage.json tw.bash tw.zsh; do
     if [ "$1" = --check ]; then
         cmp -s "$room/$file" "$root/tools/$file" || { echo "tools/$file is stale: tools/editor.sh writes it" >&2; stale=1; }
     else

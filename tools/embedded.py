@@ -1,4 +1,7 @@
+# SPDX-License-Identifier: Apache-2.0
 """Compares the library's examples with the program tw: tools/embedded.sh says how."""
+
+from __future__ import annotations
 
 import doctest
 import os
@@ -7,37 +10,45 @@ import shlex
 import subprocess
 import sys
 import time
+from collections.abc import Callable
+from functools import partial
 
-root, room, *languages = sys.argv[1:]
+root, room, *parts = sys.argv[1:]
+languages = [it for it in parts if it != "stack"]
 tw = f"{root}/crates/tw_main/out/tw_main"
 folder = f"{root}/examples"
-sys.path.insert(0, f"{root}/embed/python")
-same = differ = 0
+sys.path[:0] = [f"{root}/embed/python", f"{root}/tools"]
+
+Answer = tuple[int, bytes]
+counts = {True: 0, False: 0}
 
 
-def say(is_same, *what):
-    global same, differ
-    same, differ = same + is_same, differ + (not is_same)
+def say(is_same: bool, *what: object) -> None:
+    """Counts an answer, and prints one that differs."""
+    counts[is_same] += 1
     if not is_same:
         print("DIFFERS", *what)
 
 
-def started(program, words, data=b""):
-    """The status and the text of a program."""
-    done = subprocess.run([program, *words], input=data, stdout=subprocess.PIPE)
+def started(program: str, words: list[str], data: bytes = b"") -> Answer:
+    """Returns the status and the text of a program."""
+    done = subprocess.run([program, *words], input=data, stdout=subprocess.PIPE, stderr=subprocess.DEVNULL, check=False)
     return done.returncode, done.stdout
 
 
-def by_python(words, data):
+def by_python(words: list[str], data: bytes) -> Answer:
+    """Returns what the Python module answers."""
     import yuglemit
-    return yuglemit.session(words, data)
+
+    status, text = yuglemit.session(words, data)
+    return int(status), bytes(text)
 
 
-answers = {it: by_python if it == "python" else lambda words, data, it=it: started(f"{room}/{it}", words, data) for it in languages}
+answers: dict[str, Callable[[list[str], bytes], Answer]] = {it: by_python if it == "python" else partial(started, f"{room}/{it}") for it in languages}
 
 
-def compare(words, data=b""):
-    """One answer of each language, beside the program's."""
+def compare(words: list[str], data: bytes = b"") -> None:
+    """Compares one answer of each language with the program's."""
     in_turn = ["--in-turn"] if words[:1] == ["run"] and not {"--help", "--in-turn"} & {*words} else []
     wanted = started(tw, words[:1] + in_turn + words[1:], data)
     for language, answer in answers.items():
@@ -48,18 +59,20 @@ def compare(words, data=b""):
             say(got == wanted, language, words, got[0], wanted[0], got[1][:100], wanted[1][:100])
 
 
-def shown_words(name):
-    """The words behind `run` and others that examples/sessions.txt shows for a file."""
+def shown_words(name: str) -> list[list[str]]:
+    """Returns the words behind `run` and others that examples/sessions.txt shows for a file."""
     with open(f"{folder}/sessions.txt", encoding="utf-8") as file:
         found = re.findall(rf"^\$ \./tw (?:run|replay|picture) examples/{re.escape(name)}\b(.*)$", file.read(), re.M)
     return [words for words in map(shlex.split, found) if words and "--inputs" not in words]
 
 
-def compare_example(name):
+def compare_example(name: str) -> None:
+    """Compares what all commands answer to a file of examples/."""
     with open(f"{folder}/{name}", "rb") as file:
         data = file.read()
     text = ["--text"] if name.endswith((".tw", ".twn")) else []
-    for words in (["asm"], ["asm", "--names"], ["asm", "--names", "--plain"], *([command, *text, *places] for command in ("check", "disasm") for places in ([], ["--places"]))):
+    listed = [[command, *text, *places] for command in ("check", "disasm") for places in ([], ["--places"])]
+    for words in (["asm"], ["asm", "--names"], ["asm", "--names", "--plain"], *listed):
         compare(words, data)
     for words in [[], ["--engines", "2", "--servers", "2", "--workers", "4"], *shown_words(name)]:
         for more in ([], ["--trace"], ["--stats"], ["--picture"]):
@@ -69,34 +82,57 @@ def compare_example(name):
     # A byte in the middle is another one.
     middle = len(data) // 2
     for words in (["asm"], ["check", *text], ["run", *text, "--limit", "300"]):
-        compare(words, data[:middle] + b"9" + data[middle + 1:])
+        compare(words, data[:middle] + b"9" + data[middle + 1 :])
 
 
-def compare_calls():
-    """The functions of the Python module, beside the program."""
+def compare_unread(words: list[str]) -> None:
+    """Checks that an example ends where tw reads nothing, though its standard input stays open."""
+    for language in languages:
+        if language == "python":
+            continue
+        read, write = os.pipe()
+        try:
+            done = subprocess.run([f"{room}/{language}", *words], stdin=read, stdout=subprocess.PIPE, stderr=subprocess.DEVNULL, timeout=20, check=False)
+            say((done.returncode, done.stdout) == started(tw, words), language, words, done.returncode, done.stdout[:100])
+        except subprocess.TimeoutExpired:
+            say(False, language, words, "waits for an input")
+        finally:
+            os.close(read)
+            os.close(write)
+
+
+def compare_call(name: str, order: list[str], text: str, call: Callable[[], str]) -> None:
+    """Compares what a function of the Python module gives, or refuses, with the program's text."""
     import yuglemit
+
+    try:
+        got = call()
+    except yuglemit.Refused as why:
+        got = why.text
+    wanted = started(tw, order, text.encode())[1].decode()
+    say(got == wanted, "python", name, order, got[:100], wanted[:100])
+
+
+def compare_calls() -> None:
+    """Compares the functions of the Python module with the program."""
+    import yuglemit
+
     for name in sorted(it for it in os.listdir(folder) if it.endswith((".tw", ".twn"))):
         with open(f"{folder}/{name}", encoding="utf-8") as file:
             text = file.read()
-        words = (shown_words(name) or [[]])[0]
-        inputs = [word for word in words if ":" in word]
-        calls = [(lambda: yuglemit.assemble(text).hex() + "\n", ["asm", "--names"] if name.endswith(".twn") else ["asm"]),
-                 (lambda: yuglemit.load(text).checked, ["check", "--text"])]
+        inputs = [word for word in (shown_words(name) or [[]])[0] if ":" in word]
+        order = ["asm", "--names"] if name.endswith(".twn") else ["asm"]
+        compare_call(name, order, text, lambda text=text: yuglemit.assemble(text).hex() + "\n")
+        compare_call(name, ["check", "--text"], text, lambda text=text: yuglemit.load(text).checked)
+        order = ["run", "--text", "--in-turn", "--workers", "2", *inputs]
         if inputs or not re.search(r"^proc control.*\b(closed|ref)\b", text, re.M):  # inputs that main doesn't ask for are a TypeError
-            calls.append((lambda: yuglemit.load(text).run(*map(yuglemit.read_input, inputs), workers=2).text, ["run", "--text", "--in-turn", "--workers", "2", *inputs]))
-        for call, order in calls:
-            try:
-                got = call()
-            except yuglemit.Refused as why:
-                got = why.text
-            wanted = started(tw, order, text.encode())[1].decode()
-            say(got == wanted, "python", name, order, got[:100], wanted[:100])
+            compare_call(name, order, text, lambda text=text, inputs=inputs: yuglemit.load(text).run(*map(yuglemit.read_input, inputs), workers=2).text)
         try:
             told = "accepted" if yuglemit.verify(yuglemit.assemble(text)) else ""
         except yuglemit.Refused as why:
             told = why.text.splitlines()[0]
-        wanted = started(tw, ["check", "--text"], text.encode())[1].decode().splitlines()
-        say(told in wanted, "python", name, "verify", told, wanted[:1])
+        lines = started(tw, ["check", "--text"], text.encode())[1].decode().splitlines()
+        say(told in lines, "python", name, "verify", told, lines[:1])
     os.chdir(root)
     failed, tried = doctest.testfile(f"{root}/embed/python/README.md", module_relative=False)
     if os.path.exists("run.svg"):
@@ -104,43 +140,73 @@ def compare_calls():
     say(failed == 0, "embed/python/README.md", failed, "of", tried)
 
 
-def seconds(times, what):
+def compare_stack() -> None:
+    """Makes calls over hostile inputs in a thread with little stack, and prints the most that one took."""
+    import hostile
+
+    most, whose = 0, ""
+    for given in hostile.all_inputs():
+        data = given.make(1 << 20).encode()
+        for command in given.commands:
+            status, told = started(f"{room}/stack", command.split(), data)
+            say(status == 0, "stack", given.name, command, status)
+            if status == 0 and int(told) > most:
+                most, whose = int(told), f"{command} of {given.name}"
+    print(f"the most stack: {most} bytes, {whose}")
+
+
+def seconds(times: int, what: Callable[[], object]) -> float:
+    """Returns how long one call takes."""
     begun = time.perf_counter()
     for _ in range(times):
         what()
     return (time.perf_counter() - begun) / times
 
 
-def tell_rates():
+def seconds_of(language: str, words: list[str], data: bytes) -> float:
+    """Returns how long a call of C or Python takes."""
+    if language == "python":
+        import yuglemit
+
+        return seconds(5000, (lambda: yuglemit.verify(data)) if words == ["verify"] else lambda: yuglemit.session(words, data))
+    told = subprocess.run([f"{room}/c", *words], input=data, capture_output=True, env={**os.environ, "TIMES": "20000"}, check=False).stderr
+    return float(told.split()[0]) / 1e6
+
+
+def print_rates() -> None:
+    """Prints how many calls a second are made."""
     with open(f"{folder}/fan_out.tw", "rb") as file:
-        data = file.read()
-    program = bytes.fromhex(started(tw, ["asm"], data)[1].decode())
+        text = file.read()
+    program = bytes.fromhex(started(tw, ["asm"], text)[1].decode())
     for words in (["check", "--text"], ["run", "--text"], ["verify"]):
+        data = program if words == ["verify"] else text
         rates = []
         if words != ["verify"]:
-            begun = seconds(300, lambda: started(tw, words + (["--in-turn"] if words[0] == "run" else []), data))
-            rates.append(f"starting tw {1 / begun:,.0f}")
-        for language in languages:
-            if language == "python":
-                import yuglemit
-                each = seconds(5000, (lambda: yuglemit.verify(program)) if words == ["verify"] else lambda: yuglemit.session(words, data))
-            elif language == "c":
-                told = subprocess.run([f"{room}/c", *words], input=program if words == ["verify"] else data, stdout=subprocess.PIPE, stderr=subprocess.PIPE,
-                                      env={**os.environ, "TIMES": "20000"}).stderr
-                each = float(told.split()[0]) / 1e6
-            else:
-                continue
-            rates.append(f"{language} {1 / each:,.0f}")
+            order = words + (["--in-turn"] if words[0] == "run" else [])
+            rates.append(f"starting tw {1 / seconds(300, lambda order=order: started(tw, order, text)):,.0f}")
+        rates += [f"{it} {1 / seconds_of(it, words, data):,.0f}" for it in languages if it in ("c", "python")]
         print(f"calls a second, {words[0]} of fan_out.tw: {', '.join(rates)}")
 
 
-for name in sorted(it for it in os.listdir(folder) if it.endswith((".tw", ".twn", ".hex", ".history"))):
-    compare_example(name)
-for words in (["--help"], ["--version"], ["run", "--help"], [], ["fly"], ["run", "--workers", "17"], ["run", "int:x"], ["explain"],
-              *(["explain", f"{letter}{number:02}"] for letter in "AFHOVEX" for number in range(20)), *(["explain", f"C{number}"] for number in range(17))):
-    compare(words)
-if "python" in languages:
-    compare_calls()
-print(f"{same} same, {differ} differ")
-tell_rates()
-sys.exit(differ > 0)
+def compare_all() -> None:
+    """Compares all that was asked for."""
+    for name in sorted(it for it in os.listdir(folder) if it.endswith((".tw", ".twn", ".hex", ".history"))):
+        compare_example(name)
+    explained = [["explain", f"{letter}{number:02}"] for letter in "AFHOVEX" for number in range(20)]
+    for words in (["--help"], ["--version"], ["run", "--help"], [], ["fly"], ["run", "--workers", "17"], ["run", "int:x"], ["explain"],
+                  ["run", "text:a\r"], *explained, *(["explain", f"C{number}"] for number in range(17))):
+        compare(words)
+    for words in (["--help"], ["--version"], ["run", "--help"], ["help", "run"], ["fly"], ["run", "--workers", "17"], ["run", "int:x"], ["explain", "V04"]):
+        compare_unread(words)
+    if "python" in languages:
+        compare_calls()
+
+
+if languages:
+    compare_all()
+if "stack" in parts:
+    compare_stack()
+print(f"{counts[True]} same, {counts[False]} differ")
+if languages:
+    print_rates()
+sys.exit(counts[False] > 0)

@@ -1,26 +1,32 @@
 #!/bin/sh
-# Builds the library, and its examples in C, C++ and Rust; runs them and the Python module over every example with and without inputs,
-# and compares text and status with the program tw (which runs by --in-turn); and plays what embed/python/README.md shows. Tells of each
-# that differs, ends with `N same, 0 differ`, and fails where one does. Behind that stands how many calls a second each makes, beside
+# SPDX-License-Identifier: Apache-2.0
+# Builds the library, and its examples in C, C++ and Rust. Runs them and the Python module over every example with and without inputs,
+# and compares text and status with the program tw (which runs by --in-turn). Runs the examples of embed/python/README.md too. Prints each
+# that differs, ends with `N same, 0 differ`, and fails if one does. After that it prints how many calls a second each makes, beside
 # starting the program.
 #
-#   tools/embedded.sh           all four
+#   tools/embedded.sh           all five
 #   tools/embedded.sh c python  these
 #
-# Needs a C and a C++ compiler (cc, c++), rustc, and Python 3.8.
+# `stack` makes calls over the inputs of tools/hostile.sh, 1 MiB of each, in a thread with a stack of 64 KiB, and prints the most that a
+# call took of it.
+#
+# Needs a C and a C++ compiler (cc, c++), rustc, and Python 3.9.
 root=$(dirname "$(dirname "$(readlink -f "$0")")")
 out=$root/crates/tw_embed/out
-[ $# -gt 0 ] || set -- c cpp rust python
+[ $# -gt 0 ] || set -- c cpp rust python stack
 "$root/tw" build && "$root/tw" build --library || exit
 room=$(mktemp -d)
 trap 'rm -rf "$room"' EXIT
+warnings="-Wall -Wextra -pedantic -Werror"
 for language; do
     case $language in
-        c) cc -O2 -Wall -Wextra -Werror -o "$room/c" "$root/embed/c/example.c" "$out/libyuglemit.a" ;;
-        cpp) c++ -std=c++17 -O2 -Wall -Wextra -Werror -o "$room/cpp" "$root/embed/cpp/example.cpp" "$out/libyuglemit.a" ;;
+        c) cc -std=c99 -O2 $warnings -o "$room/c" "$root/embed/c/example.c" "$out/libyuglemit.a" ;;
+        cpp) c++ -std=c++17 -O2 $warnings -o "$room/cpp" "$root/embed/cpp/example.cpp" "$out/libyuglemit.a" ;;
         rust) rustc --edition 2024 -O -D warnings -L "$out" -o "$room/rust" "$root/embed/rust/example.rs" ;;
         python) ;;
-        *) echo "there is no language $language here: c, cpp, rust, python" >&2; exit 2 ;;
+        stack) cc -std=c99 -O2 $warnings -pthread -o "$room/stack" "$root/tools/embedded.c" "$out/libyuglemit.a" ;;
+        *) echo "there is no language $language here: c, cpp, rust, python; or stack" >&2; exit 2 ;;
     esac || exit
 done
 python3 -B "$root/tools/embedded.py" "$root" "$room" "$@"

@@ -1,7 +1,8 @@
 #!/bin/sh
+# SPDX-License-Identifier: Apache-2.0
 # Runs bench/load.tw so many times with 4 engines, 4 servers and 16 workers, and prints how many runs ended with which status and
-# the checksum of what they wrote. All must have one and the same: the report doesn't depend on the order of events. What a run tells on
-# standard error, as `tw: 1 late wakes of idle threads`, is printed too: nothing is wanted there.
+# the checksum of what they wrote. All must have one and the same: the report doesn't depend on the order of events. The messages of a run on
+# standard error, such as `tw: 1 late wakes of idle threads`, are printed too: none is expected.
 #
 #   tools/load.sh [TIMES] [WORDS of tw run..]
 set -e

@@ -1,6 +1,7 @@
 #!/bin/sh
+# SPDX-License-Identifier: Apache-2.0
 # Runs a program on 10,000 inputs by each engine of docs/MANY.md, on this machine over loopback, kills a worker in the middle, and compares
-# the tables, which have to be the same; and tries what examples/many/*.sh have to stand. Prints a line for each case, ends with
+# the tables, which have to be the same. Tests what examples/many/*.sh have to survive. Prints a line for each case, ends with
 # `N passed, M failed`, and fails if one does.
 #
 #   tools/many.sh                       all of it
@@ -79,7 +80,7 @@ awk -v count="$count" -v folder="$room/inputs" 'BEGIN { for (i = 1; i <= count; 
 for i in $(seq 1 40); do cp "$room/inputs/n$i.in" "$room/few"; done
 mkdir "$room/more" && for i in $(seq 1 150); do echo 'ints:' >"$room/more/m$i.in"; done
 
-# What is wanted is arithmetic: the squares, and their sum.
+# The expected results are arithmetic: the squares, and their sum.
 awk -v count="$count" 'BEGIN { for (i = 1; i <= count; i++)
     printf "n%d\t0\tout 0 cont int closed 2;  at 1 int %d;  at 2 int 49;out 1 int %d;quiet;\n", i, i * i, i * i + 49 }' | sort >"$room/wanted"
 
@@ -162,7 +163,7 @@ refused_input_is_an_answer() {
     [ "$(status_of "$room/wrong.out/w.status")" = 2 ] && [ "$(status_of "$room/wrong.out/x.status")" = 1 ]
 }
 
-# Ends the script by a signal while it runs: what is done stays, and the same command goes on.
+# Ends the script by a signal while it runs: results stay, and the same command continues.
 killed() {
     rm -rf "$room/killed"
     mkdir -p "$room/killed"

@@ -1,3 +1,4 @@
+# SPDX-License-Identifier: Apache-2.0
 """Writes the packages into dist/: package.py [deb] [wheel] [crate] [tar], or all four.
 
 Each holds what `./tw install` installs, or the library alone (wheel and crate). The version is the file VERSION's. No tool but tw is

@@ -1,6 +1,7 @@
 #!/bin/sh
-# Tries the packages that `./tw package` writes, in minimal Debian systems that have no toolchain: one without a compiler, where the Debian
-# package and the wheel are installed and used, and one with gcc, CMake, pkg-config and cargo, where programs are built. They have no network.
+# SPDX-License-Identifier: Apache-2.0
+# Tests the packages that `./tw package` writes, in minimal Debian systems that have no toolchain and no network. In one without a compiler the Debian
+# package and the wheel are installed and used. In one with gcc, CMake, pkg-config and cargo programs are built.
 # Prints each check, and fails if one does. It wants root, mmdebstrap and a mirror of Debian. Without these it says so, and tries
 # the same in a clean prefix with a clean environment.
 #
@@ -52,7 +53,7 @@ check() {
     report "$1" $?
 }
 
-# Checks that a command's first line of output is as wanted.
+# Checks that a command's first line of output is the expected one.
 check_output() {
     inside "$2"
     [ "$(head -n 1 "$room/log")" = "$3" ]
@@ -127,7 +128,7 @@ check_system_with_compiler() {
 
 # ---- Without a minimal system
 
-# The same, as far as it goes, in a prefix of its own and with this machine's compiler.
+# Does so, as far as possible, in a prefix of its own and with this machine's compiler.
 check_in_prefix() {
     prefix=$room/prefix
     mkdir "$prefix"

@@ -1,7 +1,8 @@
 #!/usr/bin/env python3
+# SPDX-License-Identifier: Apache-2.0
 """Runs a program of some seconds by the built `tw` with a pseudo terminal for standard error, and compares what is told there: once a second
-how many events there are so far, and nothing with --quiet, by --in-turn, into a pipe, or of a short run whose program comes late. Standard
-output and the status have to be the same each time. Tells of each that differs, ends with `N as wanted, M not`, and fails where one isn't.
+how many events there are so far, and nothing with --quiet, by --in-turn, into a pipe, or of a short run whose program comes late; and why a
+command line is refused. Standard output and the status have to be the same each time. Tells of each that differs, ends with `N as wanted, M not`, and fails where one isn't.
 
     tools/progress.py             by the proved program, which is built where it isn't there
     TW_PROGRAM=FILE tools/progress.py    by another one
@@ -11,7 +12,7 @@ import os, pty, re, subprocess, sys, threading, time
 ROOT = os.path.dirname(os.path.dirname(os.path.realpath(__file__)))
 PROGRAM = os.environ.get("TW_PROGRAM") or os.path.join(ROOT, "crates/tw_main/out/tw_main")
 SHORT = "proc control write int\nregs int\nINT v0 7\nSTORE d0 v0\nRET\n"
-# So many times so many tasks of ten thousand turns of a loop each, one after the other on one worker.
+# Tasks of ten thousand iterations each, one after the other on one worker.
 LONG = """proc control
 regs
 REPEAT %d
@@ -101,12 +102,16 @@ def main():
         else:
             bad += 1
             print(f"{name}, {took:.1f} seconds: told {told!r}, wrote {written!r}, status {status}")
-    told, written, status, took = run([], SHORT, late=3.5)
-    if told == "" and (written, status) == ("out 0 int 7\nquiet\n", 0):
-        good += 1
-    else:
-        bad += 1
-        print(f"a short run whose program comes late: told {told!r}, wrote {written!r}, status {status}")
+    for name, words, late, is_wanted in [
+        ("a short run whose program comes late", [], 3.5, ("", "out 0 int 7\nquiet\n", 0)),
+        ("a refused command line", ["--workers=17"], 0.0, ("error: --workers takes a number from 1 to 16\n", "command line refused\n", 2)),
+    ]:
+        told, written, status, took = run(words, SHORT, late=late)
+        if (told, written, status) == is_wanted:
+            good += 1
+        else:
+            bad += 1
+            print(f"{name}: told {told!r}, wrote {written!r}, status {status}")
     print(f"{good} as wanted, {bad} not")
     return bad != 0
 

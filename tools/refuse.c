@@ -1,3 +1,4 @@
+/* SPDX-License-Identifier: Apache-2.0 */
 /* Refuses one request of a program: the one whose number, from 1, is in REFUSE. Requests are those for memory, or, where KIND is
    `thread`, those for threads. Where REPORT names a file, the number of requests stands there, written anew at each, since a
    program with threads may end without its destructors. Built and loaded by tools/refused.sh. */

@@ -1,4 +1,5 @@
 #!/bin/sh
+# SPDX-License-Identifier: Apache-2.0
 # Runs a program once for each request for memory that it makes, with that request refused, and prints how often it ended in
 # which way: its status, and the last line that it wrote. With -t, each request for a thread.
 #
@@ -10,14 +11,14 @@ most=0
 kind=memory
 [ "$1" = "-t" ] && { kind=thread; shift; }
 [ "$1" = "-n" ] && { most=$2; shift 2; }
-[ $# -gt 0 ] || { sed -n '2,7s/^# \{0,1\}//p' "$0"; exit 2; }
+[ $# -gt 0 ] || { sed -n '3,8s/^# \{0,1\}//p' "$0"; exit 2; }
 here=$(dirname "$(readlink -f "$0")")
 room=$(mktemp -d)
 trap 'rm -rf "$room"' EXIT
 cc -O2 -shared -fPIC -o "$room/refuse.so" "$here/refuse.c" -ldl
 cat >"$room/input"
 
-# Runs the program with the request of this number refused, and tells in `requests` how many it made.
+# Runs the program with the request of this number refused, and sets `requests` to how many it made.
 run_refusing() {
     number=$1
     shift

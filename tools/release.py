@@ -1,4 +1,5 @@
 #!/usr/bin/env python3
+# SPDX-License-Identifier: Apache-2.0
 """Makes release/ from what `rt ci` has proved: the program, the libraries, the runner of the cases, the page, and MANIFEST.
 
   tools/release.py               runs CI (`rt ci`) on the committed files, builds everything in two folders, compares, and writes release/
@@ -37,7 +38,7 @@ LIBRARY = "tw_embed"
 LIBRARIES = ("libyuglemit.so", "libyuglemit.a")
 PAGE = "index.html"
 BUILT = (*PROGRAMS, LIBRARY)
-# What MANIFEST has in place of CI's last line if nothing was proved.
+# MANIFEST has this in place of CI's last line if nothing was proved.
 UNPROVED = "none, since nothing was proved"
 # How often it was built.
 ONCE, TWICE = "once", "twice, the same in different folders"
@@ -379,7 +380,7 @@ def main() -> int:
     parser.add_argument("--unproved", metavar="FOLDER")
     parser.add_argument("--rebuild", nargs=2, metavar=("TREE", "CRATE"), help=argparse.SUPPRESS)
     words = parser.parse_args()
-    # A signal ends it as an error does, so that its folder goes and what it started is stopped.
+    # A signal ends it as an error does, so that its folder is removed and what it started is stopped.
     for number in (signal.SIGTERM, signal.SIGHUP):
         signal.signal(number, lambda caught, _: sys.exit(128 + caught))
     if words.rebuild:

@@ -1,4 +1,5 @@
 #!/bin/sh
+# SPDX-License-Identifier: Apache-2.0
 # Tries what a user of the release meets: makes a clean clone of the committed files, and there, with nothing in the environment but
 # PATH=/usr/bin:/bin, runs commands, README's "five minutes", `./tw test`, `./tw install` and the blocks of docs/HOSTING.md.
 # Prints each check with its time, and fails if one does. It needs no toolchain.
@@ -21,7 +22,7 @@ report() {
     fi
 }
 
-# Runs a command in the clone with a clean environment; its output, messages and milliseconds are left in the room.
+# Runs a command in the clone with a clean environment; its output, messages and milliseconds are left in `room`.
 clean() {
     begun=$(now)
     (cd "$clone" && env -i PATH=/usr/bin:/bin HOME="$room/home" "$@") >"$room/out" 2>"$room/err" </dev/null

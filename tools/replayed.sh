@@ -1,6 +1,7 @@
 #!/bin/sh
-# Runs each example so many times with changing layouts, its events before its report, and replays them on the reference machine: the
-# report and the status must be the same, and nothing may be told on standard error, as of late wakes. Prints how many runs of each example were
+# SPDX-License-Identifier: Apache-2.0
+# Runs each example so many times with changing layouts, its events before its report, and replays them on the reference machine. The
+# report and the status must be the same, and nothing may be on standard error, such as late wakes. Prints how many runs of each example were
 # replayed alike, and stops at the first that isn't.
 #
 #   tools/replayed.sh [TIMES]

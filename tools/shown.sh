@@ -1,8 +1,9 @@
 #!/bin/sh
+# SPDX-License-Identifier: Apache-2.0
 # Runs each command `$ ./tw ..` that README.md, docs/ and examples/sessions.txt show, and those of tools/scripted.txt, which only the script
-# can run, and compares what it writes to standard
-# output with what is shown below it; of an error, also that standard error names its explanation; and that `./tw --help` lists
-# the commands that the program lists, and that the files for editors and shells are up to date. Prints each difference, and fails if there is one.
+# can run, and compares its standard output with what is shown below it. After an error, standard error has to name its explanation. Also
+# compares the commands that `./tw --help` and the program list, and checks that the files for editors and shells are up to date. Prints each
+# difference, and fails if there is one.
 # The program is the one with which ./tw answers; standard error says so if it is an unverified build.
 root=$(dirname "$(dirname "$(readlink -f "$0")")")
 room=$(mktemp -d)

@@ -1,3 +1,4 @@
+# SPDX-License-Identifier: Apache-2.0
 """Tests of tools/release.py, tools/package.py and tools/tw-sources.sh: python3 tools/test_release.py"""
 
 from __future__ import annotations

@@ -1,3 +1,4 @@
+# SPDX-License-Identifier: Apache-2.0
 # shellcheck shell=sh
 # `./tw build [--library]`: proves what a program or the library depends on, and builds it. The script tw reads this file.
 # shellcheck source=tools/tw-pick.sh disable=SC2154
@@ -78,7 +79,7 @@ prove_and_build() {
     say "built, in $(minutes) min"
 }
 
-# One build at a time. The lock goes when its holder does; without a command flock rt makes the second wait.
+# One build at a time. The lock ends with its holder; without a command flock rt makes the second wait.
 take_turn() {
     exec 9>"$folder/build.lock"
     if command -v flock >/dev/null 2>&1 && ! flock -n 9; then

@@ -1,3 +1,4 @@
+# SPDX-License-Identifier: Apache-2.0
 # shellcheck shell=sh disable=SC2154
 # Runs a command of tw: opens its files, and writes hints after its answer. The script tw of a clone reads this file, and so does an
 # installed tw. `me` is how the user calls it, and `program` the program.
@@ -82,7 +83,7 @@ is_given() {
 
 # --- What standard input is
 
-# The number of a history's line `events`, if it has one.
+# The number of a trace's line `events`, if it has one.
 events_line() {
     tr -d '\r' <"$1" | LC_ALL=C grep -a -n -m 1 '^[ 	]*events[ 	]*$' | sed 's/:.*//'
 }
@@ -146,9 +147,23 @@ hint_of_arguments() {
     esac
 }
 
+# Whether a text's first line with a word is `names`.
+begins_with_names() {
+    [ "$(tr -d '\r\000' <"$1" | LC_ALL=C sed 's/;.*//; s/^[ 	]*//; s/[ 	]*$//; /^$/d; q' | head -c 64)" = names ]
+}
+
+# Says that a file's ending promises names, and its text has none. It takes the line that may report an error.
+hint_of_names() {
+    case $1:$file in
+        "refused A"*:*.[tT][wW][nN])
+            begins_with_names "$file" || say "$file doesn't begin with a line \`names\`, so it is read as assembly text without names" ;;
+    esac
+}
+
 # Says where to read more of an error: the status, the line that may report it, and the command.
 hint() {
     [ "$1" != 2 ] || hint_of_arguments "$3"
+    hint_of_names "$2"
     case $2 in
         "refused H01" | "refused F03 at byte 0")
             [ -p /dev/stdin ] && say "the command before the | wrote no program: run it alone" ;;

@@ -1,6 +1,7 @@
+# SPDX-License-Identifier: Apache-2.0
 # shellcheck shell=sh
 # `./tw install [PREFIX] [--uninstall]`: installs the proved program, the libraries and what belongs to them below a prefix, and removes
-# them again. DESTDIR goes before the prefix; LIBDIR is the folder of libraries below it, `lib` if it isn't set. The script tw reads this file.
+# them again. DESTDIR precedes the prefix; LIBDIR is the folder of libraries below it, `lib` if it isn't set. The script tw reads this file.
 # shellcheck source=tools/tw-pick.sh disable=SC2154
 . "$root/tools/tw-pick.sh"
 list=share/yuglemit/installed

@@ -1,4 +1,5 @@
 #!/bin/sh
+# SPDX-License-Identifier: Apache-2.0
 # Picks the program that answers a command of ./tw; the script tw reads this file, and sets `root` and `say`. In this order:
 #
 #   1. the program that ./tw build or `rt ci` built, if no source is newer;
@@ -71,7 +72,7 @@ unpack() {
     chmod 755 "$part" && mv "$part" "$unpacked" && echo "$sum" >"$unpacked.sum"
 }
 
-# How a file of the release stands to the sources at hand: `same`, `same_code`, or another word.
+# Compares a file of the release with the sources at hand: `same`, `same_code`, or another word.
 compare_release() {
     [ -r "$root/release/$(released_name "$1").gz" ] || { echo none; return; }
     if [ "$(in_manifest sources "$1" 3)" = "$2" ]; then
@@ -83,7 +84,7 @@ compare_release() {
     fi
 }
 
-# What identifies the state of all that a pick reads.
+# Identifies the state of all that a pick reads.
 state_of_files() {
     (cd "$root" && find crates.txt release/MANIFEST "$(built_file "$1")" crates/*/src crates/*/specs crates/*/proofs -printf '%p %s %T@ %C@\n' 2>/dev/null) | sha256sum
 }

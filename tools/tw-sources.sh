@@ -1,4 +1,5 @@
 #!/bin/sh
+# SPDX-License-Identifier: Apache-2.0
 # Sums of the sources from which a crate is built: crates.txt's lines of the crate and of those below it, and their folders src,
 # specs and proofs. Other scripts read this file for its functions, which want `root` to be set. As a command:
 #

@@ -1,4 +1,4 @@
-# What bash completes after tw and ./tw. tools/editor.sh writes this file.
+# Completes the arguments of tw and ./tw in bash. tools/editor.sh writes this file.
 _tw() {
     local word=${COMP_WORDS[COMP_CWORD]} command=${COMP_WORDS[1]} all="asm disasm check run replay picture explain"
     COMPREPLY=()
@@ -15,7 +15,7 @@ _tw() {
         package:*) COMPREPLY=($(compgen -W "deb wheel crate tar" -- "$word")) ;;
         asm:-*) COMPREPLY=($(compgen -W "--names --plain --help" -- "$word")) ;;
         disasm:-*) COMPREPLY=($(compgen -W "--text --places --help" -- "$word")) ;;
-        check:-*) COMPREPLY=($(compgen -W "--text --places --help" -- "$word")) ;;
+        check:-*) COMPREPLY=($(compgen -W "--text --places --bounds --help" -- "$word")) ;;
         run:-*) COMPREPLY=($(compgen -W "--engines --servers --workers --limit --from --to --trace --stats --picture --in-turn --quiet --text --inputs --help" -- "$word")) ;;
         replay:-*) COMPREPLY=($(compgen -W "--engines --servers --workers --stats --text --inputs --help" -- "$word")) ;;
         picture:-*) COMPREPLY=($(compgen -W "--engines --servers --workers --from --to --text --inputs --help" -- "$word")) ;;

@@ -1,5 +1,5 @@
 #compdef tw
-# What zsh completes after tw and ./tw. tools/editor.sh writes this file.
+# Completes the arguments of tw and ./tw in zsh. tools/editor.sh writes this file.
 local -a all
 all=(asm disasm check run replay picture explain)
 case $words[1] in */*) all+=(test install package build) ;; esac
@@ -15,7 +15,7 @@ case $words[2]:$PREFIX in
     package:*) compadd -- deb wheel crate tar ;;
     asm:-*) compadd -- --names --plain --help ;;
     disasm:-*) compadd -- --text --places --help ;;
-    check:-*) compadd -- --text --places --help ;;
+    check:-*) compadd -- --text --places --bounds --help ;;
     run:-*) compadd -- --engines --servers --workers --limit --from --to --trace --stats --picture --in-turn --quiet --text --inputs --help ;;
     replay:-*) compadd -- --engines --servers --workers --stats --text --inputs --help ;;
     picture:-*) compadd -- --engines --servers --workers --from --to --text --inputs --help ;;

@@ -1,4 +1,5 @@
 #!/usr/bin/env python3
+# SPDX-License-Identifier: Apache-2.0
 """Breaks, one after the other, each place of the host that decides or makes a wake of an idle thread, in a copy of the repository, and runs the
 cases of runs there, unproved (`rt try`). No contract speaks of waking, so each break must be noticed by a case: as `late wakes N`, or since a run
 takes too long. Prints a line for each, ends with `N noticed, M not`, and fails where one isn't, or where a case fails without a break.

@@ -1,6 +1,7 @@
 #!/bin/sh
-# Lists the files of code, specs and proofs in which a name stands as a whole word, crate by crate, lowest first, and how
-# often: `tools/where-is.sh Insert` tells what an instruction such as INS touches. Fails where the name stands nowhere.
+# SPDX-License-Identifier: Apache-2.0
+# Lists the files of code, specs and proofs that have a name as a whole word, crate by crate, lowest first, and how
+# often: `tools/where-is.sh Insert` lists what an instruction such as INS touches. Fails if no file has it.
 [ $# -eq 1 ] || { echo "usage: tools/where-is.sh NAME" >&2; exit 2; }
 cd "$(dirname "$(readlink -f "$0")")/.." || exit 2
 

@@ -1,8 +1,9 @@
+// SPDX-License-Identifier: Apache-2.0
 //! Yuglemit for Rust, over libyuglemit.a: the command `tw` as a function, and the verifier.
 //!
 //! As a module of a crate: copy this file, and let build.rs print `cargo:rustc-link-search=FOLDER` for the library's folder.
 
-/// What the verifier says of a program's bytes.
+/// The verdict as the library writes it.
 #[repr(C)]
 #[derive(Clone, Copy, Debug, Default, PartialEq, Eq)]
 struct Told {
@@ -20,26 +21,26 @@ unsafe extern "C" {
     fn yuglemit_verify(bytes: *const u8, length: usize, verdict: *mut Told);
 }
 
-/// What the command `tw` writes, and its exit status.
+/// The output of the command `tw`, and its exit status.
 #[derive(Clone, Debug, PartialEq, Eq)]
 pub struct Reply {
     pub status: u8,
     pub text: Vec<u8>,
 }
 
-/// What the verifier says of a program's bytes.
+/// The verifier's answer to a program's bytes.
 #[derive(Clone, Copy, Debug, PartialEq, Eq)]
 pub enum Verdict {
     /// Its targets need so many engines and workers.
     Accepted { engines: u8, workers: u8 },
-    /// The verifier's first refusal.
+    /// The verifier's first error.
     Refused { number: u8, procedure: usize, place: usize },
     /// The bytes are no program.
     NoProgram { number: u8, byte: usize },
     NoMemory,
 }
 
-/// What the command `tw` answers to these words, where it reads this input; a run is in turn. A word with a line end in it is two words.
+/// Returns what the command `tw` answers to these arguments if it reads this input; a run is in turn. An argument with a line feed in it is two.
 pub fn session(words: &[&str], input: &[u8]) -> Reply {
     let lines: String = words.iter().flat_map(|word| [word, "\n"]).collect();
     let mut text = vec![0; 4096];
@@ -55,7 +56,7 @@ pub fn session(words: &[&str], input: &[u8]) -> Reply {
     }
 }
 
-/// What the verifier says of a program's bytes.
+/// Verifies a program's bytes.
 pub fn verify(bytes: &[u8]) -> Verdict {
     let mut told = Told::default();
     // The pointer is the slice's own, and nothing else has the verdict.

@@ -1,3 +1,4 @@
+# SPDX-License-Identifier: Apache-2.0
 """Prints what must be believed of a public promise: the definitions that its clauses reach, lowest first. `tools/believe.sh` runs
 it, and says what it takes.
 """

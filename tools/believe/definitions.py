@@ -1,3 +1,4 @@
+# SPDX-License-Identifier: Apache-2.0
 """Definitions: the files of specs/ and proofs/, and what a name in one of them stands for.
 
 A name is found as the prover finds it: what is bound beside it, what the file defines, what its `use` lines bring in. What a clause
@@ -8,7 +9,7 @@ import re
 import sys
 
 ROOT = os.path.dirname(os.path.dirname(os.path.dirname(os.path.realpath(__file__))))
-# What the language has without an import.
+# Names of the language that need no import.
 BUILT_IN = set("→ × ¬ ⊥ : = ← ↦ | λ _ Type Unit tt absurd record data where pub abbrev unfoldable do let in elim as ∗ ⌜ ⌝".split())
 WORD = re.compile(r'"(?:[^"\\]|\\.)*"|[(){}\[\],;]|\.?[^\s(){}\[\],;."]+(?:\.[^\s(){}\[\],;."]+)*|\.')
 NUMERAL = re.compile(r"\d|0x")
@@ -333,7 +334,7 @@ def pieces_of(item):
             local |= bound_in_pattern(module, patterns(words))
             below = [line for line in text.split("\n") if line[:1].isspace()]
             if "where" in words:
-                # What is defined below `where` is the clause's own.
+                # Definitions below `where` are the clause's own.
                 local |= {match.group(1) for match in (re.match(r"\s+(\S+) :(\s|$)", line) for line in below) if match}
             for line in below:
                 step = re.match(r"\s+(.*?) ←(\s|$)", line)

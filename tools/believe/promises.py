@@ -1,3 +1,4 @@
+# SPDX-License-Identifier: Apache-2.0
 """Promises: the clauses of a call or a law, and the invariant of a type."""
 import re
 import sys
