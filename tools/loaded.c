@@ -1,16 +1,18 @@
 /* SPDX-License-Identifier: Apache-2.0 */
 /* Makes hostile calls over handles: `loaded PROGRAM`, where PROGRAM holds the bytes of examples/read_number.tw, which takes a text and writes
- * the text of the next number. Prints each check that fails, and their number; ends with status 1 if one did. */
+ * the text of the next number. All are made in threads with a stack of 64 KiB. Prints each check that fails, and their number; ends with status
+ * 1 if one did. */
 #include "../embed/yuglemit.h"
 #include <pthread.h>
 #include <stdio.h>
 #include <string.h>
 
-enum { THREADS = 8, RUNS = 200, LIMIT = 10000 };
+enum { THREADS = 8, RUNS = 200, LIMIT = 10000, STACK = 64 * 1024 };
 
 static uint8_t bytes[1 << 16];
 static size_t length;
 static int checks, failures;
+static pthread_attr_t small; /* of a thread with little stack */
 
 static void check(int holds, const char *what) {
     checks++;
@@ -39,6 +41,27 @@ static void check_load(yuglemit_program *program) {
     check(verdict.letter != 0 && program->at == was, "a refused load leaves the handle as it was");
     yuglemit_load(bytes, length, program, &verdict);
     check(verdict.letter == 0, "a load over a full handle");
+}
+
+/* Changes each byte in turn. What is accepted then may be run. */
+static void check_damaged(void) {
+    for (size_t k = 0; k < length; k++) {
+        for (unsigned mask = 1; mask < 256; mask *= 4) {
+            yuglemit_program program = {NULL};
+            yuglemit_inputs inputs = {NULL};
+            yuglemit_report report = {NULL};
+            yuglemit_verdict verdict;
+            bytes[k] ^= (uint8_t)mask;
+            yuglemit_load(bytes, length, &program, &verdict);
+            bytes[k] ^= (uint8_t)mask;
+            check((verdict.letter == 0) == (program.at != NULL), "the handle is full if the verdict accepts");
+            uint8_t code = run(&program, &inputs, LIMIT, &report);
+            check((code == YUGLEMIT_NO_PROGRAM) == (verdict.letter != 0), "a run needs a program");
+            check((code == 0) == (report.at != NULL), "a report comes of a run");
+            yuglemit_program_free(program);
+            yuglemit_report_free(report);
+        }
+    }
 }
 
 static void check_questions(yuglemit_program *program) {
@@ -146,7 +169,7 @@ static void check_threads(yuglemit_program *program) {
     memset(shared, 0, sizeof shared);
     for (int k = 0; k < THREADS; k++) {
         check(yuglemit_program_share(program, &shared[k]) == 0 && shared[k].at && shared[k].at != program->at, "a share");
-        check(pthread_create(&threads[k], NULL, work, &shared[k]) == 0, "a thread");
+        check(pthread_create(&threads[k], &small, work, &shared[k]) == 0, "a thread");
     }
     yuglemit_program_free(*program); /* the threads' handles keep it */
     program->at = NULL;
@@ -157,18 +180,25 @@ static void check_threads(yuglemit_program *program) {
     }
 }
 
-int main(int argc, char **argv) {
-    FILE *file = argc == 2 ? fopen(argv[1], "rb") : NULL;
-    if (!file) return 2;
-    length = fread(bytes, 1, sizeof bytes, file);
-    fclose(file);
+static void *check_all(void *unused) {
     yuglemit_program program = {NULL};
     check_load(&program);
+    check_damaged();
     check_questions(&program);
     check_kinds(&program);
     check_run(&program);
     check_report(&program);
     check_threads(&program);
+    return unused;
+}
+
+int main(int argc, char **argv) {
+    FILE *file = argc == 2 ? fopen(argv[1], "rb") : NULL;
+    pthread_t thread;
+    if (!file || pthread_attr_init(&small) || pthread_attr_setstacksize(&small, STACK)) return 2;
+    length = fread(bytes, 1, sizeof bytes, file);
+    fclose(file);
+    if (pthread_create(&thread, &small, check_all, NULL) || pthread_join(thread, NULL)) return 2;
     printf("%d checks, %d failed\n", checks, failures);
     return failures > 0;
 }
