@@ -25,6 +25,8 @@ def read_refusal(text: str) -> Dict[str, Optional[str]]:
 
     >>> read_refusal("refused V10 in procedure 1 at place 4\\nat line 9: RET ; at line 3\\n")["line"]
     '9'
+    >>> read_refusal("refused V10 in procedure 1 at place 4\\nat line 9 in work: RET ; at line 3\\n")["line"]
+    '9'
     >>> read_refusal("refused A01 at line 1\\nplace 7\\nword 1, column 1: expected proc, found place\\n")["place"]
     """
     lines = text.split("\n")
@@ -42,7 +44,7 @@ def read_refusal(text: str) -> Dict[str, Optional[str]]:
 def _read_details(code: str, rest: list[str]) -> Dict[str, str]:
     """Reads what stands in the lines after a refusal's first one, as far as the library wrote their beginning."""
     if code[:1] == "V":
-        pattern, candidates = r"at line (?P<line>\d+): ", rest[:1]
+        pattern, candidates = r"at line (?P<line>\d+)(?: in [^\s:]+)?: ", rest[:1]
     elif code[:1] == "O":
         pattern, candidates = r"input (?P<input>\d+)(?!\S)", rest[:1]
     elif code[:1] in ("A", "N"):
