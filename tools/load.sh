@@ -9,11 +9,10 @@ set -e
 root=$(dirname "$(dirname "$(readlink -f "$0")")")
 times=${1:-100}
 [ $# -gt 0 ] && shift
-"$root/tw" --help >/dev/null
 room=$(mktemp -d)
 trap 'rm -rf "$room"' EXIT
 "$root/tw" asm <"$root/bench/load.tw" >"$room/load.hex"
-program=$root/crates/tw_main/out/tw_main
+program=$("$root/tools/tw-pick.sh" tw_main) || exit
 done=0
 while [ "$done" -lt "$times" ]; do
     status=0

@@ -8,8 +8,7 @@
 set -e
 root=$(dirname "$(dirname "$(readlink -f "$0")")")
 times=${1:-200}
-"$root/tw" --help >/dev/null
-program=$root/crates/tw_main/out/tw_main
+program=$("$root/tools/tw-pick.sh" tw_main) || exit
 room=$(mktemp -d)
 trap 'rm -rf "$room"' EXIT
 

@@ -1,0 +1,233 @@
+"""The kind `handles`: programs that are loaded once and run many times (embed/yuglemit.h), against the machine."""
+
+from __future__ import annotations
+
+import ctypes
+import random
+import threading
+from dataclasses import dataclass, replace
+from typing import Any, Iterator
+
+import fuzz_make
+from fuzz_bounds import budgets, needs
+from fuzz_code import INT, encode
+from fuzz_common import Corpus, FuzzTest, RunTest
+from fuzz_library import Library
+from fuzz_machine import Datum, Machine, Scalar, run_in_turn
+from fuzz_report import status_of
+
+ROOM = 64
+
+
+class Item(ctypes.Structure):
+    _fields_ = [("number", ctypes.c_int64), ("length", ctypes.c_size_t), *((name, ctypes.c_uint8) for name in ("kind", "closed", "scalar", "by"))]
+
+
+class Member(ctypes.Structure):
+    _fields_ = [("subscript", Item), ("value", Item)]
+
+
+class Ending(ctypes.Structure):
+    _fields_ = [("events", ctypes.c_size_t), ("outputs", ctypes.c_size_t), ("status", ctypes.c_uint8)]
+
+
+class Verdict(ctypes.Structure):
+    _fields_ = [*((name, ctypes.c_uint8) for name in ("letter", "number", "engines", "workers")), ("procedure", ctypes.c_size_t), ("place", ctypes.c_size_t)]
+
+
+class Fault(Exception):
+    """A call answers otherwise than expected."""
+
+
+def expect(what: str, expected: object, got: object) -> None:
+    if expected != got:
+        raise Fault(f"{what}: expected {expected!r}, got {got!r}")
+
+
+def handles(library: Library) -> Any:
+    """Returns the library, with the types of the calls of handles."""
+    native = library.native._library()
+    pointer, size, byte = ctypes.c_void_p, ctypes.c_size_t, ctypes.c_uint8
+    for name, types in {
+        "load": [ctypes.c_char_p, size, pointer, pointer], "program_share": [pointer, pointer], "program_procedures": [pointer, pointer],
+        "program_budget": [pointer, size, pointer], "input_int": [pointer, ctypes.c_int64], "input_text": [pointer, ctypes.c_char_p, size],
+        "run": [pointer, pointer, byte, byte, byte, size, pointer], "report_ending": [pointer, pointer], "report_output": [pointer, size, pointer],
+        "report_member": [pointer, size, size, pointer], "report_text": [pointer, size, pointer, size], "report_member_text": [pointer, size, size, pointer, size],
+        "report_subscript_text": [pointer, size, size, pointer, size], "program_free": [pointer], "inputs_free": [pointer], "report_free": [pointer],
+    }.items():
+        call = getattr(native, f"yuglemit_{name}")
+        call.argtypes, call.restype = types, None if name.endswith("free") or name == "load" else byte
+    return native
+
+
+@dataclass
+class Report:
+    """A report's handle, and the machine's state with which it is compared."""
+
+    native: Any
+    handle: ctypes.c_void_p
+    machine: Machine
+
+    def compare(self, output: int, number: int) -> None:
+        """Compares an output, and its members by their order."""
+        datum = self.machine.store[number]
+        self.compare_item(f"output {output}", self.item(output), datum, [self.native.yuglemit_report_text, output])
+        members = datum.sorted_members() if not datum.is_scalar else []
+        for place, (subscript, member) in enumerate(members):
+            found = Member()
+            expect("report_member", 0, self.native.yuglemit_report_member(ctypes.byref(self.handle), output, place, ctypes.byref(found)))
+            self.compare_scalar(f"subscript {place}", found.subscript, subscript, [self.native.yuglemit_report_subscript_text, output, place])
+            self.compare_item(f"member {place}", found.value, self.machine.store[member], [self.native.yuglemit_report_member_text, output, place])
+        found = Member()
+        expect("the member after the last", ord("X"), self.native.yuglemit_report_member(ctypes.byref(self.handle), output, len(members), ctypes.byref(found)))
+
+    def item(self, output: int) -> Item:
+        found = Item()
+        expect("report_output", 0, self.native.yuglemit_report_output(ctypes.byref(self.handle), output, ctypes.byref(found)))
+        return found
+
+    def compare_item(self, what: str, item: Item, datum: Datum, text: list[Any]) -> None:
+        expect(f"{what}: closed", int(datum.is_closed), item.closed)
+        expect(f"{what}: scalar", "i" if datum.type[-1] == INT else "t", chr(item.scalar))
+        if not datum.is_scalar:
+            by = "i" if datum.type[0] == 3 else "t"
+            expect(f"{what}: container", ("c", len(datum.members), by), (chr(item.kind), item.length, chr(item.by)))
+        elif datum.value is None:
+            expect(f"{what}: kind", "u", chr(item.kind))
+        else:
+            self.compare_scalar(what, item, datum.value, text)
+
+    def compare_scalar(self, what: str, item: Item, value: Scalar, text: list[Any]) -> None:
+        if isinstance(value, int):
+            expect(what, ("i", value), (chr(item.kind), item.number))
+            expect(f"{what}: its text", ord("T"), self.written(text, ROOM)[0])
+            return
+        data = value.encode()
+        expect(what, ("t", len(data)), (chr(item.kind), item.length))
+        expect(f"{what}: its text", (0, data + b"\xa5" * 8), self.written(text, len(data) + 8))
+        if data:
+            expect(f"{what}: a short buffer", (ord("S"), b"\xa5" * (len(data) - 1)), self.written(text, len(data) - 1))
+
+    def written(self, text: list[Any], size: int) -> tuple[int, bytes]:
+        """Returns the answer of a call that writes a text, and the buffer; the buffer's neighbours have to stay."""
+        room = ctypes.create_string_buffer(b"\xa5" * (size + 32), size + 32)
+        call, *places = text
+        answer = call(ctypes.byref(self.handle), *places, ctypes.addressof(room) + 16, size)
+        expect("the buffer's neighbours", b"\xa5" * 32, room.raw[:16] + room.raw[size + 16:])
+        return answer, room.raw[16:size + 16]
+
+
+@dataclass(frozen=True)
+class HandlesTest(RunTest):
+    """A program is loaded, shared and run twice with inputs that are ints and texts."""
+
+    def fault(self, library: Library) -> str | None:
+        native = handles(library)
+        program, shared, inputs, report = (ctypes.c_void_p() for _ in range(4))
+        try:
+            self.compare(library, native, program, shared, inputs, report)
+        except Fault as why:
+            return f"handles: {why}"
+        finally:
+            for handle, name in ((program, "program"), (shared, "program"), (inputs, "inputs"), (report, "report")):
+                getattr(native, f"yuglemit_{name}_free")(handle)
+        return None
+
+    def compare(self, library: Library, native: Any, program: Any, shared: Any, inputs: Any, report: Any) -> None:
+        data = encode(self.program)
+        verdict = Verdict()
+        native.yuglemit_load(data, len(data), ctypes.byref(program), ctypes.byref(verdict))
+        code = f"{chr(verdict.letter)}{verdict.number:02}" if verdict.letter else ""
+        told = library.verify(data)
+        expect("verdict", (told.code, told.procedure, told.place), (code, verdict.procedure, verdict.place))
+        expect("a handle", not told.code, bool(program.value))
+        self.compare_program(native, program, not told.code)
+        if not told.code:
+            expect("share", 0, native.yuglemit_program_share(ctypes.byref(program), ctypes.byref(shared)))
+            self.append(native, inputs)
+            self.compare_run(native, program, inputs, report)
+            native.yuglemit_program_free(program)
+            program.value = None
+            self.compare_aside(native, shared, inputs, report)
+
+    def compare_program(self, native: Any, program: Any, is_accepted: bool) -> None:
+        count, budget = ctypes.c_size_t(77), ctypes.c_uint64(77)
+        answer = native.yuglemit_program_procedures(ctypes.byref(program), ctypes.byref(count))
+        expected = (0, len(self.program.procedures)) if is_accepted else (ord("P"), 77)
+        expect("procedures", expected, (answer, count.value))
+        for number, most in enumerate([*budgets(self.program), None] if is_accepted else []):
+            answer = native.yuglemit_program_budget(ctypes.byref(program), number, ctypes.byref(budget))
+            expect("budget", (0, most) if most is not None else ord("X"), (answer, budget.value) if most is not None else answer)
+
+    def append(self, native: Any, inputs: Any) -> None:
+        for value in self.inputs:
+            if isinstance(value, str):
+                answer = native.yuglemit_input_text(ctypes.byref(inputs), value.encode(), len(value.encode()))
+            else:
+                answer = native.yuglemit_input_int(ctypes.byref(inputs), value if isinstance(value, int) else 0)
+            expect("input", 0, answer)
+        expect("an input that isn't UTF-8", ord("U"), native.yuglemit_input_text(ctypes.byref(inputs), b"a\xff", 2))
+
+    def expected(self) -> int:
+        """Returns the answer of a run: the number of its error, or 0."""
+        engines, servers, workers = self.layout
+        if not 1 <= engines <= 4 or not 1 <= servers <= 4 or not 1 <= workers <= 16:
+            return ord("L")
+        types = self.program.inputs
+        if len(types) != len(self.inputs):
+            return 1
+        if any(type_ != ((INT,) if isinstance(value, int) else (2,)) for type_, value in zip(types, self.inputs)):
+            return 2
+        return 0 if 1 <= self.limit <= 1_000_000 else 4
+
+    def compare_run(self, native: Any, program: Any, inputs: Any, report: Any) -> None:
+        answer = native.yuglemit_run(ctypes.byref(program), ctypes.byref(inputs), *self.layout, self.limit, ctypes.byref(report))
+        expect("run", self.expected(), answer)
+        ending = Ending()
+        if answer:
+            expect("a report of no run", ord("R"), native.yuglemit_report_ending(ctypes.byref(report), ctypes.byref(ending)))
+            return
+        machine = run_in_turn(self.program, list(self.inputs), self.layout, self.limit)
+        expect("ending", 0, native.yuglemit_report_ending(ctypes.byref(report), ctypes.byref(ending)))
+        expect("ending", (machine.events, len(machine.outputs), status_of(machine)), (ending.events, ending.outputs, ending.status))
+        for output, number in enumerate(machine.outputs):
+            Report(native, report, machine).compare(output, number)
+
+    def compare_aside(self, native: Any, shared: Any, inputs: Any, report: Any) -> None:
+        """Makes the run again in another thread, by the other handle, after the first one was freed."""
+        faults: list[Fault] = []
+
+        def run() -> None:
+            try:
+                self.compare_run(native, shared, inputs, report)
+            except Fault as why:
+                faults.append(why)
+
+        thread = threading.Thread(target=run)
+        thread.start()
+        thread.join()
+        if faults:
+            raise faults[0]
+
+    def smaller(self) -> Iterator[FuzzTest]:
+        for other in super().smaller():
+            if isinstance(other, HandlesTest) and len(other.inputs) == len(self.inputs):
+                yield other
+
+    def case(self) -> list[str]:
+        return [f"# inputs {self.inputs!r}", *self.case_of(["run", "--in-turn", "--limit", str(self.limit), *self.options], 0, "?")]
+
+
+def make_handles(chance: random.Random, corpus: Corpus) -> FuzzTest:
+    program = fuzz_make.program(chance)
+    if chance.random() < 0.7:  # handles have no containers as inputs
+        plain = tuple(param if param.mode == 4 or len(param.type) == 1 else replace(param, type=(INT,)) for param in program.main.params)
+        changed = replace(program, procedures=(replace(program.main, params=plain), *program.procedures[1:]))
+        program = changed if not corpus.library.verify(encode(changed)).code else program
+    inputs = tuple(fuzz_make.inputs_of(chance, program))
+    if chance.random() < 0.1:
+        inputs = (*inputs, 7) if chance.random() < 0.5 else inputs[:-1]
+    layout = fuzz_make.layout(chance, needs(program)) if not corpus.library.verify(encode(program)).code else (1, 1, 1)
+    if chance.random() < 0.05:
+        layout = chance.choice([(0, 1, 1), (5, 1, 1), (1, 0, 1), (1, 5, 1), (1, 1, 0), (1, 1, 17)])
+    return HandlesTest(program, inputs, layout, chance.choice([600] * 9 + [0, 1, 1_000_001]))

@@ -1,0 +1,109 @@
+"""Calls the library, by the Python package, and the program `tw`. No other module of the fuzz tests does."""
+
+from __future__ import annotations
+
+import ctypes
+import gzip
+import importlib
+import os
+import subprocess
+import sys
+from dataclasses import dataclass
+from functools import cached_property
+from pathlib import Path
+from typing import Any
+
+import release
+
+ROOT = Path(__file__).resolve().parent.parent
+Answer = tuple[int, str]
+
+
+def unpacked(name: str) -> Path:
+    """Returns the path of a file of the release, unpacked into out/fuzz unless it is there."""
+    packed = ROOT / "release" / f"{name}.gz"
+    path = ROOT / "out" / "fuzz" / name
+    if not path.exists() or path.stat().st_mtime < packed.stat().st_mtime:
+        path.parent.mkdir(parents=True, exist_ok=True)
+        part = path.with_suffix(f".{os.getpid()}")
+        part.write_bytes(gzip.decompress(packed.read_bytes()))
+        part.chmod(0o755)
+        part.rename(path)
+    return path
+
+
+def built(crate: str) -> Path | None:
+    """Returns the file that is built of a crate, if it is there and no source is newer."""
+    path = ROOT / "crates" / crate / "out" / ("libyuglemit.so" if crate == "tw_embed" else crate)
+    if not path.exists():
+        return None
+    newest = max(source.stat().st_mtime for source in ROOT.glob("crates/*/src/**/*.rt"))
+    return path if path.stat().st_mtime >= newest else None
+
+
+def picked(crate: str, name: str, variable: str) -> Path:
+    """Returns the file of a crate: the one that a variable names, the built one, or the release's."""
+    named = os.environ.get(variable)
+    return Path(named) if named else built(crate) or unpacked(name)
+
+
+def notice() -> str | None:
+    """Returns that the sources aren't those of the library that is tested."""
+    if os.environ.get("YUGLEMIT_LIBRARY") or built("tw_embed"):
+        return None
+    of_release = release.manifest_at_hand(ROOT).sources["tw_embed"]
+    if release.sums_of_sources(ROOT, "tw_embed")[0] == of_release:
+        return None
+    return "fuzz: the sources have changed since the release, whose library is tested; ./tw build --library builds another"
+
+
+@dataclass(frozen=True)
+class Verdict:
+    """The library's answer to a program's bytes; `code` is empty if it is accepted."""
+
+    code: str
+    procedure: int
+    place: int
+
+    def __str__(self) -> str:
+        if not self.code:
+            return "accepted"
+        where = f"at byte {self.place}" if self.code[0] == "F" else f"in procedure {self.procedure} at place {self.place}"
+        return f"refused {self.code} {where}"
+
+
+class Library:
+    """The library, and the program for what only that shows."""
+
+    @cached_property
+    def native(self) -> Any:
+        os.environ["YUGLEMIT_LIBRARY"] = str(picked("tw_embed", "libyuglemit.so", "YUGLEMIT_LIBRARY"))
+        sys.path.insert(0, str(ROOT / "embed" / "python"))
+        return importlib.import_module("yuglemit._native")
+
+    @cached_property
+    def program(self) -> Path:
+        return picked("tw_main", "tw", "YUGLEMIT_PROGRAM")
+
+    def session(self, words: list[str], data: str | bytes = b"") -> Answer:
+        """Returns the status and the text of a command by the library."""
+        status, text = self.native.session(words, data.encode() if isinstance(data, str) else data)
+        return int(status), text.decode("utf-8", "backslashreplace")
+
+    def command(self, words: list[str], data: str | bytes = b"", seconds: float = 60) -> Answer:
+        """Returns the status and the text of a command by the program."""
+        data = data.encode() if isinstance(data, str) else data
+        done = subprocess.run([str(self.program), *words], input=data, stdout=subprocess.PIPE, stderr=subprocess.DEVNULL, timeout=seconds, check=False)
+        return done.returncode, done.stdout.decode("utf-8", "backslashreplace")
+
+    def verify(self, data: bytes) -> Verdict:
+        told = self.native.verify(data)
+        return Verdict(f"{told.letter}{told.number:02}" if told.letter else "", told.procedure, told.place)
+
+    def into_room(self, line: bytes, data: bytes, size: int) -> tuple[int, int, bytes]:
+        """Returns status, length and the buffer after a call with a buffer of this size, which has 16 bytes before and after it."""
+        room = ctypes.create_string_buffer(b"\xa5" * (size + 32), size + 32)
+        status = ctypes.c_uint8(0xA5)
+        start = ctypes.addressof(room) + 16
+        length = self.native._library().yuglemit_session(line, len(line), data, len(data), start, size, ctypes.byref(status))
+        return status.value, int(length), room.raw

@@ -1,0 +1,174 @@
+#!/bin/sh
+# SPDX-License-Identifier: Apache-2.0
+# Runs the fuzz tests of each kind, with the date as seed, and all harnesses, in a clean clone of what is committed. Prints a line for each, with
+# its time and its last line, and at the end how many failed. What crashes, or takes longer than its limit, has failed.
+#
+#   tools/nightly.sh                     100,000 tests a kind, and everything whole
+#   tools/nightly.sh --quick             1,000 tests a kind, and a small part of each harness
+#   tools/nightly.sh [--quick] NAME..    these: fuzz, fuzz_run, hostile, ..
+#   SECONDS_A_KIND=60 SEED=7 COUNT=500 tools/nightly.sh fuzz    bounds each kind's time; another seed, another count
+#
+# The program and the libraries are those that are built here, else the release's. A harness is left out if its tools aren't installed, or the
+# page isn't built; its line says why. Logs are kept in out/nightly, a folder for each run. Exit status 1 if something failed.
+root=$(dirname "$(dirname "$(readlink -f "$0")")")
+seed=${SEED:-$(date +%F)}
+count=${COUNT:-100000} seconds=${SECONDS_A_KIND:-1200}
+quick='' names=''
+passed=0 failed=0 left=0
+
+usage() {
+    sed -n '3,13s/^# \{0,1\}//p' "$0"
+    exit 2
+}
+
+# Returns its second argument in a quick run, else its first.
+whole_or_quick() {
+    if [ -n "$quick" ]; then echo "$2"; else echo "$1"; fi
+}
+
+# Whether a harness is among those that are named; all are if none is.
+is_named() {
+    [ -n "$names" ] || return 0
+    for name in $names; do
+        case $1 in "$name" | "${name}_"*) return 0 ;; esac
+    done
+    return 1
+}
+
+# --- The clone
+
+# Copies a file that is built here into the clone, or the release's.
+put_file() {
+    built=$root/crates/$1/out/$2
+    mkdir -p "$clone/crates/$1/out"
+    if [ -e "$built" ]; then
+        cp "$built" "$clone/crates/$1/out/$2"
+    else
+        gzip -dc "$root/release/$3.gz" >"$clone/crates/$1/out/$2"
+    fi
+    chmod 755 "$clone/crates/$1/out/$2"
+}
+
+# Makes the clone. What is built is newer than its sources there.
+make_clone() {
+    git clone -q "$root" "$clone" || exit
+    put_file tw_main tw_main tw
+    put_file tw_embed libyuglemit.so libyuglemit.so
+    put_file tw_embed libyuglemit.a libyuglemit.a
+    [ ! -d "$root/page/out" ] || cp -r "$root/page/out" "$clone/page/out"
+    program=$clone/crates/tw_main/out/tw_main
+    library=$clone/crates/tw_embed/out/libyuglemit.so
+    export TW="$program" TW_PROGRAM="$program" YUGLEMIT_PROGRAM="$program" YUGLEMIT_LIBRARY="$library" PYTHONDONTWRITEBYTECODE=1
+}
+
+# --- Harnesses
+
+# Prints a harness's line, and counts it.
+report() {
+    case $1 in
+        ok) passed=$((passed + 1)) ;;
+        FAILED) failed=$((failed + 1)) ;;
+        *) left=$((left + 1)) ;;
+    esac
+    printf '%-8s %-14s %6s  %s\n' "$1" "$2" "$3" "$4"
+}
+
+# The last line of a log that counts what passed, else the last that isn't empty.
+last_line() {
+    line=$(grep -E '^[0-9]+ (passed|same|shown|as wanted|killed)|^[a-z]+ +[0-9]+ tests, ' "$1" | tail -n 1)
+    printf '%.120s\n' "${line:-$(grep . "$1" | tail -n 1)}"
+}
+
+# Runs a harness for so many seconds at most: its name, the limit, and the command, in the clone.
+harness() {
+    is_named "$1" || return
+    name=$1 limit=$2 log=$logs/$1.log
+    shift 2
+    begun=$(date +%s)
+    (cd "$clone" && exec timeout -k 10 "$limit" "$@") >"$log" 2>&1 </dev/null
+    status=$?
+    took="$(($(date +%s) - begun)) s"
+    case $status in
+        0) report ok "$name" "$took" "$(last_line "$log")" ;;
+        124 | 137) report FAILED "$name" "$took" "took longer than $limit s; $(last_line "$log")" ;;
+        *) report FAILED "$name" "$took" "status $status; $(last_line "$log")" ;;
+    esac
+}
+
+# Like `harness`, if what precedes the name is installed or there; else it is left out.
+harness_with() {
+    wanted=$1
+    shift
+    is_named "$1" || return
+    for need in $wanted; do
+        case $need in
+            */*) [ -e "$root/$need" ] || { report "left out" "$1" "" "$need isn't there"; return; } ;;
+            *) command -v "$need" >/dev/null 2>&1 || { report "left out" "$1" "" "$need isn't installed"; return; } ;;
+        esac
+    done
+    harness "$@"
+}
+
+run_fuzz() {
+    for kind in $(python3 -B "$clone/tools/fuzz.py" --list | sed 's/ .*//'); do
+        harness "fuzz_$kind" $((seconds + 120)) nice -n 10 python3 -B tools/fuzz.py "$kind" "$seed" "$count" --seconds "$seconds"
+    done
+}
+
+# Like `harness`; it also fails if a line of output doesn't match a pattern: the name, the limit, the pattern, and the command.
+all_lines() {
+    counted=$1 most=$2
+    shift 2
+    # shellcheck disable=SC2016
+    harness "$counted" "$most" sh -c 'pattern=$1; shift; "$@" >"$0" 2>&1; status=$?; cat "$0"; ! grep -vE "$pattern" "$0" && exit "$status"' "$logs/$counted.out" "$@"
+}
+
+# Each request for memory or for a thread that fails ends in the answer or in `memory`; all runs of a load end alike.
+run_counted() {
+    requests=$(whole_or_quick 100000 60)
+    # shellcheck disable=SC2016
+    all_lines refused 3600 '^[0-9]+ requests|status 5, memory|status 0, quiet' sh -c \
+        'tools/refused.sh -n "$1" "$0" run --text int:39 <examples/pipeline.tw && tools/refused.sh -t "$0" run --text --workers 4 int:39 <examples/pipeline.tw' "$program" "$requests"
+    times=$(whole_or_quick 100 3)
+    all_lines load 1800 "^ *$times status 0, last line quiet, checksum [0-9a-f]+, told ''\$|^[0-9]+ of $times\$" tools/load.sh "$times"
+}
+
+run_harnesses() {
+    # shellcheck disable=SC2046
+    harness hostile 3600 tools/hostile.sh "$program" $(whole_or_quick "" "--commands 1")
+    run_counted
+    harness replayed 3600 tools/replayed.sh "$(whole_or_quick 200 4)"
+    harness shown 600 tools/shown.sh
+    # shellcheck disable=SC2046
+    harness_with "cc c++ rustc rt" embedded 1200 tools/embedded.sh $(whole_or_quick "" "c cpp python")
+    harness_with "cc rt" loaded 900 tools/loaded.sh
+    harness progress 300 tools/progress.py
+    harness_with "chromium node cc page/out/index.html" page 1800 page/test.sh "$program"
+    harness python 900 embed/python/test.sh
+    harness_with "unshare" packaged 2400 tools/packaged.sh
+    harness released 1200 tools/released.sh
+    # shellcheck disable=SC2046
+    harness broken 3600 python3 tools/broken.py "$program" examples
+    # shellcheck disable=SC2046
+    harness_with node mutants 3600 tools/mutants.py $(whole_or_quick "" cases)
+    # shellcheck disable=SC2046
+    harness many 2400 tools/many.sh $(whole_or_quick "" "threads")
+}
+
+while [ $# -gt 0 ]; do
+    case $1 in
+        --quick) quick=1 count=${COUNT:-1000} seconds=${SECONDS_A_KIND:-60} ;;
+        -*) usage ;;
+        *) names="$names $1" ;;
+    esac
+    shift
+done
+logs=$root/out/nightly/$(date +%Y-%m-%dT%H%M%S)
+clone=$logs/clone
+mkdir -p "$logs" || exit
+trap 'rm -rf "$clone"' EXIT
+make_clone
+run_fuzz
+run_harnesses
+echo "$passed passed, $failed failed, $left left out; seed $seed, logs in $logs"
+[ "$failed" = 0 ] && [ "$passed" -gt 0 ]

@@ -1,0 +1,459 @@
+"""Tests of tools/fuzz.py and its modules: python3 tools/test_fuzz.py"""
+
+from __future__ import annotations
+
+import contextlib
+import gzip
+import io
+import os
+import random
+import shutil
+import signal
+import subprocess
+import sys
+import tempfile
+import unittest
+from dataclasses import dataclass, replace
+from pathlib import Path
+from typing import Any, Iterator
+from unittest import mock
+
+sys.path.insert(0, str(Path(__file__).resolve().parent))
+import case_files
+import fuzz
+import fuzz_calls
+import fuzz_inputs
+import fuzz_make
+import fuzz_runs
+from fuzz_assembler import Error, assembled
+from fuzz_bounds import COUNTED, bound_lines, budgets, check_lines, has_circle, is_circle
+from fuzz_code import Fault, Instr, Param, Procedure, Program, decode, disassembled, encode, program_text, quoted, smaller, without
+from fuzz_library import ROOT, Answer, Library, Verdict
+from fuzz_machine import Machine, NotEnabled, Trap, computed, read_int, run_in_turn
+from fuzz_names import is_name, symbolic
+from fuzz_report import circle_fault, event_of, report_lines, split_circle, stats_lines, trace_text
+from fuzz_texts import renamed, styled
+from fuzz_common import Corpus, Failure, Kind, RunTest, FuzzTest, case_word, difference
+from fuzz_verify import refusal
+
+STORE_SEVEN = bytes.fromhex("54574201010001040101010003010000000000000000073100 0042".replace(" ", ""))
+PIPELINE = Program((
+    Procedure(0, (Param(2, (1,)), Param(4, (1,))), (), (
+        Instr("NEW", (2, 3, (1,))), Instr("NEW", (4, 5, (1,))), Instr("RULE", (1, 0, 0, (3, 4))), Instr("RULE", (1, 0, 0, (5, 1))),
+        Instr("RULE", (1, 0, 0, (0, 2))), Instr("RET"),
+    )),
+    Procedure(1, (Param(2, (1,)), Param(4, (1,))), (1, 1), (
+        Instr("GET", (0, 0)), Instr("INT", (1, 1)), Instr("ADD", (0, 0, 1, 0)), Instr("DROPR", (0,)), Instr("STORE", (1, 0)), Instr("RET"),
+    )),
+))
+
+
+def main_of(*code: Instr, registers: tuple[int, ...] = (1,), params: tuple[Param, ...] = ()) -> Program:
+    return Program((Procedure(0, params, registers, (*code, Instr("RET"))),))
+
+
+class Lying(Library):
+    """A library with a mistake: it changes the last digit of what it writes, and moves the place of a verdict."""
+
+    def session(self, words: list[str], data: str | bytes = b"") -> Answer:
+        status, text = super().session(words, data)
+        at = max(text.rfind(digit) for digit in "0123456789")
+        return status, text[:at] + str((int(text[at]) + 1) % 10) + text[at + 1:] if at >= 0 else text
+
+    def verify(self, data: bytes) -> Verdict:
+        found = super().verify(data)
+        return replace(found, place=found.place + 1)
+
+    def into_room(self, line: bytes, data: bytes, size: int) -> tuple[int, int, bytes]:
+        status, length, room = super().into_room(line, data, size)
+        return status, length, room[:-1] + b"x" if length == size else room
+
+
+class CodeTest(unittest.TestCase):
+    def test_example_of_the_manual(self) -> None:
+        program = main_of(Instr("INT", (0, 7)), Instr("STORE", (0, 0)), params=(Param(4, (1,)),))
+        self.assertEqual(encode(program), STORE_SEVEN)
+        self.assertEqual(decode(STORE_SEVEN), program)
+
+    def test_faults_of_the_manual(self) -> None:
+        changed = STORE_SEVEN[:10] + b"\x03" + STORE_SEVEN[11:]
+        head = "545742 02 01 00 00 0101 0001"
+        rows = [
+            ("", 3, 0), (STORE_SEVEN[:26].hex(), 3, 26), (STORE_SEVEN.hex() + "00", 8, 27), (changed.hex(), 5, 10), ("54574201010001040303 0303", 6, 11),
+            (head + "230000", 4, 12), (head + "2303e9", 4, 12), (head + "02001001", 4, 13), (head + "0200000261c3", 7, 15), ("545743", 1, 2), ("54574203", 2, 3),
+            ("545742 01 01 00 00 00 0001 30 00 01 04", 5, 13), ("545742 01 01 00 00 00 0001 50", 5, 10),
+        ]
+        for digits, number, offset in rows:
+            with self.assertRaises(Fault) as caught:
+                decode(bytes.fromhex(digits.replace(" ", "")))
+            self.assertEqual((caught.exception.number, caught.exception.offset), (number, offset), digits)
+
+    def test_bytes_of_each_instruction(self) -> None:
+        manual = (ROOT / "docs" / "BYTES.md").read_text(encoding="utf-8")
+        digits = manual.split("$ ./tw asm every.tw\n")[1].split("\n")[0]
+        program = decode(bytes.fromhex(digits))
+        self.assertEqual(encode(program).hex(), digits)
+        self.assertEqual(len({instr.name for instr in program.main.code}), 36)
+
+    def test_texts(self) -> None:
+        self.assertEqual(quoted('a"\\\n\x01é'), '"a\\"\\\\\\n\\x01é"')
+        self.assertEqual(disassembled(main_of(Instr("JMP", (0,)), Instr("JMP", (9,)))), "proc control\nregs int\nJMP L0\nL0:\nJMP +9\nRET\n")
+
+    def test_shorter_code_keeps_targets(self) -> None:
+        procedure = main_of(Instr("JMP", (2,)), Instr("INT", (0, 1)), Instr("INT", (0, 2)), Instr("INT", (0, 3))).main
+        self.assertEqual(without(procedure, 1, 1).code[0], Instr("JMP", (1,)))
+        self.assertEqual(without(procedure, 2, 2).code[0], Instr("JMP", (1,)))
+        self.assertEqual(without(procedure, 4, 1).code[0], Instr("JMP", (2,)))
+
+    def test_smaller_programs_have_less(self) -> None:
+        sizes = [len(encode(program)) for program in smaller(PIPELINE)]
+        self.assertTrue(sizes and max(sizes) <= len(encode(PIPELINE)))
+
+
+class MachineTest(unittest.TestCase):
+    def test_run_of_the_manual(self) -> None:
+        machine = run_in_turn(PIPELINE, [39], (2, 2, 2), 10000)
+        self.assertEqual(report_lines(machine, True), ["out 0 int 42", "quiet"])
+        self.assertEqual(machine.events, 33)
+
+    def test_statistics_of_the_manual(self) -> None:
+        manual = (ROOT / "docs" / "FORMAT.md").read_text(encoding="utf-8")
+        shown = manual.split("--engines 2 --workers 2 --stats\n")[1].split("\n```")[0].split("\n")
+        events = (ROOT / "examples" / "pipeline.history").read_text(encoding="utf-8").split("\nevents\n")[1].split("\n")
+        machine = Machine(PIPELINE, (2, 1, 2))
+        machine.open([39])
+        for line in events:
+            if line and line != "end":
+                machine.make(event_of(line))
+        self.assertEqual(report_lines(machine, False) + stats_lines(machine, budgets(PIPELINE), ["e0", "e1", "s0", "w0", "w1"]), shown)
+
+    def test_arithmetic(self) -> None:
+        self.assertEqual([computed("DIV", -7, 2), computed("REM", -7, 2), computed("DIV", 7, -2), computed("REM", 7, -2)], [-3, -1, -3, 1])
+        self.assertIsNone(computed("DIV", -(2**63), -1))
+        self.assertIsNone(computed("ADD", 2**63 - 1, 1))
+        self.assertEqual([read_int(text) for text in ("0", "-5", "-0", "007", "+1", "", str(2**63))], [0, -5, None, None, None, None, None])
+
+    def causes(self, program: Program, *events: tuple[str | int, ...]) -> str:
+        machine = Machine(program, (1, 1, 1))
+        machine.open([])
+        try:
+            for event in events:
+                machine.make(event)
+        except Trap as trap:
+            return str(trap)
+        except NotEnabled:
+            return "not enabled"
+        return "made"
+
+    def test_traps(self) -> None:
+        take, call, local = ("take", "e0"), ("call", "e0"), ("local", "e0", 1)
+        new = Instr("NEW", (0, 1, (1,)))
+        rows: list[tuple[Any, ...]] = [
+            ("C14", main_of(new), take, call, ("end", "e0")), ("C12", main_of(Instr("END")), take, local), ("C1", main_of(Instr("DROPR", (0,))), take, call),
+            ("C13", main_of(new, new), take, call, call), ("C3", main_of(new, Instr("GET", (0, 1))), take, call, call),
+            ("C6", main_of(new, Instr("DROPW", (0,))), take, call, call), ("C11", main_of(Instr("JMP", (9,))), take, local, ("end", "e0")),
+            ("C15", main_of(Instr("PUT", (7, 0, 0, ()))), take, call), ("not enabled", main_of(), take, local), ("not enabled", main_of(), ("take", "w0")),
+            ("made", main_of(new, Instr("STORE", (0, 0)), Instr("DROPR", (1,))), take, call, call, call, ("end", "e0")),
+        ]
+        for cause, program, *events in rows:
+            self.assertEqual(self.causes(program, *events), cause, program)
+
+    def test_circles(self) -> None:
+        waits = (Param(2, (1,)), Param(4, (1,)))
+        stuck = Program((main_of(Instr("NEW", (0, 1, (1,))), Instr("RULE", (1, 0, 0, (1, 0)))).main, Procedure(1, waits, (1,), (Instr("RET"),))))
+        machine = run_in_turn(stuck, [], (1, 1, 1), 100)
+        self.assertEqual(report_lines(machine, True), ["stuck 1"])
+        self.assertIsNone(circle_fault(machine, split_circle("stuck 1\nwaits 1 1 1\n")[1]))
+        self.assertIsNotNone(circle_fault(machine, [(1, 2, 1)]))
+        self.assertIsNotNone(circle_fault(machine, [(1, 1, 2)]))
+
+
+class RulesTest(unittest.TestCase):
+    def test_bounds_of_the_manual(self) -> None:
+        self.assertEqual(bound_lines(PIPELINE), ["bound tasks 4", "bound instructions 24", "bound data 2", "bound rules 3", "bound events 37"])
+        self.assertEqual(check_lines(PIPELINE)[-1], "needs engines 0 workers 0")
+
+    def test_loops_count_as_their_iterations(self) -> None:
+        self.assertEqual(budgets(main_of(Instr("REPEAT", (10,)), Instr("ADD", (0, 0, 0, 0)), Instr("END"))), [22])
+
+    def test_bounds_are_reached_and_not_passed(self) -> None:
+        test = fuzz_runs.CheckTest(PIPELINE, (39,), (2, 2, 2), 1000)
+        machine = run_in_turn(PIPELINE, [39], (2, 2, 2), 1000)
+        self.assertIsNone(test.over(machine))
+        for less, name in enumerate(["tasks", "instructions", "data", "rules"]):
+            bounds = [4, 24, 2, 3, 37]
+            bounds[less] -= 1
+            table = dict(zip(COUNTED.values(), bounds))
+            with mock.patch.object(fuzz_runs, "bound", side_effect=lambda program, weights: table[weights]):
+                self.assertIn(f" {name}, more than the bound", str(test.over(machine)))
+
+    def test_circles_of_calls(self) -> None:
+        program = Program((main_of(Instr("PUT", (1, 0, 0, ()))).main, main_of(Instr("PUT", (1, 0, 0, ()))).main))
+        self.assertTrue(has_circle(program) and is_circle(program, 1, 0))
+        self.assertFalse(is_circle(program, 0, 0))
+
+    def test_errors_of_the_manual(self) -> None:
+        write = (Param(4, (1,)),)
+        store, jump = Instr("STORE", (0, 0)), Instr("JEQ", (0, 0, 1))
+        rows = [
+            ("V04", 2, main_of(Instr("INT", (0, 7)), store, store, params=write)), ("V07", 2, main_of(jump, store, params=write)),
+            ("V10", 0, main_of(params=write)), ("V09", 1, main_of(Instr("JMP", (1,)), Instr("INT", (0, 1)))), ("V05", 0, main_of(Instr("JMP", (7,)))),
+            ("V06", 0, main_of(Instr("REPEAT", (2,)))), ("V06", 0, main_of(Instr("END"))), ("V11", 1, main_of(Instr("REPEAT", (2,)), Instr("RET"), Instr("END"))),
+            ("V08", 2, main_of(Instr("REPEAT", (2,)), store, Instr("END"), params=write)), ("V01", 0, main_of(Instr("INT", (1, 1)))),
+            ("V02", 0, main_of(Instr("LEN", (0, 0)))), ("V12", 0, main_of(Instr("PUT", (7, 0, 0, ())))), ("V13", 0, main_of(Instr("PUT", (0, 0, 0, (1,))))),
+            ("V15", 0, main_of(Instr("DROPW", (0,)), params=write)), ("V16", 0, main_of(params=(Param(1, (1,)),))), ("V03", 0, main_of(Instr("NEW", (1, 1, (1,))))),
+            ("V17", 0, main_of(*[Instr("REPEAT", (1000,))] * 3, Instr("INT", (0, 1)), *[Instr("END")] * 3)),
+        ]
+        for code, place, program in rows:
+            self.assertEqual(str(refusal(program)), f"refused {code} in procedure 0 at place {place}")
+        self.assertIsNone(refusal(PIPELINE))
+
+
+class TextsTest(unittest.TestCase):
+    def test_other_names_are_others(self) -> None:
+        text = "names\nproc control main(out: write int)\nregs total: int\nINT total 7 ; total\nSTORE out total\nRET\n"
+        other = renamed(random.Random(1), text)
+        self.assertNotIn("total ", other.replace("; total", ""))
+        self.assertEqual([line.split(" ")[0] for line in other.split("\n")], [line.split(" ")[0] for line in text.split("\n")])
+
+    def test_no_names(self) -> None:
+        self.assertEqual([is_name(word) for word in ("any", "v0", "d15", "int", "RET", "v", "vx", "total")], [False] * 5 + [True] * 3)
+
+    def test_styles_are_other_texts(self) -> None:
+        self.assertEqual(len({styled(PIPELINE, style) for style in range(20)}), 20)
+        self.assertEqual(len({symbolic(PIPELINE, style) for style in range(20)}), 20)
+
+    def test_arguments_of_cases(self) -> None:
+        self.assertEqual([case_word(word) for word in ("", "int:7", "text:a b", "a|b\\")], ['""', "int:7", "text:a\\x20b", "a\\x7cb\\x5c"])
+
+    def test_first_difference(self) -> None:
+        self.assertIsNone(difference("it", "a\n", "a\n"))
+        self.assertEqual(difference("it", "a\nb", "a\nc"), "it: line 2: expected 'b', got 'c'")
+        self.assertIn("1 lines, got 2", str(difference("it", "a", "a\nb")))
+
+    def test_inputs(self) -> None:
+        rows: list[tuple[str, Any]] = [
+            ("int:007", ((1,), 7)), ("int:-0", ((1,), 0)), ("int:", None), ("int:+7", None), (f"int:{2**63}", None), ("Int:7", None), ("7", None),
+            ("text:a b ", ((2,), "a b ")), ("ints:", ((3, 1), [])), ("ints:1=2,5=-3", ((3, 1), [(1, 2), (5, -3)])), ("ints:1=2,", None), ("ints:,", None),
+            ('texts:1="a,b",2="\\x41"', ((3, 2), [(1, "a,b"), (2, "A")])), ('texts:1="\\x80"', None), ("tints:a=1", None), ('ttexts:"\\\\"="\\n"', ((4, 2), [("\\", "\n")])),
+        ]
+        for word, expected in rows:
+            self.assertEqual(fuzz_inputs.read_input(word), expected, word)
+        self.assertFalse(fuzz_inputs.fits(((3, 1), [(2, 1), (1, 1)]), (3, 1)))
+        self.assertFalse(fuzz_inputs.fits(((2,), "é" * 2049), (2,)))
+        self.assertTrue(fuzz_inputs.fits(((2,), "é" * 2048), (2,)))
+
+    def test_lines_of_traces(self) -> None:
+        self.assertEqual(fuzz_inputs.read_event("\task e01  7 256\r"), ("ask", "e1", 7, 255))
+        wrong = ["take", "take e256", "local e0 0", "local e0 1000000001", "ask w0 1 1", f"release e0 {2**64}", "release e0 -1", "call e0 1", "TAKE e0", "take x0"]
+        self.assertEqual([fuzz_inputs.read_event(line) for line in wrong], [None] * len(wrong))
+
+    def test_errors_of_texts(self) -> None:
+        head = "proc control\nregs int\n"
+        rows = [
+            ("", 6, 1), ("version 3\n", 6, 1), ("RET\n", 1, 1), ("proc control\nRET\n", 1, 2), (head + "regs\n", 1, 3), (head + "INT v16 1\n", 6, 3),
+            (head + "INT d0 1\n", 2, 3), (head + "INT v0 +1\n", 2, 3), (head + "JMP a\n", 3, 3), (head + "a:\nJMP a\n", 5, 4), (head + "a:\na:\n", 4, 4),
+            (head + 'TEXT v0 "\\q"\n', 2, 3), (head + 'TEXT v0 "a"b\n', 2, 3), (head + "PUTV 0 v0 any\n", 1, 3), (head, 6, 1), (head + head, 6, 1),
+            (head + "proc leaf tcont int\n", 2, 3), (head + "REPEAT 0\n", 6, 3), (head + "a: RET\n", 2, 3), (head + "NEW d0 d1 cont cont cont cont int\n", 6, 3),
+        ]
+        for text, code, line in rows:
+            with self.assertRaises(Error) as caught:
+                assembled(text)
+            self.assertEqual((caught.exception.code, caught.exception.line), (code, line), text)
+
+    def test_texts_are_read(self) -> None:
+        for style in range(30):
+            self.assertEqual(assembled(styled(PIPELINE, style)), PIPELINE)
+
+    def test_statuses(self) -> None:
+        self.assertIsNone(fuzz_calls.answer_fault((2, "command line refused\n")))
+        self.assertIsNotNone(fuzz_calls.answer_fault((9, "")))
+        self.assertIsNotNone(fuzz_calls.answer_fault((1, "quiet\n")))
+
+
+class KindsTest(unittest.TestCase):
+    """Each kind passes with the library, and notices one that lies."""
+
+    def faults(self, kind: str, library: Library, count: int) -> list[str]:
+        corpus = Corpus(Library())
+        tests = [fuzz.KINDS[kind].make(random.Random(f"test {number}"), corpus) for number in range(count)]
+        return [why for why in (fuzz.fault_of(test, library) for test in tests) if why]
+
+    def test_lies_are_noticed(self) -> None:
+        for kind in fuzz.KINDS:
+            with self.subTest(kind):
+                self.assertEqual(self.faults(kind, Library(), 8), [])
+                self.assertNotEqual(self.faults(kind, Lying(), 30), [])
+
+    def test_made_programs_are_accepted(self) -> None:
+        library = Library()
+        refused = [number for number in range(60) if library.verify(encode(fuzz_make.program(random.Random(number)))).code]
+        self.assertEqual(refused, [])
+
+    def test_tests_are_the_same_each_time(self) -> None:
+        corpus = Corpus(Library())
+        for kind in fuzz.KINDS.values():
+            self.assertEqual(*[repr(kind.make(random.Random("same"), corpus)) for _ in range(2)])
+
+    def test_events_in_any_order(self) -> None:
+        test = RunTest(PIPELINE, (39,), (2, 1, 2))
+        events = fuzz_runs.random_trace(random.Random(3), test, 400)
+        self.assertIn("quiet", fuzz_runs.HistoryTest(PIPELINE, (39,), (2, 1, 2), 400, tuple(events)).expected()[1])
+        self.assertTrue(trace_text(events).startswith("events\ntake e"))
+
+
+@dataclass(frozen=True)
+class Numbers(FuzzTest):
+    """Fails if it has a 7."""
+
+    numbers: tuple[int, ...]
+
+    def fault(self, library: Library) -> str | None:
+        if 13 in self.numbers:
+            os.kill(os.getpid(), signal.SIGKILL)
+        if 0 in self.numbers:
+            raise ZeroDivisionError
+        return "seven: there is one" if 7 in self.numbers else None
+
+    def smaller(self) -> Iterator[FuzzTest]:
+        for place in range(len(self.numbers)):
+            yield Numbers(self.numbers[:place] + self.numbers[place + 1:])
+
+    def case(self) -> list[str]:
+        return ["kind verify", *["bytes", "    07"], "output", "    accepted"]
+
+
+class RunnerTest(unittest.TestCase):
+    def run_numbers(self, *numbers: int) -> tuple[bool, str]:
+        """Runs tests of these numbers, and returns what is printed by the process that makes them, too."""
+        kind = Kind("numbers", lambda chance, corpus: Numbers(numbers))
+        kept = os.dup(1)
+        with tempfile.TemporaryFile("w+") as said, mock.patch.dict(fuzz.KINDS, {"numbers": kind}):
+            os.dup2(said.fileno(), 1)
+            try:
+                with os.fdopen(os.dup(1), "w") as out, contextlib.redirect_stdout(out):
+                    well = fuzz.run_kind("numbers", "1", range(5), 60)
+            finally:
+                os.dup2(kept, 1)
+                os.close(kept)
+            said.seek(0)
+            return well, said.read()
+
+    def test_all_well(self) -> None:
+        well, said = self.run_numbers(1, 2)
+        self.assertTrue(well)
+        self.assertRegex(said, r"^numbers  5 tests, 0 failed, ")
+
+    def test_failures_are_shrunk_and_end_a_kind(self) -> None:
+        well, said = self.run_numbers(1, 7, 2)
+        self.assertFalse(well)
+        self.assertIn("numbers 1, test 0, shrunk 2 times: seven: there is one\ncase fuzz_numbers_0\n", said)
+        self.assertIn("3 failed", said)
+
+    def test_crashes_and_wrong_oracles_fail(self) -> None:
+        well, said = self.run_numbers(13)
+        self.assertFalse(well)
+        self.assertIn("test 0: crashed, exit status -9", said)
+        self.assertIn("the oracle failed", self.run_numbers(0)[1])
+
+    def test_slow_tests_fail(self) -> None:
+        kind = Kind("slow", lambda chance, corpus: signal.pause())  # type: ignore[arg-type,return-value]
+        with mock.patch.dict(fuzz.KINDS, {"slow": kind}), mock.patch.object(fuzz, "CALL_SECONDS", 0.3), contextlib.redirect_stdout(io.StringIO()) as said:
+            self.assertFalse(fuzz.run_kind("slow", "1", range(1), 60))
+        self.assertIn("takes more than 0.3 s", said.getvalue())
+
+    def test_cases_can_be_read(self) -> None:
+        read = 0
+        corpus = Corpus(Library())
+        for kind in ("check", "run", "history", "stats", "names", "asm", "decode", "verify", "args", "library", "handles"):
+            for number in range(6):
+                test = fuzz.KINDS[kind].make(random.Random(number), corpus)
+                lines = Failure(kind, "1", number, test, "why").lines()[1:]
+                if max(map(len, lines)) > case_files.WIDTH:  # long arguments: kind and its arguments are one line
+                    continue
+                book = case_files.Book()
+                case_files.Reader(Path("fuzz.case"), lines, book).read()
+                self.assertEqual(book.cases[0].name, f"fuzz_{kind}_{number}")
+                read += 1
+        self.assertGreater(read, 50)
+
+    def test_list(self) -> None:
+        with contextlib.redirect_stdout(io.StringIO()) as said:
+            self.assertEqual(fuzz.main(["--list"]), 0)
+        self.assertEqual([line.split(" ")[0] for line in said.getvalue().splitlines()], list(fuzz.KINDS))
+
+    def test_texts_of_programs(self) -> None:
+        self.assertIn("RULE 1 0 any 3 4\n", program_text(PIPELINE))
+
+
+class NightlyTest(unittest.TestCase):
+    """tools/nightly.sh in a repository of its own, whose harnesses are short scripts."""
+
+    def setUp(self) -> None:
+        folder = tempfile.TemporaryDirectory()
+        self.addCleanup(folder.cleanup)
+        self.root = Path(folder.name)
+        for name in ("tools", "release", "page", "examples"):
+            (self.root / name).mkdir()
+        shutil.copy(ROOT / "tools" / "nightly.sh", self.root / "tools")
+        for name in ("tw", "libyuglemit.so", "libyuglemit.a"):
+            (self.root / "release" / f"{name}.gz").write_bytes(gzip.compress(b"#!/bin/sh\n"))
+        (self.root / "examples" / "pipeline.tw").write_text("RET\n", encoding="utf-8")
+        (self.root / ".gitignore").write_text("out/\n", encoding="utf-8")
+        self.tool("fuzz.py", "import sys\nprint('one x\\ntwo x' if sys.argv[1] == '--list' else ' '.join(sys.argv[1:]))\nsys.exit(sys.argv[1] == 'two')\n")
+        for name in ("hostile.sh", "replayed.sh", "shown.sh", "progress.py", "released.sh"):
+            self.tool(name, f"#!/bin/sh\necho {name} $YUGLEMIT_LIBRARY\n")
+
+    def tool(self, name: str, text: str) -> None:
+        path = self.root / "tools" / name
+        path.write_text(text, encoding="utf-8")
+        path.chmod(0o755)
+
+    def nightly(self, *words: str) -> tuple[int, list[str]]:
+        git = ["git", "-C", str(self.root), "-c", "user.name=a", "-c", "user.email=a@b"]
+        for command in (["init", "-q"], ["add", "-A"], ["commit", "-qm", "all"]):
+            subprocess.run([*git, *command], check=True)
+        named = {**os.environ, "SEED": "7", "COUNT": "9", "SECONDS_A_KIND": "3"}
+        done = subprocess.run([str(self.root / "tools" / "nightly.sh"), *words], env=named, stdout=subprocess.PIPE, text=True, check=False)
+        return done.returncode, done.stdout.splitlines()
+
+    def test_a_line_for_each(self) -> None:
+        status, lines = self.nightly("--quick", "fuzz", "hostile", "shown")
+        self.assertEqual([line.split()[:2] for line in lines[:-1]], [["ok", "fuzz_one"], ["FAILED", "fuzz_two"], ["ok", "hostile"], ["ok", "shown"]])
+        self.assertRegex(lines[0], r"^ok +fuzz_one +\d+ s  one 7 9 --seconds 3$")
+        self.assertRegex(lines[1], r"status 1; two 7 9 --seconds 3$")
+        self.assertRegex(lines[2], r"hostile.sh .*/clone/crates/tw_embed/out/libyuglemit.so$")
+        self.assertRegex(lines[-1], r"^3 passed, 1 failed, 0 left out; seed 7, logs in ")
+        logs = Path(lines[-1].split("logs in ")[1])
+        self.assertEqual((status, sorted(path.name for path in logs.iterdir())), (1, ["fuzz_one.log", "fuzz_two.log", "hostile.log", "shown.log"]))
+
+    def test_all_well(self) -> None:
+        status, lines = self.nightly("fuzz_one", "page")
+        self.assertEqual(status, 0)
+        self.assertRegex(lines[-1], r"^1 passed, 0 failed, 1 left out; ")
+
+    def test_what_crashes_or_is_slow_fails(self) -> None:
+        self.tool("hostile.sh", "#!/bin/sh\nkill -SEGV $$\n")
+        text = (self.root / "tools" / "nightly.sh").read_text(encoding="utf-8")
+        self.tool("nightly.sh", text.replace("harness shown 600", "harness shown 1"))
+        self.tool("shown.sh", "#!/bin/sh\necho begun\nsleep 30\n")
+        status, lines = self.nightly("hostile", "shown")
+        self.assertEqual(status, 1)
+        self.assertRegex(lines[0], r"^FAILED +hostile +\d+ s  status (139|245)")
+        self.assertRegex(lines[1], r"^FAILED +shown +\d+ s  took longer than 1 s; begun$")
+
+    def test_other_endings_of_a_run_fail(self) -> None:
+        self.tool("refused.sh", "#!/bin/sh\necho 2 requests, each refused once\necho '1 status 5, memory'\necho '1 status 0, quiet'\n")
+        self.tool("load.sh", "#!/bin/sh\necho \"100 status 0, last line quiet, checksum 12ab, told ''\"\n")
+        self.assertEqual(self.nightly("refused", "load")[0], 0)
+        self.tool("refused.sh", "#!/bin/sh\necho '1 status 139, '\n")
+        self.tool("load.sh", "#!/bin/sh\necho \"99 status 0, last line quiet, checksum 12ab, told ''\"\necho \"1 status 0, last line quiet, checksum 12ac, told ''\"\n")
+        _, lines = self.nightly("refused", "load")
+        self.assertRegex(lines[-1], "^0 passed, 2 failed")
+
+    def test_unknown_options(self) -> None:
+        self.assertEqual(self.nightly("--fast")[0], 2)
+
+
+if __name__ == "__main__":
+    unittest.main()
